@@ -5,7 +5,7 @@ use Rattle.first_pass_tree.specs.Forest.{added}
 use Rattle.first_pass_grammar.specs.Names.{AreNamed}
 use Rattle.first_pass_names.specs.TableEntries.{names_of, NamesMore}
 use Rattle.first_pass_open.specs.Between.{line_end_at, AddsBetween}
-use Rattle.first_pass_lists.specs.Closing.{remembered}
+use Rattle.first_pass_lists.specs.Closing.{reading_with}
 use Rattle.first_pass_lists.specs.declared.reading.Reading.{Reading}
 use Rattle.first_pass_order.proofs.NamedLemmas.{block_added}
 use Rattle.first_pass_blocks.proofs.OrderSteps.{block_ordered}
@@ -19,7 +19,7 @@ use Rattle.first_pass.specs.Views.{allocs_of, braces_of, reading_of, source_of, 
 pub record Adds (old new : FirstPass) (blank : Bool) (items : List (ℕ × Item)) : Type 0 where
   pub source : source_of new ≡ source_of old
   pub braces : braces_of new ≡ braces_of old
-  pub reading : reading_of new ≡ remembered (tree_of new) None blank
+  pub reading : reading_of new ≡ reading_with (tree_of new) None blank
   pub more : NamesMore (allocs_of old) (allocs_of new)
   pub tree_is : tree_of new ≡ added (tree_of old) items
   pub own : AreNamed (names_of (allocs_of new)) items
@@ -43,7 +43,7 @@ adds_leaf old new start next blank items a fits within = record {
   fits = fits;
   order = λ at low begins o.
       block_ordered (source_text old) (reading_of old) (reading_of new) at start next o low (λ from before. fits from before begins) within
-      (ap (λ (r : Reading). r.empty_item) a.reading);
+      (ap (λ (r : Reading). r.begin_list_item) a.reading);
 }
 
 pub adds_lines : (old new : FirstPass) (start next : ℕ) (blank : Bool) (items : List (ℕ × Item)) → Adds old new blank items

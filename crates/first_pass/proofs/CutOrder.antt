@@ -18,7 +18,7 @@ use Rattle.first_pass_tree.specs.declared.tree_index.TreeIndex.{TreeIndex}
 use Rattle.first_pass_tree.specs.Forest.{Forest, body_at, cut_item, cut_siblings, cut_tokens, is_escaped, item_at, open_place, with_body_at}
 use Rattle.first_pass_grammar.specs.Leaves.{Document}
 use Rattle.first_pass_grammar.specs.OpenOrder.{laid_open, AreAt, open_within, FitsOpen, IsOrderedTo}
-use Rattle.first_pass_grammar.specs.Order.{Extent, extent_of, extents, is_text_block, Siblings, Empty, Node, laid, IsBetween, Within, Elsewhere, InItem}
+use Rattle.first_pass_grammar.specs.Order.{Ranged, extent_of, extents, is_text_block, Siblings, Empty, Node, laid, IsBetween, Within, Elsewhere, InItem}
 use Rattle.first_pass_grammar.specs.Order.{InText}
 use Rattle.first_pass_grammar.specs.Order.{InFirst, below, beyond, IsLead, Fits}
 use Rattle.first_pass_grammar.proofs.Orders.{ended_at, extents-append, fits-one, fits-order, laid-one, length-places}
@@ -29,7 +29,7 @@ use Rattle.first_pass.specs.Holds.{StandsAfterBackslash, AreTokens, HoldsTokens}
 use Rattle.first_pass_tree.proofs.BodyLemmas.{body_of}
 
 -- the nodes up to a place, and those after it
-split_places : (nodes : List (ℕ × Item)) (before : List (ℕ × Extent)) (n : ℕ × Extent) (more : List (ℕ × Extent)) (k : ℕ)
+split_places : (nodes : List (ℕ × Item)) (before : List (ℕ × Ranged)) (n : ℕ × Ranged) (more : List (ℕ × Ranged)) (k : ℕ)
     → extents nodes ≡ before ++ n ∷ more → k ≡ length before
     → (extents (take (suc k) nodes) ≡ before ++ n ∷ []) × (extents (drop (suc k) nodes) ≡ more)
 split_places [] [] n more k is at = absurd cc
@@ -37,23 +37,23 @@ split_places [] (y ∷ before) n more k is at = absurd cc
 split_places (m ∷ nodes) [] n more zero is at =
     let x : (m.0, extent_of m.1) ≡ n = cc in
     let y : extents nodes ≡ more = cc in
-    (ap (λ (z : ℕ × Extent). z ∷ []) x, y)
+    (ap (λ (z : ℕ × Ranged). z ∷ []) x, y)
 split_places (m ∷ nodes) [] n more (suc k) is at = absurd (omega arith)
 split_places (m ∷ nodes) (y ∷ before) n more zero is at = absurd (omega arith)
 split_places (m ∷ nodes) (y ∷ before) n more (suc k) is at =
     let x : (m.0, extent_of m.1) ≡ y = cc in
     let z : extents nodes ≡ before ++ n ∷ more = cc in
     let r = split_places nodes before n more k z (omega arith) in
-    (ap (λ (w : List (ℕ × Extent)). (m.0, extent_of m.1) ∷ w) r.0 ∙ ap (λ (w : ℕ × Extent). w ∷ (before ++ n ∷ [])) x, r.1)
+    (ap (λ (w : List (ℕ × Ranged)). (m.0, extent_of m.1) ∷ w) r.0 ∙ ap (λ (w : ℕ × Ranged). w ∷ (before ++ n ∷ [])) x, r.1)
 
-at_place : (nodes : List (ℕ × Item)) (before : List (ℕ × Extent)) (n : ℕ × Extent) (more : List (ℕ × Extent)) (k : ℕ) (x : Item)
+at_place : (nodes : List (ℕ × Item)) (before : List (ℕ × Ranged)) (n : ℕ × Ranged) (more : List (ℕ × Ranged)) (k : ℕ) (x : Item)
     → extents nodes ≡ before ++ n ∷ more → k ≡ length before → option_map (λ (m : ℕ × Item). m.1) (slice_get nodes k) ≡ Some x → extent_of x ≡ n.1
 at_place [] [] n more k x is at e = absurd cc
 at_place [] (y ∷ before) n more k x is at e = absurd cc
 at_place (m ∷ nodes) [] n more zero x is at e =
     let y : (m.0, extent_of m.1) ≡ n = cc in
     let z : m.1 ≡ x = same_Some m.1 x e in
-    ap extent_of (sym z) ∙ ap (λ (w : ℕ × Extent). w.1) y
+    ap extent_of (sym z) ∙ ap (λ (w : ℕ × Ranged). w.1) y
 at_place (m ∷ nodes) [] n more (suc k) x is at e = absurd (omega arith)
 at_place (m ∷ nodes) (y ∷ before) n more zero x is at e = absurd (omega arith)
 at_place (m ∷ nodes) (y ∷ before) n more (suc k) x is at e =
@@ -61,19 +61,19 @@ at_place (m ∷ nodes) (y ∷ before) n more (suc k) x is at e =
     at_place nodes before n more k x z (omega arith) e
 
 -- a token has no children
-leaf_alone : (text : List ℕ) (d low : ℕ) (nodes : List (ℕ × Item)) (kids next : Siblings) → extents nodes ≡ laid (suc d) kids ++ laid d next
+only_leaf : (text : List ℕ) (d low : ℕ) (nodes : List (ℕ × Item)) (kids next : Siblings) → extents nodes ≡ laid (suc d) kids ++ laid d next
     → AreTokens text d low nodes → kids ≡ Empty
 unfolding laid
-leaf_alone text d low nodes Empty next is h = refl
-leaf_alone text d low [] (Node y more after) next is h = absurd cc
-leaf_alone text d low (n ∷ nodes) (Node y more after) next is h =
+only_leaf text d low nodes Empty next is h = refl
+only_leaf text d low [] (Node y more after) next is h = absurd cc
+only_leaf text d low (n ∷ nodes) (Node y more after) next is h =
     let e : (n.0, extent_of n.1) ≡ (suc d, y) = cc in
-    let deeper : n.0 ≡ suc d = ap (λ (z : ℕ × Extent). z.0) e in
+    let deeper : n.0 ≡ suc d = ap (λ (z : ℕ × Ranged). z.0) e in
     let same : n.0 ≡ d = h.0 in
     absurd (omega arith)
 
 -- a marker before the block ends before it
-lead_before : (text : List ℕ) (w : Within) (from : ℕ) (x : Extent) → IsLead text w from x → x.«end» ≤ from
+lead_before : (text : List ℕ) (w : Within) (from : ℕ) (x : Ranged) → IsLead text w from x → x.«end» ≤ from
 lead_before text Elsewhere from x h = absurd h
 lead_before text InItem from x h = absurd h
 lead_before text (InText before) from x h = h.1.before
@@ -87,7 +87,7 @@ min_boundary text a b h k =
       | inr past ↦ (let same : b ≡ min a b = omega arith in subst (IsCharBoundary text) same k)
     ]
 
-lead_cut : (text : List ℕ) (w : Within) (from e : ℕ) (x : Extent) → x.start < e → IsCharBoundary text e → IsLead text w from x
+lead_cut : (text : List ℕ) (w : Within) (from e : ℕ) (x : Ranged) → x.start < e → IsCharBoundary text e → IsLead text w from x
     → IsLead text w (min from e) (ended_at x (min x.«end» e))
 lead_cut text Elsewhere from e x less b h = absurd h
 lead_cut text InItem from e x less b h = absurd h
@@ -121,7 +121,7 @@ CutFits text w from to e d nodes = (row : Siblings) × (extents nodes ≡ laid d
 module _ (text : List ℕ) (w : Within) (from to e d low : ℕ) (n : ℕ × Item) (nodes : List (ℕ × Item)) (next : Siblings)
     (b : IsCharBoundary text e) (later : from ≤ low) (depth : n.0 ≡ d) (fits : Fits text w from to (Node (extent_of n.1) Empty next))
     (rest : (v : Within) (f : ℕ) → f ≤ max low n.1.«end» → Fits text v f to next → CutFits text v f to e d (cut_tokens e d nodes)) where
-  abbrev z : Extent
+  abbrev z : Ranged
   z = ended_at (extent_of n.1) (min n.1.«end» e)
 
   laid_as : (row : Siblings) → extents (cut_tokens e d nodes) ≡ laid d row
@@ -129,8 +129,8 @@ module _ (text : List ℕ) (w : Within) (from to e d low : ℕ) (n : ℕ × Item
   unfolding laid
   laid_as row is =
       ap (λ k. (k, extent_of (cut_item e n.1)) ∷ extents (cut_tokens e d nodes)) depth
-      ∙ ap (λ (y : Extent). (d, y) ∷ extents (cut_tokens e d nodes)) (end_by (nat_lt e n.1.«end») e n.1 refl)
-      ∙ ap (λ (r : List (ℕ × Extent)). (d, z) ∷ r) is
+      ∙ ap (λ (y : Ranged). (d, y) ∷ extents (cut_tokens e d nodes)) (end_by (nat_lt e n.1.«end») e n.1 refl)
+      ∙ ap (λ (r : List (ℕ × Ranged)). (d, z) ∷ r) is
 
   stays_by : n.1.start < e
       → (IsBetween text from to (extent_of n.1) × Fits text (below w from (extent_of n.1)) n.1.start n.1.«end» Empty × Fits text (beyond w) n.1.«end» to next)
@@ -236,12 +236,12 @@ cut_row text w from to e d low (n ∷ nodes) Empty b later is h fits = absurd cc
 cut_row text w from to e d low (n ∷ nodes) (Node x kids next) b later is h fits =
     let first : (n.0, extent_of n.1) ≡ (d, x) = cc in
     let tail : extents nodes ≡ laid (suc d) kids ++ laid d next = cc in
-    let none : kids ≡ Empty = leaf_alone text d (max low n.1.«end») nodes kids next tail h.2 in
+    let none : kids ≡ Empty = only_leaf text d (max low n.1.«end») nodes kids next tail h.2 in
     let next_is : extents nodes ≡ laid d next = tail ∙ ap (λ (k : Siblings). laid (suc d) k ++ laid d next) none in
-    let x_is : extent_of n.1 ≡ x = ap (λ (z : ℕ × Extent). z.1) first in
+    let x_is : extent_of n.1 ≡ x = ap (λ (z : ℕ × Ranged). z.1) first in
     let own : Fits text w from to (Node (extent_of n.1) Empty next) =
     subst (λ (k : Siblings). Fits text w from to (Node (extent_of n.1) k next)) none
-    (subst (λ (y : Extent). Fits text w from to (Node y kids next)) (sym x_is) fits) in
+    (subst (λ (y : Ranged). Fits text w from to (Node y kids next)) (sym x_is) fits) in
     cut_by (nat_lt n.1.start e) text w from to e d low n nodes next b later h.0 own h.1
     (λ v f low' k. cut_row text v f to e d (max low n.1.«end») nodes next b low' next_is h.2 k) refl
 
@@ -253,15 +253,15 @@ open_as (ix ∷ rest) block e = (rest, ap (λ (i : TreeIndex). i ∷ rest) (same
 module _ (text : List ℕ) (f : Forest Item) (at e : ℕ) (block : TreeIndex) (rest : List TreeIndex) (x : Item) (spine : f.spine ≡ block ∷ rest)
     (there : item_at f block ≡ Some x) (tokens : AreTokens text (length f.spine + 1) x.start (drop (block.0 + 1) f.nodes)) (low : x.start ≤ e)
     (b : IsCharBoundary text e) where
-  by_levels : (root : Extent) (levels : List (Siblings × Extent)) (row : Siblings) → extents f.nodes ≡ laid_open root levels row
+  by_levels : (root : Ranged) (levels : List (Siblings × Ranged)) (row : Siblings) → extents f.nodes ≡ laid_open root levels row
       → AreAt root levels (block ∷ rest) → FitsOpen text at levels row
       → (row : Siblings) × (extents (cut_siblings f e).nodes ≡ laid_open root levels row) × FitsOpen text at levels row
   unfolding laid_open FitsOpen
   by_levels root [] row nodes places fits = absurd places
   by_levels root (level ∷ levels) row nodes places (from, before, inside, starts, outer) =
       let d : ℕ = suc (suc (length levels)) in
-      let front : List (ℕ × Extent) = laid_open root levels level.0 in
-      let mid : ℕ × Extent = (suc (length levels), level.1) in
+      let front : List (ℕ × Ranged) = laid_open root levels level.0 in
+      let mid : ℕ × Ranged = (suc (length levels), level.1) in
       let size = length-places root levels rest places.1 in
       let long : length f.spine ≡ suc (length rest) = ap length spine in
       let depth : length f.spine + 1 ≡ d = omega arith in
@@ -269,7 +269,7 @@ module _ (text : List ℕ) (f : Forest Item) (at e : ℕ) (block : TreeIndex) (r
       let next : block.0 + 1 ≡ suc block.0 = omega arith in
       let parts = split_places f.nodes front mid (laid d row) block.0 nodes places.0 in
       let same = at_place f.nodes front mid (laid d row) block.0 x nodes places.0 there in
-      let start_is : x.start ≡ level.1.start = ap (λ (y : Extent). y.start) same in
+      let start_is : x.start ≡ level.1.start = ap (λ (y : Ranged). y.start) same in
       let here : AreTokens text d x.start (drop (suc block.0) f.nodes) =
       subst (λ k. AreTokens text d x.start (drop k f.nodes)) next
       (subst (λ k. AreTokens text k x.start (drop (block.0 + 1) f.nodes)) depth tokens) in
@@ -281,8 +281,8 @@ module _ (text : List ℕ) (f : Forest Item) (at e : ℕ) (block : TreeIndex) (r
       ∙ ap (λ k. take (suc block.0) f.nodes ++ cut_tokens e k (drop (suc block.0) f.nodes)) depth in (
         cut,
         ap extents all ∙ extents-append (take (suc block.0) f.nodes) (cut_tokens e d (drop (suc block.0) f.nodes))
-            ∙ ap (λ (z : List (ℕ × Extent)). z ++ extents (cut_tokens e d (drop (suc block.0) f.nodes))) parts.0
-            ∙ ap (λ (z : List (ℕ × Extent)). (front ++ mid ∷ []) ++ z) is ∙ append_assoc front (mid ∷ []) (laid d cut),
+            ∙ ap (λ (z : List (ℕ × Ranged)). z ++ extents (cut_tokens e d (drop (suc block.0) f.nodes))) parts.0
+            ∙ ap (λ (z : List (ℕ × Ranged)). (front ++ mid ∷ []) ++ z) is ∙ append_assoc front (mid ∷ []) (laid d cut),
         (from, before, subst (λ k. Fits text w k at cut) first fits, starts, outer),
       )
 

@@ -16,7 +16,7 @@ use Rattle.first_pass_tokens.proofs.OrderLemmas.{order_bound, order_to, order_fr
 use Rattle.first_pass_grammar.specs.Leaves.{Document}
 use Rattle.first_pass_tokens.specs.Pieces.{text_upto}
 use Rattle.first_pass_text.proofs.TextFronts.{front_utf8, place_in_front, place_in_text, order_in_text}
-use Rattle.first_pass_grammar.specs.Order.{Extent, extent_of, is_task_marker, Empty, Node, laid, IsBetween}
+use Rattle.first_pass_grammar.specs.Order.{Ranged, extent_of, is_task_marker, Empty, Node, laid, IsBetween}
 use Rattle.first_pass_grammar.specs.OpenOrder.{laid_open, FitsOpen, IsOrderedTo}
 use Rattle.first_pass_grammar.proofs.Orders.{beside, ended_at, laid_open-beside, length-places, extents-ended}
 use Rattle.first_pass_order.proofs.RowSplits.{last_child, fits_open_last}
@@ -34,10 +34,10 @@ ordered_ended text f a e c y last here plain later high b o =
     let root = o.root in
     let levels = o.levels in
     let d : ℕ = suc (length levels) in
-    let x : Extent = extent_of y in
+    let x : Ranged = extent_of y in
     let deep : length f.spine + 1 ≡ d = (let n = length-places root levels f.spine o.places in omega arith) in
     let l = last_child f.nodes root levels o.row c.0 y o.nodes (subst (λ k. IsLastAt (depths f.nodes) k c.0) deep last) here in
-    let front : List (ℕ × Extent) = laid_open root levels l.before in
+    let front : List (ℕ × Ranged) = laid_open root levels l.before in
     let split : laid_open root levels o.row ≡ front ++ (d, x) ∷ (laid (suc d) l.kids ++ []) =
     ap (laid_open root levels) l.row_is ∙ laid_open-beside root levels l.before (Node x l.kids Empty) in
     record {
@@ -115,10 +115,10 @@ ordered_line d braces start (Some e) old new next line_break from u ends boundar
 -- tokens are added to a state in order: the item to which they are added is no longer empty
 pub tokens_ordered : (text : List ℕ) (old new : Reading) (at start to : ℕ) (tokens : List Item)
     → IsForest old.tree → IsOrderedAt text old at → at ≤ start → AreInOrder text start to tokens → to ≤ length text → new.tree ≡ with_tokens old.tree tokens
-    → new.empty_item ≡ None → IsOrderedAt text new to
+    → new.begin_list_item ≡ None → IsOrderedAt text new to
 tokens_ordered text old new at start to tokens forest o low order within is none =
     let before = o.later in
-    let e : ℕ = reached old.empty_item at in
+    let e : ℕ = reached old.begin_list_item at in
     let low' : e ≤ at = before in
     ordered_none text new to none within
     (subst (λ f. IsOrderedTo text f to) (sym is)

@@ -49,7 +49,7 @@ pub rows_count : (text : List ℕ) (old new : Forest Item) (from next : ℕ) (ix
     → IsJustPushed old ix → ClosesBetween text from next old new → from < next
     → GrowsBy from next old.nodes new.nodes
 rows_count text old new from next ix pushed c apart =
-    let few = c.fits.3 apart in
+    let node_bound = c.fits.3 apart in
     let tree = ap (λ (f : Forest Item). own_nodes f.nodes) (closed_is text old new from next ix pushed c) in
     let same = own_ended (old.nodes ++ at_depth (length old.spine + 1) c.items) ix.0 next in
     let more = own_added old.nodes c.items (length old.spine + 1) in

@@ -14,7 +14,7 @@ use Rattle.first_pass_grammar.specs.WholeTables.{HasWholeTables}
 use Rattle.first_pass_names.specs.TableEntries.{names_of, tables_of, NamesMore, AddsTexts}
 use Rattle.first_pass_tokens.specs.Braces.{no_braces}
 use Rattle.first_pass_open.specs.Between.{line_end_at, AddsBetween, IsInItem, StandsBefore}
-use Rattle.first_pass_lists.specs.Closing.{remembered, with_block, item_finished}
+use Rattle.first_pass_lists.specs.Closing.{reading_with, with_block, item_finished}
 use Rattle.first_pass_lists.specs.declared.reading.Reading.{Reading}
 use Rattle.first_pass_raw.specs.RawBlocks.{IsPlaceAt, html_to_blank}
 use Rattle.first_pass_tables.specs.Appends.{AppendsRows, AddsWholeRows}
@@ -66,7 +66,7 @@ pub record FinishesItem (old new : FirstPass) : Type 0 where
 -- offsets. The state is in order up to the second offset if the first is a character boundary (this project).
 pub record AddsLeafBlock (old new : FirstPass) (start next : ℕ) (blank : Bool) : Type 0 where
   pub kept : KeepsNames old new
-  pub reading : reading_of new ≡ remembered (tree_of new) None blank
+  pub reading : reading_of new ≡ reading_with (tree_of new) None blank
   pub fits : (from : ℕ) → from ≤ start → IsCharBoundary (source_text old) start → AddsBetween (source_text old) from next (tree_of old) (tree_of new)
   pub order : (at : ℕ) → at ≤ start → IsCharBoundary (source_text old) start → IsOrderedAt (source_text old) (reading_of old) at
       → IsOrderedAt (source_text old) (reading_of new) next
@@ -90,7 +90,7 @@ pub record AddsHtmlToBlank (old new : FirstPass) (start next : ℕ) : Type 0 whe
       → AddsBetween (source_text old) from (html_to_blank (source_text old) (context_in old).path p).«end» (tree_of old) (tree_of new)
   pub order : (at : ℕ) → at ≤ start → IsOrderedAt (source_text old) (reading_of old) at
       → IsOrderedFrom (source_options old) (source_text old) (reading_of new) next
-  pub few : (from : ℕ) → from ≤ start → from < next → GrowsBy from next (tree_of old).nodes (tree_of new).nodes
+  pub node_bound : (from : ℕ) → from ≤ start → from < next → GrowsBy from next (tree_of old).nodes (tree_of new).nodes
 
 -- A thematic break of `size` bytes that begins at an offset is added, and reading continues after it. It is in order
 -- if both of its ends are character boundaries (CommonMark 4.1, and this project).
@@ -134,7 +134,7 @@ pub record AppendsTokens (old new : FirstPass) (start : ℕ) (end : Option ℕ) 
   pub boundary : end ≡ None → IsCharBoundary (source_text old) start → IsCharBoundary (source_text old) stop
   pub order : IfSome end (λ e. IsCharBoundary (source_text old) e) → IsCharBoundary (source_text old) start → (at : ℕ) → at ≤ start
       → IsOrderedAt (source_text old) (reading_of old) at → IsOrderedAt (source_text old) (reading_of new) stop
-  pub few : length (tree_of new).nodes ≤ length (tree_of old).nodes + (stop - start)
+  pub node_bound : length (tree_of new).nodes ≤ length (tree_of old).nodes + (stop - start)
 
 -- The rows of a table with this many columns are added to it, and the table is closed where reading continues. They
 -- are whole, in order, and at most four nodes for each byte, if the line of the header row ends at or before
@@ -147,7 +147,7 @@ pub record ClosesTable (old new : FirstPass) (columns head_start body_start next
       next
   pub order : (at : ℕ) → at ≤ head_start → line_end_at (source_text old) head_start ≤ body_start → IsOrderedTo (source_text old) (tree_of old) at
       → IsOrderedTo (source_text old) (tree_of new) next
-  pub few : (from : ℕ) → from ≤ head_start → line_end_at (source_text old) head_start ≤ body_start → from < next
+  pub node_bound : (from : ℕ) → from ≤ head_start → line_end_at (source_text old) head_start ≤ body_start → from < next
       → GrowsBy from next (tree_of old).nodes (tree_of new).nodes
   pub whole : AddsWholeRows (document (source_text old) (source_options old) (names_of (allocs_of new))) columns head_start (tree_of old) (tree_of new) next
 
@@ -160,7 +160,7 @@ pub record ReadsRowFrom (old new : FirstPass) (ix next : ℕ) : Type 0 where
   pub reading : reading_of new ≡ with_tree (reading_of old) (tree_of new)
   pub order : IsCharBoundary (source_text old) ix → (at : ℕ) → at ≤ ix → IsOrderedTo (source_text old) (tree_of old) at
       → IsOrderedTo (source_text old) (tree_of new) next
-  pub few : IsCharBoundary (source_text old) ix → (from : ℕ) → from ≤ ix → from < next → GrowsBy from next (tree_of old).nodes (tree_of new).nodes
+  pub node_bound : IsCharBoundary (source_text old) ix → (from : ℕ) → from ≤ ix → from < next → GrowsBy from next (tree_of old).nodes (tree_of new).nodes
 
 -- The head of a footnote definition is sought at an offset; `size` is the number of bytes of the head, if one begins
 -- there. Then its definition is open and in order. The brace contexts are unchanged, and each index names an entry if

@@ -73,6 +73,6 @@ pub record MakesHeading (old new : FirstPass) (ix : ℕ) (block : TreeIndex) (br
   pub heading : MatchOption (setext_underline (drop ix (source_text old))) (tree_of new ≡ tree_of old)
       (λ underline. BecomesHeading (document (source_text old) (source_options old) (names_of (allocs_of new))) underline.1 broken block (tree_of old)
       (tree_of new))
-  pub few : length (tree_of new).nodes ≤ length (tree_of old).nodes
+  pub node_bound : length (tree_of new).nodes ≤ length (tree_of old).nodes
   pub order : (at : ℕ) → HoldsTokens (source_text old) (tree_of old) block → IsOrderedTo (source_text old) (tree_of old) at
       → IsOrderedTo (source_text old) (tree_of new) at

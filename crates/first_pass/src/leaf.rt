@@ -41,7 +41,7 @@ impl<'a> FirstPass<'a> {
             start_ix,
             tasklist_marker,
         )?;
-        pass.reading.empty_item = None;
+        pass.reading.begin_list_item = None;
         Ok(next)
     }
 
@@ -67,7 +67,7 @@ impl<'a> FirstPass<'a> {
             start,
             atx_level,
         )?;
-        pass.reading.empty_item = None;
+        pass.reading.begin_list_item = None;
         Ok(next)
     }
 
@@ -80,7 +80,7 @@ impl<'a> FirstPass<'a> {
         let pass = &mut self.pass;
         pass.source.recall_length();
         let next = rule::parse_hrule(&mut pass.reading.tree, hrule_size, ix)?;
-        pass.reading.empty_item = None;
+        pass.reading.begin_list_item = None;
         Ok(next)
     }
 }

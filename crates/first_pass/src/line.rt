@@ -84,7 +84,7 @@ impl<'a> FirstPass<'a> {
         let tree = &mut pass.reading.tree;
         let braces = &mut self.braces;
         let line = pass.allocs.append_line(content, tree, braces)?;
-        pass.reading.empty_item = None;
+        pass.reading.begin_list_item = None;
         Ok(line)
     }
 
@@ -109,7 +109,7 @@ impl<'a> FirstPass<'a> {
         let tree = &mut pass.reading.tree;
         let braces = &mut self.braces;
         let stop = pass.allocs.append_cell(content, tree, braces)?;
-        pass.reading.empty_item = None;
+        pass.reading.begin_list_item = None;
         Ok(stop)
     }
 

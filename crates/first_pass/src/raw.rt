@@ -1,7 +1,7 @@
 //! Leaf blocks with raw lines: code, metadata and HTML.
 
 ghost use Rattle.std.specs.Prelude.{◌≡◌, ◌≤◌, Some, true, false, max, length, drop, IfOk, OnOk, IsCharBoundary};
-ghost use Rattle.first_pass_html.specs.Ends.{end_of};
+ghost use Rattle.first_pass_html.specs.Ends.{condition_of};
 ghost use Rattle.first_pass_lines.specs.Lines.{is_blank_line, is_content};
 ghost use Rattle.first_pass_scan.specs.LeafLines.{code_fence};
 ghost use Rattle.first_pass_lines.specs.Places.{Place};
@@ -90,7 +90,7 @@ impl<'a> FirstPass<'a> {
             pass.source.text,
             line,
         )?;
-        pass.reading.empty_item = None;
+        pass.reading.begin_list_item = None;
         Ok(())
     }
 
@@ -120,7 +120,7 @@ impl<'a> FirstPass<'a> {
             start_ix,
             remaining_space,
         )?;
-        pass.reading.empty_item = None;
+        pass.reading.begin_list_item = None;
         pass.reading.blank = blank;
         Ok(next)
     }
@@ -158,7 +158,7 @@ impl<'a> FirstPass<'a> {
             start_ix,
             fence,
         )?;
-        pass.reading.empty_item = None;
+        pass.reading.begin_list_item = None;
         Ok(next)
     }
 
@@ -187,7 +187,7 @@ impl<'a> FirstPass<'a> {
             start_ix,
             metadata_block_ch,
         )?;
-        pass.reading.empty_item = None;
+        pass.reading.begin_list_item = None;
         Ok(next)
     }
 
@@ -205,7 +205,7 @@ impl<'a> FirstPass<'a> {
         requires owed { remaining_space ≤ 3 }
         requires indent { indent ≤ 3 }
         ensures block { IfOk result (λ next. (p : Place) → IsPlaceAt (source_text self.old) start_ix p
-            → let e = html_to_end (source_text self.old) (context_in self.old).path (end_of html_end) p in
+            → let e = html_to_end (source_text self.old) (context_in self.old).path (condition_of html_end) p in
             AddsRaw (document (source_text self.old) (source_options self.old) (names_of (allocs_of self.new))) (λ d.
             IsHtml d start_ix (max remaining_space indent) e.places e.«end») e.left (tree_of self.old)
             (tree_of self.new) next) }
@@ -224,7 +224,7 @@ impl<'a> FirstPass<'a> {
             start,
             html_end,
         )?;
-        pass.reading.empty_item = None;
+        pass.reading.begin_list_item = None;
         Ok(next)
     }
 
@@ -259,7 +259,7 @@ impl<'a> FirstPass<'a> {
             &mut pass.allocs,
             start,
         )?;
-        pass.reading.empty_item = None;
+        pass.reading.begin_list_item = None;
         Ok(next)
     }
 }

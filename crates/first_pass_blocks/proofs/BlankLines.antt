@@ -36,7 +36,7 @@ one_read source start at r rest u kept stays within boundary taken blank s =
           (subst (Ready d defined r) (lines_at-line text at within) (s.ready names defined ready)));
       order = λ ordered. inl (subst (λ (q : Reading). IsReadTo text q next) kept
           (ordered_blank_line options text r r at u within boundary (λ o. o) (λ h uncounted. refl) (s.order ordered)));
-      few = λ first grows. let g = s.few first grows in omega arith;
+      node_bound = λ first grows. let g = s.node_bound first grows in omega arith;
       named = λ names h. h;
       whole = λ names h. h;
     }

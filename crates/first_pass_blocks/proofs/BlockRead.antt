@@ -34,7 +34,7 @@ passes_reading over line old new p q source same step =
           subst (λ (z : Allocations). ReadyOn (document over.text.now over.options more) (tables_of z) (reading_of new) q) (sym same)
           (step.ready more (tables_of (allocs_of old)) ready);
       order = step.order;
-      few = step.few;
+      node_bound = step.node_bound;
       named = λ h. subst (λ (z : Allocations). AreNamed (names_of z) (tree_of new).nodes) (sym same) (step.named names h);
       written = λ h. subst (λ (z : Allocations). TablesAreWritten over.text.now z) (sym same) h;
       whole = λ h k. subst (λ (z : Allocations). HasWholeTables (names_of z) (tree_of new)) (sym same) (step.whole names k);
@@ -49,7 +49,7 @@ passes_both over line a b c p q t one two = record {
   ready = λ more extends h. two.ready more extends
       (one.ready more (extends_both more (names_of (allocs_of c)) (names_of (allocs_of b)) extends two.names) h);
   order = λ h. two.order (one.order h);
-  few = λ first h. two.few first (one.few first h);
+  node_bound = λ first h. two.node_bound first (one.node_bound first h);
   named = λ h. two.named (one.named h);
   written = λ h. two.written (one.written h);
   whole = λ h k. two.whole (one.named h) (one.whole h k);
@@ -123,8 +123,8 @@ block_read over old middle new start far next at steps r between later = record 
   ready = λ more extends ready. r.ready more extends
       (steps.ready more (extends_both more (names_of (allocs_of new)) (names_of (allocs_of middle)) extends r.names) ready);
   order = λ o. r.order (steps.order o);
-  few = grows_both over.text.now start next (tree_of old).nodes (tree_of middle).nodes (tree_of new).nodes at between
-      (steps.few (tree_of old).nodes (omega arith)) r.few;
+  node_bound = grows_both over.text.now start next (tree_of old).nodes (tree_of middle).nodes (tree_of new).nodes at between
+      (steps.node_bound (tree_of old).nodes (omega arith)) r.node_bound;
   named = λ h. r.named (steps.named h);
   written = λ h. r.written (steps.written h);
   whole = λ h k. r.whole (steps.named h) (steps.whole h k);
@@ -134,7 +134,7 @@ block_read over old middle new start far next at steps r between later = record 
 pub line_ended : (over : Source) (old new : BlockPass) (start next : ℕ) → PassesTo over start old new (LineAt start) (LineAt next)
     → IsCharBoundary over.text.now next → start < next → ReadsBlockOf over old new (1 + start) (LineAt start) next
 line_ended over old new start next steps boundary later =
-    let first = steps.few (tree_of old).nodes (omega arith) in
+    let first = steps.node_bound (tree_of old).nodes (omega arith) in
     record {
       source = steps.source;
       names = steps.names;
@@ -142,7 +142,7 @@ line_ended over old new start next steps boundary later =
       boundary = boundary;
       ready = steps.ready;
       order = steps.order;
-      few = omega arith;
+      node_bound = omega arith;
       named = steps.named;
       written = steps.written;
       whole = steps.whole;

@@ -19,7 +19,7 @@ use Rattle.first_pass_grammar.specs.Footnotes.{footnote_head_at}
 use Rattle.first_pass_grammar.specs.Kinds.{is_blank_rest}
 use Rattle.first_pass_grammar.specs.Leaves.{Document, around}
 use Rattle.first_pass_grammar.specs.Openers.{item_head, item_start, definition_head, definition_start}
-use Rattle.first_pass_grammar.specs.Skeleton.{From, Inside, Blanks, after_marker, task_alone, next_is_blank, opening_of, OpensNode}
+use Rattle.first_pass_grammar.specs.Skeleton.{From, Inside, Blanks, after_marker, only_task, next_is_blank, opening_of, OpensNode}
 use Rattle.first_pass_grammar.specs.Skeleton.{Opens, Level}
 use Rattle.first_pass_grammar.specs.Derivation.{Tables, node_of}
 use Rattle.first_pass_grammar.specs.Completion.{OtherClosed, AreBelow}
@@ -62,7 +62,7 @@ marked_top f x ix rest spine within =
 
 ready_marked : (d : Document) (defined : Tables) (f : Forest Item) (marker : Option Item) (p : Place) (blanks : Option ℕ) (lines : List Place)
     (ix : TreeIndex) (rest : List TreeIndex) → IsNoParagraph marker → f.spine ≡ ix ∷ rest → is_list (top_body f) ≡ false
-    → ReadyAt d defined f false (task_alone marker p blanks) lines → ReadyAt d defined (with_child f marker) false (after_marker blanks) lines
+    → ReadyAt d defined f false (only_task marker p blanks) lines → ReadyAt d defined (with_child f marker) false (after_marker blanks) lines
 ready_marked d defined f None p blanks lines ix rest other spine none ready = ready
 ready_marked d defined f (Some x) p blanks lines ix rest other spine none ready =
     let os : List ℕ = map (λ (i : TreeIndex). i.0) f.spine in
@@ -162,7 +162,7 @@ module _ (b : ItemBody) (g : Forest Item) (start : ℕ) where
 
 -- the state after the markers of an empty item
 abbrev pub empty_item_read : Reading → Option Item → ℕ → Reading
-empty_item_read r marker e = record r { tree = with_child r.tree marker; empty_item = Some e }
+empty_item_read r marker e = record r { tree = with_child r.tree marker; begin_list_item = Some e }
 
 in_item : (d : Document) (defined : Tables) (f : Forest Item) (e : ℕ) (lines : List Place) (t blank : Bool)
     → blank ≡ false → next_is_blank (path_of d.options f) lines ≡ t → ReadyBeforeLine d defined f e lines t → ReadyInItem d defined f e lines blank
@@ -192,7 +192,7 @@ module _ (d : Document) (defined : Tables) (b : ItemBody) (g : Forest Item) (sta
       → next_is_blank (item_container b columns ∷ path) lines ≡ t → ReadyBeforeLine d defined (with_child full marker) e lines t
       → ReadyEmpty d defined (empty_item_read q marker e) e lines
   empty_read t path_is next ready =
-      subst (λ (z : Forest Item). ReadyEmpty d defined (record q { tree = with_child z marker; empty_item = Some e }) e lines) (sym tree) (record {
+      subst (λ (z : Forest Item). ReadyEmpty d defined (record q { tree = with_child z marker; begin_list_item = Some e }) e lines) (sym tree) (record {
         place = place b g start;
         outer = g.spine;
         columns = columns;
@@ -205,7 +205,7 @@ module _ (d : Document) (defined : Tables) (b : ItemBody) (g : Forest Item) (sta
       })
 
   empty_is : (t : Bool) → next_is_blank (item_container b columns ∷ path) lines ≡ t
-      → IsBegun d defined (with_columns b g start (columns_by t columns)) (item_container b (columns_by t columns)) (task_alone marker p (blanks_by t e)) lines
+      → IsBegun d defined (with_columns b g start (columns_by t columns)) (item_container b (columns_by t columns)) (only_task marker p (blanks_by t e)) lines
       path
       → ReadyEmpty d defined (empty_item_read q marker e) e lines
   empty_is true next begun =
@@ -226,23 +226,23 @@ module _ (d : Document) (defined : Tables) (b : ItemBody) (g : Forest Item) (sta
 item_opens : (d : Document) (path : List Container) (p : Place) (lines : List Place) (byte number columns : ℕ) (marker : Option Item) (rest : Rest) (e : ℕ)
     (t : Bool) → is_blank_rest rest ≡ true → next_is_blank (ListItem columns ∷ path) lines ≡ t → start_of (length d.text) lines ≡ e
     → opening_of d path p lines (item_start p (byte, number, columns) (marker, rest))
-    ≡ OpensNode (item_head p byte number (columns_by t columns)) (task_alone marker (at_rest p rest) (blanks_by t e)) lines
+    ≡ OpensNode (item_head p byte number (columns_by t columns)) (only_task marker (at_rest p rest) (blanks_by t e)) lines
 item_opens d path p lines byte number columns marker rest e true h n e_is =
-    rw (h, n) (ap (λ k. OpensNode (item_head p byte number 0) (task_alone marker (at_rest p rest) (Some k)) lines) e_is)
+    rw (h, n) (ap (λ k. OpensNode (item_head p byte number 0) (only_task marker (at_rest p rest) (Some k)) lines) e_is)
 item_opens d path p lines byte number columns marker rest e false h n e_is = rw (h, n) refl
 
 -- an item with nothing after its markers
 pub ready_empty_item : (d : Document) (defined : Tables) (r : Reading) (p : Place) (lines : List Place) (byte number columns : ℕ) (marker : Option Item)
     (rest : Rest) (e : ℕ) → IsForest r.tree → footnote_head_at (around d (path_of d.options r.tree)) p ≡ None
     → begins_at d r p ≡ Some (item_start p (byte, number, columns) (marker, rest)) → IsNoParagraph marker
-    → is_blank_rest rest ≡ true → start_of (length d.text) lines ≡ e → r.empty_item ≡ None
+    → is_blank_rest rest ≡ true → start_of (length d.text) lines ≡ e → r.begin_list_item ≡ None
     → ReadyAt d defined r.tree r.blank (Inside p) lines → Ready d defined (empty_item_read (item_opened (offset p) byte number columns r) marker e) lines
 unfolding Ready
 ready_empty_item d defined r p lines byte number columns marker rest e forest bare begins other blank e_is none ready =
     let path : List Container = path_of d.options r.tree in
     let t : Bool = next_is_blank (ListItem columns ∷ path) lines in
     let n : ℕ = columns_by t columns in
-    let from : From = task_alone marker (at_rest p rest) (blanks_by t e) in
+    let from : From = only_task marker (at_rest p rest) (blanks_by t e) in
     let l : Level = level_of d.options r.tree r.blank in
     let opens : Opens d l p lines (OpensNode (item_head p byte number n) from lines) =
     subst (Opens d l p lines) (item_opens d path p lines byte number columns marker rest e t blank refl e_is)
@@ -255,7 +255,7 @@ ready_empty_item d defined r p lines byte number columns marker rest e forest ba
 definition_opens : (d : Document) (path : List Container) (p : Place) (lines : List Place) (columns : ℕ) (rest : Rest) (e : ℕ)
     (t : Bool) → is_blank_rest rest ≡ true → next_is_blank (Definition columns ∷ path) lines ≡ t → start_of (length d.text) lines ≡ e
     → opening_of d path p lines (definition_start p (columns, rest))
-    ≡ OpensNode (definition_head p (columns_by t columns)) (task_alone None (at_rest p rest) (blanks_by t e)) lines
+    ≡ OpensNode (definition_head p (columns_by t columns)) (only_task None (at_rest p rest) (blanks_by t e)) lines
 definition_opens d path p lines columns rest e true h n e_is =
     rw (h, n) (ap (λ k. OpensNode (definition_head p 0) (Blanks k) lines) e_is)
 definition_opens d path p lines columns rest e false h n e_is = rw (h, n) refl
@@ -264,14 +264,14 @@ definition_opens d path p lines columns rest e false h n e_is = rw (h, n) refl
 pub ready_empty_definition : (d : Document) (defined : Tables) (r : Reading) (p : Place) (lines : List Place) (columns : ℕ) (rest : Rest) (e : ℕ)
     → IsForest r.tree → footnote_head_at (around d (path_of d.options r.tree)) p ≡ None → takes_definition r.tree ≡ true
     → begins_at d r p ≡ Some (definition_start p (columns, rest))
-    → is_blank_rest rest ≡ true → start_of (length d.text) lines ≡ e → r.empty_item ≡ None
+    → is_blank_rest rest ≡ true → start_of (length d.text) lines ≡ e → r.begin_list_item ≡ None
     → ReadyAt d defined r.tree r.blank (Inside p) lines → Ready d defined (empty_item_read (definition_begun (offset p) columns r) None e) lines
 unfolding Ready definition_begun
 ready_empty_definition d defined r p lines columns rest e forest bare takes begins blank e_is none ready =
     let path : List Container = path_of d.options r.tree in
     let t : Bool = next_is_blank (Definition columns ∷ path) lines in
     let n : ℕ = columns_by t columns in
-    let from : From = task_alone None (at_rest p rest) (blanks_by t e) in
+    let from : From = only_task None (at_rest p rest) (blanks_by t e) in
     let l : Level = level_of d.options r.tree r.blank in
     let opens : Opens d l p lines (OpensNode (definition_head p n) from lines) =
     subst (Opens d l p lines) (definition_opens d path p lines columns rest e t blank refl e_is)

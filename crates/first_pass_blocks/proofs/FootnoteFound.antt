@@ -92,7 +92,7 @@ line_after text s e low =
 
 -- a footnote definition is open whose head was read
 pub note_opened : (old new : BlockPass) (p q : Place) (start n : ℕ) (head : ℕ × List ℕ) → IsUtf8 (source_text old) → IsPlaceOf (source_text old) p
-    → IsForest (tree_of old) → (reading_of old).empty_item ≡ None → source_of new ≡ source_of old → footnote_mark_at (source_of old).options p ≡ Some start
+    → IsForest (tree_of old) → (reading_of old).begin_list_item ≡ None → source_of new ≡ source_of old → footnote_mark_at (source_of old).options p ≡ Some start
     → footnote_at (in_table (tree_of old).nodes (tree_of old).spine) (context_in old) (drop start (source_text old)) ≡ Some head
     → n ≡ head_read (gfm_footnotes (source_of old).options) head.0 (drop (start + head.0) (source_text old))
     → OpenedFootnote start head old new → 3 < n → IsAfterHead (source_of old) (start + n) q → TriesFootnote old new p q true
@@ -121,7 +121,7 @@ note_opened old new p q start n head utf8 at forest none same mark is n_is opene
     let far = line_after text (offset p) e (omega arith) in (
       (following.place, omega arith, omega arith, omega arith),
       omega arith,
-      ap (λ r. r.empty_item) opened.opened ∙ footnote_begun_none start opened.index (reading_of old),
+      ap (λ r. r.begin_list_item) opened.opened ∙ footnote_begun_none start opened.index (reading_of old),
       passes_note old new p q head utf8 at forest none same opens
           (λ no_table. m.1 ∙ ap (λ (t : Bool). footnote_at t around (drop start text)) (sym no_table) ∙ is) around nested
           (ap (λ (k : ℕ). footnote_at nested around (drop k text)) here ∙ is) following.place (omega arith)

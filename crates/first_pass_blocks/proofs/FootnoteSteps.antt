@@ -38,7 +38,7 @@ use Rattle.first_pass_order.proofs.WholeKept.{note_whole, more_whole}
 use Rattle.first_pass_ready.proofs.BegunLemmas.{no_table}
 
 module _ (old new : BlockPass) (p q : Place) (head : ℕ × List ℕ) (utf8 : IsUtf8 (source_text old)) (at : IsPlaceOf (source_text old) p)
-    (forest : IsForest (tree_of old)) (none : (reading_of old).empty_item ≡ None) (same : source_of new ≡ source_of old)
+    (forest : IsForest (tree_of old)) (none : (reading_of old).begin_list_item ≡ None) (same : source_of new ≡ source_of old)
     (opened : OpenedFootnote (offset (unindented p)) head old new)
     (begins : in_table (tree_of old).nodes (tree_of old).spine ≡ false → footnote_head_at (context_of (source_of old).options (tree_of old)) p ≡ Some head)
     (around : Context) (nested : Bool) (here_is : footnote_at nested around (drop (offset (unindented p)) (source_text old)) ≡ Some head)
@@ -119,7 +119,7 @@ module _ (old new : BlockPass) (p q : Place) (head : ℕ × List ℕ) (utf8 : Is
     names = more_names;
     ready = λ more extends ready. ready_then more extends ready;
     order = λ ordered. order_then ordered boundary;
-    few = λ first grows.
+    node_bound = λ first grows.
         let lower = low in
         let one = note_count start opened.index (reading_of old) in
         let e = ap (λ (z : Reading). z.tree.nodes) opened.opened in

@@ -83,7 +83,7 @@ line_by path line q (Some r) h = let e : at_rest line r ≡ q = cc in (r, refl, 
 
 -- The state after such a block is in order up to where reading continues, or such a blank line begins there.
 pub ordered_stopped : (options : Options) (text : List ℕ) (r : Reading) (path : List Container) (e : Extent) (next : ℕ)
-    → IsCharBoundary text next → r.empty_item ≡ None → path_of options r.tree ≡ path
+    → IsCharBoundary text next → r.begin_list_item ≡ None → path_of options r.tree ≡ path
     → StopsBlank (length text) path e → lines_from text next ≡ e.left → IsOrderedAt text r e.«end» → IsOrderedFrom options text r next
 ordered_stopped options text r path e next b none path_is (inl h) left o =
     let there = start_of-lines text next b.0 in
@@ -105,7 +105,7 @@ ordered_stopped options text r path e next b none path_is (inr (line, lines, q, 
 -- The same for closing in order, if no list is innermost; no footnote definition in the old form ends before such a
 -- line.
 pub read_stopped : (options : Options) (text : List ℕ) (r : Reading) (path : List Container) (e : Extent) (next : ℕ)
-    → IsCharBoundary text next → r.empty_item ≡ None → (in_old_footnote (path_of options r.tree) ≡ true → r.blank ≡ false) → path_of options r.tree ≡ path
+    → IsCharBoundary text next → r.begin_list_item ≡ None → (in_old_footnote (path_of options r.tree) ≡ true → r.blank ≡ false) → path_of options r.tree ≡ path
     → StopsBlank (length text) path e → lines_from text next ≡ e.left → AreNested r.tree.nodes r.tree.spine → is_list (top_body r.tree) ≡ false
     → IsOrderedAt text r e.«end» → IsReadFrom options text r next
 read_stopped options text r path e next b none uncounted path_is stops left nested plain o =

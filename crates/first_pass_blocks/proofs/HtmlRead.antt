@@ -40,10 +40,10 @@ html_stands text p at u i at_is =
     let j = all_keep text p.line p.rest u i in record { offset_is = sym at_is; left_is = j.left ∙ ap (λ n. drop n text) (sym at_is) }
 
 pub html_read : (old new : BlockPass) (p : Place) (at columns next : ℕ) → IsUtf8 (source_text old) → IsPlaceOf (source_text old) p
-    → (reading_of old).empty_item ≡ None → IsForest (tree_of old) → IsForest (list_finished p.line (reading_of old)).tree
+    → (reading_of old).begin_list_item ≡ None → IsForest (tree_of old) → IsForest (list_finished p.line (reading_of old)).tree
     → IsKind (source_options old) p.rest HtmlToBlank → columns ≡ min 4 (indent p.rest) → at ≡ offset (unindented p)
     → source_of new ≡ source_of old → NamesMore (allocs_of old) (allocs_of new)
-    → (reading_of new).empty_item ≡ (list_finished p.line (reading_of old)).empty_item
+    → (reading_of new).begin_list_item ≡ (list_finished p.line (reading_of old)).begin_list_item
     → (reading_of new).blank ≡ (list_finished p.line (reading_of old)).blank
     → (after_line_at (source_text old) at ≤ next) × IsCharBoundary (source_text old) next
     → AddsHtml (source_text old) (source_options old) (names_of (allocs_of new)) at columns (unindented p) (list_finished p.line (reading_of old)).tree
@@ -78,7 +78,7 @@ html_read old new p at columns next u i empty forest forest_after kind columns_i
       boundary = following.1;
       ready = λ more extends ready. subst (λ t. Ready (document text options more) t (reading_of new) (lines_from text next)) (sym (ap told_by adds.entries))
           (ready_kind text options (tables_of (allocs_of old)) now more r tree p HtmlToBlank false next forest kind refl refl extends added empty ready
-          (reading_of new).empty_item (reading_of new).blank none blank);
+          (reading_of new).begin_list_item (reading_of new).blank none blank);
       named = λ h. block_added now (names_of (allocs_of old)) q.tree tree added.items adds.names added.tree_is
           (kind_named text options now p HtmlToBlank false q.tree tree next added) (list_finished_named (names_of (allocs_of old)) p.line r h);
       written = written_stay text (allocs_of old) (allocs_of new) adds.entries;
@@ -96,5 +96,5 @@ html_read old new p at columns next u i empty forest forest_after kind columns_i
           (kind_silent text options now p HtmlToBlank false q.tree tree next added)
           (list_finished_named (names_of (allocs_of old)) p.line r h)
           (kept_of (names_of (allocs_of old)) (list_finished p.line r).tree (list_finished_whole (names_of (allocs_of old)) p.line r forest k));
-      few = omega arith;
+      node_bound = omega arith;
     }

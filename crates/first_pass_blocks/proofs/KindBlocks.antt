@@ -30,13 +30,13 @@ use Rattle.first_pass_open.specs.Path.{path_of, context_of}
 use Rattle.first_pass_raw.specs.RawBlocks.{IsPlaceAt, after_line_at, code_after, AddsIndented, AddsRaw, metadata_after, fenced_after, html_to_end}
 use Rattle.first_pass_raw.specs.RawBlocks.{html_to_blank}
 use Rattle.first_pass_order.specs.LeafBlocks.{AddsKind}
-use Rattle.first_pass_kinds.specs.Found.{marked_kind}
+use Rattle.first_pass_kinds.specs.BlockStart.{marked_kind}
 use Rattle.first_pass_kinds.specs.declared.kinds.MarkedLeaf.{MarkedLeaf}
 use Rattle.first_pass_kinds.specs.declared.kinds.MarkedLeaf.TheVariants.{IndentedCode as MarkedCode, Metadata as MarkedMetadata, HtmlToEnd as MarkedHtml}
 use Rattle.first_pass_kinds.specs.declared.kinds.MarkedLeaf.TheVariants.{ThematicBreak as MarkedBreak, AtxHeading as MarkedHeading, FencedCode as MarkedFence}
 use Rattle.first_pass_text.specs.Appends.{AddsHeading}
 use Rattle.first_pass_completion.proofs.Closings.{leaf_closes}
-use Rattle.first_pass_lists.specs.Closing.{remembered, top_body, list_finished}
+use Rattle.first_pass_lists.specs.Closing.{reading_with, top_body, list_finished}
 use Rattle.first_pass_lists.specs.declared.reading.Reading.{Reading}
 use Rattle.first_pass_blocks.specs.Positions.{ReadyLeaf}
 use Rattle.first_pass_ready.specs.State.{closed_in, Ready}
@@ -193,10 +193,10 @@ module _ (text : List ℕ) (options : Options) (names : Names) (p : Place) (old 
 -- after a leaf block of a kind
 pub ready_kind : (text : List ℕ) (options : Options) (defined : Tables) (own names : Names) (r : Reading) (new : Forest Item) (p : Place) (kind : Kind)
     (gap : Bool) (next : ℕ) → IsForest r.tree → IsKind options p.rest kind → is_paragraph kind ≡ false → is_run kind ≡ false → Extends names own
-    → AddsKind (document text options own) p kind gap (list_finished p.line r).tree new next → r.empty_item ≡ None
+    → AddsKind (document text options own) p kind gap (list_finished p.line r).tree new next → r.begin_list_item ≡ None
     → ReadyLeaf (document text options names) defined r p (lines_from text (line_end p))
     → (empty : Option ℕ) (blank : Bool) → empty ≡ None → blank ≡ gap
-    → Ready (document text options names) defined (remembered new empty blank) (lines_from text next)
+    → Ready (document text options names) defined (reading_with new empty blank) (lines_from text next)
 ready_kind text options defined own names r new p kind gap next forest is other no_run extends a none ready empty blank e b =
     let d : Document = document text options names in
     let lines : List Place = lines_from text (line_end p) in
@@ -205,7 +205,7 @@ ready_kind text options defined own names r new p kind gap next forest is other 
     let opens = subst (λ path. OpensAs d path p lines kind o) (path_finished options p.line r none) (a.opens names extends) in
     let block : LeafBlock = block_at kind p a.items gap in
     let closes : leaf_closes block ≡ p.line = ap (λ (t : Bool). if t then offset (unindented p) else p.line) other in
-    subst (λ z. Ready d z (remembered new empty blank) left) (told_none defined)
+    subst (λ z. Ready d z (reading_with new empty blank) left) (told_none defined)
     (ready_added d defined r new p lines left p.line block no_run kind
     (λ begins. kind_away (top_body r.tree) (closed_in r.tree) p.line block left other (begins other) closes) forest is
     (subst (λ k. OpensAs d (path_of options r.tree) p lines k o) (sym (kind_in_other (context_of options r.tree) p kind other)) opens) a.tree_is none ready
@@ -220,7 +220,7 @@ adds_so text options names p k kind gap blank old new next is same a =
 
 -- counted columns under four
 pub columns_are : (n m : ℕ) → n ≡ min 4 m → nat_lt m 4 ≡ true → (n ≡ m) × (n ≤ 3)
-columns_are n m is few = let low : m < 4 = grind (arith, nat_tests, few) in (omega arith, omega arith)
+columns_are n m is node_bound = let low : m < 4 = grind (arith, nat_tests, node_bound) in (omega arith, omega arith)
 
 -- an HTML block up to a blank line, at a place
 abbrev pub AddsHtml : List ℕ → Options → Names → ℕ → ℕ → Place → Forest Item → Forest Item → ℕ → Type 0

@@ -7,8 +7,8 @@ use Rattle.first_pass_grammar.specs.Kinds.{unindented}
 use Rattle.first_pass_names.specs.TableEntries.{names_of, NamesMore}
 use Rattle.first_pass_raw.specs.RawBlocks.{after_line_at}
 use Rattle.first_pass_open.specs.Between.{AddsBetween}
-use Rattle.first_pass_kinds.specs.Found.{IsFoundAt, marked_kind}
-use Rattle.first_pass_kinds.specs.declared.kinds.Found.TheVariants.{Marked}
+use Rattle.first_pass_kinds.specs.BlockStart.{IsFoundAt, marked_kind}
+use Rattle.first_pass_kinds.specs.declared.kinds.BlockStart.TheVariants.{Marked}
 use Rattle.first_pass_kinds.specs.declared.kinds.MarkedLeaf.{MarkedLeaf}
 use Rattle.first_pass_kinds.specs.declared.kinds.MarkedLeaf.TheVariants.{FencedCode, AtxHeading}
 use Rattle.first_pass_items.specs.declared.item.HeadingLevel.{HeadingLevel}
@@ -57,7 +57,7 @@ module _ (old new : BlockPass) (p : Place) (leaf : MarkedLeaf) (columns at next 
   line_read ends =
       let same = here in (omega arith, subst (IsCharBoundary (source_text old)) (sym ends) (place_end (source_text old) p f.utf8 f.place))
 
-  pub leaf_added : source_of new ≡ source_of old → NamesMore (allocs_of old) (allocs_of new) → (reading_of new).empty_item ≡ (reading_of old).empty_item
+  pub leaf_added : source_of new ≡ source_of old → NamesMore (allocs_of old) (allocs_of new) → (reading_of new).begin_list_item ≡ (reading_of old).begin_list_item
       → (reading_of new).blank ≡ (reading_of old).blank → (after_line_at (source_text old) at ≤ next) × IsCharBoundary (source_text old) next
       → ((from : ℕ) → from ≤ at → AddsBetween (source_text old) from next (tree_of old) (tree_of new))
       → AddsKind (document (source_text old) (source_options old) (names_of (allocs_of new))) p (marked_kind leaf) false (tree_of old) (tree_of new) next
@@ -70,7 +70,7 @@ module _ (old new : BlockPass) (p : Place) (leaf : MarkedLeaf) (columns at next 
       record {
         source = source;
         more = more;
-        empty_item = empty ∙ f.no_empty;
+        begin_list_item = empty ∙ f.no_empty;
         block = adds_so (source_text old) (source_options old) (names_of (allocs_of new)) p (marked_kind leaf) (marked_kind leaf) false
             (reading_of new).blank (tree_of old) (tree_of new) next refl (blank ∙ f.not_blank) block;
         later = omega arith;

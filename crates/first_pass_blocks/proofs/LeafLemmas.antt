@@ -16,7 +16,7 @@ use Rattle.first_pass_lines.proofs.PlaceFacts.{columns_line_end}
 use Rattle.first_pass_grammar.specs.Before.{begins_paragraph, is_run}
 use Rattle.first_pass_grammar.specs.Derivation.{Tables, told}
 use Rattle.first_pass_grammar.specs.LinkTables.{LinkEntry, with_links}
-use Rattle.first_pass_grammar.specs.LinkRuns.{definition_at, kind_in, Beyond, Ended, FlowsOn, IsRun}
+use Rattle.first_pass_grammar.specs.LinkRuns.{link_definition_at, kind_in, Beyond, Ended, FlowsOn, IsRun}
 use Rattle.first_pass_grammar.specs.Order.{is_task_marker}
 use Rattle.first_pass_grammar.specs.Rows.{is_paragraph}
 use Rattle.std.proofs.lemmas.Bool.{true≢false}
@@ -28,7 +28,7 @@ use Rattle.first_pass_items.specs.declared.option_set.Options.{Options}
 use Rattle.first_pass_grammar.specs.Leaves.{Document, document, around, IsHeading, heading_text_at, rule_block, heading_block}
 use Rattle.first_pass_grammar.specs.Blocks.{BlankLine, LeafBlock, Block, run_block, flowing_block, block_at, leaf_block}
 use Rattle.first_pass_grammar.specs.Openers.{start_at}
-use Rattle.first_pass_grammar.specs.Skeleton.{OpensBeyond, OpensRun, Line, Inside, At, ALeafAlone, TextOf, IsFirst, Opening, OpensLeaf, OpensText, OpensAs}
+use Rattle.first_pass_grammar.specs.Skeleton.{OpensBeyond, OpensRun, Line, Inside, At, OnlyALeaf, TextOf, IsFirst, Opening, OpensLeaf, OpensText, OpensAs}
 use Rattle.first_pass_grammar.specs.Skeleton.{OpensBlockAt, OpensBy, Opens, Level, next_block, may_define as may_begin}
 use Rattle.first_pass_grammar.specs.Tables.{taking}
 use Rattle.first_pass_grammar.specs.Texts.{IsText}
@@ -47,7 +47,7 @@ use Rattle.first_pass_completion.proofs.Titles.{closed_after}
 use Rattle.first_pass_open.specs.Between.{line_end_at}
 use Rattle.first_pass_text.specs.Appends.{AddsHeading}
 use Rattle.first_pass_blocks.specs.TextsAdded.{IsTextAt}
-use Rattle.first_pass_lists.specs.Closing.{remembered, top_body, top_end, is_list, is_definition_list, possible_title, is_after_definition, list_finished}
+use Rattle.first_pass_lists.specs.Closing.{reading_with, top_body, top_end, is_list, is_definition_list, possible_title, is_after_definition, list_finished}
 use Rattle.first_pass_lists.specs.Closing.{blank_read_by, blank_read}
 use Rattle.first_pass_lists.specs.declared.reading.Reading.{Reading}
 use Rattle.first_pass_open.specs.Path.{path_of, context_of}
@@ -179,16 +179,16 @@ run_ready d defined f q xs left is =
 
 -- the state then, with no empty item
 remembered_so : (d : Document) (defined : Tables) (new : Forest Item) (empty : Option ℕ) (blank gap : Bool) (left : List Place)
-    → empty ≡ None → blank ≡ gap → ReadyAt d defined new gap Line left → Ready d defined (remembered new empty blank) left
+    → empty ≡ None → blank ≡ gap → ReadyAt d defined new gap Line left → Ready d defined (reading_with new empty blank) left
 remembered_so d defined new empty blank gap left none same ready =
-    ready_plain d defined (remembered new empty blank) left none (subst (λ t. ReadyAt d defined new t Line left) (sym same) ready)
+    ready_plain d defined (reading_with new empty blank) left none (subst (λ t. ReadyAt d defined new t Line left) (sym same) ready)
 
 -- the reading of a leaf block after a new block ended what it ends
 finished_read : (d : Document) (defined : Tables) (r : Reading) (p : Place) (lines left : List Place) (at : ℕ) (block : LeafBlock)
     → (begins_paragraph block.items ≡ true → AreEachNode ShowsNothing block.items)
     → EndsListAt at (top_body r.tree) (closed_in r.tree) (OpensLeaf (Block block) Line left) → IsForest r.tree
     → Opens d (level_of d.options r.tree r.blank) p lines (OpensLeaf (Block block) Line left)
-    → r.empty_item ≡ None → ReadyAt d defined r.tree r.blank (Inside p) lines → IsRead d defined (list_finished at r).tree block left
+    → r.begin_list_item ≡ None → ReadyAt d defined r.tree r.blank (Inside p) lines → IsRead d defined (list_finished at r).tree block left
 finished_read d defined r p lines left at block shows away forest opens none ready =
     let opening : Opening = OpensLeaf (Block block) Line left in
     let stays = opens_stays d (level_of d.options r.tree r.blank) p lines opening refl opens in
@@ -212,7 +212,7 @@ finished_read d defined r p lines left at block shows away forest opens none rea
 -- the same after the tag of a block quote, where a new block ends nothing
 lazy_read : (d : Document) (defined : Tables) (r : Reading) (p : Place) (lines left : List Place) (at : ℕ) (block : LeafBlock)
     → (begins_paragraph block.items ≡ true → AreEachNode ShowsNothing block.items)
-    → OpensBlockAt d (path_of d.options r.tree) p lines (OpensLeaf (Block block) Line left) → r.empty_item ≡ None → ReadyLazy d defined r p lines
+    → OpensBlockAt d (path_of d.options r.tree) p lines (OpensLeaf (Block block) Line left) → r.begin_list_item ≡ None → ReadyLazy d defined r p lines
     → IsRead d defined (list_finished at r).tree block left
 unfolding next_block
 lazy_read d defined r p lines left at block shows opens none lazy =
@@ -223,7 +223,7 @@ lazy_read d defined r p lines left at block shows opens none lazy =
     let plain = plain_by d.options f.nodes f.spine frames ready.are_open (ap is_list lazy.quote) in
     let path = open_path d.options f.nodes f.spine frames ready.are_open in
     let l : Level = lvl frames (tail (closed_in f) false) in
-    let first : IsFirst d l (At p ALeafAlone) lines (OpensLeaf (Block block) Line left) = record {
+    let first : IsFirst d l (At p OnlyALeaf) lines (OpensLeaf (Block block) Line left) = record {
       place = p;
       following = lines;
       begins = refl;
@@ -236,7 +236,7 @@ lazy_read d defined r p lines left at block shows opens none lazy =
       silent = ready.silent;
       shows = shows;
       below = ready.completes.below;
-      completes = completes-leaf d defined (closed_in f) frames f.nodes os (At p ALeafAlone) lines left block plain (λ path mid. refl) tt first
+      completes = completes-leaf d defined (closed_in f) frames f.nodes os (At p OnlyALeaf) lines left block plain (λ path mid. refl) tt first
           ready.completes;
     } in
     subst (λ (z : Reading). IsRead d defined z.tree block left) (sym (finishes_nothing at r lazy.kind lazy.quote lazy.blank none)) is
@@ -250,7 +250,7 @@ leaf_read_by : (d : Document) (defined : Tables) (r : Reading) (p : Place) (line
     → (begins_paragraph block.items ≡ true → AreEachNode ShowsNothing block.items)
     → EndsListAt at (top_body r.tree) (closed_in r.tree) (OpensLeaf (Block block) Line left) → IsForest r.tree → IsKind d.options p.rest k
     → OpensAs d (path_of d.options r.tree) p lines (kind_in (context_of d.options r.tree) p k) (OpensLeaf (Block block) Line left)
-    → r.empty_item ≡ None → ReadyLeaf d defined r p lines → IsRead d defined (list_finished at r).tree block left
+    → r.begin_list_item ≡ None → ReadyLeaf d defined r p lines → IsRead d defined (list_finished at r).tree block left
 leaf_read_by d defined r p lines left at block k shows away forest kind opens none (inl (bare, no_start, ready)) =
     finished_read d defined r p lines left at block shows away forest
     (no_container d r.tree r.blank p lines k (OpensLeaf (Block block) Line left) bare no_start kind opens) none ready
@@ -262,7 +262,7 @@ leaf_is_read : (d : Document) (defined : Tables) (r : Reading) (p : Place) (line
     → ((is_paragraph block.kind ≡ false → begins_paragraph block.items ≡ false)
     → EndsListAt at (top_body r.tree) (closed_in r.tree) (OpensLeaf (Block block) Line left)) → IsForest r.tree → IsKind d.options p.rest k
     → OpensAs d (path_of d.options r.tree) p lines (kind_in (context_of d.options r.tree) p k) (OpensLeaf (Block block) Line left)
-    → r.empty_item ≡ None → ReadyLeaf d defined r p lines → IsRead d defined (list_finished at r).tree block left
+    → r.begin_list_item ≡ None → ReadyLeaf d defined r p lines → IsRead d defined (list_finished at r).tree block left
 leaf_is_read d defined r p lines left at block k away forest kind opens none ready =
     let o : Opening = OpensLeaf (Block block) Line left in
     let holds = kind_holds ShowsNothing d (tokens_show d.names.texts) (path_of d.options r.tree) p lines (kind_in (context_of d.options r.tree) p k) o opens in
@@ -276,8 +276,8 @@ pub ready_added : (d : Document) (defined : Tables) (r : Reading) (new : Forest 
     → ((is_paragraph block.kind ≡ false → begins_paragraph block.items ≡ false)
     → EndsListAt at (top_body r.tree) (closed_in r.tree) (OpensLeaf (Block block) Line left)) → IsForest r.tree → IsKind d.options p.rest k
     → OpensAs d (path_of d.options r.tree) p lines (kind_in (context_of d.options r.tree) p k) (OpensLeaf (Block block) Line left)
-    → new ≡ added (list_finished at r).tree block.items → r.empty_item ≡ None → ReadyLeaf d defined r p lines
-    → (empty : Option ℕ) (blank : Bool) → empty ≡ None → blank ≡ block.gap → Ready d (told defined block.definitions) (remembered new empty blank) left
+    → new ≡ added (list_finished at r).tree block.items → r.begin_list_item ≡ None → ReadyLeaf d defined r p lines
+    → (empty : Option ℕ) (blank : Bool) → empty ≡ None → blank ≡ block.gap → Ready d (told defined block.definitions) (reading_with new empty blank) left
 ready_added d defined r new p lines left at block other k away forest kind opens new_is none ready empty blank e b =
     let is = leaf_is_read d defined r p lines left at block k away forest kind opens none ready in
     remembered_so d (told defined block.definitions) new empty blank block.gap left e b
@@ -289,7 +289,7 @@ kind_blank_is r b kind is = ap (blank_read_by r) is
 
 -- a blank line at the place of a leaf
 pub ready_blank_leaf : (d : Document) (defined : Tables) (r : Reading) (p : Place) (lines : List Place)
-    → IsKind d.options p.rest Blank → r.empty_item ≡ None → ReadyLeaf d defined r p lines → Ready d defined (blank_read r) lines
+    → IsKind d.options p.rest Blank → r.begin_list_item ≡ None → ReadyLeaf d defined r p lines → Ready d defined (blank_read r) lines
 unfolding blank_read OpensAs next_block
 ready_blank_leaf d defined r p lines kind none (inl (bare, no_start, ready)) =
     ready_blank d defined r p lines (kind_says d.options p.rest Blank kind) none ready
@@ -300,7 +300,7 @@ ready_blank_leaf d defined r p lines kind none (inr lazy) =
     let os : List ℕ = map (λ (i : TreeIndex). i.0) f.spine in
     let t : Tail = tail (closed_in f) false in
     let blank : OpensAs d (containers_of frames) p lines Blank (OpensLeaf BlankLine Line lines) = refl in
-    let first : IsFirst d (lvl frames t) (At p ALeafAlone) lines (OpensLeaf BlankLine Line lines) = record {
+    let first : IsFirst d (lvl frames t) (At p OnlyALeaf) lines (OpensLeaf BlankLine Line lines) = record {
       place = p;
       following = lines;
       begins = refl;
@@ -312,7 +312,7 @@ ready_blank_leaf d defined r p lines kind none (inr lazy) =
       are_open = ready.are_open;
       silent = ready.silent;
       completes = subst (λ z. CompletesAt d defined (tail (closed_in f) z) frames f.nodes os Line lines) counts
-          (completes-blank d defined t frames f.nodes os (At p ALeafAlone) lines lines (λ path mid. refl) first ready.completes);
+          (completes-blank d defined t frames f.nodes os (At p OnlyALeaf) lines lines (λ path mid. refl) first ready.completes);
     } in
     subst (λ q. Ready d defined q lines) (sym (kind_blank_is r (top_body r.tree) lazy.kind lazy.quote))
     (ready_plain d defined r lines none (subst (λ t. ReadyAt d defined f t Line lines) (sym lazy.blank) now))
@@ -368,11 +368,11 @@ kind_in_other around p Paragraph h = absurd (true≢false h)
 kind_in_other around p kind h = refl
 
 -- so does a paragraph without a definition before it
-kind_in_text : (around : Context) (p : Place) → definition_at around (unindented p) ≡ None → kind_in around p Paragraph ≡ Paragraph
+kind_in_text : (around : Context) (p : Place) → link_definition_at around (unindented p) ≡ None → kind_in around p Paragraph ≡ Paragraph
 kind_in_text around p none = ap (λ (x : Option LinkEntry). if is_some x then LinkDefinitions else Paragraph) none
 
 -- the same after a definition
-kind_in_run : (around : Context) (p : Place) (x : LinkEntry) → definition_at around (unindented p) ≡ Some x → kind_in around p Paragraph ≡ LinkDefinitions
+kind_in_run : (around : Context) (p : Place) (x : LinkEntry) → link_definition_at around (unindented p) ≡ Some x → kind_in around p Paragraph ≡ LinkDefinitions
 kind_in_run around p x some = ap (λ (x : Option LinkEntry). if is_some x then LinkDefinitions else Paragraph) some
 
 -- the opening after link reference definitions, or after none
@@ -396,9 +396,9 @@ pub ready_flows : (d : Document) (defined : Tables) (r : Reading) (new : Forest 
     → IsRun (context_of d.options r.tree) (unindented p) (lines_from d.text (line_end p)) xs (FlowsOn q (lines_from d.text (line_end q)))
     → IsTextAt d (path_of d.options r.tree) at None items next
     → EndsListAt ends (top_body r.tree) (closed_in r.tree) (OpensLeaf (Block (flowing_block q xs items)) Line (lines_from d.text next))
-    → new ≡ added (list_finished ends r).tree items → r.empty_item ≡ None
+    → new ≡ added (list_finished ends r).tree items → r.begin_list_item ≡ None
     → ReadyLeaf d defined r p (lines_from d.text (line_end p)) → (empty : Option ℕ) (blank : Bool) → empty ≡ None → blank ≡ false
-    → Ready d (told defined xs) (remembered new empty blank) (lines_from d.text next)
+    → Ready d (told defined xs) (reading_with new empty blank) (lines_from d.text next)
 ready_flows d defined r new p q ends at next xs items forest kind place at_is run is away new_is none ready =
     let lines : List Place = lines_from d.text (line_end p) in
     let left : List Place = lines_from d.text next in
@@ -410,7 +410,7 @@ ready_flows d defined r new p q ends at next xs items forest kind place at_is ru
 -- after link reference definitions without a paragraph after them, the last of which begins at a place
 pub ready_ended : (d : Document) (defined : Tables) (r : Reading) (p q : Place) (next : ℕ) (xs : List LinkEntry)
     → IsForest r.tree → IsKind d.options p.rest Paragraph
-    → IsRun (context_of d.options r.tree) (unindented p) (lines_from d.text (line_end p)) xs (Ended q (lines_from d.text next)) → r.empty_item ≡ None
+    → IsRun (context_of d.options r.tree) (unindented p) (lines_from d.text (line_end p)) xs (Ended q (lines_from d.text next)) → r.begin_list_item ≡ None
     → ReadyLeaf d defined r p (lines_from d.text (line_end p)) → Ready d (told defined xs) (list_finished q.line r) (lines_from d.text next)
 ready_ended d defined r p q next xs forest kind run none ready =
     let lines : List Place = lines_from d.text (line_end p) in
@@ -427,8 +427,8 @@ ready_ended d defined r p q next xs forest kind run none ready =
 -- after the text of a task list item
 pub ready_text : (d : Document) (defined : Tables) (r : Reading) (new : Forest Item) (p : Place) (at next : ℕ) (marker : Item) (items : List (ℕ × Item))
     → is_task_marker marker.body ≡ true → at ≡ offset (unindented p) → IsPlaceOf d.text (unindented p)
-    → IsTextAt d (path_of d.options r.tree) at (Some marker) items next → new ≡ added r.tree items → r.empty_item ≡ None
-    → ReadyText d defined r marker p (lines_from d.text (line_end p)) → Ready d defined (remembered new r.empty_item r.blank) (lines_from d.text next)
+    → IsTextAt d (path_of d.options r.tree) at (Some marker) items next → new ≡ added r.tree items → r.begin_list_item ≡ None
+    → ReadyText d defined r marker p (lines_from d.text (line_end p)) → Ready d defined (reading_with new r.begin_list_item r.blank) (lines_from d.text next)
 unfolding next_block
 ready_text d defined r new p at next marker items mark at_is place is new_is none text =
     let ready = text.ready in
@@ -455,7 +455,7 @@ ready_text d defined r new p at next marker items mark at_is place is new_is non
           ready.completes;
     } in
     let now : ReadyAt d (told defined []) (added f items) false Line left = block_ready d defined f block left refl read in
-    ready_plain d defined (remembered new r.empty_item r.blank) left none
+    ready_plain d defined (reading_with new r.begin_list_item r.blank) left none
     (subst (λ t. ReadyAt d defined new t Line left) (sym text.blank) (subst (λ z. ReadyAt d defined z false Line left) (sym new_is)
     (subst (λ z. ReadyAt d z (added f items) false Line left) (told_none defined) now)))
 

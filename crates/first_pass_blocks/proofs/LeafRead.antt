@@ -24,13 +24,13 @@ use Rattle.first_pass_blocks.proofs.FirstItems.{kind_silent}
 use Rattle.first_pass_order.proofs.CountLemmas.{list_finished_count, block_count, leaf_left, left_before}
 
 -- a block that ends what is to end at the start of the line
-pub leaf_read : (old new : BlockPass) (p : Place) (kind : Kind) (next : ℕ) → IsPlaceOf (source_text old) p → (reading_of old).empty_item ≡ None
+pub leaf_read : (old new : BlockPass) (p : Place) (kind : Kind) (next : ℕ) → IsPlaceOf (source_text old) p → (reading_of old).begin_list_item ≡ None
     → IsForest (tree_of old) → IsKind (source_options old) p.rest kind → (kind ≡ Blank → ⊥) → is_paragraph kind ≡ false → is_run kind ≡ false
     → AddsLeaf (record old { reading = list_finished p.line (reading_of old) }) new p kind next → ReadsLeaf old new p next
 leaf_read old new p kind next i empty forest is some other no_run e =
     let text = source_text old in
     let r : Reading = reading_of old in
-    let none = e.empty_item in
+    let none = e.begin_list_item in
     let later = e.later in
     let before = left_before p (leaf_left (source_options old) p.rest kind is some) in
     let fits = e.fits (offset p) (omega arith) in
@@ -44,7 +44,7 @@ leaf_read old new p kind next i empty forest is some other no_run e =
       ready = λ more extends ready.
           subst (λ z. Ready (document text (source_options old) more) z (reading_of new) (lines_from text next)) (sym (ap told_by e.more.entries))
           (ready_kind text (source_options old) (tables_of (allocs_of old)) (names_of (allocs_of new)) more r (tree_of new) p kind
-          (reading_of new).blank next forest is other no_run extends e.block empty ready (reading_of new).empty_item (reading_of new).blank none refl);
+          (reading_of new).blank next forest is other no_run extends e.block empty ready (reading_of new).begin_list_item (reading_of new).blank none refl);
       named = λ h.
           block_added (names_of (allocs_of new)) (names_of (allocs_of old)) (list_finished p.line r).tree (tree_of new) e.block.items e.more.names
           e.block.tree_is
@@ -62,5 +62,5 @@ leaf_read old new p kind next i empty forest is some other no_run e =
           (tree_of new) next e.block)
           (list_finished_named (names_of (allocs_of old)) p.line r h)
           (kept_of (names_of (allocs_of old)) (list_finished p.line r).tree (list_finished_whole (names_of (allocs_of old)) p.line r forest k));
-      few = omega arith;
+      node_bound = omega arith;
     }

@@ -52,11 +52,11 @@ none_starts options may p h =
     start_none options may p (inert_item_at p.rest h.owed h.inert) (no_marker may p h) (inert_prefix p.rest h.owed h.inert)
 
 -- so a leaf block is there
-pub leaf_alone : (source : Source) (r : Reading) (p : Place) (line : ℕ) → OpensNone p.rest → ReadsTo source line r r (InLine p) (LeafAt p)
-leaf_alone source r p line h = record {
+pub only_leaf : (source : Source) (r : Reading) (p : Place) (line : ℕ) → OpensNone p.rest → ReadsTo source line r r (InLine p) (LeafAt p)
+only_leaf source r p line h = record {
   ready = λ names defined ready. inl (no_footnote _ p h, none_starts _ _ p h, ready);
   order = λ ordered. ordered;
-  few = λ first grows. grows;
+  node_bound = λ first grows. grows;
   named = λ names named. named;
   whole = λ names whole. whole;
 }

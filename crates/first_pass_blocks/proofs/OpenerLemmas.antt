@@ -78,7 +78,7 @@ finished_path d defined old new p lines opening done =
 
 -- a block quote of a kind is open, for any place where blocks continue in it
 pub quote_is_open : (d : Document) (defined : Tables) (r : Reading) (p : Place) (lines following : List Place) (kind : Option BlockQuoteKind) (inside : From)
-    → IsForest r.tree → Opens d (level_of d.options r.tree r.blank) p lines (OpensNode (quote_head p kind) inside following) → r.empty_item ≡ None
+    → IsForest r.tree → Opens d (level_of d.options r.tree r.blank) p lines (OpensNode (quote_head p kind) inside following) → r.begin_list_item ≡ None
     → ReadyAt d defined r.tree r.blank (Inside p) lines
     → HasBegun d defined r (begun (quote_start p) (BlockQuoteBody kind) (list_finished p.line r)) (BlockQuote kind) inside following
 quote_is_open d defined r p lines following kind inside forest opens none ready =
@@ -106,7 +106,7 @@ begins_at d r p = start_at d.options (may_define d (level_of d.options r.tree r.
 -- a block quote without a tag
 pub ready_quote : (d : Document) (defined : Tables) (r : Reading) (p : Place) (lines : List Place) (inside : Rest)
     → IsForest r.tree → footnote_head_at (around d (path_of d.options r.tree)) p ≡ None → begins_at d r p ≡ Some (quote_begun p None inside)
-    → r.empty_item ≡ None → ReadyAt d defined r.tree r.blank (Inside p) lines
+    → r.begin_list_item ≡ None → ReadyAt d defined r.tree r.blank (Inside p) lines
     → (let q : Reading = begun (quote_start p) (BlockQuoteBody None) (list_finished p.line r) in
     ReadyAt d defined q.tree q.blank (Inside (at_rest p inside)) lines)
 ready_quote d defined r p lines inside forest bare begins none ready =
@@ -118,7 +118,7 @@ ready_quote d defined r p lines inside forest bare begins none ready =
 -- a block quote with one
 pub ready_tagged : (d : Document) (defined : Tables) (r : Reading) (p : Place) (lines : List Place) (inside : Rest) (kind : BlockQuoteKind)
     → IsForest r.tree → footnote_head_at (around d (path_of d.options r.tree)) p ≡ None → begins_at d r p ≡ Some (quote_begun p (Some kind) inside)
-    → r.empty_item ≡ None → ReadyAt d defined r.tree r.blank (Inside p) lines
+    → r.begin_list_item ≡ None → ReadyAt d defined r.tree r.blank (Inside p) lines
     → ReadyTagged d defined (begun (quote_start p) (BlockQuoteBody (Some kind)) (list_finished p.line r)) lines
 ready_tagged d defined r p lines inside kind forest bare begins none ready =
     let q : Reading = begun (quote_start p) (BlockQuoteBody (Some kind)) (list_finished p.line r) in
@@ -147,7 +147,7 @@ item_away (Some b) closed p byte number columns inside lines other = tt
 
 module _ (d : Document) (defined : Tables) (r : Reading) (p : Place) (lines : List Place) (byte number columns : ℕ) (inside : From) (forest : IsForest r.tree)
     (opens : Opens d (level_of d.options r.tree r.blank) p lines (OpensNode (item_head p byte number columns) inside lines))
-    (none : r.empty_item ≡ None) (ready : ReadyAt d defined r.tree r.blank (Inside p) lines) where
+    (none : r.begin_list_item ≡ None) (ready : ReadyAt d defined r.tree r.blank (Inside p) lines) where
   abbrev ItemIsOpen : Reading → Type 0
   ItemIsOpen q = HasBegun d defined r q (ListItem columns) inside lines
 
@@ -193,7 +193,7 @@ module _ (d : Document) (defined : Tables) (r : Reading) (p : Place) (lines : Li
   -- the list that continues, loose if a blank line is before the item
   kept_by : (run : Bool) → r.blank ≡ run → (ix : TreeIndex) (rest : List TreeIndex) → r.tree.spine ≡ ix ∷ rest
       → (let q : Reading = if run then record r { tree = loosened_top r.tree r.tree.spine; blank = false } else r in
-      (q.tree ≡ (if run then loosened_at r.tree ix else r.tree)) × (q.blank ≡ false) × (q.empty_item ≡ None))
+      (q.tree ≡ (if run then loosened_at r.tree ix else r.tree)) × (q.blank ≡ false) × (q.begin_list_item ≡ None))
   kept_by true is ix rest spine = (ap (loosened_top r.tree) spine, refl, none)
   kept_by false is ix rest spine = (refl, is, none)
 
@@ -288,7 +288,7 @@ module _ (d : Document) (defined : Tables) (r : Reading) (p : Place) (lines : Li
   pub item_is_open : ItemIsOpen (item_opened (offset p) byte number columns r)
   unfolding list_continued item_finished
   item_is_open =
-      let same : item_finished_by r r.empty_item ≡ r = ap (item_finished_by r) none in
+      let same : item_finished_by r r.begin_list_item ≡ r = ap (item_finished_by r) none in
       subst (λ q. ItemIsOpen (begun (offset p) (ListItemBody columns)
       (if is_list_of byte (top_body q.tree) then list_kept q else begun (offset p) (ListBody (list_flags true) byte number) (list_finished (offset p) q))))
       (sym same)
@@ -323,7 +323,7 @@ inside_by d path p lines byte number columns (Some x) rest h = rw h refl
 pub ready_item : (d : Document) (defined : Tables) (r : Reading) (p : Place) (lines : List Place) (byte number columns : ℕ) (marker : Option Item)
     (rest : Rest) → IsForest r.tree → footnote_head_at (around d (path_of d.options r.tree)) p ≡ None
     → begins_at d r p ≡ Some (item_start p (byte, number, columns) (marker, rest))
-    → is_blank_rest rest ≡ false → r.empty_item ≡ None → ReadyAt d defined r.tree r.blank (Inside p) lines
+    → is_blank_rest rest ≡ false → r.begin_list_item ≡ None → ReadyAt d defined r.tree r.blank (Inside p) lines
     → (let q : Reading = item_opened (offset p) byte number columns r in
     (q.blank ≡ false) × (now : ReadyAt d defined q.tree false (past_task marker (at_rest p rest)) lines) × IsPlain now.frames)
 ready_item d defined r p lines byte number columns marker rest forest bare begins some none ready =
@@ -349,7 +349,7 @@ on_line d path p lines columns rest h = rw h refl
 pub ready_definition : (d : Document) (defined : Tables) (r : Reading) (p : Place) (lines : List Place) (columns : ℕ) (rest : Rest)
     → IsForest r.tree → footnote_head_at (around d (path_of d.options r.tree)) p ≡ None → takes_definition r.tree ≡ true
     → begins_at d r p ≡ Some (definition_start p (columns, rest))
-    → is_blank_rest rest ≡ false → r.empty_item ≡ None → ReadyAt d defined r.tree r.blank (Inside p) lines
+    → is_blank_rest rest ≡ false → r.begin_list_item ≡ None → ReadyAt d defined r.tree r.blank (Inside p) lines
     → (let q : Reading = definition_begun (offset p) columns r in ReadyAt d defined q.tree q.blank (Inside (at_rest p rest)) lines)
 ready_definition d defined r p lines columns rest forest bare takes begins some none ready =
     let q : Reading = definition_begun (offset p) columns r in
@@ -362,7 +362,7 @@ ready_definition d defined r p lines columns rest forest bare takes begins some 
     subst (λ t. ReadyAt d defined q.tree t from lines) (sym now.blank) now.is_begun.ready
 
 -- what follows an item's marker if more of its line is left: blocks, or the text of a task
-pub after_opened : (marker : Option Item) (q : Reading) → ((x : Item) → marker ≡ Some x → is_task_marker x.body ≡ true) → q.empty_item ≡ None
+pub after_opened : (marker : Option Item) (q : Reading) → ((x : Item) → marker ≡ Some x → is_task_marker x.body ≡ true) → q.begin_list_item ≡ None
     → is_in_item q.tree ≡ true → IsAfter (after_task marker) q
 after_opened None q mark none inside = none
 after_opened (Some x) q mark none inside = (mark x refl, none, inside)

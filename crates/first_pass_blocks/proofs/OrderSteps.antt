@@ -25,7 +25,7 @@ use Rattle.first_pass_grammar.specs.Openers.{task_by, task_after}
 use Rattle.first_pass_grammar.specs.Derivation.{node_of}
 use Rattle.first_pass_grammar.specs.OpenOrder.{IsOrderedTo}
 use Rattle.first_pass_open.specs.OpenBlock.{with_child}
-use Rattle.first_pass_lists.specs.Closing.{remembered, top_body, is_list, is_item, takes_definition, item_finished_by, item_finished, list_finished, begun}
+use Rattle.first_pass_lists.specs.Closing.{reading_with, top_body, is_list, is_item, takes_definition, item_finished_by, item_finished, list_finished, begun}
 use Rattle.first_pass_lists.specs.Closing.{list_continued, definition_begun, footnote_begun}
 use Rattle.first_pass_lists.specs.declared.reading.Reading.{Reading}
 use Rattle.first_pass_grammar.specs.Openers.{after_task}
@@ -105,8 +105,8 @@ none_reached : (o : Option ℕ) (at : ℕ) → o ≡ None → reached o at ≡ a
 none_reached o at none = ap (λ z. reached z at) none
 
 -- the state is in order if no item is empty
-pub ordered_tree : (text : List ℕ) (r : Reading) (at : ℕ) → r.empty_item ≡ None → IsOrderedAt text r at → IsOrderedTo text r.tree at
-ordered_tree text r at none o = subst (IsOrderedTo text r.tree) (none_reached r.empty_item at none) o.ordered
+pub ordered_tree : (text : List ℕ) (r : Reading) (at : ℕ) → r.begin_list_item ≡ None → IsOrderedAt text r at → IsOrderedTo text r.tree at
+ordered_tree text r at none o = subst (IsOrderedTo text r.tree) (none_reached r.begin_list_item at none) o.ordered
 
 -- the innermost open node after one is opened
 pub top_begun : (start : ℕ) (body : ItemBody) (r : Reading) → top_body (begun start body r).tree ≡ Some body
@@ -123,7 +123,7 @@ top_marked start body r (Some x) =
 
 -- an item is opened at a place in a line
 pub ordered_item : (text : List ℕ) (r : Reading) (line start byte number columns : ℕ)
-    → line ≤ start → start ≤ length text → IsCharBoundary text start → r.empty_item ≡ None
+    → line ≤ start → start ≤ length text → IsCharBoundary text start → r.begin_list_item ≡ None
     → OrderedUpTo text r.tree (line_or r.tree line start) → OrderedUpTo text (item_opened start byte number columns r).tree start
 ordered_item text r line start byte number columns low high boundary none (o, c) =
     let at : ℕ = line_or r.tree line start in
@@ -148,14 +148,14 @@ ordered_definition_in text r line start columns forest takes low high boundary (
 -- the start of a new block, after what it ends: an innermost list, at the start of the line or at the block's first
 -- byte
 pub ordered_finished : (text : List ℕ) (r : Reading) (line at e start : ℕ)
-    → line ≤ at → at ≤ start → (e ≡ line) × IsCharBoundary text line ⊎ (e ≡ start) → start ≤ length text → IsCharBoundary text start → r.empty_item ≡ None
+    → line ≤ at → at ≤ start → (e ≡ line) × IsCharBoundary text line ⊎ (e ≡ start) → start ≤ length text → IsCharBoundary text start → r.begin_list_item ≡ None
     → OrderedUpTo text r.tree (line_or r.tree line at) → IsReadTo text (list_finished e r) start
 unfolding item_finished
 ordered_finished text r line at e start low mid which high boundary none (o, c) =
     let a : ℕ = line_or r.tree line at in
     let below : a ≤ at = line_or-below r.tree line at low in
     let before = ordered_none text r a none (omega arith) o in
-    let same : item_finished_by r r.empty_item ≡ r = ap (item_finished_by r) none in
+    let same : item_finished_by r r.begin_list_item ≡ r = ap (item_finished_by r) none in
     let on : IsOrderedAt text (list_finished e r) start = elim which [
       | inl (is, first) ↦
           subst (λ z. IsOrderedAt text (list_finished z r) start) (sym is)
@@ -168,7 +168,7 @@ ordered_finished text r line at e start low mid which high boundary none (o, c) 
 
 -- a block quote is opened at a place in a line
 pub ordered_quote : (text : List ℕ) (r : Reading) (line at start : ℕ) (kind : Option BlockQuoteKind)
-    → line ≤ at → at ≤ start → start ≤ length text → IsCharBoundary text line → IsCharBoundary text start → r.empty_item ≡ None
+    → line ≤ at → at ≤ start → start ≤ length text → IsCharBoundary text line → IsCharBoundary text start → r.begin_list_item ≡ None
     → OrderedUpTo text r.tree (line_or r.tree line at) → OrderedUpTo text (begun start (BlockQuoteBody kind) (list_finished line r)).tree start
 ordered_quote text r line at start kind low mid high first boundary none o =
     let q : Reading = list_finished line r in (
@@ -181,7 +181,7 @@ ordered_quote text r line at start kind low mid high first boundary none o =
 
 -- a footnote definition is opened at a place in a line
 pub ordered_note_in : (text : List ℕ) (r : Reading) (at start : ℕ) (index : CowIndex) → at ≤ start → start ≤ length text
-    → IsCharBoundary text start → r.empty_item ≡ None → OrderedUpTo text r.tree at → OrderedUpTo text (footnote_begun start index r).tree start
+    → IsCharBoundary text start → r.begin_list_item ≡ None → OrderedUpTo text r.tree at → OrderedUpTo text (footnote_begun start index r).tree start
 ordered_note_in text r at start index low high boundary none (o, c) = (
   ordered_note text r at start index c.title low high boundary (ordered_none text r at none (omega arith) o),
   settled_closes text (footnote_begun start index r) start (footnote_begun_settled start index r c.nested),
@@ -233,7 +233,7 @@ item_no_list body item = cc
 pub ordered_empty_item : (text : List ℕ) (start at next : ℕ) (body : ItemBody) (r : Reading) (marker : Option Item) (blank : Bool)
     → is_item (Some body) ≡ true → start ≤ next → at ≤ next → next ≤ length text → IsCharBoundary text next
     → OrderedUpTo text (begun start body r).tree start → ((x : Item) → marker ≡ Some x → StandsBefore text start at (Some x))
-    → IsReadTo text (remembered (with_child (begun start body r).tree marker) (Some next) blank) next
+    → IsReadTo text (reading_with (with_child (begun start body r).tree marker) (Some next) blank) next
 ordered_empty_item text start at next body r marker blank item low mid high boundary (o, c) stands =
     let f : Forest Item = (begun start body r).tree in
     let outside = child_outside f marker c.nested (ap is_list (top_begun start body r) ∙ item_no_list body item) in (
@@ -248,13 +248,13 @@ ordered_empty_item text start at next body r marker blank item low mid high boun
 
 -- a block is added
 pub ordered_block : (text : List ℕ) (old : Forest Item) (r : Reading) (from next : ℕ)
-    → AddsBetween text from next old r.tree → next ≤ length text → r.empty_item ≡ None → IsOrderedTo text old from → IsOrderedAt text r next
+    → AddsBetween text from next old r.tree → next ≤ length text → r.begin_list_item ≡ None → IsOrderedTo text old from → IsOrderedAt text r next
 ordered_block text old r from next a high none o =
     ordered_none text r next none high (subst (λ f. IsOrderedTo text f next) (sym a.tree_is) (ordered_added text old from next a.items a.fits high o))
 
 -- the same if the innermost open node is no list
 pub read_block : (text : List ℕ) (old : Forest Item) (r : Reading) (from next : ℕ) → AreNested old.nodes old.spine → is_list (top_body old) ≡ false
-    → AddsBetween text from next old r.tree → next ≤ length text → r.empty_item ≡ None → IsOrderedTo text old from → IsReadTo text r next
+    → AddsBetween text from next old r.tree → next ≤ length text → r.begin_list_item ≡ None → IsOrderedTo text old from → IsReadTo text r next
 read_block text old r from next nested plain a high none o =
     let outside = added_outside old a.items nested plain in (
       ordered_block text old r from next a high none o,
@@ -263,17 +263,17 @@ read_block text old r from next nested plain a high none o =
 
 -- the paragraph of a task
 pub ordered_text : (text : List ℕ) (f : Forest Item) (new : Reading) (marker : Item) (at next : ℕ)
-    → ((from : ℕ) → StandsBefore text from at (Some marker) → AddsBetween text from next f new.tree) → next ≤ length text → new.empty_item ≡ None
+    → ((from : ℕ) → StandsBefore text from at (Some marker) → AddsBetween text from next f new.tree) → next ≤ length text → new.begin_list_item ≡ None
     → OrderedText text f marker at → IsReadTo text new next
 ordered_text text f new marker at next fits within none o =
     read_block text f new o.from next o.nested o.plain (fits o.from o.stands) within none o.ordered
 
 -- a block is added to a state in order: an item that it is added to is not empty after that
 pub block_ordered : (text : List ℕ) (old new : Reading) (at start next : ℕ) → IsOrderedAt text old at → at ≤ start
-    → ((from : ℕ) → from ≤ start → AddsBetween text from next old.tree new.tree) → next ≤ length text → new.empty_item ≡ None → IsOrderedAt text new next
+    → ((from : ℕ) → from ≤ start → AddsBetween text from next old.tree new.tree) → next ≤ length text → new.begin_list_item ≡ None → IsOrderedAt text new next
 block_ordered text old new at start next o low fits within none =
     let before = o.later in
-    let e : ℕ = reached old.empty_item at in
+    let e : ℕ = reached old.begin_list_item at in
     let low' : e ≤ at = before in
     ordered_block text old.tree new e next (fits e (omega arith)) within none o.ordered
 
@@ -286,10 +286,10 @@ stands_earlier text a b to (Some x) low h =
 
 -- the same for a paragraph, after a task list item marker or not
 pub text_ordered : (text : List ℕ) (old new : Reading) (at start next : ℕ) (marker : Option Item) → IsOrderedAt text old at → StandsBefore text at start marker
-    → ((from : ℕ) → StandsBefore text from start marker → AddsBetween text from next old.tree new.tree) → next ≤ length text → new.empty_item ≡ None
+    → ((from : ℕ) → StandsBefore text from start marker → AddsBetween text from next old.tree new.tree) → next ≤ length text → new.begin_list_item ≡ None
     → IsOrderedAt text new next
 text_ordered text old new at start next marker o stands fits within none =
-    let e : ℕ = reached old.empty_item at in
+    let e : ℕ = reached old.begin_list_item at in
     ordered_block text old.tree new e next (fits e (stands_earlier text e at start marker o.later stands)) within none o.ordered
 
 quote_start_before : (r s : Rest) → prefix (BlockQuote None) r ≡ Some s → length s.left < length (after_columns 3 r).left
@@ -314,9 +314,9 @@ place_before_end p = omega arith
 
 -- a leaf block is added at its place
 pub ordered_leaf : (text : List ℕ) (r new : Reading) (line at e start next : ℕ)
-    → line ≤ at → at ≤ start → (e ≡ line) × IsCharBoundary text line ⊎ (e ≡ start) → start ≤ length text → IsCharBoundary text start → r.empty_item ≡ None
+    → line ≤ at → at ≤ start → (e ≡ line) × IsCharBoundary text line ⊎ (e ≡ start) → start ≤ length text → IsCharBoundary text start → r.begin_list_item ≡ None
     → OrderedUpTo text r.tree (line_or r.tree line at) → AddsBetween text start next (list_finished e r).tree new.tree → next ≤ length text
-    → new.empty_item ≡ None → IsReadTo text new next
+    → new.begin_list_item ≡ None → IsReadTo text new next
 ordered_leaf text r new line at e start next low mid which high boundary none o adds fits none' =
     let q : Reading = list_finished e r in
     let outside = list_finished_outside e r o.1.nested in

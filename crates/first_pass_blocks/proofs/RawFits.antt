@@ -111,9 +111,9 @@ module _ (text : List ℕ) (options : Options) (names : Names) (old new : Forest
       let stop : start_of (length text) e.left ≡ next = ap (start_of (length text)) (sym a.left_is) ∙ start_of-lines text next within in
       let placed : ArePlaced text start e.places next = subst (ArePlaced text start e.places) stop
       (subst (λ n. ArePlaced text n e.places (start_of (length text) e.left)) i.offset_is (to_blank_left text u (path_of options old) p stands)) in
-      let few = subst (λ n. AreFew n e.places) i.offset_is (to_blank_placed text u (path_of options old) p stands).few in
+      let node_bound = subst (λ n. AreFew n e.places) i.offset_is (to_blank_placed text u (path_of options old) p stands).node_bound in
       let some =
-      html_few (document text options names) start columns next e a.items (a.are names (extends_none names)) placed few from next low (omega arith) apart in
+      html_few (document text options names) start columns next e a.items (a.are names (extends_none names)) placed node_bound from next low (omega arith) apart in
       let tree = ap (λ (f : Forest Item). own_nodes f.nodes) a.tree_is in
       let more = own_added old.nodes a.items (length old.spine + 1) in
       omega arith

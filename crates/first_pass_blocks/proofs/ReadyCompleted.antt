@@ -124,4 +124,4 @@ ready_with d defined r lines (Some e) ready =
 pub ready_completed : (d : Document) (defined : Tables) (r : Reading) (lines : List Place)
     → ((more : Names) → Extends more d.names → Ready (document d.text d.options more) defined r lines) → IsCompleted d defined r lines
 unfolding Ready IsCompleted
-ready_completed d defined r lines ready = ready_with d defined r lines r.empty_item ready
+ready_completed d defined r lines ready = ready_with d defined r lines r.begin_list_item ready

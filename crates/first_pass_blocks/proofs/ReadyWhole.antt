@@ -103,6 +103,6 @@ pub ready_whole : (d : Document) (defined : Tables) (r : Reading) (start : ℕ)
 unfolding Ready IsCompleted
 ready_whole d defined r start ready named =
     let lines : List Place = lines_from d.text start in
-    let (more, extends, whole) = whole_with d defined lines (lines_from_at d.text start) r r.empty_item (ready d.names (extends_none d.names))
+    let (more, extends, whole) = whole_with d defined lines (lines_from_at d.text start) r r.begin_list_item (ready d.names (extends_none d.names))
     (ready_completed d defined r lines ready) in
     whole_already more d.names r.tree.nodes extends named whole

@@ -16,7 +16,7 @@ use Rattle.first_pass_grammar.specs.Containers.{Context, front}
 use Rattle.first_pass_grammar.specs.Kinds.{all_taken, unindented, is_blank_rest, ends_tag}
 use Rattle.first_pass_grammar.specs.Definitions.{LinkReference, reference_at}
 use Rattle.first_pass_grammar.specs.LinkTables.{LinkEntry}
-use Rattle.first_pass_grammar.specs.LinkRuns.{entry_of, definition_at, lines_beyond, ends_run, Ended, FlowsOn, IsRun}
+use Rattle.first_pass_grammar.specs.LinkRuns.{entry_of, link_definition_at, lines_beyond, ends_run, Ended, FlowsOn, IsRun}
 use Rattle.first_pass_grammar.specs.Derivation.{Tables, told}
 use Rattle.first_pass_grammar.specs.Completion.{lines_from}
 use Rattle.first_pass_completion.proofs.Extending.{told-append}
@@ -94,8 +94,8 @@ same_line_end text a e less within low no_end =
 lines_on : (fuel : ℕ) (text : List ℕ) (a e : ℕ) → e ≤ a + fuel → a < e → e ≤ length text → is_line_end (slice_index text (e - 1)) ≡ false
     → (lines_beyond e (lines_from text (a + line_len (drop a text))) ≡ lines_from text (e + line_len (drop e text)))
     × (a + line_len (drop a text) ≤ e + line_len (drop e text))
-lines_on zero text a e few less within no_end = absurd (omega arith)
-lines_on (suc fuel) text a e few less within no_end =
+lines_on zero text a e node_bound less within no_end = absurd (omega arith)
+lines_on (suc fuel) text a e node_bound less within no_end =
     let some = line_len-within text a (omega arith) in
     elim (cases_lt (a + line_len (drop a text)) e) [
       | inl before ↦ (let l : ℕ = a + line_len (drop a text) in
@@ -130,11 +130,11 @@ run_begun text around nested p tables i = record {
 
 -- the definition at a place, by its entry
 pub defined_here : (text : List ℕ) (around : Context) (q : Place) (x : LinkReference)
-    → IsPlaceOf text q → reference_at false around (drop (offset q) text) ≡ Some x → definition_at around q ≡ Some (entry_of (offset q) x)
+    → IsPlaceOf text q → reference_at false around (drop (offset q) text) ≡ Some x → link_definition_at around q ≡ Some (entry_of (offset q) x)
 defined_here text around q x i is = ap (option_map (entry_of (offset q))) (ap (reference_at false around) i.left ∙ is)
 
 pub defined_none : (text : List ℕ) (around : Context) (q : Place)
-    → IsPlaceOf text q → reference_at false around (drop (offset q) text) ≡ None → definition_at around q ≡ None
+    → IsPlaceOf text q → reference_at false around (drop (offset q) text) ≡ None → link_definition_at around q ≡ None
 defined_none text around q i is = ap (option_map (entry_of (offset q))) (ap (reference_at false around) i.left ∙ is)
 
 -- A definition that is read: its end, and the tables with what it defines. The first holds for each, the second if no
@@ -145,7 +145,7 @@ pub record IsOneMore (text : List ℕ) (around : Context) (nested : Bool) (q : P
   pub no_end : is_line_end (slice_index text (e - 1)) ≡ false
   pub boundary : IsCharBoundary text (e + line_len (drop e text))
   pub entry : LinkEntry
-  pub here : nested ≡ false → definition_at around q ≡ Some entry
+  pub here : nested ≡ false → link_definition_at around q ≡ Some entry
   pub ends : entry.«end» ≡ e
   pub defined : nested ≡ false → now ≡ told before (entry ∷ [])
 
@@ -232,7 +232,7 @@ run_ends text around nested p q e line next before mid now at here ends r one =
 
 -- No more definitions: the text of a paragraph begins there.
 pub run_flows : (text : List ℕ) (around : Context) (nested : Bool) (p q : Place) (at : ℕ) (before now : Tables)
-    → at ≡ offset q → (nested ≡ false → definition_at around q ≡ None)
+    → at ≡ offset q → (nested ≡ false → link_definition_at around q ≡ None)
     → RunSoFar text around nested p q before now → ReadsRun text around nested p before now (Paragraph at)
 unfolding IsRun
 run_flows text around nested p q at before now here none r = record {

@@ -69,12 +69,12 @@ no_paragraph : (marker : Option Item) → ((x : Item) → marker ≡ Some x → 
 no_paragraph marker task x some = mark_by x.body (task x some)
 
 -- no item is empty after a definition is opened
-kept_none : (t : Bool) (q : Reading) → q.empty_item ≡ None
-    → (if t then record q { tree = loosened_top q.tree q.tree.spine; blank = false } else q).empty_item ≡ None
+kept_none : (t : Bool) (q : Reading) → q.begin_list_item ≡ None
+    → (if t then record q { tree = loosened_top q.tree q.tree.spine; blank = false } else q).begin_list_item ≡ None
 kept_none true q none = none
 kept_none false q none = none
 
-definition_none : (start columns : ℕ) (r : Reading) → r.empty_item ≡ None → (definition_begun start columns r).empty_item ≡ None
+definition_none : (start columns : ℕ) (r : Reading) → r.begin_list_item ≡ None → (definition_begun start columns r).begin_list_item ≡ None
 unfolding definition_begun
 definition_none start columns r none = kept_none r.blank (with_tree r (definitions_opened r.tree r.tree.current)) none
 
@@ -98,7 +98,7 @@ IsOpened source line r p s =
     × ReadsTo source line r (start_opened p.line (start_told s) (line_end p) r) (InLine p) (after_at (at_rest p s.rest) (line_end p) s.after)
 
 module _ (source : Source) (r : Reading) (p : Place) (utf8 : IsUtf8 source.text.now) (at : IsPlaceOf source.text.now p) (forest : IsForest r.tree)
-    (none : r.empty_item ≡ None) (line : ℕ) (below : line ≤ p.line)
+    (none : r.begin_list_item ≡ None) (line : ℕ) (below : line ≤ p.line)
     (bare : in_table r.tree.nodes r.tree.spine ≡ false → footnote_head_at (context_of source.options r.tree) p ≡ None) where
   abbrev text : List ℕ
   text = source.text.now
@@ -170,7 +170,7 @@ module _ (source : Source) (r : Reading) (p : Place) (utf8 : IsUtf8 source.text.
                 ordered_container source.options text opened_item (offset p) (line_end p) (at_rest p rest) marker (ap is_list top) low j.0.within ordered.0
                 (ordered_item text r p.line (offset p) byte number columns (omega arith) at.within at.boundary none ordered.1)
                 (λ x is_mark. mark_stands text source.options p.line following rest (offset p) marker x utf8 k.0 mark same refl is_mark);
-            few = λ first grows.
+            node_bound = λ first grows.
                 container_count text line (offset p) (offset (place_at p.line following)) (line_end p) (at_rest p rest) first r.tree.nodes
                 opened_item.tree.nodes marker grows (item_count (offset p) byte number columns r) (omega arith) first_marker
                 (offset_later text p.line following rest k.0 j.0 (omega arith))
@@ -209,7 +209,7 @@ module _ (source : Source) (r : Reading) (p : Place) (utf8 : IsUtf8 source.text.
                 opened_item.blank refl here (omega (arith, there, j.1)) ends.0 ends
                 (ordered_item text r p.line (offset p) byte number columns (omega arith) at.within at.boundary none ordered.1)
                 (λ x is_mark. mark_stands text source.options p.line following rest (offset p) marker x utf8 k.0 mark same refl is_mark));
-            few = λ first grows.
+            node_bound = λ first grows.
                 let two = item_count (offset p) byte number columns r in
                 let one = child_count opened_item.tree marker in
                 omega arith;
@@ -264,7 +264,7 @@ module _ (source : Source) (r : Reading) (p : Place) (utf8 : IsUtf8 source.text.
                   (ap is_list (top_begun (quote_start p) (BlockQuoteBody None) (list_finished p.line r))) s.1 j.0.within
                   (ordered_quote text r p.line (offset p) (quote_start p) None (omega arith) s.0 s.2.0 ordered.0 s.2 none ordered.1),
             );
-            few = λ first grows. omega arith;
+            node_bound = λ first grows. omega arith;
             named = λ names h. quote_named names p.line (quote_start p) (BlockQuoteBody None) r tt h;
             whole = λ names h. quote_whole names p.line (quote_start p) (BlockQuoteBody None) r (λ names depth start end. refl) refl forest h;
           },
@@ -288,7 +288,7 @@ module _ (source : Source) (r : Reading) (p : Place) (utf8 : IsUtf8 source.text.
             order = λ ordered.
                 upto_later text (opened_quote (Some kind)).tree (quote_start p) e (omega (arith, s.1, there, j.1)) ends.0
                 (ordered_quote text r p.line (offset p) (quote_start p) (Some kind) (omega arith) s.0 s.2.0 ordered.0 s.2 none ordered.1);
-            few = λ first grows. omega arith;
+            node_bound = λ first grows. omega arith;
             named = λ names h. quote_named names p.line (quote_start p) (BlockQuoteBody (Some kind)) r tt h;
             whole = λ names h. quote_whole names p.line (quote_start p) (BlockQuoteBody (Some kind)) r (λ names depth start end. refl) refl forest h;
           },
@@ -320,7 +320,7 @@ module _ (source : Source) (r : Reading) (p : Place) (utf8 : IsUtf8 source.text.
                 ordered_container source.options text opened_definition (offset p) (line_end p) (at_rest p rest) None
                 (ap is_list (definition_top (offset p) columns r)) (omega arith) j.0.within ordered.0
                 (ordered_definition_in text r p.line (offset p) columns forest takes (omega arith) at.within at.boundary ordered.1) (λ x is_mark. cc);
-            few = λ first grows. omega arith;
+            node_bound = λ first grows. omega arith;
             named = λ names h. definition_named names (offset p) columns r h;
             whole = λ names h. definition_whole names (offset p) columns r forest h;
           },
@@ -344,7 +344,7 @@ module _ (source : Source) (r : Reading) (p : Place) (utf8 : IsUtf8 source.text.
                 (begins_as names (definition_start p (columns, rest)) begins) over (start_of-lines text e ends.0) none ready;
             order = λ ordered. inl (ordered_empty_definition text (offset p) e columns r (place_before_end p) ends.0 ends
                 (ordered_definition_in text r p.line (offset p) columns forest takes (omega arith) at.within at.boundary ordered.1));
-            few = λ first grows. omega arith;
+            node_bound = λ first grows. omega arith;
             named = λ names h. definition_named names (offset p) columns r h;
             whole = λ names h. definition_whole names (offset p) columns r forest h;
           },
@@ -378,7 +378,7 @@ module _ (source : Source) (r : Reading) (p : Place) (utf8 : IsUtf8 source.text.
   no_start is = record {
     ready = λ names defined ready. inl (no_head names defined ready, is, ready);
     order = λ ordered. ordered;
-    few = λ first grows. grows;
+    node_bound = λ first grows. grows;
     named = λ names h. h;
     whole = λ names h. h;
   }
@@ -402,7 +402,7 @@ pub reads_none : (source : Source) (line : ℕ) (r : Reading) (p : Position) →
 reads_none source line r p = record {
   ready = λ names defined h. h;
   order = λ h. h;
-  few = λ first h. h;
+  node_bound = λ first h. h;
   named = λ names h. h;
   whole = λ names h. h;
 }

@@ -19,7 +19,7 @@ use Rattle.first_pass_grammar.specs.declared.kind.Container.TheVariants.{BlockQu
 use Rattle.first_pass_grammar.specs.Containers.{at_rest, front}
 use Rattle.first_pass_grammar.specs.Kinds.{Continued, continued, unindented, interrupts, ends_tag}
 use Rattle.first_pass_grammar.specs.Leaves.{Document}
-use Rattle.first_pass_grammar.specs.Skeleton.{From, Line, At, ALeafAlone, after_tag}
+use Rattle.first_pass_grammar.specs.Skeleton.{From, Line, At, OnlyALeaf, after_tag}
 use Rattle.first_pass_grammar.specs.Completion.{lines_from, Closed, OtherClosed, ParagraphAt, DefinitionClosed, TitleAt, Frame, InContainer}
 use Rattle.first_pass_completion.proofs.Extending.{tail}
 use Rattle.first_pass_completion.proofs.Completions.{counted_after}
@@ -40,10 +40,10 @@ noted_none r f t is = rw is refl
 
 -- If a block quote is innermost, no item is empty and no blank line was read, a new block ends nothing.
 pub finishes_nothing : (at : ℕ) (r : Reading) (kind : Option BlockQuoteKind)
-    → top_body r.tree ≡ Some (BlockQuoteBody kind) → r.blank ≡ false → r.empty_item ≡ None → list_finished at r ≡ r
+    → top_body r.tree ≡ Some (BlockQuoteBody kind) → r.blank ≡ false → r.begin_list_item ≡ None → list_finished at r ≡ r
 unfolding list_finished item_finished
 finishes_nothing at r kind quote blank none =
-    let item : item_finished_by r r.empty_item ≡ r = ap (item_finished_by r) none in
+    let item : item_finished_by r r.begin_list_item ≡ r = ap (item_finished_by r) none in
     let left : list_left at r ≡ r = left_none at r (is_list (top_body r.tree)) (ap is_list quote) in
     ap (λ q. gap_noted (list_left at q)) item ∙ ap gap_noted left ∙ noted_none r (gap_tree r.tree r.tree.spine) r.blank blank
 
@@ -76,32 +76,32 @@ tag_end around =
     ∙ end_by around (continued around.path (line_rest []))
 
 tag_by : (around : Context) (line : Place) (lines : List Place) (t : Bool) → ends_tag around line.rest ≡ t
-    → after_tag around (line ∷ lines) ≡ (if t then (Line, line ∷ lines) else (At (unindented (at_rest line (front around.path line.rest))) ALeafAlone, lines))
+    → after_tag around (line ∷ lines) ≡ (if t then (Line, line ∷ lines) else (At (unindented (at_rest line (front around.path line.rest))) OnlyALeaf, lines))
 tag_by around line lines t is = rw is refl
 
 -- the place where blocks continue after its tag, in the line at an offset
 tag_line : (around : Context) (text : List ℕ) (at : ℕ) (t : Bool) → ends_tag around (line_rest (drop at text)) ≡ t
     → (let lines : List Place = lines_from text at in
     after_tag around lines ≡ (if t then (Line, lines)
-    else (At (unindented (place_at at (front around.path (line_rest (drop at text))))) ALeafAlone, lines_from text (at + line_len (drop at text)))))
+    else (At (unindented (place_at at (front around.path (line_rest (drop at text))))) OnlyALeaf, lines_from text (at + line_len (drop at text)))))
 tag_line around text at t is =
     elim (cases_lt at (length text)) [
       | inl within ↦ (
           let first = lines_at-line text at within in
           ap (after_tag around) first ∙ tag_by around (line_place at (drop at text)) (lines_from text (at + line_len (drop at text))) t is
           ∙ ap (λ z. if t then (Line, z)
-          else (At (unindented (place_at at (front around.path (line_rest (drop at text))))) ALeafAlone, lines_from text (at + line_len (drop at text))))
+          else (At (unindented (place_at at (front around.path (line_rest (drop at text))))) OnlyALeaf, lines_from text (at + line_len (drop at text))))
           (sym first))
       | inr past ↦ (let none : lines_from text at ≡ [] = lines_at-end text at past in
           let over : t ≡ true = sym is ∙ ap (λ bs. ends_tag around (line_rest bs)) (ends_past text at past) ∙ tag_end around in
           ap (after_tag around) none ∙ ap (λ z. (Line, z)) (sym none) ∙ ap (λ u. if u then (Line, lines_from text at)
-          else (At (unindented (place_at at (front around.path (line_rest (drop at text))))) ALeafAlone, lines_from text (at + line_len (drop at text))))
+          else (At (unindented (place_at at (front around.path (line_rest (drop at text))))) OnlyALeaf, lines_from text (at + line_len (drop at text))))
           (sym over))
     ]
 
 -- the line after its tag, if it is read like any other
 pub ready_any_line : (d : Document) (defined : Tables) (r : Reading) (at : ℕ) → ends_tag (context_of d.options r.tree) (line_rest (drop at d.text)) ≡ true
-    → r.empty_item ≡ None → ReadyTagged d defined r (lines_from d.text at) → Ready d defined r (lines_from d.text at)
+    → r.begin_list_item ≡ None → ReadyTagged d defined r (lines_from d.text at) → Ready d defined r (lines_from d.text at)
 ready_any_line d defined r at is none tagged =
     let lines : List Place = lines_from d.text at in
     let here : after_tag (context_of d.options r.tree) lines ≡ (Line, lines) = tag_line (context_of d.options r.tree) d.text at true is in

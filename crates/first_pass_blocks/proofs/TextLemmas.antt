@@ -107,7 +107,7 @@ run_from text around p xs b run = subst (λ n. IsRun around (unindented p) (line
 
 -- link reference definitions without a paragraph after them
 pub run_line : (old mid new : BlockPass) (p : Place) (nested : Bool) (line next : ℕ) → IsUtf8 (source_text old) → IsPlaceOf (source_text old) p
-    → (reading_of old).empty_item ≡ None → IsForest (tree_of old) → IsKind (source_options old) p.rest Paragraph
+    → (reading_of old).begin_list_item ≡ None → IsForest (tree_of old) → IsKind (source_options old) p.rest Paragraph
     → nested ≡ in_table (tree_of old).nodes (tree_of old).spine → source_of mid ≡ source_of old → names_of (allocs_of mid) ≡ names_of (allocs_of old)
     → (TablesAreWritten (source_text old) (allocs_of old) → TablesAreWritten (source_text old) (allocs_of mid))
     → ReadsRun (source_text old) (context_in old) nested (unindented p) (tables_of (allocs_of old)) (tables_of (allocs_of mid)) (NextLine line next)
@@ -126,7 +126,7 @@ run_line old mid new p nested line next u i empty forest kind nest source names 
     let last = w.says.2 in
     let high = last.0 in
     let same = ap count following in
-    let few = list_finished_count q.line r in
+    let node_bound = list_finished_count q.line r in
     let before = place_before_end p in
     record {
       source = source' ∙ source;
@@ -148,7 +148,7 @@ run_line old mid new p nested line next u i empty forest kind nest source names 
           (later_ordered text r.tree p q further w.later w.stands o.1)));
       whole = λ h k. subst (IsReadWhole (names_of (allocs_of new))) (sym following)
           (subst (λ z. IsReadWhole z (list_finished q.line r)) (sym named) (list_finished_whole (names_of (allocs_of old)) q.line r forest k));
-      few = omega arith;
+      node_bound = omega arith;
     }
 
 -- what a pass reads for a text at an offset; its place is found after the link reference definitions at another place
@@ -160,7 +160,7 @@ pub record ReadsText (old new : BlockPass) (p : Place) (at next : ℕ) : Type 0 
       → Ready (document (source_text old) (source_options old) more) (told defined xs) (reading_of new) (lines_from (source_text old) next)
   pub order : (q : Place) → IsPlaceOf (source_text old) q → at ≡ offset q
       → OrderedUpTo (source_text old) (tree_of old) (line_or (tree_of old) q.line (offset q)) → IsReadTo (source_text old) (reading_of new) next
-  pub few : (from : ℕ) → from ≤ at → from < next → GrowsBy from next (tree_of old).nodes (tree_of new).nodes
+  pub node_bound : (from : ℕ) → from ≤ at → from < next → GrowsBy from next (tree_of old).nodes (tree_of new).nodes
   pub named : (q : Place) → IsPlaceOf (source_text old) q → at ≡ offset q → Extends (names_of (allocs_of new)) (names_of (allocs_of old))
       → AreNamed (names_of (allocs_of old)) (tree_of old).nodes → AreNamed (names_of (allocs_of new)) (tree_of new).nodes
   pub whole : (q : Place) → IsPlaceOf (source_text old) q → at ≡ offset q → Extends (names_of (allocs_of new)) (names_of (allocs_of old))
@@ -203,19 +203,19 @@ run_text old mid new p nested at next u i kind nest source names written w sourc
       written = λ h. written_stay text (allocs_of mid) (allocs_of new) adds.entries (written h);
       order = λ o. inl (t.order q w.stands at_is (later_ordered text r.tree p q further w.later w.stands o.1));
       whole = λ h k. t.whole q w.stands at_is more_named h k;
-      few = t.few (offset p) (omega arith) (omega arith);
+      node_bound = t.node_bound (offset p) (omega arith) (omega arith);
     }
 
 -- a text that is added after a new block ended any list, at an offset
-module _ (old new : BlockPass) (p : Place) (ends at next : ℕ) (empty : (reading_of old).empty_item ≡ None) (forest : IsForest (tree_of old))
-    (kind : IsKind (source_options old) p.rest Paragraph) (none : (reading_of new).empty_item ≡ None) (blank : (reading_of new).blank ≡ false)
+module _ (old new : BlockPass) (p : Place) (ends at next : ℕ) (empty : (reading_of old).begin_list_item ≡ None) (forest : IsForest (tree_of old))
+    (kind : IsKind (source_options old) p.rest Paragraph) (none : (reading_of new).begin_list_item ≡ None) (blank : (reading_of new).blank ≡ false)
     (block : AddsText (document (source_text old) (source_options old) (names_of (allocs_of new))) at None (list_finished ends (reading_of old)).tree
     (tree_of new) next)
     (away : (q : Place) (xs : List LinkEntry) → at ≡ offset q → EndsListAt ends (top_body (tree_of old)) (closed_in (tree_of old))
     (OpensLeaf (Block (flowing_block q xs block.items)) Line (lines_from (source_text old) next)))
     (order : (q : Place) → IsPlaceOf (source_text old) q → at ≡ offset q
     → OrderedUpTo (source_text old) (tree_of old) (line_or (tree_of old) q.line (offset q)) → IsReadTo (source_text old) (reading_of new) next)
-    (few : (from : ℕ) → from ≤ at → from < next → GrowsBy from next (tree_of old).nodes (tree_of new).nodes) where
+    (node_bound : (from : ℕ) → from ≤ at → from < next → GrowsBy from next (tree_of old).nodes (tree_of new).nodes) where
   added_text : ReadsText old new p at next
   added_text =
       let text = source_text old in
@@ -229,9 +229,9 @@ module _ (old new : BlockPass) (p : Place) (ends at next : ℕ) (empty : (readin
             let is : IsTextAt d (path_of options r.tree) at None block.items next =
             subst (λ path. IsTextAt d path at None block.items next) (path_finished options ends r empty) (block.is_text more extends) in
             ready_flows d defined r (tree_of new) p q ends at next xs block.items forest kind stands at_is run is (away q xs at_is) block.tree_is empty ready
-            (reading_of new).empty_item (reading_of new).blank none blank;
+            (reading_of new).begin_list_item (reading_of new).blank none blank;
         order = order;
-        few = few;
+        node_bound = node_bound;
         named = λ q stands at_is more h.
             block_added own (names_of (allocs_of old)) f (tree_of new) block.items more block.tree_is
             (text_named (document text options own) _ q None _ _ tt (block.is_text own (extends_none own) q stands (sym at_is)))
@@ -245,9 +245,9 @@ module _ (old new : BlockPass) (p : Place) (ends at next : ℕ) (empty : (readin
       }
 
 -- a text that is not right after a definition
-pub plain_text : (old new : BlockPass) (p : Place) (at next : ℕ) → (reading_of old).empty_item ≡ None → IsForest (tree_of old)
+pub plain_text : (old new : BlockPass) (p : Place) (at next : ℕ) → (reading_of old).begin_list_item ≡ None → IsForest (tree_of old)
     → IsKind (source_options old) p.rest Paragraph → is_after_definition (tree_of old) ≡ false
-    → (reading_of new).empty_item ≡ None → (reading_of new).blank ≡ false
+    → (reading_of new).begin_list_item ≡ None → (reading_of new).blank ≡ false
     → AddsText (document (source_text old) (source_options old) (names_of (allocs_of new))) at None (list_finished at (reading_of old)).tree (tree_of new) next
     → ((from : ℕ) → from ≤ at → AddsBetween (source_text old) from next (list_finished at (reading_of old)).tree (tree_of new))
     → ReadsText old new p at next
@@ -277,7 +277,7 @@ is_paragraph_by (Some ParagraphBody) h = refl
 is_paragraph_by (Some b) h = cc
 
 -- a text right after a definition
-module _ (old new : BlockPass) (p : Place) (at next : ℕ) (empty : (reading_of old).empty_item ≡ None) (forest : IsForest (tree_of old))
+module _ (old new : BlockPass) (p : Place) (at next : ℕ) (empty : (reading_of old).begin_list_item ≡ None) (forest : IsForest (tree_of old))
     (kind : IsKind (source_options old) p.rest Paragraph) (after : is_after_definition (tree_of old) ≡ true) (read : Forest Item) (is_forest : IsForest read)
     (block : AddsText (document (source_text old) (source_options old) (names_of (allocs_of new))) at None (tree_of old) read next)
     (fits : (from : ℕ) → from ≤ at → AddsBetween (source_text old) from next (tree_of old) read) where
@@ -315,7 +315,7 @@ module _ (old new : BlockPass) (p : Place) (at next : ℕ) (empty : (reading_of 
         order = λ q stands at_is o. subst (λ z. IsReadTo text z next) (sym is)
             (read_title_kept text r read (line_or r.tree q.line (offset q)) at next forest after empty o.0 o.1 (in_order q at_is) fits block.boundary.0
             last refl current);
-        few = λ from low apart. let g = grown from low apart in
+        node_bound = λ from low apart. let g = grown from low apart in
             let same = ap count is ∙ title_kept_count last q' current in
             omega arith;
         named = λ q stands at_is more h. subst (λ (z : Reading). AreNamed own z.tree.nodes) (sym is)
@@ -347,7 +347,7 @@ module _ (old new : BlockPass) (p : Place) (at next : ℕ) (empty : (reading_of 
         later = block.later;
         boundary = block.boundary;
       } in
-      added_text old new p last at next empty forest kind (ap (λ (z : Reading). z.empty_item) now ∙ list_finished_none last r)
+      added_text old new p last at next empty forest kind (ap (λ (z : Reading). z.begin_list_item) now ∙ list_finished_none last r)
       (ap (λ (z : Reading). z.blank) now ∙ list_finished_blank last r) over
       (λ q xs at_is. away_left r q xs block.items (lines_from text next) after other)
       (λ q stands at_is o. subst (λ z. IsReadTo text z next) (sym is)
@@ -355,7 +355,7 @@ module _ (old new : BlockPass) (p : Place) (at next : ℕ) (empty : (reading_of 
       last refl))
       (λ from low apart. let g = grown from low apart in
       let same = ap count is in
-      let few = definitions_left_count last (with_tree r read) in
+      let node_bound = definitions_left_count last (with_tree r read) in
       omega arith)
 
   title_by : (q : Place) → IsPlaceOf text q → at ≡ offset q → (t : Bool) → is_paragraph_last read ≡ t
@@ -369,7 +369,7 @@ module _ (old new : BlockPass) (p : Place) (at next : ℕ) (empty : (reading_of 
 
 -- the text right after a definition, after link reference definitions or none
 pub run_title : (old mid new : BlockPass) (p : Place) (nested : Bool) (at next : ℕ) → IsUtf8 (source_text old) → IsPlaceOf (source_text old) p
-    → (reading_of old).empty_item ≡ None → IsForest (tree_of old) → IsKind (source_options old) p.rest Paragraph
+    → (reading_of old).begin_list_item ≡ None → IsForest (tree_of old) → IsKind (source_options old) p.rest Paragraph
     → nested ≡ in_table (tree_of old).nodes (tree_of old).spine → source_of mid ≡ source_of old → reading_of mid ≡ reading_of old
     → names_of (allocs_of mid) ≡ names_of (allocs_of old)
     → (TablesAreWritten (source_text old) (allocs_of old) → TablesAreWritten (source_text old) (allocs_of mid))

@@ -11,7 +11,7 @@ use Rattle.first_pass_tree.specs.declared.tree_index.TreeIndex.{TreeIndex}
 use Rattle.first_pass_tree.specs.Forest.{Forest, added, block_of, appended, popped}
 use Rattle.first_pass_tree.proofs.Blocks.{block-built}
 use Rattle.std.proofs.Math.Seq.{drop-drop}
-use Rattle.first_pass_kinds.specs.TableHeads.{head_len}
+use Rattle.first_pass_kinds.specs.TableHeads.{table_head_len}
 use Rattle.first_pass_lines.specs.Lines.{line_len}
 use Rattle.first_pass_lines.specs.Places.{Place, offset, line_end, line_place, start_of, IsPlaceOf}
 use Rattle.first_pass_lines.proofs.LineFacts.{lines_at-line, lines_at-end}
@@ -77,9 +77,9 @@ plain_text_added text options names start marker old new next none a =
       boundary = a.boundary;
     }
 
-pub opened_alone : (old opened : Forest Item) (start : ℕ) (ix : AlignmentIndex)
+pub only_opened : (old opened : Forest Item) (start : ℕ) (ix : AlignmentIndex)
     → opened ≡ opened_block old start (Table ix) → (place : TreeIndex) × IsJustPushed opened place
-opened_alone old opened start ix is =
+only_opened old opened start ix is =
     let x : Item = begun_item start (Table ix) in
     (record { 0 = length old.nodes }, just_pushed old opened x (record { 0 = length old.nodes }) refl is)
 
@@ -96,7 +96,7 @@ pub line_bounds : (text : List ℕ) (start : ℕ) → IsUtf8 text → IsCharBoun
 line_bounds text start utf8 boundary =
     subst (IsCharBoundary text) (line_start_end text start) (place_end text (line_place start (drop start text)) utf8 (line_is_place text start boundary))
 
-pub body_at : (text : List ℕ) (start len : ℕ) → len ≡ head_len (drop start text) → start + len ≡ line_end_at text (line_end_at text start)
+pub body_at : (text : List ℕ) (start len : ℕ) → len ≡ table_head_len (drop start text) → start + len ≡ line_end_at text (line_end_at text start)
 body_at text start len is =
     let n : ℕ = line_len (drop start text) in
     let after : drop n (drop start text) ≡ drop (start + n) text = drop-drop n start text in

@@ -193,7 +193,7 @@ module _ (f : Forest Item) (x : ℕ × Item) (items : List (ℕ × Item)) (e : �
 -- a ready state with a possible title
 module _ (d : Document) (defined : Tables) (r : Reading) (p : Place) (lines left : List Place) (block : LeafBlock) (x : ℕ × Item) (items : List (ℕ × Item))
     (is : block.items ≡ x ∷ items) (begins : begins_paragraph block.items ≡ true) (gap : block.gap ≡ false) (forest : IsForest r.tree)
-    (b : IsAfterDefinition r.tree) (none : r.empty_item ≡ None) (shows : AreEachNode ShowsNothing items) where
+    (b : IsAfterDefinition r.tree) (none : r.begin_list_item ≡ None) (shows : AreEachNode ShowsNothing items) where
   title_ready : Opens d (level_of d.options r.tree r.blank) p lines (OpensLeaf (Block block) Line left) → ReadyAt d defined r.tree r.blank (Inside p) lines
       → Ready d (told defined block.definitions) (title_kept (current_end r.tree) (with_tree r (added r.tree (x ∷ items)))) left
   title_ready opens ready =
@@ -235,7 +235,7 @@ not_quote f kind b quote = let z = sym (after_top f b) ∙ quote in cc
 module _ (d : Document) (defined : Tables) (r : Reading) (p q : Place) (at next : ℕ) (xs : List LinkEntry) (items : List (ℕ × Item)) (forest : IsForest r.tree)
     (kind : IsKind d.options p.rest Paragraph) (place : IsPlaceOf d.text q) (at_is : at ≡ offset q)
     (run : IsRun (context_of d.options r.tree) (unindented p) (lines_from d.text (line_end p)) xs (FlowsOn q (lines_from d.text (line_end q))))
-    (text : IsTextAt d (path_of d.options r.tree) at None items next) (after : is_after_definition r.tree ≡ true) (none : r.empty_item ≡ None) where
+    (text : IsTextAt d (path_of d.options r.tree) at None items next) (after : is_after_definition r.tree ≡ true) (none : r.begin_list_item ≡ None) where
   abbrev text_block : LeafBlock
   text_block = flowing_block q xs items
 

@@ -4,8 +4,8 @@ use Rattle.first_pass_lines.specs.Places.{Place, offset, line_end, IsPlaceOf}
 use Rattle.first_pass_grammar.specs.Kinds.{Kind}
 use Rattle.first_pass_grammar.specs.Leaves.{document}
 use Rattle.first_pass_open.specs.Between.{AddsBetween}
-use Rattle.first_pass_kinds.specs.Found.{IsFoundAt}
-use Rattle.first_pass_kinds.specs.declared.kinds.Found.TheVariants.{Marked}
+use Rattle.first_pass_kinds.specs.BlockStart.{IsFoundAt}
+use Rattle.first_pass_kinds.specs.declared.kinds.BlockStart.TheVariants.{Marked}
 use Rattle.first_pass_kinds.specs.declared.kinds.MarkedLeaf.{MarkedLeaf}
 use Rattle.first_pass_names.specs.TableEntries.{names_of, NamesMore}
 use Rattle.first_pass_blocks.specs.declared.state.BlockPass.{BlockPass}
@@ -18,7 +18,7 @@ use Rattle.first_pass_order.specs.LeafBlocks.{AddsKind}
 pub record AddsLeaf (old new : BlockPass) (p : Place) (kind : Kind) (next : ℕ) : Type 0 where
   pub source : source_of new ≡ source_of old
   pub more : NamesMore (allocs_of old) (allocs_of new)
-  pub empty_item : (reading_of new).empty_item ≡ None
+  pub begin_list_item : (reading_of new).begin_list_item ≡ None
   pub block : AddsKind (document (source_text old) (source_options old) (names_of (allocs_of new))) p kind (reading_of new).blank (tree_of old)
       (tree_of new) next
   pub later : line_end p ≤ next
@@ -32,4 +32,4 @@ pub record IsFoundIn (pass : BlockPass) (p : Place) (leaf : MarkedLeaf) (columns
   pub place : IsPlaceOf (source_text pass) p
   pub found : IsFoundAt (source_options pass) p (Marked leaf) columns at
   pub not_blank : (reading_of pass).blank ≡ false
-  pub no_empty : (reading_of pass).empty_item ≡ None
+  pub no_empty : (reading_of pass).begin_list_item ≡ None

@@ -41,4 +41,4 @@ CompletedWith d defined r lines None = CompletedAt d defined r.tree r.blank Line
 CompletedWith d defined r lines (Some e) = CompletedInItem d defined r.tree e lines r.blank
 
 unfoldable pub IsCompleted : Document → Tables → Reading → List Place → Type 0
-IsCompleted d defined r lines = CompletedWith d defined r lines r.empty_item
+IsCompleted d defined r lines = CompletedWith d defined r lines r.begin_list_item

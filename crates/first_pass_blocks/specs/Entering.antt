@@ -34,5 +34,5 @@ pub record ClosesAt (old new : Reading) (kept ix : ℕ) : Type 0 where
 abbrev pub EntersLine : Source → Reading → Reading → ℕ → Option Place → Type 0
 EntersLine source old new start None = ReadsTo source start old new (LineAt start) (LineAt (start + line_len (drop start source.text.now)))
 EntersLine source old new start (Some p) =
-    IsInLine source.text.now start (start + line_len (drop start source.text.now)) p × (new.empty_item ≡ None)
+    IsInLine source.text.now start (start + line_len (drop start source.text.now)) p × (new.begin_list_item ≡ None)
     × ReadsTo source start old new (LineAt start) (InLine p)

@@ -96,5 +96,5 @@ NoHead pass p = in_table (tree_of pass).nodes (tree_of pass).spine ≡ false →
 abbrev pub TriesFootnote : BlockPass → BlockPass → Place → Place → Bool → Type 0
 TriesFootnote old new p q false = StaysSame old new × (q ≡ p) × NoHead old p
 TriesFootnote old new p q true =
-    IsFrom (source_text old) p q × (length q.rest.left < length p.rest.left) × ((reading_of new).empty_item ≡ None)
+    IsFrom (source_text old) p q × (length q.rest.left < length p.rest.left) × ((reading_of new).begin_list_item ≡ None)
     × ((line : ℕ) → line ≤ p.line → PassesTo (source_of old) line old new (InLine p) (InLine q))

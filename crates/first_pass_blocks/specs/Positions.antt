@@ -16,7 +16,7 @@ use Rattle.first_pass_grammar.specs.Names.{Names, AreNamed}
 use Rattle.first_pass_grammar.specs.WholeTables.{HasWholeTables}
 use Rattle.first_pass_grammar.specs.Order.{GrowsBy}
 use Rattle.first_pass_grammar.specs.OpenOrder.{IsOrderedTo}
-use Rattle.first_pass_grammar.specs.Skeleton.{From, Inside, At, ALeafAlone, TextOf, after_tag}
+use Rattle.first_pass_grammar.specs.Skeleton.{From, Inside, At, OnlyALeaf, TextOf, after_tag}
 use Rattle.first_pass_grammar.specs.Completion.{lines_from, IsPlain}
 use Rattle.first_pass_open.specs.Path.{context_of}
 use Rattle.first_pass_open.specs.declared.source.Source.{Source}
@@ -54,7 +54,7 @@ ReadyTagged d defined r lines = ReadyInQuote d defined r (after_tag (context_of 
 
 -- ready in that line, at the place of a leaf block that belongs to the quote
 abbrev pub ReadyLazy : Document → Tables → Reading → Place → List Place → Type 0
-ReadyLazy d defined r p lines = ReadyInQuote d defined r (At p ALeafAlone) lines
+ReadyLazy d defined r p lines = ReadyInQuote d defined r (At p OnlyALeaf) lines
 
 -- under these options a `:` may begin a definition in this tree (this project)
 abbrev pub may_define : Options → Forest Item → Bool
@@ -144,6 +144,6 @@ pub record ReadsTo (source : Source) (line : ℕ) (old new : Reading) (from to :
   pub ready : (names : Names) (defined : Tables)
       → ReadyOn (document source.text.now source.options names) defined old from → ReadyOn (document source.text.now source.options names) defined new to
   pub order : OrderedOn source.options source.text.now old from → OrderedOn source.options source.text.now new to
-  pub few : (first : List (ℕ × Item)) → GrowsTo source.text.now line first old.tree.nodes from → GrowsTo source.text.now line first new.tree.nodes to
+  pub node_bound : (first : List (ℕ × Item)) → GrowsTo source.text.now line first old.tree.nodes from → GrowsTo source.text.now line first new.tree.nodes to
   pub named : (names : Names) → AreNamed names old.tree.nodes → AreNamed names new.tree.nodes
   pub whole : (names : Names) → HasWholeTables names old.tree → HasWholeTables names new.tree

@@ -6,7 +6,7 @@ use Rattle.first_pass_items.specs.declared.item.Item.{Item}
 use Rattle.first_pass_items.specs.declared.item.ItemBody.TheVariants.{BlockQuote as BlockQuoteBody, ListItem as ListItemBody}
 use Rattle.first_pass_grammar.specs.Blocks.{Opener as ContainerOpener, QuoteMarker, ItemMarker, FootnoteMarker, DefinitionMarker}
 use Rattle.first_pass_grammar.specs.declared.kind.AfterMarker.{AfterMarker}
-use Rattle.first_pass_grammar.specs.declared.kind.AfterMarker.TheVariants.{OnLine, TaskText, LineEnds, TagAlone}
+use Rattle.first_pass_grammar.specs.declared.kind.AfterMarker.TheVariants.{OnLine, TaskText, LineEnds, OnlyTag}
 use Rattle.first_pass_grammar.specs.Openers.{Start as ContainerStart, after_task}
 use Rattle.first_pass_lines.specs.Lines.{begins}
 use Rattle.first_pass_lines.specs.Places.{Place}
@@ -55,8 +55,8 @@ container_opened line start (DefinitionOpener columns) r = definition_begun star
 abbrev pub after_read : AfterMarker → ℕ → Reading → Reading
 after_read OnLine e r = r
 after_read (TaskText marker) e r = r
-after_read (LineEnds marker) e r = record r { tree = with_child r.tree marker; empty_item = Some e }
-after_read TagAlone e r = r
+after_read (LineEnds marker) e r = record r { tree = with_child r.tree marker; begin_list_item = Some e }
+after_read OnlyTag e r = r
 
 abbrev pub start_opened : ℕ → Start → ℕ → Reading → Reading
 start_opened line s e r = after_read s.after e (container_opened line s.start s.opener r)
@@ -66,7 +66,7 @@ abbrev pub after_at : Place → ℕ → AfterMarker → Position
 after_at p e OnLine = InLine p
 after_at p e (TaskText marker) = TaskAt p marker
 after_at p e (LineEnds marker) = LineAt e
-after_at p e TagAlone = TaggedAt e
+after_at p e OnlyTag = TaggedAt e
 
 -- the same if no other container begins
 abbrev pub last_at : Place → ℕ → AfterMarker → Position
@@ -75,10 +75,10 @@ last_at p e after = after_at p e after
 
 -- no item is empty after a marker, unless its line ends there; the marker of a task is in an item
 abbrev pub IsAfter : AfterMarker → Reading → Type 0
-IsAfter OnLine r = r.empty_item ≡ None
-IsAfter (TaskText marker) r = (is_task_marker marker.body ≡ true) × (r.empty_item ≡ None) × (is_in_item r.tree ≡ true)
+IsAfter OnLine r = r.begin_list_item ≡ None
+IsAfter (TaskText marker) r = (is_task_marker marker.body ≡ true) × (r.begin_list_item ≡ None) × (is_in_item r.tree ≡ true)
 IsAfter (LineEnds marker) r = Unit {0}
-IsAfter TagAlone r = r.empty_item ≡ None
+IsAfter OnlyTag r = r.begin_list_item ≡ None
 
 -- No column is owed, and the next byte is no space or tab and begins no container: no bullet, digit or `>`, no `:` of
 -- a definition, and no `[` of a footnote definition (this project).

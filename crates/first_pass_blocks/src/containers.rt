@@ -74,7 +74,7 @@ pub(crate) fn read_blank_lines<'a>(reading: &Reading, source: &Source<'a>, start
     ensures boundary { IsCharBoundary source.now.text.now result }
     ensures read { ReadsTo source.now start reading.now reading.now (LineAt start) (LineAt result) }
 {
-    if !reading.keeps_blank_lines() {
+    if !reading.is_unchanged_by_blank_line() {
         return start;
     }
     if reading.is_in_footnote() && !source.options.has_gfm_footnotes() {
@@ -119,7 +119,7 @@ impl<'a> BlockPass<'a> {
     ) -> Result<AfterMarker, AllocError>
         requires utf8 { IsUtf8 (source_text self.old) }
         requires place { IsPlaceOf (source_text self.old) place.old }
-        requires no_empty { (reading_of self.old).empty_item ≡ None }
+        requires no_empty { (reading_of self.old).begin_list_item ≡ None }
         ensures after { IfOk result (λ after. IsAfter after (reading_of self.new)) }
         ensures place { OnOk result (IsFrom (source_text self.old) place.old place.new) }
         ensures opened { IfOk result (λ after. PassesTo (source_of self.old) place.old.line self.old self.new
@@ -137,7 +137,7 @@ impl<'a> BlockPass<'a> {
     fn open_in_turn(&mut self, place: &mut Place<'a>) -> Result<AfterMarker, AllocError>
         requires utf8 { IsUtf8 (source_text self.old) }
         requires place { IsPlaceOf (source_text self.old) place.old }
-        requires no_empty { (reading_of self.old).empty_item ≡ None }
+        requires no_empty { (reading_of self.old).begin_list_item ≡ None }
         ensures after { IfOk result (λ after. IsAfter after (reading_of self.new)) }
         ensures place { OnOk result (IsFrom (source_text self.old) place.old place.new) }
         ensures opened { IfOk result (λ after. PassesTo (source_of self.old) place.old.line self.old self.new
@@ -198,7 +198,7 @@ fn open_start<'a>(
     }
     if let AfterMarker::LineEnds(marker) = start.after {
         append_item(&mut reading.tree, marker)?;
-        reading.empty_item = Some(line_over(source, place));
+        reading.begin_list_item = Some(line_over(source, place));
     }
     Ok(())
 }

@@ -26,7 +26,7 @@ impl<'a> BlockPass<'a> {
     pub(crate) fn open_footnote(&mut self, place: &mut Place<'a>) -> Result<bool, AllocError>
         requires utf8 { IsUtf8 (source_text self.old) }
         requires place { IsPlaceOf (source_text self.old) place.old }
-        requires no_empty { (reading_of self.old).empty_item ≡ None }
+        requires no_empty { (reading_of self.old).begin_list_item ≡ None }
         ensures { IfOk result (λ opens. TriesFootnote self.old self.new place.old place.new opens) }
     {
         self.source.recall_length();

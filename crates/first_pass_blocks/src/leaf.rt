@@ -3,7 +3,7 @@
 ghost use Rattle.std.specs.Prelude.{IfOk, ℕ};
 ghost use Rattle.first_pass_lines.specs.Places.{Place};
 ghost use Rattle.first_pass_grammar.specs.Kinds.{HtmlToEnd as HtmlKind};
-ghost use Rattle.first_pass_kinds.specs.Found.{marked_kind};
+ghost use Rattle.first_pass_kinds.specs.BlockStart.{marked_kind};
 ghost use Rattle.first_pass_kinds.specs.declared.kinds.MarkedLeaf.TheVariants.{IndentedCode, Metadata, HtmlToEnd, ThematicBreak, AtxHeading, FencedCode};
 ghost use Rattle.first_pass_blocks.specs.Adding.{AddsLeaf, IsFoundIn};
 

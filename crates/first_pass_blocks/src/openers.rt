@@ -102,7 +102,7 @@ fn after_quote(tag: Option<BlockQuoteKind>) -> AfterMarker
     ensures { result ≡ after_quote tag }
 {
     if tag.is_some() {
-        AfterMarker::TagAlone
+        AfterMarker::OnlyTag
     } else {
         AfterMarker::OnLine
     }

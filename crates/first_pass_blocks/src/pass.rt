@@ -12,7 +12,7 @@ ghost use Rattle.first_pass_grammar.specs.Order.{IsOrdered};
 ghost use Rattle.first_pass_grammar.specs.Names.{Names, AreNamed};
 ghost use Rattle.first_pass_names.specs.TableEntries.{tables_of, names_of, refdefs_of, footdefs_of};
 ghost use Rattle.first_pass_definitions.specs.Found.{AreWritten};
-ghost use Rattle.first_pass_kinds.specs.Found.{IsFoundAt};
+ghost use Rattle.first_pass_kinds.specs.BlockStart.{IsFoundAt};
 ghost use Rattle.first_pass_grammar.specs.declared.kind.AfterMarker.TheVariants.{TaskText};
 ghost use Rattle.first_pass_ready.specs.State.{Ready};
 ghost use Rattle.first_pass_order.specs.Ordered.{IsReadTo};
@@ -31,7 +31,7 @@ use first_pass_grammar::AfterMarker;
 use first_pass_items::item::Item;
 use first_pass_items::option_set::Options;
 use first_pass_kinds::interrupt::scan_line_after_tag;
-use first_pass_kinds::kinds::{Found, kind_at};
+use first_pass_kinds::kinds::{BlockStart, kind_at};
 use first_pass_lines::places::{next_line, rest_of};
 use first_pass_lists::reading::Reading;
 use first_pass_metadata::metadata_search::MetadataEnds;
@@ -67,7 +67,7 @@ impl<'a> BlockPass<'a> {
             source: Source::new(alloc, text, options),
             reading: Reading {
                 tree,
-                empty_item: None,
+                begin_list_item: None,
                 blank: false,
             },
             allocs: Allocations::new(alloc),
@@ -108,7 +108,7 @@ impl<'a> BlockPass<'a> {
                 Ok(next)
             }
             AfterMarker::LineEnds(_) => Ok(line_over(&self.source, &place)),
-            AfterMarker::TagAlone => {
+            AfterMarker::OnlyTag => {
                 let following = line_over(&self.source, &place);
                 let next = self.parse_tagged(following)?;
                 Ok(next)
@@ -120,7 +120,7 @@ impl<'a> BlockPass<'a> {
     // as `parse_block`. Returns `start` if the line is read like any other.
     fn parse_tagged(&mut self, start: usize) -> Result<usize, AllocError>
         requires boundary { IsCharBoundary (source_text self.old) start }
-        requires no_empty { (reading_of self.old).empty_item ≡ None }
+        requires no_empty { (reading_of self.old).begin_list_item ≡ None }
         ensures { IfOk result (λ next. ReadsBlock self.old self.new start (TaggedAt start) next) }
     {
         let bytes = rest_of(self.source.text.as_bytes(), start);
@@ -159,7 +159,7 @@ impl<'a> BlockPass<'a> {
     fn parse_leaf(&mut self, place: Place<'a>) -> Result<usize, AllocError>
         requires utf8 { IsUtf8 (source_text self.old) }
         requires place { IsPlaceOf (source_text self.old) place }
-        requires no_empty { (reading_of self.old).empty_item ≡ None }
+        requires no_empty { (reading_of self.old).begin_list_item ≡ None }
         ensures { IfOk result (λ next. ReadsLeaf self.old self.new place.entry next) }
     {
         self.source.recall_length();
@@ -175,27 +175,27 @@ impl<'a> BlockPass<'a> {
     fn parse_kind(
         &mut self,
         place: Place<'a>,
-        found: Found,
+        found: BlockStart,
         columns: usize,
         at: usize,
     ) -> Result<usize, AllocError>
         requires utf8 { IsUtf8 (source_text self.old) }
         requires place { IsPlaceOf (source_text self.old) place }
-        requires no_empty { (reading_of self.old).empty_item ≡ None }
+        requires no_empty { (reading_of self.old).begin_list_item ≡ None }
         requires found { IsFoundAt (source_options self.old) place found columns at }
         ensures { IfOk result (λ next. ReadsLeaf self.old self.new place.entry next) }
     {
         self.reading.tree.recall_forest();
         match found {
-            Found::Blank => {
+            BlockStart::Blank => {
                 self.reading.read_blank_line();
                 Ok(next_line(self.source.text.as_bytes(), at))
             }
-            Found::Paragraph => {
+            BlockStart::Paragraph => {
                 let next = self.parse_text(place, at)?;
                 Ok(next)
             }
-            Found::HtmlToBlank => {
+            BlockStart::HtmlToBlank => {
                 self.reading.finish_list(place.line);
                 self.reading.tree.recall_forest();
                 let next = parse_html_block_type_6_or_7(
@@ -206,7 +206,7 @@ impl<'a> BlockPass<'a> {
                 )?;
                 Ok(next)
             }
-            Found::Marked(leaf) => {
+            BlockStart::Marked(leaf) => {
                 self.reading.finish_list(place.line);
                 let next = self.append_marked(place, leaf, columns, at)?;
                 Ok(next)
@@ -219,7 +219,7 @@ impl<'a> BlockPass<'a> {
     fn parse_text(&mut self, place: Place<'a>, at: usize) -> Result<usize, AllocError>
         requires utf8 { IsUtf8 (source_text self.old) }
         requires place { IsPlaceOf (source_text self.old) place }
-        requires no_empty { (reading_of self.old).empty_item ≡ None }
+        requires no_empty { (reading_of self.old).begin_list_item ≡ None }
         requires kind { IsKind (source_options self.old) place.rest Paragraph }
         requires at { at ≡ offset (unindented place) }
         ensures { IfOk result (λ next. ReadsLeaf self.old self.new place.entry next) }
@@ -270,7 +270,7 @@ pub fn run_first_pass<'a>(
     ensures finished { IfOk result (λ answer. answer.0.spine ≡ []) }
     ensures settled { IfOk result (λ answer. AreSettled answer.0.nodes) }
     ensures order { IfOk result (λ answer. IsOrdered text.now answer.0.nodes) }
-    ensures few { IfOk result (λ answer.
+    ensures node_bound { IfOk result (λ answer.
         length answer.0.nodes ≤ 1 + 4 * length text.now + filled_cells answer.0.nodes) }
     ensures own { IfOk result (λ answer. own_nodes answer.0.nodes ≤ 1 + 4 * length text.now) }
     ensures named { IfOk result (λ answer. AreNamed (names_of answer.1) answer.0.nodes) }

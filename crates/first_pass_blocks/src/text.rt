@@ -7,7 +7,7 @@ ghost use Rattle.first_pass_tree.specs.Forest.{is_text};
 ghost use Rattle.first_pass_names.specs.TableEntries.{names_of, NamesMore};
 ghost use Rattle.first_pass_grammar.specs.Leaves.{document};
 ghost use Rattle.first_pass_grammar.specs.TableHeads.{headed_table};
-ghost use Rattle.first_pass_kinds.specs.TableHeads.{head_len};
+ghost use Rattle.first_pass_kinds.specs.TableHeads.{table_head_len};
 ghost use Rattle.first_pass_open.specs.Path.{context_of};
 ghost use Rattle.first_pass_open.specs.Between.{AddsBetween, IsInItem, StandsBefore};
 ghost use Rattle.first_pass_blocks.specs.TextsAdded.{AddsText};
@@ -35,8 +35,8 @@ fn append_table(
     requires boundary { IsCharBoundary source.now.text.now start }
     requires headed { headed_table (context_of source.now.options tree.old) (drop start source.now.text.now)
         ≡ Some table.alignments.items }
-    requires head { table.head_len ≡ head_len (drop start source.now.text.now) }
-    requires within { start + table.head_len ≤ length source.now.text.now }
+    requires head { table.table_head_len ≡ table_head_len (drop start source.now.text.now) }
+    requires within { start + table.table_head_len ≤ length source.now.text.now }
     ensures more { OnOk result (NamesMore allocs.old allocs.new) }
     ensures block { IfOk result (λ next. (marker : Option Item)
         → AddsText (document source.now.text.now source.now.options (names_of allocs.new)) start marker tree.old
@@ -48,7 +48,7 @@ fn append_table(
     let rows = TableRows {
         columns: table.alignments.len(),
         head_start: start,
-        body_start: start + table.head_len,
+        body_start: start + table.table_head_len,
     };
     let index = allocs.allocate_alignment(table.alignments)?;
     open_block(tree, start, ItemBody::Table(index))?;

@@ -35,7 +35,7 @@ pub record IsTreeOf (text : List ℕ) (bits : ℕ) (names : Names) (nodes : List
   pub only : IsOnlyDerived text options names nodes tables
   pub settled : AreSettled nodes
   pub order : IsOrdered text nodes
-  pub few : length nodes ≤ 1 + 4 * length text + filled_cells nodes
+  pub node_bound : length nodes ≤ 1 + 4 * length text + filled_cells nodes
   pub named : AreNamed names nodes
   pub whole : AreWholeTables names nodes
 

@@ -22,7 +22,7 @@ use Rattle.first_pass_grammar.specs.Derivation.{Tables, items_of}
 use Rattle.first_pass_grammar.specs.Completion.{title_left, list_closed, OtherClosed, ParagraphAt, DefinitionClosed, TitleAt, Pending, NoList, OneList}
 use Rattle.first_pass_grammar.specs.Completion.{OneTitle, rows_beyond, rendered, Frame, InList, InDefinitions, containers_of}
 use Rattle.first_pass_grammar.specs.Completion.{IsPlain}
-use Rattle.first_pass_grammar.proofs.Alike.{opener_alone, head_alone, AlikeOpening}
+use Rattle.first_pass_grammar.proofs.Alike.{only_opener, only_head, AlikeOpening}
 use Rattle.first_pass_completion.proofs.Extending.{tail, lvl, finish_moved, loosened_in-false, stands_after, plain_before}
 use Rattle.first_pass_completion.proofs.Extending.{extend, StaysAt}
 use Rattle.first_pass_grammar.proofs.Finishes.{Finish, Tail, CompletesAt, FinishesAt, finish_derives, whole_by}
@@ -84,22 +84,22 @@ EndsList list at (Then BlankLine next) = ⊥
 EndsList list at (Then (Block b) next) = LeafAway list at b × OwnParagraph b
 EndsList list at (Node head e kids next) = (head_closes head ≡ at) × (joins list head.opener ≡ false)
 
-closes_alone : (o : Opener) (line start : ℕ)
-    → head_closes (head_alone (record { opener = o; line = line; start = start })) ≡ head_closes (record { opener = o; line = line; start = start })
-closes_alone (QuoteMarker kind) line start = refl
-closes_alone (ItemMarker byte number columns) line start = refl
-closes_alone (FootnoteMarker columns index label) line start = refl
-closes_alone (DefinitionMarker columns) line start = refl
+only_closes : (o : Opener) (line start : ℕ)
+    → head_closes (only_head (record { opener = o; line = line; start = start })) ≡ head_closes (record { opener = o; line = line; start = start })
+only_closes (QuoteMarker kind) line start = refl
+only_closes (ItemMarker byte number columns) line start = refl
+only_closes (FootnoteMarker columns index label) line start = refl
+only_closes (DefinitionMarker columns) line start = refl
 
-joins_alone : (list : Joins) (o : Opener) → joins list (opener_alone o) ≡ joins list o
-joins_alone (ItemsOf byte) (QuoteMarker kind) = refl
-joins_alone (ItemsOf byte) (ItemMarker other number columns) = refl
-joins_alone (ItemsOf byte) (FootnoteMarker columns index label) = refl
-joins_alone (ItemsOf byte) (DefinitionMarker columns) = refl
-joins_alone (DefinitionsTo e) (QuoteMarker kind) = refl
-joins_alone (DefinitionsTo e) (ItemMarker other number columns) = refl
-joins_alone (DefinitionsTo e) (FootnoteMarker columns index label) = refl
-joins_alone (DefinitionsTo e) (DefinitionMarker columns) = refl
+only_joins : (list : Joins) (o : Opener) → joins list (only_opener o) ≡ joins list o
+only_joins (ItemsOf byte) (QuoteMarker kind) = refl
+only_joins (ItemsOf byte) (ItemMarker other number columns) = refl
+only_joins (ItemsOf byte) (FootnoteMarker columns index label) = refl
+only_joins (ItemsOf byte) (DefinitionMarker columns) = refl
+only_joins (DefinitionsTo e) (QuoteMarker kind) = refl
+only_joins (DefinitionsTo e) (ItemMarker other number columns) = refl
+only_joins (DefinitionsTo e) (FootnoteMarker columns index label) = refl
+only_joins (DefinitionsTo e) (DefinitionMarker columns) = refl
 
 leaf_away : (d : Document) (list : Joins) (at : ℕ) (b b' : LeafBlock) (there there' : From) (left left' : List Place)
     → AlikeOpening d.names d.names (OpensLeaf (Block b) there left) (OpensLeaf (Block b') there' left') → LeafAway list at b → LeafAway list at b'
@@ -119,8 +119,8 @@ ends_list d list at (OpensLeaf (Block b) there left) (Then (Block b') next) away
 ends_list d list at (OpensLeaf leaf there left) (Node head' e' kids' next') away (inside', following', (alike, flat)) = absurd alike
 ends_list d list at (OpensNode head inside following) (Then leaf' next') away (there', left', (alike, flat)) = absurd alike
 ends_list d list at (OpensNode head inside following) (Node head' e' kids' next') away (inside', following', (alike, flat)) = (
-  sym (sym (closes_alone head.opener head.line head.start) ∙ ap head_closes alike.0.0 ∙ closes_alone head'.opener head'.line head'.start) ∙ away.0,
-  sym (sym (joins_alone list head.opener) ∙ ap (λ (h : Head). joins list h.opener) alike.0.0 ∙ joins_alone list head'.opener) ∙ away.1,
+  sym (sym (only_closes head.opener head.line head.start) ∙ ap head_closes alike.0.0 ∙ only_closes head'.opener head'.line head'.start) ∙ away.0,
+  sym (sym (only_joins list head.opener) ∙ ap (λ (h : Head). joins list h.opener) alike.0.0 ∙ only_joins list head'.opener) ∙ away.1,
 )
 
 -- The rows of what ends a list include none that continues it.

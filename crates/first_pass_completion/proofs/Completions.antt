@@ -14,7 +14,7 @@ use Rattle.first_pass_grammar.specs.Leaves.{Document, around}
 use Rattle.first_pass_grammar.specs.Blocks.{LeafBlock, BlankLine, Block, block_at, Nil, Then}
 use Rattle.first_pass_grammar.specs.Before.{LastOther, LastParagraph, Before, last_container, list_is_open, after_blank, after_block}
 use Rattle.first_pass_grammar.specs.Before.{is_paragraph_body, begins_paragraph, is_run, last_after_run, last_block, before_end}
-use Rattle.first_pass_grammar.specs.Skeleton.{From, Line, Inside, Blanks, At, TextOf, MarkAlone, after_marker, Opening, OpensLeaf, OpensText, Opens}
+use Rattle.first_pass_grammar.specs.Skeleton.{From, Line, Inside, Blanks, At, TextOf, OnlyMark, after_marker, Opening, OpensLeaf, OpensText, Opens}
 use Rattle.first_pass_grammar.specs.Skeleton.{level, Left, InLine, Ends, ends_old_footnote, next_block, onward, after_first, end_of_left, end_before, IsFirst}
 use Rattle.first_pass_grammar.specs.Skeleton.{IsSequence}
 use Rattle.first_pass_grammar.specs.Kinds.{Paragraph, unindented, is_blank_rest}
@@ -190,7 +190,7 @@ mark_alike n (Some e) path mid = refl
 pub completes-mark : (d : Document) (defined : Tables) (closed : Closed) (frames : List Frame) (nodes : List (ℕ × Item)) (os : List ℕ) (marker : Item)
     (p : Place) (blanks : Option ℕ) (lines : List Place)
     → IsPlain frames → is_paragraph_body marker.body ≡ false
-    → CompletesAt d defined (tail closed false) frames nodes os (At p (MarkAlone marker blanks)) lines
+    → CompletesAt d defined (tail closed false) frames nodes os (At p (OnlyMark marker blanks)) lines
     → CompletesAt d defined fresh frames (nodes ++ (suc (length os), marker) ∷ []) os (after_marker blanks) lines
 unfolding with_links next_block
 completes-mark d defined closed frames nodes os marker p blanks lines plain other c =
@@ -200,7 +200,7 @@ completes-mark d defined closed frames nodes os marker p blanks lines plain othe
     subst (λ z. CompletesAt d defined (tail z false) frames (nodes ++ (suc (length os), marker) ∷ []) os (after_marker blanks) lines) last
     (subst (λ depth. CompletesAt d defined (tail (closed_after (length nodes) b closed) false) frames (nodes ++ (depth, marker) ∷ []) os
     (after_marker blanks) lines) deep
-    (completes-leaf d defined closed frames nodes os (At p (MarkAlone marker blanks)) lines lines b plain (mark_alike (length d.text) blanks) other
+    (completes-leaf d defined closed frames nodes os (At p (OnlyMark marker blanks)) lines lines b plain (mark_alike (length d.text) blanks) other
     (record { place = p; following = lines; begins = refl; opens = refl }) c))
 
 -- whether the blank lines after open nodes include a counting one, after one more blank line

@@ -13,7 +13,7 @@ use Rattle.first_pass_grammar.specs.Blocks.{LeafBlock, Block, label_of, Skeleton
 use Rattle.first_pass_grammar.specs.Before.{Last, Before, last_container, after_container, before_end}
 use Rattle.first_pass_grammar.specs.Skeleton.{From, Line, Inside, Opening, OpensLeaf, OpensNode, OpensBy, OpensFootnote, Opens, Level, level, Left, Lines}
 use Rattle.first_pass_grammar.specs.Skeleton.{InLine}
-use Rattle.first_pass_grammar.specs.Skeleton.{may_define, ends_old_footnote, onward, blanks_alone, end_of_left, end_before, IsFirst, IsSequence}
+use Rattle.first_pass_grammar.specs.Skeleton.{may_define, ends_old_footnote, onward, only_blanks, end_of_left, end_before, IsFirst, IsSequence}
 use Rattle.first_pass_grammar.specs.Rows.{ItemsOf, Rows, any_gap, rows_of}
 use Rattle.first_pass_grammar.specs.LinkTables.{LinkEntry, with_link, with_links, with_label, with_labels}
 use Rattle.first_pass_grammar.specs.Derivation.{Tables, told, definitions_of, footnotes_of, told_by}
@@ -97,7 +97,7 @@ plain_before t frames plain = ap (λ z. stands_after z t.run) (plain_last t.clos
 
 -- if more than blank lines may follow, the container of these blocks ends where they leave the lines
 abbrev pub EndsAt : ℕ → From → Left → ℕ → Type 0
-EndsAt n from mid last = blanks_alone from ≡ None → last ≡ end_of_left n [] None mid
+EndsAt n from mid last = only_blanks from ≡ None → last ≡ end_of_left n [] None mid
 
 end_anywhere : (n : ℕ) (path : List Container) (left : Left) → end_of_left n path None left ≡ end_of_left n [] None left
 end_anywhere n path (Lines lines) = refl

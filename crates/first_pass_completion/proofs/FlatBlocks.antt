@@ -27,8 +27,8 @@ use Rattle.first_pass_grammar.specs.LinkRuns.{kind_in, Ended, FlowsOn}
 use Rattle.first_pass_grammar.specs.Rows.{is_paragraph}
 use Rattle.first_pass_grammar.specs.Openers.{Start, start_at}
 use Rattle.first_pass_grammar.specs.declared.kind.AfterMarker.{AfterMarker}
-use Rattle.first_pass_grammar.specs.declared.kind.AfterMarker.TheVariants.{OnLine, TaskText, LineEnds, TagAlone}
-use Rattle.first_pass_grammar.specs.Skeleton.{From, Line, Blanks, At, Anything, ALeafAlone, TextOf, MarkAlone, Opening, OpensLeaf, OpensNode, OpensText}
+use Rattle.first_pass_grammar.specs.declared.kind.AfterMarker.TheVariants.{OnLine, TaskText, LineEnds, OnlyTag}
+use Rattle.first_pass_grammar.specs.Skeleton.{From, Line, Blanks, At, Anything, OnlyALeaf, TextOf, OnlyMark, Opening, OpensLeaf, OpensNode, OpensText}
 use Rattle.first_pass_grammar.specs.Skeleton.{OpensRun, OpensAs, OpensBlockAt, OpensBy, OpensFootnote, Opens, OpensAt, opening_by}
 use Rattle.first_pass_grammar.specs.Skeleton.{next_is_blank, Level, may_define, IsFirst}
 use Rattle.first_pass_grammar.specs.TableHeads.{headed_table}
@@ -71,9 +71,9 @@ abbrev pub HoldsOfMarker : (ItemBody → Type 0) → From → Type 0
 HoldsOfMarker P Line = Unit {0}
 HoldsOfMarker P (Blanks e) = Unit {0}
 HoldsOfMarker P (At p Anything) = Unit {0}
-HoldsOfMarker P (At p ALeafAlone) = Unit {0}
+HoldsOfMarker P (At p OnlyALeaf) = Unit {0}
 HoldsOfMarker P (At p (TextOf marker)) = P marker.body
-HoldsOfMarker P (At p (MarkAlone marker blanks)) = IsNoParagraph marker.body
+HoldsOfMarker P (At p (OnlyMark marker blanks)) = IsNoParagraph marker.body
 
 -- neither is a paragraph
 abbrev pub OwnFrom : From → Type 0
@@ -130,8 +130,8 @@ module _ (P : ItemBody → Type 0) where
       → HoldsInBlock P b × OwnParagraph b
   other_block b x more other is own = no_text b (begins_other x more b.items is own) (λ run. absurd (true≢false (sym run ∙ other)))
 
-  run_alone : (b : LeafBlock) → b.items ≡ [] → HoldsInBlock P b × OwnParagraph b
-  run_alone b none = no_text b (λ begins. true≢false (sym begins ∙ ap begins_paragraph none)) (λ run. none)
+  only_run : (b : LeafBlock) → b.items ≡ [] → HoldsInBlock P b × OwnParagraph b
+  only_run b none = no_text b (λ begins. true≢false (sym begins ∙ ap begins_paragraph none)) (λ run. none)
 
   abbrev HoldsOfMark : Option Item → Type 0
   HoldsOfMark marker = IfSome marker (λ x. P x.body)
@@ -166,7 +166,7 @@ module _ (P : ItemBody → Type 0) (d : Document) (holds : HoldsOfTokens d.names
 
   opens_run : (path : List Container) (p : Place) (lines : List Place) (o : Opening) → OpensRun d path p lines o → HoldsInOpening P o
   unfolding OpensRun
-  opens_run path p lines o (xs, Ended q left, run, e) = subst (HoldsInOpening P) (sym e) (run_alone P _ refl)
+  opens_run path p lines o (xs, Ended q left, run, e) = subst (HoldsInOpening P) (sym e) (only_run P _ refl)
   opens_run path p lines o (xs, FlowsOn q more, run, (t, is, e)) =
       subst (HoldsInOpening P) (sym e) (text_block P _ refl (text_holds path q None more t tt is))
 
@@ -197,7 +197,7 @@ module _ (P : ItemBody → Type 0) (d : Document) (holds : HoldsOfTokens d.names
   container_holds path head inside lines OnLine = tt
   container_holds path head inside lines (TaskText marker) = tt
   container_holds path head inside lines (LineEnds marker) = unless_opens (next_is_blank (opened head.opener ∷ path) lines) _ _ tt tt
-  container_holds path head inside lines TagAlone = tt
+  container_holds path head inside lines OnlyTag = tt
 
   opens_by : (path : List Container) (p : Place) (lines : List Place) (s : Option Start) (o : Opening) → OpensBy d path p lines s o → HoldsInOpening P o
   unfolding OpensBy
@@ -219,9 +219,9 @@ module _ (P : ItemBody → Type 0) (d : Document) (holds : HoldsOfTokens d.names
   opens_at l Line p lines o mark opens = opens_any l p lines o opens
   opens_at l (Blanks e) p lines o mark opens = opens_any l p lines o opens
   opens_at l (At q Anything) p lines o mark opens = opens_any l p lines o opens
-  opens_at l (At q ALeafAlone) p lines o mark opens = opens_block l.path p lines o opens
+  opens_at l (At q OnlyALeaf) p lines o mark opens = opens_block l.path p lines o opens
   opens_at l (At q (TextOf marker)) p lines o mark opens = opens_text l.path p lines (Some marker) o mark opens
-  opens_at l (At q (MarkAlone marker blanks)) p lines o mark e = subst (HoldsInOpening P) (sym e) (other_block P _ _ _ refl refl mark)
+  opens_at l (At q (OnlyMark marker blanks)) p lines o mark e = subst (HoldsInOpening P) (sym e) (other_block P _ _ _ refl refl mark)
 
   -- a property of each token of a text holds for each item after the first of a paragraph that opens
   pub opened_holds : (l : Level) (from : From) (lines : List Place) (b : LeafBlock) (there : From) (left : List Place) → HoldsOfMarker P from

@@ -14,13 +14,13 @@ use Rattle.first_pass_grammar.specs.Footnotes.{footnote_head_at}
 use Rattle.first_pass_grammar.specs.Leaves.{Document, around}
 use Rattle.first_pass_grammar.specs.Blocks.{Opener, QuoteMarker, ItemMarker, FootnoteMarker, DefinitionMarker, Head, opened, Leaf, BlankLine, Block}
 use Rattle.first_pass_grammar.specs.Blocks.{Skeleton, Nil, Then, Node}
-use Rattle.first_pass_grammar.specs.Before.{Before, nothing, takes_definition, after_block, after_container, before_end}
+use Rattle.first_pass_grammar.specs.Before.{Before, nothing, definition_may_follow, after_block, after_container, before_end}
 use Rattle.first_pass_grammar.specs.Rows.{leaf_row, gap_before, row_of, container_row, rows_of}
 use Rattle.first_pass_grammar.specs.Openers.{Start, definition_head, definition_start, after_item, start_at}
 use Rattle.first_pass_grammar.specs.Skeleton.{From, Inside, Opening, OpensLeaf, OpensNode, OpensBy, OpensFootnote, Opens, level, may_define, opening_by}
 use Rattle.first_pass_grammar.specs.Skeleton.{opening_of}
 use Rattle.first_pass_grammar.specs.Skeleton.{next_is_blank, Level, Left, Begins, Ends, next_block, IsFirst, IsSequence}
-use Rattle.first_pass_grammar.proofs.Alike.{opener_alone, head_alone, AlikeOpening}
+use Rattle.first_pass_grammar.proofs.Alike.{only_opener, only_head, AlikeOpening}
 use Rattle.first_pass_completion.proofs.Extending.{StaysAt}
 use Rattle.first_pass_completion.proofs.FlatBlocks.{FlatBlock, OwnParagraph, opened_own}
 use Rattle.first_pass_grammar.proofs.Goings.{begins_at, begins_inside, going_inside}
@@ -57,7 +57,7 @@ start_alike d path before before' p is = record {
 
 -- a definition may begin after both states, or after neither
 pub takes_alike : (d : Document) (path : List Container) (before before' : Before) (p : Place)
-    → takes_definition before.last ≡ takes_definition before'.last → OpensAlike d path before before' p
+    → definition_may_follow before.last ≡ definition_may_follow before'.last → OpensAlike d path before before' p
 takes_alike d path before before' p is =
     start_alike d path before before' p (ap (λ (t : Bool). start_at d.options (has d.options definition_list && t) p) is)
 
@@ -107,17 +107,17 @@ and_not true b h = h
 and_not false b h = refl
 
 other_by : (d : Document) (path : List Container) (before before' : Before) (p : Place) (lines : List Place) (o : Opening) (head : Option (ℕ × List ℕ))
-    → footnote_head_at (around d path) p ≡ head → opens_definition o ≡ false → takes_definition before'.last ≡ false
+    → footnote_head_at (around d path) p ≡ head → opens_definition o ≡ false → definition_may_follow before'.last ≡ false
     → OpensWith d path p lines o head (start_at d.options (may_define d (level path before)) p) → OpensAlike d path before before' p
 other_by d path before before' p lines o (Some head) is other none opens = head_alike d path before before' p head is
 other_by d path before before' p lines o None is other none opens =
     start_alike d path before before' p
     (without d path p lines o _ other opens
-    ∙ ap (λ (t : Bool). start_at d.options t p) (sym (and_not (has d.options definition_list) (takes_definition before'.last) none)))
+    ∙ ap (λ (t : Bool). start_at d.options t p) (sym (and_not (has d.options definition_list) (definition_may_follow before'.last) none)))
 
 -- what opens is no definition, and none may begin after the other state
 pub other_alike : (d : Document) (path : List Container) (before before' : Before) (p : Place) (lines : List Place) (o : Opening)
-    → opens_definition o ≡ false → takes_definition before'.last ≡ false → Opens d (level path before) p lines o → OpensAlike d path before before' p
+    → opens_definition o ≡ false → definition_may_follow before'.last ≡ false → Opens d (level path before) p lines o → OpensAlike d path before before' p
 other_alike d path before before' p lines o other none opens =
     other_by d path before before' p lines o (footnote_head_at (around d path) p) refl other none opens
 
@@ -254,14 +254,14 @@ OpensBlock (OpensLeaf BlankLine there left) = ⊥
 OpensBlock (OpensLeaf (Block b) there left) = Unit {0}
 OpensBlock (OpensNode head inside following) = Unit {0}
 
-definition_alone : (o : Opener) → is_definition (opener_alone o) ≡ is_definition o
-definition_alone (QuoteMarker kind) = refl
-definition_alone (ItemMarker byte number columns) = refl
-definition_alone (FootnoteMarker columns index label) = refl
-definition_alone (DefinitionMarker columns) = refl
+only_definition : (o : Opener) → is_definition (only_opener o) ≡ is_definition o
+only_definition (QuoteMarker kind) = refl
+only_definition (ItemMarker byte number columns) = refl
+only_definition (FootnoteMarker columns index label) = refl
+only_definition (DefinitionMarker columns) = refl
 
-pub definition_alike : (head head' : Head) → head_alone head ≡ head_alone head' → is_definition head.opener ≡ is_definition head'.opener
-definition_alike head head' is = sym (definition_alone head.opener) ∙ ap (λ (h : Head). is_definition h.opener) is ∙ definition_alone head'.opener
+pub definition_alike : (head head' : Head) → only_head head ≡ only_head head' → is_definition head.opener ≡ is_definition head'.opener
+definition_alike head head' is = sym (only_definition head.opener) ∙ ap (λ (h : Head). is_definition h.opener) is ∙ only_definition head'.opener
 
 -- a sequence begins with a leaf block, or with a container that is no definition
 abbrev pub FirstIsOther : Skeleton → Type 0

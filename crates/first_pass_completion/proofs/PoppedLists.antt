@@ -10,7 +10,7 @@ use Rattle.first_pass_grammar.specs.Footnotes.{ends_footnote}
 use Rattle.first_pass_grammar.specs.Leaves.{Document, around}
 use Rattle.first_pass_grammar.specs.Before.{Last, LastParagraph, LastItem, LastDefinition, Before}
 use Rattle.first_pass_grammar.specs.Before.{before_end}
-use Rattle.first_pass_grammar.specs.Skeleton.{From, Line, Inside, level, Left, Lines, InLine, Ends, next_block, blanks_alone}
+use Rattle.first_pass_grammar.specs.Skeleton.{From, Line, Inside, level, Left, Lines, InLine, Ends, next_block, only_blanks}
 use Rattle.first_pass_grammar.specs.Skeleton.{end_of_left, IsSequence}
 use Rattle.first_pass_grammar.specs.Kinds.{unindented}
 use Rattle.first_pass_grammar.specs.Rows.{Joins, ItemsOf, DefinitionsTo, End, any_gap, is_loose}
@@ -36,7 +36,7 @@ last_in (DefinitionsTo e) blanks = LastDefinition blanks
 shut_step : (d : Document) (defined : Tables) (frames : List Frame) (list : Pending) (t : Tail) (last : Last) (run : Bool) (nodes nodes' : List (ℕ × Item))
     (os : List ℕ) (from : From) (lines : List Place) (left : Left) (forest : List (ℕ × Item)) (tables : Tables)
     → IsPlain frames → t.run ≡ run → ((before : Before) → next_block d.options (level (containers_of frames) before) from lines ≡ Ends left)
-    → ((e : ℕ) → (blanks_alone from ≡ None → e ≡ end_of_left (length d.text) [] None left)
+    → ((e : ℕ) → (only_blanks from ≡ None → e ≡ end_of_left (length d.text) [] None left)
     → rendered (suc (length os)) e nodes list End ≡ rendered (suc (length os)) e nodes' (NoList t.closed) End)
     → any_gap (rows_beyond list End) ≡ any_gap (rows_beyond (NoList t.closed) End)
     → FinishesAt d defined t frames nodes' os from lines forest tables
@@ -62,7 +62,7 @@ shut_step d defined frames list t last run nodes nodes' os from lines left fores
 
 pop_list_step : (d : Document) (defined : Tables) (frames : List Frame) (list : Joins) (loose run blanks : Bool) (nodes : List (ℕ × Item)) (o : ℕ)
     (os : List ℕ) (from : From) (lines : List Place) (left : Left) (forest : List (ℕ × Item)) (tables : Tables)
-    → IsPlain frames → blanks_alone from ≡ None → ((before : Before) → next_block d.options (level (containers_of frames) before) from lines ≡ Ends left)
+    → IsPlain frames → only_blanks from ≡ None → ((before : Before) → next_block d.options (level (containers_of frames) before) from lines ≡ Ends left)
     → FinishesAt d defined (tail OtherClosed run) frames
     (list_closed nodes o (suc (suc (suc (length os)))) loose (end_of_left (length d.text) [] None left)) os from lines forest tables
     → Finish d defined (OneList o list loose) (stands_after (last_in list blanks) run) frames nodes os from lines forest tables
@@ -98,7 +98,7 @@ title_below nodes o os depth loose e at below =
 -- a list is closed with the container around it, wherever that ends
 completes-pop_any : (d : Document) (defined : Tables) (t : Tail) (byte : ℕ) (loose : Bool) (frames : List Frame) (nodes : List (ℕ × Item)) (o : ℕ)
     (os : List ℕ) (from : From) (lines : List Place) (left : Left)
-    → blanks_alone from ≡ None → ((before : Before) → next_block d.options (level (containers_of frames) before) from lines ≡ Ends left)
+    → only_blanks from ≡ None → ((before : Before) → next_block d.options (level (containers_of frames) before) from lines ≡ Ends left)
     → CompletesAt d defined t (InList byte loose ∷ frames) nodes (o ∷ os) from lines
     → CompletesAt d defined (tail OtherClosed t.run) frames
     (list_closed nodes o (suc (suc (suc (length os)))) loose (end_of_left (length d.text) [] None left)) os from lines
@@ -112,7 +112,7 @@ completes-pop_any d defined t byte loose frames nodes o os from lines left none 
 
 completes-pop_definitions_any : (d : Document) (defined : Tables) (e : ℕ) (blanks run loose : Bool) (frames : List Frame) (nodes : List (ℕ × Item)) (o : ℕ)
     (os : List ℕ) (from : From) (lines : List Place) (left : Left)
-    → blanks_alone from ≡ None → ((before : Before) → next_block d.options (level (containers_of frames) before) from lines ≡ Ends left)
+    → only_blanks from ≡ None → ((before : Before) → next_block d.options (level (containers_of frames) before) from lines ≡ Ends left)
     → CompletesAt d defined (tail (DefinitionClosed e blanks) run) (InDefinitions loose ∷ frames) nodes (o ∷ os) from lines
     → CompletesAt d defined (tail OtherClosed run) frames
     (list_closed nodes o (suc (suc (suc (length os)))) loose (end_of_left (length d.text) [] None left)) os from lines

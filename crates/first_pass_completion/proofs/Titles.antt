@@ -12,7 +12,7 @@ use Rattle.first_pass_grammar.specs.Before.{begins_paragraph, is_run}
 use Rattle.first_pass_grammar.specs.Blocks.{LeafBlock}
 use Rattle.first_pass_grammar.specs.Rows.{Joins, DefinitionsTo, Rows, End, OneOf, Definitions, apart_after, definitions_of_row, definitions_first, titled}
 use Rattle.first_pass_grammar.specs.Rows.{leaf_row, row_of_leaf, ADefinitionList, ATitle, WithTitle, Apart, Row, any_gap, is_loose, is_untitled, is_run_row}
-use Rattle.first_pass_grammar.specs.Rows.{list_after, is_apart, is_list_of, was_possible_title, closing_place, ends_at}
+use Rattle.first_pass_grammar.specs.Rows.{list_after, is_apart, continues_list, was_possible_title, closing_place, end_of_list_before}
 use Rattle.first_pass_grammar.specs.Derivation.{node_of, list_flags, as_title, block_items, items_of}
 use Rattle.first_pass_grammar.specs.Completion.{with_title, title_taken, title_left, list_closed, Closed, OtherClosed, ParagraphAt, DefinitionClosed, TitleAt}
 use Rattle.first_pass_grammar.specs.Completion.{NoList, OneList, OneTitle, beside_or, rows_beyond, not_apart, closed_with}
@@ -221,7 +221,7 @@ titled_inner b ds = OneOf (record { what = ATitle b; line = b.line; start = b.st
 
 -- a list that is closed before a row that doesn't continue it
 pub away_row : (k last : ℕ) (nodes : List (ℕ × Item)) (place at : ℕ) (joins : Joins) (loose : Bool) (row : Row) (inner next : Rows)
-    → is_list_of joins row.what ≡ false → ends_at joins row ≡ at
+    → continues_list joins row.what ≡ false → end_of_list_before joins row ≡ at
     → rendered k last nodes (OneList place joins loose) (OneOf row inner next)
     ≡ list_closed nodes place (suc (suc k)) loose at ++ items_of k false (OneOf row inner next)
 unfolding rendered is_loose items_of
@@ -229,7 +229,7 @@ away_row k last nodes place at joins loose row inner next h w = rw (h, w, or-fal
 
 -- a definition list that is closed before what might have been its next title
 left_row : (k last : ℕ) (nodes : List (ℕ × Item)) (place e : ℕ) (loose : Bool) (row : Row) (inner next : Rows)
-    → is_list_of (DefinitionsTo e) row.what ≡ false → was_possible_title row.what ≡ true
+    → continues_list (DefinitionsTo e) row.what ≡ false → was_possible_title row.what ≡ true
     → rendered k last nodes (OneList place (DefinitionsTo e) loose) (OneOf row inner next)
     ≡ list_closed nodes place (suc (suc k)) loose e ++ items_of k false (OneOf row inner next)
 left_row k last nodes place e loose row inner next h w =
@@ -280,7 +280,7 @@ possible_by false k last nodes place e loose b r ds apart is flat own h first =
     let a : List (ℕ × Item) = at_depth (suc k) (as_title b.items) in
     let c : List (ℕ × Item) = items_of (suc k) (not now) ds.items in
     let f : List (ℕ × Item) = items_of k false ds.beside in
-    let joins : is_list_of (DefinitionsTo e) (ADefinitionList (if ds.apart then Apart else WithTitle) ds.«end») ≡ true = apart_by ds.apart ∙ ap not apart in
+    let joins : continues_list (DefinitionsTo e) (ADefinitionList (if ds.apart then Apart else WithTitle) ds.«end») ≡ true = apart_by ds.apart ∙ ap not apart in
     let taken : title_taken (nodes ++ at_depth (suc k) (as_possible b.items)) (length nodes) ≡ nodes ++ a = taken-mid (suc k) nodes b.items is in
     rw joins
     (ap (λ z. list ++ z) (append_assoc a c f)
@@ -329,11 +329,11 @@ abbrev pub BeginsOther : Rows → Type 0
 BeginsOther End = Unit {0}
 BeginsOther (OneOf row inner next) = is_untitled row.what ≡ false
 
-apart_alone : (t : Bool) (row : Row) (inner : Rows) (o : Option Definitions)
+only_apart : (t : Bool) (row : Row) (inner : Rows) (o : Option Definitions)
     → not_apart (if t then option_map (apart_after row inner) o else None) ≡ None
-apart_alone true row inner None = refl
-apart_alone true row inner (Some ds) = refl
-apart_alone false row inner o = refl
+only_apart true row inner None = refl
+only_apart true row inner (Some ds) = refl
+only_apart false row inner o = refl
 
 begins_apart : (r : Rows) → BeginsOther r → not_apart (definitions_first r) ≡ None
 unfolding definitions_first
@@ -341,7 +341,7 @@ begins_apart End h = refl
 begins_apart (OneOf row inner next) h =
     let further : Option Definitions =
     if is_run_row row.what then option_map (apart_after row inner) (definitions_first next) else None in
-    ap (λ t. not_apart (if t then definitions_of_row row inner next else further)) h ∙ apart_alone (is_run_row row.what) row inner (definitions_first next)
+    ap (λ t. not_apart (if t then definitions_of_row row inner next else further)) h ∙ only_apart (is_run_row row.what) row inner (definitions_first next)
 
 pub title_stays : (k last : ℕ) (nodes : List (ℕ × Item)) (place at e : ℕ) (loose : Bool) (r : Rows) → BeginsOther r
     → rendered k last nodes (OneTitle place at e loose) r

@@ -29,11 +29,11 @@ use Rattle.first_pass_grammar.specs.CodeBlocks.{code_place, code_by, code_lines,
 use Rattle.first_pass_grammar.specs.CodeBlocks.{metadata_kind, IsMetadata, fenced_lines, info_string, IsFencedCode}
 use Rattle.first_pass_grammar.specs.HtmlBlocks.{until_end, until_blank, first_owing, IsHtml}
 use Rattle.first_pass_grammar.specs.LinkTables.{LinkEntry}
-use Rattle.first_pass_grammar.specs.LinkRuns.{definition_at, kind_in, Beyond, Ended, FlowsOn}
+use Rattle.first_pass_grammar.specs.LinkRuns.{link_definition_at, kind_in, Beyond, Ended, FlowsOn}
 use Rattle.first_pass_exists.proofs.RunsFound.{left_beyond, run_found}
 use Rattle.first_pass_grammar.specs.Extents.{Extent, Verdict, GoesOn, IsLast, Closes, Stops, extent_by, extent}
 use Rattle.first_pass_grammar.specs.Blocks.{Leaf, Block, leaf_block, run_block, flowing_block, BlankLine}
-use Rattle.first_pass_grammar.specs.Skeleton.{OpensBeyond, OpensRun, From, Line, Blanks, At, blanks_alone, Opening, OpensLeaf, OpensNode, OpensText}
+use Rattle.first_pass_grammar.specs.Skeleton.{OpensBeyond, OpensRun, From, Line, Blanks, At, only_blanks, Opening, OpensLeaf, OpensNode, OpensText}
 use Rattle.first_pass_grammar.specs.Skeleton.{OpensExtent, OpensAs, OpensBlockAt}
 use Rattle.first_pass_exists.proofs.Found.{Found, named_info, raw_lines_found}
 use Rattle.first_pass_grammar.proofs.MoreNames.{extends_none, extends_both}
@@ -140,7 +140,7 @@ IsShorter most lines there left = (length left ≤ length lines) × ((reach ther
 
 -- After a leaf, and inside a container, less of the text is left. After a leaf, more than blank lines may follow.
 abbrev pub Shrinks : ℕ → List Place → Opening → Type 0
-Shrinks most lines (OpensLeaf leaf there left) = IsShorter most lines there left × (blanks_alone there ≡ None)
+Shrinks most lines (OpensLeaf leaf there left) = IsShorter most lines there left × (only_blanks there ≡ None)
 Shrinks most lines (OpensNode head inside following) = IsShorter most lines inside following
 
 at_next_line : (most : ℕ) (lines : List Place) (leaf : Leaf) (left : List Place) → length left ≤ length lines → Shrinks most lines (OpensLeaf leaf Line left)
@@ -155,13 +155,13 @@ pub record Leads (names : Names) (most : ℕ) (lines : List Place) (Are : Names 
   pub shrinks : Shrinks most lines opening
 
 -- an opening that needs no more names; the same for a leaf; and an opening that also has another property
-pub leads_alone : {names : Names} {most : ℕ} {lines : List Place} {Are : Names → Opening → Type 0} (o : Opening) → ((later : Names) → Are later o)
+pub only_leads : {names : Names} {most : ℕ} {lines : List Place} {Are : Names → Opening → Type 0} (o : Opening) → ((later : Names) → Are later o)
     → Shrinks most lines o → Leads names most lines Are
-leads_alone {names} o opens shrinks = record { opening = o; more = names; extends = extends_none names; opens = λ later x. opens later; shrinks = shrinks }
+only_leads {names} o opens shrinks = record { opening = o; more = names; extends = extends_none names; opens = λ later x. opens later; shrinks = shrinks }
 
 pub leads_leaf : {names : Names} {most : ℕ} {lines : List Place} {Are : Names → Opening → Type 0} (leaf : Leaf) (left : List Place)
     → ((later : Names) → Are later (OpensLeaf leaf Line left)) → length left ≤ length lines → Leads names most lines Are
-leads_leaf {names} {most} {lines} leaf left opens less = leads_alone (OpensLeaf leaf Line left) opens (at_next_line most lines leaf left less)
+leads_leaf {names} {most} {lines} leaf left opens less = only_leads (OpensLeaf leaf Line left) opens (at_next_line most lines leaf left less)
 
 pub leads_also : {names : Names} {most : ℕ} {lines : List Place} {Are Also : Names → Opening → Type 0} → Leads names most lines Are
     → ((later : Names) (o : Opening) → Are later o → Also later o) → Leads names most lines Also
@@ -352,7 +352,7 @@ ends_text bs true = tt
 ends_text bs false = tt
 
 ends_in : (c : Context) (p : Place) (bs : List ℕ) (kind : Kind) → HasEnd bs kind → HasEnd bs (kind_in c p kind)
-ends_in c p bs Paragraph ends = ends_text bs (is_some (definition_at c (unindented p)))
+ends_in c p bs Paragraph ends = ends_text bs (is_some (link_definition_at c (unindented p)))
 ends_in c p bs kind ends = ends
 
 -- what opens where no container may begin

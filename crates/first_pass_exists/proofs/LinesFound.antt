@@ -9,7 +9,7 @@ use Rattle.first_pass_tokens.specs.Pieces.{Inline}
 use Rattle.first_pass_tokens.proofs.LineFound.{line_found}
 use Rattle.first_pass_tokens.specs.Chains.{add_tokens, close_break}
 use Rattle.first_pass_tokens.specs.Braces.{MathBraces}
-use Rattle.first_pass_tokens.specs.LineTokens.{Spot, spot, IsLine}
+use Rattle.first_pass_tokens.specs.LineTokens.{Spot, spot, AreLineTokens}
 use Rattle.first_pass_grammar.specs.declared.kind.Container.{Container}
 use Rattle.first_pass_grammar.specs.Names.{Names, Extends}
 use Rattle.first_pass_grammar.specs.Containers.{context, at_rest, front}
@@ -35,7 +35,7 @@ source_at text options p = record { options = options; whole = text; text = text
 
 lines_by : (names mid : Names) (text : List ℕ) (options : Options) (path : List Container) (p : Spot) (chain tokens : List Item)
     (answer : ℕ × Option Item) (after : MathBraces) (line : Place) (lines : List Place) (t : Bool) → Extends mid names
-    → ends_text (context options path) line.rest ≡ t → IsLine mid.texts (source_at text options p) tokens answer after
+    → ends_text (context options path) line.rest ≡ t → AreLineTokens mid.texts (source_at text options p) tokens answer after
     → LinesFrom mid text options path (spot (offset (unindented (at_rest line (front path line.rest)))) after) (add_break answer.1 (add_tokens chain tokens))
     lines
     → LinesFrom names text options path p chain (line ∷ lines)

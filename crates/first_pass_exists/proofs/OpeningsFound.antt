@@ -30,14 +30,14 @@ use Rattle.first_pass_grammar.specs.Containers.{Context, context, at_rest, prefi
 use Rattle.first_pass_grammar.specs.Kinds.{Paragraph, all_taken, unindented, is_blank_rest, item_at, ends_tag, definition_marker_at}
 use Rattle.first_pass_grammar.specs.Leaves.{Document, document}
 use Rattle.first_pass_grammar.specs.Blocks.{leaf_block, FootnoteMarker, Head}
-use Rattle.first_pass_grammar.specs.Skeleton.{From, Line, At, May, Anything, ALeafAlone, TextOf, MarkAlone, Inside, after_marker, Opening, OpensNode}
-use Rattle.first_pass_grammar.specs.Skeleton.{next_is_blank, task_alone}
+use Rattle.first_pass_grammar.specs.Skeleton.{From, Line, At, Allowed, Anything, OnlyALeaf, TextOf, OnlyMark, Inside, after_marker, Opening, OpensNode}
+use Rattle.first_pass_grammar.specs.Skeleton.{next_is_blank, only_task}
 use Rattle.first_pass_grammar.specs.Openers.{task_by, task_after}
 use Rattle.first_pass_grammar.specs.Skeleton.{after_tag, Opens, OpensIf, Level, may_define}
-use Rattle.first_pass_exists.proofs.KindsFound.{IsShorter, leads_alone, leads_leaf, reach, Shrinks, Leads, leads_text, leads_block}
+use Rattle.first_pass_exists.proofs.KindsFound.{IsShorter, only_leads, leads_leaf, reach, Shrinks, Leads, leads_text, leads_block}
 use Rattle.first_pass_grammar.specs.Openers.{Start, start_at}
 use Rattle.first_pass_grammar.specs.declared.kind.AfterMarker.{AfterMarker}
-use Rattle.first_pass_grammar.specs.declared.kind.AfterMarker.TheVariants.{OnLine, TaskText, LineEnds, TagAlone}
+use Rattle.first_pass_grammar.specs.declared.kind.AfterMarker.TheVariants.{OnLine, TaskText, LineEnds, OnlyTag}
 use Rattle.first_pass_grammar.specs.Skeleton.{OpensBy, OpensFootnote, footnote_opening, opening_by, opening_of, without_indent}
 use Rattle.first_pass_grammar.specs.Blocks.{opened}
 use Rattle.first_pass_grammar.proofs.OpenerFacts.{start_cases}
@@ -122,7 +122,7 @@ marker_reach : (blanks : Option ℕ) → reach (after_marker blanks) ≤ 0
 marker_reach None = omega arith
 marker_reach (Some e) = omega arith
 
-alone_reach : (marker : Option Item) (p : Place) (blanks : Option ℕ) → reach (task_alone marker p blanks) ≤ suc (length p.rest.left)
+alone_reach : (marker : Option Item) (p : Place) (blanks : Option ℕ) → reach (only_task marker p blanks) ≤ suc (length p.rest.left)
 alone_reach None p blanks = let none = marker_reach blanks in omega arith
 alone_reach (Some marker) p blanks = omega arith
 
@@ -139,7 +139,7 @@ abbrev IsPast : ℕ → List Place → From × List Place → Type 0
 IsPast most lines (inside, following) = IsShorter most lines inside following
 
 tag_shrinks_by : (most : ℕ) (line p : Place) (lines : List Place) (t : Bool)
-    → IsPast most (line ∷ lines) (if◌then◌else◌ {A = From × List Place} t (Line, line ∷ lines) (At p ALeafAlone, lines))
+    → IsPast most (line ∷ lines) (if◌then◌else◌ {A = From × List Place} t (Line, line ∷ lines) (At p OnlyALeaf, lines))
 tag_shrinks_by most line p lines true = (omega arith, inl (omega arith))
 tag_shrinks_by most line p lines false = (omega arith, inr (omega arith))
 
@@ -156,9 +156,9 @@ start_shrinks d most path head inside lines (LineEnds marker) h =
     let alone = alone_reach marker inside blanks in
     let next = alone_reach marker inside None in
     either_shrinks most lines (next_is_blank (opened head.opener ∷ path) lines) _ _
-    (node_shrinks most lines (record head { opener = without_indent head.opener }) (task_alone marker inside blanks) (omega arith))
-    (node_shrinks most lines head (task_alone marker inside None) (omega arith))
-start_shrinks d most path head inside lines TagAlone h = tag_shrinks most (around d (opened head.opener ∷ path)) lines
+    (node_shrinks most lines (record head { opener = without_indent head.opener }) (only_task marker inside blanks) (omega arith))
+    (node_shrinks most lines head (only_task marker inside None) (omega arith))
+start_shrinks d most path head inside lines OnlyTag h = tag_shrinks most (around d (opened head.opener ∷ path)) lines
 
 -- what opens at a place
 leads_by : (text : List ℕ) (options : Options) (names : Names) (path : List Container) (p : Place) (lines : List Place) (o : Option Start)
@@ -169,7 +169,7 @@ leads_by text options names path p lines None less = leads_block text options na
 leads_by text options names path p lines (Some s) less =
     let d : Document = document text options names in
     let shorter = less s refl in
-    leads_alone (opening_of d path p lines s) (λ later. refl)
+    only_leads (opening_of d path p lines s) (λ later. refl)
     (start_shrinks d (length p.rest.left) path s.head (at_rest p s.rest) lines s.after (omega arith))
 
 -- a footnote definition: less of the text is left after its head
@@ -213,15 +213,15 @@ head_shorter c p head h =
 after_if : (most : ℕ) (t : Bool) (q line : Place) (following lines : List Place) → suc (length q.rest.left) ≤ most → length (line ∷ following) ≤ length lines
     → (let there : Place × List Place = if◌then◌else◌ {A = Place × List Place} t (line, following) (q, line ∷ following) in
     IsShorter most lines (Inside there.0) there.1)
-after_if most true q line following lines less few = (omega arith, inr (omega arith))
-after_if most false q line following lines less few = (few, inl less)
+after_if most true q line following lines less node_bound = (omega arith, inr (omega arith))
+after_if most false q line following lines less node_bound = (node_bound, inl less)
 
 after_shorter : (most : ℕ) (gfm : Bool) (q : Place) (following lines : List Place) → suc (length q.rest.left) ≤ most → length following ≤ length lines
     → IsShorter most lines (Inside (past_head gfm q following).0) (past_head gfm q following).1
-after_shorter most true q following lines less few =
-    let n = length-drop (prefix_len is_white q.rest.left) q.rest.left in (few, inl (omega arith))
-after_shorter most false q [] lines less few = (few, inl less)
-after_shorter most false q (line ∷ following) lines less few = after_if most (is_blank_rest q.rest) q line following lines less few
+after_shorter most true q following lines less node_bound =
+    let n = length-drop (prefix_len is_white q.rest.left) q.rest.left in (node_bound, inl (omega arith))
+after_shorter most false q [] lines less node_bound = (node_bound, inl less)
+after_shorter most false q (line ∷ following) lines less node_bound = after_if most (is_blank_rest q.rest) q line following lines less node_bound
 
 leads_footnote : (text : List ℕ) (options : Options) (names : Names) (most : ℕ) (p : Place) (lines : List Place) (head : ℕ × List ℕ)
     → length (drop head.0 (unindented p).rest.left) < most
@@ -254,10 +254,10 @@ pub leads_any : (text : List ℕ) (options : Options) (names : Names) (l : Level
 leads_any text options names l p lines =
     leads_head text options names l p lines (footnote_head_at (context options l.path) p) (head_shorter (context options l.path) p)
 
-pub leads_if : (text : List ℕ) (options : Options) (names : Names) (l : Level) (may : May) (p : Place) (lines : List Place)
+pub leads_if : (text : List ℕ) (options : Options) (names : Names) (l : Level) (may : Allowed) (p : Place) (lines : List Place)
     → Leads names (length p.rest.left) lines (λ later x. OpensIf (document text options later) l may p lines x)
 leads_if text options names l Anything p lines = leads_any text options names l p lines
-leads_if text options names l ALeafAlone p lines = leads_block text options names (length p.rest.left) l.path p lines
+leads_if text options names l OnlyALeaf p lines = leads_block text options names (length p.rest.left) l.path p lines
 leads_if text options names l (TextOf marker) p lines = leads_text text options names (length p.rest.left) l.path p lines (Some marker)
-leads_if text options names l (MarkAlone marker blanks) p lines =
+leads_if text options names l (OnlyMark marker blanks) p lines =
     leads_leaf (leaf_block Paragraph p ((0, marker) ∷ []) false) lines (λ later. refl) (omega arith)

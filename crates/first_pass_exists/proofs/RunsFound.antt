@@ -6,7 +6,7 @@ use Rattle.first_pass_lines.specs.Places.{Place}
 use Rattle.first_pass_grammar.specs.Containers.{Context, at_rest, front}
 use Rattle.first_pass_grammar.specs.Kinds.{unindented}
 use Rattle.first_pass_grammar.specs.LinkTables.{LinkEntry}
-use Rattle.first_pass_grammar.specs.LinkRuns.{definition_at, lines_beyond, ends_run, Beyond, Ended, FlowsOn, IsRun}
+use Rattle.first_pass_grammar.specs.LinkRuns.{link_definition_at, lines_beyond, ends_run, Beyond, Ended, FlowsOn, IsRun}
 
 shorter_by : (e : ℕ) (line : Place) (lines : List Place) (t : Bool)
     → length (lines_beyond e lines) ≤ length lines → length (if t then lines_beyond e lines else line ∷ lines) ≤ length (line ∷ lines)
@@ -30,7 +30,7 @@ pub record RunFound (around : Context) (p : Place) (lines : List Place) : Type 0
   pub shorter : length (left_beyond beyond) ≤ length lines
 
 further_by : (around : Context) (p : Place) (lines rest : List Place) (x : LinkEntry) (t : Bool)
-    → definition_at around p ≡ Some x → lines_beyond x.«end» lines ≡ rest → ends_run around rest ≡ t → length rest ≤ length lines
+    → link_definition_at around p ≡ Some x → lines_beyond x.«end» lines ≡ rest → ends_run around rest ≡ t → length rest ≤ length lines
     → ((q : Place) (left : List Place) → suc (length left) ≤ length lines → RunFound around q left) → RunFound around p lines
 unfolding IsRun
 further_by around p lines rest x true here is ends less further = record {
@@ -50,7 +50,7 @@ further_by around p lines (line ∷ left) x false here is ends less further =
       shorter = omega arith;
     }
 
-found_by : (around : Context) (p : Place) (lines : List Place) (o : Option LinkEntry) → definition_at around p ≡ o
+found_by : (around : Context) (p : Place) (lines : List Place) (o : Option LinkEntry) → link_definition_at around p ≡ o
     → ((q : Place) (left : List Place) → suc (length left) ≤ length lines → RunFound around q left) → RunFound around p lines
 unfolding IsRun
 found_by around p lines None is further = record { definitions = []; beyond = FlowsOn p lines; run = (is, refl); shorter = omega arith }
@@ -58,8 +58,8 @@ found_by around p lines (Some x) is further =
     further_by around p lines (lines_beyond x.«end» lines) x (ends_run around (lines_beyond x.«end» lines)) is refl refl (beyond_shorter x.«end» lines) further
 
 run_within : (fuel : ℕ) (around : Context) (p : Place) (lines : List Place) → length lines ≤ fuel → RunFound around p lines
-run_within zero around p lines few = found_by around p lines (definition_at around p) refl (λ q left less. absurd (omega arith))
-run_within (suc fuel) around p lines few = found_by around p lines (definition_at around p) refl (λ q left less. run_within fuel around q left (omega arith))
+run_within zero around p lines node_bound = found_by around p lines (link_definition_at around p) refl (λ q left less. absurd (omega arith))
+run_within (suc fuel) around p lines node_bound = found_by around p lines (link_definition_at around p) refl (λ q left less. run_within fuel around q left (omega arith))
 
 pub run_found : (around : Context) (p : Place) (lines : List Place) → RunFound around p lines
 run_found around p lines = run_within (length lines) around p lines (omega arith)

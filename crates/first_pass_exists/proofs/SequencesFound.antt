@@ -6,10 +6,10 @@ use Rattle.first_pass_grammar.specs.declared.kind.Container.{Container}
 use Rattle.first_pass_grammar.specs.Names.{Names, Extends}
 use Rattle.first_pass_grammar.specs.Leaves.{document}
 use Rattle.first_pass_grammar.specs.Blocks.{Leaf, Head, opened, Skeleton, Nil, Then, Node}
-use Rattle.first_pass_grammar.specs.Skeleton.{From, Line, Blanks, At, Anything, ALeafAlone, TextOf, MarkAlone, Opening, OpensLeaf, OpensNode, OpensAt}
+use Rattle.first_pass_grammar.specs.Skeleton.{From, Line, Blanks, At, Anything, OnlyALeaf, TextOf, OnlyMark, Opening, OpensLeaf, OpensNode, OpensAt}
 use Rattle.first_pass_grammar.specs.Skeleton.{Level, level, level_in, level_after_leaf, level_after, Left, Lines, InLine, NextBlock, Begins, Ends}
 use Rattle.first_pass_grammar.specs.Skeleton.{next_block, onward}
-use Rattle.first_pass_grammar.specs.Skeleton.{after_first, blanks_alone, end_before, IsFirst, IsSequence}
+use Rattle.first_pass_grammar.specs.Skeleton.{after_first, only_blanks, end_before, IsFirst, IsSequence}
 use Rattle.first_pass_grammar.proofs.Goings.{BeginsAt, LeavesAt, begins_at, leaves_at, all_taken_at}
 use Rattle.first_pass_grammar.proofs.MoreNames.{extends_none, extends_both}
 use Rattle.first_pass_exists.proofs.KindsFound.{reach, IsShorter, Shrinks, Leads, leads_also}
@@ -28,28 +28,28 @@ pub record SequenceFrom (text : List ℕ) (options : Options) (names : Names) (l
   pub extends : Extends more names
   pub is : (later : Names) → Extends later more → IsSequence (document text options later) blocks l from lines left
   pub shorter : IsNoMore from lines left
-  pub ends : l.path ≡ [] → blanks_alone from ≡ None → left ≡ Lines []
+  pub ends : l.path ≡ [] → only_blanks from ≡ None → left ≡ Lines []
 
 -- where blocks continue after a first block
 reach_after : (from there : From) → reach (after_first from there) ≤ reach there
 reach_after Line there = omega arith
 reach_after (Blanks e) there = omega arith
 reach_after (At p Anything) there = omega arith
-reach_after (At p ALeafAlone) there = omega arith
+reach_after (At p OnlyALeaf) there = omega arith
 reach_after (At p (TextOf marker)) there = omega arith
-reach_after (At p (MarkAlone marker None)) there = omega arith
-reach_after (At p (MarkAlone marker (Some e))) there = omega arith
+reach_after (At p (OnlyMark marker None)) there = omega arith
+reach_after (At p (OnlyMark marker (Some e))) there = omega arith
 
-alone_after : (from there : From) → blanks_alone from ≡ None → blanks_alone there ≡ None → blanks_alone (after_first from there) ≡ None
+alone_after : (from there : From) → only_blanks from ≡ None → only_blanks there ≡ None → only_blanks (after_first from there) ≡ None
 alone_after Line there h k = k
 alone_after (Blanks e) there h k = h
 alone_after (At p Anything) there h k = k
-alone_after (At p ALeafAlone) there h k = k
+alone_after (At p OnlyALeaf) there h k = k
 alone_after (At p (TextOf marker)) there h k = k
-alone_after (At p (MarkAlone marker None)) there h k = refl
-alone_after (At p (MarkAlone marker (Some e))) there h k = h
+alone_after (At p (OnlyMark marker None)) there h k = refl
+alone_after (At p (OnlyMark marker (Some e))) there h k = h
 
-alone_onward : (left : Left) → blanks_alone (onward left).0 ≡ None
+alone_onward : (left : Left) → only_blanks (onward left).0 ≡ None
 alone_onward (Lines lines) = refl
 alone_onward (InLine p lines) = refl
 
@@ -197,16 +197,16 @@ module _ (text : List ℕ) (options : Options) where
   others_at : (n k : ℕ) (path : List Container) (from : From) (lines following : List Place) (p : Place) → BeginsAt path from lines p following
       → length lines ≤ n → reach from ≤ k → Fewer n → Nearer n k → Others (length p.rest.left) following
   others_at n k path Line [] following p begins within near fewer nearer names l there left less = absurd begins
-  others_at n k path Line (line ∷ lines) following p (is, same) within near fewer nearer names l there left (few, less) =
+  others_at n k path Line (line ∷ lines) following p (is, same) within near fewer nearer names l there left (node_bound, less) =
       let m = ap length same in fewer names l there left (omega arith)
   others_at n k path (Blanks e) [] following p begins within near fewer nearer names l there left less = absurd begins
-  others_at n k path (Blanks e) (line ∷ lines) following p (is, same) within near fewer nearer names l there left (few, less) =
+  others_at n k path (Blanks e) (line ∷ lines) following p (is, same) within near fewer nearer names l there left (node_bound, less) =
       let m = ap length same in fewer names l there left (omega arith)
-  others_at n k path (At q may) lines following p (is, same) within near fewer nearer names l there left (few, inl less) =
+  others_at n k path (At q may) lines following p (is, same) within near fewer nearer names l there left (node_bound, inl less) =
       let m = ap length same in
       let r = ap (λ (z : Place). length z.rest.left) is in
       nearer names l there left (omega arith) (omega arith)
-  others_at n k path (At q may) lines following p (is, same) within near fewer nearer names l there left (few, inr fewest) =
+  others_at n k path (At q may) lines following p (is, same) within near fewer nearer names l there left (node_bound, inr fewest) =
       let m = ap length same in fewer names l there left (omega arith)
 
   goes : (n k : ℕ) (names : Names) (l : Level) (from : From) (lines : List Place) (g : NextBlock) → next_block options l from lines ≡ g

@@ -16,7 +16,7 @@ use Rattle.first_pass_lines.specs.Lines.{is_line_end, begins, eol_len}
 use Rattle.first_pass_lines.specs.Places.{Place, offset, start_of}
 use Rattle.first_pass_tokens.specs.Pieces.{Inline}
 use Rattle.first_pass_tokens.specs.Braces.{MathBraces, no_braces}
-use Rattle.first_pass_tokens.specs.LineTokens.{Spot, spot, ends_at, IsCell}
+use Rattle.first_pass_tokens.specs.LineTokens.{Spot, spot, content_ends_at, IsCell}
 use Rattle.first_pass_tokens.proofs.LineFound.{cell_found}
 use Rattle.first_pass_tokens.proofs.LineLemmas.{cell_ends}
 use Rattle.first_pass_grammar.specs.declared.kind.Container.{Container}
@@ -66,8 +66,8 @@ none_of false false true false h k l = refl
 none_of false false false false h k l = refl
 
 goes_on_at : (text : List ℕ) (options : Options) (p : Spot) → p.at < length text → is_line_end (slice_index text p.at) ≡ false
-    → (slice_index text p.at == pipe) ≡ false → ends_at (cell_source text options p) p.at ≡ false
-unfolding ends_at cell_source
+    → (slice_index text p.at == pipe) ≡ false → content_ends_at (cell_source text options p) p.at ≡ false
+unfolding content_ends_at cell_source
 goes_on_at text options p within line other =
     none_of (nat_le (length text) p.at) (is_line_end (slice_index text p.at)) (has options tables) (slice_index text p.at == pipe)
     (lt-leb (length text) p.at within) line other

@@ -24,7 +24,7 @@ use Rattle.first_pass_items.specs.declared.item.ItemBody.TheVariants.{MaybeMath,
 use Rattle.first_pass_items.specs.declared.item.ItemBody.TheVariants.{MaybeImage, Html, SynthesizeText, SynthesizeChar, TaskListMarker}
 use Rattle.first_pass_lines.specs.Lines.{level_number}
 use Rattle.first_pass_attributes.specs.Attributes.{Attributes, no_attributes}
-use Rattle.first_pass_grammar.specs.Names.{Names, Named, AText, Alignments, OfHeading, NamesEntry, index_of, kind_alone, named}
+use Rattle.first_pass_grammar.specs.Names.{Names, Named, AText, Alignments, OfHeading, NamesEntry, index_of, only_kind, named}
 use Rattle.first_pass_flat.specs.Kinds.{kind_number, values_of, flag, quote_number, metadata_number, alignment_byte}
 use Rattle.first_pass_flat.specs.FlatAttributes.{OneAttribute, class_attribute, key_attribute, listed, attributes_of}
 use Rattle.first_pass_flat.specs.FlatNodes.{name_of, named_length}
@@ -110,7 +110,7 @@ body_from kind v = get_or (bodies v) kind Root
 two : {A B C : Type 0} (f : A → B → C) (a a' : A) (b b' : B) → a ≡ a' → b ≡ b' → f a b ≡ f a' b'
 two f a a' b b' e g = ap (λ x. f x b) e ∙ ap (λ y. f a' y) g
 
-pub body_kept : (body : ItemBody) → body_from (kind_number body) (values_of body) ≡ kind_alone body
+pub body_kept : (body : ItemBody) → body_from (kind_number body) (values_of body) ≡ only_kind body
 unfolding body_from bodies
 body_kept (Heading level ix) = two Heading _ _ _ _ (level_kept level) (index_kept ix)
 body_kept (BlockQuote kind) = ap BlockQuote (quote_kept kind)

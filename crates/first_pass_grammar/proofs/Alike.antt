@@ -19,16 +19,16 @@ use Rattle.first_pass_tokens.specs.TreeTokens.{leaves}
 use Rattle.first_pass_tokens.specs.Chains.{touches, add_token, add_tokens}
 use Rattle.first_pass_grammar.specs.Footnotes.{NamesLabel}
 use Rattle.first_pass_grammar.specs.Names.{Names, NamesText, NamesAlignments, NamesAttributes, TextAt, AlignmentsAt, AttributesAt, Named, AText, Alignments}
-use Rattle.first_pass_grammar.specs.Names.{OfHeading, index_of, kind_alone, named, read, read_nodes}
+use Rattle.first_pass_grammar.specs.Names.{OfHeading, index_of, only_kind, named, read, read_nodes}
 use Rattle.first_pass_grammar.specs.Leaves.{Document, document, block_with}
 use Rattle.first_pass_grammar.specs.RawLines.{AreColumns, Ranges, range_text, range_html, raw_items, AreRawLines, spaces}
 use Rattle.first_pass_grammar.specs.Blocks.{LeafBlock, Leaf, BlankLine, Block, Opener, QuoteMarker, ItemMarker, FootnoteMarker, DefinitionMarker, label_of}
 use Rattle.first_pass_grammar.specs.Blocks.{Head, opened}
 use Rattle.first_pass_grammar.specs.Blocks.{Skeleton, Nil, Then, Node}
-use Rattle.first_pass_grammar.specs.Skeleton.{From, Line, Blanks, At, Anything, ALeafAlone, TextOf, MarkAlone, Opening, OpensLeaf, OpensNode}
+use Rattle.first_pass_grammar.specs.Skeleton.{From, Line, Blanks, At, Anything, OnlyALeaf, TextOf, OnlyMark, Opening, OpensLeaf, OpensNode}
 use Rattle.first_pass_grammar.specs.Kinds.{Kind}
 use Rattle.first_pass_grammar.specs.Derivation.{node_of}
-use Rattle.first_pass_grammar.proofs.NoIndex.{IsWithoutIndex, HasNoIndex, HaveNoIndex, read_alone}
+use Rattle.first_pass_grammar.proofs.NoIndex.{IsWithoutIndex, HasNoIndex, HaveNoIndex, only_read}
 use Rattle.first_pass_grammar.proofs.EachToken.{range_text_each, raw_each}
 
 -- the same document with other names for the indices
@@ -58,19 +58,19 @@ abbrev pub HoldsNoIndex : From → Type 0
 HoldsNoIndex Line = Unit {0}
 HoldsNoIndex (Blanks e) = Unit {0}
 HoldsNoIndex (At p Anything) = Unit {0}
-HoldsNoIndex (At p ALeafAlone) = Unit {0}
+HoldsNoIndex (At p OnlyALeaf) = Unit {0}
 HoldsNoIndex (At p (TextOf marker)) = HasNoIndex marker
-HoldsNoIndex (At p (MarkAlone marker blanks)) = HasNoIndex marker
+HoldsNoIndex (At p (OnlyMark marker blanks)) = HasNoIndex marker
 
 -- an opener with the index of its label replaced by 0
-abbrev pub opener_alone : Opener → Opener
-opener_alone (QuoteMarker kind) = QuoteMarker kind
-opener_alone (ItemMarker byte number columns) = ItemMarker byte number columns
-opener_alone (FootnoteMarker columns index label) = FootnoteMarker columns (record { 0 = 0 }) label
-opener_alone (DefinitionMarker columns) = DefinitionMarker columns
+abbrev pub only_opener : Opener → Opener
+only_opener (QuoteMarker kind) = QuoteMarker kind
+only_opener (ItemMarker byte number columns) = ItemMarker byte number columns
+only_opener (FootnoteMarker columns index label) = FootnoteMarker columns (record { 0 = 0 }) label
+only_opener (DefinitionMarker columns) = DefinitionMarker columns
 
-abbrev pub head_alone : Head → Head
-head_alone head = record { opener = opener_alone head.opener; line = head.line; start = head.start }
+abbrev pub only_head : Head → Head
+only_head head = record { opener = only_opener head.opener; line = head.line; start = head.start }
 
 -- a node with the index of the container's label, if it has one
 abbrev pub label_node : Opener → List (ℕ × Item)
@@ -81,25 +81,25 @@ label_node (DefinitionMarker columns) = []
 
 -- containers that begin alike: their labels, if they have any, are named by their indices
 abbrev pub AlikeHead : Names → Names → Head → Head → Type 0
-AlikeHead m n head head' = (head_alone head ≡ head_alone head') × AlikeNodes m n (label_node head.opener) (label_node head'.opener)
+AlikeHead m n head head' = (only_head head ≡ only_head head') × AlikeNodes m n (label_node head.opener) (label_node head'.opener)
 
-opened_alone : (o : Opener) → opened (opener_alone o) ≡ opened o
-opened_alone (QuoteMarker kind) = refl
-opened_alone (ItemMarker byte number columns) = refl
-opened_alone (FootnoteMarker columns index label) = refl
-opened_alone (DefinitionMarker columns) = refl
+only_opened : (o : Opener) → opened (only_opener o) ≡ opened o
+only_opened (QuoteMarker kind) = refl
+only_opened (ItemMarker byte number columns) = refl
+only_opened (FootnoteMarker columns index label) = refl
+only_opened (DefinitionMarker columns) = refl
 
-pub opened_alike : (head head' : Head) → head_alone head ≡ head_alone head' → opened head.opener ≡ opened head'.opener
-opened_alike head head' is = sym (opened_alone head.opener) ∙ ap (λ (h : Head). opened h.opener) is ∙ opened_alone head'.opener
+pub opened_alike : (head head' : Head) → only_head head ≡ only_head head' → opened head.opener ≡ opened head'.opener
+opened_alike head head' is = sym (only_opened head.opener) ∙ ap (λ (h : Head). opened h.opener) is ∙ only_opened head'.opener
 
-label_alone : (o : Opener) → label_of (opener_alone o) ≡ label_of o
-label_alone (QuoteMarker kind) = refl
-label_alone (ItemMarker byte number columns) = refl
-label_alone (FootnoteMarker columns index label) = refl
-label_alone (DefinitionMarker columns) = refl
+only_label : (o : Opener) → label_of (only_opener o) ≡ label_of o
+only_label (QuoteMarker kind) = refl
+only_label (ItemMarker byte number columns) = refl
+only_label (FootnoteMarker columns index label) = refl
+only_label (DefinitionMarker columns) = refl
 
-pub label_alike : (head head' : Head) → head_alone head ≡ head_alone head' → label_of head.opener ≡ label_of head'.opener
-label_alike head head' is = sym (label_alone head.opener) ∙ ap (λ (h : Head). label_of h.opener) is ∙ label_alone head'.opener
+pub label_alike : (head head' : Head) → only_head head ≡ only_head head' → label_of head.opener ≡ label_of head'.opener
+label_alike head head' is = sym (only_label head.opener) ∙ ap (λ (h : Head). label_of h.opener) is ∙ only_label head'.opener
 
 abbrev pub AlikeOpening : Names → Names → Opening → Opening → Type 0
 AlikeOpening m n (OpensLeaf leaf there left) (OpensLeaf leaf' there' left') = AlikeLeaf m n leaf leaf' × (there ≡ there') × HoldsNoIndex there × (left ≡ left')
@@ -139,16 +139,16 @@ abbrev join_reads : List (Item × Option Named) → List (Item × Option Named) 
 join_reads chain [] = chain
 join_reads chain (x ∷ xs) = join_reads (join_read chain x) xs
 
-text_alone : (b : ItemBody) → is_text (kind_alone b) ≡ is_text b
-text_alone (SynthesizeText ix) = refl
-text_alone (FencedCodeBlock ix) = refl
-text_alone (FootnoteDefinition ix) = refl
-text_alone (Table ix) = refl
-text_alone (Heading level ix) = refl
-text_alone b = refl
+only_text : (b : ItemBody) → is_text (only_kind b) ≡ is_text b
+only_text (SynthesizeText ix) = refl
+only_text (FencedCodeBlock ix) = refl
+only_text (FootnoteDefinition ix) = refl
+only_text (Table ix) = refl
+only_text (Heading level ix) = refl
+only_text b = refl
 
 touches_read : (m : Names) (x y : Item) → touches (read m x).0 (read m y).0 ≡ touches x y
-touches_read m x y = rw (text_alone x.body, text_alone y.body) refl
+touches_read m x y = rw (only_text x.body, only_text y.body) refl
 
 read_joined : (m : Names) (t : Bool) (x y : Item)
     → map (read m) (if t then record x { «end» = y.«end» } ∷ [] else x ∷ y ∷ [])
@@ -189,11 +189,11 @@ named_attributes names (Some ix) None h = absurd h
 named_attributes names (Some ix) (Some attributes) h = rw h refl
 
 -- two headings have an index each if they have the same attributes, and none if they have none
-abbrev index_alone : Option HeadingIndex → Option HeadingIndex
-index_alone ix = option_map (λ (at : HeadingIndex). record { 0 = 0 }) ix
+abbrev only_index : Option HeadingIndex → Option HeadingIndex
+only_index ix = option_map (λ (at : HeadingIndex). record { 0 = 0 }) ix
 
 both_given : (m n : Names) (i j : Option HeadingIndex) (attributes : Option Attributes) → NamesAttributes m i attributes → NamesAttributes n j attributes
-    → index_alone i ≡ index_alone j
+    → only_index i ≡ only_index j
 both_given m n None None None h k = refl
 both_given m n None None (Some attributes) h k = refl
 both_given m n None (Some j) None h k = absurd k
@@ -203,7 +203,7 @@ both_given m n (Some i) None (Some attributes) h k = absurd k
 both_given m n (Some i) (Some j) attributes h k = refl
 
 -- Items that differ only in their indices read alike if these name the same.
-indexed_alike : (m n : Names) (start «end» : ℕ) (body body' : ItemBody) → kind_alone body ≡ kind_alone body'
+indexed_alike : (m n : Names) (start «end» : ℕ) (body body' : ItemBody) → only_kind body ≡ only_kind body'
     → option_and_then (named m) (index_of body) ≡ option_and_then (named n) (index_of body')
     → read m (node_of start «end» body) ≡ read n (node_of start «end» body')
 indexed_alike m n start end body body' h k = λ i. (node_of start end (h i), k i)
@@ -232,7 +232,7 @@ line_alike : (m n : Names) (owed at : ℕ) (more xs ys : List Item) → HaveNoIn
     → (columns : List Item) × AreColumns m owed at columns × (xs ≡ columns ++ more)
     → (columns : List Item) × AreColumns n owed at columns × (ys ≡ columns ++ more) → AlikeChains m n xs ys
 line_alike m n owed at more xs ys free (c, h, e) (c', k, f) =
-    ap (map (read m)) e ∙ chains_append m n c c' more more (columns_alike m n owed at c c' h k) (read_alone m n more free) ∙ sym (ap (map (read n)) f)
+    ap (map (read m)) e ∙ chains_append m n c c' more more (columns_alike m n owed at c c' h k) (only_read m n more free) ∙ sym (ap (map (read n)) f)
 
 pub raw_alike : (range : Ranges) → AreFree range → (d : Document) (n : Names) (chain chain' : List Item) (places : List Place) (w w' : List Item)
     → AlikeChains d.names n chain chain' → AreRawLines range d chain places w → AreRawLines range (with_names d n) chain' places w' → AlikeChains d.names n w w'
@@ -282,14 +282,14 @@ heading_alike m n start end level i j attributes h k =
     (named_attributes m i attributes h ∙ sym (named_attributes n j attributes k))
 
 -- Tightening a paragraph does not change an item's index.
-tight_alone : (b : ItemBody) → kind_alone (tight_body b) ≡ tight_body (kind_alone b)
-tight_alone Paragraph = refl
-tight_alone (SynthesizeText ix) = refl
-tight_alone (FencedCodeBlock ix) = refl
-tight_alone (FootnoteDefinition ix) = refl
-tight_alone (Table ix) = refl
-tight_alone (Heading level ix) = refl
-tight_alone b = refl
+only_tight : (b : ItemBody) → only_kind (tight_body b) ≡ tight_body (only_kind b)
+only_tight Paragraph = refl
+only_tight (SynthesizeText ix) = refl
+only_tight (FencedCodeBlock ix) = refl
+only_tight (FootnoteDefinition ix) = refl
+only_tight (Table ix) = refl
+only_tight (Heading level ix) = refl
+only_tight b = refl
 
 tight_index : (b : ItemBody) → index_of (tight_body b) ≡ index_of b
 tight_index Paragraph = refl
@@ -301,7 +301,7 @@ tight_read depth x = (x.0, if x.0 == depth then (node_of x.1.0.start x.1.0.«end
 
 read_tight_by : (m : Names) (t : Bool) (x : Item) → read m (if t then node_of x.start x.«end» (tight_body x.body) else x)
     ≡ (if t then (node_of x.start x.«end» (tight_body (read m x).0.body), (read m x).1) else read m x)
-read_tight_by m true x = rw (tight_alone x.body, tight_index x.body) refl
+read_tight_by m true x = rw (only_tight x.body, tight_index x.body) refl
 read_tight_by m false x = refl
 
 pub read_tight : (m : Names) (depth : ℕ) (nodes : List (ℕ × Item)) → read_nodes m (map (tightened depth) nodes) ≡ map (tight_read depth) (read_nodes m nodes)

@@ -56,9 +56,9 @@ pub row_alike : (m n : Names) (body : ItemBody) (columns start : ℕ) (cells cel
     → AlikeNodes m n (row_block body columns start cells stop) (row_block body columns start cells' stop)
 row_alike m n body columns start cells cells' stop own are =
     let empty : List (ℕ × Item) = cell_block stop stop [] in
-    let few : filled columns cells ≡ filled columns cells' = ap (λ (k : ℕ). columns - k) (as_many m n cells cells' are) in
+    let node_bound : filled columns cells ≡ filled columns cells' = ap (λ (k : ℕ). columns - k) (as_many m n cells cells' are) in
     let copies : AlikeBlocks m n (replicate (filled columns cells) empty) (replicate (filled columns cells') empty) =
-    subst (λ (k : ℕ). AlikeBlocks m n (replicate (filled columns cells) empty) (replicate k empty)) few
+    subst (λ (k : ℕ). AlikeBlocks m n (replicate (filled columns cells) empty) (replicate k empty)) node_bound
     (copies_alike m n (filled columns cells) empty empty refl) in
     own_alike m n (node_of start stop body) (node_of start stop body) (row_cells columns cells stop) (row_cells columns cells' stop) own
     (side_alike m n (take columns cells ++ replicate (filled columns cells) empty) (take columns cells' ++ replicate (filled columns cells') empty)

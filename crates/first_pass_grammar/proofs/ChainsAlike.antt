@@ -11,11 +11,11 @@ use Rattle.first_pass_items.specs.declared.item.ItemBody.TheVariants.{Heading, S
 use Rattle.first_pass_tree.specs.Forest.{is_escaped, cut_item}
 use Rattle.first_pass_tokens.specs.Alike.{text_among, BodiesAlike, ItemsAlike, AreAlike}
 use Rattle.first_pass_tokens.specs.Chains.{text_token, add_token, add_text, is_backslash_break, close_break, cut}
-use Rattle.first_pass_grammar.specs.Names.{Names, Named, AText, TextAt, index_of, kind_alone, named, read}
+use Rattle.first_pass_grammar.specs.Names.{Names, Named, AText, TextAt, index_of, only_kind, named, read}
 use Rattle.first_pass_grammar.specs.Headings.{chain_end}
 use Rattle.first_pass_grammar.specs.Leaves.{add_break, heading_chain, marker_items}
 use Rattle.first_pass_grammar.specs.Derivation.{node_of}
-use Rattle.first_pass_grammar.proofs.NoIndex.{HasNoIndex, HasTextIndex, reads_alone}
+use Rattle.first_pass_grammar.proofs.NoIndex.{HasNoIndex, HasTextIndex, only_reads}
 use Rattle.first_pass_grammar.proofs.EachToken.{AreEach}
 use Rattle.first_pass_grammar.proofs.Alike.{AlikeChains, chains_append, tokens_alike}
 
@@ -29,12 +29,12 @@ texts_read m n ix iy same = read_text (slice_get m.texts ix.0) ∙ ap (option_ma
 
 -- bodies that are alike read alike if they have no index except that of a text
 abbrev ReadAlike : Names → Names → ItemBody → ItemBody → Type 0
-ReadAlike m n b c = (kind_alone b ≡ kind_alone c) × (option_and_then (named m) (index_of b) ≡ option_and_then (named n) (index_of c))
+ReadAlike m n b c = (only_kind b ≡ only_kind c) × (option_and_then (named m) (index_of b) ≡ option_and_then (named n) (index_of c))
 
 none_read : (m n : Names) (b c : ItemBody) → index_of b ≡ None → b ≡ c → ReadAlike m n b c
 none_read m n b c none same =
     let other : index_of c ≡ None = ap index_of (sym same) ∙ none in
-    (ap kind_alone same, ap (option_and_then (named m)) none ∙ sym (ap (option_and_then (named n)) other))
+    (ap only_kind same, ap (option_and_then (named m)) none ∙ sym (ap (option_and_then (named n)) other))
 
 bodies_read : (m n : Names) (b c : ItemBody) → HasTextIndex b → BodiesAlike m.texts n.texts b c → ReadAlike m n b c
 bodies_read m n (SynthesizeText ix) c free h =
@@ -79,14 +79,14 @@ close_alike m n (Some x) xs us h =
 pub break_alike : (m n : Names) (o : Option Item) (xs us : List Item) → IfSome o HasNoIndex → AlikeChains m n xs us
     → AlikeChains m n (add_break o xs) (add_break o us)
 break_alike m n None xs us free h = h
-break_alike m n (Some x) xs us free h = chains_append m n xs us (x ∷ []) (x ∷ []) h (ap (λ z. z ∷ []) (reads_alone m n x free))
+break_alike m n (Some x) xs us free h = chains_append m n xs us (x ∷ []) (x ∷ []) h (ap (λ z. z ∷ []) (only_reads m n x free))
 
 -- chains with a marker before each
 pub marked_alike : (m n : Names) (marker : Option Item) (xs us : List Item) → IfSome marker HasNoIndex → AlikeChains m n xs us
     → AlikeChains m n (marker_items marker ++ xs) (marker_items marker ++ us)
 marked_alike m n None xs us free h = h
 marked_alike m n (Some x) xs us free h =
-    let first = reads_alone m n x free in
+    let first = only_reads m n x free in
     λ i. first i ∷ h i
 
 -- chains that read alike end at the same place
@@ -114,12 +114,12 @@ cut_read e (x ∷ xs) =
     then cut_read_item e x ∷ cut_read e xs
     else (if is_escaped x.0.body && (x.0.start == e) then (text_token (e - 1) e false, None) ∷ [] else [])
 
-escaped_alone : (b : ItemBody) → is_escaped (kind_alone b) ≡ is_escaped b
-escaped_alone (SynthesizeText ix) = refl
-escaped_alone (FencedCodeBlock ix) = refl
-escaped_alone (Table ix) = refl
-escaped_alone (Heading level ix) = refl
-escaped_alone b = refl
+only_escaped : (b : ItemBody) → is_escaped (only_kind b) ≡ is_escaped b
+only_escaped (SynthesizeText ix) = refl
+only_escaped (FencedCodeBlock ix) = refl
+only_escaped (Table ix) = refl
+only_escaped (Heading level ix) = refl
+only_escaped b = refl
 
 item_cut_by : (m : Names) (t : Bool) (e : ℕ) (x : Item)
     → read m (if t then record x { «end» = e } else x) ≡ ((if t then record (read m x).0 { «end» = e } else (read m x).0), (read m x).1)
@@ -142,7 +142,7 @@ read_cut m e (x ∷ xs) =
     ap (λ z. z ∷ map (read m) (cut e xs)) (item_cut m e x) ∙ ap (λ z. cut_read_item e (read m x) ∷ z) (read_cut m e xs) in
     let last : map (read m) rest ≡ (if is_escaped (read m x).0.body && (x.start == e) then (text_token (e - 1) e false, None) ∷ [] else []) =
     read_unless m escaped (text_token (e - 1) e false ∷ []) []
-    ∙ ap (λ (t : Bool). if t && (x.start == e) then (text_token (e - 1) e false, None) ∷ [] else []) (sym (escaped_alone x.body)) in
+    ∙ ap (λ (t : Bool). if t && (x.start == e) then (text_token (e - 1) e false, None) ∷ [] else []) (sym (only_escaped x.body)) in
     read_unless m (nat_lt x.start e) (cut_item e x ∷ cut e xs) rest
     ∙ ap (λ z. if nat_lt x.start e then z else map (read m) rest) same
     ∙ ap (λ z. if nat_lt x.start e then cut_read_item e (read m x) ∷ cut_read e (map (read m) xs) else z) last

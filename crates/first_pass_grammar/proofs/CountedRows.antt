@@ -41,7 +41,7 @@ row_parts table cells h =
     (grind (arith, nat_tests, some), leb-true (filled table.columns cells) table.room both.1)
 
 row_of : (table : TableSoFar) (cells : List (List (ℕ × Item))) → 0 < length cells → filled table.columns cells ≤ table.room → is_row table cells ≡ true
-row_of table cells some few = grind (arith, nat_tests)
+row_of table cells some node_bound = grind (arith, nat_tests)
 
 -- the number of filled cells that are allowed in a table before any is filled in
 all_room : (table : TableSoFar) → table_so_far table.columns (table.room - 0) table.braces ≡ table

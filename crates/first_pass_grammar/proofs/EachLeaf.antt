@@ -25,7 +25,7 @@ use Rattle.first_pass_tokens.specs.Braces.{no_braces}
 use Rattle.first_pass_tokens.specs.LineTokens.{spot}
 use Rattle.first_pass_tokens.specs.TreeTokens.{leaves}
 use Rattle.first_pass_grammar.specs.declared.kind.AfterMarker.{AfterMarker}
-use Rattle.first_pass_grammar.specs.declared.kind.AfterMarker.TheVariants.{OnLine, TaskText, LineEnds, TagAlone}
+use Rattle.first_pass_grammar.specs.declared.kind.AfterMarker.TheVariants.{OnLine, TaskText, LineEnds, OnlyTag}
 use Rattle.first_pass_grammar.specs.declared.kind.Container.{Container}
 use Rattle.first_pass_grammar.specs.Blocks.{Leaf, BlankLine, Block, Head, opened, Skeleton, Nil, Then, Node}
 use Rattle.first_pass_grammar.specs.CodeBlocks.{metadata_kind}
@@ -39,8 +39,8 @@ use Rattle.first_pass_grammar.specs.LinkRuns.{kind_in, Ended, FlowsOn}
 use Rattle.first_pass_grammar.specs.Openers.{Start, start_at, after_task, after_quote, task_by, task_after, tag_after}
 use Rattle.first_pass_grammar.specs.Order.{is_task_marker}
 use Rattle.first_pass_grammar.specs.RawLines.{range_text, range_html}
-use Rattle.first_pass_grammar.specs.Skeleton.{From, Line, Blanks, At, Anything, ALeafAlone, TextOf, MarkAlone, after_marker, Opening, OpensLeaf, OpensNode}
-use Rattle.first_pass_grammar.specs.Skeleton.{OpensText, OpensRun, OpensAs, OpensBlockAt, next_is_blank, task_alone, without_indent, after_tag, opening_by}
+use Rattle.first_pass_grammar.specs.Skeleton.{From, Line, Blanks, At, Anything, OnlyALeaf, TextOf, OnlyMark, after_marker, Opening, OpensLeaf, OpensNode}
+use Rattle.first_pass_grammar.specs.Skeleton.{OpensText, OpensRun, OpensAs, OpensBlockAt, next_is_blank, only_task, without_indent, after_tag, opening_by}
 use Rattle.first_pass_grammar.specs.Skeleton.{OpensBy, OpensFootnote, Opens, OpensAt, may_define, Level, level_in, level_after_leaf, level_after, Left, Lines}
 use Rattle.first_pass_grammar.specs.Skeleton.{InLine, onward, after_first, IsFirst, IsSequence}
 use Rattle.first_pass_grammar.specs.TableHeads.{headed_table}
@@ -102,16 +102,16 @@ abbrev pub TaskBefore : From → Type 0
 TaskBefore Line = Unit {0}
 TaskBefore (Blanks e) = Unit {0}
 TaskBefore (At p Anything) = Unit {0}
-TaskBefore (At p ALeafAlone) = Unit {0}
+TaskBefore (At p OnlyALeaf) = Unit {0}
 TaskBefore (At p (TextOf marker)) = IsTask marker.body
-TaskBefore (At p (MarkAlone marker blanks)) = IsTask marker.body
+TaskBefore (At p (OnlyMark marker blanks)) = IsTask marker.body
 
 -- the same after the marker of a container
 abbrev TaskAfter : AfterMarker → Type 0
 TaskAfter OnLine = Unit {0}
 TaskAfter (TaskText marker) = IsTask marker.body
 TaskAfter (LineEnds marker) = IsMark marker
-TaskAfter TagAlone = Unit {0}
+TaskAfter OnlyTag = Unit {0}
 
 task_mark : (line : ℕ) (r : Rest) (o : Option (Bool × Rest)) → IsMark (task_by line r o).0
 task_mark line r None = tt
@@ -130,7 +130,7 @@ marker_before : (blanks : Option ℕ) → TaskBefore (after_marker blanks)
 marker_before None = tt
 marker_before (Some e) = tt
 
-alone_before : (marker : Option Item) (p : Place) (blanks : Option ℕ) → IsMark marker → TaskBefore (task_alone marker p blanks)
+alone_before : (marker : Option Item) (p : Place) (blanks : Option ℕ) → IsMark marker → TaskBefore (only_task marker p blanks)
 alone_before None p blanks h = marker_before blanks
 alone_before (Some marker) p blanks h = h
 
@@ -141,15 +141,15 @@ tag_by false a b h k = k
 tag_before : (c : Context) (lines : List Place) → TaskBefore (after_tag c lines).0
 tag_before c [] = tt
 tag_before c (line ∷ lines) =
-    tag_by (ends_tag c line.rest) (Line, line ∷ lines) (At (unindented (at_rest line (front c.path line.rest))) ALeafAlone, lines) tt tt
+    tag_by (ends_tag c line.rest) (Line, line ∷ lines) (At (unindented (at_rest line (front c.path line.rest))) OnlyALeaf, lines) tt tt
 
 first_before : (from there : From) → TaskBefore there → TaskBefore (after_first from there)
 first_before (Blanks e) there k = tt
 first_before Line there k = k
 first_before (At p Anything) there k = k
-first_before (At p ALeafAlone) there k = k
+first_before (At p OnlyALeaf) there k = k
 first_before (At p (TextOf marker)) there k = k
-first_before (At p (MarkAlone marker blanks)) there k = marker_before blanks
+first_before (At p (OnlyMark marker blanks)) there k = marker_before blanks
 
 onward_before : (left : Left) → TaskBefore (onward left).0
 onward_before (Lines lines) = tt
@@ -275,10 +275,10 @@ module _ (Own Inner : ItemBody → Type 0) (d : Document) (own : HoldsOfBlocks O
   opens_container path head inside lines (LineEnds marker) h =
       let blanks : Option ℕ = Some (start_of (length d.text) lines) in
       unless_opens (next_is_blank (opened head.opener ∷ path) lines)
-      (OpensNode (record head { opener = without_indent head.opener }) (task_alone marker inside blanks) lines)
-      (OpensNode head (task_alone marker inside None) lines)
+      (OpensNode (record head { opener = without_indent head.opener }) (only_task marker inside blanks) lines)
+      (OpensNode head (only_task marker inside None) lines)
       (alone_before marker inside blanks h) (alone_before marker inside None h)
-  opens_container path head inside lines TagAlone h = tag_before (around d (opened head.opener ∷ path)) lines
+  opens_container path head inside lines OnlyTag h = tag_before (around d (opened head.opener ∷ path)) lines
 
   opens_by : (path : List Container) (p : Place) (lines : List Place) (q : Option Start) (o : Opening) → ((s : Start) → q ≡ Some s → TaskAfter s.after)
       → OpensBy d path p lines q o → OpensBlocks o
@@ -300,10 +300,10 @@ module _ (Own Inner : ItemBody → Type 0) (d : Document) (own : HoldsOfBlocks O
   opens_at l Line p lines o mark opens = opens_any l p lines o opens
   opens_at l (Blanks e) p lines o mark opens = opens_any l p lines o opens
   opens_at l (At q Anything) p lines o mark opens = opens_any l p lines o opens
-  opens_at l (At q ALeafAlone) p lines o mark opens = opens_block l.path p lines o opens
+  opens_at l (At q OnlyALeaf) p lines o mark opens = opens_block l.path p lines o opens
   opens_at l (At q (TextOf marker)) p lines o mark opens =
       opens_text l.path p lines (Some marker) o (task_holds Inner marker.body within.task mark) opens
-  opens_at l (At q (MarkAlone marker blanks)) p lines o mark e =
+  opens_at l (At q (OnlyMark marker blanks)) p lines o mark e =
       subst OpensBlocks (sym e) ((refl, task_holds Own marker.body own.task mark, tt), tt)
 
   opens_first : (l : Level) (from : From) (lines : List Place) (o : Opening) → TaskBefore from → IsFirst d l from lines o → OpensBlocks o

@@ -12,7 +12,7 @@ use Rattle.first_pass_grammar.specs.Containers.{is_quote}
 use Rattle.first_pass_grammar.specs.Derivation.{Tables, Derives}
 use Rattle.first_pass_grammar.specs.Leaves.{Document}
 use Rattle.first_pass_grammar.specs.Rows.{What, ALeaf, AQuote, AList, AnItem, AFootnote, ADefinitionList, ATitle, ADefinition, Row, Rows, End, OneOf, gapped}
-use Rattle.first_pass_grammar.specs.Rows.{Joins, ItemsOf, DefinitionsTo, end_of, is_list_of, items_after, list_after, what_of, row_of, container_row}
+use Rattle.first_pass_grammar.specs.Rows.{Joins, ItemsOf, DefinitionsTo, end_of_row, continues_list, items_after, list_after, what_of, row_of, container_row}
 use Rattle.first_pass_grammar.specs.Rows.{row_of_leaf, Definitions, definitions_of_row, apart_after, is_untitled, is_run_row, definitions_first, titled}
 use Rattle.first_pass_grammar.specs.Rows.{gap_before, rows_of}
 use Rattle.first_pass_grammar.specs.Skeleton.{Line, level, Lines}
@@ -60,12 +60,12 @@ module _ (P : List (ℕ × Item) → Type 0) where
   unfolding HoldsOfEachRow
   items_rows joins End h = tt
   items_rows joins (OneOf row inner next) h =
-      unless_rows (is_list_of joins row.what) (gapped row.gap inner) End (gapped_rows row.gap inner h.1) tt
+      unless_rows (continues_list joins row.what) (gapped row.gap inner) End (gapped_rows row.gap inner h.1) tt
 
   pub list_rows : (joins : Joins) (rows : Rows) → HoldsOfEachRow P rows → HoldsOfEachRow P (list_after joins rows)
   unfolding HoldsOfEachRow
   list_rows joins End h = tt
-  list_rows joins (OneOf row inner next) h = unless_rows (is_list_of joins row.what) next (OneOf row inner next) h.2 h
+  list_rows joins (OneOf row inner next) h = unless_rows (continues_list joins row.what) next (OneOf row inner next) h.2 h
 
   -- a container before rows
   container_rows : (last : ℕ) (opener : Opener) (row : Row) (inner next : Rows) → HoldsOfRow P row.what inner → HoldsOfEachRow P inner
@@ -76,7 +76,7 @@ module _ (P : List (ℕ × Item) → Type 0) where
       (tt, (own, h, items_rows (ItemsOf byte) next k), list_rows (ItemsOf byte) next k)
   container_rows last (FootnoteMarker columns index label) row inner next own h k = (own, h, k)
   container_rows last (DefinitionMarker columns) row inner next own h k =
-      let joins : Joins = DefinitionsTo (end_of row.what last) in
+      let joins : Joins = DefinitionsTo (end_of_row row.what last) in
       (tt, (own, h, items_rows joins next k), list_rows joins next k)
 
   container_what : (opener : Opener) (e : ℕ) (inner : Rows) → HoldsOfRow P (what_of opener e) inner

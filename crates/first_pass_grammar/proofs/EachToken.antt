@@ -13,7 +13,7 @@ use Rattle.first_pass_tokens.specs.declared.pieces.Piece.TheVariants.{Left, Begi
 use Rattle.first_pass_tokens.specs.Pieces.{Inline, found_at, size}
 use Rattle.first_pass_tokens.specs.Braces.{MathBraces, braces_after}
 use Rattle.first_pass_tokens.specs.LineTokens.{Spot, spot, ArePieces, add_piece, add_pieces, text_end, line_end_len, breaks_by_backslash, blanks_at_end}
-use Rattle.first_pass_tokens.specs.LineTokens.{break_of, line_break, IsLine, IsCell}
+use Rattle.first_pass_tokens.specs.LineTokens.{break_of, line_break, AreLineTokens, IsCell}
 use Rattle.first_pass_tokens.specs.Chains.{text_token, token, run_tokens, touches, add_token, add_tokens, add_text, is_backslash_break, close_break, cut}
 use Rattle.first_pass_tokens.proofs.PieceFacts.{IsPieceAt, is_markup}
 use Rattle.first_pass_tokens.proofs.LineLemmas.{piece_of}
@@ -150,7 +150,7 @@ module _ (P : ItemBody → Type 0) (soft : P SoftBreak) (hard : (by_backslash : 
       some_each (nat_le (length s.text) end) (break_of end (end + line_end_len s end) (breaks_by_backslash s end) (blanks_at_end s end))
       (break_of_each end (end + line_end_len s end) (breaks_by_backslash s end) (blanks_at_end s end))
 
-  pub break_each : {after : MathBraces} (texts : List CowStr) (s : Inline) (tokens : List Item) (answer : ℕ × Option Item) → IsLine texts s tokens answer after
+  pub break_each : {after : MathBraces} (texts : List CowStr) (s : Inline) (tokens : List Item) (answer : ℕ × Option Item) → AreLineTokens texts s tokens answer after
       → IfSome answer.1 (λ y. P y.body)
   break_each texts s tokens answer h = subst (λ (a : ℕ × Option Item). IfSome a.1 (λ y. P y.body)) (sym h.answer_is) (line_break_each s h.content_end)
 
@@ -178,7 +178,7 @@ module _ (texts : List CowStr) (P : ItemBody → Type 0) (holds : HoldsOfTokens 
       (piece_each s.text stop at p chain (piece_of texts b s at p are.0 are.1) (piece_within texts b s at p are.1) h)
 
   -- the tokens of a line, and of a cell
-  pub line_each : {after : MathBraces} (s : Inline) (tokens : List Item) (answer : ℕ × Option Item) → IsLine texts s tokens answer after → AreEach P tokens
+  pub line_each : {after : MathBraces} (s : Inline) (tokens : List Item) (answer : ℕ × Option Item) → AreLineTokens texts s tokens answer after → AreEach P tokens
   line_each {after} s tokens answer h =
       subst (AreEach P) (sym h.tokens_are)
       (pieces_each s (text_end s h.content_end) s.start s.braces h.pieces (spot h.content_end after) [] h.division.divided tt)
@@ -194,7 +194,7 @@ module _ (P : ItemBody → Type 0) (d : Document) (holds : HoldsOfTokens d.names
   broken_each (Some x) chain k h = both_each P chain (x ∷ []) h (k, tt)
 
   first_each : {after : MathBraces} (p : Spot) (chain tokens : List Item) (answer : ℕ × Option Item) → AreEach P chain
-      → IsLine d.names.texts (content_at d p) tokens answer after → AreEach P (add_tokens chain tokens)
+      → AreLineTokens d.names.texts (content_at d p) tokens answer after → AreEach P (add_tokens chain tokens)
   first_each p chain tokens answer h line = tokens_each P chain tokens h (line_each d.names.texts P holds (content_at d p) tokens answer line)
 
   -- the chain of a text's lines

@@ -11,9 +11,9 @@ use Rattle.first_pass_grammar.specs.Before.{Before}
 use Rattle.first_pass_grammar.specs.Containers.{context, at_rest, after, taken, next_goes_on, in_footnote}
 use Rattle.first_pass_grammar.specs.Footnotes.{footnote_head_at, ends_footnote}
 use Rattle.first_pass_grammar.specs.Kinds.{is_blank_rest}
-use Rattle.first_pass_grammar.specs.Skeleton.{From, Line, Blanks, At, Anything, ALeafAlone, TextOf, MarkAlone, Inside, is_blank_after, next_is_blank}
+use Rattle.first_pass_grammar.specs.Skeleton.{From, Line, Blanks, At, Anything, OnlyALeaf, TextOf, OnlyMark, Inside, is_blank_after, next_is_blank}
 use Rattle.first_pass_grammar.specs.Skeleton.{Level, level, Left, Lines, InLine, NextBlock, Begins, Ends, ends_old_footnote, next_block_at, next_block_in}
-use Rattle.first_pass_grammar.specs.Skeleton.{blanks_alone, next_block_blank, next_block}
+use Rattle.first_pass_grammar.specs.Skeleton.{only_blanks, next_block_blank, next_block}
 
 -- the place of a block and the lines after it: a place inside a line, or the place after the path's prefixes in the
 -- next line
@@ -65,9 +65,9 @@ goes_at : (options : Options) (l : Level) (from : From) (lines : List Place) →
 unfolding next_block
 goes_at options l (At p Anything) lines =
     in_line l.path (Inside p) lines p lines (in_footnote l.path) (is_some (footnote_head_at (context options l.path) p)) refl (refl, refl)
-goes_at options l (At p ALeafAlone) lines = (refl, refl)
+goes_at options l (At p OnlyALeaf) lines = (refl, refl)
 goes_at options l (At p (TextOf marker)) lines = (refl, refl)
-goes_at options l (At p (MarkAlone marker blanks)) lines = (refl, refl)
+goes_at options l (At p (OnlyMark marker blanks)) lines = (refl, refl)
 goes_at options l Line [] = refl
 goes_at options l Line (line ∷ lines) = at_line options l line lines (taken l.path line) refl
 goes_at options l (Blanks e) [] = refl
@@ -90,12 +90,12 @@ same_left a b e = cc
 
 -- at the top a sequence takes all lines
 pub all_taken_at : (options : Options) (before : Before) (from : From) (lines : List Place) (left : Left)
-    → next_block options (level [] before) from lines ≡ Ends left → blanks_alone from ≡ None → left ≡ Lines []
+    → next_block options (level [] before) from lines ≡ Ends left → only_blanks from ≡ None → left ≡ Lines []
 unfolding next_block after
 all_taken_at options before (At p Anything) lines left is none = absurd (begun_not_ended p lines left is)
-all_taken_at options before (At p ALeafAlone) lines left is none = absurd (begun_not_ended p lines left is)
+all_taken_at options before (At p OnlyALeaf) lines left is none = absurd (begun_not_ended p lines left is)
 all_taken_at options before (At p (TextOf marker)) lines left is none = absurd (begun_not_ended p lines left is)
-all_taken_at options before (At p (MarkAlone marker blanks)) lines left is none = absurd (begun_not_ended p lines left is)
+all_taken_at options before (At p (OnlyMark marker blanks)) lines left is none = absurd (begun_not_ended p lines left is)
 all_taken_at options before Line [] left is none = sym (same_left (Lines []) left is)
 all_taken_at options before Line (line ∷ lines) left is none = absurd (begun_not_ended (at_rest line line.rest) lines left is)
 all_taken_at options before (Blanks e) lines left is none = absurd (none-some e (sym none))

@@ -5,7 +5,7 @@ use Rattle.first_pass_items.specs.declared.item.Item.{Item}
 use Rattle.first_pass_lines.specs.Places.{Place, offset}
 use Rattle.first_pass_tokens.specs.Pieces.{Inline}
 use Rattle.first_pass_tokens.specs.Braces.{MathBraces}
-use Rattle.first_pass_tokens.specs.LineTokens.{Spot, spot, IsLine}
+use Rattle.first_pass_tokens.specs.LineTokens.{Spot, spot, AreLineTokens}
 use Rattle.first_pass_tokens.specs.Chains.{add_tokens, close_break}
 use Rattle.first_pass_tokens.proofs.AlikeLemmas.{one_line}
 use Rattle.first_pass_grammar.specs.declared.kind.Container.{Container}
@@ -22,8 +22,8 @@ use Rattle.first_pass_grammar.proofs.ChainsAlike.{alike_reads, close_alike, brea
 use Rattle.std.proofs.lemmas.Bool.{true≢false}
 
 -- two readings of a line have tokens that read alike, the same end and break, and the same brace contexts after them
-one_line_read : (d : Document) (n : Names) (s : Inline) (k k' : List Item) (a a' : ℕ × Option Item) (b b' : MathBraces) → IsLine d.names.texts s k a b
-    → IsLine n.texts s k' a' b' → AlikeChains d.names n k k' × (a ≡ a') × (b ≡ b')
+one_line_read : (d : Document) (n : Names) (s : Inline) (k k' : List Item) (a a' : ℕ × Option Item) (b b' : MathBraces) → AreLineTokens d.names.texts s k a b
+    → AreLineTokens n.texts s k' a' b' → AlikeChains d.names n k k' × (a ≡ a') × (b ≡ b')
 one_line_read d n s k k' a a' b b' i i' =
     let o = one_line d.names.texts n.texts s k k' a a' b b' i i' in
     (alike_reads d.names n k k' (line_each d.names.texts HasTextIndex (tokens_textual d.names.texts) s k a i) o.0, o.1, o.2)

@@ -22,12 +22,12 @@ abbrev pub HaveNoIndex : List Item → Type 0
 HaveNoIndex xs = AreEach IsWithoutIndex xs
 
 -- an item without an index reads alike under all names
-pub reads_alone : (m n : Names) (x : Item) → HasNoIndex x → read m x ≡ read n x
-reads_alone m n x h = rw h refl
+pub only_reads : (m n : Names) (x : Item) → HasNoIndex x → read m x ≡ read n x
+only_reads m n x h = rw h refl
 
-pub read_alone : (m n : Names) (xs : List Item) → HaveNoIndex xs → map (read m) xs ≡ map (read n) xs
-read_alone m n [] h = refl
-read_alone m n (x ∷ xs) h = let a = reads_alone m n x h.0 in let b = read_alone m n xs h.1 in cc
+pub only_read : (m n : Names) (xs : List Item) → HaveNoIndex xs → map (read m) xs ≡ map (read n) xs
+only_read m n [] h = refl
+only_read m n (x ∷ xs) h = let a = only_reads m n x h.0 in let b = only_read m n xs h.1 in cc
 
 -- an item has no index, or that of its text
 abbrev pub HasTextIndex : ItemBody → Type 0

@@ -10,7 +10,7 @@ use Rattle.first_pass_tree.proofs.Blocks.{at_depth-append}
 use Rattle.first_pass_tokens.proofs.InOrder.{AreInOrder}
 use Rattle.first_pass_tokens.specs.TreeTokens.{leaves}
 use Rattle.first_pass_tokens.proofs.OrderLemmas.{order_bound}
-use Rattle.first_pass_grammar.specs.Order.{Extent, extent_of, extents, Siblings, Empty, Node, laid, IsBetween, Within}
+use Rattle.first_pass_grammar.specs.Order.{Ranged, extent_of, extents, Siblings, Empty, Node, laid, IsBetween, Within}
 use Rattle.first_pass_grammar.specs.Order.{Elsewhere, InItem, InText, InFirst, below, beyond, IsLead, Fits, FitsBetween}
 use Rattle.first_pass_grammar.specs.OpenOrder.{laid_open, AreAt, open_within, FitsOpen}
 use Rattle.first_pass_grammar.proofs.OwnNodes.{own_at_most}
@@ -21,7 +21,7 @@ beside Empty more = more
 beside (Node x kids next) more = Node x kids (beside next more)
 
 -- a range with another end
-abbrev pub ended_at : Extent → ℕ → Extent
+abbrev pub ended_at : Ranged → ℕ → Ranged
 ended_at x e = record { start = x.start; «end» = e; text_block = x.text_block; marker = x.marker; item = x.item; definitions = x.definitions }
 
 -- the extents of more nodes
@@ -35,15 +35,15 @@ length-extents nodes = length-map nodes (λ n. (n.0, extent_of n.1))
 -- the extents of a block that is put at a depth
 pub extents-at_depth : (d : ℕ) (items : List (ℕ × Item)) → extents (at_depth d items) ≡ at_depth d (extents items)
 extents-at_depth d [] = refl
-extents-at_depth d (n ∷ items) = ap (λ (z : List (ℕ × Extent)). (d + n.0, extent_of n.1) ∷ z) (extents-at_depth d items)
+extents-at_depth d (n ∷ items) = ap (λ (z : List (ℕ × Ranged)). (d + n.0, extent_of n.1) ∷ z) (extents-at_depth d items)
 
 -- siblings and others after them, in reading order
 pub laid-beside : (depth : ℕ) (row more : Siblings) → laid depth (beside row more) ≡ laid depth row ++ laid depth more
 unfolding laid
 laid-beside depth Empty more = refl
 laid-beside depth (Node x kids next) more =
-    ap (λ (z : List (ℕ × Extent)). (depth, x) ∷ (laid (suc depth) kids ++ z)) (laid-beside depth next more)
-    ∙ ap (λ (z : List (ℕ × Extent)). (depth, x) ∷ z) (sym (append_assoc (laid (suc depth) kids) (laid depth next) (laid depth more)))
+    ap (λ (z : List (ℕ × Ranged)). (depth, x) ∷ (laid (suc depth) kids ++ z)) (laid-beside depth next more)
+    ∙ ap (λ (z : List (ℕ × Ranged)). (depth, x) ∷ z) (sym (append_assoc (laid (suc depth) kids) (laid depth next) (laid depth more)))
 
 -- siblings at another depth
 pub laid-at_depth : (d k : ℕ) (row : Siblings) → at_depth d (laid k row) ≡ laid (d + k) row
@@ -51,53 +51,53 @@ unfolding laid
 laid-at_depth d k Empty = refl
 laid-at_depth d k (Node x kids next) =
     let z : d + suc k ≡ suc (d + k) = omega arith in
-    ap (λ (l : List (ℕ × Extent)). (d + k, x) ∷ l)
+    ap (λ (l : List (ℕ × Ranged)). (d + k, x) ∷ l)
     (at_depth-append d (laid (suc k) kids) (laid k next)
-    ∙ ap (λ (l : List (ℕ × Extent)). l ++ at_depth d (laid k next)) (laid-at_depth d (suc k) kids ∙ ap (λ (n : ℕ). laid n kids) z)
-    ∙ ap (λ (l : List (ℕ × Extent)). laid (suc (d + k)) kids ++ l) (laid-at_depth d k next))
+    ∙ ap (λ (l : List (ℕ × Ranged)). l ++ at_depth d (laid k next)) (laid-at_depth d (suc k) kids ∙ ap (λ (n : ℕ). laid n kids) z)
+    ∙ ap (λ (l : List (ℕ × Ranged)). laid (suc (d + k)) kids ++ l) (laid-at_depth d k next))
 
 -- a single sibling
-pub laid-one : (depth : ℕ) (x : Extent) → laid depth (Node x Empty Empty) ≡ (depth, x) ∷ []
+pub laid-one : (depth : ℕ) (x : Ranged) → laid depth (Node x Empty Empty) ≡ (depth, x) ∷ []
 unfolding laid
 laid-one depth x = refl
 
 -- more nodes in the innermost open node
-pub laid_open-beside : (root : Extent) (levels : List (Siblings × Extent)) (row more : Siblings)
+pub laid_open-beside : (root : Ranged) (levels : List (Siblings × Ranged)) (row more : Siblings)
     → laid_open root levels (beside row more) ≡ laid_open root levels row ++ laid (suc (length levels)) more
 unfolding laid_open
-laid_open-beside root [] row more = ap (λ (z : List (ℕ × Extent)). (0, root) ∷ z) (laid-beside 1 row more)
+laid_open-beside root [] row more = ap (λ (z : List (ℕ × Ranged)). (0, root) ∷ z) (laid-beside 1 row more)
 laid_open-beside root (level ∷ levels) row more =
     let d : ℕ = suc (suc (length levels)) in
-    ap (λ (z : List (ℕ × Extent)). laid_open root levels level.0 ++ (suc (length levels), level.1) ∷ z) (laid-beside d row more)
+    ap (λ (z : List (ℕ × Ranged)). laid_open root levels level.0 ++ (suc (length levels), level.1) ∷ z) (laid-beside d row more)
     ∙ sym (append_assoc (laid_open root levels level.0) ((suc (length levels), level.1) ∷ laid d row) (laid d more))
 
 -- a node that is opened
-pub laid_open-pushed : (root x : Extent) (levels : List (Siblings × Extent)) (row : Siblings)
+pub laid_open-pushed : (root x : Ranged) (levels : List (Siblings × Ranged)) (row : Siblings)
     → laid_open root ((row, x) ∷ levels) Empty ≡ laid_open root levels row ++ (suc (length levels), x) ∷ []
 unfolding laid_open laid
 laid_open-pushed root x levels row = refl
 
 -- the innermost open node
-pub laid_open-level : (root : Extent) (level : Siblings × Extent) (levels : List (Siblings × Extent)) (row : Siblings)
+pub laid_open-level : (root : Ranged) (level : Siblings × Ranged) (levels : List (Siblings × Ranged)) (row : Siblings)
     → laid_open root (level ∷ levels) row ≡ laid_open root levels level.0 ++ (suc (length levels), level.1) ∷ laid (suc (suc (length levels))) row
 unfolding laid_open
 laid_open-level root level levels row = refl
 
 -- the innermost open node, after it is closed
-pub laid_open-popped : (root x : Extent) (levels : List (Siblings × Extent)) (before row : Siblings)
+pub laid_open-popped : (root x : Ranged) (levels : List (Siblings × Ranged)) (before row : Siblings)
     → laid_open root levels (beside before (Node x row Empty)) ≡ laid_open root levels before ++ (suc (length levels), x) ∷ laid (suc (suc (length levels))) row
 unfolding laid
 laid_open-popped root x levels before row =
     laid_open-beside root levels before (Node x row Empty)
-    ∙ ap (λ (z : List (ℕ × Extent)). laid_open root levels before ++ (suc (length levels), x) ∷ z) (append-nil (laid (suc (suc (length levels))) row))
+    ∙ ap (λ (z : List (ℕ × Ranged)). laid_open root levels before ++ (suc (length levels), x) ∷ z) (append-nil (laid (suc (suc (length levels))) row))
 
 -- the root with the nodes below it, if no other node is open
-pub laid_open-root : (root : Extent) (row : Siblings) → laid_open root [] row ≡ laid 0 (Node root row Empty)
+pub laid_open-root : (root : Ranged) (row : Siblings) → laid_open root [] row ≡ laid 0 (Node root row Empty)
 unfolding laid_open laid
-laid_open-root root row = ap (λ (z : List (ℕ × Extent)). (0, root) ∷ z) (sym (append-nil (laid 1 row)))
+laid_open-root root row = ap (λ (z : List (ℕ × Ranged)). (0, root) ∷ z) (sym (append-nil (laid 1 row)))
 
 -- there are as many open nodes as places for them
-pub length-places : (root : Extent) (levels : List (Siblings × Extent)) (spine : List TreeIndex) → AreAt root levels spine → length spine ≡ length levels
+pub length-places : (root : Ranged) (levels : List (Siblings × Ranged)) (spine : List TreeIndex) → AreAt root levels spine → length spine ≡ length levels
 length-places root [] [] h = refl
 length-places root [] (ix ∷ spine) h = absurd h
 length-places root (level ∷ levels) [] h = absurd h
@@ -111,11 +111,11 @@ fits-order text w from to (Node x kids next) (inl (b, k, n)) =
     let r = fits-order text (beyond w) x.«end» to next n in let s : from ≤ x.start = b.following in let t : x.start ≤ x.«end» = b.order in omega arith
 fits-order text w from to (Node x kids next) (inr (l, k, n)) = fits-order text Elsewhere from to next n
 
-between-later : (text : List ℕ) (from a b : ℕ) (x : Extent) → a ≤ b → IsBetween text from a x → IsBetween text from b x
+between-later : (text : List ℕ) (from a b : ℕ) (x : Ranged) → a ≤ b → IsBetween text from a x → IsBetween text from b x
 between-later text from a b x more h =
     let t : x.«end» ≤ a = h.before in record { following = h.following; order = h.order; before = omega arith; starts = h.starts; ends = h.ends }
 
-between-earlier : (text : List ℕ) (a b to : ℕ) (x : Extent) → a ≤ b → IsBetween text b to x → IsBetween text a to x
+between-earlier : (text : List ℕ) (a b to : ℕ) (x : Ranged) → a ≤ b → IsBetween text b to x → IsBetween text a to x
 between-earlier text a b to x more h =
     let t : b ≤ x.start = h.following in record { following = omega arith; order = h.order; before = h.before; starts = h.starts; ends = h.ends }
 
@@ -132,7 +132,7 @@ any_by : (text : List ℕ) (item : Bool) (v : Within) (from to : ℕ) (row : Sib
 any_by text true v from to row wider h = h
 any_by text false v from to row wider h = wider h
 
-below_any : (text : List ℕ) (w : Within) (before : ℕ) (x : Extent) (from to : ℕ) (row : Siblings)
+below_any : (text : List ℕ) (w : Within) (before : ℕ) (x : Ranged) (from to : ℕ) (row : Siblings)
     → ((v : Within) → Fits text Elsewhere from to row → Fits text v from to row)
     → Fits text (below Elsewhere before x) from to row → Fits text (below w before x) from to row
 below_any text Elsewhere before x from to row wider h = h
@@ -165,7 +165,7 @@ beyond-again text InItem from to row h = h
 beyond-again text (InText before) from to row h = h
 beyond-again text (InFirst before) from to row h = h
 
-following-lead : (text : List ℕ) (w : Within) (at from to : ℕ) (x : Extent) (row : Siblings)
+following-lead : (text : List ℕ) (w : Within) (at from to : ℕ) (x : Ranged) (row : Siblings)
     → IsLead text w at x → Fits text (beyond w) from to row → Fits text Elsewhere from to row
 following-lead text Elsewhere at from to x row l h = absurd l
 following-lead text InItem at from to x row l h = absurd l
@@ -202,7 +202,7 @@ item_by text false true first a b from to row more h = fits-earlier_lead text a 
 item_by text false false true a b from to row more h = fits-earlier_first text a b from to row more h
 item_by text false false false a b from to row more h = h
 
-below_earlier : (text : List ℕ) (w : Within) (a b : ℕ) (x : Extent) (from to : ℕ) (row : Siblings) → a ≤ b
+below_earlier : (text : List ℕ) (w : Within) (a b : ℕ) (x : Ranged) (from to : ℕ) (row : Siblings) → a ≤ b
     → Fits text (below w b x) from to row → Fits text (below w a x) from to row
 below_earlier text Elsewhere a b x from to row more h = h
 below_earlier text InItem a b x from to row more h = item_by text x.item x.text_block x.definitions a b from to row more h
@@ -210,7 +210,7 @@ below_earlier text (InText at) a b x from to row more h = h
 below_earlier text (InFirst at) a b x from to row more h = h
 
 earlier_by : (text : List ℕ) (w : Within) (a b to : ℕ) (row : Siblings)
-    → ((x : Extent) → IsLead text w b x → ⊥) → a ≤ b → Fits text w b to row → Fits text w a to row
+    → ((x : Ranged) → IsLead text w b x → ⊥) → a ≤ b → Fits text w b to row → Fits text w a to row
 unfolding Fits
 earlier_by text w a b to Empty none more h = let t : b ≤ to = h in omega arith
 earlier_by text w a b to (Node x kids next) none more (inl (h, k, n)) =
@@ -240,12 +240,12 @@ fits-beside text w from mid to (Node x kids next) more (inr (l, k, n)) following
     inr (l, k, fits-beside text Elsewhere from mid to next more n (following-lead text w from mid to x more l following))
 
 -- a single sibling fits
-pub fits-one : (text : List ℕ) (w : Within) (from to : ℕ) (x : Extent) → IsBetween text from to x → Fits text w from to (Node x Empty Empty)
+pub fits-one : (text : List ℕ) (w : Within) (from to : ℕ) (x : Ranged) → IsBetween text from to x → Fits text w from to (Node x Empty Empty)
 unfolding Fits
 fits-one text w from to x h = inl (h, h.order, h.before)
 
 -- open nodes are in order up to a later offset
-pub fits_open-later : (text : List ℕ) (a b : ℕ) (levels : List (Siblings × Extent)) (row : Siblings) → a ≤ b → FitsOpen text a levels row
+pub fits_open-later : (text : List ℕ) (a b : ℕ) (levels : List (Siblings × Ranged)) (row : Siblings) → a ≤ b → FitsOpen text a levels row
     → FitsOpen text b levels row
 unfolding FitsOpen
 fits_open-later text a b [] row more h = fits-later text Elsewhere 0 a b row more h
@@ -268,7 +268,7 @@ beyond_first : (text : List ℕ) (first : Bool) (at from to : ℕ) (row : Siblin
 beyond_first text true at from to row h = h
 beyond_first text false at from to row h = h
 
-beyond_below : (text : List ℕ) (w : Within) (before : ℕ) (x : Extent) (from to : ℕ) (row : Siblings)
+beyond_below : (text : List ℕ) (w : Within) (before : ℕ) (x : Ranged) (from to : ℕ) (row : Siblings)
     → Fits text (if x.item then InItem else Elsewhere) from to row
     → Fits text (beyond (below w before x)) from to row
 beyond_below text Elsewhere before x from to row h = beyond_by text x.item Elsewhere from to row (λ e. e) h
@@ -281,7 +281,7 @@ beyond_below text (InFirst at) before x from to row h =
     beyond_by text x.item (if x.text_block then InText at else Elsewhere) from to row (beyond_text text x.text_block at Elsewhere from to row (λ e. e)) h
 
 -- more nodes in the innermost open node fit
-pub fits_open-beside : (text : List ℕ) (mid to : ℕ) (levels : List (Siblings × Extent)) (row more : Siblings)
+pub fits_open-beside : (text : List ℕ) (mid to : ℕ) (levels : List (Siblings × Ranged)) (row more : Siblings)
     → FitsOpen text mid levels row → Fits text (open_within levels) mid to more
     → FitsOpen text to levels (beside row more)
 unfolding FitsOpen
@@ -296,25 +296,25 @@ fits_open-beside text mid to (level ∷ levels) row more (before, m, h, starts, 
 )
 
 -- a node that is opened fits
-pub fits_open-pushed : (text : List ℕ) (a : ℕ) (x : Extent) (levels : List (Siblings × Extent)) (row : Siblings)
+pub fits_open-pushed : (text : List ℕ) (a : ℕ) (x : Ranged) (levels : List (Siblings × Ranged)) (row : Siblings)
     → a ≤ x.start → IsCharBoundary text x.start → FitsOpen text a levels row → FitsOpen text x.start ((row, x) ∷ levels) Empty
 unfolding FitsOpen Fits
 fits_open-pushed text a x levels row more starts h = let t : x.start ≤ x.start = omega arith in (a, more, t, starts, h)
 
 -- another end does not change what may be below a node
-pub below_ended : (w : Within) (before : ℕ) (x : Extent) (e : ℕ) → below w before (ended_at x e) ≡ below w before x
+pub below_ended : (w : Within) (before : ℕ) (x : Ranged) (e : ℕ) → below w before (ended_at x e) ≡ below w before x
 below_ended Elsewhere before x e = refl
 below_ended InItem before x e = refl
 below_ended (InText at) before x e = refl
 below_ended (InFirst at) before x e = refl
 
 -- the innermost open node fits after it is closed
-pub fits_open-popped : (text : List ℕ) (at e : ℕ) (level : Siblings × Extent) (levels : List (Siblings × Extent)) (row : Siblings)
+pub fits_open-popped : (text : List ℕ) (at e : ℕ) (level : Siblings × Ranged) (levels : List (Siblings × Ranged)) (row : Siblings)
     → at ≤ e → IsCharBoundary text e → FitsOpen text at (level ∷ levels) row
     → FitsOpen text e levels (beside level.0 (Node (ended_at level.1 e) row Empty))
 unfolding FitsOpen Fits
 fits_open-popped text at e level levels row more ends (before, m, h, starts, rest) =
-    let x : Extent = level.1 in
+    let x : Ranged = level.1 in
     let w : Within = open_within levels in
     let inside : Fits text (below w before x) x.start e row = fits-later text (below w before x) x.start at e row more h in
     let order : x.start ≤ e = fits-order text (below w before x) x.start e row inside in
@@ -327,7 +327,7 @@ fits_open-popped text at e level levels row more ends (before, m, h, starts, res
     ))
 
 -- the extent of a node gets another end
-pub extents-ended : (nodes : List (ℕ × Item)) (before : List (ℕ × Extent)) (n : ℕ × Extent) (more : List (ℕ × Extent)) (k e : ℕ)
+pub extents-ended : (nodes : List (ℕ × Item)) (before : List (ℕ × Ranged)) (n : ℕ × Ranged) (more : List (ℕ × Ranged)) (k e : ℕ)
     → extents nodes ≡ before ++ n ∷ more → k ≡ length before
     → extents (modify nodes k (λ x. record x { «end» = e })) ≡ before ++ (n.0, ended_at n.1 e) ∷ more
 extents-ended [] [] n more k e is at = cc
@@ -335,24 +335,24 @@ extents-ended [] (y ∷ before) n more k e is at = cc
 extents-ended (m ∷ nodes) [] n more zero e is at =
     let x : (m.0, extent_of m.1) ≡ n = cc in
     let y : extents nodes ≡ more = cc in
-    ap (λ (z : ℕ × Extent). (z.0, ended_at z.1 e) ∷ extents nodes) x ∙ ap (λ (z : List (ℕ × Extent)). (n.0, ended_at n.1 e) ∷ z) y
+    ap (λ (z : ℕ × Ranged). (z.0, ended_at z.1 e) ∷ extents nodes) x ∙ ap (λ (z : List (ℕ × Ranged)). (n.0, ended_at n.1 e) ∷ z) y
 extents-ended (m ∷ nodes) [] n more (suc k) e is at = absurd (omega arith)
 extents-ended (m ∷ nodes) (y ∷ before) n more zero e is at = absurd (omega arith)
 extents-ended (m ∷ nodes) (y ∷ before) n more (suc k) e is at =
     let x : (m.0, extent_of m.1) ≡ y = cc in
     let z : extents nodes ≡ before ++ n ∷ more = cc in
-    ap (λ (w : List (ℕ × Extent)). (m.0, extent_of m.1) ∷ w) (extents-ended nodes before n more k e z (omega arith))
-    ∙ ap (λ (w : ℕ × Extent). w ∷ (before ++ (n.0, ended_at n.1 e) ∷ more)) x
+    ap (λ (w : List (ℕ × Ranged)). (m.0, extent_of m.1) ∷ w) (extents-ended nodes before n more k e z (omega arith))
+    ∙ ap (λ (w : ℕ × Ranged). w ∷ (before ++ (n.0, ended_at n.1 e) ∷ more)) x
 
 -- a change at a place that keeps the extent
 pub extents-kept : (nodes : List (ℕ × Item)) (k : ℕ) (g : Item → Item) (b : ItemBody)
     → body_at nodes k ≡ Some b → ((x : Item) → x.body ≡ b → extent_of (g x) ≡ extent_of x) → extents (modify nodes k g) ≡ extents nodes
 extents-kept [] k g b is same = refl
-extents-kept (n ∷ nodes) zero g b is same = (let e : n.1.body ≡ b = cc in ap (λ (x : Extent). (n.0, x) ∷ extents nodes) (same n.1 e))
-extents-kept (n ∷ nodes) (suc k) g b is same = ap (λ (z : List (ℕ × Extent)). (n.0, extent_of n.1) ∷ z) (extents-kept nodes k g b is same)
+extents-kept (n ∷ nodes) zero g b is same = (let e : n.1.body ≡ b = cc in ap (λ (x : Ranged). (n.0, x) ∷ extents nodes) (same n.1 e))
+extents-kept (n ∷ nodes) (suc k) g b is same = ap (λ (z : List (ℕ × Ranged)). (n.0, extent_of n.1) ∷ z) (extents-kept nodes k g b is same)
 
 -- if only the root is open, the whole tree is in order
-pub fits-whole : (text : List ℕ) (root : Extent) (to : ℕ) (row : Siblings)
+pub fits-whole : (text : List ℕ) (root : Ranged) (to : ℕ) (row : Siblings)
     → IsBetween text 0 (length text) root → root.start ≡ 0 → root.«end» ≡ length text → to ≤ length text → FitsOpen text to [] row
     → Fits text Elsewhere 0 (length text) (Node root row Empty)
 unfolding FitsOpen Fits
@@ -374,7 +374,7 @@ unfolding laid row_of
 row_of-laid k [] = refl
 row_of-laid k (x ∷ xs) =
     let none : k + 0 ≡ k = omega arith in
-    ap (λ (j : ℕ). (j, extent_of x) ∷ extents (at_depth k (leaves xs))) none ∙ ap (λ (row : List (ℕ × Extent)). (k, extent_of x) ∷ row) (row_of-laid k xs)
+    ap (λ (j : ℕ). (j, extent_of x) ∷ extents (at_depth k (leaves xs))) none ∙ ap (λ (row : List (ℕ × Ranged)). (k, extent_of x) ∷ row) (row_of-laid k xs)
 
 pub row_of-fits : (text : List ℕ) (w : Within) (from to : ℕ) (chain : List Item) → AreInOrder text from to chain → Fits text w from to (row_of chain)
 unfolding Fits row_of
@@ -386,7 +386,7 @@ row_of-fits text w from to (x ∷ xs) h =
 -- a block that fits elsewhere fits anywhere
 pub between-any : (text : List ℕ) (w : Within) (from to : ℕ) (items : List (ℕ × Item))
     → FitsBetween text Elsewhere from to items → FitsBetween text w from to items
-between-any text w from to items (row, is, fits, few) = (row, is, fits-any text w from to row fits, few)
+between-any text w from to items (row, is, fits, node_bound) = (row, is, fits-any text w from to row fits, node_bound)
 
 -- items keep their number at a greater depth
 pub length-at_depth : (d : ℕ) (items : List (ℕ × Item)) → length (at_depth d items) ≡ length items
@@ -403,9 +403,9 @@ pub block_fits : (text : List ℕ) (w : Within) (from to : ℕ) (x : Item) (chai
     → IsBetween text from to (extent_of x) → AreInOrder text x.start x.«end» chain → (from < to → suc (length chain) ≤ 4 * (to - from))
     → FitsBetween text w from to (block_of x (leaves chain))
 unfolding laid Fits
-block_fits text w from to x chain between order few = (
+block_fits text w from to x chain between order node_bound = (
   Node (extent_of x) (row_of chain) Empty,
-  ap (λ (ns : List (ℕ × Extent)). (0, extent_of x) ∷ ns) (row_of-laid 1 chain ∙ sym (append-nil (laid 1 (row_of chain)))),
+  ap (λ (ns : List (ℕ × Ranged)). (0, extent_of x) ∷ ns) (row_of-laid 1 chain ∙ sym (append-nil (laid 1 (row_of chain)))),
   inl (between, row_of-fits text (below w from (extent_of x)) x.start x.«end» chain order, between.before),
-  λ apart. (let some = few apart in let size = length-block x chain in let most = own_at_most None (block_of x (leaves chain)) in omega arith),
+  λ apart. (let some = node_bound apart in let size = length-block x chain in let most = own_at_most None (block_of x (leaves chain)) in omega arith),
 )

@@ -15,20 +15,20 @@ use Rattle.first_pass_grammar.specs.LinkTables.{LinkEntry, with_links, with_labe
 use Rattle.first_pass_grammar.specs.Before.{Before, LastOther, nothing, after_blank, after_block, after_container, before_end}
 use Rattle.first_pass_grammar.specs.Containers.{is_quote}
 use Rattle.first_pass_grammar.specs.Rows.{What, ALeaf, AQuote, AList, AnItem, AFootnote, Row, Rows, End, OneOf, gapped, any_gap, is_loose}
-use Rattle.first_pass_grammar.specs.Rows.{Joins, ItemsOf, DefinitionsTo, Untitled, WithTitle, Apart, ADefinitionList, ATitle, ADefinition, is_list_of}
-use Rattle.first_pass_grammar.specs.Rows.{ends_at}
+use Rattle.first_pass_grammar.specs.Rows.{Joins, ItemsOf, DefinitionsTo, Untitled, WithTitle, Apart, ADefinitionList, ATitle, ADefinition, continues_list}
+use Rattle.first_pass_grammar.specs.Rows.{end_of_list_before}
 use Rattle.first_pass_grammar.specs.Rows.{Definitions, apart_after, definitions_of_row, is_untitled, is_run_row, definitions_first, titled, leaf_row}
 use Rattle.first_pass_grammar.specs.Rows.{gap_before}
 use Rattle.first_pass_grammar.specs.Before.{LastParagraph, is_paragraph_body, begins_paragraph, is_run, is_after_definition, last_after_run}
 use Rattle.first_pass_grammar.specs.Derivation.{as_title}
-use Rattle.first_pass_grammar.specs.Names.{kind_alone}
+use Rattle.first_pass_grammar.specs.Names.{only_kind}
 use Rattle.std.specs.Option.{option_map, option_map_or}
 use Rattle.first_pass_items.specs.declared.item.ItemBody.{ItemBody}
 use Rattle.first_pass_items.specs.declared.item.ItemBody.TheVariants.{DefinitionList as DefinitionListBody, DefinitionListDefinition as DefinitionBody}
 use Rattle.first_pass_items.specs.declared.item.ItemBody.TheVariants.{DefinitionListTitle, SynthesizeText, FencedCodeBlock, Table, Heading}
-use Rattle.first_pass_grammar.specs.Rows.{end_of, list_until, items_after, list_after, row_of, row_of_leaf, container_row, rows_of}
+use Rattle.first_pass_grammar.specs.Rows.{end_of_row, list_until, items_after, list_after, row_of, row_of_leaf, container_row, rows_of}
 use Rattle.first_pass_grammar.specs.Derivation.{Tables, definitions_of, footnotes_of, told_by, node_of, list_flags, row_items, tight_in, items_of}
-use Rattle.first_pass_grammar.proofs.Alike.{AlikeNodes, stands, head_alone, label_node, opened_alike, label_alike, Alike, nodes_append, tight_read}
+use Rattle.first_pass_grammar.proofs.Alike.{AlikeNodes, stands, only_head, label_node, opened_alike, label_alike, Alike, nodes_append, tight_read}
 use Rattle.first_pass_grammar.proofs.Alike.{read_tight}
 use Rattle.first_pass_grammar.proofs.Alike.{read_at_depth}
 
@@ -57,7 +57,7 @@ AlikeRows m n End (OneOf row' inner' next') = ⊥
 AlikeRows m n (OneOf row inner next) End = ⊥
 AlikeRows m n (OneOf row inner next) (OneOf row' inner' next') = AlikeRow m n row row' × AlikeRows m n inner inner' × AlikeRows m n next next'
 
-list_bare : (joins : Joins) (w : What) → is_list_of joins (bare_what w) ≡ is_list_of joins w
+list_bare : (joins : Joins) (w : What) → continues_list joins (bare_what w) ≡ continues_list joins w
 list_bare (ItemsOf byte) (ALeaf b) = refl
 list_bare (ItemsOf byte) (AFootnote index e) = refl
 list_bare (ItemsOf byte) (ATitle b) = refl
@@ -74,7 +74,7 @@ tight_bare tight loose (ATitle b) = refl
 tight_bare tight loose w = refl
 
 abbrev until_at : Joins → ℕ → Row → ℕ
-until_at joins last row = if is_list_of joins row.what then end_of row.what last else ends_at joins row
+until_at joins last row = if continues_list joins row.what then end_of_row row.what last else end_of_list_before joins row
 
 until_what : (joins : Joins) (last line start : ℕ) (gap : Bool) (w : What)
     → until_at joins last (record { what = bare_what w; line = line; start = start; gap = gap })
@@ -88,8 +88,8 @@ until_what (DefinitionsTo e) last line start gap (AFootnote index x) = refl
 until_what (DefinitionsTo e) last line start gap (ATitle b) = refl
 until_what (DefinitionsTo e) last line start gap w = refl
 
-same_list : (m n : Names) (joins : Joins) (row row' : Row) → AlikeRow m n row row' → is_list_of joins row.what ≡ is_list_of joins row'.what
-same_list m n joins row row' a = sym (list_bare joins row.what) ∙ ap (λ (r : Row). is_list_of joins r.what) a.0 ∙ list_bare joins row'.what
+same_list : (m n : Names) (joins : Joins) (row row' : Row) → AlikeRow m n row row' → continues_list joins row.what ≡ continues_list joins row'.what
+same_list m n joins row row' a = sym (list_bare joins row.what) ∙ ap (λ (r : Row). continues_list joins r.what) a.0 ∙ list_bare joins row'.what
 
 gapped_alike : (m n : Names) (gap gap' : Bool) (r r' : Rows) → gap ≡ gap' → AlikeRows m n r r' → AlikeRows m n (gapped gap r) (gapped gap' r')
 gapped_alike m n gap gap' End End is a = tt
@@ -167,7 +167,7 @@ same_container m n last (DefinitionMarker columns) line start e gap inner inner'
 same_container m n last (FootnoteMarker columns index label) line start e gap inner inner' next next' a b named = ((refl, named), a, b)
 
 container_alike : (m n : Names) (last : ℕ) (o o' : Opener) (line line' start start' e : ℕ) (gap : Bool) (inner inner' next next' : Rows)
-    → head_alone (head_of o line start) ≡ head_alone (head_of o' line' start') → AlikeNodes m n (label_node o) (label_node o')
+    → only_head (head_of o line start) ≡ only_head (head_of o' line' start') → AlikeNodes m n (label_node o) (label_node o')
     → AlikeRows m n inner inner' → AlikeRows m n next next'
     → AlikeRows m n (container_row last o (row_of (head_of o line start) e gap) inner next)
     (container_row last o' (row_of (head_of o' line' start') e gap) inner' next')
@@ -219,13 +219,13 @@ leaf_bare b b' gap gap' is own same =
     ap (λ z. row_of_leaf (leaf z b.gap) gap) is ∙ ap (λ g. row_of_leaf (leaf (stands b') g) gap) own ∙ ap (row_of_leaf (leaf (stands b') b'.gap)) same
 
 -- If of two blocks that are alike one is a paragraph, so is the other.
-paragraph_alone : (b : ItemBody) → is_paragraph_body (kind_alone b) ≡ is_paragraph_body b
-paragraph_alone (SynthesizeText ix) = refl
-paragraph_alone (FencedCodeBlock ix) = refl
-paragraph_alone (FootnoteDefinitionBody ix) = refl
-paragraph_alone (Table ix) = refl
-paragraph_alone (Heading level ix) = refl
-paragraph_alone b = refl
+only_paragraph : (b : ItemBody) → is_paragraph_body (only_kind b) ≡ is_paragraph_body b
+only_paragraph (SynthesizeText ix) = refl
+only_paragraph (FencedCodeBlock ix) = refl
+only_paragraph (FootnoteDefinitionBody ix) = refl
+only_paragraph (Table ix) = refl
+only_paragraph (Heading level ix) = refl
+only_paragraph b = refl
 
 abbrev begins_read : List (ℕ × (Item × Option Named)) → Bool
 begins_read [] = false
@@ -233,7 +233,7 @@ begins_read (x ∷ more) = is_paragraph_body x.1.0.body
 
 begins_is : (m : Names) (items : List (ℕ × Item)) → begins_read (read_nodes m items) ≡ begins_paragraph items
 begins_is m [] = refl
-begins_is m (x ∷ items) = paragraph_alone x.1.body
+begins_is m (x ∷ items) = only_paragraph x.1.body
 
 pub begins_alike : (m n : Names) (items items' : List (ℕ × Item)) → AlikeNodes m n items items' → begins_paragraph items ≡ begins_paragraph items'
 begins_alike m n items items' a = sym (begins_is m items) ∙ ap begins_read a ∙ begins_is n items'
@@ -270,7 +270,7 @@ run_bare (AFootnote index e) = refl
 run_bare (ATitle b) = refl
 run_bare w = refl
 
-end_bare : (w : What) → end_of (bare_what w) 0 ≡ end_of w 0
+end_bare : (w : What) → end_of_row (bare_what w) 0 ≡ end_of_row w 0
 end_bare (ALeaf b) = refl
 end_bare (AFootnote index e) = refl
 end_bare (ATitle b) = refl
@@ -289,7 +289,7 @@ at_alike : (m n : Names) (t t' u u' : Bool) (row row' : Row) (inner inner' next 
     (if t' then definitions_of_row row' inner' next' else (if u' then option_map (apart_after row' inner') o' else None))
 at_alike m n t true u u' row row' inner inner' next next' o o' is same a f =
     rw is (
-      sym (end_bare row.what) ∙ ap (λ (r : Row). end_of r.what 0) a.0.0 ∙ end_bare row'.what,
+      sym (end_bare row.what) ∙ ap (λ (r : Row). end_of_row r.what 0) a.0.0 ∙ end_bare row'.what,
       refl,
       gapped_alike m n row.gap row'.gap inner inner' (ap (λ (z : Row). z.gap) a.0.0) a.1,
       a.2,

@@ -332,12 +332,12 @@ one_over : (d : Document) (columns most : ℕ) (first more items : List (ℕ × 
     → how_often row.«end» row.starts + filled_in rows ≤ most
     → (rows : List RowCells) × (marks d.names items ≡ row_marks 0 rows) × HaveCells columns rows × (filled_in rows ≤ most)
 unfolding row_marks HaveCells filled_in
-one_over d columns most first more items row rows e show size these have few = (
+one_over d columns most first more items row rows e show size these have node_bound = (
   row ∷ rows,
   ap (marks d.names) e ∙ marks-append d.names first more ∙ ap (λ (z : List Mark). z ++ marks d.names more) show
       ∙ ap (λ (z : List Mark). (ARow 0 row.«end» ∷ map (ACell 1) row.starts) ++ z) these,
   (size.0, size.1, have),
-  few,
+  node_bound,
 )
 
 counted_show : (d : Document) (path : List Container) (table : TableSoFar) (lines : List Place) (t : Taken) → CountedRows d path table lines t
@@ -351,7 +351,7 @@ counted_show d path table (line ∷ lines) t (inr (row, has, inr (is, more, rest
     let n : ℕ = filled table.columns row.cells in
     let (starts, show, size, apart, often) =
     row_shows d TableRow table.columns (spot row.start table.braces) row.cells (spot row.row_end row.after) refl has.are_cells in
-    let (rows, these, have, few) = counted_show d path (with_row table row) lines more rest in
+    let (rows, these, have, node_bound) = counted_show d path (with_row table row) lines more rest in
     let fits = leb-true n table.room (and_parts (nat_lt 0 (length row.cells)) (nat_le n table.room) is).1 in
     one_over d table.columns table.room (row_block TableRow table.columns row.start row.cells row.row_end) more.items t.items
     (record { «end» = row.row_end; starts = starts }) rows (ap (λ (z : Taken). z.items) e) show (size, apart) these have (omega arith)
@@ -369,7 +369,7 @@ table_shows d path p alignments lines t h low =
     let columns : ℕ = length alignments in
     let (starts, show, size, apart, often) =
     row_shows d TableHead columns (spot (offset p) no_braces) h.cells (spot h.head_end h.after) refl h.are_cells in
-    let (rows, these, have, few) = rows_show d path (table_so_far columns (most_filled - filled columns h.cells) h.after) (drop 1 lines) _ h.are_rows in
+    let (rows, these, have, node_bound) = rows_show d path (table_so_far columns (most_filled - filled columns h.cells) h.after) (drop 1 lines) _ h.are_rows in
     let head : List (ℕ × Item) = row_block TableHead columns (offset p) h.cells h.head_end in
     let first : RowCells = record { «end» = h.head_end; starts = starts } in
     let count : shown d.names 0 (offset p) (start_of (length d.text) t.left) (Table h.index) ≡ ATable 0 columns ∷ [] = rw h.named refl in

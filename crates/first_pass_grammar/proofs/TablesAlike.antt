@@ -147,9 +147,9 @@ one_table d n path p alignments lines t u h k =
     let columns : ℕ = length alignments in
     let c = one_cells d n (spot (offset p) no_braces) h.cells k.cells (spot h.head_end h.after) (spot k.head_end k.after) h.are_cells k.are_cells in
     let ends : h.head_end ≡ k.head_end = ap (λ (z : Spot). z.at) c.1 in
-    let few : filled columns k.cells ≡ filled columns h.cells = ap (λ (z : ℕ). columns - z) (sym (as_many d.names n h.cells k.cells c.0)) in
+    let node_bound : filled columns k.cells ≡ filled columns h.cells = ap (λ (z : ℕ). columns - z) (sym (as_many d.names n h.cells k.cells c.0)) in
     let same : table_so_far columns (most_filled - filled columns k.cells) k.after ≡ table_so_far columns (most_filled - filled columns h.cells) h.after =
-    ap (λ (z : ℕ). table_so_far columns (most_filled - z) k.after) few
+    ap (λ (z : ℕ). table_so_far columns (most_filled - z) k.after) node_bound
     ∙ ap (λ (z : Spot). table_so_far columns (most_filled - filled columns h.cells) z.braces) (sym c.1) in
     let body : AlikeTaken d.names n (taking h.body t.left) (taking k.body u.left) =
     one_rows d n path (drop 1 lines) (table_so_far columns (most_filled - filled columns h.cells) h.after) (taking h.body t.left) (taking k.body u.left)

@@ -7,7 +7,7 @@ use Rattle.first_pass_tokens.specs.Chains.{add_tokens}
 use Rattle.first_pass_tokens.specs.Pieces.{Inline}
 use Rattle.first_pass_tokens.specs.NamedTexts.{AreMore}
 use Rattle.first_pass_tokens.specs.Braces.{MathBraces}
-use Rattle.first_pass_tokens.specs.LineTokens.{Spot, spot, IsLine, IsCell}
+use Rattle.first_pass_tokens.specs.LineTokens.{Spot, spot, AreLineTokens, IsCell}
 use Rattle.first_pass_tokens.proofs.NamedTexts.{line_more, cell_more}
 use Rattle.first_pass_grammar.specs.declared.kind.Container.{Container}
 use Rattle.first_pass_grammar.specs.Names.{Names, Extends}
@@ -21,7 +21,7 @@ texts_later later names e = (e.more_texts, e.texts)
 
 -- a line and a cell
 pub line_later : {after : MathBraces} (later names : Names) (s : Inline) (tokens : List Item) (answer : ℕ × Option Item) → Extends later names
-    → IsLine names.texts s tokens answer after → IsLine later.texts s tokens answer after
+    → AreLineTokens names.texts s tokens answer after → AreLineTokens later.texts s tokens answer after
 line_later later names s tokens answer e h = line_more (texts_later later names e) h
 
 pub cell_later : {after : MathBraces} (later names : Names) (s : Inline) (tokens : List Item) (stop : ℕ) → Extends later names

@@ -5,12 +5,12 @@ use Rattle.std.proofs.lemmas.Option.{slice_get_within}
 use Rattle.first_pass_items.specs.declared.cow_str.CowStr.{CowStr}
 use Rattle.first_pass_items.specs.declared.item.ItemBody.{ItemBody}
 use Rattle.first_pass_items.specs.declared.item.ItemBody.TheVariants.{SynthesizeText}
-use Rattle.first_pass_tokens.specs.declared.pieces.Found.{Found}
-use Rattle.first_pass_tokens.specs.declared.pieces.Found.TheVariants.{Ready, Reference, Dashes, Dollar, OpenBrace, CloseBrace}
+use Rattle.first_pass_tokens.specs.declared.pieces.TokenStart.{TokenStart}
+use Rattle.first_pass_tokens.specs.declared.pieces.TokenStart.TheVariants.{Ready, Reference, Dashes, Dollar, OpenBrace, CloseBrace}
 use Rattle.first_pass_tokens.specs.declared.pieces.Piece.{Piece}
 use Rattle.first_pass_tokens.specs.declared.pieces.Piece.TheVariants.{Left, Begins, Token, Run}
 use Rattle.first_pass_tokens.specs.Braces.{MathBraces}
-use Rattle.first_pass_tokens.specs.NamedTexts.{Becomes}
+use Rattle.first_pass_tokens.specs.NamedTexts.{MakesPiece}
 use Rattle.first_pass_tokens.specs.Pieces.{Inline, found_at}
 use Rattle.first_pass_tokens.proofs.AlikeLemmas.{names_text, NamesNone, ReadyNamesNone, found_none}
 
@@ -36,7 +36,7 @@ ready_within texts (Begins dropped escaped) h = tt
 ready_within texts (Token dropped n body) h = none_within texts body h
 ready_within texts (Run n opens closes) h = tt
 
-becomes_within : (texts : List CowStr) (b : MathBraces) (found : Found) (p : Piece) → ReadyNamesNone found → Becomes texts b found p → PieceWithin texts p
+becomes_within : (texts : List CowStr) (b : MathBraces) (found : TokenStart) (p : Piece) → ReadyNamesNone found → MakesPiece texts b found p → PieceWithin texts p
 becomes_within texts b (Ready piece) p none is = subst (PieceWithin texts) (sym is) (ready_within texts piece none)
 becomes_within texts b (Reference n c) p none is = subst (PieceWithin texts) (sym is.2) (slice_get_within texts is.0.0 is.1.0 is.1.1)
 becomes_within texts b (Dashes n) p none is = subst (PieceWithin texts) (sym is.2) (slice_get_within texts is.0.0 is.1.0 is.1.1)
@@ -45,5 +45,5 @@ becomes_within texts b OpenBrace p none is = subst (PieceWithin texts) (sym is) 
 becomes_within texts b CloseBrace p none is = subst (PieceWithin texts) (sym is) tt
 
 -- the piece at a place names one of these texts, if it names a text
-pub piece_within : (texts : List CowStr) (b : MathBraces) (s : Inline) (at : ℕ) (p : Piece) → Becomes texts b (found_at s at) p → PieceWithin texts p
+pub piece_within : (texts : List CowStr) (b : MathBraces) (s : Inline) (at : ℕ) (p : Piece) → MakesPiece texts b (found_at s at) p → PieceWithin texts p
 piece_within texts b s at p is = becomes_within texts b (found_at s at) p (found_none s at) is

@@ -33,16 +33,16 @@ use Rattle.std.proofs.lemmas.Option.{none-some, same_Some}
 use Rattle.first_pass_grammar.specs.Blocks.{leaf_block, Leaf, BlankLine, Block, Opener, QuoteMarker, ItemMarker, FootnoteMarker, DefinitionMarker, Head}
 use Rattle.first_pass_grammar.specs.Blocks.{opened, Skeleton, Nil}
 use Rattle.first_pass_grammar.specs.Blocks.{Then, Node}
-use Rattle.first_pass_grammar.specs.Skeleton.{OpensBeyond, OpensRun, From, Line, Blanks, At, Anything, ALeafAlone, TextOf, MarkAlone, after_marker, Opening}
+use Rattle.first_pass_grammar.specs.Skeleton.{OpensBeyond, OpensRun, From, Line, Blanks, At, Anything, OnlyALeaf, TextOf, OnlyMark, after_marker, Opening}
 use Rattle.first_pass_grammar.specs.Skeleton.{OpensLeaf, OpensNode, OpensText, OpensExtent, OpensAs, OpensBlockAt, next_is_blank}
-use Rattle.first_pass_grammar.specs.Skeleton.{task_alone, after_tag}
+use Rattle.first_pass_grammar.specs.Skeleton.{only_task, after_tag}
 use Rattle.first_pass_grammar.specs.Openers.{task_by, task_after, tag_after}
 use Rattle.first_pass_grammar.specs.Skeleton.{Opens, OpensAt, may_define, Level, level, level_in, level_after_leaf, level_after, Left, Lines, InLine}
 use Rattle.first_pass_grammar.specs.Skeleton.{NextBlock}
 use Rattle.first_pass_grammar.specs.Skeleton.{Begins, Ends}
 use Rattle.first_pass_grammar.specs.Skeleton.{next_block, onward, after_first, end_before, IsFirst, IsSequence}
 use Rattle.first_pass_grammar.specs.Derivation.{Tables, no_tables, node_of, Derives, IsOnlyDerived}
-use Rattle.first_pass_grammar.proofs.NoIndex.{HasNoIndex, read_alone}
+use Rattle.first_pass_grammar.proofs.NoIndex.{HasNoIndex, only_read}
 use Rattle.first_pass_grammar.specs.RawLines.{range_text, range_html}
 use Rattle.first_pass_grammar.proofs.Alike.{with_names, AlikeNodes, HoldsNoIndex, AlikeLeaf, AlikeOpening, Alike, label_node, opened_alike, label_named}
 use Rattle.first_pass_grammar.proofs.Alike.{text_free, html_free, raw_alike, block_alike}
@@ -53,7 +53,7 @@ use Rattle.first_pass_grammar.specs.Before.{Before, nothing, after_container, be
 use Rattle.first_pass_grammar.specs.Containers.{is_quote}
 use Rattle.first_pass_grammar.proofs.Goings.{same_left}
 use Rattle.first_pass_grammar.proofs.RowsAlike.{end_alike, forest_alike, told_alike, after_alike}
-use Rattle.first_pass_grammar.specs.Openers.{AfterMarker, OnLine, TaskText, LineEnds, TagAlone, Start, after_task, after_quote, start_at}
+use Rattle.first_pass_grammar.specs.Openers.{AfterMarker, OnLine, TaskText, LineEnds, OnlyTag, Start, after_task, after_quote, start_at}
 use Rattle.first_pass_grammar.specs.Skeleton.{OpensBy, OpensFootnote, opening_by, without_indent}
 use Rattle.first_pass_grammar.specs.Footnotes.{footnote_head_at}
 use Rattle.first_pass_grammar.proofs.OpenerFacts.{start_cases}
@@ -238,7 +238,7 @@ marker_free : (blanks : Option ℕ) → HoldsNoIndex (after_marker blanks)
 marker_free None = tt
 marker_free (Some e) = tt
 
-alone_free : (marker : Option Item) (p : Place) (blanks : Option ℕ) → IfSome marker HasNoIndex → HoldsNoIndex (task_alone marker p blanks)
+alone_free : (marker : Option Item) (p : Place) (blanks : Option ℕ) → IfSome marker HasNoIndex → HoldsNoIndex (only_task marker p blanks)
 alone_free None p blanks h = marker_free blanks
 alone_free (Some marker) p blanks h = h
 
@@ -253,14 +253,14 @@ first_free false x y h k = k
 tag_free : (c : Context) (lines : List Place) → HoldsNoIndex (after_tag c lines).0
 tag_free c [] = tt
 tag_free c (line ∷ lines) =
-    first_free (ends_tag c line.rest) (Line, line ∷ lines) (At (unindented (at_rest line (front c.path line.rest))) ALeafAlone, lines) tt tt
+    first_free (ends_tag c line.rest) (Line, line ∷ lines) (At (unindented (at_rest line (front c.path line.rest))) OnlyALeaf, lines) tt tt
 
 -- the task list item marker after a container's own marker, if there is one, has no index
 abbrev AfterFree : AfterMarker → Type 0
 AfterFree OnLine = Unit {0}
 AfterFree (TaskText marker) = HasNoIndex marker
 AfterFree (LineEnds marker) = IfSome marker HasNoIndex
-AfterFree TagAlone = Unit {0}
+AfterFree OnlyTag = Unit {0}
 
 task_after_free : (t : Bool) (marker : Option Item) → IfSome marker HasNoIndex → AfterFree (if t then LineEnds marker else after_task marker)
 task_after_free true marker h = h
@@ -299,10 +299,10 @@ opening_free d path head inside lines (TaskText marker) h none = (h, none)
 opening_free d path head inside lines (LineEnds marker) h none =
     let blanks : Option ℕ = Some (start_of (length d.text) lines) in
     unless_opens (next_is_blank (opened head.opener ∷ path) lines)
-    (OpensNode (record head { opener = without_indent head.opener }) (task_alone marker inside blanks) lines)
-    (OpensNode head (task_alone marker inside None) lines)
+    (OpensNode (record head { opener = without_indent head.opener }) (only_task marker inside blanks) lines)
+    (OpensNode head (only_task marker inside None) lines)
     (alone_free marker inside blanks h, label_without head.opener none) (alone_free marker inside None h, none)
-opening_free d path head inside lines TagAlone h none = (tag_free (around d (opened head.opener ∷ path)) lines, none)
+opening_free d path head inside lines OnlyTag h none = (tag_free (around d (opened head.opener ∷ path)) lines, none)
 
 opens_by : (d : Document) (n : Names) (path : List Container) (p : Place) (lines : List Place) (q : Option Start) (o o' : Opening)
     → ((s : Start) → q ≡ Some s → StartFree s) → OpensBy d path p lines q o → OpensBy (with_names d n) path p lines q o' → AlikeOpening d.names n o o'
@@ -332,12 +332,12 @@ opens_at : (d : Document) (n : Names) (l : Level) (from : From) (p : Place) (lin
     → OpensAt d l from p lines o → OpensAt (with_names d n) l from p lines o' → AlikeOpening d.names n o o'
 opens_at d n l Line p lines o o' h e f = one_opening d n l p lines o o' e f
 opens_at d n l (At q Anything) p lines o o' h e f = one_opening d n l p lines o o' e f
-opens_at d n l (At q ALeafAlone) p lines o o' h e f = opens_block d n l.path p lines o o' e f
+opens_at d n l (At q OnlyALeaf) p lines o o' h e f = opens_block d n l.path p lines o o' e f
 opens_at d n l (Blanks x) p lines o o' h e f = one_opening d n l p lines o o' e f
 opens_at d n l (At q (TextOf marker)) p lines o o' h e f = one_text_opening d n l.path p lines (Some marker) o o' h e f
-opens_at d n l (At q (MarkAlone marker blanks)) p lines o o' h e f =
+opens_at d n l (At q (OnlyMark marker blanks)) p lines o o' h e f =
     alike_by d.names n o o' _ _ e f (
-      (refl, ap (λ (z : List (Item × Option Named)). map (λ (r : Item × Option Named). (0, r)) z) (read_alone d.names n (marker ∷ []) (h, tt)), refl, refl),
+      (refl, ap (λ (z : List (Item × Option Named)). map (λ (r : Item × Option Named). (0, r)) z) (only_read d.names n (marker ∷ []) (h, tt)), refl, refl),
       refl,
       tt,
       refl,
@@ -375,9 +375,9 @@ after_first_free : (from there : From) → HoldsNoIndex from → HoldsNoIndex th
 after_first_free (Blanks e) there h k = tt
 after_first_free Line there h k = k
 after_first_free (At p Anything) there h k = k
-after_first_free (At p ALeafAlone) there h k = k
+after_first_free (At p OnlyALeaf) there h k = k
 after_first_free (At p (TextOf marker)) there h k = k
-after_first_free (At p (MarkAlone marker blanks)) there h k = marker_free blanks
+after_first_free (At p (OnlyMark marker blanks)) there h k = marker_free blanks
 
 onward_free : (left : Left) → HoldsNoIndex (onward left).0
 onward_free (Lines lines) = tt

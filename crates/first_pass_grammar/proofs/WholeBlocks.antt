@@ -31,10 +31,10 @@ use Rattle.first_pass_grammar.specs.TableHeads.{headed_table}
 use Rattle.first_pass_grammar.specs.Tables.{filled, Taken, most_filled, IsTable}
 use Rattle.first_pass_grammar.specs.Texts.{IsPlainText, IsText, IsUnderlined, text_children, heading_children, plain_text, underline_first}
 use Rattle.first_pass_grammar.specs.Blocks.{opened, Skeleton, Nil, Then, Node}
-use Rattle.first_pass_grammar.specs.Skeleton.{OpensBeyond, OpensRun, From, Line, Blanks, At, May, Anything, ALeafAlone, TextOf, MarkAlone, after_marker}
+use Rattle.first_pass_grammar.specs.Skeleton.{OpensBeyond, OpensRun, From, Line, Blanks, At, Allowed, Anything, OnlyALeaf, TextOf, OnlyMark, after_marker}
 use Rattle.first_pass_grammar.specs.Skeleton.{Opening, OpensLeaf, OpensNode, OpensText, OpensAs, OpensBlockAt, next_is_blank}
 use Rattle.first_pass_grammar.specs.Openers.{task_by, task_after}
-use Rattle.first_pass_grammar.specs.Skeleton.{task_alone, after_tag, OpensIf}
+use Rattle.first_pass_grammar.specs.Skeleton.{only_task, after_tag, OpensIf}
 use Rattle.first_pass_grammar.specs.Openers.{tag_after}
 use Rattle.first_pass_grammar.specs.Skeleton.{may_define, OpensAt, Level, Left, Lines, InLine, onward, level_in, level_after_leaf, level_after}
 use Rattle.first_pass_grammar.specs.Skeleton.{after_first, IsFirst}
@@ -51,7 +51,7 @@ use Rattle.first_pass_grammar.specs.Footnotes.{footnote_head_at, place_past}
 use Rattle.first_pass_grammar.specs.LinkRuns.{lines_beyond}
 use Rattle.first_pass_grammar.proofs.TableMarks.{text_shows, tokens_show, raw_shows, block_shows, table_shows}
 use Rattle.first_pass_items.specs.declared.item.HeadingLevel.{HeadingLevel}
-use Rattle.first_pass_grammar.specs.Openers.{AfterMarker, OnLine, TaskText, LineEnds, TagAlone, Start, after_task, after_quote, start_at}
+use Rattle.first_pass_grammar.specs.Openers.{AfterMarker, OnLine, TaskText, LineEnds, OnlyTag, Start, after_task, after_quote, start_at}
 use Rattle.first_pass_grammar.specs.Skeleton.{OpensBy, OpensFootnote, Opens, opening_by, without_indent}
 use Rattle.first_pass_grammar.specs.Blocks.{Head}
 use Rattle.first_pass_grammar.proofs.OpenerFacts.{start_cases}
@@ -70,11 +70,11 @@ HeadsAreFull d =
     → headed_table (around d path) p.rest.left ≡ Some alignments → (h : IsTable d path p alignments lines t) → filled (length alignments) h.cells ≤ most_filled
 
 -- the marker where blocks continue, if there is one, is no part of a table
-abbrev pub PlainMay : May → Type 0
+abbrev pub PlainMay : Allowed → Type 0
 PlainMay Anything = Unit {0}
-PlainMay ALeafAlone = Unit {0}
+PlainMay OnlyALeaf = Unit {0}
 PlainMay (TextOf marker) = ShowsNothing marker.body
-PlainMay (MarkAlone marker blanks) = ShowsNothing marker.body
+PlainMay (OnlyMark marker blanks) = ShowsNothing marker.body
 
 abbrev pub PlainFrom : List ℕ → From → Type 0
 PlainFrom text Line = Unit {0}
@@ -210,7 +210,7 @@ module _ (d : Document) (full : HeadsAreFull d) where
   marker_plain None = tt
   marker_plain (Some e) = tt
 
-  alone_plain : (marker : Option Item) (p : Place) (blanks : Option ℕ) → ShownBy marker → IsAt d.text p → PlainFrom d.text (task_alone marker p blanks)
+  alone_plain : (marker : Option Item) (p : Place) (blanks : Option ℕ) → ShownBy marker → IsAt d.text p → PlainFrom d.text (only_task marker p blanks)
   alone_plain None p blanks h i = marker_plain blanks
   alone_plain (Some marker) p blanks h i = (i, h)
 
@@ -227,7 +227,7 @@ module _ (d : Document) (full : HeadsAreFull d) where
   tag_opens : (c : Context) (lines : List Place) → AreAt d.text lines → PlainFrom d.text (after_tag c lines).0 × AreAt d.text (after_tag c lines).1
   tag_opens c [] h = (tt, tt)
   tag_opens c (line ∷ lines) h =
-      tag_by (ends_tag c line.rest) (Line, line ∷ lines) (At (unindented (at_rest line (front c.path line.rest))) ALeafAlone, lines) (tt, h)
+      tag_by (ends_tag c line.rest) (Line, line ∷ lines) (At (unindented (at_rest line (front c.path line.rest))) OnlyALeaf, lines) (tt, h)
       ((at_front d.text c.path line h.0, tt), h.1)
 
   -- the task list item marker after a container's own marker, if there is one, is no part of a table
@@ -235,7 +235,7 @@ module _ (d : Document) (full : HeadsAreFull d) where
   AfterPlain OnLine = Unit {0}
   AfterPlain (TaskText marker) = ShownBy (Some marker)
   AfterPlain (LineEnds marker) = ShownBy marker
-  AfterPlain TagAlone = Unit {0}
+  AfterPlain OnlyTag = Unit {0}
 
   task_after_plain : (t : Bool) (marker : Option Item) → ShownBy marker → AfterPlain (if t then LineEnds marker else after_task marker)
   task_after_plain true marker h = h
@@ -267,10 +267,10 @@ module _ (d : Document) (full : HeadsAreFull d) where
   opening_whole path head inside lines (LineEnds marker) plain i h =
       let blanks : Option ℕ = Some (start_of (length d.text) lines) in
       unless_opens (next_is_blank (opened head.opener ∷ path) lines)
-      (OpensNode (record head { opener = without_indent head.opener }) (task_alone marker inside blanks) lines)
-      (OpensNode head (task_alone marker inside None) lines)
+      (OpensNode (record head { opener = without_indent head.opener }) (only_task marker inside blanks) lines)
+      (OpensNode head (only_task marker inside None) lines)
       (alone_plain marker inside blanks plain i, h) (alone_plain marker inside None plain i, h)
-  opening_whole path head inside lines TagAlone plain i h = tag_opens (around d (opened head.opener ∷ path)) lines h
+  opening_whole path head inside lines OnlyTag plain i h = tag_opens (around d (opened head.opener ∷ path)) lines h
 
   opens_by : (path : List Container) (p : Place) (lines : List Place) (q : Option Start) (o : Opening) → ((s : Start) → q ≡ Some s → IsPlainStart p s)
       → IsAt d.text p → AreAt d.text lines → OpensBy d path p lines q o → WholeOpening d o
@@ -294,13 +294,13 @@ module _ (d : Document) (full : HeadsAreFull d) where
       → Opens d l p lines o → WholeOpening d o
   opens_any l p lines o i h e = opens_head l p lines (footnote_head_at (around d l.path) p) o i h e
 
-  opens_if : (l : Level) (may : May) (p : Place) (lines : List Place) (o : Opening) → PlainMay may → IsAt d.text p → AreAt d.text lines
+  opens_if : (l : Level) (may : Allowed) (p : Place) (lines : List Place) (o : Opening) → PlainMay may → IsAt d.text p → AreAt d.text lines
       → OpensIf d l may p lines o → WholeOpening d o
   unfolding marks
   opens_if l Anything p lines o plain i h e = opens_any l p lines o i h e
-  opens_if l ALeafAlone p lines o plain i h e = opens_block l.path p lines o i h e
+  opens_if l OnlyALeaf p lines o plain i h e = opens_block l.path p lines o i h e
   opens_if l (TextOf marker) p lines o plain i h e = opens_text l.path p lines (Some marker) o i h plain e
-  opens_if l (MarkAlone marker blanks) p lines o plain i h e =
+  opens_if l (OnlyMark marker blanks) p lines o plain i h e =
       subst (WholeOpening d) (sym e)
       (whole_none d.names ((0, marker) ∷ []) (ap (λ (z : List Mark). z ++ []) (plain d.names 0 marker.start marker.«end»)), tt, h)
 
@@ -338,9 +338,9 @@ module _ (d : Document) (full : HeadsAreFull d) where
   after_first_plain (Blanks e) there k = tt
   after_first_plain Line there k = k
   after_first_plain (At p Anything) there k = k
-  after_first_plain (At p ALeafAlone) there k = k
+  after_first_plain (At p OnlyALeaf) there k = k
   after_first_plain (At p (TextOf marker)) there k = k
-  after_first_plain (At p (MarkAlone marker blanks)) there k = marker_plain blanks
+  after_first_plain (At p (OnlyMark marker blanks)) there k = marker_plain blanks
 
 -- each block of a sequence has whole tables, or no part of a table
 pub sequence_whole : (d : Document) (full : HeadsAreFull d) (s : Skeleton) (l : Level) (from : From) (lines : List Place) (left : Left)

@@ -38,11 +38,11 @@ list_is_open LastItem = true
 list_is_open (LastDefinition blanks) = true
 
 -- a `:` may begin a definition: after a paragraph, or after a definition that takes more than blank lines
-abbrev pub takes_definition : Last → Bool
-takes_definition LastOther = false
-takes_definition (LastParagraph title) = true
-takes_definition LastItem = false
-takes_definition (LastDefinition blanks) = not blanks
+abbrev pub definition_may_follow : Last → Bool
+definition_may_follow LastOther = false
+definition_may_follow (LastParagraph title) = true
+definition_may_follow LastItem = false
+definition_may_follow (LastDefinition blanks) = not blanks
 
 -- the last block is a definition
 abbrev pub is_after_definition : Last → Bool

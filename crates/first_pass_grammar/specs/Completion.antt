@@ -12,7 +12,7 @@ use Rattle.first_pass_grammar.specs.declared.kind.Container.TheVariants.{BlockQu
 use Rattle.first_pass_grammar.specs.Leaves.{Document, document}
 use Rattle.first_pass_grammar.specs.Names.{Names, Extends}
 use Rattle.first_pass_grammar.specs.Blocks.{Skeleton}
-use Rattle.first_pass_grammar.specs.Skeleton.{From, level, Left, Lines, onward, blanks_alone, end_before, IsSequence}
+use Rattle.first_pass_grammar.specs.Skeleton.{From, level, Left, Lines, onward, only_blanks, end_before, IsSequence}
 use Rattle.first_pass_grammar.specs.Before.{Before, Last, LastOther, LastItem, LastDefinition, LastParagraph, after_container, before_end}
 use Rattle.first_pass_grammar.specs.Containers.{is_quote}
 use Rattle.first_pass_grammar.specs.Rows.{Joins, ItemsOf, DefinitionsTo, Definitions, definitions_first, Rows, any_gap, is_loose, list_until, items_after}
@@ -284,7 +284,7 @@ pub record Completes (d : Document) (frames : List Frame) (places : List ℕ) (w
 -- Blocks can continue in these containers: only in a container, an item, may the next line have to be blank
 -- (CommonMark 5.2, and this project).
 abbrev pub CanGoOn : List Container → From → Type 0
-CanGoOn [] from = blanks_alone from ≡ None
+CanGoOn [] from = only_blanks from ≡ None
 CanGoOn (c ∷ path) from = Unit {0}
 
 -- A completion of the open nodes from here on: names that extend the present ones, the remaining parts of the

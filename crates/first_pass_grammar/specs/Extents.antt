@@ -16,8 +16,8 @@ abbrev pub with_line : Place → Extent → Extent
 with_line p e = record { places = p ∷ e.places; «end» = e.«end»; left = e.left }
 
 -- an extent without raw lines that ends at an offset
-abbrev pub ends_at : ℕ → List Place → Extent
-ends_at e lines = record { places = []; «end» = e; left = lines }
+abbrev pub extent_to : ℕ → List Place → Extent
+extent_to e lines = record { places = []; «end» = e; left = lines }
 
 -- What a line means for the block that is being read.
 -- It is a raw line, whose text begins at a place.
@@ -33,14 +33,14 @@ pub data Verdict : Type 0 where
 -- the extent from a line on, given what the line means and the extent if the block continues after it
 abbrev pub extent_by : Verdict → Place → List Place → Extent → Extent
 extent_by (GoesOn p) line lines further = with_line p further
-extent_by (IsLast p) line lines further = with_line p (ends_at (line_end p) lines)
-extent_by (Closes e) line lines further = ends_at e lines
-extent_by (Stops e) line lines further = ends_at e (line ∷ lines)
+extent_by (IsLast p) line lines further = with_line p (extent_to (line_end p) lines)
+extent_by (Closes e) line lines further = extent_to e lines
+extent_by (Stops e) line lines further = extent_to e (line ∷ lines)
 
 -- The extent of a block among these lines of a text of n bytes: up to the first line that ends it, or to the end of
 -- the text.
 unfoldable pub extent : (Place → Verdict) → ℕ → List Place → Extent
-extent judge n [] = ends_at n []
+extent judge n [] = extent_to n []
 extent judge n (line ∷ lines) = extent_by (judge line) line lines (extent judge n lines)
 
 -- A line that does not continue the containers around the block stops it at the start of the line (CommonMark 5). Any

@@ -14,7 +14,7 @@ use Rattle.first_pass_lines.specs.Lines.{is_white, line_len}
 use Rattle.first_pass_lines.specs.Places.{Place, offset}
 use Rattle.first_pass_tokens.specs.Pieces.{Inline}
 use Rattle.first_pass_tokens.specs.Braces.{MathBraces, no_braces}
-use Rattle.first_pass_tokens.specs.LineTokens.{Spot, spot, IsLine}
+use Rattle.first_pass_tokens.specs.LineTokens.{Spot, spot, AreLineTokens}
 use Rattle.first_pass_tokens.specs.TreeTokens.{leaves}
 use Rattle.first_pass_tokens.specs.Chains.{add_tokens, close_break, cut}
 use Rattle.first_pass_grammar.specs.declared.kind.Container.{Container}
@@ -65,10 +65,10 @@ text_lines chain break left = record { chain = chain; break = break; left = left
 -- Columns before a line's text are dropped. Each line begins with the brace contexts that the line before it leaves.
 unfoldable pub AreTextLines : Document → List Container → Spot → List Item → List Place → TextLines → Type 0
 AreTextLines d path p chain [] t =
-    (tokens : List Item) × (answer : ℕ × Option Item) × (after : MathBraces) × IsLine d.names.texts (content_at d p) tokens answer after
+    (tokens : List Item) × (answer : ℕ × Option Item) × (after : MathBraces) × AreLineTokens d.names.texts (content_at d p) tokens answer after
     × (t ≡ text_lines (add_tokens chain tokens) answer.1 [])
 AreTextLines d path p chain (line ∷ lines) t =
-    (tokens : List Item) × (answer : ℕ × Option Item) × (after : MathBraces) × IsLine d.names.texts (content_at d p) tokens answer after
+    (tokens : List Item) × (answer : ℕ × Option Item) × (after : MathBraces) × AreLineTokens d.names.texts (content_at d p) tokens answer after
     × (((ends_text (around d path) line.rest ≡ true) × (t ≡ text_lines (add_tokens chain tokens) answer.1 (line ∷ lines)))
     ⊎ ((ends_text (around d path) line.rest ≡ false)
     × AreTextLines d path (spot (offset (unindented (at_rest line (front path line.rest)))) after) (add_break answer.1 (add_tokens chain tokens)) lines t))
@@ -134,7 +134,7 @@ pub record IsHeading (d : Document) (start : ℕ) (index : Option HeadingIndex) 
   pub tokens : List Item
   pub answer : ℕ × Option Item
   pub after : MathBraces
-  pub line : IsLine d.names.texts (heading_content d start) tokens answer after
+  pub line : AreLineTokens d.names.texts (heading_content d start) tokens answer after
   pub chain_is : chain ≡ heading_chain (kept_len (before_attributes d.options (line_bytes d start))) start (close_break answer.1 (add_tokens [] tokens))
   pub named : NamesAttributes d.names index (heading_attributes_of d.options (line_bytes d start))
   pub end_is : end_of_line ≡ start + line_len (drop start d.text)

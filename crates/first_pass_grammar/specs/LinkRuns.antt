@@ -35,12 +35,12 @@ entry_of at x = record {
 }
 
 -- the definition that begins at a place
-abbrev pub definition_at : Context → Place → Option LinkEntry
-definition_at around p = option_map (entry_of (offset p)) (reference_at false around p.rest.left)
+abbrev pub link_definition_at : Context → Place → Option LinkEntry
+link_definition_at around p = option_map (entry_of (offset p)) (reference_at false around p.rest.left)
 
 -- Link reference definitions begin where a text would, if there is one there (CommonMark 4.7).
 abbrev pub kind_in : Context → Place → Kind → Kind
-kind_in around p Paragraph = if is_some (definition_at around (unindented p)) then LinkDefinitions else Paragraph
+kind_in around p Paragraph = if is_some (link_definition_at around (unindented p)) then LinkDefinitions else Paragraph
 kind_in around p kind = kind
 
 -- those of these lines that begin at or after an offset
@@ -63,9 +63,9 @@ pub data Beyond : Type 0 where
 -- These are the definitions of a run from a place on, before these lines. They follow one another, each at the start
 -- of a line's text, up to a text or a line that ends the run (CommonMark 4.7).
 unfoldable pub IsRun : Context → Place → List Place → List LinkEntry → Beyond → Type 0
-IsRun around p lines [] beyond = (definition_at around p ≡ None) × (beyond ≡ FlowsOn p lines)
+IsRun around p lines [] beyond = (link_definition_at around p ≡ None) × (beyond ≡ FlowsOn p lines)
 IsRun around p lines (x ∷ more) beyond =
-    (definition_at around p ≡ Some x)
+    (link_definition_at around p ≡ Some x)
     × (((ends_run around (lines_beyond x.«end» lines) ≡ true) × (more ≡ []) × (beyond ≡ Ended p (lines_beyond x.«end» lines)))
     ⊎ ((line : Place) × (left : List Place) × (lines_beyond x.«end» lines ≡ line ∷ left) × (ends_run around (line ∷ left) ≡ false)
     × IsRun around (unindented (at_rest line (front around.path line.rest))) left more beyond))

@@ -81,13 +81,13 @@ index_of (Heading level ix) = option_map AttributesAt ix
 index_of _ = None
 
 -- the body of an item with any index in it replaced by 0 (this project)
-abbrev pub kind_alone : ItemBody → ItemBody
-kind_alone (SynthesizeText ix) = SynthesizeText (record { 0 = 0 })
-kind_alone (FencedCodeBlock ix) = FencedCodeBlock (record { 0 = 0 })
-kind_alone (FootnoteDefinition ix) = FootnoteDefinition (record { 0 = 0 })
-kind_alone (Table ix) = Table (record { 0 = 0 })
-kind_alone (Heading level ix) = Heading level (option_map (λ at. record { 0 = 0 }) ix)
-kind_alone body = body
+abbrev pub only_kind : ItemBody → ItemBody
+only_kind (SynthesizeText ix) = SynthesizeText (record { 0 = 0 })
+only_kind (FencedCodeBlock ix) = FencedCodeBlock (record { 0 = 0 })
+only_kind (FootnoteDefinition ix) = FootnoteDefinition (record { 0 = 0 })
+only_kind (Table ix) = Table (record { 0 = 0 })
+only_kind (Heading level ix) = Heading level (option_map (λ at. record { 0 = 0 }) ix)
+only_kind body = body
 
 -- the value that an index names, if it names one (this project)
 abbrev pub named : Names → Index → Option Named
@@ -98,7 +98,7 @@ named names (AttributesAt ix) = option_map OfHeading (slice_get names.headings i
 -- an item read through its index: its range, its body without the index, and the value that the index names, if it has
 -- one (this project)
 abbrev pub read : Names → Item → Item × Option Named
-read names x = (record { start = x.start; «end» = x.«end»; body = kind_alone x.body }, option_and_then (named names) (index_of x.body))
+read names x = (record { start = x.start; «end» = x.«end»; body = only_kind x.body }, option_and_then (named names) (index_of x.body))
 
 -- nodes read through their indices, each with its depth (this project)
 abbrev pub read_nodes : Names → List (ℕ × Item) → List (ℕ × (Item × Option Named))

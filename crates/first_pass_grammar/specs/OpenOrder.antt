@@ -5,29 +5,29 @@ use Rattle.first_pass_items.specs.declared.item.Item.{Item}
 use Rattle.first_pass_items.specs.declared.item.ItemBody.{ItemBody}
 use Rattle.first_pass_tree.specs.declared.tree_index.TreeIndex.{TreeIndex}
 use Rattle.first_pass_tree.specs.Forest.{Forest, body_at}
-use Rattle.first_pass_grammar.specs.Order.{Extent, extents, is_list_item, Siblings, laid, IsBetween, Within, Elsewhere, InItem, below, Fits}
+use Rattle.first_pass_grammar.specs.Order.{Ranged, extents, is_list_item, Siblings, laid, IsBetween, Within, Elsewhere, InItem, below, Fits}
 
 -- The nodes, in reading order, of a tree with open nodes. Each level has the siblings before an open node, and that
 -- node; the innermost level is first. `row` is what the innermost open node has below it so far.
-unfoldable pub laid_open : Extent → List (Siblings × Extent) → Siblings → List (ℕ × Extent)
+unfoldable pub laid_open : Ranged → List (Siblings × Ranged) → Siblings → List (ℕ × Ranged)
 laid_open root [] row = (0, root) ∷ laid 1 row
 laid_open root (level ∷ levels) row = laid_open root levels level.0 ++ (suc (length levels), level.1) ∷ laid (suc (suc (length levels))) row
 
 -- the open nodes are at these places
-abbrev pub AreAt : Extent → List (Siblings × Extent) → List TreeIndex → Type 0
+abbrev pub AreAt : Ranged → List (Siblings × Ranged) → List TreeIndex → Type 0
 AreAt root [] [] = Unit {0}
 AreAt root [] (ix ∷ spine) = ⊥
 AreAt root (level ∷ levels) [] = ⊥
 AreAt root (level ∷ levels) (ix ∷ spine) = (ix.0 ≡ length (laid_open root levels level.0)) × AreAt root levels spine
 
 -- where the next child of the innermost open node is: directly in a list item, or elsewhere
-abbrev pub open_within : List (Siblings × Extent) → Within
+abbrev pub open_within : List (Siblings × Ranged) → Within
 open_within [] = Elsewhere
 open_within (level ∷ levels) = if level.1.item then InItem else Elsewhere
 
 -- In each open node, the nodes below it are in order after its start, up to the next open node or an offset. The nodes
 -- before an open node end at or before its start.
-unfoldable pub FitsOpen : List ℕ → ℕ → List (Siblings × Extent) → Siblings → Type 0
+unfoldable pub FitsOpen : List ℕ → ℕ → List (Siblings × Ranged) → Siblings → Type 0
 FitsOpen text to [] row = Fits text Elsewhere 0 to row
 FitsOpen text to (level ∷ levels) row =
     (before : ℕ) × (before ≤ level.1.start) × Fits text (below (open_within levels) before level.1) level.1.start to row × IsCharBoundary text level.1.start
@@ -46,8 +46,8 @@ within_top f = if is_in_item f then InItem else Elsewhere
 
 -- The nodes of a tree are in order up to an offset; open nodes reach further.
 pub record IsOrderedTo (text : List ℕ) (f : Forest Item) (to : ℕ) : Type 0 where
-  pub root : Extent
-  pub levels : List (Siblings × Extent)
+  pub root : Ranged
+  pub levels : List (Siblings × Ranged)
   pub row : Siblings
   pub nodes : extents f.nodes ≡ laid_open root levels row
   pub places : AreAt root levels f.spine

@@ -11,7 +11,7 @@ use Rattle.first_pass_lines.specs.Rest.{Rest}
 use Rattle.first_pass_lines.specs.Places.{Place, place_at, offset}
 use Rattle.first_pass_scan.specs.Markers.{task_of, past_tag}
 pub use Rattle.first_pass_grammar.specs.declared.kind.AfterMarker.{AfterMarker}
-pub use Rattle.first_pass_grammar.specs.declared.kind.AfterMarker.TheVariants.{OnLine, TaskText, LineEnds, TagAlone}
+pub use Rattle.first_pass_grammar.specs.declared.kind.AfterMarker.TheVariants.{OnLine, TaskText, LineEnds, OnlyTag}
 use Rattle.first_pass_grammar.specs.declared.kind.Container.TheVariants.{BlockQuote}
 use Rattle.first_pass_grammar.specs.Blocks.{QuoteMarker, ItemMarker, DefinitionMarker, Head}
 use Rattle.first_pass_grammar.specs.Containers.{prefix}
@@ -60,7 +60,7 @@ tag_after options r = option_map (λ tag. tag.0) (if has options gfm then past_t
 -- what follows a block quote's marker, with or without a tag
 abbrev pub after_quote : Option BlockQuoteKind → AfterMarker
 after_quote None = OnLine
-after_quote (Some kind) = TagAlone
+after_quote (Some kind) = OnlyTag
 
 -- the block quote that begins at a place, with or without a tag
 abbrev pub quote_begun : Place → Option BlockQuoteKind → Rest → Start

@@ -10,7 +10,7 @@ use Rattle.first_pass_grammar.specs.Counting.{own_nodes}
 
 -- the range of a node, and whether it is a text block (a paragraph, heading or title), a task list item marker, a list
 -- item, or a definition list
-pub record Extent : Type 0 where
+pub record Ranged : Type 0 where
   pub start : ℕ
   pub «end» : ℕ
   pub text_block : Bool
@@ -38,7 +38,7 @@ abbrev pub is_definition_list : ItemBody → Bool
 is_definition_list (DefinitionList flags) = true
 is_definition_list _ = false
 
-abbrev pub extent_of : Item → Extent
+abbrev pub extent_of : Item → Ranged
 extent_of x = record {
   start = x.start;
   «end» = x.«end»;
@@ -49,21 +49,21 @@ extent_of x = record {
 }
 
 -- the extents of nodes, each with its depth
-abbrev pub extents : List (ℕ × Item) → List (ℕ × Extent)
+abbrev pub extents : List (ℕ × Item) → List (ℕ × Ranged)
 extents nodes = map (λ n. (n.0, extent_of n.1)) nodes
 
 -- sibling nodes: the first one, the nodes below it, and the siblings after it
 pub data Siblings : Type 0 where
   Empty : Siblings
-  Node : Extent → Siblings → Siblings → Siblings
+  Node : Ranged → Siblings → Siblings → Siblings
 
 -- siblings in reading order, each node with its depth, which is this one for the siblings themselves
-unfoldable pub laid : ℕ → Siblings → List (ℕ × Extent)
+unfoldable pub laid : ℕ → Siblings → List (ℕ × Ranged)
 laid depth Empty = []
 laid depth (Node x kids next) = (depth, x) ∷ (laid (suc depth) kids ++ laid depth next)
 
 -- a range between two offsets that begins and ends at character boundaries
-pub record IsBetween (text : List ℕ) (from to : ℕ) (x : Extent) : Type 0 where
+pub record IsBetween (text : List ℕ) (from to : ℕ) (x : Ranged) : Type 0 where
   pub following : from ≤ x.start
   pub order : x.start ≤ x.«end»
   pub before : x.«end» ≤ to
@@ -83,7 +83,7 @@ pub data Within : Type 0 where
   InFirst : ℕ → Within
 
 -- where the children of a node are, given where the node is and the offset after which it starts
-abbrev pub below : Within → ℕ → Extent → Within
+abbrev pub below : Within → ℕ → Ranged → Within
 below Elsewhere from x = if x.item then InItem else Elsewhere
 below InItem from x = if x.item then InItem else (if x.text_block then InText from else (if x.definitions then InFirst from else Elsewhere))
 below (InText before) from x = if x.item then InItem else Elsewhere
@@ -97,7 +97,7 @@ beyond (InText before) = Elsewhere
 beyond (InFirst before) = Elsewhere
 
 -- the task list item marker that is first in its paragraph or heading
-abbrev pub IsLead : List ℕ → Within → ℕ → Extent → Type 0
+abbrev pub IsLead : List ℕ → Within → ℕ → Ranged → Type 0
 IsLead text Elsewhere from x = ⊥
 IsLead text InItem from x = ⊥
 IsLead text (InFirst before) from x = ⊥

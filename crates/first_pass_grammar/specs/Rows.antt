@@ -90,23 +90,23 @@ is_apart WithTitle = false
 is_apart Apart = true
 
 -- a row is a list that continues the one before it; a definition list with a separated title continues none
-abbrev pub is_list_of : Joins → What → Bool
-is_list_of (ItemsOf byte) (ALeaf block) = false
-is_list_of (ItemsOf byte) (AQuote kind e) = false
-is_list_of (ItemsOf byte) (AList list number e) = byte == list
-is_list_of (ItemsOf byte) (AnItem columns e) = false
-is_list_of (ItemsOf byte) (AFootnote index e) = false
-is_list_of (ItemsOf byte) (ADefinitionList t e) = false
-is_list_of (ItemsOf byte) (ATitle block) = false
-is_list_of (ItemsOf byte) (ADefinition columns e) = false
-is_list_of (DefinitionsTo until) (ALeaf block) = false
-is_list_of (DefinitionsTo until) (AQuote kind e) = false
-is_list_of (DefinitionsTo until) (AList list number e) = false
-is_list_of (DefinitionsTo until) (AnItem columns e) = false
-is_list_of (DefinitionsTo until) (AFootnote index e) = false
-is_list_of (DefinitionsTo until) (ADefinitionList t e) = not (is_apart t)
-is_list_of (DefinitionsTo until) (ATitle block) = false
-is_list_of (DefinitionsTo until) (ADefinition columns e) = false
+abbrev pub continues_list : Joins → What → Bool
+continues_list (ItemsOf byte) (ALeaf block) = false
+continues_list (ItemsOf byte) (AQuote kind e) = false
+continues_list (ItemsOf byte) (AList list number e) = byte == list
+continues_list (ItemsOf byte) (AnItem columns e) = false
+continues_list (ItemsOf byte) (AFootnote index e) = false
+continues_list (ItemsOf byte) (ADefinitionList t e) = false
+continues_list (ItemsOf byte) (ATitle block) = false
+continues_list (ItemsOf byte) (ADefinition columns e) = false
+continues_list (DefinitionsTo until) (ALeaf block) = false
+continues_list (DefinitionsTo until) (AQuote kind e) = false
+continues_list (DefinitionsTo until) (AList list number e) = false
+continues_list (DefinitionsTo until) (AnItem columns e) = false
+continues_list (DefinitionsTo until) (AFootnote index e) = false
+continues_list (DefinitionsTo until) (ADefinitionList t e) = not (is_apart t)
+continues_list (DefinitionsTo until) (ATitle block) = false
+continues_list (DefinitionsTo until) (ADefinition columns e) = false
 
 -- A row that was read as a paragraph might have been the next title of the definition list before it; that list ends
 -- with its last definition (this project).
@@ -121,34 +121,34 @@ was_possible_title (ATitle block) = false
 was_possible_title (ADefinition columns e) = false
 
 -- the end of a list before a row that is not its own (this project)
-abbrev pub ends_at : Joins → Row → ℕ
-ends_at (ItemsOf byte) row = closing_place row.what row.line row.start
-ends_at (DefinitionsTo until) row = if was_possible_title row.what then until else closing_place row.what row.line row.start
+abbrev pub end_of_list_before : Joins → Row → ℕ
+end_of_list_before (ItemsOf byte) row = closing_place row.what row.line row.start
+end_of_list_before (DefinitionsTo until) row = if was_possible_title row.what then until else closing_place row.what row.line row.start
 
 -- the end of a row that has rows in it
-abbrev pub end_of : What → ℕ → ℕ
-end_of (ALeaf block) last = last
-end_of (AQuote kind e) last = e
-end_of (AList byte number e) last = e
-end_of (AnItem columns e) last = e
-end_of (AFootnote index e) last = e
-end_of (ADefinitionList t e) last = e
-end_of (ATitle block) last = last
-end_of (ADefinition columns e) last = e
+abbrev pub end_of_row : What → ℕ → ℕ
+end_of_row (ALeaf block) last = last
+end_of_row (AQuote kind e) last = e
+end_of_row (AList byte number e) last = e
+end_of_row (AnItem columns e) last = e
+end_of_row (AFootnote index e) last = e
+end_of_row (ADefinitionList t e) last = e
+end_of_row (ATitle block) last = last
+end_of_row (ADefinition columns e) last = e
 
 -- For a list that these continue: its end, in a container that ends at an offset; its further items; and the rows
 -- after it.
 abbrev pub list_until : Joins → ℕ → Rows → ℕ
 list_until joins last End = last
-list_until joins last (OneOf row inner next) = if is_list_of joins row.what then end_of row.what last else ends_at joins row
+list_until joins last (OneOf row inner next) = if continues_list joins row.what then end_of_row row.what last else end_of_list_before joins row
 
 abbrev pub items_after : Joins → Rows → Rows
 items_after joins End = End
-items_after joins (OneOf row inner next) = if is_list_of joins row.what then gapped row.gap inner else End
+items_after joins (OneOf row inner next) = if continues_list joins row.what then gapped row.gap inner else End
 
 abbrev pub list_after : Joins → Rows → Rows
 list_after joins End = End
-list_after joins (OneOf row inner next) = if is_list_of joins row.what then next else OneOf row inner next
+list_after joins (OneOf row inner next) = if continues_list joins row.what then next else OneOf row inner next
 
 -- A container with these blocks, before rows: the first item of its list. The other items are those of the first row
 -- if that is a list that continues this one; otherwise there are none. What precedes the first item precedes the list
@@ -176,7 +176,7 @@ container_row last (QuoteMarker kind) row inner next = OneOf row inner next
 container_row last (ItemMarker byte number columns) row inner next = in_list last (AList byte number) row inner next (ItemsOf byte)
 container_row last (FootnoteMarker columns index label) row inner next = OneOf row inner next
 container_row last (DefinitionMarker columns) row inner next =
-    in_list last (ADefinitionList Untitled) row inner next (DefinitionsTo (end_of row.what last))
+    in_list last (ADefinitionList Untitled) row inner next (DefinitionsTo (end_of_row row.what last))
 
 -- the row of a leaf block, with or without a gap before it
 abbrev pub row_of_leaf : LeafBlock → Bool → Row
@@ -192,7 +192,7 @@ pub record Definitions : Type 0 where
 
 -- the definitions in a row that is a definition list without a title
 abbrev pub definitions_of_row : Row → Rows → Rows → Option Definitions
-definitions_of_row row inner next = Some (record { «end» = end_of row.what 0; items = gapped row.gap inner; beside = next; apart = false })
+definitions_of_row row inner next = Some (record { «end» = end_of_row row.what 0; items = gapped row.gap inner; beside = next; apart = false })
 
 -- the same after link reference definitions, which are then beside them
 abbrev pub apart_after : Row → Rows → Definitions → Definitions

@@ -13,8 +13,8 @@ use Rattle.first_pass_grammar.specs.Blocks.{Leaf, BlankLine, Block, leaf_block, 
 use Rattle.first_pass_grammar.specs.Blocks.{opened, run_block}
 use Rattle.first_pass_grammar.specs.Blocks.{flowing_block}
 use Rattle.first_pass_grammar.specs.Blocks.{Skeleton, Nil, Then, Node}
-use Rattle.first_pass_grammar.specs.Openers.{AfterMarker, OnLine, TaskText, LineEnds, TagAlone, Start, start_at}
-use Rattle.first_pass_grammar.specs.Before.{Before, nothing, list_is_open, takes_definition, after_leaf, after_container, before_end}
+use Rattle.first_pass_grammar.specs.Openers.{AfterMarker, OnLine, TaskText, LineEnds, OnlyTag, Start, start_at}
+use Rattle.first_pass_grammar.specs.Before.{Before, nothing, list_is_open, definition_may_follow, after_leaf, after_container, before_end}
 use Rattle.first_pass_grammar.specs.Containers.{Context, context, at_rest, after, front, taken, next_goes_on, is_quote, in_quote, in_old_footnote}
 use Rattle.first_pass_grammar.specs.Containers.{footnote_columns}
 use Rattle.first_pass_grammar.specs.Footnotes.{footnote_head_at, label_bytes, NamesLabel, place_past, past_head, ends_footnote}
@@ -38,11 +38,11 @@ use Rattle.first_pass_grammar.specs.Texts.{IsText}
 -- The text of a task, after its task list item marker (GFM 5.3).
 -- Only that marker, with nothing after it on its line; in an item that takes only blank lines, with the offset after
 -- that line (GFM 5.3, and this project).
-pub data May : Type 0 where
-  Anything : May
-  ALeafAlone : May
-  TextOf : Item → May
-  MarkAlone : Item → Option ℕ → May
+pub data Allowed : Type 0 where
+  Anything : Allowed
+  OnlyALeaf : Allowed
+  TextOf : Item → Allowed
+  OnlyMark : Item → Option ℕ → Allowed
 
 -- Where blocks continue.
 -- At the next line.
@@ -52,7 +52,7 @@ pub data May : Type 0 where
 pub data From : Type 0 where
   Line : From
   Blanks : ℕ → From
-  At : Place → May → From
+  At : Place → Allowed → From
 
 abbrev pub Inside : Place → From
 Inside p = At p Anything
@@ -136,9 +136,9 @@ next_is_blank path (line ∷ lines) = is_blank_after (after path line.rest)
 
 -- where blocks continue if a container's marker is the last of its line, except perhaps for a task list item marker:
 -- at the next line; with an offset, in an item that takes only blank lines
-abbrev pub task_alone : Option Item → Place → Option ℕ → From
-task_alone None p blanks = after_marker blanks
-task_alone (Some marker) p blanks = At p (MarkAlone marker blanks)
+abbrev pub only_task : Option Item → Place → Option ℕ → From
+only_task None p blanks = after_marker blanks
+only_task (Some marker) p blanks = At p (OnlyMark marker blanks)
 
 -- the opener of a container that takes only blank lines: the indent of an item or a definition is 0
 abbrev pub without_indent : Opener → Opener
@@ -152,22 +152,22 @@ without_indent (DefinitionMarker columns) = DefinitionMarker 0
 abbrev pub empty_opening : Document → List Container → Head → Place → List Place → Option Item → Opening
 empty_opening d path head inside lines marker =
     if next_is_blank (opened head.opener ∷ path) lines
-    then OpensNode (record head { opener = without_indent head.opener }) (task_alone marker inside (Some (start_of (length d.text) lines))) lines
-    else OpensNode head (task_alone marker inside None) lines
+    then OpensNode (record head { opener = without_indent head.opener }) (only_task marker inside (Some (start_of (length d.text) lines))) lines
+    else OpensNode head (only_task marker inside None) lines
 
 -- Where blocks continue in a block quote after the line of its tag, and the lines after that; `c.path` begins with the
 -- quote. The next line is read like any other, or it belongs to the quote and a leaf begins after its indentation
 -- (this project).
 abbrev pub after_tag : Context → List Place → From × List Place
 after_tag c [] = (Line, [])
-after_tag c (line ∷ lines) = if ends_tag c line.rest then (Line, line ∷ lines) else (At (unindented (at_rest line (front c.path line.rest))) ALeafAlone, lines)
+after_tag c (line ∷ lines) = if ends_tag c line.rest then (Line, line ∷ lines) else (At (unindented (at_rest line (front c.path line.rest))) OnlyALeaf, lines)
 
 -- the container with this head, by what follows its marker; `inside` is the place after the marker
 abbrev pub opening_by : Document → List Container → Head → Place → List Place → AfterMarker → Opening
 opening_by d path head inside lines OnLine = OpensNode head (Inside inside) lines
 opening_by d path head inside lines (TaskText marker) = OpensNode head (At inside (TextOf marker)) lines
 opening_by d path head inside lines (LineEnds marker) = empty_opening d path head inside lines marker
-opening_by d path head inside lines TagAlone =
+opening_by d path head inside lines OnlyTag =
     let from : From × List Place = after_tag (around d (opened head.opener ∷ path)) lines in OpensNode head from.0 from.1
 
 -- the container that begins at a place
@@ -216,7 +216,7 @@ level_after l head kids = level l.path (after_container (opened head.opener) (be
 
 -- a `:` may begin a definition at a level (this project)
 abbrev pub may_define : Document → Level → Bool
-may_define d l = has d.options definition_list && takes_definition l.before.last
+may_define d l = has d.options definition_list && definition_may_follow l.before.last
 
 -- What begins at a place: a footnote definition if there is one (this project), otherwise another container or a leaf.
 abbrev pub Opens : Document → Level → Place → List Place → Opening → Type 0
@@ -226,11 +226,11 @@ Opens d l p lines opening =
 
 -- What begins where blocks continue: any block; only a leaf, by the kind of the place; the text after a task list item
 -- marker; or only the marker, in place of a text.
-abbrev pub OpensIf : Document → Level → May → Place → List Place → Opening → Type 0
+abbrev pub OpensIf : Document → Level → Allowed → Place → List Place → Opening → Type 0
 OpensIf d l Anything p lines opening = Opens d l p lines opening
-OpensIf d l ALeafAlone p lines opening = OpensBlockAt d l.path p lines opening
+OpensIf d l OnlyALeaf p lines opening = OpensBlockAt d l.path p lines opening
 OpensIf d l (TextOf marker) p lines opening = OpensText d l.path p lines (Some marker) opening
-OpensIf d l (MarkAlone marker blanks) p lines opening = opening ≡ OpensLeaf (leaf_block Paragraph p ((0, marker) ∷ []) false) Line lines
+OpensIf d l (OnlyMark marker blanks) p lines opening = opening ≡ OpensLeaf (leaf_block Paragraph p ((0, marker) ∷ []) false) Line lines
 
 abbrev pub OpensAt : Document → Level → From → Place → List Place → Opening → Type 0
 OpensAt d l Line p lines opening = Opens d l p lines opening
@@ -276,9 +276,9 @@ next_block_blank (Some q) lines = if is_blank_rest q.rest then Begins q (drop 1 
 -- definition does (CommonMark 5, and this project).
 unfoldable pub next_block : Options → Level → From → List Place → NextBlock
 next_block options l (At p Anything) lines = next_block_at (context options l.path) p lines
-next_block options l (At p ALeafAlone) lines = Begins p lines
+next_block options l (At p OnlyALeaf) lines = Begins p lines
 next_block options l (At p (TextOf marker)) lines = Begins p lines
-next_block options l (At p (MarkAlone marker blanks)) lines = Begins p lines
+next_block options l (At p (OnlyMark marker blanks)) lines = Begins p lines
 next_block options l Line [] = Ends (Lines [])
 next_block options l Line (line ∷ lines) = next_block_in options l (taken l.path line) (line ∷ lines)
 next_block options l (Blanks e) [] = Ends (Lines [])
@@ -294,18 +294,18 @@ abbrev pub after_first : From → From → From
 after_first (Blanks e) there = Blanks e
 after_first Line there = there
 after_first (At p Anything) there = there
-after_first (At p ALeafAlone) there = there
+after_first (At p OnlyALeaf) there = there
 after_first (At p (TextOf marker)) there = there
-after_first (At p (MarkAlone marker blanks)) there = after_marker blanks
+after_first (At p (OnlyMark marker blanks)) there = after_marker blanks
 
 -- the offset after the line of an item's marker, if the item takes only blank lines
-abbrev pub blanks_alone : From → Option ℕ
-blanks_alone Line = None
-blanks_alone (Blanks e) = Some e
-blanks_alone (At p Anything) = None
-blanks_alone (At p ALeafAlone) = None
-blanks_alone (At p (TextOf marker)) = None
-blanks_alone (At p (MarkAlone marker blanks)) = blanks
+abbrev pub only_blanks : From → Option ℕ
+only_blanks Line = None
+only_blanks (Blanks e) = Some e
+only_blanks (At p Anything) = None
+only_blanks (At p OnlyALeaf) = None
+only_blanks (At p (TextOf marker)) = None
+only_blanks (At p (OnlyMark marker blanks)) = blanks
 
 -- The end of a container before these lines, given the path around it: the start of the next line. An item that takes
 -- only blank lines ends after the line of its marker if the next line continues that path (this project).
@@ -320,7 +320,7 @@ end_of_left n path blanks (Lines lines) = end_after n path blanks lines
 end_of_left n path blanks (InLine p lines) = offset (unindented p)
 
 abbrev pub end_before : ℕ → List Container → From → Left → ℕ
-end_before n path from left = end_of_left n path (blanks_alone from) left
+end_before n path from left = end_of_left n path (only_blanks from) left
 
 -- the first block of a sequence: its place, the lines after that, and what it opens
 pub record IsFirst (d : Document) (l : Level) (from : From) (lines : List Place) (opening : Opening) : Type 0 where

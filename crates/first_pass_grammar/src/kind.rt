@@ -26,5 +26,5 @@ pub enum AfterMarker {
     /// Nothing, or only a task list item marker.
     LineEnds(Option<Item>),
     /// Only the tag of a block quote.
-    TagAlone,
+    OnlyTag,
 }

@@ -172,8 +172,8 @@ kept bs following e r = rw e r
 blank_kept : (bs following : List ℕ) → StartsBy is_blank bs → IsTagRest bs following → IsTagRest (drop (prefix_len is_unquoted bs) bs) following
 blank_kept bs following s r = kept bs following (none_first is_unquoted is_blank bs blank_unquoted s) r
 
-end_alone : (following : List ℕ) → IsTagRest (62 ∷ following) following
-end_alone following = record {
+only_end : (following : List ℕ) → IsTagRest (62 ∷ following) following
+only_end following = record {
   attributes = [];
   ending = 62 ∷ [];
   parts = refl;
@@ -186,10 +186,10 @@ end_unquoted_by : (blanks slash bs following : List ℕ)
     → IsTagRest (drop (prefix_len is_unquoted bs) bs) following
 end_unquoted_by [] slash bs following parts h (inl none) r =
     let whole : bs ≡ 62 ∷ following = parts ∙ rw none refl in
-    rw whole (end_alone following)
+    rw whole (only_end following)
 end_unquoted_by [] slash bs following parts h (inr one) r =
     let whole : bs ≡ 47 ∷ 62 ∷ following = parts ∙ rw one refl in
-    rw whole (end_alone following)
+    rw whole (only_end following)
 end_unquoted_by (b ∷ blanks) slash bs following parts h some r =
     blank_kept bs following (record { first = b; others = (blanks ++ (slash ++ 62 ∷ [])) ++ following; parts = parts; passes = (and_parts _ _ h).0 }) r
 

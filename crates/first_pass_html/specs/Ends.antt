@@ -13,9 +13,9 @@ pub data BlockEnd : Type 0 where
   AtText : List ℕ → BlockEnd
 
 -- the end condition that a value of the code denotes
-abbrev pub end_of : HtmlEnd → BlockEnd
-end_of AnyRawTag = AtRawEndTag
-end_of (Text text) = AtText text.now
+abbrev pub condition_of : HtmlEnd → BlockEnd
+condition_of AnyRawTag = AtRawEndTag
+condition_of (Text text) = AtText text.now
 
 -- the end tags of raw text (CommonMark 4.6, end condition 1)
 abbrev pub raw_end_tags : List (List ℕ)

@@ -3,7 +3,7 @@
 ghost use Rattle.std.specs.Prelude.{◌≡◌, ◌↔◌, IsTrue, ◌∷◌, bytes_eq};
 ghost use Rattle.std.specs.Option.{option_map};
 ghost use Rattle.first_pass_items.specs.Bytes.{exclamation_mark};
-ghost use Rattle.first_pass_html.specs.Ends.{end_of};
+ghost use Rattle.first_pass_html.specs.Ends.{condition_of};
 ghost use Rattle.first_pass_html.specs.Names.{in_lower_case};
 ghost use Rattle.first_pass_html.specs.Starts as starts;
 
@@ -16,7 +16,7 @@ use first_pass_lines::places::rest_of;
 /// `<script`, `<style` and `<textarea` it is any end tag of raw text; otherwise it is the text `-->`, `?>`, `]]>` or
 /// `>`. Returns `None` if no block of these kinds begins there. CommonMark 4.6.
 pub fn get_html_end_tag(bytes: &[u8]) -> Option<HtmlEnd>
-    ensures value { option_map end_of result ≡ starts.html_end bytes.now }
+    ensures value { option_map condition_of result ≡ starts.html_end bytes.now }
 {
     let [first, rest @ ..] = bytes else {
         return None;
@@ -56,7 +56,7 @@ pub fn is_raw_name(name: &[u8]) -> bool
 // The end condition of the comment, CDATA section or declaration whose `<!` directly precedes the bytes.
 #[tactic(auto, unfolding(crate::specs::Starts::html_end, crate::specs::Starts::begins_raw_text))]
 fn declaration_end(bytes: &[u8]) -> Option<HtmlEnd>
-    ensures { option_map end_of result ≡ starts.html_end (exclamation_mark ∷ bytes.now) }
+    ensures { option_map condition_of result ≡ starts.html_end (exclamation_mark ∷ bytes.now) }
 {
     if bytes.starts_with(b"--") {
         Some(HtmlEnd::Text("-->"))

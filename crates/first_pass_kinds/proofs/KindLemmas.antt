@@ -18,12 +18,12 @@ use Rattle.first_pass_grammar.specs.Kinds.{Kind, Blank, IndentedCode, Metadata, 
 use Rattle.first_pass_grammar.specs.Kinds.{LinkDefinitions}
 use Rattle.first_pass_grammar.specs.Kinds.{Paragraph, all_taken, is_blank_rest, heading_or, rule_or, fence_or, metadata_or, metadata_at, begins_html_to_end}
 use Rattle.first_pass_grammar.specs.Kinds.{begins_html_to_blank, html_kind, first_kind, last_kind, IsKindBy, IsKind}
-use Rattle.first_pass_kinds.specs.Found.{kind_of, IsFoundWith}
-use Rattle.first_pass_kinds.specs.declared.kinds.Found.{Found}
+use Rattle.first_pass_kinds.specs.BlockStart.{kind_of, IsFoundWith}
+use Rattle.first_pass_kinds.specs.declared.kinds.BlockStart.{BlockStart}
 
 -- columns counted up to four
 pub few_columns : (n m : ℕ) → n ≡ min 4 m → n < 4 → (nat_lt m 4 ≡ true) × (n ≡ m)
-few_columns n m is few = (grind (arith, nat_tests, is, few), omega arith)
+few_columns n m is node_bound = (grind (arith, nat_tests, is, node_bound), omega arith)
 
 pub many_columns : (n m : ℕ) → n ≡ min 4 m → 4 ≤ n → nat_lt m 4 ≡ false
 many_columns n m is many = grind (arith, nat_tests, is, many)
@@ -99,7 +99,7 @@ early_is options r h u = rw h (rw u refl)
 -- metadata block, or none.
 pub record FoundEarly (options : Options) (r : Rest) (m : Option ℕ) : Type 0 where
   pub some : is_blank_rest r ≡ false
-  pub few : nat_lt (indent r) 4 ≡ true
+  pub node_bound : nat_lt (indent r) 4 ≡ true
   pub metadata : metadata_at (indent r) options (all_taken r).left ≡ m
 
 -- the offset after the columns of a place
@@ -114,11 +114,11 @@ past_columns text start taken r new u i rest is =
 pub found_early : (text bytes : List ℕ) (start taken columns : ℕ) (options : Options) (r new : Rest) (m : Option ℕ)
     → IsUtf8 text → IsPlaceOf text (place_at start r) → is_blank_rest r ≡ false → columns ≡ min 4 (indent r) → new ≡ all_taken r → taken ≡ new.taken
     → columns < 4 → bytes ≡ text → m ≡ metadata_at columns options (drop (start + taken) bytes) → FoundEarly options r m
-found_early text bytes start taken columns options r new m u i some is rest at few same m_is =
-    let f = few_columns columns (indent r) is few in
+found_early text bytes start taken columns options r new m u i some is rest at node_bound same m_is =
+    let f = few_columns columns (indent r) is node_bound in
     record {
       some = some;
-      few = f.0;
+      node_bound = f.0;
       metadata = ap (metadata_at (indent r) options) ((past_columns text start taken r new u i rest at).1 ∙ ap (drop (start + taken)) (sym same))
           ∙ ap (λ n. metadata_at n options (drop (start + taken) bytes)) (sym f.1) ∙ sym m_is;
     }
@@ -126,10 +126,10 @@ found_early text bytes start taken columns options r new m u i some is rest at f
 -- metadata
 pub metadata_here : (options : Options) (r : Rest) (byte : ℕ) → FoundEarly options r (Some byte) → IsKind options r (Metadata byte)
 metadata_here options r byte f =
-    subst (λ o. IsKindBy r o (Metadata byte)) (sym (early_is options r f.some f.few ∙ ap (λ m. metadata_or m (html_kind (all_taken r).left)) f.metadata)) refl
+    subst (λ o. IsKindBy r o (Metadata byte)) (sym (early_is options r f.some f.node_bound ∙ ap (λ m. metadata_or m (html_kind (all_taken r).left)) f.metadata)) refl
 
 html_first : (options : Options) (r : Rest) → FoundEarly options r None → first_kind options r ≡ html_kind (all_taken r).left
-html_first options r f = early_is options r f.some f.few ∙ ap (λ m. metadata_or m (html_kind (all_taken r).left)) f.metadata
+html_first options r f = early_is options r f.some f.node_bound ∙ ap (λ m. metadata_or m (html_kind (all_taken r).left)) f.metadata
 
 -- an HTML block of the kinds 1 to 6
 pub html_here : (options : Options) (r : Rest) (k : Kind) → FoundEarly options r None → html_kind (all_taken r).left ≡ Some k → IsKind options r k
@@ -156,9 +156,9 @@ tag_absent None bs left h same none = subst (λ z. (n : ℕ) → BeginsTagLine z
 tag_absent (Some n) bs left h same none = cc
 
 -- the parts that were found of an HTML block
-pub found_html : (o : Option Found) (f : Found) (h : Option Kind) (bs left : List ℕ)
+pub found_html : (o : Option BlockStart) (f : BlockStart) (h : Option Kind) (bs left : List ℕ)
     → o ≡ Some f → option_map kind_of o ≡ h → IfSome o (IsFoundWith bs) → left ≡ bs → (h ≡ Some (kind_of f)) × IsFoundWith left f
 found_html o f h bs left is kind with same = (
   sym kind ∙ ap (option_map kind_of) is,
-  subst (λ z. IsFoundWith z f) (sym same) (subst (λ (z : Option Found). IfSome z (IsFoundWith bs)) is with),
+  subst (λ z. IsFoundWith z f) (sym same) (subst (λ (z : Option BlockStart). IfSome z (IsFoundWith bs)) is with),
 )

@@ -95,9 +95,9 @@ heading_last bs level h e = rw (sign_hrule bs h) (rw e refl)
 -- so it is the block if fewer than four columns are before it.
 pub heading_kind : (options : Options) (r : Rest) (level : HeadingLevel) → is_blank_rest r ≡ false → nat_lt (indent r) 4 ≡ true
     → atx_level (all_taken r).left ≡ Some level → IsKind options r (AtxHeading level)
-heading_kind options r level some few e =
+heading_kind options r level some node_bound e =
     let h = heading_begins (all_taken r).left level e in
     let early : FoundEarly options r None =
-    record { some = some; few = few; metadata = sign_metadata (indent r) options (all_taken r).left h } in
+    record { some = some; node_bound = node_bound; metadata = sign_metadata (indent r) options (all_taken r).left h } in
     subst (IsKind options r) (heading_last (all_taken r).left level h e)
     (last_here options r early (sign_html (all_taken r).left h) (sign_tag (all_taken r).left h))

@@ -1,4 +1,4 @@
-pub mod Found
+pub mod BlockStart
 pub mod Marks
 pub mod Memory
 pub mod NextLines

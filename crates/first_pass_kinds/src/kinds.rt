@@ -6,7 +6,7 @@ ghost use Rattle.first_pass_lines.specs.Rest.{indent};
 ghost use Rattle.first_pass_lines.specs.Places.{IsPlaceOf};
 ghost use Rattle.first_pass_metadata.specs.MetadataSearch.{IsKnownOf};
 ghost use Rattle.first_pass_grammar.specs.Kinds.{html_kind, last_kind, metadata_at, IsKind, unindented};
-ghost use Rattle.first_pass_kinds.specs.Found.{kind_of, IsFoundWith};
+ghost use Rattle.first_pass_kinds.specs.BlockStart.{kind_of, IsFoundWith};
 
 use bitflags::Flags;
 use first_pass_html::ends::HtmlEnd;
@@ -23,7 +23,7 @@ use first_pass_scan::leaf_scan::{scan_code_fence, scan_hrule};
 
 /// The block that begins at a place at which no container begins, with the parts that were found of it.
 #[derive(Clone, Copy)]
-pub enum Found {
+pub enum BlockStart {
     /// A blank line (CommonMark 4.9).
     Blank,
     /// A paragraph (CommonMark 4.8).
@@ -53,7 +53,7 @@ pub enum MarkedLeaf {
 
 /// Returns the HTML block of the kinds 1 to 6 that begins here, if there is one (CommonMark 4.6).
 #[inline(always)]
-pub fn html_kind(bytes: &[u8]) -> Option<Found>
+pub fn html_kind(bytes: &[u8]) -> Option<BlockStart>
     ensures kind { option_map kind_of result ≡ html_kind bytes.now }
     ensures end { IfSome result (λ found. IsFoundWith bytes.now found) }
 {
@@ -61,33 +61,33 @@ pub fn html_kind(bytes: &[u8]) -> Option<Found>
         return None;
     };
     if let Some(end) = get_html_end_tag(rest) {
-        return Some(Found::Marked(MarkedLeaf::HtmlToEnd(end)));
+        return Some(BlockStart::Marked(MarkedLeaf::HtmlToEnd(end)));
     }
     if starts_html_block_type_6(rest) {
-        return Some(Found::HtmlToBlank);
+        return Some(BlockStart::HtmlToBlank);
     }
     None
 }
 
 // The thematic break, the ATX heading, the fenced code block or the paragraph that begins here.
-fn last_kind(bytes: &[u8]) -> Found
+fn last_kind(bytes: &[u8]) -> BlockStart
     ensures kind { kind_of result ≡ last_kind bytes.now }
     ensures end { IsFoundWith bytes.now result }
 {
     if let Some(size) = scan_hrule(bytes) {
-        return Found::Marked(MarkedLeaf::ThematicBreak(size));
+        return BlockStart::Marked(MarkedLeaf::ThematicBreak(size));
     }
     if let Some(level) = scan_atx_heading(bytes) {
-        return Found::Marked(MarkedLeaf::AtxHeading(level));
+        return BlockStart::Marked(MarkedLeaf::AtxHeading(level));
     }
     match scan_code_fence(bytes) {
-        Some((count, byte)) => Found::Marked(MarkedLeaf::FencedCode(count, byte)),
-        None => Found::Paragraph,
+        Some((count, byte)) => BlockStart::Marked(MarkedLeaf::FencedCode(count, byte)),
+        None => BlockStart::Paragraph,
     }
 }
 
 // The byte of the metadata block at the offset `at` into the text. A metadata block has no columns before it.
-fn metadata_after(
+fn scan_metadata(
     text: &[u8],
     at: usize,
     columns: usize,
@@ -113,7 +113,7 @@ pub fn kind_at<'a>(
     source: &Source<'_>,
     place: &mut Place<'a>,
     ends: &mut MetadataEnds,
-) -> (Found, usize)
+) -> (BlockStart, usize)
     requires place { IsPlaceOf source.now.text.now place.old }
     requires known { IsKnownOf source.now.text.now ends.old }
     ensures kind { IsKind source.now.options place.old.rest (kind_of result.0) }
@@ -123,31 +123,31 @@ pub fn kind_at<'a>(
     ensures known { IsKnownOf source.now.text.now ends.new }
 {
     if place.rest.is_at_plain() {
-        return (Found::Paragraph, 0);
+        return (BlockStart::Paragraph, 0);
     }
     let blank = scan_blank_line(place.rest.left()).is_some();
     let columns = scan_indentation(&mut place.rest);
     if blank {
-        return (Found::Blank, columns);
+        return (BlockStart::Blank, columns);
     }
     if columns >= 4 {
-        return (Found::Marked(MarkedLeaf::IndentedCode), columns);
+        return (BlockStart::Marked(MarkedLeaf::IndentedCode), columns);
     }
     // An ATX heading is tried first, before kinds that precede it in the grammar: none of those begins with `#`.
     if let Some(level) = scan_atx_heading(place.rest.left()) {
-        return (Found::Marked(MarkedLeaf::AtxHeading(level)), columns);
+        return (BlockStart::Marked(MarkedLeaf::AtxHeading(level)), columns);
     }
     let bytes = source.text.as_bytes();
     let at = place.line + place.rest.bytes_scanned();
-    if let Some(byte) = metadata_after(bytes, at, columns, source.options, ends) {
-        return (Found::Marked(MarkedLeaf::Metadata(byte)), columns);
+    if let Some(byte) = scan_metadata(bytes, at, columns, source.options, ends) {
+        return (BlockStart::Marked(MarkedLeaf::Metadata(byte)), columns);
     }
     let left = place.rest.left();
     if let Some(found) = html_kind(left) {
         return (found, columns);
     }
     if scan_html_type_7(left).is_some() {
-        return (Found::HtmlToBlank, columns);
+        return (BlockStart::HtmlToBlank, columns);
     }
     (last_kind(left), columns)
 }

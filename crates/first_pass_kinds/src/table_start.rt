@@ -7,7 +7,7 @@ ghost use Rattle.first_pass_items.specs.Bytes.{backslash};
 ghost use Rattle.first_pass_grammar.specs.TableHeads.{table_at, table_interrupts, ends_in_backslash, headed_table};
 ghost use Rattle.first_pass_open.specs.Path.{path_of, context_of};
 ghost use Rattle.first_pass_kinds.specs.Memory.{may_head};
-ghost use Rattle.first_pass_kinds.specs.TableHeads.{head_len};
+ghost use Rattle.first_pass_kinds.specs.TableHeads.{table_head_len};
 
 use bitflags::Flags;
 use first_pass_items::item::{Alignment, Item};
@@ -27,7 +27,7 @@ pub struct HeadedTable {
     pub alignments: Vec<Alignment>,
     /// The length in bytes of its header row and its delimiter row, from the start of the header row on, with their
     /// line endings.
-    pub head_len: usize,
+    pub table_head_len: usize,
 }
 
 // The table whose header row is the first line of `bytes`. `bytes` is all the rest of the text. The alignments are
@@ -41,8 +41,8 @@ fn scan_table_at(
 ) -> Result<Option<HeadedTable>, AllocError>
     ensures value { IfOk result (λ found. option_map (λ t. t.alignments.items) found
         ≡ table_at (path_of source.now.options tree.now) bytes.now) }
-    ensures head { IfOk result (λ found. IfSome found (λ t. t.head_len ≡ head_len bytes.now)) }
-    ensures within { IfOk result (λ found. IfSome found (λ t. t.head_len ≤ length bytes.now)) }
+    ensures head { IfOk result (λ found. IfSome found (λ t. t.table_head_len ≡ table_head_len bytes.now)) }
+    ensures within { IfOk result (λ found. IfSome found (λ t. t.table_head_len ≤ length bytes.now)) }
 {
     let row_len = scan_nextline(bytes);
     let after = rest_of(bytes, row_len);
@@ -58,7 +58,7 @@ fn scan_table_at(
     }
     Ok(Some(HeadedTable {
         alignments,
-        head_len: row_len + scan_nextline(after),
+        table_head_len: row_len + scan_nextline(after),
     }))
 }
 
@@ -105,8 +105,8 @@ pub fn scan_headed_line(
 ) -> Result<Option<HeadedTable>, AllocError>
     ensures value { IfOk result (λ found. option_map (λ t. t.alignments.items) found
         ≡ headed_table (context_of source.now.options tree.now) bytes.now) }
-    ensures head { IfOk result (λ found. IfSome found (λ t. t.head_len ≡ head_len bytes.now)) }
-    ensures within { IfOk result (λ found. IfSome found (λ t. t.head_len ≤ length bytes.now)) }
+    ensures head { IfOk result (λ found. IfSome found (λ t. t.table_head_len ≡ table_head_len bytes.now)) }
+    ensures within { IfOk result (λ found. IfSome found (λ t. t.table_head_len ≤ length bytes.now)) }
 {
     if !source.options.contains(Options::ENABLE_TABLES) {
         return Ok(None);
@@ -132,8 +132,8 @@ pub fn scan_headed_table(
     requires { IsCharBoundary source.now.text.now start }
     ensures value { IfOk result (λ found. option_map (λ t. t.alignments.items) found
         ≡ headed_table (context_of source.now.options tree.now) (drop start source.now.text.now)) }
-    ensures head { IfOk result (λ found. IfSome found (λ t. t.head_len ≡ head_len (drop start source.now.text.now))) }
-    ensures within { IfOk result (λ found. IfSome found (λ t. start + t.head_len ≤ length source.now.text.now)) }
+    ensures head { IfOk result (λ found. IfSome found (λ t. t.table_head_len ≡ table_head_len (drop start source.now.text.now))) }
+    ensures within { IfOk result (λ found. IfSome found (λ t. start + t.table_head_len ≤ length source.now.text.now)) }
     ensures utf8 { OnOk result (IsUtf8 source.now.text.now) }
 {
     let bytes = rest_of(source.text.as_bytes(), start);

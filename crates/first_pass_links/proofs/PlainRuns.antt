@@ -8,7 +8,7 @@ use Rattle.first_pass_lines.specs.Lines.{is_ascii_white}
 use Rattle.first_pass_links.specs.Escapes.{begins_escape}
 use Rattle.first_pass_links.specs.Destinations.{ends_run, closes_none, nesting_after, run_len, longer}
 use Rattle.first_pass_links.specs.Labels.{is_bracket, begins_character, bytes_of, label_len, shown}
-use Rattle.first_pass_links.specs.Plain.{is_plain}
+use Rattle.first_pass_links.specs.Plain.{is_ordinary}
 use Rattle.first_pass_links.specs.Units.{part, read_of, left_at, kept_unit, Reads}
 use Rattle.first_pass_links.proofs.Destinations.{run_unit}
 use Rattle.first_pass_links.proofs.Labels.{byte_reads, read-kept, take_past, count_append, any_append}
@@ -16,39 +16,39 @@ use Rattle.first_pass_links.proofs.Parts.{part-split}
 
 -- the first r bytes from an offset on are plain
 abbrev pub ArePlain : List ℕ → ℕ → ℕ → Type 0
-ArePlain bs at r = (k : ℕ) → k < r → is_plain (get_or bs (at + k) 0) ≡ true
+ArePlain bs at r = (k : ℕ) → k < r → is_ordinary (get_or bs (at + k) 0) ≡ true
 
-pub are_plain : (bs rest : List ℕ) (at r : ℕ) → rest ≡ drop at bs → ((k : ℕ) → k < r → is_plain (get_or rest k 0) ≡ true) → ArePlain bs at r
-are_plain bs rest at r e plain k below = ap is_plain (sym (get_or-drop at bs k 0)) ∙ ap (λ xs. is_plain (get_or xs k 0)) (sym e) ∙ plain k below
+pub are_plain : (bs rest : List ℕ) (at r : ℕ) → rest ≡ drop at bs → ((k : ℕ) → k < r → is_ordinary (get_or rest k 0) ≡ true) → ArePlain bs at r
+are_plain bs rest at r e plain k below = ap is_ordinary (sym (get_or-drop at bs k 0)) ∙ ap (λ xs. is_ordinary (get_or xs k 0)) (sym e) ∙ plain k below
 
-plain_ends : (b : ℕ) → is_plain b ≡ true → ends_run b ≡ false
+plain_ends : (b : ℕ) → is_ordinary b ≡ true → ends_run b ≡ false
 plain_ends b h = grind (arith, nat_tests, h)
 
-plain_closes : (b n : ℕ) → is_plain b ≡ true → closes_none b n ≡ false
+plain_closes : (b n : ℕ) → is_ordinary b ≡ true → closes_none b n ≡ false
 plain_closes b n h = grind (arith, nat_tests, h)
 
-plain_nests : (b n : ℕ) → is_plain b ≡ true → nesting_after b n ≡ n
+plain_nests : (b n : ℕ) → is_ordinary b ≡ true → nesting_after b n ≡ n
 plain_nests b n h = grind (arith, nat_tests, h)
 
-plain_backslash : (b : ℕ) → is_plain b ≡ true → (b == 92) ≡ false
+plain_backslash : (b : ℕ) → is_ordinary b ≡ true → (b == 92) ≡ false
 plain_backslash b h = grind (arith, nat_tests, h)
 
-plain_white : (b : ℕ) → is_plain b ≡ true → is_ascii_white b ≡ false
+plain_white : (b : ℕ) → is_ordinary b ≡ true → is_ascii_white b ≡ false
 plain_white b h = grind (arith, nat_tests, h)
 
-plain_bracket : (b : ℕ) → is_plain b ≡ true → is_bracket b ≡ false
+plain_bracket : (b : ℕ) → is_ordinary b ≡ true → is_bracket b ≡ false
 plain_bracket b h = grind (arith, nat_tests, h)
 
-plain_begins : (b : ℕ) → is_plain b ≡ true → suc zero ≡ (if begins_character b then 1 else 0)
+plain_begins : (b : ℕ) → is_ordinary b ≡ true → suc zero ≡ (if begins_character b then 1 else 0)
 plain_begins b h = grind (arith, nat_tests, h)
 
 no_escape : (bs : List ℕ) (at : ℕ) → at < length bs → (get_or bs at 0 == 92) ≡ false → begins_escape (drop at bs) ≡ false
 no_escape bs at l h = ap begins_escape (drop_more bs at 0 l) ∙ rw h refl
 
 -- a run continues after plain bytes
-run_plain_byte : (deepest nesting : ℕ) (bs : List ℕ) (at : ℕ) → at < length bs → is_plain (get_or bs at 0) ≡ true → nesting ≤ deepest
+run_plain_byte : (deepest nesting : ℕ) (bs : List ℕ) (at : ℕ) → at < length bs → is_ordinary (get_or bs at 0) ≡ true → nesting ≤ deepest
     → longer (at + 1) (run_len deepest nesting 0 (drop (at + 1) bs)) ≡ longer at (run_len deepest nesting 0 (drop at bs))
-run_plain_byte deepest nesting bs at l plain few =
+run_plain_byte deepest nesting bs at l plain node_bound =
     let b = get_or bs at 0 in
     let same = plain_nests b nesting plain in
     let one : suc zero ≡ (if begins_escape (drop at bs) then 2 else 1) = rw (no_escape bs at l (plain_backslash b plain)) refl in
@@ -57,14 +57,14 @@ run_plain_byte deepest nesting bs at l plain few =
 
 pub run_plain : (deepest nesting : ℕ) (bs : List ℕ) (at r : ℕ) → at + r ≤ length bs → ArePlain bs at r → nesting ≤ deepest
     → longer (at + r) (run_len deepest nesting 0 (drop (at + r) bs)) ≡ longer at (run_len deepest nesting 0 (drop at bs))
-run_plain deepest nesting bs at zero within plain few =
+run_plain deepest nesting bs at zero within plain node_bound =
     let e : at + zero ≡ at = omega arith in
     ap (λ j. longer j (run_len deepest nesting 0 (drop j bs))) e
-run_plain deepest nesting bs at (suc r) within plain few =
+run_plain deepest nesting bs at (suc r) within plain node_bound =
     let e : at + suc r ≡ at + r + 1 = omega arith in
     ap (λ j. longer j (run_len deepest nesting 0 (drop j bs))) e
-    ∙ run_plain_byte deepest nesting bs (at + r) (omega arith) (plain r (omega arith)) few
-    ∙ run_plain deepest nesting bs at r (omega arith) (λ k below. plain k (omega arith)) few
+    ∙ run_plain_byte deepest nesting bs (at + r) (omega arith) (plain r (omega arith)) node_bound
+    ∙ run_plain deepest nesting bs at r (omega arith) (λ k below. plain k (omega arith)) node_bound
 
 -- two kept units, one after the other, are one
 module _ (h : List ℕ → Option ℕ) (t : Bool) (text : List ℕ) (at m n c d : ℕ) where
@@ -102,7 +102,7 @@ module _ (h : List ℕ → Option ℕ) (t : Bool) (text : List ℕ) (at m n c d 
           ap (λ l. l ++ read_of text m (kept_unit n d true)) (read-kept text at m c true) ∙ ap (λ l. part text at m ++ l) (read-kept text m n d true)
           ∙ part-split text at m n first second ∙ sym (read-kept text at n (c + d) true)
 
-plain_byte_reads : (h : List ℕ → Option ℕ) (t : Bool) (text : List ℕ) (at : ℕ) → at < length text → is_plain (get_or text at 0) ≡ true
+plain_byte_reads : (h : List ℕ → Option ℕ) (t : Bool) (text : List ℕ) (at : ℕ) → at < length text → is_ordinary (get_or text at 0) ≡ true
     → Reads h t text at (kept_unit (at + 1) 1 true)
 plain_byte_reads h t text at within plain =
     let b = get_or text at 0 in
@@ -113,7 +113,7 @@ plain_reads : (h : List ℕ → Option ℕ) (t : Bool) (text : List ℕ) (at r :
     → Reads h t text at (kept_unit (at + suc r) (suc r) true)
 plain_reads h t text at zero within plain =
     let z : at + 0 ≡ at = omega arith in
-    plain_byte_reads h t text at (omega arith) (ap (λ j. is_plain (get_or text j 0)) (sym z) ∙ plain 0 (omega arith))
+    plain_byte_reads h t text at (omega arith) (ap (λ j. is_ordinary (get_or text j 0)) (sym z) ∙ plain 0 (omega arith))
 plain_reads h t text at (suc r) within plain =
     let front : at ≤ at + suc r = omega arith in
     let back : at + suc r ≤ at + suc r + 1 = omega arith in

@@ -6,7 +6,7 @@ use Rattle.std.proofs.lemmas.Bool.{cases_Bool, eqb-true, and_parts, le-ltb, lt-l
 use Rattle.std.proofs.lemmas.Bool.Decides.{nat_tests}
 use Rattle.first_pass_links.specs.Escapes.{begins_escape}
 use Rattle.first_pass_links.specs.Destinations.{ends_run, closes_none, nesting_after, run_len, longer, if_closed}
-use Rattle.first_pass_links.specs.Runs.{is_plain, IsBare, nothing, escape, plain, nested, ends_before, BeginsRun}
+use Rattle.first_pass_links.specs.Runs.{is_run_byte, IsBare, nothing, escape, plain, nested, ends_before, BeginsRun}
 use Rattle.first_pass_links.proofs.Destinations.{longer-longer, second, run-nil, run-end, run-escape, run-unopened, run-deep, run-byte}
 
 -- if there is a run, its length is computed
@@ -14,7 +14,7 @@ longer-none : (o : Option ℕ) → longer 0 o ≡ o
 longer-none None = refl
 longer-none (Some k) = let e : 0 + k ≡ k = omega arith in ap (λ n. Some n) e
 
-plain_facts : (b nesting : ℕ) → is_plain b ≡ true → (ends_run b ≡ false) × (closes_none b nesting ≡ false) × (nesting_after b nesting ≡ nesting)
+plain_facts : (b nesting : ℕ) → is_run_byte b ≡ true → (ends_run b ≡ false) × (closes_none b nesting ≡ false) × (nesting_after b nesting ≡ nesting)
 plain_facts b nesting h =
     let x : (b == 40) ≡ false = grind (arith, nat_tests, h) in
     let y : (b == 41) ≡ false = grind (arith, nat_tests, h) in
@@ -88,7 +88,7 @@ closes_escape zero d b run following p c = escape d b run following p c
 closes_escape (suc k) d b run following p c = (92 ∷ b ∷ c.0, c.1, ap (λ xs. 92 ∷ b ∷ xs) c.2, escape d b c.0 (41 ∷ (c.1 ++ following)) p c.3, c.4)
 
 closes_plain : (k d b : ℕ) (run following : List ℕ)
-    → is_plain b ≡ true → begins_escape (b ∷ (run ++ following)) ≡ false → Closes k d run following → Closes k d (b ∷ run) following
+    → is_run_byte b ≡ true → begins_escape (b ∷ (run ++ following)) ≡ false → Closes k d run following → Closes k d (b ∷ run) following
 closes_plain zero d b run following p alone c = plain d b run following p alone c
 closes_plain (suc k) d b run following p alone c =
     let e : begins_escape (b ∷ (c.0 ++ 41 ∷ (c.1 ++ following))) ≡ false =
@@ -146,7 +146,7 @@ ends_escape k d b n bs p e =
       ends = e.ends;
     }
 
-ends_plain : (k d b n : ℕ) (bs : List ℕ) → is_plain b ≡ true → begins_escape (b ∷ bs) ≡ false → Ends k d bs n → Ends k d (b ∷ bs) (1 + n)
+ends_plain : (k d b n : ℕ) (bs : List ℕ) → is_run_byte b ≡ true → begins_escape (b ∷ bs) ≡ false → Ends k d bs n → Ends k d (b ∷ bs) (1 + n)
 ends_plain k d b n bs p alone e =
     let l = e.count in
     record {
@@ -216,7 +216,7 @@ counted_close deepest bs i (suc k) d n e h =
     (sym (run-byte deepest (suc k) 41 bs refl refl (some_open k) (le-ltb _ _ (let z : suc k - 1 ≤ deepest = omega arith in z))) ∙ h) in
     subst (Ends (suc k) d (41 ∷ bs)) x.2 (ends_close k d x.0 bs (i k (suc d) x.0 (omega arith) (ap (λ m. run_len deepest m 0 bs) (sym f) ∙ x.1)))
 
-counted_plain : (deepest b : ℕ) (bs : List ℕ) → is_plain b ≡ true → begins_escape (b ∷ bs) ≡ false → Counted deepest bs → Counted deepest (b ∷ bs)
+counted_plain : (deepest b : ℕ) (bs : List ℕ) → is_run_byte b ≡ true → begins_escape (b ∷ bs) ≡ false → Counted deepest bs → Counted deepest (b ∷ bs)
 counted_plain deepest b bs p alone i =
     λ k d n e h.
     let f = plain_facts b k p in
@@ -225,7 +225,7 @@ counted_plain deepest b bs p alone i =
     (sym (run-byte deepest k b bs f.0 alone f.1 (le-ltb _ _ (let l : nesting_after b k ≤ deepest = omega arith in l))) ∙ h) in
     subst (Ends k d (b ∷ bs)) x.2 (ends_plain k d b x.0 bs p alone (i k d x.0 e (ap (λ m. run_len deepest m 0 bs) (sym f.2) ∙ x.1)))
 
-plain_from : (b : ℕ) → ends_run b ≡ false → (b == 40) ≡ false → (b == 41) ≡ false → is_plain b ≡ true
+plain_from : (b : ℕ) → ends_run b ≡ false → (b == 40) ≡ false → (b == 41) ≡ false → is_run_byte b ≡ true
 plain_from b x y z = rw (x, y, z) refl
 
 counted_byte : (x y z w : Bool) (deepest b : ℕ) (bs : List ℕ)

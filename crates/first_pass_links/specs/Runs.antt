@@ -6,8 +6,8 @@ use Rattle.first_pass_links.specs.Escapes.{begins_escape}
 use Rattle.first_pass_links.specs.Destinations.{ends_run}
 
 -- a byte that a run may have by itself: no ASCII control character, no space and no parenthesis (CommonMark 6.3)
-abbrev pub is_plain : ℕ → Bool
-is_plain b = not (ends_run b || b == left_parenthesis || b == right_parenthesis)
+abbrev pub is_run_byte : ℕ → Bool
+is_run_byte b = not (ends_run b || b == left_parenthesis || b == right_parenthesis)
 
 -- A run before the bytes after it, with its parentheses nested at most `deepest` deep. It has no control character
 -- and no space, and its parentheses are escaped or balanced (CommonMark 6.3).
@@ -19,7 +19,7 @@ pub data IsBare : ℕ → List ℕ → List ℕ → Type 0 where
       → IsBare deepest (backslash ∷ b ∷ more) following
   -- a byte by itself (also a backslash that escapes nothing), then a run
   plain : (deepest b : ℕ) (more following : List ℕ)
-      → is_plain b ≡ true → begins_escape (b ∷ (more ++ following)) ≡ false → IsBare deepest more following → IsBare deepest (b ∷ more) following
+      → is_run_byte b ≡ true → begins_escape (b ∷ (more ++ following)) ≡ false → IsBare deepest more following → IsBare deepest (b ∷ more) following
   -- a run in parentheses, nested one less deep, then a run
   nested : (deepest : ℕ) (inside more following : List ℕ)
       → IsBare deepest inside (right_parenthesis ∷ (more ++ following)) → IsBare (suc deepest) more following

@@ -2,7 +2,7 @@
 
 ghost use Rattle.std.specs.Prelude.{◌≡◌, ◌+◌, ◌<◌, ◌≤◌, ℕ, length, slice_index, true};
 ghost use Rattle.first_pass_lines.specs.Lanes.{IsRunIn};
-ghost use Rattle.first_pass_links.specs.Plain.{is_plain, is_unmarked};
+ghost use Rattle.first_pass_links.specs.Plain.{is_ordinary, is_unmarked};
 
 use first_pass_lines::lanes::{LANES, first_set};
 use std::simd::prelude::*;
@@ -13,7 +13,7 @@ use std::simd::prelude::*;
 #[inline(always)]
 pub(crate) fn plain_run(bytes: &[u8]) -> usize
     ensures within { result ≤ length bytes.now }
-    ensures plain { (k : ℕ) → k < result → is_plain (slice_index bytes.now k) ≡ true }
+    ensures plain { (k : ℕ) → k < result → is_ordinary (slice_index bytes.now k) ≡ true }
 {
     if bytes.len() < LANES {
         return 0;
@@ -25,7 +25,7 @@ pub(crate) fn plain_run(bytes: &[u8]) -> usize
 #[inline(always)]
 fn plain_lanes(bytes: &[u8]) -> usize
     requires { 16 ≤ length bytes.now }
-    ensures { IsRunIn is_plain bytes.now 0 16 result }
+    ensures { IsRunIn is_ordinary bytes.now 0 16 result }
 {
     let lanes = u8x16::from_slice(bytes);
     let past_capitals = (lanes - u8x16::splat(b'*')).simd_ge(u8x16::splat(b'[' - b'*'));

@@ -16,18 +16,18 @@ same_blank r h = ap (λ t. record r { blank = t }) (sym h)
 same_tree : (r : Reading) (f : Forest Item) → f ≡ r.tree → r.blank ≡ true → record r { tree = f; blank = true } ≡ r
 same_tree r f e h = ap (λ (g : Forest Item). record r { tree = g; blank = true }) e ∙ same_blank r h
 
-none_by : (r : Reading) (b : Option ItemBody) → is_some r.empty_item ≡ false → r.blank ≡ true → blank_read_by r b ≡ r
+none_by : (r : Reading) (b : Option ItemBody) → is_some r.begin_list_item ≡ false → r.blank ≡ true → blank_read_by r b ≡ r
 none_by r None none h = same_blank r h
 none_by r (Some (BlockQuoteBody kind)) none h = refl
 none_by r (Some (ListItemBody columns)) none h =
-    same_tree r (if is_some r.empty_item then emptied r.tree r.tree.spine else r.tree) (ap (λ t. if t then emptied r.tree r.tree.spine else r.tree) none) h
+    same_tree r (if is_some r.begin_list_item then emptied r.tree r.tree.spine else r.tree) (ap (λ t. if t then emptied r.tree r.tree.spine else r.tree) none) h
 none_by r (Some (DefinitionListDefinition columns)) none h =
-    same_tree r (if is_some r.empty_item then emptied_definition r.tree r.tree.spine else r.tree)
+    same_tree r (if is_some r.begin_list_item then emptied_definition r.tree r.tree.spine else r.tree)
     (ap (λ t. if t then emptied_definition r.tree r.tree.spine else r.tree) none) h
 none_by r (Some b) none h = same_blank r h
 
 -- if no item is empty
-pub kept_none : (r : Reading) → is_some r.empty_item ≡ false → r.blank ≡ true → blank_read r ≡ r
+pub kept_none : (r : Reading) → is_some r.begin_list_item ≡ false → r.blank ≡ true → blank_read r ≡ r
 unfolding blank_read
 kept_none r none h = none_by r (top_body r.tree) none h
 
@@ -55,15 +55,15 @@ pub kept_item : (r : Reading) → top_body r.tree ≡ Some (ListItemBody 0) → 
 unfolding blank_read
 kept_item r e h =
     ap (blank_read_by r) e
-    ∙ same_tree r (if is_some r.empty_item then emptied r.tree r.tree.spine else r.tree)
-    (either (is_some r.empty_item) (emptied r.tree r.tree.spine) r.tree (same_item r.tree r.tree.spine e)) h
+    ∙ same_tree r (if is_some r.begin_list_item then emptied r.tree r.tree.spine else r.tree)
+    (either (is_some r.begin_list_item) (emptied r.tree r.tree.spine) r.tree (same_item r.tree r.tree.spine e)) h
 
 pub kept_definition : (r : Reading) → top_body r.tree ≡ Some (DefinitionListDefinition 0) → r.blank ≡ true → blank_read r ≡ r
 unfolding blank_read
 kept_definition r e h =
     ap (blank_read_by r) e
-    ∙ same_tree r (if is_some r.empty_item then emptied_definition r.tree r.tree.spine else r.tree)
-    (either (is_some r.empty_item) (emptied_definition r.tree r.tree.spine) r.tree (same_definition r.tree r.tree.spine e)) h
+    ∙ same_tree r (if is_some r.begin_list_item then emptied_definition r.tree r.tree.spine else r.tree)
+    (either (is_some r.begin_list_item) (emptied_definition r.tree r.tree.spine) r.tree (same_definition r.tree r.tree.spine e)) h
 
 other_by : (r : Reading) (b : ItemBody) → ((n : ℕ) → b ≡ ListItemBody n → ⊥) → ((n : ℕ) → b ≡ DefinitionListDefinition n → ⊥) → r.blank ≡ true
     → blank_read_by r (Some b) ≡ r

@@ -20,8 +20,8 @@ use Rattle.first_pass_open.specs.OpenBlock.{closed_by}
 use Rattle.first_pass_lists.specs.declared.reading.Reading.{Reading}
 
 -- a state from its parts
-abbrev pub remembered : Forest Item → Option ℕ → Bool → Reading
-remembered tree empty_item blank = record { tree = tree; empty_item = empty_item; blank = blank }
+abbrev pub reading_with : Forest Item → Option ℕ → Bool → Reading
+reading_with tree begin_list_item blank = record { tree = tree; begin_list_item = begin_list_item; blank = blank }
 
 -- the state with another tree
 abbrev pub with_tree : Reading → Forest Item → Reading
@@ -29,7 +29,7 @@ with_tree r tree = record r { tree = tree }
 
 -- the state after something is added to the innermost open node: no item is empty
 abbrev pub with_block : Reading → Forest Item → Reading
-with_block r tree = record r { tree = tree; empty_item = None }
+with_block r tree = record r { tree = tree; begin_list_item = None }
 
 -- a list becomes loose; any other node is unchanged
 abbrev pub loosened_by : Forest Item → TreeIndex → Option ItemBody → Forest Item
@@ -76,8 +76,8 @@ is_footnote _ = false
 abbrev pub popped_by : Reading → Forest Item → TreeIndex → Option ItemBody → Reading
 popped_by r f ix (Some (ListBody flags byte number)) = record r { tree = if bit_and flags.0 1 == 1 then tight_items f ix else f }
 popped_by r f ix (Some (DefinitionList flags)) = record r { tree = if bit_and flags.0 1 == 1 then tight_items f ix else f }
-popped_by r f ix (Some (ListItemBody columns)) = record r { tree = f; empty_item = None }
-popped_by r f ix (Some (DefinitionListDefinition columns)) = record r { tree = f; empty_item = None }
+popped_by r f ix (Some (ListItemBody columns)) = record r { tree = f; begin_list_item = None }
+popped_by r f ix (Some (DefinitionListDefinition columns)) = record r { tree = f; begin_list_item = None }
 popped_by r f ix _ = record r { tree = f }
 
 abbrev pub popped_at : ℕ → Reading → List TreeIndex → Reading
@@ -124,10 +124,10 @@ popped e r = popped_after e r (possible_title r.tree)
 -- is empty
 abbrev pub item_finished_by : Reading → Option ℕ → Reading
 item_finished_by r None = r
-item_finished_by r (Some e) = record (if r.blank && is_item (top_body r.tree) then popped e r else r) { empty_item = None }
+item_finished_by r (Some e) = record (if r.blank && is_item (top_body r.tree) then popped e r else r) { begin_list_item = None }
 
 unfoldable pub item_finished : Reading → Reading
-item_finished r = item_finished_by r r.empty_item
+item_finished r = item_finished_by r r.begin_list_item
 
 -- the innermost open node is closed, if it is a list
 abbrev pub list_left : ℕ → Reading → Reading
@@ -246,9 +246,9 @@ emptied_definition f (ix ∷ rest) = with_body_at f ix (DefinitionListDefinition
 -- lines from then on
 abbrev pub blank_read_by : Reading → Option ItemBody → Reading
 blank_read_by r (Some (BlockQuoteBody kind)) = r
-blank_read_by r (Some (ListItemBody columns)) = record r { tree = if is_some r.empty_item then emptied r.tree r.tree.spine else r.tree; blank = true }
+blank_read_by r (Some (ListItemBody columns)) = record r { tree = if is_some r.begin_list_item then emptied r.tree r.tree.spine else r.tree; blank = true }
 blank_read_by r (Some (DefinitionListDefinition columns)) =
-    record r { tree = if is_some r.empty_item then emptied_definition r.tree r.tree.spine else r.tree; blank = true }
+    record r { tree = if is_some r.begin_list_item then emptied_definition r.tree r.tree.spine else r.tree; blank = true }
 blank_read_by r _ = record r { blank = true }
 
 unfoldable pub blank_read : Reading → Reading

@@ -30,7 +30,12 @@ pub struct ListMarker {
 /// Makes the paragraphs directly in the items of a list, the current node, tight, unless the list is loose
 /// (CommonMark 5.3). Notes where the list ends: before its last child, if that is given.
 #[inline(never)]
-fn close_list(tree: &mut Tree<Item>, list_ix: TreeIndex, flags: ListFlags, left: Option<TreeIndex>)
+fn tighten_list(
+    tree: &mut Tree<Item>,
+    list_ix: TreeIndex,
+    flags: ListFlags,
+    left: Option<TreeIndex>,
+)
     requires { list_ix.0 < length tree.old.nodes }
     ensures { tree.new ≡ (if bit_and flags.0 1 == 1 then tight_items tree.old list_ix else tree.old) }
 {
@@ -85,9 +90,10 @@ impl Reading {
         let cur_ix = close_block(&mut self.tree, ix);
         match self.tree[cur_ix].body {
             ItemBody::List(flags, _, _) | ItemBody::DefinitionList(flags) => {
-                close_list(&mut self.tree, cur_ix, flags, left);
+                tighten_list(&mut self.tree, cur_ix, flags, left);
             }
-            ItemBody::ListItem(_) | ItemBody::DefinitionListDefinition(_) => self.empty_item = None,
+            ItemBody::ListItem(_) | ItemBody::DefinitionListDefinition(_) => self.begin_list_item =
+                None,
             _ => {}
         }
     }
@@ -281,12 +287,12 @@ impl Reading {
     pub fn finish_empty_list_item(&mut self)
         ensures { self.new ≡ item_finished self.old }
     {
-        if let Some(marker_end) = self.empty_item {
+        if let Some(marker_end) = self.begin_list_item {
             if self.blank && self.is_in_item() {
                 self.pop(marker_end);
             }
         }
-        self.empty_item = None;
+        self.begin_list_item = None;
     }
 
     // Whether the innermost open node is an item or a definition.
@@ -375,10 +381,10 @@ impl Reading {
         if let Some(ix) = self.tree.peek_up() {
             match self.tree[ix].body {
                 ItemBody::BlockQuote(_) => return,
-                ItemBody::ListItem(_) if self.empty_item.is_some() => {
+                ItemBody::ListItem(_) if self.begin_list_item.is_some() => {
                     self.tree.set_body(ix, ItemBody::ListItem(0));
                 }
-                ItemBody::DefinitionListDefinition(_) if self.empty_item.is_some() => {
+                ItemBody::DefinitionListDefinition(_) if self.begin_list_item.is_some() => {
                     self.tree
                         .set_body(ix, ItemBody::DefinitionListDefinition(0));
                 }
@@ -391,13 +397,13 @@ impl Reading {
     /// Returns true only if one more blank line leaves the state unchanged: a counting one is directly before, and an
     /// empty item or definition already takes only blank lines.
     #[tactic(auto, using(first_pass_open::proofs::BlockLemmas::open_node_in))]
-    pub fn keeps_blank_lines(&self) -> bool
+    pub fn is_unchanged_by_blank_line(&self) -> bool
         ensures { result ≡ true → blank_read self.now ≡ self.now }
     {
         if !self.blank {
             return false;
         }
-        if self.empty_item.is_none() {
+        if self.begin_list_item.is_none() {
             return true;
         }
         let Some(ix) = self.tree.peek_up() else {

@@ -8,6 +8,6 @@ use first_pass_tree::forest::Tree;
 #[derive(Drop)]
 pub struct Reading {
     pub tree: Tree<Item>,
-    pub empty_item: Option<usize>,
+    pub begin_list_item: Option<usize>,
     pub blank: bool,
 }

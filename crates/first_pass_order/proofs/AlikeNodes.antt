@@ -185,10 +185,10 @@ emptied_definition_like f (ix ∷ rest) columns is =
 blank_by_like : (r : Reading) (b : Option ItemBody) → top_body r.tree ≡ b → LooksAlike r.tree (blank_read_by r b).tree
 blank_by_like r (Some (BlockQuoteBody kind)) is = like_itself r.tree
 blank_by_like r (Some (ListItemBody columns)) is =
-    cond_both (is_some r.empty_item) (emptied r.tree r.tree.spine) r.tree (LooksAlike r.tree) (λ b. emptied_like r.tree r.tree.spine columns is)
+    cond_both (is_some r.begin_list_item) (emptied r.tree r.tree.spine) r.tree (LooksAlike r.tree) (λ b. emptied_like r.tree r.tree.spine columns is)
     (λ b. like_itself r.tree)
 blank_by_like r (Some (DefinitionListDefinition columns)) is =
-    cond_both (is_some r.empty_item) (emptied_definition r.tree r.tree.spine) r.tree (LooksAlike r.tree)
+    cond_both (is_some r.begin_list_item) (emptied_definition r.tree r.tree.spine) r.tree (LooksAlike r.tree)
     (λ b. emptied_definition_like r.tree r.tree.spine columns is) (λ b. like_itself r.tree)
 blank_by_like r None is = like_itself r.tree
 blank_by_like r (Some b) is = like_itself r.tree

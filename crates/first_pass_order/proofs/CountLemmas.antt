@@ -202,7 +202,7 @@ child_count f (Some x) = own_one None f.nodes (length f.spine + 1, x)
 -- a block that is added between two different offsets
 pub block_count : (text : List ℕ) (from to : ℕ) (old new : Forest Item) → AddsBetween text from to old new → from < to → GrowsBy from to old.nodes new.nodes
 block_count text from to old new adds apart =
-    let few = adds.fits.3 apart in
+    let node_bound = adds.fits.3 apart in
     let tree = ap (λ (f : Forest Item). own_nodes f.nodes) adds.tree_is in
     let more = own_added old.nodes adds.items (length old.spine + 1) in
     omega arith

@@ -14,7 +14,7 @@ use Rattle.first_pass_tree.specs.declared.tree_index.TreeIndex.{TreeIndex}
 use Rattle.first_pass_tree.specs.Forest.{Forest, IsForest, IsLastAt, depths, modify, with_body_at, body_at, item_at, deeper, pushed, wrapped}
 use Rattle.first_pass_tree.proofs.BodyLemmas.{body-other, body_of}
 use Rattle.first_pass_grammar.specs.Derivation.{list_flags}
-use Rattle.first_pass_grammar.specs.Order.{Extent, extent_of, extents, is_task_marker, is_list_item, is_text_block, is_definition_list, Siblings, Empty}
+use Rattle.first_pass_grammar.specs.Order.{Ranged, extent_of, extents, is_task_marker, is_list_item, is_text_block, is_definition_list, Siblings, Empty}
 use Rattle.first_pass_grammar.specs.Order.{Node, laid}
 use Rattle.first_pass_grammar.specs.OpenOrder.{laid_open, AreAt, FitsOpen, IsOrderedTo}
 use Rattle.first_pass_grammar.proofs.Orders.{laid_open-beside, laid_open-level, length-places}
@@ -29,7 +29,7 @@ use Rattle.first_pass_order.proofs.OrderLemmas.{ordered_same, ordered_begun, ext
 use Rattle.first_pass_order.proofs.PopOrder.{ordered_list_kept}
 
 -- the paragraph's node becomes that of a list, with its title after it
-listed_extents : (nodes : List (ℕ × Item)) (front : List (ℕ × Extent)) (d : ℕ) (x : Extent) (more : List (ℕ × Extent)) (k : ℕ) (b : ItemBody)
+listed_extents : (nodes : List (ℕ × Item)) (front : List (ℕ × Ranged)) (d : ℕ) (x : Ranged) (more : List (ℕ × Ranged)) (k : ℕ) (b : ItemBody)
     → ((y : Item) → extent_of (record y { body = b }) ≡ as_list (extent_of y))
     → extents nodes ≡ front ++ (d, x) ∷ more → k ≡ length front
     → extents (modify nodes k (λ y. record y { body = b })) ≡ front ++ (d, as_list x) ∷ more
@@ -38,17 +38,17 @@ listed_extents [] (n ∷ front) d x more k b list is at = cc
 listed_extents (m ∷ nodes) [] d x more zero b list is at =
     let first : (m.0, extent_of m.1) ≡ (d, x) = cc in
     let rest : extents nodes ≡ more = cc in
-    ap (λ (z : Extent). (m.0, z) ∷ extents nodes) (list m.1)
-    ∙ ap (λ (z : ℕ × Extent). (z.0, as_list z.1) ∷ extents nodes) first ∙ ap (λ (z : List (ℕ × Extent)). (d, as_list x) ∷ z) rest
+    ap (λ (z : Ranged). (m.0, z) ∷ extents nodes) (list m.1)
+    ∙ ap (λ (z : ℕ × Ranged). (z.0, as_list z.1) ∷ extents nodes) first ∙ ap (λ (z : List (ℕ × Ranged)). (d, as_list x) ∷ z) rest
 listed_extents (m ∷ nodes) [] d x more (suc k) b list is at = absurd (omega arith)
 listed_extents (m ∷ nodes) (n ∷ front) d x more zero b list is at = absurd (omega arith)
 listed_extents (m ∷ nodes) (n ∷ front) d x more (suc k) b list is at =
     let first : (m.0, extent_of m.1) ≡ n = cc in
     let rest : extents nodes ≡ front ++ (d, x) ∷ more = cc in
-    ap (λ (z : List (ℕ × Extent)). (m.0, extent_of m.1) ∷ z) (listed_extents nodes front d x more k b list rest (omega arith))
-    ∙ ap (λ (z : ℕ × Extent). z ∷ (front ++ (d, as_list x) ∷ more)) first
+    ap (λ (z : List (ℕ × Ranged)). (m.0, extent_of m.1) ∷ z) (listed_extents nodes front d x more k b list rest (omega arith))
+    ∙ ap (λ (z : ℕ × Ranged). z ∷ (front ++ (d, as_list x) ∷ more)) first
 
-wrapped_extents : (nodes : List (ℕ × Item)) (front : List (ℕ × Extent)) (n : ℕ × Extent) (more : List (ℕ × Extent)) (j : ℕ) (t : ℕ × Item)
+wrapped_extents : (nodes : List (ℕ × Item)) (front : List (ℕ × Ranged)) (n : ℕ × Ranged) (more : List (ℕ × Ranged)) (j : ℕ) (t : ℕ × Item)
     → extents nodes ≡ front ++ n ∷ more → j ≡ suc (length front)
     → extents (take j nodes ++ t ∷ map deeper (drop j nodes)) ≡ front ++ n ∷ (t.0, extent_of t.1) ∷ map deeper more
 wrapped_extents [] [] n more j t is at = cc
@@ -57,22 +57,22 @@ wrapped_extents (m ∷ nodes) [] n more zero t is at = absurd (omega arith)
 wrapped_extents (m ∷ nodes) [] n more (suc zero) t is at =
     let first : (m.0, extent_of m.1) ≡ n = cc in
     let rest : extents nodes ≡ more = cc in
-    ap (λ (z : List (ℕ × Extent)). (m.0, extent_of m.1) ∷ (t.0, extent_of t.1) ∷ z) (extents-deeper nodes ∙ ap (map deeper) rest)
-    ∙ ap (λ (z : ℕ × Extent). z ∷ (t.0, extent_of t.1) ∷ map deeper more) first
+    ap (λ (z : List (ℕ × Ranged)). (m.0, extent_of m.1) ∷ (t.0, extent_of t.1) ∷ z) (extents-deeper nodes ∙ ap (map deeper) rest)
+    ∙ ap (λ (z : ℕ × Ranged). z ∷ (t.0, extent_of t.1) ∷ map deeper more) first
 wrapped_extents (m ∷ nodes) [] n more (suc (suc j)) t is at = absurd (omega arith)
 wrapped_extents (m ∷ nodes) (x ∷ front) n more zero t is at = absurd (omega arith)
 wrapped_extents (m ∷ nodes) (x ∷ front) n more (suc j) t is at =
     let first : (m.0, extent_of m.1) ≡ x = cc in
     let rest : extents nodes ≡ front ++ n ∷ more = cc in
-    ap (λ (z : List (ℕ × Extent)). (m.0, extent_of m.1) ∷ z) (wrapped_extents nodes front n more j t rest (omega arith))
-    ∙ ap (λ (z : ℕ × Extent). z ∷ (front ++ n ∷ (t.0, extent_of t.1) ∷ map deeper more)) first
+    ap (λ (z : List (ℕ × Ranged)). (m.0, extent_of m.1) ∷ z) (wrapped_extents nodes front n more j t rest (omega arith))
+    ∙ ap (λ (z : ℕ × Ranged). z ∷ (front ++ n ∷ (t.0, extent_of t.1) ∷ map deeper more)) first
 
 -- open nodes are before the children of the innermost one
 places_less : (a b : ℕ) (spine : List TreeIndex) → a ≤ b → AreBefore a spine → AreBefore b spine
 places_less a b [] more h = tt
 places_less a b (ix ∷ spine) more h = ((let w = h.0 in omega arith), places_less a b spine more h.1)
 
-pub places_before : (root : Extent) (levels : List (Siblings × Extent)) (row : Siblings) (spine : List TreeIndex) → AreAt root levels spine
+pub places_before : (root : Ranged) (levels : List (Siblings × Ranged)) (row : Siblings) (spine : List TreeIndex) → AreAt root levels spine
     → AreBefore (length (laid_open root levels row)) spine
 places_before root [] row [] h = tt
 places_before root [] row (ix ∷ spine) h = absurd h
@@ -91,12 +91,12 @@ same_list : (b : ItemBody) → is_definitions (Some b) ≡ is_definition_list b
 same_list (DefinitionList flags) = refl
 same_list b = refl
 
-no_list : (nodes : List (ℕ × Item)) (front : List (ℕ × Extent)) (n : ℕ × Extent) (more : List (ℕ × Extent)) (k : ℕ)
+no_list : (nodes : List (ℕ × Item)) (front : List (ℕ × Ranged)) (n : ℕ × Ranged) (more : List (ℕ × Ranged)) (k : ℕ)
     → extents nodes ≡ front ++ n ∷ more → k ≡ length front → is_definitions (body_at nodes k) ≡ n.1.definitions
 no_list [] [] n more k is at = cc
 no_list [] (y ∷ front) n more k is at = cc
 no_list (m ∷ nodes) [] n more zero is at =
-    (let x : (m.0, extent_of m.1) ≡ n = cc in same_list m.1.body ∙ ap (λ (z : ℕ × Extent). z.1.definitions) x)
+    (let x : (m.0, extent_of m.1) ≡ n = cc in same_list m.1.body ∙ ap (λ (z : ℕ × Ranged). z.1.definitions) x)
 no_list (m ∷ nodes) [] n more (suc k) is at = absurd (omega arith)
 no_list (m ∷ nodes) (y ∷ front) n more zero is at = absurd (omega arith)
 no_list (m ∷ nodes) (y ∷ front) n more (suc k) is at = (let z : extents nodes ≡ front ++ n ∷ more = cc in no_list nodes front n more k z (omega arith))
@@ -106,7 +106,7 @@ list_class None h = refl
 list_class (Some (DefinitionList flags)) h = cc
 list_class (Some b) h = refl
 
-no_open_list : (nodes : List (ℕ × Item)) (root : Extent) (levels : List (Siblings × Extent)) (row : Siblings) (spine : List TreeIndex)
+no_open_list : (nodes : List (ℕ × Item)) (root : Ranged) (levels : List (Siblings × Ranged)) (row : Siblings) (spine : List TreeIndex)
     → extents nodes ≡ laid_open root levels row → AreAt root levels spine → is_list (top_of nodes spine) ≡ false → open_definitions levels ≡ false
 no_open_list nodes root [] row spine is at none = refl
 no_open_list nodes root (level ∷ levels) row [] is at none = absurd at
@@ -164,10 +164,10 @@ module _ (text : List ℕ) (f : Forest Item) (a : ℕ) (c : TreeIndex) (y : Item
       let last : IsLastAt (depths f.nodes) d c.0 =
       subst (λ k. IsLastAt (depths f.nodes) k c.0) deep
       (subst (λ z. IfSome z (λ c. IsLastAt (depths f.nodes) (length f.spine + 1) c.0)) current forest.at_current) in
-      let x : Extent = extent_of y in
+      let x : Ranged = extent_of y in
       let l = last_child f.nodes h.root h.levels h.row c.0 y h.nodes last here in
-      let front : List (ℕ × Extent) = laid_open h.root h.levels l.before in
-      let kids : List (ℕ × Extent) = laid (suc d) l.kids in
+      let front : List (ℕ × Ranged) = laid_open h.root h.levels l.before in
+      let kids : List (ℕ × Ranged) = laid (suc d) l.kids in
       let split : extents f.nodes ≡ front ++ (d, x) ∷ (kids ++ []) =
       h.nodes ∙ ap (laid_open h.root h.levels) l.row_is ∙ laid_open-beside h.root h.levels l.before (Node x l.kids Empty) in
       let nodes : List (ℕ × Item) = modify f.nodes c.0 (λ y. record y { body = DefinitionList (list_flags true) }) in
@@ -177,17 +177,17 @@ module _ (text : List ℕ) (f : Forest Item) (a : ℕ) (c : TreeIndex) (y : Item
       let one : c.0 + 1 ≡ suc (length front) = (let p = l.place_is in omega arith) in
       let all = wrapped_extents nodes front (d, as_list x) (kids ++ []) (c.0 + 1) t flagged one in
       let below : map deeper (kids ++ []) ≡ laid (suc (suc d)) l.kids ++ [] =
-      map-append deeper kids [] ∙ ap (λ (z : List (ℕ × Extent)). z ++ []) (laid-deeper (suc d) l.kids) in
+      map-append deeper kids [] ∙ ap (λ (z : List (ℕ × Ranged)). z ++ []) (laid-deeper (suc d) l.kids) in
       let head : (t.0, extent_of t.1) ≡ (suc d, x) =
-      ap (λ (z : ℕ). (z, extent_of t.1)) deeper_is ∙ ap (λ (z : Extent). (suc d, z)) (paragraph_extent y body) in
+      ap (λ (z : ℕ). (z, extent_of t.1)) deeper_is ∙ ap (λ (z : Ranged). (suc d, z)) (paragraph_extent y body) in
       let plain : (x.marker ≡ false) × (x.item ≡ false) × (x.text_block ≡ true) = paragraph_flags y body in
       record {
         root = h.root;
         levels = (l.before, as_list x) ∷ h.levels;
         row = Node x l.kids Empty;
         nodes = all
-            ∙ ap (λ (z : ℕ × Extent). front ++ (d, as_list x) ∷ z ∷ map deeper (kids ++ [])) head
-            ∙ ap (λ (z : List (ℕ × Extent)). front ++ (d, as_list x) ∷ (suc d, x) ∷ z) below
+            ∙ ap (λ (z : ℕ × Ranged). front ++ (d, as_list x) ∷ z ∷ map deeper (kids ++ [])) head
+            ∙ ap (λ (z : List (ℕ × Ranged)). front ++ (d, as_list x) ∷ (suc d, x) ∷ z) below
             ∙ sym (laid_open-level h.root (l.before, as_list x) h.levels (Node x l.kids Empty));
         places = (l.place_is, h.places);
         fits = fits_open_titled text a h.levels l.before x l.kids plain.0 plain.1 plain.2

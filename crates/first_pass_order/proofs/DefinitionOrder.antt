@@ -16,7 +16,7 @@ use Rattle.first_pass_tree.specs.declared.tree_index.TreeIndex.{TreeIndex}
 use Rattle.first_pass_tree.specs.Forest.{Forest, IsForest, IsLastAt, depths, modify, with_body_at, with_end_at, body_at, item_at, at_depth, added}
 use Rattle.first_pass_tree.specs.Forest.{with_end}
 use Rattle.first_pass_tree.proofs.BodyLemmas.{body-kept, body-changed}
-use Rattle.first_pass_grammar.specs.Order.{Extent, extent_of, extents, is_task_marker, Siblings, laid, IsBetween, Elsewhere}
+use Rattle.first_pass_grammar.specs.Order.{Ranged, extent_of, extents, is_task_marker, Siblings, laid, IsBetween, Elsewhere}
 use Rattle.first_pass_grammar.specs.Order.{InItem, Fits, FitsBetween}
 use Rattle.first_pass_grammar.specs.OpenOrder.{laid_open, AreAt, open_within, FitsOpen, item_on_top, within_top, IsOrderedTo}
 use Rattle.first_pass_grammar.proofs.Orders.{ended_at, extents-append, length-extents, extents-at_depth, laid-at_depth, laid_open-level}
@@ -66,7 +66,7 @@ ordered_to_last text f a c y forest current here plain h =
     )
 
 -- the innermost open node has another end
-reended_by : (text : List ℕ) (f : Forest Item) (a e : ℕ) (ix : TreeIndex) (rest : List TreeIndex) (root : Extent) (levels : List (Siblings × Extent))
+reended_by : (text : List ℕ) (f : Forest Item) (a e : ℕ) (ix : TreeIndex) (rest : List TreeIndex) (root : Ranged) (levels : List (Siblings × Ranged))
     (row : Siblings) → extents f.nodes ≡ laid_open root levels row → f.spine ≡ ix ∷ rest → AreAt root levels (ix ∷ rest) → FitsOpen text a levels row
     → a ≤ length text
     → IsBetween text 0 (length text) root × (root.start ≡ 0) × (root.«end» ≡ length text) → IsOrderedTo text (with_end_at f ix e) a
@@ -120,7 +120,7 @@ module _ (text : List ℕ) (old : Forest Item) (ix : TreeIndex) (rest : List Tre
   added_extents : extents (modify (added old items).nodes ix.0 (λ x. record x { «end» = e })) ≡ extents ended ++ laid (suc (suc (length rest))) fits.0
   added_extents =
       ap extents (modify-front old.nodes (at_depth (length old.spine + 1) items) ix.0 (λ x. record x { «end» = e }) low)
-      ∙ extents-append ended (at_depth (length old.spine + 1) items) ∙ ap (λ (z : List (ℕ × Extent)). extents ended ++ z) block_extents
+      ∙ extents-append ended (at_depth (length old.spine + 1) items) ∙ ap (λ (z : List (ℕ × Ranged)). extents ended ++ z) block_extents
 
   -- the closed list, with the block after it
   block_left : (q : Reading) → q.tree ≡ added old items → IsOrderedTo text (definitions_closed e q).tree next
@@ -276,7 +276,7 @@ no_item_top (Some b) h = cc
 
 -- A paragraph, heading or table was added right after a definition, which ends at an offset.
 module _ (text : List ℕ) (r : Reading) (read : Forest Item) (at start next : ℕ) (forest : IsForest r.tree) (after : is_after_definition r.tree ≡ true)
-    (none : r.empty_item ≡ None) (o : IsOrderedTo text r.tree at) (closes : CanClose text r.tree at) (later : at ≤ start)
+    (none : r.begin_list_item ≡ None) (o : IsOrderedTo text r.tree at) (closes : CanClose text r.tree at) (later : at ≤ start)
     (adds : (from : ℕ) → from ≤ start → AddsBetween text from next r.tree read) (within : next ≤ length text) where
   list_top : is_definitions (top_body r.tree) ≡ true
   list_top = (and_parts (is_definitions (top_body r.tree)) (not (is_some (possible_title r.tree))) after).0

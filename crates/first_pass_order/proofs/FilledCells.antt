@@ -131,22 +131,22 @@ again_at_end start next e (inr there) same = eq-eqb next e there
 cells_after : (depth e start : ℕ) (starts : List ℕ) (ms : List Mark) → StartApart e (start ∷ starts) → FewAre ms
     → repeated (Some start) (map (ACell depth) starts ++ ms) ≤ at_end (Some e) (map (ACell depth) starts ++ ms)
 unfolding repeated at_end StartApart
-cells_after depth e start [] ms apart few = few (Some start) (Some e)
-cells_after depth e start (next ∷ starts) ms apart few =
-    one_more (next == start) (next == e) _ _ (again_at_end start next e apart.0) (cells_after depth e next starts ms apart.1 few)
+cells_after depth e start [] ms apart node_bound = node_bound (Some start) (Some e)
+cells_after depth e start (next ∷ starts) ms apart node_bound =
+    one_more (next == start) (next == e) _ _ (again_at_end start next e apart.0) (cells_after depth e next starts ms apart.1 node_bound)
 
 first_cells : (depth e : ℕ) (starts : List ℕ) (ms : List Mark) → StartApart e starts → FewAre ms
     → repeated None (map (ACell depth) starts ++ ms) ≤ at_end (Some e) (map (ACell depth) starts ++ ms)
 unfolding repeated at_end StartApart
-first_cells depth e [] ms apart few = few None (Some e)
-first_cells depth e (start ∷ starts) ms apart few =
-    one_more false (start == e) _ _ (λ h. absurd (cc)) (cells_after depth e start starts ms apart few)
+first_cells depth e [] ms apart node_bound = node_bound None (Some e)
+first_cells depth e (start ∷ starts) ms apart node_bound =
+    one_more false (start == e) _ _ (λ h. absurd (cc)) (cells_after depth e start starts ms apart node_bound)
 
 rows_few : (columns depth : ℕ) (rows : List RowCells) (ms : List Mark) → HaveCells columns rows → FewAre ms → FewAre (row_marks depth rows ++ ms)
 unfolding repeated at_end row_marks HaveCells
-rows_few columns depth [] ms have few = few
-rows_few columns depth (row ∷ rows) ms have few =
-    let rest = first_cells (suc depth) row.«end» row.starts (row_marks depth rows ++ ms) have.1 (rows_few columns depth rows ms have.2 few) in
+rows_few columns depth [] ms have node_bound = node_bound
+rows_few columns depth (row ∷ rows) ms have node_bound =
+    let rest = first_cells (suc depth) row.«end» row.starts (row_marks depth rows ++ ms) have.1 (rows_few columns depth rows ms have.2 node_bound) in
     let same = append_assoc (map (ACell (suc depth)) row.starts) (row_marks depth rows) ms in
     let whole = subst (λ (z : List Mark). repeated None z ≤ at_end (Some row.«end») z) (sym same) rest in
     λ cell end. omega (arith, whole)
@@ -162,5 +162,5 @@ unfolding AreWholeTables
 all_nodes names nodes (tables, are, full) =
     let sum = counted names None nodes in
     let same = filled_are names None nodes in
-    let few = subst FewAre (sym are) (tables_few tables full) None None in
+    let node_bound = subst FewAre (sym are) (tables_few tables full) None None in
     omega arith

@@ -8,14 +8,14 @@ use Rattle.first_pass_items.specs.declared.item.Item.{Item}
 use Rattle.first_pass_tree.specs.declared.tree_index.TreeIndex.{TreeIndex}
 use Rattle.first_pass_tree.specs.Forest.{Forest, modify, map_from}
 use Rattle.first_pass_tree.specs.Forest.{shallower}
-use Rattle.first_pass_grammar.specs.Order.{Extent, extent_of, extents, Siblings, laid, Elsewhere}
+use Rattle.first_pass_grammar.specs.Order.{Ranged, extent_of, extents, Siblings, laid, Elsewhere}
 use Rattle.first_pass_grammar.specs.Order.{Fits}
 use Rattle.first_pass_grammar.specs.OpenOrder.{laid_open, AreAt, within_top, IsOrderedTo}
 use Rattle.first_pass_grammar.proofs.Orders.{ended_at, extents-append, length-extents, laid_open-level}
 use Rattle.first_pass_grammar.proofs.Orders.{fits-any, fits-later}
 use Rattle.first_pass_order.proofs.RowSplits.{laid-shallower, extents-moved}
 use Rattle.first_pass_open.specs.OpenBlock.{closed_by}
-use Rattle.first_pass_lists.specs.Closing.{remembered, top_end}
+use Rattle.first_pass_lists.specs.Closing.{reading_with, top_end}
 use Rattle.first_pass_lists.specs.declared.reading.Reading.{Reading}
 use Rattle.first_pass_order.specs.Ordered.{EndsBeforeTitle}
 use Rattle.first_pass_order.proofs.OrderLemmas.{ordered_more, ordered_closed}
@@ -44,12 +44,12 @@ end_there (n ∷ nodes) zero e low = refl
 end_there (n ∷ nodes) (suc k) e low = end_there nodes k e (omega arith)
 
 -- the innermost open node is among the nodes
-open_by : (nodes : List (ℕ × Item)) (ix : TreeIndex) (rest : List TreeIndex) (root : Extent) (levels : List (Siblings × Extent)) (row : Siblings)
+open_by : (nodes : List (ℕ × Item)) (ix : TreeIndex) (rest : List TreeIndex) (root : Ranged) (levels : List (Siblings × Ranged)) (row : Siblings)
     → extents nodes ≡ laid_open root levels row → AreAt root levels (ix ∷ rest) → ix.0 < length nodes
 open_by nodes ix rest root [] row is places = absurd places
 open_by nodes ix rest root (level ∷ levels) row is places =
-    let more : List (ℕ × Extent) = laid (suc (suc (length levels))) row in
-    let front : List (ℕ × Extent) = laid_open root levels level.0 in
+    let more : List (ℕ × Ranged) = laid (suc (suc (length levels))) row in
+    let front : List (ℕ × Ranged) = laid_open root levels level.0 in
     let all : length nodes ≡ length (front ++ (suc (length levels), level.1) ∷ more) =
     sym (length-extents nodes) ∙ ap length (is ∙ laid_open-level root level levels row) in
     let sum : length (front ++ (suc (length levels), level.1) ∷ more) ≡ length front + suc (length more) =
@@ -63,7 +63,7 @@ open_there text f a ix rest spine h = open_by f.nodes ix rest h.root h.levels h.
 
 extent_alike : (x y : Item) → y.start ≡ x.start → y.«end» ≡ x.«end» → flags_of y.body ≡ flags_of x.body → extent_of y ≡ extent_of x
 extent_alike x y start end flags =
-    let with_flags : ℕ → ℕ → Bool × Bool × Bool × Bool → Extent =
+    let with_flags : ℕ → ℕ → Bool × Bool × Bool × Bool → Ranged =
     λ s e z. record { start = s; «end» = e; text_block = z.0; marker = z.1; item = z.2; definitions = z.3 } in
     ap (λ s. with_flags s y.«end» (flags_of y.body)) start ∙ ap (λ e. with_flags x.start e (flags_of y.body)) end
     ∙ ap (with_flags x.start x.«end») flags
@@ -71,8 +71,8 @@ extent_alike x y start end flags =
 pub extents_alike : (old new : List (ℕ × Item)) → AreAlike old new → extents new ≡ extents old
 extents_alike old new NoNodes = refl
 extents_alike old new (OneMore n m xs ys a h) =
-    ap (λ (z : List (ℕ × Extent)). (m.0, extent_of m.1) ∷ z) (extents_alike xs ys h)
-    ∙ ap (λ (x : Extent). (m.0, x) ∷ extents xs) (extent_alike n.1 m.1 a.start a.«end» (ap (λ t. t.2) a.body.0))
+    ap (λ (z : List (ℕ × Ranged)). (m.0, extent_of m.1) ∷ z) (extents_alike xs ys h)
+    ∙ ap (λ (x : Ranged). (m.0, x) ∷ extents xs) (extent_alike n.1 m.1 a.start a.«end» (ap (λ t. t.2) a.body.0))
     ∙ ap (λ (d : ℕ). (d, extent_of n.1) ∷ extents xs) a.depth
 
 -- The node at a place is the last child of the innermost open node. The nodes before it are in order up to an offset,
@@ -96,21 +96,21 @@ left_ordered text f g at e c l h within =
     let open_low : ix.0 < length old.nodes = open_there text old e ix rest l.spine h.before in
     let extents_low : ix.0 < length (extents old.nodes) = (let n = length-extents old.nodes in omega arith) in
     let deep : suc (length f.spine) ≡ suc (suc (length rest)) = ap (λ (s : List TreeIndex). suc (length s)) l.spine in
-    let more : List (ℕ × Extent) = laid (suc (length f.spine)) h.row in
-    let ended : List (ℕ × Extent) → List (ℕ × Extent) = λ xs. modify xs ix.0 (λ x. ended_at x e) in
+    let more : List (ℕ × Ranged) = laid (suc (length f.spine)) h.row in
+    let ended : List (ℕ × Ranged) → List (ℕ × Ranged) = λ xs. modify xs ix.0 (λ x. ended_at x e) in
     let shut : Forest Item = closed_by old e (ix ∷ rest) in
-    let front : List (ℕ × Extent) = extents shut.nodes in
+    let front : List (ℕ × Ranged) = extents shut.nodes in
     let at_front : c.0 ≡ length front = place ∙ sym (length-extents shut.nodes ∙ length-modify old.nodes ix.0 (λ x. record x { «end» = e })) in
     let split : extents f.nodes ≡ extents old.nodes ++ more =
     ap (λ (z : List (ℕ × Item)). extents z) (sym (take-append-drop c.0 f.nodes)) ∙ extents-append old.nodes (drop c.0 f.nodes)
-    ∙ ap (λ (z : List (ℕ × Extent)). extents old.nodes ++ z) h.last in
+    ∙ ap (λ (z : List (ℕ × Ranged)). extents old.nodes ++ z) h.last in
     let closed : extents l.mid ≡ front ++ laid (suc (suc (length rest))) h.row =
     extents_alike _ l.mid l.alike ∙ extents-end f.nodes ix.0 e ∙ ap ended split ∙ modify-front (extents old.nodes) more ix.0 (λ x. ended_at x e) extents_low
-    ∙ ap (λ (z : List (ℕ × Extent)). z ++ more) (sym (extents-end old.nodes ix.0 e)) ∙ ap (λ k. front ++ laid k h.row) deep in
+    ∙ ap (λ (z : List (ℕ × Ranged)). z ++ more) (sym (extents-end old.nodes ix.0 e)) ∙ ap (λ k. front ++ laid k h.row) deep in
     ordered_more text shut g e at h.row
     (ap (λ (z : List (ℕ × Item)). extents z) l.nodes ∙ ap (λ k. extents (map_from shallower k l.mid)) at_front
     ∙ extents-moved front (laid (suc (suc (length rest))) h.row) l.mid closed
-    ∙ ap (λ (z : List (ℕ × Extent)). front ++ z) (laid-shallower (suc (length rest)) h.row))
+    ∙ ap (λ (z : List (ℕ × Ranged)). front ++ z) (laid-shallower (suc (length rest)) h.row))
     l.outer (fits-any text (within_top shut) e at h.row h.fits) within
     (ordered_closed text old e e ix rest l.spine (omega arith) h.before.within h.ends h.before)
 
@@ -126,7 +126,7 @@ order_kept text = record {
   like = λ a k f g l h. ordered_same text f g a (extents_alike f.nodes g.nodes l.nodes) l.spine h;
   closed = λ a e k f ix rest spine goes ends h. ordered_closed text f a e ix rest spine goes.0 goes.1 ends h;
   left = λ a e k f g c l leaves h. left_ordered text f g a e c l leaves h.within;
-  opened = λ a start k f body goes ends opens h. ordered_begun text (remembered f None false) a start body goes.0 goes.1 ends h;
+  opened = λ a start k f body goes ends opens h. ordered_begun text (reading_with f None false) a start body goes.0 goes.1 ends h;
 }
 
 pub may_leave : (text : List ℕ) (f : Forest Item) (at : ℕ) → EndsBeforeTitle text f at → MayLeave (order_kept text) at f
@@ -138,8 +138,8 @@ ordered_at text r at h = record {
   holds = h.ordered;
   goes = (h.later, h.within);
   marked = λ e is.
-      let here : reached r.empty_item at ≡ e = ap (λ o. reached o at) is in
-      let later : reached r.empty_item at ≤ at = h.later in
+      let here : reached r.begin_list_item at ≡ e = ap (λ o. reached o at) is in
+      let later : reached r.begin_list_item at ≤ at = h.later in
       let within : at ≤ length text = h.within in
       ((omega arith, omega arith), (h.innermost e is).1);
 }

@@ -20,7 +20,7 @@ use Rattle.first_pass_grammar.specs.Derivation.{list_flags}
 use Rattle.first_pass_grammar.specs.Order.{is_task_marker}
 use Rattle.first_pass_open.specs.OpenBlock.{closed_by, with_child}
 use Rattle.first_pass_open.proofs.PathLemmas.{get_front}
-use Rattle.first_pass_lists.specs.Closing.{remembered, with_tree, loosened_by, loosened_at, top_body, is_definition_list, is_list, is_list_of, is_item}
+use Rattle.first_pass_lists.specs.Closing.{reading_with, with_tree, loosened_by, loosened_at, top_body, is_definition_list, is_list, is_list_of, is_item}
 use Rattle.first_pass_lists.specs.Closing.{is_footnote}
 use Rattle.first_pass_lists.specs.Closing.{popped_at, current_moved, definitions_closed, title_by, possible_title, title_closed, top_end}
 use Rattle.first_pass_lists.specs.Closing.{popped_after}
@@ -418,11 +418,11 @@ finished_by_last r (Some e) h last =
 
 pub item_finished_last : (r : Reading) → AreNested r.tree.nodes r.tree.spine → HasDefinition r.tree → HasDefinition (item_finished r).tree
 unfolding item_finished
-item_finished_last r h last = finished_by_last r r.empty_item h last
+item_finished_last r h last = finished_by_last r r.begin_list_item h last
 
 pub item_finished_nested : (r : Reading) → AreNested r.tree.nodes r.tree.spine → AreNested (item_finished r).tree.nodes (item_finished r).tree.spine
 unfolding item_finished
-item_finished_nested r h = finished_by_nested r r.empty_item h
+item_finished_nested r h = finished_by_nested r r.begin_list_item h
 
 -- closing an innermost list
 left_by : (e : ℕ) (r : Reading) (t : Bool) → is_list (top_body r.tree) ≡ t → AreNested r.tree.nodes r.tree.spine → IsOutside (if t then popped e r else r)
@@ -561,7 +561,7 @@ pub outside_closes : (text : List ℕ) (r : Reading) (at : ℕ) → IsOutside r 
 outside_closes text r at h = settled_closes text r at (outside_settled r h)
 
 pub tree_closes : (text : List ℕ) (f : Forest Item) (at : ℕ) → AreNested f.nodes f.spine → is_list (top_body f) ≡ false → CanClose text f at
-tree_closes text f at nested none = outside_closes text (remembered f None false) at (nested, none)
+tree_closes text f at nested none = outside_closes text (reading_with f None false) at (nested, none)
 
 -- a blank line does not change the last child
 blank_by_last : (r : Reading) (b : Option ItemBody) → top_body r.tree ≡ b → HasDefinition r.tree

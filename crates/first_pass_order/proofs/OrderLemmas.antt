@@ -9,7 +9,7 @@ use Rattle.first_pass_items.specs.declared.item.ItemBody.TheVariants.{List as Li
 use Rattle.first_pass_items.specs.declared.item.ItemBody.TheVariants.{DefinitionList, DefinitionListDefinition}
 use Rattle.first_pass_tree.specs.declared.tree_index.TreeIndex.{TreeIndex}
 use Rattle.first_pass_tree.specs.Forest.{Forest, empty_forest, with_end_at, body_at, modify, at_depth, appended, added}
-use Rattle.first_pass_grammar.specs.Order.{Extent, is_text_block, is_task_marker, is_list_item, is_definition_list, extent_of, extents, Siblings, Empty}
+use Rattle.first_pass_grammar.specs.Order.{Ranged, is_text_block, is_task_marker, is_list_item, is_definition_list, extent_of, extents, Siblings, Empty}
 use Rattle.first_pass_grammar.specs.Order.{Node, laid}
 use Rattle.first_pass_grammar.specs.Order.{IsBetween, Elsewhere, InItem, Fits, FitsBetween, IsOrdered}
 use Rattle.first_pass_grammar.specs.OpenOrder.{laid_open, AreAt, open_within, FitsOpen, item_on_top, within_top, IsOrderedTo}
@@ -50,17 +50,17 @@ ordered_later text f a b later within h = record {
 }
 
 -- the extent at a place shows whether an item is there
-item_there : (nodes : List (ℕ × Item)) (front : List (ℕ × Extent)) (n : ℕ × Extent) (more : List (ℕ × Extent)) (k : ℕ)
+item_there : (nodes : List (ℕ × Item)) (front : List (ℕ × Ranged)) (n : ℕ × Ranged) (more : List (ℕ × Ranged)) (k : ℕ)
     → extents nodes ≡ front ++ n ∷ more → k ≡ length front → item_on_top (body_at nodes k) ≡ n.1.item
 item_there [] [] n more k is at = cc
 item_there [] (y ∷ front) n more k is at = cc
-item_there (m ∷ nodes) [] n more zero is at = (let x : (m.0, extent_of m.1) ≡ n = cc in ap (λ (z : ℕ × Extent). z.1.item) x)
+item_there (m ∷ nodes) [] n more zero is at = (let x : (m.0, extent_of m.1) ≡ n = cc in ap (λ (z : ℕ × Ranged). z.1.item) x)
 item_there (m ∷ nodes) [] n more (suc k) is at = absurd (omega arith)
 item_there (m ∷ nodes) (y ∷ front) n more zero is at = absurd (omega arith)
 item_there (m ∷ nodes) (y ∷ front) n more (suc k) is at = (let z : extents nodes ≡ front ++ n ∷ more = cc in item_there nodes front n more k z (omega arith))
 
 -- the place of an added node
-within_open : (nodes : List (ℕ × Item)) (root : Extent) (levels : List (Siblings × Extent)) (row : Siblings) (spine : List TreeIndex)
+within_open : (nodes : List (ℕ × Item)) (root : Ranged) (levels : List (Siblings × Ranged)) (row : Siblings) (spine : List TreeIndex)
     → extents nodes ≡ laid_open root levels row → AreAt root levels spine
     → open_within levels ≡ (if item_on_top (option_and_then (λ ix. body_at nodes ix.0) (slice_get spine 0)) then InItem else Elsewhere)
 within_open nodes root [] row [] is at = refl
@@ -81,7 +81,7 @@ ordered_more text f g a b more nodes spine fits within h =
       root = h.root;
       levels = h.levels;
       row = beside h.row more;
-      nodes = nodes ∙ ap (λ (z : List (ℕ × Extent)). z ++ laid (suc (length f.spine)) more) h.nodes
+      nodes = nodes ∙ ap (λ (z : List (ℕ × Ranged)). z ++ laid (suc (length f.spine)) more) h.nodes
           ∙ ap (λ (k : ℕ). laid_open h.root h.levels h.row ++ laid (suc k) more) n
           ∙ sym (laid_open-beside h.root h.levels h.row more);
       places = subst (λ (s : List TreeIndex). AreAt h.root h.levels s) (sym spine) h.places;
@@ -98,26 +98,26 @@ ordered_appended text f a b x between within h =
     let d : length f.spine + 1 ≡ suc (length f.spine) = omega arith in
     ordered_more text f (appended f x) a b (Node (extent_of x) Empty Empty)
     (extents-append f.nodes ((length f.spine + 1, x) ∷ []) ∙ ap (λ (k : ℕ). extents f.nodes ++ (k, extent_of x) ∷ []) d
-    ∙ ap (λ (z : List (ℕ × Extent)). extents f.nodes ++ z) (sym (laid-one (suc (length f.spine)) (extent_of x))))
+    ∙ ap (λ (z : List (ℕ × Ranged)). extents f.nodes ++ z) (sym (laid-one (suc (length f.spine)) (extent_of x))))
     refl (fits-one text (within_top f) a b (extent_of x) between) within h
 
 -- a block is added
 pub ordered_added : (text : List ℕ) (f : Forest Item) (a b : ℕ) (items : List (ℕ × Item))
     → FitsBetween text (within_top f) a b items → b ≤ length text → IsOrderedTo text f a → IsOrderedTo text (added f items) b
-ordered_added text f a b items (row, is, fits, few) within h =
+ordered_added text f a b items (row, is, fits, node_bound) within h =
     let d : ℕ = length f.spine + 1 in
     let z : d + 0 ≡ suc (length f.spine) = omega arith in
     let block : extents (at_depth d items) ≡ laid (suc (length f.spine)) row =
     extents-at_depth d items ∙ ap (at_depth d) is ∙ laid-at_depth d 0 row ∙ ap (λ (k : ℕ). laid k row) z in
     ordered_more text f (added f items) a b row
-    (extents-append f.nodes (at_depth d items) ∙ ap (λ (z : List (ℕ × Extent)). extents f.nodes ++ z) block) refl fits within h
+    (extents-append f.nodes (at_depth d items) ∙ ap (λ (z : List (ℕ × Ranged)). extents f.nodes ++ z) block) refl fits within h
 
 -- a container or list begins
 pub ordered_begun : (text : List ℕ) (r : Reading) (a start : ℕ) (body : ItemBody)
     → a ≤ start → start ≤ length text → IsCharBoundary text start → IsOrderedTo text r.tree a → IsOrderedTo text (begun start body r).tree start
 ordered_begun text r a start body later within starts h =
     let f : Forest Item = r.tree in
-    let x : Extent = extent_of (record { start = start; «end» = 0; body = body }) in
+    let x : Ranged = extent_of (record { start = start; «end» = 0; body = body }) in
     let d : length f.spine + 1 ≡ suc (length h.levels) = (let n = length-places h.root h.levels f.spine h.places in omega arith) in
     record {
       root = h.root;
@@ -125,7 +125,7 @@ ordered_begun text r a start body later within starts h =
       row = Empty;
       nodes = extents-append f.nodes ((length f.spine + 1, record { start = start; «end» = 0; body = body }) ∷ [])
           ∙ ap (λ (k : ℕ). extents f.nodes ++ (k, x) ∷ []) d
-          ∙ ap (λ (z : List (ℕ × Extent)). z ++ (suc (length h.levels), x) ∷ []) h.nodes ∙ sym (laid_open-pushed h.root x h.levels h.row);
+          ∙ ap (λ (z : List (ℕ × Ranged)). z ++ (suc (length h.levels), x) ∷ []) h.nodes ∙ sym (laid_open-pushed h.root x h.levels h.row);
       places = (sym (length-extents f.nodes) ∙ ap length h.nodes, h.places);
       fits = fits_open-pushed text a x h.levels h.row later starts h.fits;
       within = within;
@@ -133,7 +133,7 @@ ordered_begun text r a start body later within starts h =
     }
 
 -- the whole tree, if only the root is open
-whole_by : (text : List ℕ) (nodes : List (ℕ × Item)) (to : ℕ) (root : Extent) (levels : List (Siblings × Extent)) (row : Siblings)
+whole_by : (text : List ℕ) (nodes : List (ℕ × Item)) (to : ℕ) (root : Ranged) (levels : List (Siblings × Ranged)) (row : Siblings)
     → extents nodes ≡ laid_open root levels row → AreAt root levels [] → FitsOpen text to levels row → to ≤ length text
     → IsBetween text 0 (length text) root × (root.start ≡ 0) × (root.«end» ≡ length text) → IsOrdered text nodes
 whole_by text nodes to root [] row is places fits within whole =
@@ -171,7 +171,7 @@ ordered_first text tree root utf8 top tree_is =
     subst (λ (f : Forest Item). IsOrderedTo text f 0) (sym e) (first_at text utf8)
 
 -- the innermost open node is closed
-closed_levels : (text : List ℕ) (f : Forest Item) (at e : ℕ) (ix : TreeIndex) (rest : List TreeIndex) (root : Extent) (levels : List (Siblings × Extent))
+closed_levels : (text : List ℕ) (f : Forest Item) (at e : ℕ) (ix : TreeIndex) (rest : List TreeIndex) (root : Ranged) (levels : List (Siblings × Ranged))
     (row : Siblings) → extents f.nodes ≡ laid_open root levels row → AreAt root levels (ix ∷ rest)
     → FitsOpen text at levels row → IsBetween text 0 (length text) root × (root.start ≡ 0) × (root.«end» ≡ length text) → at ≤ e → e ≤ length text
     → IsCharBoundary text e → IsOrderedTo text (closed_by f e (ix ∷ rest)) e
@@ -196,7 +196,7 @@ ordered_closed text f at e ix rest spine later within ends h =
     (subst (λ (s : List TreeIndex). AreAt h.root h.levels s) spine h.places) h.fits h.whole later within ends
 
 pub popped_empty : (r : Reading) (f : Forest Item) (ix : TreeIndex) (b : Option ItemBody)
-    → (r.empty_item ≡ None) ⊎ (is_item b ≡ true) → (popped_by r f ix b).empty_item ≡ None
+    → (r.begin_list_item ≡ None) ⊎ (is_item b ≡ true) → (popped_by r f ix b).begin_list_item ≡ None
 popped_empty r f ix None (inl none) = none
 popped_empty r f ix None (inr item) = cc
 popped_empty r f ix (Some (ListBody flags byte number)) (inl none) = none
@@ -212,17 +212,17 @@ no_some : (o : Option ℕ) (e : ℕ) → o ≡ None → o ≡ Some e → ⊥
 no_some o e a b = cc
 
 -- if no item is empty, the order of the state is that of the tree
-pub ordered_none : (text : List ℕ) (r : Reading) (at : ℕ) → r.empty_item ≡ None → at ≤ length text → IsOrderedTo text r.tree at → IsOrderedAt text r at
+pub ordered_none : (text : List ℕ) (r : Reading) (at : ℕ) → r.begin_list_item ≡ None → at ≤ length text → IsOrderedTo text r.tree at → IsOrderedAt text r at
 ordered_none text r at none within h =
-    let same : reached r.empty_item at ≡ at = ap (λ (o : Option ℕ). reached o at) none in
+    let same : reached r.begin_list_item at ≡ at = ap (λ (o : Option ℕ). reached o at) none in
     record {
       ordered = subst (λ (n : ℕ). IsOrderedTo text r.tree n) (sym same) h;
       later = omega arith;
       within = within;
-      innermost = λ e is. absurd (no_some r.empty_item e none is);
+      innermost = λ e is. absurd (no_some r.begin_list_item e none is);
     }
 
-later_by : (text : List ℕ) (r : Reading) (at b : ℕ) (o : Option ℕ) → r.empty_item ≡ o → at ≤ b → b ≤ length text → IsOrderedTo text r.tree (reached o at)
+later_by : (text : List ℕ) (r : Reading) (at b : ℕ) (o : Option ℕ) → r.begin_list_item ≡ o → at ≤ b → b ≤ length text → IsOrderedTo text r.tree (reached o at)
     → reached o at ≤ at → IsOrderedTo text r.tree (reached o b) × (reached o b ≤ b)
 later_by text r at b None is later within h order = (let here : b ≤ b = omega arith in (ordered_later text r.tree at b later within h, here))
 later_by text r at b (Some e) is later within h order = (let here : e ≤ b = omega arith in (h, here))
@@ -230,7 +230,7 @@ later_by text r at b (Some e) is later within h order = (let here : e ≤ b = om
 -- up to a later offset, whether an item is empty or not
 pub ordered_at_later : (text : List ℕ) (r : Reading) (at b : ℕ) → at ≤ b → b ≤ length text → IsOrderedAt text r at → IsOrderedAt text r b
 ordered_at_later text r at b later within h =
-    let l = later_by text r at b r.empty_item refl later within h.ordered h.later in
+    let l = later_by text r at b r.begin_list_item refl later within h.ordered h.later in
     record { ordered = l.0; later = l.1; within = within; innermost = h.innermost }
 
 -- the flags of a body that its extent has

@@ -32,30 +32,30 @@ use Rattle.first_pass_tree.proofs.BodyLemmas.{body-kept}
 use Rattle.first_pass_order.proofs.OrderLemmas.{ordered_none, ordered_at_later}
 use Rattle.first_pass_order.proofs.OrderLemmas.{popped_empty}
 
-empty_moved : (q : Reading) (o : Option TreeIndex) → (current_moved q o).empty_item ≡ q.empty_item
+empty_moved : (q : Reading) (o : Option TreeIndex) → (current_moved q o).begin_list_item ≡ q.begin_list_item
 empty_moved q None = refl
 empty_moved q (Some c) = refl
 
-title_empty : (r : Reading) (title : TreeIndex) → r.empty_item ≡ None → (title_closed r title).empty_item ≡ None
+title_empty : (r : Reading) (title : TreeIndex) → r.begin_list_item ≡ None → (title_closed r title).begin_list_item ≡ None
 unfolding definitions_closed
 title_empty r title none =
     let g : Forest Item = with_body_at r.tree title Paragraph in
     empty_moved (popped_at (top_end r.tree) (with_tree r g) g.spine) g.current ∙ popped_at_none (top_end r.tree) (with_tree r g) g.spine none
 
-pub noted_empty : (r : Reading) → (gap_noted r).empty_item ≡ r.empty_item
+pub noted_empty : (r : Reading) → (gap_noted r).begin_list_item ≡ r.begin_list_item
 noted_empty r =
-    cond_both r.blank (record r { tree = gap_tree r.tree r.tree.spine; blank = false }) r (λ (q : Reading). q.empty_item ≡ r.empty_item) (λ b. refl) (λ b. refl)
+    cond_both r.blank (record r { tree = gap_tree r.tree r.tree.spine; blank = false }) r (λ (q : Reading). q.begin_list_item ≡ r.begin_list_item) (λ b. refl) (λ b. refl)
 
 -- no possible title is last in an item
 pub untitled_item : (text : List ℕ) (f : Forest Item) (at : ℕ) → is_item (top_body f) ≡ true → EndsBeforeTitle text f at
 untitled_item text f at item title is = absurd (no_item_list (top_body f) (title_there f title is).list item)
 
 empty_by : (text : List ℕ) (r : Reading) (at : ℕ) (o : Option ℕ)
-    → r.empty_item ≡ o → IsOrderedAt text r at → (r.empty_item ≡ None) ⊎ (is_item (top_body r.tree) ≡ true)
+    → r.begin_list_item ≡ o → IsOrderedAt text r at → (r.begin_list_item ≡ None) ⊎ (is_item (top_body r.tree) ≡ true)
 empty_by text r at None is h = inl is
 empty_by text r at (Some e) is h = inr (h.innermost e is).0
 
-item_closed : (e : ℕ) (r : Reading) (s : List TreeIndex) → r.tree.spine ≡ s → is_item (top_body r.tree) ≡ true → (popped_at e r s).empty_item ≡ None
+item_closed : (e : ℕ) (r : Reading) (s : List TreeIndex) → r.tree.spine ≡ s → is_item (top_body r.tree) ≡ true → (popped_at e r s).begin_list_item ≡ None
 item_closed e r [] spine item =
     let none : is_item (top_body r.tree) ≡ false =
     ap (λ (s : List TreeIndex). is_item (option_and_then (λ ix. body_at r.tree.nodes ix.0) (slice_get s 0))) spine in
@@ -67,14 +67,14 @@ item_closed e r (ix ∷ rest) spine item =
     ap (λ (s : List TreeIndex). is_item (option_and_then (λ ix. body_at r.tree.nodes ix.0) (slice_get s 0))) spine in
     popped_empty r f ix (body_at f.nodes ix.0) (inr (ap is_item same ∙ sym top ∙ item))
 
-after_empty : (e : ℕ) (r : Reading) (o : Option TreeIndex) → possible_title r.tree ≡ o → (r.empty_item ≡ None) ⊎ (is_item (top_body r.tree) ≡ true)
-    → (popped_after e r o).empty_item ≡ None
+after_empty : (e : ℕ) (r : Reading) (o : Option TreeIndex) → possible_title r.tree ≡ o → (r.begin_list_item ≡ None) ⊎ (is_item (top_body r.tree) ≡ true)
+    → (popped_after e r o).begin_list_item ≡ None
 after_empty e r None is (inl none) = popped_at_none e r r.tree.spine none
 after_empty e r None is (inr item) = item_closed e r r.tree.spine refl item
 after_empty e r (Some title) is (inl none) = title_empty r title none
 after_empty e r (Some title) is (inr item) = absurd (no_item_list (top_body r.tree) (title_there r.tree title is).list item)
 
-closes_empty : (e : ℕ) (r : Reading) → (r.empty_item ≡ None) ⊎ (is_item (top_body r.tree) ≡ true) → (popped e r).empty_item ≡ None
+closes_empty : (e : ℕ) (r : Reading) → (r.begin_list_item ≡ None) ⊎ (is_item (top_body r.tree) ≡ true) → (popped e r).begin_list_item ≡ None
 unfolding popped
 closes_empty e r h = after_empty e r (possible_title r.tree) refl h
 
@@ -82,8 +82,8 @@ closes_empty e r h = after_empty e r (possible_title r.tree) refl h
 pub ordered_popped : (text : List ℕ) (r : Reading) (at e : ℕ) → EndsBeforeTitle text r.tree at
     → at ≤ e → e ≤ length text → IsCharBoundary text e → IsOrderedAt text r at → IsOrderedAt text (popped e r) e
 ordered_popped text r at e closes later within ends h =
-    let low : reached r.empty_item at ≤ at = h.later in
-    ordered_none text (popped e r) e (closes_empty e r (empty_by text r at r.empty_item refl h)) within
+    let low : reached r.begin_list_item at ≤ at = h.later in
+    ordered_none text (popped e r) e (closes_empty e r (empty_by text r at r.begin_list_item refl h)) within
     (popped_here (order_kept text) at e 0 r (ordered_at text r at h) (may_leave text r.tree at closes) (λ x is. (h.innermost x is).0)
     (omega arith, within) ends)
 
@@ -131,25 +131,25 @@ ordered_list_continued text r at start byte number closes later within starts h 
     (there, within) starts tt)
 
 -- a blank line is read
-blank_by_empty : (r : Reading) (b : Option ItemBody) → (blank_read_by r b).empty_item ≡ r.empty_item
+blank_by_empty : (r : Reading) (b : Option ItemBody) → (blank_read_by r b).begin_list_item ≡ r.begin_list_item
 blank_by_empty r None = refl
 blank_by_empty r (Some (BlockQuoteBody kind)) = refl
 blank_by_empty r (Some (ListItemBody columns)) = refl
 blank_by_empty r (Some (DefinitionListDefinition columns)) = refl
 blank_by_empty r (Some b) = refl
 
-blank_empty : (r : Reading) → (blank_read r).empty_item ≡ r.empty_item
+blank_empty : (r : Reading) → (blank_read r).begin_list_item ≡ r.begin_list_item
 unfolding blank_read
 blank_empty r = blank_by_empty r (top_body r.tree)
 
 pub ordered_blank_read : (text : List ℕ) (r : Reading) (at b : ℕ) → at ≤ b → b ≤ length text → IsOrderedAt text r at → IsOrderedAt text (blank_read r) b
 ordered_blank_read text r at b later within h =
-    let same : (blank_read r).empty_item ≡ r.empty_item = blank_empty r in
-    let reach : reached (blank_read r).empty_item at ≡ reached r.empty_item at = ap (λ o. reached o at) same in
-    let low : reached r.empty_item at ≤ at = h.later in
+    let same : (blank_read r).begin_list_item ≡ r.begin_list_item = blank_empty r in
+    let reach : reached (blank_read r).begin_list_item at ≡ reached r.begin_list_item at = ap (λ o. reached o at) same in
+    let low : reached r.begin_list_item at ≤ at = h.later in
     ordered_at_later text (blank_read r) at b later within
     (record {
-      ordered = subst (λ n. IsOrderedTo text (blank_read r).tree n) (sym reach) (blank_keeps (order_kept text) (reached r.empty_item at) 0 r h.ordered);
+      ordered = subst (λ n. IsOrderedTo text (blank_read r).tree n) (sym reach) (blank_keeps (order_kept text) (reached r.begin_list_item at) 0 r h.ordered);
       later = omega arith;
       within = h.within;
       innermost = λ e is. (let inner = h.innermost e (sym same ∙ is) in (like_item r.tree (blank_read r).tree (like_blank r) ∙ inner.0, inner.1));
@@ -230,7 +230,7 @@ continue_list_keeps_order text r q at start byte number is later within starts (
 
 -- the state after a call that opens a footnote definition
 pub footnote_keeps_order : (text : List ℕ) (r q : Reading) (at start : ℕ) (index : CowIndex) → q ≡ footnote_begun start index r → at ≤ start
-    → start ≤ length text → IsCharBoundary text start → (footnote_begun start index r).empty_item ≡ None → IsReadTo text r at → IsReadTo text q start
+    → start ≤ length text → IsCharBoundary text start → (footnote_begun start index r).begin_list_item ≡ None → IsReadTo text r at → IsReadTo text q start
 footnote_keeps_order text r q at start index is later within starts none (o, c) =
     subst (λ (s : Reading). IsReadTo text s start) (sym is) (
       ordered_none text (footnote_begun start index r) start none within (ordered_note text r at start index c.title later within starts o),

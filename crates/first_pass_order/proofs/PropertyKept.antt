@@ -149,9 +149,9 @@ module _ (p : Property) where
   -- The property holds of the state up to the offset at which reading continues; with an empty item, up to the end of
   -- its marker's line.
   pub record HoldsAt (a k : ℕ) (r : Reading) : Type 0 where
-    pub holds : p.Holds (reached r.empty_item a) k r.tree
-    pub goes : p.Goes (reached r.empty_item a) a
-    pub marked : (e : ℕ) → r.empty_item ≡ Some e → p.Goes e e × p.Bounds e
+    pub holds : p.Holds (reached r.begin_list_item a) k r.tree
+    pub goes : p.Goes (reached r.begin_list_item a) a
+    pub marked : (e : ℕ) → r.begin_list_item ≡ Some e → p.Goes e e × p.Bounds e
 
   -- an item that began with two blank lines is closed at the end of its marker's line
   finished_by_keeps : (b k : ℕ) (r : Reading) (o : Option ℕ) → ((e : ℕ) → o ≡ Some e → p.Goes e e × p.Bounds e) → p.Goes (reached o b) b
@@ -165,7 +165,7 @@ module _ (p : Property) where
 
   pub item_finished_keeps : (a k : ℕ) (r : Reading) → HoldsAt a k r → p.Holds a k (item_finished r).tree
   unfolding item_finished
-  item_finished_keeps a k r h = finished_by_keeps a k r r.empty_item h.marked h.goes h.holds
+  item_finished_keeps a k r h = finished_by_keeps a k r r.begin_list_item h.marked h.goes h.holds
 
   finished_by_leaves : (a : ℕ) (r : Reading) (o : Option ℕ) → MayLeave a r.tree → MayLeave a (item_finished_by r o).tree
   finished_by_leaves a r None h = h
@@ -175,7 +175,7 @@ module _ (p : Property) where
 
   pub item_finished_leaves : (a : ℕ) (r : Reading) → MayLeave a r.tree → MayLeave a (item_finished r).tree
   unfolding item_finished
-  item_finished_leaves a r h = finished_by_leaves a r r.empty_item h
+  item_finished_leaves a r h = finished_by_leaves a r r.begin_list_item h
 
   -- the innermost open node is closed, an empty item if there is one
   popped_with : (b e k : ℕ) (r : Reading) (o : Option ℕ) → ((x : ℕ) → o ≡ Some x → is_item (top_body r.tree) ≡ true) → MayLeave b r.tree
@@ -183,9 +183,9 @@ module _ (p : Property) where
   popped_with b e k r None item leaves goes ends h = popped_keeps b e k r leaves goes ends h
   popped_with b e k r (Some x) item leaves goes ends h = popped_keeps x e k r (item_leaves x r.tree (item x refl)) goes ends h
 
-  pub popped_here : (b e k : ℕ) (r : Reading) → HoldsAt b k r → MayLeave b r.tree → ((x : ℕ) → r.empty_item ≡ Some x → is_item (top_body r.tree) ≡ true)
-      → p.Goes (reached r.empty_item b) e → p.Bounds e → p.Holds e k (popped e r).tree
-  popped_here b e k r h leaves item goes ends = popped_with b e k r r.empty_item item leaves goes ends h.holds
+  pub popped_here : (b e k : ℕ) (r : Reading) → HoldsAt b k r → MayLeave b r.tree → ((x : ℕ) → r.begin_list_item ≡ Some x → is_item (top_body r.tree) ≡ true)
+      → p.Goes (reached r.begin_list_item b) e → p.Bounds e → p.Holds e k (popped e r).tree
+  popped_here b e k r h leaves item goes ends = popped_with b e k r r.begin_list_item item leaves goes ends h.holds
 
   -- a blank line is noted, a list continues, or a blank line is read
   pub noted_keeps : (a k : ℕ) (r : Reading) → p.Holds a k r.tree → p.Holds a k (gap_noted r).tree
@@ -222,7 +222,7 @@ module _ (p : Property) where
       p.opened b start k (list_finished e r).tree body on starts opens (list_finished_keeps a e b k r h leaves goes ends short later)
 
   -- an item is opened, in the list that continues or in a new one
-  continued_by : (a start byte number k : ℕ) (s : Reading) (t : Bool) → s.empty_item ≡ None → MayLeave a s.tree → p.Goes a a → p.Goes a start
+  continued_by : (a start byte number k : ℕ) (s : Reading) (t : Bool) → s.begin_list_item ≡ None → MayLeave a s.tree → p.Goes a a → p.Goes a start
       → p.Goes start start → p.Bounds start → p.Opens (ListBody (list_flags true) byte number) → p.Holds a k s.tree
       → p.Holds start (suc k) (if t then list_kept s else begun start (ListBody (list_flags true) byte number) (list_finished start s)).tree
   continued_by a start byte number k s true none leaves here goes there starts opens h =

@@ -9,8 +9,8 @@ use Rattle.first_pass_items.specs.declared.item.ItemBody.{ItemBody}
 use Rattle.first_pass_items.specs.declared.item.ItemBody.TheVariants.{Heading}
 use Rattle.first_pass_grammar.specs.Derivation.{Tables, Derives}
 use Rattle.first_pass_grammar.specs.Leaves.{Document}
-use Rattle.first_pass_grammar.specs.Names.{Names, kind_alone, read}
-use Rattle.first_pass_grammar.specs.Order.{Extent, extent_of, extents, Siblings, Empty, Node, laid, IsBetween, Within, Elsewhere, InItem, InText, InFirst}
+use Rattle.first_pass_grammar.specs.Names.{Names, only_kind, read}
+use Rattle.first_pass_grammar.specs.Order.{Ranged, extent_of, extents, Siblings, Empty, Node, laid, IsBetween, Within, Elsewhere, InItem, InText, InFirst}
 use Rattle.first_pass_grammar.specs.Order.{below, beyond, Fits, IsOrdered}
 use Rattle.first_pass_grammar.specs.WholeTables.{AreEachNode}
 use Rattle.first_pass_outline.specs.Outline.{Entry, level_of, id_in}
@@ -32,7 +32,7 @@ between_both text from mid to [] more h k = between_from text from mid to more h
 between_both text from mid to (e ∷ entries) more h k = (h.0, between_both text e.«end» mid to entries more h.1 k)
 
 -- a node's level does not depend on its index
-kind_level : (b : ItemBody) → level_of (kind_alone b) ≡ level_of b
+kind_level : (b : ItemBody) → level_of (only_kind b) ≡ level_of b
 kind_level (Heading level ix) = refl
 kind_level b = refl
 
@@ -73,7 +73,7 @@ abbrev AreDeep : {T : Type 0} → ℕ → List (ℕ × T) → Type 0
 AreDeep depth [] = Unit {0}
 AreDeep depth (n ∷ nodes) = (depth ≤ n.0) × AreDeep depth nodes
 
-deep_both : (depth : ℕ) (xs ys : List (ℕ × Extent)) → AreDeep depth xs → AreDeep depth ys → AreDeep depth (xs ++ ys)
+deep_both : (depth : ℕ) (xs ys : List (ℕ × Ranged)) → AreDeep depth xs → AreDeep depth ys → AreDeep depth (xs ++ ys)
 deep_both depth [] ys h k = k
 deep_both depth (x ∷ xs) ys h k = (h.0, deep_both depth xs ys h.1 k)
 
@@ -110,7 +110,7 @@ leaf_kids n kids next deep (inl other) = inl other
 leaf_kids n kids next deep (inr none) = inr (none_deep n.0 kids next deep none)
 
 -- nodes whose extents form two rows
-split_nodes : (nodes : List (ℕ × Item)) (xs ys : List (ℕ × Extent)) → extents nodes ≡ xs ++ ys
+split_nodes : (nodes : List (ℕ × Item)) (xs ys : List (ℕ × Ranged)) → extents nodes ≡ xs ++ ys
     → (kids : List (ℕ × Item)) × (next : List (ℕ × Item)) × (nodes ≡ kids ++ next) × (extents kids ≡ xs) × (extents next ≡ ys)
 split_nodes nodes [] ys e = ([], nodes, refl, refl, e)
 split_nodes [] (x ∷ xs) ys e = cc
@@ -135,7 +135,7 @@ unless_reaches least from true u v h k = h
 unless_reaches least from false u v h k = k
 
 -- the descendants of a node reach no earlier offset than the node's own row
-below_reaches : (within : Within) (from : ℕ) (x : Extent) → reach within from ≤ from → from ≤ x.start
+below_reaches : (within : Within) (from : ℕ) (x : Ranged) → reach within from ≤ from → from ≤ x.start
     → Reaches (reach within from) (below within from x) x.start
 below_reaches Elsewhere from x h le = unless_reaches from x.start x.item InItem Elsewhere (omega arith, omega arith) (omega arith, omega arith)
 below_reaches InItem from x h le =
@@ -156,23 +156,23 @@ beyond_reach (InText before) from = refl
 beyond_reach (InFirst before) from = refl
 
 -- the ranges of a row's first node, of its descendants and of the nodes after it
-pub record NodeFits (text : List ℕ) (least to : ℕ) (x : Extent) (kids next : List Entry) : Type 0 where
+pub record NodeFits (text : List ℕ) (least to : ℕ) (x : Ranged) (kids next : List Entry) : Type 0 where
   pub range : IsRangeFrom text least x.start x.«end»
   pub inner : LieBetween text least x.«end» kids
   pub after : LieBetween text x.«end» to next
 
-range_from : (text : List ℕ) (least from to : ℕ) (x : Extent) → least ≤ from → IsBetween text from to x → IsRangeFrom text least x.start x.«end»
+range_from : (text : List ℕ) (least from to : ℕ) (x : Ranged) → least ≤ from → IsBetween text from to x → IsRangeFrom text least x.start x.«end»
 range_from text least from to x le h =
     record { following = (let a = h.following in omega arith); order = h.order; starts = h.starts; ends = h.ends }
 
 module _ (names : Names) (text : List ℕ) where
-  node_entries : (least to depth : ℕ) (x : Extent) (n : ℕ × Item) (nodes kids next : List (ℕ × Item)) → ◌≡◌ {A = ℕ × Extent} (n.0, extent_of n.1) (depth, x)
+  node_entries : (least to depth : ℕ) (x : Ranged) (n : ℕ × Item) (nodes kids next : List (ℕ × Item)) → ◌≡◌ {A = ℕ × Ranged} (n.0, extent_of n.1) (depth, x)
       → nodes ≡ kids ++ next → AreDeep (suc depth) kids → NodeFits text least to x (entries_of names kids) (entries_of names next)
       → NoneInside (n ∷ nodes) → LieBetween text least to (entries_of names (n ∷ nodes))
   node_entries least to depth x n nodes kids next first is deep fits none =
       let own : NodeFits text least to (extent_of n.1) (entries_of names kids) (entries_of names next) =
-      subst (λ (z : ℕ × Extent). NodeFits text least to z.1 (entries_of names kids) (entries_of names next)) (sym first) fits in
-      let below : AreDeep (suc n.0) kids = subst (λ (z : ℕ × Extent). AreDeep (suc z.0) kids) (sym first) deep in
+      subst (λ (z : ℕ × Ranged). NodeFits text least to z.1 (entries_of names kids) (entries_of names next)) (sym first) fits in
+      let below : AreDeep (suc n.0) kids = subst (λ (z : ℕ × Ranged). AreDeep (suc z.0) kids) (sym first) deep in
       let leaf = leaf_kids n kids next below (subst (λ (z : List (ℕ × Item)). IsNoHeading n.1.body ⊎ NoneBelow n.0 z) is none.0) in
       subst (λ (z : List (ℕ × Item)). LieBetween text least to (entries_of names (n ∷ z))) (sym is)
       (node_by names text (level_of n.1.body) least to n kids next refl own.range own.inner own.after leaf)
@@ -186,7 +186,7 @@ module _ (names : Names) (text : List ℕ) where
   row_entries within from to Empty depth (n ∷ nodes) back fits e none = cc
   row_entries within from to (Node x kids next) depth [] back fits e none = cc
   row_entries within from to (Node x kids next) depth (n ∷ nodes) back (inl (between, inner, after)) e none =
-      let first : ◌≡◌ {A = ℕ × Extent} (n.0, extent_of n.1) (depth, x) = cc in
+      let first : ◌≡◌ {A = ℕ × Ranged} (n.0, extent_of n.1) (depth, x) = cc in
       let rest : extents nodes ≡ laid (suc depth) kids ++ laid depth next = cc in
       let (ks, ns, is, a, b) = split_nodes nodes (laid (suc depth) kids) (laid depth next) rest in
       let apart : NoneInside (ks ++ ns) = subst NoneInside is none.1 in
@@ -206,7 +206,7 @@ module _ (names : Names) (text : List ℕ) where
   row_entries InItem from to (Node x kids next) depth (n ∷ nodes) back (inr (lead, inner, after)) e none = absurd lead
   row_entries (InFirst before) from to (Node x kids next) depth (n ∷ nodes) back (inr (lead, inner, after)) e none = absurd lead
   row_entries (InText before) from to (Node x kids next) depth (n ∷ nodes) back (inr (lead, inner, after)) e none =
-      let first : ◌≡◌ {A = ℕ × Extent} (n.0, extent_of n.1) (depth, x) = cc in
+      let first : ◌≡◌ {A = ℕ × Ranged} (n.0, extent_of n.1) (depth, x) = cc in
       let rest : extents nodes ≡ laid (suc depth) kids ++ laid depth next = cc in
       let (ks, ns, is, a, b) = split_nodes nodes (laid (suc depth) kids) (laid depth next) rest in
       let apart : NoneInside (ks ++ ns) = subst NoneInside is none.1 in

@@ -15,7 +15,7 @@ use Rattle.first_pass_grammar.specs.declared.kind.Container.{Container}
 use Rattle.first_pass_grammar.specs.Names.{Names, Extends}
 use Rattle.first_pass_grammar.specs.Leaves.{document, block_with}
 use Rattle.first_pass_grammar.specs.RawLines.{Ranges, IsRawLine, AreRawLines}
-use Rattle.first_pass_grammar.specs.Extents.{Extent, with_line, ends_at, Verdict, extent_by, extent, judged, in_containers}
+use Rattle.first_pass_grammar.specs.Extents.{Extent, with_line, extent_to, Verdict, extent_by, extent, judged, in_containers}
 use Rattle.first_pass_grammar.specs.Completion.{lines_from}
 use Rattle.first_pass_raw.specs.declared.raw_line.RawKind.{RawKind}
 use Rattle.first_pass_raw.specs.RawBlocks.{range_of, said, AppendsRaw, AppendsLines, after_line_at}
@@ -90,7 +90,7 @@ lines_last range text options names whole rest chain none continues more e =
 
 -- after the last line
 pub lines_end : (range : Ranges) (text : List ℕ) (options : Options) (names : Names) (whole rest : Extent) (old now : Forest Item) (e next : ℕ)
-    → LinesSoFar range text options names whole rest old now → rest ≡ ends_at e (lines_from text next)
+    → LinesSoFar range text options names whole rest old now → rest ≡ extent_to e (lines_from text next)
     → AppendsLines range (document text options names) whole old now e next
 lines_end range text options names whole rest old now e next s is =
     record {
@@ -151,7 +151,7 @@ none_left text at past = lines_at-end text at past
 abbrev pub extent_from : List ℕ → List Container → (Place → Place → Verdict) → ℕ → Extent
 extent_from text path judge at = extent (in_containers path judge) (length text) (lines_from text at)
 
-extent_none : (judge : Place → Verdict) (n : ℕ) → extent judge n [] ≡ ends_at n []
+extent_none : (judge : Place → Verdict) (n : ℕ) → extent judge n [] ≡ extent_to n []
 unfolding extent
 extent_none judge n = refl
 
@@ -162,11 +162,11 @@ extent_first judge n line lines = refl
 
 -- at the end of the text
 extent_at_end : (text : List ℕ) (path : List Container) (judge : Place → Place → Verdict) (at : ℕ)
-    → at ≡ length text → extent_from text path judge at ≡ ends_at at (lines_from text at)
+    → at ≡ length text → extent_from text path judge at ≡ extent_to at (lines_from text at)
 extent_at_end text path judge at past =
     let none = none_left text at (omega arith) in
-    ap (extent (in_containers path judge) (length text)) none ∙ extent_none (in_containers path judge) (length text) ∙ ap (λ n. ends_at n []) (sym past)
-    ∙ ap (ends_at at) (sym none)
+    ap (extent (in_containers path judge) (length text)) none ∙ extent_none (in_containers path judge) (length text) ∙ ap (λ n. extent_to n []) (sym past)
+    ∙ ap (extent_to at) (sym none)
 
 -- at a line
 extent_here : (text : List ℕ) (path : List Container) (judge : Place → Place → Verdict) (at next : ℕ) (o : Option Rest) (v : Verdict)
@@ -213,7 +213,7 @@ module _ (range : Ranges) (text : List ℕ) (options : Options) (names : Names) 
     read_left found none is =
         lines_end range text options names whole rest old now at at s
         (extent_here text (path_of options old) judge at next None (Judged.Stops at) line
-        (ap (λ path. after path (line_rest (drop at text))) (sym same_path) ∙ sym is ∙ none) refl ∙ ap (ends_at at) (sym line.lines))
+        (ap (λ path. after path (line_rest (drop at text))) (sym same_path) ∙ sym is ∙ none) refl ∙ ap (extent_to at) (sym line.lines))
 
     module _ (r q : Rest) (taken : Some r ≡ after (path_of options now) (line_rest (drop at text))) (answer : Answer)
         (is : judge (line_place at (drop at text)) (place_at at r) ≡ said answer (place_at at q)) where
@@ -226,7 +226,7 @@ module _ (range : Ranges) (text : List ℕ) (options : Options) (names : Names) 
       -- the line does not belong to the block
       pub read_stops : (e : ℕ)
           → answer ≡ Stops e → AppendsLines range (document text options names) (extent_from text (path_of options old) judge start) old now e at
-      read_stops e stops = lines_end range text options names whole rest old now e at s (rest_by (Stops e) stops ∙ ap (ends_at e) (sym line.lines))
+      read_stops e stops = lines_end range text options names whole rest old now e at s (rest_by (Stops e) stops ∙ ap (extent_to e) (sym line.lines))
 
       -- it closes the block
       pub read_closes : (e : ℕ)
@@ -247,10 +247,10 @@ module _ (range : Ranges) (text : List ℕ) (options : Options) (names : Names) 
         pub read_last : answer ≡ IsLast
             → AppendsLines range (document text options named) (extent_from text (path_of options old) judge start) old new next next
         read_last last =
-            let ends : Extent = ends_at next (lines_from text next) in
+            let ends : Extent = extent_to next (lines_from text next) in
             lines_end range text options named whole ends old new next next
             (lines_more range text options names named whole rest ends (place_at at q) old now new owed from next apart s
-            (rest_by IsLast last ∙ ap (λ k. with_line (place_at at q) (ends_at k (lines_from text next))) (sym next_is)) extends appends owed_is from_is
+            (rest_by IsLast last ∙ ap (λ k. with_line (place_at at q) (extent_to k (lines_from text next))) (sym next_is)) extends appends owed_is from_is
             next_is) refl
 
 -- a raw line, by a kind equal to its own

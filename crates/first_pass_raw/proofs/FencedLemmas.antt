@@ -46,11 +46,11 @@ pub closing_end : (text bytes rest : List ℕ) (start n at byte count : ℕ) (r 
     → nat_lt (indent r) 4 ≡ true → IsUtf8 text → s ≡ all_taken r → n ≡ s.taken → IsPlaceOf text (place_at start r)
     → bytes ≡ text → at ≡ start + n → rest ≡ drop at bytes → o ≡ closing_fence_len byte count rest
     → closing_fence_end byte count (place_at start r) ≡ option_map (λ k. at + k) o
-closing_end text bytes rest start n at byte count r s o few u e f i g h j k =
+closing_end text bytes rest start n at byte count r s o node_bound u e f i g h j k =
     let p = indented_place text start n r s u e f i in
     let same : at ≡ offset (unindented (place_at start r)) = h ∙ p.0 in
     let left : rest ≡ (all_taken r).left = j ∙ ap (λ xs. drop at xs) g ∙ ap (λ m. drop m text) same ∙ sym (p.1).left in
-    ap (λ t. if t then option_map (λ m. offset (unindented (place_at start r)) + m) (closing_fence_len byte count (all_taken r).left) else None) few
+    ap (λ t. if t then option_map (λ m. offset (unindented (place_at start r)) + m) (closing_fence_len byte count (all_taken r).left) else None) node_bound
     ∙ ap (λ m. option_map (λ l. m + l) (closing_fence_len byte count (all_taken r).left)) (sym same)
     ∙ ap (λ bs. option_map (λ l. at + l) (closing_fence_len byte count bs)) (sym left) ∙ ap (option_map (λ l. at + l)) (sym k)
 

@@ -28,7 +28,7 @@ use Rattle.first_pass_grammar.specs.declared.kind.Container.{Container}
 use Rattle.first_pass_grammar.specs.Names.{Names, Extends}
 use Rattle.first_pass_grammar.specs.Leaves.{Document, document, block_with}
 use Rattle.first_pass_grammar.specs.RawLines.{AreColumns, ends_with_both, range_html, raw_items, IsRawLine, AreRawLines}
-use Rattle.first_pass_grammar.specs.Extents.{Extent, with_line, ends_at, Verdict, GoesOn, IsLast, Closes, extent_by}
+use Rattle.first_pass_grammar.specs.Extents.{Extent, with_line, extent_to, Verdict, GoesOn, IsLast, Closes, extent_by}
 use Rattle.first_pass_grammar.specs.HtmlBlocks.{holds, holds_end, is_empty, tag_judge, blank_judge, owing, IsHtml}
 use Rattle.first_pass_grammar.specs.Completion.{lines_from}
 use Rattle.first_pass_names.proofs.NameLemmas.{extends_none, extends_both}
@@ -181,9 +181,9 @@ module _ (text : List ℕ) (options : Options) (named : Names) (start columns ne
         (sym i.offset_is) first_end
 
     -- a block with only this line
-    first_alone : AppendsLines range_html (document text options named) (with_line (owing columns p) (ends_at next (lines_from text next))) opened one next next
-    first_alone =
-        let further : Extent = ends_at next (lines_from text next) in
+    only_first : AppendsLines range_html (document text options named) (with_line (owing columns p) (extent_to next (lines_from text next))) opened one next next
+    only_first =
+        let further : Extent = extent_to next (lines_from text next) in
         lines_end range_html text options named (with_line (owing columns p) further) further opened one next next (first_read further) refl
 
     -- a block with more lines after it
@@ -222,12 +222,12 @@ module _ (text : List ℕ) (options : Options) (named : Names) (start columns ne
 
     -- the first line contains the end of the block
     held_extent : (path : List Container) (until : BlockEnd)
-        → holds_end until (line_of p) ≡ true → html_to_end text path until p ≡ with_line p (ends_at next (lines_from text next))
+        → holds_end until (line_of p) ≡ true → html_to_end text path until p ≡ with_line p (extent_to next (lines_from text next))
     held_extent path until held =
         ap (λ t. extent_by (if t then IsLast p else GoesOn p) p (lines_from text (after_line_at text (offset p)))
         (extent_from text path (tag_judge until) (after_line_at text (offset p)))) held
-        ∙ ap (λ k. with_line p (ends_at k (lines_from text (after_line_at text (offset p))))) (sym first_end)
-        ∙ ap (λ k. with_line p (ends_at next (lines_from text k))) (ap (after_line_at text) i.offset_is ∙ sym next_is)
+        ∙ ap (λ k. with_line p (extent_to k (lines_from text (after_line_at text (offset p))))) (sym first_end)
+        ∙ ap (λ k. with_line p (extent_to next (lines_from text k))) (ap (after_line_at text) i.offset_is ∙ sym next_is)
 
     -- it does not, or none is looked for
     pub tag_extent : (path : List Container) (until : BlockEnd)
@@ -243,16 +243,16 @@ module _ (text : List ℕ) (options : Options) (named : Names) (start columns ne
     -- the containers around the block are those around its lines
     path_by : AreIn (length g.nodes) g.spine → AreIn (length opened.nodes) opened.spine → path_of options one ≡ path_of options g
     path_by there in_opened =
-        lines_path range_html text options named (with_line (owing columns p) (ends_at next [])) (ends_at next []) opened one
-        (first_read (ends_at next [])) in_opened ∙ opened_path options g opened start HtmlBlock refl refl there
+        lines_path range_html text options named (with_line (owing columns p) (extent_to next [])) (extent_to next []) opened one
+        (first_read (extent_to next [])) in_opened ∙ opened_path options g opened start HtmlBlock refl refl there
 
     -- the block has one line
     pub html_one : (until : BlockEnd) (new : Forest Item) → holds_end until (line_of p) ≡ true → new ≡ closed_by one next one.spine
         → (
         let e = html_to_end text (path_of options g) until p in
         AddsRaw (document text options named) (λ d. IsHtml d start columns e.places e.«end») e.left g new next)
-    html_one until new held new_is = whole_added named (html_to_end text (path_of options g) until p) (ends_at next (lines_from text next)) one new next next
-        (held_extent (path_of options g) until held) first_alone new_is
+    html_one until new held new_is = whole_added named (html_to_end text (path_of options g) until p) (extent_to next (lines_from text next)) one new next next
+        (held_extent (path_of options g) until held) only_first new_is
 
     -- it has more lines after the first
     module _ (names : Names) (judge : Place → Place → Verdict) (two : Forest Item) (e : Extent) (stop left : ℕ) (path : path_of options one ≡ path_of options g)
@@ -269,8 +269,8 @@ module _ (text : List ℕ) (options : Options) (named : Names) (start columns ne
   pub one_open : IsSome (slice_get one.spine 0)
   one_open =
       let p : Place = first_at text start 0 in
-      block_open range_html text options named (with_line (owing columns p) (ends_at next (lines_from text next))) g opened one start HtmlBlock next next refl
-      (first_alone p (first_is text start 0))
+      block_open range_html text options named (with_line (owing columns p) (extent_to next (lines_from text next))) g opened one start HtmlBlock next next refl
+      (only_first p (first_is text start 0))
 
   pub more_open : (names : Names) (further : Extent) (two : Forest Item) (stop left : ℕ)
       → Extends names named → AppendsLines range_html (document text options names) further one two stop left → IsSome (slice_get two.spine 0)

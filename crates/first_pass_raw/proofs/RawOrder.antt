@@ -31,7 +31,7 @@ use Rattle.first_pass_grammar.specs.Kinds.{all_taken, unindented, is_blank_rest}
 use Rattle.first_pass_grammar.specs.Names.{Names}
 use Rattle.first_pass_grammar.specs.Leaves.{Document, block_with}
 use Rattle.first_pass_grammar.specs.RawLines.{AreColumns, ends_with_both, Ranges, range_text, range_html, raw_items, IsRawLine, AreRawLines}
-use Rattle.first_pass_grammar.specs.Extents.{Extent as Lines, with_line, ends_at, Verdict, GoesOn, IsLast, Closes, Stops, extent_by, extent, judged}
+use Rattle.first_pass_grammar.specs.Extents.{Extent as Lines, with_line, extent_to, Verdict, GoesOn, IsLast, Closes, Stops, extent_by, extent, judged}
 use Rattle.first_pass_grammar.specs.Extents.{in_containers}
 use Rattle.first_pass_grammar.specs.CodeBlocks.{code_place, code_by, code_lines, unless_blank, without_blanks, last_end, IsIndentedCode, closing_fence_end}
 use Rattle.first_pass_grammar.specs.CodeBlocks.{fence_verdict, fence_judge, IsFencedCode, metadata_verdict, metadata_judge, metadata_kind, IsMetadata}
@@ -63,7 +63,7 @@ AreFew from ps = (length ps ≤ 1) ⊎ HaveBytes from ps
 pub record IsPlaced (text : List ℕ) (from : ℕ) (e : Lines) : Type 0 where
   pub places : ArePlaced text from e.places e.«end»
   pub boundary : IsCharBoundary text e.«end»
-  pub few : AreFew from e.places
+  pub node_bound : AreFew from e.places
 
 -- The lines of an extent are placed in this way, and each has a byte.
 pub record IsFilled (text : List ℕ) (from : ℕ) (e : Lines) : Type 0 where
@@ -130,18 +130,18 @@ add_tokens_few (x ∷ xs) chain =
 -- The items of a range of the bytes of a raw line are in order, and at most one.
 record IsRange (range : Ranges) : Type 0 where
   order : (text : List ℕ) (from to : ℕ) → from ≤ to → IsCharBoundary text from → IsCharBoundary text to → AreInOrder text from to (range from to)
-  few : (from to : ℕ) → length (range from to) ≤ 1
+  node_bound : (from to : ℕ) → length (range from to) ≤ 1
 
 text_range : IsRange range_text
 text_range = record {
   order = λ text from to order b c.
       cond_both (nat_lt from to) (text_token from to false ∷ []) [] (AreInOrder text from to) (λ some. (omega arith, order, b, c, omega arith)) (λ none. order);
-  few =
+  node_bound =
       λ from to. cond_both (nat_lt from to) (text_token from to false ∷ []) [] (λ (xs : List Item). length xs ≤ 1) (λ some. omega arith) (λ none. omega arith);
 }
 
 html_range : IsRange range_html
-html_range = record { order = λ text from to order b c. (omega arith, order, b, c, omega arith); few = λ from to. omega arith }
+html_range = record { order = λ text from to order b c. (omega arith, order, b, c, omega arith); node_bound = λ from to. omega arith }
 
 -- A raw line reaches from the start of its text to the end of the line, and has at most three items; so has each line
 -- of a chain.
@@ -161,9 +161,9 @@ module _ (range : Ranges) (r : IsRange range) where
   raw_few : (text : List ℕ) (from to : ℕ) → length (raw_items range text from to) ≤ 2
   unfolding raw_items
   raw_few text from to =
-      let a = r.few from (to - 2) in
-      let b = r.few (to - 1) to in
-      let c = r.few from to in
+      let a = r.node_bound from (to - 2) in
+      let b = r.node_bound (to - 1) to in
+      let c = r.node_bound from to in
       let l = length-append (range from (to - 2)) (range (to - 1) to) in
       cond_both (ends_with_both text from to) (range from (to - 2) ++ range (to - 1) to) (range from to) (λ (xs : List Item). length xs ≤ 2)
       (λ both. omega arith) (λ none. omega arith)
@@ -234,12 +234,12 @@ raw_fits : (range : Ranges) → IsRange range → (d : Document) (from to start 
     (items : List (ℕ × Item)) → IsUtf8 d.text → items ≡ block_with start stop body chain
     → AreRawLines range d [] ps chain → IsCharBoundary d.text start → IsCharBoundary d.text stop → ArePlaced d.text start ps stop → AreFew start ps
     → from ≤ start → stop ≤ to → FitsBetween d.text Elsewhere from to items
-raw_fits range r d from to start stop body ps chain items u is lines b c placed few following before =
+raw_fits range r d from to start stop body ps chain items u is lines b c placed node_bound following before =
     subst (FitsBetween d.text Elsewhere from to) (sym is)
     (block_fits d.text Elsewhere from to (record { start = start; «end» = stop; body = body }) chain
     (record { following = following; order = placed_bound d.text start stop ps placed; before = before; starts = b; ends = c })
     (lines_in_order range r d ps start start stop [] chain u placed (omega arith) lines)
-    (few_by d.text from to start stop (length chain) ps (lines_few range r d ps [] chain lines) few placed following before))
+    (few_by d.text from to start stop (length chain) ps (lines_few range r d ps [] chain lines) node_bound placed following before))
 
 -- the lines without the blank ones at the end
 kept_by : (text : List ℕ) (from to : ℕ) (p : Place) (t : Bool) (qs : List Place)
@@ -307,11 +307,11 @@ pub indented_fits : (d : Document) (p : Place) (further : List Place) (items : L
     → IsUtf8 d.text → IsIndentedCode d p further items → ArePlaced d.text (offset p) (p ∷ further) limit → AreFew (offset p) (p ∷ further)
     → (from to : ℕ) → from ≤ offset p → last_end (offset p) (without_blanks (p ∷ further)) ≤ to → FitsBetween d.text Elsewhere from to items
 unfolding ArePlaced
-indented_fits d p further items limit u is placed few from to following before =
+indented_fits d p further items limit u is placed node_bound from to following before =
     let all : List Place = without_blanks (p ∷ further) in
     let k = kept_placed d.text (offset p) limit (p ∷ further) u placed.1.boundary placed in
     raw_fits range_text text_range d from to (offset p) (last_end (offset p) all) IndentCodeBlock all is.chain items u is.items_are is.lines placed.1.boundary
-    k.1 k.0 (kept_few (offset p) (p ∷ further) few) following before
+    k.1 k.0 (kept_few (offset p) (p ∷ further) node_bound) following before
 
 -- So do a fenced code block, a metadata block and an HTML block.
 pub fenced_fits : (d : Document) (start count : ℕ) (e : Lines) (items : List (ℕ × Item))
@@ -319,14 +319,14 @@ pub fenced_fits : (d : Document) (start count : ℕ) (e : Lines) (items : List (
     → (from to : ℕ) → from ≤ start → e.«end» ≤ to → FitsBetween d.text Elsewhere from to items
 fenced_fits d start count e items u is b placed from to following before =
     raw_fits range_text text_range d from to start e.«end»
-    (FencedCodeBlock is.info) e.places is.chain items u is.items_are is.lines b placed.boundary placed.places placed.few following before
+    (FencedCodeBlock is.info) e.places is.chain items u is.items_are is.lines b placed.boundary placed.places placed.node_bound following before
 
 pub metadata_fits : (d : Document) (start byte : ℕ) (e : Lines) (items : List (ℕ × Item))
     → IsUtf8 d.text → IsMetadata d start byte e.places e.«end» items → IsCharBoundary d.text start → IsPlaced d.text start e
     → (from to : ℕ) → from ≤ start → e.«end» ≤ to → FitsBetween d.text Elsewhere from to items
 metadata_fits d start byte e items u is b placed from to following before =
     raw_fits range_text text_range d from to start e.«end»
-    (MetadataBlock (metadata_kind byte)) e.places is.chain items u is.items_are is.lines b placed.boundary placed.places placed.few following before
+    (MetadataBlock (metadata_kind byte)) e.places is.chain items u is.items_are is.lines b placed.boundary placed.places placed.node_bound following before
 
 -- the lines do not move if columns are owed at the first
 owing_placed : (text : List ℕ) (columns from to : ℕ) (ps : List Place) → ArePlaced text from ps to → ArePlaced text from (first_owing columns ps) to
@@ -336,7 +336,7 @@ owing_placed text columns from to (p ∷ ps) (following, i, further) = (followin
 
 owing_few : (columns from : ℕ) (ps : List Place) → AreFew from ps → AreFew from (first_owing columns ps)
 unfolding HaveBytes
-owing_few columns from [] few = few
+owing_few columns from [] node_bound = node_bound
 owing_few columns from (p ∷ ps) (inl one) = inl one
 owing_few columns from (p ∷ ps) (inr some) = inr some
 
@@ -345,16 +345,16 @@ pub html_fits : (d : Document) (start columns : ℕ) (e : Lines) (items : List (
     → (from to : ℕ) → from ≤ start → e.«end» ≤ to → FitsBetween d.text Elsewhere from to items
 html_fits d start columns e items u is b placed from to following before =
     raw_fits range_html html_range d from to start e.«end» HtmlBlock (first_owing columns e.places) is.chain items u is.items_are is.lines b placed.boundary
-    (owing_placed d.text columns start e.«end» e.places placed.places) (owing_few columns start e.places placed.few) following before
+    (owing_placed d.text columns start e.«end» e.places placed.places) (owing_few columns start e.places placed.node_bound) following before
 
 -- Up to the start of the first remaining line, an HTML block has at most four items for each byte, all of its own.
 pub html_few : (d : Document) (start columns stop : ℕ) (e : Lines) (items : List (ℕ × Item))
     → IsHtml d start columns e.places e.«end» items → ArePlaced d.text start e.places stop → AreFew start e.places
     → (from to : ℕ) → from ≤ start → stop ≤ to → from < to → own_nodes items ≤ 4 * (to - from)
-html_few d start columns stop e items is placed few from to following before apart =
+html_few d start columns stop e items is placed node_bound from to following before apart =
     let ps : List Place = first_owing columns e.places in
     let more =
-    few_by d.text from to start stop (length is.chain) ps (lines_few range_html html_range d ps [] is.chain is.lines) (owing_few columns start e.places few)
+    few_by d.text from to start stop (length is.chain) ps (lines_few range_html html_range d ps [] is.chain is.lines) (owing_few columns start e.places node_bound)
     (owing_placed d.text columns start stop e.places placed) following before apart in
     let size = length-block (record { start = start; «end» = e.«end»; body = HtmlBlock }) is.chain in
     let same = ap length is.items_are in
@@ -596,11 +596,11 @@ module _ (text : List ℕ) (u : IsUtf8 text) (path : List Container) where
   }
 
   -- a block without further lines
-  stops_placed : (at stop : ℕ) (lines : List Place) → at ≤ stop → IsCharBoundary text stop → IsFilled text at (ends_at stop lines)
+  stops_placed : (at stop : ℕ) (lines : List Place) → at ≤ stop → IsCharBoundary text stop → IsFilled text at (extent_to stop lines)
   unfolding ArePlaced HaveBytes
   stops_placed at stop lines order b = record { places = order; boundary = b; bytes = tt }
 
-  no_lines_placed : (at n : ℕ) → n ≡ length text → IsCharBoundary text at → IsFilled text at (ends_at n [])
+  no_lines_placed : (at n : ℕ) → n ≡ length text → IsCharBoundary text at → IsFilled text at (extent_to n [])
   no_lines_placed at n e b = (let w = b.0 in stops_placed at n [] (omega arith) (subst (IsCharBoundary text) (sym e) (IsCharBoundary-end text)))
 
   -- the lines that continue indented code
@@ -651,7 +651,7 @@ module _ (text : List ℕ) (u : IsUtf8 text) (path : List Container) where
       → IsWithin at v → IsFilled text (after_line_at text at) further → IsFilled text at (extent_by v line lines further)
   verdict_filled at (GoesOn p) line lines further i rest = extent_placed at p further i rest
   verdict_filled at (IsLast p) line lines further i rest =
-      extent_placed at p (ends_at (line_end p) lines) i
+      extent_placed at p (extent_to (line_end p) lines) i
       (let same = i.same_end in stops_placed (after_line_at text at) (line_end p) lines (omega arith) (place_end text p u i.stands))
   verdict_filled at (Closes e) line lines further i rest = stops_placed at e lines i.0 i.1
   verdict_filled at (Stops e) line lines further i rest = stops_placed at e (line ∷ lines) i.0 i.1
@@ -753,9 +753,9 @@ module _ (text : List ℕ) (u : IsUtf8 text) (path : List Container) where
       omega arith
 
   only_placed : (p : Place) (stop : ℕ) (lines : List Place)
-      → IsPlaceOf text p → line_end p ≤ stop → IsCharBoundary text stop → IsPlaced text (offset p) (with_line p (ends_at stop lines))
+      → IsPlaceOf text p → line_end p ≤ stop → IsCharBoundary text stop → IsPlaced text (offset p) (with_line p (extent_to stop lines))
   unfolding ArePlaced
-  only_placed p stop lines i order b = record { places = (omega arith, i, order); boundary = b; few = inl (omega arith) }
+  only_placed p stop lines i order b = record { places = (omega arith, i, order); boundary = b; node_bound = inl (omega arith) }
 
   first_placed : (judge : Place → Place → Verdict) → StaysWithin judge → (lines : List Place) (p : Place) → IsPlaceOf text p
       → lines ≡ lines_from text (line_end p) → IsPlaced text (offset p) (with_line p (extent (in_containers path judge) (length text) lines))
@@ -763,7 +763,7 @@ module _ (text : List ℕ) (u : IsUtf8 text) (path : List Container) where
   first_placed judge stays [] p i is = (let b = place_end text p u i in let w = b.0 in only_placed p (length text) [] i w (IsCharBoundary-end text))
   first_placed judge stays (line ∷ lines) p i is =
       let f = extent_filled judge stays (line ∷ lines) (line_end p) is (place_end text p u i) in
-      record { places = (omega arith, i, f.places); boundary = f.boundary; few = inr (first_some p i (first_line text (line_end p) line lines is).0, f.bytes) }
+      record { places = (omega arith, i, f.places); boundary = f.boundary; node_bound = inr (first_some p i (first_line text (line_end p) line lines is).0, f.bytes) }
 
   -- the end of the line of a place
   place_line : (p : Place) → IsPlaceOf text p → after_line_at text (offset p) ≡ line_end p
@@ -778,7 +778,7 @@ module _ (text : List ℕ) (u : IsUtf8 text) (path : List Container) where
   later_placed start at e order filled = record {
     places = placed_from text start at e.«end» e.places order filled.places;
     boundary = filled.boundary;
-    few = inr (later_bytes start at e.places order filled.bytes);
+    node_bound = inr (later_bytes start at e.places order filled.bytes);
   }
 
   -- The lines of each raw leaf block are placed in the text, from its start on.

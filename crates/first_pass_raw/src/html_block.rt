@@ -8,7 +8,7 @@ ghost use Rattle.first_pass_names.specs.TableEntries.{names_of, NamesMore};
 ghost use Rattle.first_pass_items.specs.declared.item.ItemBody.TheVariants.{HtmlBlock};
 ghost use Rattle.first_pass_items.specs.declared.option_set.Options.{Options};
 ghost use Rattle.first_pass_grammar.specs.RawLines.{range_html};
-ghost use Rattle.first_pass_html.specs.Ends.{end_of};
+ghost use Rattle.first_pass_html.specs.Ends.{condition_of};
 ghost use Rattle.first_pass_grammar.specs.HtmlBlocks.{holds_end, IsHtml};
 ghost use Rattle.first_pass_tokens.specs.TreeTokens.{JoinsNone};
 ghost use Rattle.first_pass_open.specs.OpenBlock.{opened_block};
@@ -51,7 +51,7 @@ pub fn parse_html_block_type_1_to_5<'a>(
     requires boundary { IsCharBoundary source.now.text.now start.at }
     requires columns { start.columns ≤ 3 }
     ensures block { IfOk result (λ next. (p : Place) → IsPlaceAt source.now.text.now start.at p
-        → let e = html_to_end source.now.text.now (path_of source.now.options tree.old) (end_of html_end) p in
+        → let e = html_to_end source.now.text.now (path_of source.now.options tree.old) (condition_of html_end) p in
         AddsRaw (document source.now.text.now source.now.options (names_of allocs.new)) (λ d.
         IsHtml d start.at start.columns e.places e.«end») e.left tree.old tree.new next) }
     ensures boundary { IfOk result (λ next. (after_line_at source.now.text.now start.at ≤ next)
@@ -129,7 +129,7 @@ fn open_html_block<'a>(
 
 // Whether the line contains the end of a block of the kinds 1 to 5.
 fn holds_end(line: &str, html_end: HtmlEnd) -> bool
-    ensures { result ≡ holds_end (end_of html_end) line.now }
+    ensures { result ≡ holds_end (condition_of html_end) line.now }
 {
     match html_end {
         HtmlEnd::AnyRawTag => holds_raw_end_tag(line.as_bytes()),
@@ -145,10 +145,10 @@ struct ToEnd {
 
 impl JudgesLines for ToEnd {
     ghost use Rattle.first_pass_grammar.specs.HtmlBlocks.{tag_judge};
-    ghost use Rattle.first_pass_html.specs.Ends.{end_of};
+    ghost use Rattle.first_pass_html.specs.Ends.{condition_of};
     ghost use Rattle.first_pass_raw.specs.declared.raw_line.RawKind.TheVariants.{Html};
 
-    ghost judges = { λ block. tag_judge (end_of block.html_end) };
+    ghost judges = { λ block. tag_judge (condition_of block.html_end) };
 
     ghost kinds = { λ block. Html };
 

@@ -65,7 +65,7 @@ pub record IsBegun (d : Document) (defined : Tables) (f : Forest Item) (c : Cont
 pub record HasBegun (d : Document) (defined : Tables) (old new : Reading) (c : Container) (from : From) (lines : List Place) : Type 0 where
   pub is_begun : IsBegun d defined new.tree c from lines (path_of d.options old.tree)
   pub blank : new.blank ≡ false
-  pub none : new.empty_item ≡ None
+  pub none : new.begin_list_item ≡ None
 
 pub begun_ready : (d : Document) (defined : Tables) (f : Forest Item) (x : Item) (c : Container) (frames : List Frame) (from : From) (lines : List Place)
     → frame_of d.options x.body ≡ Some (InContainer c) → is_footnote_in_another (InContainer c) frames ≡ false

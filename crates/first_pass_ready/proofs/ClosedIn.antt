@@ -14,7 +14,7 @@ use Rattle.first_pass_tree.specs.Forest.{Forest, modify, item_at, body_at}
 use Rattle.first_pass_grammar.specs.declared.kind.Container.{Container}
 use Rattle.first_pass_grammar.specs.declared.kind.Container.TheVariants.{BlockQuote, ListItem, FootnoteDefinition, Definition}
 use Rattle.first_pass_grammar.specs.Containers.{footnote_columns}
-use Rattle.first_pass_grammar.specs.Before.{Last, LastItem, list_is_open, is_paragraph_body, takes_definition as takes_after}
+use Rattle.first_pass_grammar.specs.Before.{Last, LastItem, list_is_open, is_paragraph_body, definition_may_follow as takes_after}
 use Rattle.first_pass_grammar.specs.Skeleton.{Level, level}
 use Rattle.first_pass_grammar.specs.Derivation.{node_of}
 use Rattle.first_pass_grammar.specs.Completion.{Closed, OtherClosed, ParagraphAt, DefinitionClosed, TitleAt, Frame, InContainer, InList, InDefinitions}

@@ -354,15 +354,15 @@ loosened d defined false path g columns start from lines l =
     begun_in d defined path g columns start from lines l.ix l.rest l.frames (l.loose || false) l.spine
     (subst (λ t. AreOpen d.options g.nodes (l.ix ∷ l.rest) (InDefinitions t ∷ l.frames)) (sym (or_false l.loose)) l.are_open) l.below l.same l.completes
 
-kept_as : (r : Reading) (g : Forest Item) (run : Bool) → r.blank ≡ run → r.empty_item ≡ None
+kept_as : (r : Reading) (g : Forest Item) (run : Bool) → r.blank ≡ run → r.begin_list_item ≡ None
     → (let q : Reading = if run then record (with_tree r g) { tree = loosened_top g g.spine; blank = false } else with_tree r g in
-    (q.tree ≡ (if run then loosened_top g g.spine else g)) × (q.blank ≡ false) × (q.empty_item ≡ None))
+    (q.tree ≡ (if run then loosened_top g g.spine else g)) × (q.blank ≡ false) × (q.begin_list_item ≡ None))
 kept_as r g true is none = (refl, refl, none)
 kept_as r g false is none = (refl, is, none)
 
 pub definition_is_open : (d : Document) (defined : Tables) (r : Reading) (p : Place) (lines following : List Place) (columns : ℕ) (from : From)
     → IsForest r.tree → takes_definition r.tree ≡ true
-    → Opens d (level_of d.options r.tree r.blank) p lines (OpensNode (definition_head p columns) from following) → r.empty_item ≡ None
+    → Opens d (level_of d.options r.tree r.blank) p lines (OpensNode (definition_head p columns) from following) → r.begin_list_item ≡ None
     → ReadyAt d defined r.tree r.blank (Inside p) lines
     → HasBegun d defined r (definition_begun (offset p) columns r) (Definition columns) from following
 unfolding definition_begun

@@ -303,14 +303,14 @@ module _ (d : Document) (defined : Tables) (r : Reading) (p : Place) (lines : Li
   blank_at closed [] (ix ∷ rest) o has = absurd o
   blank_at closed (frame ∷ frames) (ix ∷ rest) o has = counts_by d.options r closed (body_at r.tree.nodes ix.0) frame frames o.0 has
 
-  same_tree : (b : Option ItemBody) → r.empty_item ≡ None → (blank_read_by r b).tree ≡ r.tree
+  same_tree : (b : Option ItemBody) → r.begin_list_item ≡ None → (blank_read_by r b).tree ≡ r.tree
   same_tree None none = refl
   same_tree (Some (BlockQuoteBody kind)) none = refl
   same_tree (Some (ListItemBody columns)) none = rw none refl
   same_tree (Some (DefinitionListDefinition columns)) none = rw none refl
   same_tree (Some b) none = refl
 
-  same_none : (b : Option ItemBody) → (blank_read_by r b).empty_item ≡ r.empty_item
+  same_none : (b : Option ItemBody) → (blank_read_by r b).begin_list_item ≡ r.begin_list_item
   same_none None = refl
   same_none (Some (BlockQuoteBody kind)) = refl
   same_none (Some (ListItemBody columns)) = refl
@@ -318,7 +318,7 @@ module _ (d : Document) (defined : Tables) (r : Reading) (p : Place) (lines : Li
   same_none (Some b) = refl
 
   -- a blank line is read, and no item is empty
-  pub ready_blank : r.empty_item ≡ None → ReadyAt d defined r.tree r.blank (Inside p) lines → Ready d defined (blank_read r) lines
+  pub ready_blank : r.begin_list_item ≡ None → ReadyAt d defined r.tree r.blank (Inside p) lines → Ready d defined (blank_read r) lines
   unfolding blank_read
   ready_blank none ready =
       let b : Option ItemBody = top_body r.tree in
@@ -397,7 +397,7 @@ and_true true = refl
 and_true false = refl
 
 -- a blank line is read in an empty item or definition
-blank_item_is : (r : Reading) (e : ℕ) (b : ItemBody) (n : ℕ) → r.empty_item ≡ Some e
+blank_item_is : (r : Reading) (e : ℕ) (b : ItemBody) (n : ℕ) → r.begin_list_item ≡ Some e
     → blank_read_by r (Some (item_body b n)) ≡ record r { tree = emptied_as r.tree (Some (item_body b n)); blank = true }
 blank_item_is r e (DefinitionListDefinition columns) n some =
     ap (λ o. record r { tree = if is_some o then emptied_definition r.tree r.tree.spine else r.tree; blank = true }) some
@@ -405,7 +405,7 @@ blank_item_is r e b n some = ap (λ o. record r { tree = if is_some o then empti
 
 -- an item or a definition is closed
 item_popped : (r : Reading) (g : Forest Item) (ix : TreeIndex) (b : ItemBody) (n : ℕ)
-    → popped_by r g ix (Some (item_body b n)) ≡ record r { tree = g; empty_item = None }
+    → popped_by r g ix (Some (item_body b n)) ≡ record r { tree = g; begin_list_item = None }
 item_popped r g ix (DefinitionListDefinition columns) n = refl
 item_popped r g ix b n = refl
 
@@ -475,12 +475,12 @@ module _ (d : Document) (defined : Tables) (r : Reading) (line : Place) (lines :
           (blank_item h)) zero
 
       -- the state after the blank line is read
-      read_is : r.empty_item ≡ Some e → blank_read r ≡ record r { tree = zero_tree; blank = true }
+      read_is : r.begin_list_item ≡ Some e → blank_read r ≡ record r { tree = zero_tree; blank = true }
       unfolding blank_read
       read_is some = ap (blank_read_by r) top_item ∙ blank_item_is r e b empty.columns some ∙ ap (λ f. record r { tree = f; blank = true })
           (emptied_is r.tree empty.place empty.outer b empty.columns empty.spine)
 
-      ready_emptied : r.empty_item ≡ Some e → is_blank_rest rest ≡ true → Ready d defined (blank_read r) lines
+      ready_emptied : r.begin_list_item ≡ Some e → is_blank_rest rest ≡ true → Ready d defined (blank_read r) lines
       unfolding Ready
       ready_emptied some h =
           let now : Reading = record r { tree = zero_tree; blank = true } in
@@ -493,9 +493,9 @@ module _ (d : Document) (defined : Tables) (r : Reading) (line : Place) (lines :
             none = λ on. refl;
             ready = emptied_blank r.blank refl h empty.ready;
           } in
-          subst (λ q. ReadyWith d defined q lines q.empty_item) (sym (read_is some)) (subst (λ o. ReadyWith d defined now lines o) (sym some) ready)
+          subst (λ q. ReadyWith d defined q lines q.begin_list_item) (sym (read_is some)) (subst (λ o. ReadyWith d defined now lines o) (sym some) ready)
 
-  blank_with : (o : Option ℕ) → r.empty_item ≡ o → ends_here d.options r.tree r.blank ≡ false → is_blank_rest rest ≡ true
+  blank_with : (o : Option ℕ) → r.begin_list_item ≡ o → ends_here d.options r.tree r.blank ≡ false → is_blank_rest rest ≡ true
       → ReadyWith d defined r (line ∷ lines) o → Ready d defined (blank_read r) lines
   blank_with None none stays h ready =
       ready_blank d defined r (at_rest line rest) lines h none (ready_enter d defined r.tree r.blank line lines rest goes stays ready)
@@ -505,20 +505,20 @@ module _ (d : Document) (defined : Tables) (r : Reading) (line : Place) (lines :
   pub ready_blank_line : ends_here d.options r.tree r.blank ≡ false → is_blank_rest rest ≡ true
       → Ready d defined r (line ∷ lines) → Ready d defined (blank_read r) lines
   unfolding Ready
-  ready_blank_line stays h ready = blank_with r.empty_item refl stays h ready
+  ready_blank_line stays h ready = blank_with r.begin_list_item refl stays h ready
 
   module _ (e : ℕ) (empty : ReadyEmpty d defined r e (line ∷ lines)) where
-    finished_is : (blank : Bool) → r.blank ≡ blank → item_finished_by r (Some e) ≡ record (if blank then popped e r else r) { empty_item = None }
+    finished_is : (blank : Bool) → r.blank ≡ blank → item_finished_by r (Some e) ≡ record (if blank then popped e r else r) { begin_list_item = None }
     finished_is blank is =
         let b = own e empty in
-        ap (λ o. record (if r.blank && is_item o then popped e r else r) { empty_item = None }) (top_item e empty b.0 b.1)
-        ∙ ap (λ t. record (if r.blank && t then popped e r else r) { empty_item = None }) (item_true b.0 empty.columns)
-        ∙ ap (λ t. record (if t then popped e r else r) { empty_item = None }) (and_true r.blank ∙ is)
+        ap (λ o. record (if r.blank && is_item o then popped e r else r) { begin_list_item = None }) (top_item e empty b.0 b.1)
+        ∙ ap (λ t. record (if r.blank && t then popped e r else r) { begin_list_item = None }) (item_true b.0 empty.columns)
+        ∙ ap (λ t. record (if t then popped e r else r) { begin_list_item = None }) (and_true r.blank ∙ is)
 
     -- the item ends before a line that is not blank
     emptied_ends : (blank : Bool) → r.blank ≡ blank → is_blank_rest rest ≡ false → ReadyInItem d defined r.tree e (line ∷ lines) blank
         → (
-        let q : Reading = record (if blank then popped e r else r) { empty_item = None } in ReadyAt d defined q.tree q.blank (Inside (at_rest line rest)) lines)
+        let q : Reading = record (if blank then popped e r else r) { begin_list_item = None } in ReadyAt d defined q.tree q.blank (Inside (at_rest line rest)) lines)
     emptied_ends true is h ready =
         let none = empty.none is in
         let o = own e empty in
@@ -536,7 +536,7 @@ module _ (d : Document) (defined : Tables) (r : Reading) (line : Place) (lines :
         (ap (option_and_then (frame_of d.options)) item ∙ item_frame d.options b 0)
         (stops_blank d.options (level (item_container b 0 ∷ path) before) e (line ∷ lines)
         (ap is_blank_after on ∙ h)) last ready in
-        let now : popped e r ≡ record r { tree = g; empty_item = None } =
+        let now : popped e r ≡ record r { tree = g; begin_list_item = None } =
         popped_as e r empty.place empty.outer (item_body b 0) empty.spine item (item_no_list b 0) ∙ item_popped r g empty.place b 0 in
         let same : path_of d.options g ≡ path =
         same_path d.options r.tree.nodes g.nodes (closed_containers e r empty.place empty.outer d.options) empty.outer in
@@ -561,4 +561,4 @@ module _ (d : Document) (defined : Tables) (r : Reading) (line : Place) (lines :
   pub ready_line : ends_here d.options r.tree r.blank ≡ false → is_blank_rest rest ≡ false → Ready d defined r (line ∷ lines)
       → ReadyAt d defined (item_finished r).tree (item_finished r).blank (Inside (at_rest line rest)) lines
   unfolding Ready item_finished
-  ready_line stays h ready = entered_with r.empty_item stays h ready
+  ready_line stays h ready = entered_with r.begin_list_item stays h ready

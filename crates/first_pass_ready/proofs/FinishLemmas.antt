@@ -12,7 +12,7 @@ use Rattle.first_pass_lines.specs.Places.{Place}
 use Rattle.first_pass_grammar.specs.declared.kind.Container.{Container}
 use Rattle.first_pass_grammar.specs.declared.kind.Container.TheVariants.{BlockQuote, ListItem, FootnoteDefinition, Definition}
 use Rattle.first_pass_grammar.specs.Leaves.{Document}
-use Rattle.first_pass_grammar.specs.Before.{is_paragraph_body, takes_definition as takes_after}
+use Rattle.first_pass_grammar.specs.Before.{is_paragraph_body, definition_may_follow as takes_after}
 use Rattle.first_pass_grammar.specs.Skeleton.{Inside, Opening, Opens}
 use Rattle.first_pass_grammar.specs.Derivation.{Tables, node_of, list_flags}
 use Rattle.first_pass_grammar.specs.Completion.{flagged, Closed, OtherClosed, ParagraphAt, DefinitionClosed, TitleAt, Frame, InContainer, InList}
@@ -94,7 +94,7 @@ path_left options r at (ix ∷ rest) (Some b) spine is = refl
 -- the state after an innermost list, if there is one, is closed
 pub kept_left : (r : Reading) (at : ℕ) (s : List TreeIndex) (b : Option ItemBody) → r.tree.spine ≡ s → top_in r.tree.nodes s ≡ b
     → ((if is_list b then popped at r else r).blank ≡ r.blank)
-    × (r.empty_item ≡ None → (if is_list b then popped at r else r).empty_item ≡ None)
+    × (r.begin_list_item ≡ None → (if is_list b then popped at r else r).begin_list_item ≡ None)
 kept_left r at [] None spine is = (refl, λ none. none)
 kept_left r at [] (Some b) spine is = cc
 kept_left r at (ix ∷ rest) None spine is = (refl, λ none. none)
@@ -482,10 +482,10 @@ pub record Finished (d : Document) (defined : Tables) (old new : Reading) (p : P
   pub opens : Opens d (level_of d.options new.tree false) p lines opening
   pub path : path_of d.options new.tree ≡ path_of d.options old.tree
   pub blank : new.blank ≡ false
-  pub none : new.empty_item ≡ None
+  pub none : new.begin_list_item ≡ None
 
 pub noted_as : (d : Document) (defined : Tables) (r : Reading) (p : Place) (lines : List Place) (opening : Opening) (run : Bool)
-    → r.blank ≡ run → r.empty_item ≡ None → StaysAt d (path_of d.options r.tree) p → OpensBlock opening → opens_definition opening ≡ false
+    → r.blank ≡ run → r.begin_list_item ≡ None → StaysAt d (path_of d.options r.tree) p → OpensBlock opening → opens_definition opening ≡ false
     → LeftPlain d defined r.tree run p lines opening
     → (let q : Reading = if run then record r { tree = gap_tree r.tree r.tree.spine; blank = false } else r in Finished d defined r q p lines opening)
 noted_as d defined r p lines opening true is none stays block other left =
@@ -510,7 +510,7 @@ noted_as d defined r p lines opening false is none stays block other left =
 pub ready_finished : (d : Document) (defined : Tables) (r : Reading) (p : Place) (lines : List Place) (at : ℕ) (opening : Opening)
     → IsForest r.tree → StaysAt d (path_of d.options r.tree) p → Opens d (level_of d.options r.tree r.blank) p lines opening
     → OpensBlock opening → opens_definition opening ≡ false
-    → EndsListAt at (top_body r.tree) (closed_in r.tree) opening → r.empty_item ≡ None → ReadyAt d defined r.tree r.blank (Inside p) lines
+    → EndsListAt at (top_body r.tree) (closed_in r.tree) opening → r.begin_list_item ≡ None → ReadyAt d defined r.tree r.blank (Inside p) lines
     → Finished d defined r (list_finished at r) p lines opening
 unfolding list_finished item_finished
 ready_finished d defined r p lines at opening forest stays opens block other away none ready =
@@ -521,7 +521,7 @@ ready_finished d defined r p lines at opening forest stays opens block other awa
     ready_left d defined r p lines at opening forest stays opens block other away ready in
     let left' : LeftPlain d defined l.tree l.blank p lines opening = subst (λ t. LeftPlain d defined l.tree t p lines opening) (sym kept.0) left in
     let done = noted_as d defined l p lines opening l.blank refl (kept.1 none) (subst (λ z. StaysAt d z p) (sym path) stays) block other left' in
-    let same : item_finished_by r r.empty_item ≡ r = ap (item_finished_by r) none in
+    let same : item_finished_by r r.begin_list_item ≡ r = ap (item_finished_by r) none in
     subst (λ q. Finished d defined r (gap_noted (list_left at q)) p lines opening) (sym same)
     (record { ready = done.ready; opens = done.opens; path = done.path ∙ path; blank = done.blank; none = done.none })
 
@@ -531,10 +531,10 @@ path_noted options true r = gap_path options r.tree r.tree.spine
 path_noted options false r = refl
 
 -- a new block ends no container
-pub path_finished : (options : Options) (at : ℕ) (r : Reading) → r.empty_item ≡ None → path_of options (list_finished at r).tree ≡ path_of options r.tree
+pub path_finished : (options : Options) (at : ℕ) (r : Reading) → r.begin_list_item ≡ None → path_of options (list_finished at r).tree ≡ path_of options r.tree
 unfolding list_finished item_finished
 path_finished options at r none =
-    let same : item_finished_by r r.empty_item ≡ r = ap (item_finished_by r) none in
+    let same : item_finished_by r r.begin_list_item ≡ r = ap (item_finished_by r) none in
     let l : Reading = list_left at r in
     subst (λ q. path_of options (gap_noted (list_left at q)).tree ≡ path_of options r.tree) (sym same)
     (path_noted options l.blank l ∙ path_left options r at r.tree.spine (top_body r.tree) refl refl)

@@ -171,7 +171,7 @@ record IsOutside (d : Document) (defined : Tables) (old new : Reading) (p : Plac
   left : IsLeft d defined new.tree old.blank p lines
   out : in_footnote (path_of d.options new.tree) ≡ false
   blank : new.blank ≡ old.blank
-  none : new.empty_item ≡ old.empty_item
+  none : new.begin_list_item ≡ old.begin_list_item
   same : footnote_head_at (around d (path_of d.options new.tree)) p ≡ footnote_head_at (around d (path_of d.options old.tree)) p
 
 note_left : (d : Document) (defined : Tables) (r : Reading) (p : Place) (lines : List Place) (head : ℕ × List ℕ) (t : Bool)
@@ -209,7 +209,7 @@ note_left d defined r p lines head true is_head top ((ready, plain), before) =
       out = ap (λ (q : Reading). in_footnote (path_of d.options q.tree)) now
           ∙ ap in_footnote (open_path d.options g.nodes g.spine left.0.frames left.0.are_open) ∙ left.2;
       blank = ap (λ (q : Reading). q.blank) now;
-      none = ap (λ (q : Reading). q.empty_item) now;
+      none = ap (λ (q : Reading). q.begin_list_item) now;
       same = ap (λ z. footnote_head_at (around d z) p) outer ∙ sym (head_around d.options columns path p refl)
           ∙ ap (λ z. footnote_head_at (around d z) p) (sym inner);
     }
@@ -225,11 +225,11 @@ after_note d p lines size =
 pub record NoteIsOpen (d : Document) (defined : Tables) (q : Reading) (there : Place × List Place) : Type 0 where
   pub ready : ReadyAt d defined q.tree false (Inside there.0) there.1
   pub blank : q.blank ≡ false
-  pub none : q.empty_item ≡ None
+  pub none : q.begin_list_item ≡ None
 
 module _ (d : Document) (defined : Tables) (r : Reading) (p : Place) (lines : List Place) (head : ℕ × List ℕ) (index : CowIndex) (forest : IsForest r.tree)
     (is_head : footnote_head_at (around d (path_of d.options r.tree)) p ≡ Some head)
-    (named : NamesLabel d.names index (label_bytes head.0 (unindented p).rest.left) head.1) (none : r.empty_item ≡ None) where
+    (named : NamesLabel d.names index (label_bytes head.0 (unindented p).rest.left) head.1) (none : r.begin_list_item ≡ None) where
   abbrev opening : Opening
   opening = footnote_opening d p lines head.0 (FootnoteMarker (footnote_columns d.options) index head.1)
 
@@ -263,7 +263,7 @@ module _ (d : Document) (defined : Tables) (r : Reading) (p : Place) (lines : Li
   pub note_is_open : ReadyAt d defined r.tree r.blank (Inside p) lines → NoteIsOpen d (told_label defined head.1) (footnote_begun start index r) there
   unfolding footnote_begun item_finished
   note_is_open ready =
-      let same : item_finished_by r r.empty_item ≡ r = ap (item_finished_by r) none in
+      let same : item_finished_by r r.begin_list_item ≡ r = ap (item_finished_by r) none in
       let path : List Container = path_of d.options r.tree in
       let l : Reading = list_left start r in
       let kept = kept_left r start r.tree.spine (top_body r.tree) refl refl in

@@ -236,7 +236,7 @@ noted_added q items low = noted_by q items q.blank low
 
 -- a new block right after a definition closes the list
 finished_is : (e : ℕ) (r : Reading) (ix : TreeIndex) (rest : List TreeIndex) (flags : ListFlags) → r.tree.spine ≡ ix ∷ rest
-    → body_at r.tree.nodes ix.0 ≡ Some (DefinitionList flags) → possible_title r.tree ≡ None → r.empty_item ≡ None
+    → body_at r.tree.nodes ix.0 ≡ Some (DefinitionList flags) → possible_title r.tree ≡ None → r.begin_list_item ≡ None
     → list_finished e r ≡ gap_noted (with_tree r (list_popped r.tree e ix rest flags))
 unfolding list_finished item_finished popped
 finished_is e r ix rest flags spine body none empty =
@@ -266,7 +266,7 @@ module _ (r : Reading) (items : List (ℕ × Item)) (e : ℕ) (ix : TreeIndex) (
       ap (λ z. moved (popped_at e s z)) spine ∙ ap moved (pop_as s e ix rest flags there)
       ∙ ap (with_tree r) (moved_tree r.tree items e ix rest flags spine flat are_in.0 new)
 
-  left_by : possible_title r.tree ≡ None → r.empty_item ≡ None
+  left_by : possible_title r.tree ≡ None → r.begin_list_item ≡ None
       → definitions_left e (with_tree r (added r.tree items)) ≡ with_tree (list_finished e r) (added (list_finished e r).tree items)
   unfolding definitions_left
   left_by none empty =
@@ -279,7 +279,7 @@ module _ (r : Reading) (items : List (ℕ × Item)) (e : ℕ) (ix : TreeIndex) (
 
 -- a heading or a table right after a definition gives the same as if the list had ended before it
 pub left_is : (r : Reading) (items : List (ℕ × Item)) (e : ℕ) → IsForest r.tree → IsForest (added r.tree items) → is_after_definition r.tree ≡ true
-    → r.empty_item ≡ None → NoParagraph items
+    → r.begin_list_item ≡ None → NoParagraph items
     → definitions_left e (with_tree r (added r.tree items)) ≡ with_tree (list_finished e r) (added (list_finished e r).tree items)
 left_is r items e old new after empty flat =
     let b = past_definition r.tree after in left_by r items e b.place b.outer b.flags b.spine b.body flat old new b.none empty

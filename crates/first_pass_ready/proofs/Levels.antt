@@ -10,7 +10,7 @@ use Rattle.first_pass_tree.specs.declared.tree_index.TreeIndex.{TreeIndex}
 use Rattle.first_pass_tree.specs.Forest.{Forest, IsForest, IsLastAt, IsOpenPath, depths, item_at}
 use Rattle.first_pass_tree.proofs.Depths.{last-order}
 use Rattle.first_pass_lines.specs.Places.{Place}
-use Rattle.first_pass_grammar.specs.Before.{Before, takes_definition as takes_after}
+use Rattle.first_pass_grammar.specs.Before.{Before, definition_may_follow as takes_after}
 use Rattle.first_pass_grammar.specs.Leaves.{Document}
 use Rattle.first_pass_grammar.specs.Skeleton.{level, Opening, Opens}
 use Rattle.first_pass_grammar.specs.Completion.{Frame, Closed, IsPlain, last_plain}

@@ -207,7 +207,7 @@ module _ (d : Document) (defined : Tables) (r : Reading) (line : Place) (lines :
       ap (λ z. after z x) outer ∙ sym (after_old path x)
       ∙ ap (λ (n : ℕ). after (FootnoteDefinition n ∷ path) x) (sym (columns_none d.options false old refl)) ∙ ap (λ z. after z x) (sym inner)
 
-  left_with : (o : Option ℕ) → r.empty_item ≡ o → line.line ≡ e → ReadyWith d defined r (line ∷ lines) o
+  left_with : (o : Option ℕ) → r.begin_list_item ≡ o → line.line ≡ e → ReadyWith d defined r (line ∷ lines) o
       → Ready d defined (popped e r) (line ∷ lines) × (ends_here d.options (popped e r).tree (popped e r).blank ≡ false)
   left_with (Some x) some e_is empty =
       let same : empty.place ∷ empty.outer ≡ ix ∷ rest = sym empty.spine ∙ spine in
@@ -238,7 +238,7 @@ module _ (d : Document) (defined : Tables) (r : Reading) (line : Place) (lines :
   left_ready : line.line ≡ e → Ready d defined r (line ∷ lines)
       → Ready d defined (popped e r) (line ∷ lines) × (ends_here d.options (popped e r).tree (popped e r).blank ≡ false)
   unfolding Ready
-  left_ready e_is ready = left_with r.empty_item refl e_is ready
+  left_ready e_is ready = left_with r.begin_list_item refl e_is ready
 
 -- after the innermost open node has ended at a line, if it does
 pub ended_path : (d : Document) (e : ℕ) (r : Reading) (x : Rest) → after (path_of d.options (footnote_ended d.options e r).tree) x

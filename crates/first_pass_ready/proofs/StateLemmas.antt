@@ -31,7 +31,7 @@ use Rattle.first_pass_completion.proofs.Extending.{tail}
 use Rattle.first_pass_grammar.proofs.Goings.{stops, stops_blank}
 use Rattle.first_pass_completion.proofs.Completions.{completes-first, completes-end}
 use Rattle.first_pass_open.specs.OpenBlock.{closed_by}
-use Rattle.first_pass_lists.specs.Closing.{remembered, top_body, top_end, is_definition_list, title_by, possible_title, popped_by, popped_at, popped_after}
+use Rattle.first_pass_lists.specs.Closing.{reading_with, top_body, top_end, is_definition_list, title_by, possible_title, popped_by, popped_at, popped_after}
 use Rattle.first_pass_lists.specs.Closing.{current_moved, definitions_closed, with_tree, popped}
 use Rattle.first_pass_lists.specs.declared.reading.Reading.{Reading}
 use Rattle.first_pass_open.specs.Path.{container_of, container_at, with_container, path_in, path_of, outer}
@@ -46,7 +46,7 @@ use Rattle.first_pass_ready.proofs.TitlePops.{title_popped, body-moved, pop_titl
 
 -- before the first block
 pub ready_first : (text : List ℕ) (options : Options) (names : Names) (tree : Forest Item) (root : TreeIndex) → root.0 ≡ 0
-    → tree ≡ with_end_at empty_forest root (length text) → Ready (document text options names) no_tables (remembered tree None false) (lines_from text 0)
+    → tree ≡ with_end_at empty_forest root (length text) → Ready (document text options names) no_tables (reading_with tree None false) (lines_from text 0)
 unfolding Ready
 ready_first text options names tree root top tree_is =
     let at_top : ℕ → TreeIndex = λ n. record { 0 = n } in
@@ -73,11 +73,11 @@ ended_with d defined r (Some e) closed ready = (let x : [] ≡ ready.place ∷ r
 -- at the end of the text, with nothing open
 pub ready_finish : (d : Document) (defined : Tables) (r : Reading) → r.tree.spine ≡ [] → Ready d defined r [] → Derives d r.tree.nodes defined
 unfolding Ready
-ready_finish d defined r closed ready = ended_with d defined r r.empty_item closed ready
+ready_finish d defined r closed ready = ended_with d defined r r.begin_list_item closed ready
 
 -- if no item is empty
 pub ready_plain : (d : Document) (defined : Tables) (r : Reading) (lines : List Place)
-    → r.empty_item ≡ None → ReadyAt d defined r.tree r.blank Line lines → Ready d defined r lines
+    → r.begin_list_item ≡ None → ReadyAt d defined r.tree r.blank Line lines → Ready d defined r lines
 unfolding Ready
 ready_plain d defined r lines none ready = subst (λ o. ReadyWith d defined r lines o) (sym none) ready
 
@@ -186,7 +186,7 @@ framed_open options nodes ix rest (frame ∷ frames) o = (frame, o.0)
 
 -- the state beside the tree
 kept_by : (e : ℕ) (r : Reading) (ix : TreeIndex) (rest : List TreeIndex) (b : Option ItemBody)
-    → (let q : Reading = popped_by r (closed_by r.tree e (ix ∷ rest)) ix b in (q.blank ≡ r.blank) × (r.empty_item ≡ None → q.empty_item ≡ None))
+    → (let q : Reading = popped_by r (closed_by r.tree e (ix ∷ rest)) ix b in (q.blank ≡ r.blank) × (r.begin_list_item ≡ None → q.begin_list_item ≡ None))
 kept_by e r ix rest None = (refl, λ none. none)
 kept_by e r ix rest (Some (ListBody flags list number)) = (refl, λ none. none)
 kept_by e r ix rest (Some (DefinitionList flags)) = (refl, λ none. none)
@@ -195,17 +195,17 @@ kept_by e r ix rest (Some (DefinitionListDefinition columns)) = (refl, λ none. 
 kept_by e r ix rest (Some b) = (refl, λ none. none)
 
 keeps_by : (e : ℕ) (r : Reading) (ix : TreeIndex) (rest : List TreeIndex) (o : Option TreeIndex) → possible_title r.tree ≡ o → r.tree.spine ≡ ix ∷ rest
-    → ((popped e r).blank ≡ r.blank) × (r.empty_item ≡ None → (popped e r).empty_item ≡ None)
+    → ((popped e r).blank ≡ r.blank) × (r.begin_list_item ≡ None → (popped e r).begin_list_item ≡ None)
 keeps_by e r ix rest None none spine =
-    subst (λ (q : Reading). (q.blank ≡ r.blank) × (r.empty_item ≡ None → q.empty_item ≡ None)) (sym (popped_is e r ix rest spine none))
+    subst (λ (q : Reading). (q.blank ≡ r.blank) × (r.begin_list_item ≡ None → q.begin_list_item ≡ None)) (sym (popped_is e r ix rest spine none))
     (kept_by e r ix rest (body_at r.tree.nodes ix.0))
 keeps_by e r ix rest (Some title) is spine =
     let t = title_is r.tree title is in
-    subst (λ (q : Reading). (q.blank ≡ r.blank) × (r.empty_item ≡ None → q.empty_item ≡ None)) (sym (popped_title e r ix rest title t spine is))
+    subst (λ (q : Reading). (q.blank ≡ r.blank) × (r.begin_list_item ≡ None → q.begin_list_item ≡ None)) (sym (popped_title e r ix rest title t spine is))
     (refl, λ none. none)
 
 pub popped_keeps : (e : ℕ) (r : Reading) (ix : TreeIndex) (rest : List TreeIndex) → r.tree.spine ≡ ix ∷ rest
-    → ((popped e r).blank ≡ r.blank) × (r.empty_item ≡ None → (popped e r).empty_item ≡ None)
+    → ((popped e r).blank ≡ r.blank) × (r.begin_list_item ≡ None → (popped e r).begin_list_item ≡ None)
 popped_keeps e r ix rest spine = keeps_by e r ix rest (possible_title r.tree) refl spine
 
 pub has_definition : (f : Forest Item) (ix : TreeIndex) (rest : List TreeIndex) (b : ItemBody) → f.spine ≡ ix ∷ rest → body_at f.nodes ix.0 ≡ Some b
@@ -266,7 +266,7 @@ module _ (d : Document) (defined : Tables) (r : Reading) (lines : List Place) (e
       → ReadyAt d defined (popped e r).tree r.blank Line lines
   pop_plain ends ready = pop_by (possible_title r.tree) refl ends ready
 
-  pop_none : r.empty_item ≡ None → next_goes_on (path_of d.options r.tree) lines ≡ false → ReadyAt d defined r.tree r.blank Line lines
+  pop_none : r.begin_list_item ≡ None → next_goes_on (path_of d.options r.tree) lines ≡ false → ReadyAt d defined r.tree r.blank Line lines
       → Ready d defined (popped e r) lines
   pop_none none ends ready =
       let kept = popped_keeps e r ix rest spine in
@@ -305,14 +305,14 @@ module _ (d : Document) (defined : Tables) (r : Reading) (lines : List Place) (e
         (stops d.options (level (item_container b columns ∷ path) (after_run false)) lines item_ends) (sym e_is) now
 
     item_by : (a : ItemBody) → popped_by r (closed_by r.tree e (ix ∷ rest)) ix (Some (item_body a columns))
-        ≡ record r { tree = closed_by r.tree e (ix ∷ rest); empty_item = None }
+        ≡ record r { tree = closed_by r.tree e (ix ∷ rest); begin_list_item = None }
     item_by (DefinitionListDefinition n) = refl
     item_by a = refl
 
-    popped_item : popped e r ≡ record r { tree = closed_by r.tree e (ix ∷ rest); empty_item = None }
+    popped_item : popped e r ≡ record r { tree = closed_by r.tree e (ix ∷ rest); begin_list_item = None }
     popped_item = popped_as e r ix rest (item_body b columns) spine item (item_no_list b columns) ∙ item_by b
 
-  pop_with : (o : Option ℕ) → r.empty_item ≡ o → next_goes_on (path_of d.options r.tree) lines ≡ false → ReadyWith d defined r lines o
+  pop_with : (o : Option ℕ) → r.begin_list_item ≡ o → next_goes_on (path_of d.options r.tree) lines ≡ false → ReadyWith d defined r lines o
       → Ready d defined (popped e r) lines
   pop_with None none ends ready = pop_none none ends ready
   pop_with (Some x) some ends ready =
@@ -323,7 +323,7 @@ module _ (d : Document) (defined : Tables) (r : Reading) (lines : List Place) (e
       subst (λ (i : TreeIndex). body_at r.tree.nodes i.0 ≡ Some (item_body b.0 ready.columns)) at
       (b.1 ∙ ap (λ z. Some z) (sym (item_is b.0 ready.columns b.2))) in
       subst (λ q. Ready d defined q lines) (sym (popped_item b.0 ready.columns item ends))
-      (ready_plain d defined (record r { tree = closed_by r.tree e (ix ∷ rest); empty_item = None }) lines refl
+      (ready_plain d defined (record r { tree = closed_by r.tree e (ix ∷ rest); begin_list_item = None }) lines refl
       (closed_item b.0 ready.columns item ends x r.blank refl ready.none ready.ready))
 
 -- the innermost open node is closed before the next line
@@ -331,7 +331,7 @@ pub ready_pop : (d : Document) (defined : Tables) (r : Reading) (lines : List Pl
     → IsForest r.tree → r.tree.spine ≡ ix ∷ rest → start_of (length d.text) lines ≡ e → next_goes_on (path_of d.options r.tree) lines ≡ false
     → Ready d defined r lines → Ready d defined (popped e r) lines
 unfolding Ready
-ready_pop d defined r lines e ix rest forest spine e_is ends ready = pop_with d defined r lines e ix rest forest spine e_is r.empty_item refl ends ready
+ready_pop d defined r lines e ix rest forest spine e_is ends ready = pop_with d defined r lines e ix rest forest spine e_is r.begin_list_item refl ends ready
 
 -- closing changes no container
 pub same_path : (options : Options) (nodes other : List (ℕ × Item))

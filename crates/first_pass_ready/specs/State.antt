@@ -142,7 +142,7 @@ ReadyWith d defined r lines (Some e) = ReadyEmpty d defined r e lines
 
 -- the state begins a derivation of the text that continues with these lines
 unfoldable pub Ready : Document → Tables → Reading → List Place → Type 0
-Ready d defined r lines = ReadyWith d defined r lines r.empty_item
+Ready d defined r lines = ReadyWith d defined r lines r.begin_list_item
 
 -- it does so under any further names
 abbrev pub StaysReady : Document → Tables → Reading → List Place → Type 0

@@ -50,23 +50,23 @@ no_longer bs max n columns column m k f i h stop =
     let wide : k ≡ columns + columns_of (b ∷ more) column = i.wide ∙ ap (λ x. columns_of x 0) t ∙ f.before (b ∷ more) in
     let first = columns_first b column more some in
     let past = stop (let l = i.within in omega arith) (blank_columns b column) refl some in
-    let few = i.few in
+    let node_bound = i.node_bound in
     omega arith
 
 pub front-indent : (bs : List ℕ) (max n columns column : ℕ) → IsFront bs n columns column → columns ≤ max → IsIndent bs max n columns
-front-indent bs max n columns column f few =
+front-indent bs max n columns column f node_bound =
     record {
       within = f.within;
       blanks = f.blanks;
       wide = let e : columns_of (take n bs ++ []) 0 ≡ columns + 0 = f.before [] in omega (arith, ap (λ x. columns_of x 0) (append-nil (take n bs)));
-      few = few;
+      node_bound = node_bound;
     }
 
 -- the prefix is the longest if the next byte is no space or tab, or has too many columns
 pub front-longest : (bs : List ℕ) (max n columns column : ℕ) → IsFront bs n columns column → columns ≤ max
     → (n < length bs → (w : ℕ) → w ≡ blank_columns (get_or bs n 0) column → 0 < w → max < columns + w) → IsLongestIndent bs max n columns
-front-longest bs max n columns column f few stop =
+front-longest bs max n columns column f node_bound stop =
     record {
-      fits = front-indent bs max n columns column f few;
+      fits = front-indent bs max n columns column f node_bound;
       longest = λ m k i. elim (cases_lt n m) as (λ _. m ≤ n) [ inl more ↦ absurd (no_longer bs max n columns column m k f i more stop) | inr less ↦ less ];
     }

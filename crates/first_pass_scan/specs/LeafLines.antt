@@ -83,7 +83,7 @@ pub record IsIndent (bs : List ℕ) (max : ℕ) (n : ℕ) (columns : ℕ) : Type
   pub within : n ≤ length bs
   pub blanks : list_all is_blank (take n bs) ≡ true
   pub wide : columns ≡ columns_of (take n bs) 0
-  pub few : columns ≤ max
+  pub node_bound : columns ≤ max
 
 -- the longest run of whole spaces and tabs here that has at most max columns (CommonMark 2.2)
 pub record IsLongestIndent (bs : List ℕ) (max : ℕ) (n : ℕ) (columns : ℕ) : Type 0 where

@@ -21,7 +21,7 @@ fn scan_digits(bytes: &[u8]) -> usize
 
 // The number that these digits write, at most nine.
 fn number(digits: &[u8]) -> u64
-    requires few { length digits.now ≤ 9 }
+    requires node_bound { length digits.now ≤ 9 }
     requires digits { EachIndex digits.now (λ k. (digit_zero ≤ slice_index digits.now k)
         × (slice_index digits.now k ≤ digit_nine)) }
     ensures { result ≡ number_from 0 digits.now }

@@ -128,13 +128,13 @@ row-refused (b ∷ bs) space tab h =
     row_refused b (b ∷ bs) (neither (b == 9) (b == 32) tab space) two.0 two.1 some.1 (inr (bs, refl))
 
 -- the delimiter row after an indentation of fewer than four columns
-pub row_of-few : (r s : Rest) → s ≡ after_columns 4 r → nat_le 4 (indent r) ≡ false → delimiter_row_of r ≡ delimiter_row s.left
+pub row_of-node_bound : (r s : Rest) → s ≡ after_columns 4 r → nat_le 4 (indent r) ≡ false → delimiter_row_of r ≡ delimiter_row s.left
 unfolding delimiter_row_of
-row_of-few r s e h =
-    let few : nat_lt (indent r) 4 ≡ true = grind (arith, nat_tests, h) in
+row_of-node_bound r s e h =
+    let node_bound : nat_lt (indent r) 4 ≡ true = grind (arith, nat_tests, h) in
     let low : indent r ≤ 4 = grind (arith, nat_tests, h) in
     let same : after_columns (indent r) r ≡ s = sym (all_columns_up_to 4 r low) ∙ sym e in
-    ap (λ t. if t then delimiter_row (after_columns (indent r) r).left else None) few ∙ ap (λ q. delimiter_row q.left) same
+    ap (λ t. if t then delimiter_row (after_columns (indent r) r).left else None) node_bound ∙ ap (λ q. delimiter_row q.left) same
 
 pub row_of-refused : (r s : Rest) → s ≡ after_columns 4 r → nat_le 4 (indent r) ≡ false
     → (begins pipe s.left || begins hyphen s.left || begins colon s.left) ≡ false → None ≡ delimiter_row_of r
@@ -142,7 +142,7 @@ row_of-refused r s e h look =
     let low : indent r ≤ 4 = grind (arith, nat_tests, h) in
     let same : after_columns (indent r) r ≡ s = sym (all_columns_up_to 4 r low) ∙ sym e in
     let front = all_columns r in
-    sym (row_of-few r s e h ∙ row-refused s.left (ap (λ q. begins 32 q.left) (sym same) ∙ front.1) (ap (λ q. begins 9 q.left) (sym same) ∙ front.2) look)
+    sym (row_of-node_bound r s e h ∙ row-refused s.left (ap (λ q. begins 32 q.left) (sym same) ∙ front.1) (ap (λ q. begins 9 q.left) (sym same) ∙ front.2) look)
 
 -- each delimiter row has an alignment
 cons-some : (x : Alignment) (o : Option (List Alignment)) (xs : List Alignment) → option_map (λ ys. x ∷ ys) o ≡ Some xs → 0 < length xs

@@ -5,7 +5,7 @@ ghost use Rattle.std.specs.Prelude.{◌≡◌, ◌≤◌, ◌<◌, ◌+◌, ◌-
 ghost use Rattle.std.specs.Option.{option_map};
 ghost use Rattle.first_pass_items.specs.Bytes.{pipe};
 ghost use Rattle.first_pass_lines.specs.Lines.{begins, is_blank, is_white};
-ghost use Rattle.first_pass_table_scan.specs.TableHead.{is_pipe, ends as ends_with, stripped as stripped_bytes, without_first as past_first, without_last as before_last, is_hyphens as hyphens_alone, alignment_by, delimiter_cell, delimiter_cells, delimiter_row, table_head, pipes_of, header_columns};
+ghost use Rattle.first_pass_table_scan.specs.TableHead.{is_pipe, ends as ends_with, stripped as stripped_bytes, without_first as past_first, without_last as before_last, is_hyphens as only_hyphens, alignment_by, delimiter_cell, delimiter_cells, delimiter_row, table_head, pipes_of, header_columns};
 
 use first_pass_items::item::Alignment;
 use first_pass_lines::lines::{
@@ -72,7 +72,7 @@ fn without_last(bytes: &[u8], byte: u8) -> &[u8]
 
 // Whether the bytes are one or more hyphens.
 fn is_hyphens(bytes: &[u8]) -> bool
-    ensures { result ≡ hyphens_alone bytes.now }
+    ensures { result ≡ only_hyphens bytes.now }
 {
     1 <= bytes.len() && scan_run(bytes, b'-') == bytes.len()
 }

@@ -22,7 +22,7 @@ use Rattle.first_pass_tokens.proofs.LineLemmas.{cell_ends}
 use Rattle.first_pass_tokens.proofs.OrderLemmas.{order_from, cell_in_order, cell_end_place}
 use Rattle.first_pass_grammar.specs.Counting.{own_nodes}
 use Rattle.first_pass_grammar.specs.Leaves.{Document}
-use Rattle.first_pass_grammar.specs.Order.{Extent, extent_of, extents, Siblings, Empty, Node, laid, IsBetween, Elsewhere, below, Fits}
+use Rattle.first_pass_grammar.specs.Order.{Ranged, extent_of, extents, Siblings, Empty, Node, laid, IsBetween, Elsewhere, below, Fits}
 use Rattle.first_pass_grammar.specs.Tables.{cell_start, cell_text, cell_block, AreCells, filled, side_by_side, row_cells, row_block}
 use Rattle.first_pass_grammar.proofs.Orders.{beside, extents-append, extents-at_depth, laid-beside, laid-at_depth, fits-order, fits-later, fits-any}
 use Rattle.first_pass_grammar.proofs.Orders.{fits-beside, row_of, row_of-fits, length-block}
@@ -48,7 +48,7 @@ pub between-join : (text : List ℕ) (from mid to : ℕ) (xs ys : List (ℕ × I
     → AreBetween text from to (xs ++ ys)
 between-join text from mid to xs ys (row, is, fits) (more, are, fit) = (
   beside row more,
-  extents-append xs ys ∙ ap (λ (z : List (ℕ × Extent)). z ++ extents ys) is ∙ ap (λ (z : List (ℕ × Extent)). laid 0 row ++ z) are
+  extents-append xs ys ∙ ap (λ (z : List (ℕ × Ranged)). z ++ extents ys) is ∙ ap (λ (z : List (ℕ × Ranged)). laid 0 row ++ z) are
       ∙ sym (laid-beside 0 row more),
   fits-beside text Elsewhere from mid to row more fits fit,
 )
@@ -65,8 +65,8 @@ pub between-block : (text : List ℕ) (from to : ℕ) (x : Item) (kids : List (�
 unfolding laid Fits
 between-block text from to x kids between (row, is, fits) = (
   Node (extent_of x) row Empty,
-  ap (λ (ns : List (ℕ × Extent)). (0, extent_of x) ∷ ns)
-      (extents-at_depth 1 kids ∙ ap (λ (z : List (ℕ × Extent)). at_depth 1 z) is ∙ laid-at_depth 1 0 row ∙ sym (append-nil (laid 1 row))),
+  ap (λ (ns : List (ℕ × Ranged)). (0, extent_of x) ∷ ns)
+      (extents-at_depth 1 kids ∙ ap (λ (z : List (ℕ × Ranged)). at_depth 1 z) is ∙ laid-at_depth 1 0 row ∙ sym (append-nil (laid 1 row))),
   inl (between, fits-any text (below Elsewhere from (extent_of x)) x.start x.«end» row fits, between.before),
 )
 
@@ -82,7 +82,7 @@ own_block x kids =
 leaves_laid : (chain : List Item) → extents (leaves chain) ≡ laid 0 (row_of chain)
 unfolding laid row_of
 leaves_laid [] = refl
-leaves_laid (x ∷ chain) = ap (λ (z : List (ℕ × Extent)). (0, extent_of x) ∷ z) (leaves_laid chain)
+leaves_laid (x ∷ chain) = ap (λ (z : List (ℕ × Ranged)). (0, extent_of x) ∷ z) (leaves_laid chain)
 
 leaves_between : (text : List ℕ) (from to : ℕ) (chain : List Item) → AreInOrder text from to chain → AreBetween text from to (leaves chain)
 leaves_between text from to chain h = (row_of chain, leaves_laid chain, row_of-fits text Elsewhere from to chain h)
@@ -117,7 +117,7 @@ record OneCell (d : Document) (at stop : ℕ) (cell : List (ℕ × Item)) : Type
   within : stop ≤ length d.text
   ends : IsCharBoundary d.text stop
   between : AreBetween d.text at stop cell
-  few : own_nodes cell ≤ 2 * (stop - at)
+  node_bound : own_nodes cell ≤ 2 * (stop - at)
 
 one_cell : {after : MathBraces} (d : Document) (p : Spot) (tokens : List Item) (stop : ℕ) → IsUtf8 d.text → IsCharBoundary d.text p.at
     → at_line_end (drop (cell_text d.text p.at) d.text) ≡ false → IsCell d.names.texts (begun_there d p) tokens stop after
@@ -144,25 +144,25 @@ one_cell d p tokens stop utf8 boundary on cell =
       between = between-block d.text at stop x (leaves tokens)
           (record { following = following; order = omega arith; before = omega arith; starts = starts; ends = ends })
           (leaves_between d.text x.start stop tokens order);
-      few = omega arith;
+      node_bound = omega arith;
     }
 
 -- The cells of a row in the table, up to a number, are in order between the start and the end of the row.
 record KeptCells (text : List ℕ) (from to : ℕ) (items : List (ℕ × Item)) : Type 0 where
   between : AreBetween text from to items
-  few : own_nodes items ≤ 2 * (to - from)
+  node_bound : own_nodes items ≤ 2 * (to - from)
 
 kept_none : (text : List ℕ) (from to : ℕ) → from ≤ to → KeptCells text from to []
-kept_none text from to h = (let none = own_at_most None [] in record { between = between-none text from to h; few = omega arith })
+kept_none text from to h = (let none = own_at_most None [] in record { between = between-none text from to h; node_bound = omega arith })
 
 kept_more : (d : Document) (at next stop : ℕ) (cell more : List (ℕ × Item)) → OneCell d at next cell → next ≤ stop → KeptCells d.text next stop more
     → KeptCells d.text at stop (cell ++ more)
 kept_more d at next stop cell more one following rest =
     let own = own_join None cell more in
-    let some = one.few in
-    let others = rest.few in
+    let some = one.node_bound in
+    let others = rest.node_bound in
     let later = one.later in
-    record { between = between-join d.text at next stop cell more one.between rest.between; few = omega arith }
+    record { between = between-join d.text at next stop cell more one.between rest.between; node_bound = omega arith }
 
 kept_cells : (d : Document) (columns : ℕ) (p : Spot) (cells : List (List (ℕ × Item))) (to : Spot) → IsUtf8 d.text → IsCharBoundary d.text p.at
     → AreCells d p cells to → KeptCells d.text p.at to.at (side_by_side (take columns cells))
@@ -211,7 +211,7 @@ empty_at at (suc n) = (refl, refl, empty_at at n)
 -- A row is in order between its start and its end. It has at most two nodes of its own, and two for each byte.
 pub record OneRow (text : List ℕ) (from to : ℕ) (items : List (ℕ × Item)) : Type 0 where
   pub between : AreBetween text from to items
-  pub few : own_nodes items ≤ 2 + 2 * (to - from)
+  pub node_bound : own_nodes items ≤ 2 + 2 * (to - from)
 
 pub row_fits : (d : Document) (body : ItemBody) (columns : ℕ) (p : Spot) (cells : List (List (ℕ × Item))) (to : Spot) → IsUtf8 d.text
     → IsCharBoundary d.text p.at → AreCells d p cells to → OneRow d.text p.at to.at (row_block body columns p.at cells to.at)
@@ -231,9 +231,9 @@ row_fits d body columns p cells to utf8 boundary are =
     let split = ap own_nodes parts in
     let both = own_join None (side_by_side (take columns cells)) (side_by_side missing) in
     let last = own_filled None stop (side_by_side missing) (empty_at stop (filled columns cells)) in
-    let some = kept.few in
+    let some = kept.node_bound in
     record {
       between = between-block d.text start stop x (row_cells columns cells stop)
           (record { following = omega arith; order = order; before = omega arith; starts = boundary; ends = ends }) inside;
-      few = omega arith;
+      node_bound = omega arith;
     }

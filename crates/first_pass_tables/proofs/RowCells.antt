@@ -11,7 +11,7 @@ use Rattle.first_pass_items.specs.declared.item.Item.{Item}
 use Rattle.first_pass_tree.specs.Forest.{Forest, at_depth, added}
 use Rattle.first_pass_tree.proofs.Callers.{more-added}
 use Rattle.first_pass_lines.specs.Lines.{is_white, is_line_end, begins, eol_len, at_line_end}
-use Rattle.first_pass_tokens.specs.LineTokens.{Spot, spot, ends_at, IsCell}
+use Rattle.first_pass_tokens.specs.LineTokens.{Spot, spot, content_ends_at, IsCell}
 use Rattle.first_pass_tokens.proofs.LineLemmas.{cell_ends}
 use Rattle.first_pass_grammar.specs.Names.{Names, Extends}
 use Rattle.first_pass_grammar.specs.Leaves.{Document, document}
@@ -79,8 +79,8 @@ none_of false x y z a b c = rw (a, b)
 
 -- a cell that begins with neither a line ending nor a pipe has a byte
 not_empty : (d : Document) (text : Spot) → eol_len (drop text.at d.text) ≡ None → (slice_index d.text text.at == pipe) ≡ false
-    → ends_at (cell_content d text) text.at ≡ false
-unfolding ends_at
+    → content_ends_at (cell_content d text) text.at ≡ false
+unfolding content_ends_at
 not_empty d text none other =
     let on = runs_on d.text text.at none in
     none_of (has d.options tables) _ _ _ (lt-leb (length d.text) text.at on.0) on.1 other

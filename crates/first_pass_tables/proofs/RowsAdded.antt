@@ -38,7 +38,7 @@ row_fits_after d body columns p cells to w from utf8 boundary are low =
     let stop : ℕ = to.at in
     let block : List (ℕ × Item) = row_block body columns start cells stop in
     let row = row_fits d body columns p cells to utf8 boundary are in
-    let few = row.few in
+    let node_bound = row.node_bound in
     let order = between-order d.text start stop block row.between in
     let wide = between-wider d.text from start stop stop block low (omega arith) row.between in
     between-any d.text w from stop block (wide.0, wide.1, wide.2, λ room. omega arith)
@@ -96,8 +96,8 @@ both_between text from start mid following next head body low apart some row row
     let header = between-order text start mid head row.between in
     let others = between-order text following next body rows.between in
     let join = own_join None head body in
-    let few_row = row.few in
-    let few_rows = rows.few in
+    let few_row = row.node_bound in
+    let few_rows = rows.node_bound in
     let kids = between-join text from mid next head body (between-wider text from start mid mid head low (omega arith) row.between)
     (between-wider text mid following next next body apart (omega arith) rows.between) in
     (kids.0, kids.1, kids.2, λ room. elim some [ inl more ↦ omega arith | inr none ↦ omega arith ])

@@ -72,7 +72,7 @@ first_line text n line lines is =
 -- The rows are in order between two offsets, and have at most four nodes of their own for each byte there.
 pub record RowsBetween (text : List ℕ) (from to : ℕ) (items : List (ℕ × Item)) : Type 0 where
   pub between : AreBetween text from to items
-  pub few : own_nodes items ≤ 4 * (to - from)
+  pub node_bound : own_nodes items ≤ 4 * (to - from)
 
 no_rows : (text : List ℕ) (n : ℕ) (lines : List Place) (t : Taken) → n ≤ length text → lines ≡ lines_from text n → t ≡ taking [] lines
     → RowsBetween text n (start_of (length text) t.left) t.items
@@ -80,7 +80,7 @@ no_rows text n lines t within is e =
     let none = own_at_most None [] in
     let there : start_of (length text) lines ≡ n = ap (start_of (length text)) is ∙ start_of-lines text n within in
     subst (λ (z : Taken). RowsBetween text n (start_of (length text) z.left) z.items) (sym e)
-    (record { between = between-none text n (start_of (length text) lines) (omega arith); few = omega arith })
+    (record { between = between-none text n (start_of (length text) lines) (omega arith); node_bound = omega arith })
 
 one_more_row : (d : Document) (columns n : ℕ) (begin : Spot) (cells : List (List (ℕ × Item))) («end» : Spot) (to : ℕ) (more : List (ℕ × Item)) → IsUtf8 d.text
     → IsCharBoundary d.text begin.at → AreCells d begin cells «end» → n ≤ begin.at → 0 < length cells → RowsBetween d.text «end».at to more
@@ -93,11 +93,11 @@ one_more_row d columns n begin cells ended to more utf8 boundary are following s
     let block : List (ℕ × Item) = row_block TableRow columns start cells stop in
     let later = between-order d.text stop to more rest.between in
     let own = own_join None block more in
-    let own_row = row.few in
-    let own_rest = rest.few in
+    let own_row = row.node_bound in
+    let own_rest = rest.node_bound in
     record {
       between = between-join d.text n stop to block more (between-wider d.text n start stop stop block following (omega arith) row.between) rest.between;
-      few = omega arith;
+      node_bound = omega arith;
     }
 
 -- The rows of a table's body are so between the first of its lines and the first line that is no row.

@@ -34,8 +34,8 @@ block_between text from start mid following next x head body starts_is ends_is l
     let others = between-order text following next body rows.between in
     let own = own_block x (head ++ body) in
     let join = own_join None head body in
-    let few_row = row.few in
-    let few_rows = rows.few in
+    let few_row = row.node_bound in
+    let few_rows = rows.node_bound in
     let kids = between-join text start mid next head body row.between
     (between-wider text mid following next next body (omega arith) (omega arith) rows.between) in
     let block = between-block text from next x (head ++ body)

@@ -62,7 +62,7 @@ added_whole d columns head_start body_start old new next r =
     let stop : Spot = spot r.head_end r.after in
     let table : TableSoFar = table_so_far columns (most_filled - filled columns r.cells) r.after in
     let (starts, show, size, apart, often) = row_shows d TableHead columns begin r.cells stop refl r.are_cells in
-    let (rows, these, have, few) = rows_show d (path_of d.options old) table (lines_from d.text body_start) (taking r.body (lines_from d.text next))
+    let (rows, these, have, node_bound) = rows_show d (path_of d.options old) table (lines_from d.text body_start) (taking r.body (lines_from d.text next))
     r.are_rows in
     let first : RowCells = record { «end» = r.head_end; starts = starts } in
     let all : marks d.names (head ++ r.body) ≡ row_marks 0 (first ∷ rows) =
@@ -75,6 +75,6 @@ added_whole d columns head_start body_start old new next r =
       body = rows;
       show = λ names. marks_free names d.names (head ++ r.body) (subst HasNoTable (sym all) (rows_no_table 0 (first ∷ rows))) ∙ all;
       have_cells = (size, apart, have);
-      few = omega arith;
+      node_bound = omega arith;
       full_head = λ on as_many. let least = head_has_cells d begin r.cells stop on r.are_cells in omega arith;
     }

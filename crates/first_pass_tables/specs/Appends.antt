@@ -149,5 +149,5 @@ pub record AddsWholeRows (d : Document) (columns head_start : ℕ) (old new : Fo
   pub body : List RowCells
   pub show : (names : Names) → marks names items ≡ row_marks 0 (head ∷ body)
   pub have_cells : HaveCells columns (head ∷ body)
-  pub few : filled_in (head ∷ body) ≤ max most_filled (filled_in (head ∷ []))
+  pub node_bound : filled_in (head ∷ body) ≤ max most_filled (filled_in (head ∷ []))
   pub full_head : has d.options tables ≡ true → columns ≤ head_columns (drop head_start d.text) → filled_in (head ∷ []) ≡ 0

@@ -41,6 +41,6 @@ pub record AreAllAppended (d : Document) (start : Spot) (old new : Forest Item) 
 -- The cells of the row that begins at a place are appended, up to a number: all of them if the row ended, otherwise
 -- that number. The call returns the offset up to which they were read, and the brace contexts there (this project).
 pub record AppendsSome (d : Document) (most : ℕ) (start : Spot) (old new : Forest Item) (answer : CellsRead × MathBraces) : Type 0 where
-  pub few : answer.0.count ≤ most
+  pub node_bound : answer.0.count ≤ most
   pub all : answer.0.ended ≡ true → AreAllAppended d start old new (spot answer.0.at answer.1) answer.0.count
   pub first : answer.0.ended ≡ false → AreAppended d start old new (spot answer.0.at answer.1) answer.0.count × (answer.0.count ≡ most)

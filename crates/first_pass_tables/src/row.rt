@@ -164,7 +164,7 @@ pub fn append_head_row(
 // than may be filled in.
 fn is_kept(following: bool, count: usize, missing: usize, most: usize) -> bool
     ensures value { result ≡ ((not following || nat_lt 0 count) && nat_le missing most) }
-    ensures few { IsTrue result → missing ≤ most }
+    ensures node_bound { IsTrue result → missing ≤ most }
 {
     (!following || count > 0) && missing <= most
 }

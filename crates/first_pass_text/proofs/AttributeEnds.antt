@@ -199,7 +199,7 @@ pub cut_place : (broken : Bool) (start opening content_end white : ℕ) (bs cont
 cut_place true start opening content_end white bs content e f g = omega arith
 cut_place false start opening content_end white bs content e f g =
     let same : white ≡ suffix_len is_white (take opening bs) = g ∙ ap (suffix_len is_white) f in
-    let few = suffix_len-le-length is_white (take opening bs) in
+    let node_bound = suffix_len-le-length is_white (take opening bs) in
     let short = length-take opening bs in
     omega arith
 

@@ -26,7 +26,7 @@ use Rattle.first_pass_grammar.specs.Leaves.{document, kept_len, heading_chain, h
 use Rattle.first_pass_items.specs.declared.item.HeadingIndex.{HeadingIndex}
 use Rattle.first_pass_items.specs.declared.option_set.Options.{Options}
 use Rattle.first_pass_lines.proofs.LineFacts.{line_len-fits}
-use Rattle.first_pass_tokens.specs.LineTokens.{IsLine}
+use Rattle.first_pass_tokens.specs.LineTokens.{AreLineTokens}
 use Rattle.first_pass_text.proofs.AttributeEnds.{content_read, before_none, length_some, braces_within}
 use Rattle.first_pass_attributes.specs.AttributeBlocks.{Braces}
 use Rattle.first_pass_text.specs.declared.heading.AttributePlace.{AttributePlace}
@@ -142,7 +142,7 @@ heading_read text options before names start next cut index front content old ne
         answer = a.answer;
         after = a.after;
         line = subst (λ t.
-            IsLine more.texts (record { options = options; whole = text; text = t; start = start; row = false; braces = no_braces }) a.tokens a.answer a.after)
+            AreLineTokens more.texts (record { options = options; whole = text; text = t; start = start; row = false; braces = no_braces }) a.tokens a.answer a.after)
             text_is
             (line_more (e.more_texts, e.texts) a.line);
         chain_is = refl;

@@ -53,7 +53,7 @@ no_spaces xs none =
                 ap (λ (ys : List ℕ). suffix_len (λ b. b == 32) ys) (sym (take_all (length xs) xs (omega arith)))
                 ∙ suffix_len-take_no (λ b. b == 32) xs (length xs) 0 some (omega arith) other
           ]
-      | inr empty ↦ (let few = suffix_len-le-length (λ b. b == 32) xs in omega arith)
+      | inr empty ↦ (let node_bound = suffix_len-le-length (λ b. b == 32) xs in omega arith)
     ]
 
 -- by the counts: the number signs at the end, and the spaces before them

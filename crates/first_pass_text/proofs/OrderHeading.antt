@@ -35,7 +35,7 @@ use Rattle.first_pass_items.specs.Bytes.{left_brace}
 use Rattle.first_pass_items.specs.declared.item.HeadingIndex.{HeadingIndex}
 use Rattle.first_pass_items.specs.declared.option_set.Options.{Options}
 use Rattle.first_pass_tokens.specs.Pieces.{Inline}
-use Rattle.first_pass_tokens.specs.LineTokens.{IsLine, text_end}
+use Rattle.first_pass_tokens.specs.LineTokens.{AreLineTokens, text_end}
 use Rattle.first_pass_text.proofs.KeptBytes.{run_none, space_aside, kept_counted}
 use Rattle.first_pass_text.proofs.AttributeEnds.{before_none, braces_within, opens_with}
 use Rattle.first_pass_text.proofs.TextFronts.{front_len, front_utf8, place_in_front, order_in_text}
@@ -218,7 +218,7 @@ kept_less content n (inr (inr whole)) = (let all = whole.0 in omega arith)
 
 -- the escaped texts of a whole line, with its last backslash
 line_stands : {texts : List CowStr} {after : MathBraces} (s : Inline) (tokens : List Item) (answer : ℕ × Option Item)
-    → IsUtf8 s.text → IsCharBoundary s.text s.start → IsLine texts s tokens answer after
+    → IsUtf8 s.text → IsCharBoundary s.text s.start → AreLineTokens texts s tokens answer after
     → EscapesStand s.text s.start (close_break answer.1 (add_tokens [] tokens))
 line_stands s tokens answer utf8 boundary line =
     let stop : ℕ = text_end s line.content_end in
@@ -229,7 +229,7 @@ line_stands s tokens answer utf8 boundary line =
 -- The chain of a heading's line without its closing sequence is in order up to an offset that is not before the line's end, and has at most as many tokens as
 -- there are bytes up to there.
 line_fits : {texts : List CowStr} {after : MathBraces} (s : Inline) (tokens : List Item) (answer : ℕ × Option Item) (content : List ℕ) (next : ℕ)
-    → IsUtf8 s.text → IsCharBoundary s.text s.start → IsLine texts s tokens answer after → IsContent s.text s.start content
+    → IsUtf8 s.text → IsCharBoundary s.text s.start → AreLineTokens texts s tokens answer after → IsContent s.text s.start content
     → answer.0 ≤ next → s.start + length content ≤ next
     → (let chain : List Item = heading_chain (kept_len content) s.start (close_break answer.1 (add_tokens [] tokens)) in
     AreInOrder s.text s.start next chain × (length chain + s.start ≤ next))
@@ -237,7 +237,7 @@ line_fits s tokens answer content next utf8 boundary line is ends reach =
     let whole : List Item = close_break answer.1 (add_tokens [] tokens) in
     let n : ℕ = kept_len content in
     let order : AreInOrder s.text s.start next whole = order_to s.text s.start answer.0 next whole (closed_line_in_order utf8 boundary boundary.0 line) ends in
-    let few = few_in_order s.text s.start next whole order (bytes_closed answer.1 (add_tokens [] tokens) (bytes_adds [] tokens (line_has_bytes line) tt)) in
+    let node_bound = few_in_order s.text s.start next whole order (bytes_closed answer.1 (add_tokens [] tokens) (bytes_adds [] tokens (line_has_bytes line) tt)) in
     let less = kept_few n s.start whole in
     let most = kept_less content n (kept_at content) in (
       chain_kept s.text s.start next n whole order
@@ -260,7 +260,7 @@ heading_by d start index chain end_of_line None none utf8 boundary h =
     let text_is : text_before_attributes d.options d.text start (line_bytes d start) ≡ d.text =
     ap (λ (o : Option Braces). option_map_or (λ (block : Braces). take (start + block.opening) d.text) o d.text) none in
     let line = subst (λ t.
-    IsLine d.names.texts (record { options = d.options; whole = d.text; text = t; start = start; row = false; braces = no_braces }) h.tokens h.answer h.after)
+    AreLineTokens d.names.texts (record { options = d.options; whole = d.text; text = t; start = start; row = false; braces = no_braces }) h.tokens h.answer h.after)
     text_is h.line in
     let ended = line_ends boundary.0 line in
     let place : h.answer.0 ≡ start + line_len (drop start d.text) = ended.place in
@@ -278,7 +278,7 @@ heading_by d start index chain end_of_line (Some block) some utf8 boundary h =
     let text_is : text_before_attributes d.options d.text start bs ≡ front =
     ap (λ (o : Option Braces). option_map_or (λ (b : Braces). take (start + b.opening) d.text) o d.text) some in
     let line = subst (λ t.
-    IsLine d.names.texts (record { options = d.options; whole = d.text; text = t; start = start; row = false; braces = no_braces }) h.tokens h.answer h.after)
+    AreLineTokens d.names.texts (record { options = d.options; whole = d.text; text = t; start = start; row = false; braces = no_braces }) h.tokens h.answer h.after)
     text_is h.line in
     let inside = braces_within d.options bs block some in
     let fits = line_len-fits (drop start d.text) in
@@ -304,7 +304,7 @@ heading_by d start index chain end_of_line (Some block) some utf8 boundary h =
     (take block.opening bs) (start + block.opening) (front_utf8 d.text (start + block.opening) utf8 stop) first line
     (block_content d.text start (line_len (drop start d.text)) block.opening fits (omega arith) within) (omega arith) (omega arith) in
     let order = order_in_text d.text (start + block.opening) utf8 stop start (start + block.opening) _ all.0 in
-    let few = all.1 in (
+    let node_bound = all.1 in (
       subst (AreInOrder d.text start end_of_line) (sym same) (order_to d.text start (start + block.opening) end_of_line _ order (omega arith)),
       subst (λ (xs : List Item). length xs + start ≤ end_of_line) (sym same) (omega arith),
     )
@@ -353,7 +353,7 @@ heading_fits text options names start level old new next u b is h from following
     let fits = heading_in_order (document text options names) text_at h.index h.chain next u (heading_text_boundary text start level u b is)
     (h.line names (extends_none names)) in
     let span = order_bound text text_at next h.chain fits.0 in
-    let few = fits.1 in
+    let node_bound = fits.1 in
     record {
       items = heading_block start next level h.index h.chain;
       tree_is = h.tree_is;

@@ -8,7 +8,7 @@ use Rattle.first_pass_lines.specs.Places.{Place, offset, line_rest, line_place, 
 use Rattle.first_pass_lines.proofs.LineFacts.{lines_at-line, lines_at-end, line_len-fits}
 use Rattle.first_pass_lines.proofs.PlaceFacts.{start_of-lines}
 use Rattle.first_pass_tokens.specs.Braces.{MathBraces, no_braces}
-use Rattle.first_pass_tokens.specs.LineTokens.{spot, IsLine, IsBreak, is_break, EndsLine, text_end}
+use Rattle.first_pass_tokens.specs.LineTokens.{spot, AreLineTokens, IsBreak, is_break, EndsLine, text_end}
 use Rattle.first_pass_tokens.specs.Chains.{add_tokens, close_break, cut}
 use Rattle.first_pass_tokens.proofs.InOrder.{AreInOrder, HaveBytes}
 use Rattle.first_pass_tokens.proofs.BytesLemmas.{bytes_adds, bytes_closed, bytes_append, line_has_bytes}
@@ -76,7 +76,7 @@ record OneLine (d : Document) (from ix : ℕ) (chain tokens : List Item) (answer
   broken : IfSome answer.1 (IsBreak ix answer.0)
 
 one_line : (d : Document) (from ix : ℕ) (b after : MathBraces) (chain tokens : List Item) (answer : ℕ × Option Item)
-    → IsUtf8 d.text → IsCharBoundary d.text ix → ChainStands d.text from ix chain → IsLine d.names.texts (content_at d (spot ix b)) tokens answer after
+    → IsUtf8 d.text → IsCharBoundary d.text ix → ChainStands d.text from ix chain → AreLineTokens d.names.texts (content_at d (spot ix b)) tokens answer after
     → OneLine d from ix chain tokens answer
 one_line d from ix b after chain tokens answer utf8 boundary h line =
     let stop : ℕ = text_end (content_at d (spot ix b)) line.content_end in

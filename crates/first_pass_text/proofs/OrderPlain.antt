@@ -16,7 +16,7 @@ use Rattle.first_pass_grammar.specs.Leaves.{Document, document, marker_items, Te
 use Rattle.first_pass_grammar.specs.Completion.{lines_from}
 use Rattle.first_pass_grammar.specs.Counting.{own_nodes}
 use Rattle.first_pass_grammar.proofs.OwnNodes.{own_at_most}
-use Rattle.first_pass_grammar.specs.Order.{is_task_marker, Extent, Empty, Node, extent_of, extents, laid, Within, Elsewhere, InItem, below, Fits}
+use Rattle.first_pass_grammar.specs.Order.{is_task_marker, Ranged, Empty, Node, extent_of, extents, laid, Within, Elsewhere, InItem, below, Fits}
 use Rattle.first_pass_grammar.specs.Order.{FitsBetween, IsBetween}
 use Rattle.first_pass_grammar.specs.OpenOrder.{is_in_item, within_top}
 use Rattle.first_pass_text.specs.Appends.{AddsPlainText}
@@ -59,7 +59,7 @@ text_node start next body = record { start = start; «end» = next; body = body 
 -- such a block has at most four nodes for each byte: the block, a marker and its tokens, all of them its own
 block_few : (from start next : ℕ) (body : ItemBody) (marker : Option Item) (chain : List Item) → from ≤ start → length chain + start ≤ next → from < next
     → own_nodes (block_with start next body (marker_items marker ++ chain)) ≤ 4 * (next - from)
-block_few from start next body marker chain low few some =
+block_few from start next body marker chain low node_bound some =
     let size = length-block (text_node start next body) (marker_items marker ++ chain) in
     let marked = few_marked marker chain in
     let most = own_at_most None (block_with start next body (marker_items marker ++ chain)) in
@@ -71,7 +71,7 @@ StandsIn w None = Unit {0}
 StandsIn w (Some m) = w ≡ InItem
 
 -- the extent of a paragraph or a heading
-abbrev text_extent : ℕ → ℕ → Extent
+abbrev text_extent : ℕ → ℕ → Ranged
 text_extent start next = record { start = start; «end» = next; text_block = true; marker = false; item = false; definitions = false }
 
 -- the children of a paragraph
@@ -92,7 +92,7 @@ block_laid : (start next : ℕ) (body : ItemBody) (chain : List Item)
     → extents (block_with start next body chain) ≡ laid 0 (Node (extent_of (text_node start next body)) (row_of chain) Empty)
 unfolding laid
 block_laid start next body chain =
-    ap (λ (row : List (ℕ × Extent)). (0, extent_of (text_node start next body)) ∷ row) (row_of-laid 1 chain ∙ sym (append-nil (laid 1 (row_of chain))))
+    ap (λ (row : List (ℕ × Ranged)). (0, extent_of (text_node start next body)) ∷ row) (row_of-laid 1 chain ∙ sym (append-nil (laid 1 (row_of chain))))
 
 block_between : (text : List ℕ) (w : Within) (from start next : ℕ) (body : ItemBody) (marker : Option Item) (chain : List Item)
     → extent_of (text_node start next body) ≡ text_extent start next
@@ -173,7 +173,7 @@ kept_byte false bs opening within is =
     let size : length front ≡ opening = length-take-le opening bs (omega arith) in
     elim (cases_lt 0 white) [
       | inl some ↦
-          let few = suffix_len-le-length is_white front in
+          let node_bound = suffix_len-le-length is_white front in
           let at : get_or front (length front - white) 0 ≡ get_or bs (opening - white) 0 =
           get_or-take opening bs (length front - white) 0 (omega arith) ∙ ap (λ (k : ℕ). get_or bs (k - white) 0) size in
           let small = white_first front some in

@@ -15,7 +15,7 @@ use Rattle.first_pass_lines.proofs.PlaceFacts.{line_end_boundary}
 use Rattle.first_pass_names.specs.TableEntries.{no_names}
 use Rattle.first_pass_grammar.specs.declared.kind.Container.{Container}
 use Rattle.first_pass_tokens.specs.Pieces.{Inline}
-use Rattle.first_pass_tokens.specs.LineTokens.{IsLine, EndsLine, IsBreak}
+use Rattle.first_pass_tokens.specs.LineTokens.{AreLineTokens, EndsLine, IsBreak}
 use Rattle.first_pass_tokens.specs.Chains.{text_token, add_text, add_token, add_tokens, close_break, is_backslash_break}
 use Rattle.first_pass_tokens.specs.TreeTokens.{chained, with_tokens, JoinsNone, AppendsLine}
 use Rattle.first_pass_tokens.proofs.ChainLemmas.{add_text-some, with_tokens-chained, with_text-chained, appended-chained}
@@ -109,7 +109,7 @@ line_end-text path text n u b =
 
 -- one more line of a text
 lines_more : (path : List Container) (d : Document) (ix : Spot) (n : ℕ) (after : MathBraces) (chain tokens : List Item) (line_break : Option Item)
-    (t : TextLines) → IsLine d.names.texts (content_at d ix) tokens (n, line_break) after → n ≡ line_end_at d.text ix.at
+    (t : TextLines) → AreLineTokens d.names.texts (content_at d ix) tokens (n, line_break) after → n ≡ line_end_at d.text ix.at
     → ends_text (around d path) (line_rest (drop n d.text)) ≡ false → IsUtf8 d.text → IsCharBoundary d.text n
     → (
     let at : ℕ = offset (unindented (place_at n (front path (line_rest (drop n d.text))))) in
@@ -129,7 +129,7 @@ lines_more path d ix n after chain tokens line_break t line place goes u b more 
 
 -- the last line of a text
 last_by : (path : List Container) (d : Document) (ix : Spot) (n : ℕ) (after : MathBraces) (chain tokens : List Item) (line_break : Option Item)
-    (lines : List Place) → IsLine d.names.texts (content_at d ix) tokens (n, line_break) after
+    (lines : List Place) → AreLineTokens d.names.texts (content_at d ix) tokens (n, line_break) after
     → (lines ≡ []) ⊎ ((more : List Place) × (lines ≡ line_place n (drop n d.text) ∷ more)) → ends_text (around d path) (line_rest (drop n d.text)) ≡ true
     → AreTextLines d path ix chain lines (text_lines (add_tokens chain tokens) line_break lines)
 unfolding AreTextLines front
@@ -144,7 +144,7 @@ last_by path d ix n after chain tokens line_break lines line (inr (more, some)) 
     subst (λ ls. AreTextLines d path ix chain ls (text_lines (add_tokens chain tokens) line_break ls)) (sym some) p
 
 lines_last : (path : List Container) (d : Document) (ix : Spot) (n : ℕ) (after : MathBraces) (chain tokens : List Item) (line_break : Option Item)
-    → IsLine d.names.texts (content_at d ix) tokens (n, line_break) after → n ≡ line_end_at d.text ix.at
+    → AreLineTokens d.names.texts (content_at d ix) tokens (n, line_break) after → n ≡ line_end_at d.text ix.at
     → ends_text (around d path) (line_rest (drop n d.text)) ≡ true
     → AreTextLines d path ix chain (lines_from d.text (line_end_at d.text ix.at)) (text_lines (add_tokens chain tokens) line_break (lines_from d.text n))
 lines_last path d ix n after chain tokens line_break line place ends =

@@ -8,7 +8,7 @@ use Rattle.first_pass_tree.specs.Forest.{Forest, added, with_text}
 use Rattle.first_pass_lines.specs.Lines.{level_number, line_len}
 use Rattle.first_pass_tokens.specs.Chains.{is_backslash_break, add_tokens, close_break}
 use Rattle.first_pass_tokens.specs.Braces.{MathBraces, no_braces}
-use Rattle.first_pass_tokens.specs.LineTokens.{spot, IsLine}
+use Rattle.first_pass_tokens.specs.LineTokens.{spot, AreLineTokens}
 use Rattle.first_pass_tokens.specs.Pieces.{Inline}
 use Rattle.first_pass_tokens.specs.TreeTokens.{chained}
 use Rattle.first_pass_grammar.specs.Leaves.{Document, document, IsHeading, kept_len, heading_chain, heading_text_at, heading_block, text_lines, AreTextLines}
@@ -58,7 +58,7 @@ pub record AppendsHeading (texts : List CowStr) (s : Inline) (content : List ℕ
   pub tokens : List Item
   pub answer : ℕ × Option Item
   pub after : MathBraces
-  pub line : IsLine texts s tokens answer after
+  pub line : AreLineTokens texts s tokens answer after
   pub tree_is : new ≡ chained old (heading_chain (kept_len content) s.start (close_break answer.1 (add_tokens [] tokens)))
 
 -- The paragraph or setext heading of a text that begins at an offset and heads no table is added as a last child of

@@ -130,7 +130,7 @@ pub fn cut_attributes<'a>(
     ensures children { OnOk result (CutsChildren source.now.text.now start tree.old tree.new) }
     ensures entry { IfOk result (λ index. NamesEntry (names_of allocs.new) (option_map AttributesAt index)) }
     ensures open { OnOk result (tree.new.spine ≡ tree.old.spine) }
-    ensures few { OnOk result (length tree.new.nodes ≤ length tree.old.nodes) }
+    ensures node_bound { OnOk result (length tree.new.nodes ≤ length tree.old.nodes) }
 {
     // A marker before the text ends before it; no token ends after the whole text.
     let end = chain_end(tree, start).min(source.text.len());
@@ -169,7 +169,7 @@ pub fn make_heading<'a>(
         BecomesHeading (document source.now.text.now source.now.options (names_of allocs.new)) underlined.level
         underlined.broken node_ix
         tree.old tree.new) }
-    ensures few { OnOk result (length tree.new.nodes ≤ length tree.old.nodes) }
+    ensures node_bound { OnOk result (length tree.new.nodes ≤ length tree.old.nodes) }
 {
     tree.recall_forest();
     let start = tree[node_ix].start;

@@ -15,18 +15,18 @@ use Rattle.first_pass_tree.specs.Forest.{is_text}
 use Rattle.first_pass_walk.specs.Walk.{is_special}
 use Rattle.first_pass_flank.specs.declared.flank.DelimiterRun.{DelimiterRun}
 use Rattle.first_pass_flank.specs.Flank.{can_open, can_close}
-use Rattle.first_pass_tokens.specs.declared.pieces.Found.{Found}
-use Rattle.first_pass_tokens.specs.declared.pieces.Found.TheVariants.{Ready, Reference, Dashes, Dollar, OpenBrace, CloseBrace}
+use Rattle.first_pass_tokens.specs.declared.pieces.TokenStart.{TokenStart}
+use Rattle.first_pass_tokens.specs.declared.pieces.TokenStart.TheVariants.{Ready, Reference, Dashes, Dollar, OpenBrace, CloseBrace}
 use Rattle.first_pass_tokens.specs.declared.pieces.Piece.{Piece}
 use Rattle.first_pass_tokens.specs.declared.pieces.Piece.TheVariants.{Left, Begins, Token, Run}
 use Rattle.first_pass_tokens.specs.Alike.{text_among, BodiesAlike, ItemsAlike, AreAlike}
 use Rattle.first_pass_tokens.specs.Chains.{text_token, token, run_tokens, touches, add_token, add_tokens, add_text}
 use Rattle.first_pass_tokens.specs.Braces.{MathBraces, dollar_context, braces_after}
-use Rattle.first_pass_tokens.specs.NamedTexts.{NamesAmong, Becomes}
+use Rattle.first_pass_tokens.specs.NamedTexts.{NamesAmong, MakesPiece}
 use Rattle.first_pass_tokens.specs.Pieces.{Inline, found_at, special_found, reference_found, dash_found, dollar_found, special_piece, backslash_piece}
 use Rattle.first_pass_tokens.specs.Pieces.{backslash_piece_in, backquote_piece, is_delimiter, is_quote, is_too_long, run_in, run_size, run_piece}
 use Rattle.first_pass_tokens.specs.Pieces.{delimiter_piece, quote_piece, dot_piece, dash_piece, bracket_piece, run_at, size}
-use Rattle.first_pass_tokens.specs.LineTokens.{Spot, spot, ends_at, ArePieces, IsDivision, IsLine, IsCell, add_piece, add_pieces, text_end, blanks_at_end}
+use Rattle.first_pass_tokens.specs.LineTokens.{Spot, spot, content_ends_at, ArePieces, IsInPieces, AreLineTokens, IsCell, add_piece, add_pieces, text_end, blanks_at_end}
 use Rattle.first_pass_tokens.specs.LineTokens.{line_end_len, line_break}
 
 -- a kind that names a text
@@ -40,7 +40,7 @@ NamesNone (Begins dropped escaped) = Unit {0}
 NamesNone (Token dropped n body) = names_text body ≡ false
 NamesNone (Run n opens closes) = Unit {0}
 
-abbrev pub ReadyNamesNone : Found → Type 0
+abbrev pub ReadyNamesNone : TokenStart → Type 0
 ReadyNamesNone (Ready piece) = NamesNone piece
 ReadyNamesNone (Reference n c) = Unit {0}
 ReadyNamesNone (Dashes n) = Unit {0}
@@ -201,7 +201,7 @@ module _ (texts others : List CowStr) where
         (record { starts = refl; ends = refl; bodies = (iy, refl, among_same ix iy text h k) });
   }
 
-  pieces_alike : (stop at : ℕ) (b : MathBraces) (found : Found) (p q : Piece) → ReadyNamesNone found → Becomes texts b found p → Becomes others b found q
+  pieces_alike : (stop at : ℕ) (b : MathBraces) (found : TokenStart) (p q : Piece) → ReadyNamesNone found → MakesPiece texts b found p → MakesPiece others b found q
       → PiecesAlike stop at p q
   pieces_alike stop at b (Ready piece) p q none h k = rw (h, k) (piece_same stop at piece none)
   pieces_alike stop at b (Reference n c) p q none h k = rw (h.2, k.2) (named_alike stop at n h.0 k.0 _ h.1 k.1)
@@ -216,11 +216,11 @@ module _ (texts others : List CowStr) where
     gives : (cut : ℕ) (xs us : List Item) → AreAlike texts others xs us → AreAlike texts others (add_pieces cut at ps xs) (add_pieces cut at qs us)
 
   one_way : (s : Inline) (at : ℕ) (b : MathBraces) (ps : List Piece) (to : Spot) (qs : List Piece) (stop : Spot)
-      → ArePieces texts s at b ps to → ends_at s to.at ≡ true
-      → ArePieces others s at b qs stop → ends_at s stop.at ≡ true → OneWay s at ps qs to stop
+      → ArePieces texts s at b ps to → content_ends_at s to.at ≡ true
+      → ArePieces others s at b qs stop → content_ends_at s stop.at ≡ true → OneWay s at ps qs to stop
   one_way s at b [] to [] stop h f k g = record { ends = sym h ∙ k; gives = λ cut xs us are. are }
-  one_way s at b [] to (q ∷ qs) stop h f k g = absurd (true≢false (sym f ∙ ap (λ (t : Spot). ends_at s t.at) (sym h) ∙ k.0))
-  one_way s at b (p ∷ ps) to [] stop h f k g = absurd (true≢false (sym g ∙ ap (λ (t : Spot). ends_at s t.at) (sym k) ∙ h.0))
+  one_way s at b [] to (q ∷ qs) stop h f k g = absurd (true≢false (sym f ∙ ap (λ (t : Spot). content_ends_at s t.at) (sym h) ∙ k.0))
+  one_way s at b (p ∷ ps) to [] stop h f k g = absurd (true≢false (sym g ∙ ap (λ (t : Spot). content_ends_at s t.at) (sym k) ∙ h.0))
   one_way s at b (p ∷ ps) to (q ∷ qs) stop h f k g =
       let first = λ (cut : ℕ). pieces_alike cut at b (found_at s at) p q (found_none s at) h.1 k.1 in
       let same : size p ≡ size q = (first 0).sizes in
@@ -234,11 +234,11 @@ module _ (texts others : List CowStr) where
             (rest.gives cut (add_piece cut at p xs) (add_piece cut at q us) ((first cut).gives xs us are));
       }
 
-  one_division : (s : Inline) (ps qs : List Piece) (to stop : Spot) → IsDivision texts s ps to → IsDivision others s qs stop → OneWay s s.start ps qs to stop
+  one_division : (s : Inline) (ps qs : List Piece) (to stop : Spot) → IsInPieces texts s ps to → IsInPieces others s qs stop → OneWay s s.start ps qs to stop
   one_division s ps qs to stop h k = one_way s s.start s.braces ps to qs stop h.divided h.ended k.divided k.ended
 
   -- a line has only one list of tokens, except for the indices, and one end and break
-  pub one_line : (s : Inline) (tokens more : List Item) (a b : ℕ × Option Item) (c d : MathBraces) → IsLine texts s tokens a c → IsLine others s more b d
+  pub one_line : (s : Inline) (tokens more : List Item) (a b : ℕ × Option Item) (c d : MathBraces) → AreLineTokens texts s tokens a c → AreLineTokens others s more b d
       → AreAlike texts others tokens more × (a ≡ b) × (c ≡ d)
   one_line s tokens more a b c d h k =
       let same = one_division s h.pieces k.pieces (spot h.content_end c) (spot k.content_end d) h.division k.division in

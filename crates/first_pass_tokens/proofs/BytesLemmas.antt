@@ -13,7 +13,7 @@ use Rattle.first_pass_tokens.specs.declared.pieces.Piece.{Piece}
 use Rattle.first_pass_tokens.specs.declared.pieces.Piece.TheVariants.{Left, Begins, Token, Run}
 use Rattle.first_pass_tokens.specs.Pieces.{Inline, found_at, size}
 use Rattle.first_pass_tokens.specs.Chains.{text_token, token, run_tokens, touches, add_token, add_tokens, add_text, is_backslash_break, close_break, cut}
-use Rattle.first_pass_tokens.specs.LineTokens.{Spot, spot, ArePieces, IsLine, IsCell, add_piece, add_pieces, text_end, line_end_len, blanks_at_end}
+use Rattle.first_pass_tokens.specs.LineTokens.{Spot, spot, ArePieces, AreLineTokens, IsCell, add_piece, add_pieces, text_end, line_end_len, blanks_at_end}
 use Rattle.first_pass_tokens.specs.TreeTokens.{with_token, with_tokens, AppendsLine, AppendsCell}
 use Rattle.first_pass_tokens.proofs.InOrder.{AreInOrder, HaveBytes}
 use Rattle.first_pass_tokens.proofs.PieceFacts.{IsPieceAt}
@@ -23,7 +23,7 @@ use Rattle.first_pass_tokens.proofs.LineLemmas.{piece_of, piece_some}
 pub few_in_order : (text : List ℕ) (from to : ℕ) (chain : List Item) → AreInOrder text from to chain → HaveBytes chain → length chain + from ≤ to
 few_in_order text from to [] h k = omega arith
 few_in_order text from to (x ∷ xs) h k =
-    let few = few_in_order text x.«end» to xs h.4 k.1 in
+    let node_bound = few_in_order text x.«end» to xs h.4 k.1 in
     omega (arith, h.0, k.0)
 
 -- a token is appended
@@ -84,7 +84,7 @@ bytes_append (x ∷ xs) ys h k = (h.0, bytes_append xs ys h.1 k)
 
 -- the tokens of a line
 pub line_has_bytes : {texts : List CowStr} {s : Inline} {tokens : List Item} {answer : ℕ × Option Item} {after : MathBraces}
-    → IsLine texts s tokens answer after → HaveBytes tokens
+    → AreLineTokens texts s tokens answer after → HaveBytes tokens
 line_has_bytes {texts} {s} {tokens} {answer} {after} line =
     subst HaveBytes (sym line.tokens_are)
     (bytes_pieces texts s (text_end s line.content_end) s.start s.braces line.pieces (spot line.content_end after) [] line.division.divided tt)
@@ -93,7 +93,7 @@ line_has_bytes {texts} {s} {tokens} {answer} {after} line =
 pub cut_few : (e : ℕ) (chain : List Item) → length (cut e chain) ≤ length chain
 cut_few e [] = omega arith
 cut_few e (x ∷ xs) =
-    let few = cut_few e xs in
+    let node_bound = cut_few e xs in
     cond_both (nat_lt x.start e) (cut_item e x ∷ cut e xs) (if is_escaped x.body && (x.start == e) then text_token (e - 1) e false ∷ [] else [])
     (λ (ys : List Item). length ys ≤ length (x ∷ xs))
     (λ b. omega arith)
@@ -106,12 +106,12 @@ few_add [] y = omega arith
 few_add (x ∷ []) y =
     cond_both (touches x y) (record x { «end» = y.«end» } ∷ []) (x ∷ y ∷ [])
     (λ (ys : List Item). length ys ≤ length (x ∷ []) + 1) (λ b. omega arith) (λ b. omega arith)
-few_add (x ∷ z ∷ zs) y = (let few = few_add (z ∷ zs) y in omega arith)
+few_add (x ∷ z ∷ zs) y = (let node_bound = few_add (z ∷ zs) y in omega arith)
 
 few_text : (a b : ℕ) (escaped : Bool) (chain : List Item) → length (add_text a b escaped chain) ≤ length chain + 1
 few_text a b escaped chain =
-    let few = few_add chain (text_token a b escaped) in
-    cond_both (nat_lt a b) (add_token chain (text_token a b escaped)) chain (λ (ys : List Item). length ys ≤ length chain + 1) (λ c. few) (λ c. omega arith)
+    let node_bound = few_add chain (text_token a b escaped) in
+    cond_both (nat_lt a b) (add_token chain (text_token a b escaped)) chain (λ (ys : List Item). length ys ≤ length chain + 1) (λ c. node_bound) (λ c. omega arith)
 
 few_run : (at n : ℕ) (opens closes : Bool) (chain : List Item) → length (add_tokens chain (run_tokens at n opens closes)) ≤ length chain + n
 few_run at zero opens closes chain = omega arith
@@ -122,11 +122,11 @@ few_run at (suc n) opens closes chain =
     omega arith
 
 few_piece : (stop at : ℕ) (p : Piece) (chain : List Item) → 0 < size p → length (add_piece stop at p chain) ≤ length chain + size p
-few_piece stop at (Left n) chain some = (let few = few_text at (min (at + n) stop) false chain in omega arith)
+few_piece stop at (Left n) chain some = (let node_bound = few_text at (min (at + n) stop) false chain in omega arith)
 few_piece stop at (Begins dropped escaped) chain some =
-    let few = few_text (at + dropped) (min (at + (dropped + 1)) stop) escaped chain in
+    let node_bound = few_text (at + dropped) (min (at + (dropped + 1)) stop) escaped chain in
     omega arith
-few_piece stop at (Token dropped n body) chain some = (let few = few_add chain (token (at + dropped) n body) in omega arith)
+few_piece stop at (Token dropped n body) chain some = (let node_bound = few_add chain (token (at + dropped) n body) in omega arith)
 few_piece stop at (Run n opens closes) chain some = few_run at n opens closes chain
 
 few_by_pieces : (texts : List CowStr) (s : Inline) (stop at : ℕ) (b : MathBraces) (ps : List Piece) (to : Spot) (chain : List Item)
@@ -142,22 +142,22 @@ few_by_pieces texts s stop at b (p ∷ ps) to chain is =
 -- a content has at most as many tokens as bytes
 few_in_content : (texts : List CowStr) (s : Inline) (pieces : List Piece) (to : Spot) (stop : ℕ) → ArePieces texts s s.start s.braces pieces to
     → length (add_pieces stop s.start pieces []) + s.start ≤ to.at
-few_in_content texts s pieces to stop are = (let few = few_by_pieces texts s stop s.start s.braces pieces to [] are in omega arith)
+few_in_content texts s pieces to stop are = (let node_bound = few_by_pieces texts s stop s.start s.braces pieces to [] are in omega arith)
 
 -- A cell has at most as many tokens as bytes.
 pub few_in_cell : {texts : List CowStr} {s : Inline} {tokens : List Item} {end : ℕ} {after : MathBraces}
     → IsCell texts s tokens end after → length tokens + s.start ≤ end
 few_in_cell {texts} {s} {tokens} {end} {after} cell =
-    let few = few_in_content texts s cell.pieces (spot end after) (end - blanks_at_end s end) cell.division.divided in
+    let node_bound = few_in_content texts s cell.pieces (spot end after) (end - blanks_at_end s end) cell.division.divided in
     let same = ap (λ (ts : List Item). length ts) cell.tokens_are in
     omega arith
 
 -- A line has at most as many tokens as bytes.
 pub few_in_line : {texts : List CowStr} {s : Inline} {tokens : List Item} {answer : ℕ × Option Item} {after : MathBraces}
-    → IsLine texts s tokens answer after → length tokens + s.start ≤ answer.0
+    → AreLineTokens texts s tokens answer after → length tokens + s.start ≤ answer.0
 few_in_line {texts} {s} {tokens} {answer} {after} line =
     let end = line.content_end in
-    let few = few_in_content texts s line.pieces (spot end after) (text_end s end) line.division.divided in
+    let node_bound = few_in_content texts s line.pieces (spot end after) (text_end s end) line.division.divided in
     let same = ap (λ (ts : List Item). length ts) line.tokens_are in
     let answer_is : answer.0 ≡ end + line_end_len s end = ap (λ (a : ℕ × Option Item). a.0) line.answer_is in
     omega arith
@@ -189,7 +189,7 @@ few_tokens f (x ∷ xs) =
 pub few_of_line : {texts : List CowStr} {s : Inline} {old new : Forest Item} {answer : ℕ × Option Item} {after : MathBraces}
     → AppendsLine texts s old new answer after → length new.nodes ≤ length old.nodes + (answer.0 - s.start)
 few_of_line {texts} {s} {old} {new} {answer} line =
-    let few = few_in_line line.line in
+    let node_bound = few_in_line line.line in
     let tree = few_tokens old line.tokens in
     let same = ap (λ (f : Forest Item). length f.nodes) line.tree_is in
     omega arith
@@ -198,7 +198,7 @@ few_of_line {texts} {s} {old} {new} {answer} line =
 pub few_of_cell : {texts : List CowStr} {s : Inline} {old new : Forest Item} {end : ℕ} {after : MathBraces}
     → AppendsCell texts s old new end after → length new.nodes ≤ length old.nodes + (end - s.start)
 few_of_cell {texts} {s} {old} {new} {end} cell =
-    let few = few_in_cell cell.cell in
+    let node_bound = few_in_cell cell.cell in
     let tree = few_tokens old cell.tokens in
     let same = ap (λ (f : Forest Item). length f.nodes) cell.tree_is in
     omega arith

@@ -11,8 +11,8 @@ use Rattle.first_pass_items.specs.declared.item.ItemBody.TheVariants.{MaybeHtml,
 use Rattle.first_pass_tokens.specs.declared.pieces.Piece.{Piece}
 use Rattle.first_pass_tokens.specs.declared.pieces.Piece.TheVariants.{Left, Begins, Token, Run}
 use Rattle.first_pass_tokens.specs.Pieces.{Inline, found_at, size}
-use Rattle.first_pass_tokens.specs.NamedTexts.{Becomes}
-use Rattle.first_pass_tokens.specs.LineTokens.{Spot, spot, ends_at, ArePieces, IsCell}
+use Rattle.first_pass_tokens.specs.NamedTexts.{MakesPiece}
+use Rattle.first_pass_tokens.specs.LineTokens.{Spot, spot, content_ends_at, ArePieces, IsCell}
 use Rattle.first_pass_tokens.specs.MarkupBytes.{StandsOver, PipesAreEscaped, smart_char}
 use Rattle.first_pass_tokens.proofs.ReferenceBytes.{is_reference_byte, reference_at}
 use Rattle.first_pass_tokens.proofs.PieceFacts.{IsPieceAt, is_markup, run_same, delimiter_other, quote_other}
@@ -72,11 +72,11 @@ pipe_inside text at (Begins dropped escaped) k facts other low high pipe =
       | inr last ↦ facts.backslashes (k - 1) (omega arith) (omega (arith, facts.some))
     ]
 pipe_inside text at (Token dropped n body) k facts other low high pipe =
-    absurd (markup_no_pipe text (at + dropped) n body k facts.kind facts.over (omega (arith, facts.few)) (omega arith) pipe)
+    absurd (markup_no_pipe text (at + dropped) n body k facts.kind facts.over (omega (arith, facts.node_bound)) (omega arith) pipe)
 
 module _ (s : Inline) (row : s.row ≡ true) (on : has s.options tables ≡ true) where
   pipe_in : (texts : List CowStr) (b : MathBraces) (at : ℕ) (p : Piece)
-      → ends_at s at ≡ false → Becomes texts b (found_at s at) p → (k : ℕ) → at ≤ k → k < at + size p → slice_index s.text k ≡ 124
+      → content_ends_at s at ≡ false → MakesPiece texts b (found_at s at) p → (k : ℕ) → at ≤ k → k < at + size p → slice_index s.text k ≡ 124
       → (at < k) × (slice_index s.text (k - 1) ≡ 92)
   pipe_in texts b at p runs is k low high pipe =
       elim (cases_lt at k) [

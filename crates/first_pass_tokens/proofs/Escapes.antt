@@ -14,7 +14,7 @@ use Rattle.first_pass_tokens.specs.declared.pieces.Piece.{Piece}
 use Rattle.first_pass_tokens.specs.declared.pieces.Piece.TheVariants.{Left, Begins, Token, Run}
 use Rattle.first_pass_tokens.specs.Pieces.{Inline, found_at, size}
 use Rattle.first_pass_tokens.specs.Chains.{text_token, token, run_tokens, touches, add_token, add_tokens, add_text, is_backslash_break, close_break, cut}
-use Rattle.first_pass_tokens.specs.LineTokens.{Spot, spot, ArePieces, IsLine, add_piece, add_pieces, text_end}
+use Rattle.first_pass_tokens.specs.LineTokens.{Spot, spot, ArePieces, AreLineTokens, add_piece, add_pieces, text_end}
 use Rattle.first_pass_tokens.proofs.InOrder.{AreInOrder, HaveBytes}
 use Rattle.first_pass_tokens.proofs.PieceFacts.{IsPieceAt, markup_unescaped}
 use Rattle.first_pass_tokens.proofs.LineLemmas.{piece_of}
@@ -139,7 +139,7 @@ escapes_pieces texts s from stop at b (p ∷ ps) to chain are h k =
 
 -- The escaped texts of a line are directly after their backslashes.
 pub line_escapes : {texts : List CowStr} {s : Inline} {tokens : List Item} {answer : ℕ × Option Item} {after : MathBraces}
-    → IsLine texts s tokens answer after → EscapesStand s.text s.start tokens
+    → AreLineTokens texts s tokens answer after → EscapesStand s.text s.start tokens
 line_escapes {texts} {s} {tokens} {answer} {after} line =
     subst (EscapesStand s.text s.start) (sym line.tokens_are)
     (escapes_pieces texts s s.start (text_end s line.content_end) s.start s.braces line.pieces (spot line.content_end after) [] line.division.divided

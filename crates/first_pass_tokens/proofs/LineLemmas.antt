@@ -16,9 +16,9 @@ use Rattle.first_pass_tokens.specs.declared.pieces.Piece.{Piece}
 use Rattle.first_pass_tokens.specs.declared.pieces.Piece.TheVariants.{Left, Begins, Token, Run}
 use Rattle.first_pass_items.specs.declared.cow_str.CowStr.{CowStr}
 use Rattle.first_pass_tokens.specs.Braces.{MathBraces, braces_after}
-use Rattle.first_pass_tokens.specs.NamedTexts.{Becomes}
+use Rattle.first_pass_tokens.specs.NamedTexts.{MakesPiece}
 use Rattle.first_pass_tokens.specs.Pieces.{Inline, found_at, size}
-use Rattle.first_pass_tokens.specs.LineTokens.{Spot, spot, text_end, ends_at, ends_cell, ArePieces, IsDivision, IsLine, IsCell, IsBreak, EndsLine, EndsCell}
+use Rattle.first_pass_tokens.specs.LineTokens.{Spot, spot, text_end, content_ends_at, ends_cell, ArePieces, IsInPieces, AreLineTokens, IsCell, IsBreak, EndsLine, EndsCell}
 use Rattle.first_pass_tokens.specs.LineTokens.{add_piece, add_pieces, line_end_len, line_break, breaks_by_backslash, backslashes_at_end, blanks_at_end}
 use Rattle.first_pass_tokens.specs.TreeTokens.{AppendsLine, AppendsCell, with_tokens, chained, JoinsNone}
 use Rattle.first_pass_tokens.specs.Chains.{token, run_tokens, add_tokens, AreApart}
@@ -27,7 +27,7 @@ use Rattle.first_pass_tokens.proofs.ChainLemmas.{add_token-apart, add_tokens-apa
 
 -- one more piece
 pub are_more : (texts : List CowStr) (s : Inline) (at : ℕ) (b : MathBraces) (ps : List Piece) (mid : Spot) (q : Piece) → ArePieces texts s at b ps mid
-    → ends_at s mid.at ≡ false → Becomes texts mid.braces (found_at s mid.at) q
+    → content_ends_at s mid.at ≡ false → MakesPiece texts mid.braces (found_at s mid.at) q
     → ArePieces texts s at b (ps ++ q ∷ []) (spot (mid.at + size q) (braces_after (found_at s mid.at) mid.braces))
 are_more texts s at b [] mid q same on is =
     let Goes : Spot → Type 0 = λ (t : Spot). ArePieces texts s t.at t.braces (q ∷ []) (spot (mid.at + size q) (braces_after (found_at s mid.at) mid.braces)) in
@@ -47,20 +47,20 @@ pieces_reach texts s at b [] to is = (let same : at ≡ to.at = ap (λ (t : Spot
 pieces_reach texts s at b (p ∷ ps) to h = (let more = pieces_reach texts s (at + size p) (braces_after (found_at s at) b) ps to h.2 in omega arith)
 
 -- places at which no content ends
-not_ended_cell : (s : Inline) (at : ℕ) → ends_at s at ≡ false
+not_ended_cell : (s : Inline) (at : ℕ) → content_ends_at s at ≡ false
     → (at < length s.text) × (is_line_end (slice_index s.text at) ≡ false) × (ends_cell s (slice_index s.text at) ≡ false)
-unfolding ends_at
+unfolding content_ends_at
 not_ended_cell s at on =
     let b = slice_index s.text at in
     let parts = or_parts (nat_le (length s.text) at) (is_line_end b || ends_cell s b) on in
     let byte = or_parts (is_line_end b) (ends_cell s b) parts.1 in
     (leb-false (length s.text) at parts.0, byte.0, byte.1)
 
-pub not_ended : (s : Inline) (at : ℕ) → ends_at s at ≡ false → (at < length s.text) × (is_line_end (slice_index s.text at) ≡ false)
+pub not_ended : (s : Inline) (at : ℕ) → content_ends_at s at ≡ false → (at < length s.text) × (is_line_end (slice_index s.text at) ≡ false)
 not_ended s at on = (let h = not_ended_cell s at on in (h.0, h.1))
 
 -- with tables, there is no pipe at such a place in a row
-pub not_ended_pipe : (s : Inline) (at : ℕ) → s.row ≡ true → has s.options tables ≡ true → ends_at s at ≡ false → (slice_index s.text at == 124) ≡ false
+pub not_ended_pipe : (s : Inline) (at : ℕ) → s.row ≡ true → has s.options tables ≡ true → content_ends_at s at ≡ false → (slice_index s.text at == 124) ≡ false
 not_ended_pipe s at row on runs =
     let b = slice_index s.text at in
     elim (and_cases s.row (has s.options tables && b == 124) (not_ended_cell s at runs).2) [
@@ -69,7 +69,7 @@ not_ended_pipe s at row on runs =
     ]
 
 -- the piece at a place of a content
-pub piece_of : (texts : List CowStr) (b : MathBraces) (s : Inline) (at : ℕ) (p : Piece) → ends_at s at ≡ false → Becomes texts b (found_at s at) p
+pub piece_of : (texts : List CowStr) (b : MathBraces) (s : Inline) (at : ℕ) (p : Piece) → content_ends_at s at ≡ false → MakesPiece texts b (found_at s at) p
     → IsPieceAt s.text at p
 piece_of texts b s at p on is = becomes_facts texts b s.text at (found_at s at) p (found_facts s at (not_ended s at on).0) is
 
@@ -85,7 +85,7 @@ pub record IsInLine (text : List ℕ) (at : ℕ) (p : Piece) : Type 0 where
   pub fits : at + size p ≤ length text
   pub plain : (k : ℕ) → at ≤ k → k < at + size p → is_line_end (slice_index text k) ≡ false
 
-piece_in_line : (s : Inline) (at : ℕ) (p : Piece) → ends_at s at ≡ false → IsPieceAt s.text at p → IsInLine s.text at p
+piece_in_line : (s : Inline) (at : ℕ) (p : Piece) → content_ends_at s at ≡ false → IsPieceAt s.text at p → IsInLine s.text at p
 piece_in_line s at (Left n) on facts =
     let here = not_ended s at on in
     record { fits = facts.fits; plain = λ k low high. ap is_line_end (facts.same k low high) ∙ here.1 }
@@ -125,14 +125,14 @@ content_from texts s at b (p ∷ ps) to within h =
       plain = λ k low high. elim (cases_lt k (at + size p)) [ inl inside ↦ first.plain k low inside | inr following ↦ rest.plain k following high ];
     }
 
-pub content_of : {texts : List CowStr} {s : Inline} {ps : List Piece} {to : Spot} → s.start ≤ length s.text → IsDivision texts s ps to
+pub content_of : {texts : List CowStr} {s : Inline} {ps : List Piece} {to : Spot} → s.start ≤ length s.text → IsInPieces texts s ps to
     → IsContent s.text s.start to.at
 content_of {texts} {s} {ps} {to} within d = content_from texts s s.start s.braces ps to within d.divided
 
 -- the end of a content
-pub ended_by : (s : Inline) (end : ℕ) → ends_at s end ≡ true
+pub ended_by : (s : Inline) (end : ℕ) → content_ends_at s end ≡ true
     → (length s.text ≤ end) ⊎ ((is_line_end (slice_index s.text end) ≡ true) ⊎ (ends_cell s (slice_index s.text end) ≡ true))
-unfolding ends_at
+unfolding content_ends_at
 ended_by s end h =
     let b = slice_index s.text end in
     elim (or_cases (nat_le (length s.text) end) (is_line_end b || ends_cell s b) h) [
@@ -141,7 +141,7 @@ ended_by s end h =
     ]
 
 -- the same for a line
-line_ended_by : (s : Inline) (end : ℕ) → s.row ≡ false → ends_at s end ≡ true → (length s.text ≤ end) ⊎ (is_line_end (slice_index s.text end) ≡ true)
+line_ended_by : (s : Inline) (end : ℕ) → s.row ≡ false → content_ends_at s end ≡ true → (length s.text ≤ end) ⊎ (is_line_end (slice_index s.text end) ≡ true)
 line_ended_by s end plain h =
     elim (ended_by s end h) [
       | inl text ↦ inl text
@@ -166,7 +166,7 @@ begins_drop text at =
       | inr past ↦ at_drop_all (begins 10) text at past ∙ ap (λ (b : ℕ). b == 10) (sym (get_or_past text at 0 past))
     ]
 
-line_end_at : (s : Inline) (end : ℕ) → s.row ≡ false → ends_at s end ≡ true → unwrap_or (eol_len (drop end s.text)) 0 ≡ line_end_len s end
+line_end_at : (s : Inline) (end : ℕ) → s.row ≡ false → content_ends_at s end ≡ true → unwrap_or (eol_len (drop end s.text)) 0 ≡ line_end_len s end
 unfolding line_end_len
 line_end_at s end plain h =
     elim (cases_lt end (length s.text)) [
@@ -182,7 +182,7 @@ line_end_at s end plain h =
       | inr past ↦ at_drop_all (λ (bs : List ℕ). unwrap_or (eol_len bs) 0) s.text end past ∙ sym (cond-true _ _ _ (le-leb (length s.text) end past))
     ]
 
-content_len : (s : Inline) (end : ℕ) → s.row ≡ false → IsContent s.text s.start end → ends_at s end ≡ true
+content_len : (s : Inline) (end : ℕ) → s.row ≡ false → IsContent s.text s.start end → content_ends_at s end ≡ true
     → prefix_len is_content (drop s.start s.text) ≡ end - s.start
 content_len s end plain c ended =
     let order = c.order in
@@ -196,7 +196,7 @@ content_len s end plain c ended =
     ∙ elim (line_ended_by s end plain ended) [ inl past ↦ absurd (omega arith) | inr line ↦ not_from_true _ line ])
 
 -- a line ends after the line ending after its content
-line_place : (s : Inline) (end : ℕ) → s.row ≡ false → IsContent s.text s.start end → ends_at s end ≡ true
+line_place : (s : Inline) (end : ℕ) → s.row ≡ false → IsContent s.text s.start end → content_ends_at s end ≡ true
     → end + line_end_len s end ≡ s.start + line_len (drop s.start s.text)
 unfolding line_len
 line_place s end plain c ended =
@@ -294,7 +294,7 @@ break_in_line s end order within =
 
 -- the end of a line
 pub ends_line : {texts : List CowStr} {s : Inline} {tokens : List Item} {answer : ℕ × Option Item} {after : MathBraces}
-    → s.start ≤ length s.text → IsLine texts s tokens answer after → EndsLine s answer
+    → s.start ≤ length s.text → AreLineTokens texts s tokens answer after → EndsLine s answer
 ends_line {texts} {s} {tokens} {answer} {after} within line =
     let end = line.content_end in
     let c = content_of within line.division in
@@ -331,8 +331,8 @@ content_reach s end c =
     ]
 
 begun : (texts : List CowStr) (s : Inline) (at : ℕ) (b : MathBraces) (ps : List Piece) (to : Spot)
-    → ArePieces texts s at b ps to → ends_at s to.at ≡ true → ends_at s at ≡ false → at < to.at
-begun texts s at b [] to same ended on = absurd (false≢true (sym on ∙ ap (λ (t : Spot). ends_at s t.at) same ∙ ended))
+    → ArePieces texts s at b ps to → content_ends_at s to.at ≡ true → content_ends_at s at ≡ false → at < to.at
+begun texts s at b [] to same ended on = absurd (false≢true (sym on ∙ ap (λ (t : Spot). content_ends_at s t.at) same ∙ ended))
 begun texts s at b (p ∷ ps) to h ended on =
     let some = piece_some s.text at p (piece_of texts b s at p h.0 h.1) in
     let rest = pieces_reach texts s (at + size p) (braces_after (found_at s at) b) ps to h.2 in
@@ -366,7 +366,7 @@ cell_apart {texts} {s} {tokens} {end} {after} cell =
     subst AreApart (sym cell.tokens_are) (add_pieces-apart (end - blanks_at_end s end) s.start cell.pieces [] tt)
 
 pub line_apart : {texts : List CowStr} {s : Inline} {tokens : List Item} {answer : ℕ × Option Item} {after : MathBraces}
-    → IsLine texts s tokens answer after → AreApart tokens
+    → AreLineTokens texts s tokens answer after → AreApart tokens
 line_apart {texts} {s} line = subst AreApart (sym line.tokens_are) (add_pieces-apart (text_end s line.content_end) s.start line.pieces [] tt)
 
 -- a cell appended after a chain
@@ -376,6 +376,6 @@ pub appended_cell : {texts : List CowStr} {s : Inline} {old new : Forest Item} {
 appended_cell f chain h is none = h.tree_is ∙ ap (λ (g : Forest Item). with_tokens g h.tokens) is ∙ with_tokens-chained f chain h.tokens none
 
 -- a cell appended to a tree to which no text can be joined
-pub appended_cell_alone : {texts : List CowStr} {s : Inline} {old new : Forest Item} {end : ℕ} {after : MathBraces} (h : AppendsCell texts s old new end after)
+pub only_appended_cell : {texts : List CowStr} {s : Inline} {old new : Forest Item} {end : ℕ} {after : MathBraces} (h : AppendsCell texts s old new end after)
     → JoinsNone old → new ≡ chained old h.tokens
-appended_cell_alone {texts} {s} {old} h none = appended_cell old [] h refl none ∙ ap (chained old) (add_tokens-none h.tokens (cell_apart h.cell))
+only_appended_cell {texts} {s} {old} h none = appended_cell old [] h refl none ∙ ap (chained old) (add_tokens-none h.tokens (cell_apart h.cell))

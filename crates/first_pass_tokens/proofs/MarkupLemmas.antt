@@ -13,7 +13,7 @@ use Rattle.first_pass_tokens.specs.declared.pieces.Piece.TheVariants.{Left, Begi
 use Rattle.first_pass_tokens.specs.Pieces.{Inline, found_at, is_delimiter, run_at, size}
 use Rattle.first_pass_tokens.specs.MarkupBytes.{StandsOver, StandOver, HasNoBackquote, TextsHaveNoBackquote}
 use Rattle.first_pass_tokens.specs.Chains.{text_token, token, run_tokens, touches, add_token, add_tokens, add_text}
-use Rattle.first_pass_tokens.specs.LineTokens.{Spot, spot, ArePieces, IsLine, IsCell, add_piece, add_pieces, text_end, blanks_at_end}
+use Rattle.first_pass_tokens.specs.LineTokens.{Spot, spot, ArePieces, AreLineTokens, IsCell, add_piece, add_pieces, text_end, blanks_at_end}
 use Rattle.first_pass_tokens.proofs.PieceFacts.{IsPieceAt, markup_plain, run_next}
 use Rattle.first_pass_tokens.proofs.LineLemmas.{piece_of}
 
@@ -80,7 +80,7 @@ cell_over {texts} {s} {tokens} {end} {after} cell =
 
 -- the tokens of a line
 pub line_over : {texts : List CowStr} {s : Inline} {tokens : List Item} {answer : ℕ × Option Item} {after : MathBraces}
-    → IsLine texts s tokens answer after → StandOver s.text tokens
+    → AreLineTokens texts s tokens answer after → StandOver s.text tokens
 line_over {texts} {s} {tokens} {answer} {after} line =
     subst (StandOver s.text) (sym line.tokens_are)
     (over_pieces texts s (text_end s line.content_end) s.start s.braces line.pieces (spot line.content_end after) [] line.division.divided tt)
@@ -146,7 +146,7 @@ cell_spares {texts} {s} {tokens} {end} {after} cell =
 
 -- the texts of a line
 pub line_spares : {texts : List CowStr} {s : Inline} {tokens : List Item} {answer : ℕ × Option Item} {after : MathBraces}
-    → IsLine texts s tokens answer after → TextsHaveNoBackquote s.text tokens
+    → AreLineTokens texts s tokens answer after → TextsHaveNoBackquote s.text tokens
 line_spares {texts} {s} {tokens} {answer} {after} line =
     subst (TextsHaveNoBackquote s.text) (sym line.tokens_are)
     (spare_pieces texts s (text_end s line.content_end) s.start s.braces line.pieces (spot line.content_end after) [] line.division.divided tt)

@@ -6,12 +6,12 @@ use Rattle.first_pass_items.specs.declared.cow_str.CowStr.{CowStr}
 use Rattle.first_pass_tokens.specs.Braces.{MathBraces, braces_after}
 use Rattle.first_pass_items.specs.declared.item.CowIndex.{CowIndex}
 use Rattle.first_pass_items.specs.declared.item.Item.{Item}
-use Rattle.first_pass_tokens.specs.declared.pieces.Found.{Found}
-use Rattle.first_pass_tokens.specs.declared.pieces.Found.TheVariants.{Ready, Reference, Dashes, Dollar, OpenBrace, CloseBrace}
+use Rattle.first_pass_tokens.specs.declared.pieces.TokenStart.{TokenStart}
+use Rattle.first_pass_tokens.specs.declared.pieces.TokenStart.TheVariants.{Ready, Reference, Dashes, Dollar, OpenBrace, CloseBrace}
 use Rattle.first_pass_tokens.specs.declared.pieces.Piece.{Piece}
 use Rattle.first_pass_tokens.specs.Pieces.{Inline, found_at, size}
-use Rattle.first_pass_tokens.specs.NamedTexts.{NamesAmong, Becomes, AreMore}
-use Rattle.first_pass_tokens.specs.LineTokens.{Spot, ArePieces, IsDivision, IsLine, IsCell}
+use Rattle.first_pass_tokens.specs.NamedTexts.{NamesAmong, MakesPiece, AreMore}
+use Rattle.first_pass_tokens.specs.LineTokens.{Spot, ArePieces, IsInPieces, AreLineTokens, IsCell}
 
 pub more_none : (texts : List CowStr) → AreMore texts texts
 more_none texts = ([], sym (append-nil texts))
@@ -34,7 +34,7 @@ among_more new old ix text more named = (named.0, ap (λ (xs : List CowStr). sli
 pub among_last : (new old : List CowStr) (ix : CowIndex) (cow : CowStr) → ix.0 ≡ length old → new ≡ old ++ cow ∷ [] → slice_get new ix.0 ≡ Some cow
 among_last new old ix cow at is = ap (slice_get new) at ∙ ap (λ (xs : List CowStr). slice_get xs (length old)) is ∙ got_last old cow
 
-pub becomes_more : (new old : List CowStr) (b : MathBraces) (found : Found) (p : Piece) → AreMore new old → Becomes old b found p → Becomes new b found p
+pub becomes_more : (new old : List CowStr) (b : MathBraces) (found : TokenStart) (p : Piece) → AreMore new old → MakesPiece old b found p → MakesPiece new b found p
 becomes_more new old b (Ready piece) p more is = is
 becomes_more new old b (Reference n c) p more is = (is.0, among_more new old is.0 _ more is.1, is.2)
 becomes_more new old b (Dashes n) p more is = (is.0, among_more new old is.0 _ more is.1, is.2)
@@ -51,13 +51,13 @@ pieces_more new old s at b (p ∷ ps) to more h = (
   pieces_more new old s (at + size p) (braces_after (found_at s at) b) ps to more h.2,
 )
 
-division_more : {new old : List CowStr} {s : Inline} {ps : List Piece} {to : Spot} → AreMore new old → IsDivision old s ps to → IsDivision new s ps to
+division_more : {new old : List CowStr} {s : Inline} {ps : List Piece} {to : Spot} → AreMore new old → IsInPieces old s ps to → IsInPieces new s ps to
 division_more {new} {old} {s} {ps} {to} more d = record { divided = pieces_more new old s s.start s.braces ps to more d.divided; ended = d.ended }
 
 -- a line stays one while more texts are appended, and so does a cell
 pub line_more : {new old : List CowStr} {s : Inline} {tokens : List Item} {answer : ℕ × Option Item} {after : MathBraces}
-    → AreMore new old → IsLine old s tokens answer after
-    → IsLine new s tokens answer after
+    → AreMore new old → AreLineTokens old s tokens answer after
+    → AreLineTokens new s tokens answer after
 line_more more line = record {
   no_cell = line.no_cell;
   pieces = line.pieces;

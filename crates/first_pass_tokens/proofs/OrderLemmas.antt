@@ -18,7 +18,7 @@ use Rattle.first_pass_lines.proofs.PlaceFacts.{line_end_boundary}
 use Rattle.first_pass_tokens.specs.declared.pieces.Piece.{Piece}
 use Rattle.first_pass_tokens.specs.declared.pieces.Piece.TheVariants.{Left, Begins, Token, Run}
 use Rattle.first_pass_tokens.specs.Pieces.{Inline, found_at}
-use Rattle.first_pass_tokens.specs.LineTokens.{Spot, spot, ends_at, ends_cell, ArePieces, IsLine, IsCell, EndsLine, add_pieces, text_end, breaks_by_backslash}
+use Rattle.first_pass_tokens.specs.LineTokens.{Spot, spot, content_ends_at, ends_cell, ArePieces, AreLineTokens, IsCell, EndsLine, add_pieces, text_end, breaks_by_backslash}
 use Rattle.first_pass_tokens.specs.LineTokens.{backslashes_at_end, blanks_at_end, line_end_len, break_of, line_break}
 use Rattle.first_pass_tokens.specs.Chains.{text_token, token, run_tokens, touches, add_token, add_tokens, add_text, is_backslash_break, close_break}
 use Rattle.first_pass_tokens.proofs.InOrder.{AreInOrder}
@@ -231,7 +231,7 @@ abbrev IsPlaceFrom : List ℕ → ℕ → ℕ → Type 0
 IsPlaceFrom text start at = (start ≤ at) × IsCharBoundary text at
 
 -- a content ends between two characters
-pub content_boundary : (s : Inline) (end : ℕ) → end ≤ length s.text → ends_at s end ≡ true → IsCharBoundary s.text end
+pub content_boundary : (s : Inline) (end : ℕ) → end ≤ length s.text → content_ends_at s end ≡ true → IsCharBoundary s.text end
 content_boundary s end within ended =
     elim (cases_lt end (length s.text)) [
       | inl more ↦ elim (ended_by s end ended) [
@@ -357,7 +357,7 @@ cell_end_place {texts} {s} {tokens} {end} {after} within cell = content_boundary
 
 -- the tokens and the break of a line
 pub line_in_order : {texts : List CowStr} {s : Inline} {tokens : List Item} {answer : ℕ × Option Item} {after : MathBraces}
-    → IsUtf8 s.text → IsCharBoundary s.text s.start → s.start ≤ length s.text → (line : IsLine texts s tokens answer after)
+    → IsUtf8 s.text → IsCharBoundary s.text s.start → s.start ≤ length s.text → (line : AreLineTokens texts s tokens answer after)
     → LineInOrder s (text_end s line.content_end) tokens answer
 line_in_order {texts} {s} {tokens} {answer} {after} utf8 boundary within line =
     let end = line.content_end in
@@ -391,7 +391,7 @@ order_closed text from at next (Some x) chain h later following =
 
 -- the chain of a single line
 pub closed_line_in_order : {texts : List CowStr} {s : Inline} {tokens : List Item} {next : ℕ} {break : Option Item} {after : MathBraces}
-    → IsUtf8 s.text → IsCharBoundary s.text s.start → s.start ≤ length s.text → IsLine texts s tokens (next, break) after
+    → IsUtf8 s.text → IsCharBoundary s.text s.start → s.start ≤ length s.text → AreLineTokens texts s tokens (next, break) after
     → AreInOrder s.text s.start next (close_break break (add_tokens [] tokens))
 closed_line_in_order {texts} {s} {tokens} {next} {break} utf8 boundary within line =
     let l = line_in_order utf8 boundary within line in

@@ -16,14 +16,14 @@ use Rattle.first_pass_tokens.specs.declared.line.HeldText.{HeldText}
 use Rattle.first_pass_tokens.specs.declared.pieces.Piece.{Piece}
 use Rattle.first_pass_tokens.specs.declared.pieces.Piece.TheVariants.{Left, Begins, Token, Run}
 use Rattle.first_pass_tokens.specs.Chains.{token, run_tokens, add_token, add_tokens, add_text}
-use Rattle.first_pass_tokens.specs.declared.pieces.Found.{Found}
-use Rattle.first_pass_tokens.specs.declared.pieces.Found.TheVariants.{Ready, Reference, Dashes, Dollar, OpenBrace, CloseBrace}
-use Rattle.first_pass_tokens.specs.NamedTexts.{Becomes, AreMore}
+use Rattle.first_pass_tokens.specs.declared.pieces.TokenStart.{TokenStart}
+use Rattle.first_pass_tokens.specs.declared.pieces.TokenStart.TheVariants.{Ready, Reference, Dashes, Dollar, OpenBrace, CloseBrace}
+use Rattle.first_pass_tokens.specs.NamedTexts.{MakesPiece, AreMore}
 use Rattle.first_pass_tokens.specs.Pieces.{Inline, found_at, special_found, size, EndsSolid, FoundSolid}
-use Rattle.first_pass_tokens.specs.LineTokens.{Spot, spot, ends_at, ArePieces, add_piece, add_pieces, text_end, breaks_by_backslash, backslashes_at_end}
+use Rattle.first_pass_tokens.specs.LineTokens.{Spot, spot, content_ends_at, ArePieces, add_piece, add_pieces, text_end, breaks_by_backslash, backslashes_at_end}
 use Rattle.first_pass_tokens.specs.LineTokens.{blanks_at_end, line_end_len, line_break}
 use Rattle.first_pass_tokens.specs.TreeTokens.{with_tokens, AppendsLine, AppendsCell}
-use Rattle.first_pass_tokens.specs.HeldText.{held_after, tree_after, IsReadTo}
+use Rattle.first_pass_tokens.specs.HeldText.{held_after, tree_after, IsHeldTo}
 use Rattle.first_pass_tokens.proofs.PieceFacts.{IsPieceAt, IsMarkup, IsDelimiterRun, delimiter_other, markup_plain, visible_solid, off}
 use Rattle.first_pass_tokens.proofs.ChainLemmas.{add_text-none, add_text-joined, with_tokens-text, with_tokens-add, with_tokens-adds, with_token-plain}
 use Rattle.first_pass_tokens.proofs.NamedTexts.{pieces_more}
@@ -68,8 +68,8 @@ plain_cell options b plain = (or_parts (begins_cell options b) _ (or_parts (begi
 
 -- a byte that is not special is a piece by itself, and no content ends there
 plain_piece : (z : Inline) (at : ℕ)
-    → at < length z.text → is_special z.options (slice_index z.text at) ≡ false → (ends_at z at ≡ false) × (found_at z at ≡ Ready (Left 1))
-unfolding ends_at found_at
+    → at < length z.text → is_special z.options (slice_index z.text at) ≡ false → (content_ends_at z at ≡ false) × (found_at z at ≡ Ready (Left 1))
+unfolding content_ends_at found_at
 plain_piece z at within plain =
     let b = slice_index z.text at in
     let line = or_from _ _ (off b 10 z.options (special_lf z.options) plain) (off b 13 z.options (special_cr z.options) plain) in
@@ -130,8 +130,8 @@ shown_here begin at stop escaped chain order =
     ap (λ (x : ℕ). add_text begin x escaped chain) here
 
 module _ {texts : List CowStr} (z : Inline) (chain : List Item) (pending : HeldText) (at : ℕ) (b : MathBraces) (s : SoFar texts z chain pending at b)
-    (on : ends_at z at ≡ false) where
-  divided_on : (p : Piece) → Becomes texts b (found_at z at) p
+    (on : content_ends_at z at ≡ false) where
+  divided_on : (p : Piece) → MakesPiece texts b (found_at z at) p
       → ArePieces texts z z.start z.braces (s.pieces ++ p ∷ []) (spot (at + size p) (braces_after (found_at z at) b))
   divided_on p is = are_more texts z z.start z.braces s.pieces (spot at b) p s.divided on is
 
@@ -145,7 +145,7 @@ module _ {texts : List CowStr} (z : Inline) (chain : List Item) (pending : HeldT
   shown_past p stop past = shown_on p stop (omega (arith, s.upto)) ∙ ap (add_piece stop at p) (shown_here pending.begin at stop pending.escaped chain past)
 
   -- one more piece
-  pub so_far_piece : (p : Piece) → Becomes texts b (found_at z at) p → at + size p ≤ length z.text → EndsSolid z.text at p
+  pub so_far_piece : (p : Piece) → MakesPiece texts b (found_at z at) p → at + size p ≤ length z.text → EndsSolid z.text at p
       → SoFar texts z (chain_after at p pending chain) (held_after at p pending) (at + size p) (braces_after (found_at z at) b)
   so_far_piece (Left n) is fits ends = record {
     pieces = s.pieces ++ Left n ∷ [];
@@ -206,15 +206,15 @@ module _ {texts : List CowStr} (z : Inline) (chain : List Item) (pending : HeldT
 -- n bytes that are pieces of one byte
 so_far_bytes : {texts : List CowStr} (z : Inline) (chain : List Item) (pending : HeldText) (n at : ℕ) (b : MathBraces)
     → SoFar texts z chain pending at b → at + n ≤ length z.text
-    → ((k : ℕ) → at ≤ k → k < at + n → (ends_at z k ≡ false) × (found_at z k ≡ Ready (Left 1))) → SoFar texts z chain pending (at + n) b
+    → ((k : ℕ) → at ≤ k → k < at + n → (content_ends_at z k ≡ false) × (found_at z k ≡ Ready (Left 1))) → SoFar texts z chain pending (at + n) b
 so_far_bytes {texts} z chain pending zero at b s fits single =
     let here : at ≡ at + 0 = omega arith in
     subst (λ (k : ℕ). SoFar texts z chain pending k b) here s
 so_far_bytes {texts} z chain pending (suc n) at b s fits single =
     let first = single at (omega arith) (omega arith) in
     let more =
-    so_far_piece z chain pending at b s first.0 (Left 1) (subst (λ (f : Found). Becomes texts b f (Left 1)) (sym first.1) refl) (omega arith) (omega arith) in
-    let same = subst (λ (f : Found). SoFar texts z chain pending (at + 1) (braces_after f b)) first.1 more in
+    so_far_piece z chain pending at b s first.0 (Left 1) (subst (λ (f : TokenStart). MakesPiece texts b f (Left 1)) (sym first.1) refl) (omega arith) (omega arith) in
+    let same = subst (λ (f : TokenStart). SoFar texts z chain pending (at + 1) (braces_after f b)) first.1 more in
     let rest = so_far_bytes z chain pending n (at + 1) b same (omega arith) (λ k low high. single k (omega arith) (omega arith)) in
     let here : at + 1 + n ≡ at + suc n = omega arith in
     subst (λ (k : ℕ). SoFar texts z chain pending k b) here rest
@@ -318,8 +318,8 @@ read_more {new} {old} {z} {before} {tree} {pending} {to} more r =
     }
 
 -- a piece ends as the one found there does
-pub becomes_solid : (texts : List CowStr) (b : MathBraces) (text : List ℕ) (at : ℕ) (found : Found) (p : Piece)
-    → Becomes texts b found p → FoundSolid text at found
+pub becomes_solid : (texts : List CowStr) (b : MathBraces) (text : List ℕ) (at : ℕ) (found : TokenStart) (p : Piece)
+    → MakesPiece texts b found p → FoundSolid text at found
     → EndsSolid text at p
 becomes_solid texts b text at (Ready piece) p is solid = subst (EndsSolid text at) (sym is) solid
 becomes_solid texts b text at (Reference n c) p is solid = subst (EndsSolid text at) (sym is.2) solid
@@ -350,7 +350,7 @@ tree_is_after text old tree chain pending at (Run n opens closes) facts order sa
     ∙ sym (with_tokens-adds old (add_text pending.begin at pending.escaped chain) (run_tokens at n opens closes))
 
 pub read_piece : {texts : List CowStr} {z : Inline} {old tree new : Forest Item} {pending next : HeldText} {at : ℕ} {b : MathBraces} {to : Spot} (p : Piece)
-    → IsRead texts z old tree pending (spot at b) → ends_at z at ≡ false → Becomes texts b (found_at z at) p → at + size p ≤ length z.text
+    → IsRead texts z old tree pending (spot at b) → content_ends_at z at ≡ false → MakesPiece texts b (found_at z at) p → at + size p ≤ length z.text
     → EndsSolid z.text at p
     → new ≡ tree_after at p pending tree → next ≡ held_after at p pending → to ≡ spot (at + size p) (braces_after (found_at z at) b)
     → IsRead texts z old new next to
@@ -363,7 +363,7 @@ read_piece {texts} {z} {old} {tree} {new} {pending} {next} {at} {b} p r on is fi
 
 -- the whole content
 pub read_all : {texts : List CowStr} (z : Inline) (old tree : Forest Item) (pending : HeldText) (to : Spot) → IsRead texts z old tree pending to
-    → ends_at z to.at ≡ true → IsReadTo texts z old tree to pending
+    → content_ends_at z to.at ≡ true → IsHeldTo texts z old tree to pending
 read_all z old tree pending to r ended =
     let s = r.read in
     let end = to.at in
@@ -381,7 +381,7 @@ read_all z old tree pending to r ended =
 
 -- a line whose content is read, once the pending text is appended
 read_line : {texts : List CowStr} (z : Inline) (old tree new : Forest Item) (pending : HeldText) (end : ℕ) (after : MathBraces) → z.row ≡ false
-    → IsReadTo texts z old tree (spot end after) pending → new ≡ with_text tree pending.begin (text_end z end) pending.escaped
+    → IsHeldTo texts z old tree (spot end after) pending → new ≡ with_text tree pending.begin (text_end z end) pending.escaped
     → AppendsLine texts z old new (end + line_end_len z end, line_break z end) after
 read_line z old tree new pending end after plain r new_is = record {
   tokens = add_pieces (text_end z end) z.start r.pieces [];
@@ -392,7 +392,7 @@ read_line z old tree new pending end after plain r new_is = record {
 -- the same for the result at the end of a line
 pub read_ended : {texts : List CowStr} (z : Inline) (old tree new : Forest Item) (pending : HeldText) (end : ℕ) (after : MathBraces)
     (r : Result (ℕ × Option Item) AllocError)
-    → z.row ≡ false → IsReadTo texts z old tree (spot end after) pending
+    → z.row ≡ false → IsHeldTo texts z old tree (spot end after) pending
     → OnOk r ((b : MathBraces) → new ≡ with_text tree pending.begin (text_end (record z { braces = b }) end) pending.escaped)
     → IfOk r (λ a.
     (b : MathBraces) → a ≡ (end + line_end_len (record z { braces = b }) end, line_break (record z { braces = b }) end))
@@ -404,7 +404,7 @@ read_ended z old tree new pending end after (Err e) plain read new_is is = tt
 
 -- a cell whose content is read, once the pending text is appended
 pub read_cell : {texts : List CowStr} (z : Inline) (old tree new : Forest Item) (pending : HeldText) (end : ℕ) (after : MathBraces)
-    → IsReadTo texts z old tree (spot end after) pending → new ≡ with_text tree pending.begin (end - blanks_at_end z end) pending.escaped
+    → IsHeldTo texts z old tree (spot end after) pending → new ≡ with_text tree pending.begin (end - blanks_at_end z end) pending.escaped
     → AppendsCell texts z old new end after
 read_cell z old tree new pending end after r new_is = record {
   tokens = add_pieces (end - blanks_at_end z end) z.start r.pieces [];
@@ -412,6 +412,6 @@ read_cell z old tree new pending end after r new_is = record {
   tree_is = new_is ∙ r.appended (end - blanks_at_end z end) r.before_white (omega arith);
 }
 
-pub ended_by_text : (z : Inline) → ends_at z (length z.text) ≡ true
-unfolding ends_at
+pub ended_by_text : (z : Inline) → content_ends_at z (length z.text) ≡ true
+unfolding content_ends_at
 ended_by_text z = or_left _ _ (le-leb (length z.text) (length z.text) (omega arith))

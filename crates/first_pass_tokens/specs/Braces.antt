@@ -1,7 +1,7 @@
 -- Brace contexts: the braces around a dollar sign (math; this project).
 use Rattle.std.specs.Prelude.{ℕ, ◌+◌, ◌-◌, ◌%◌, ◌^◌, ◌==◌, ◌&&◌, List, [], ◌∷◌, ◌++◌, length, take, slice_index, min, nat_lt, if◌then◌else◌}
-use Rattle.first_pass_tokens.specs.declared.pieces.Found.{Found}
-use Rattle.first_pass_tokens.specs.declared.pieces.Found.TheVariants.{Ready, Reference, Dashes, Dollar, OpenBrace, CloseBrace}
+use Rattle.first_pass_tokens.specs.declared.pieces.TokenStart.{TokenStart}
+use Rattle.first_pass_tokens.specs.declared.pieces.TokenStart.TheVariants.{Ready, Reference, Dashes, Dollar, OpenBrace, CloseBrace}
 
 -- the brace contexts of a block: the numbers of the open ones, the innermost last, and the number of the next one,
 -- modulo 256 (this project)
@@ -46,7 +46,7 @@ after_close b =
     else record { stack = take (length b.stack - 1) b.stack; next = b.next })
 
 -- the brace contexts after the piece at a place (this project)
-abbrev pub braces_after : Found → MathBraces → MathBraces
+abbrev pub braces_after : TokenStart → MathBraces → MathBraces
 braces_after (Ready piece) b = b
 braces_after (Reference n c) b = b
 braces_after (Dashes n) b = b

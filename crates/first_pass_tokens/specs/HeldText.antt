@@ -8,7 +8,7 @@ use Rattle.first_pass_tokens.specs.declared.pieces.Piece.{Piece}
 use Rattle.first_pass_tokens.specs.declared.pieces.Piece.TheVariants.{Left, Begins, Token, Run}
 use Rattle.first_pass_tokens.specs.declared.line.HeldText.{HeldText}
 use Rattle.first_pass_tokens.specs.Pieces.{Inline}
-use Rattle.first_pass_tokens.specs.LineTokens.{Spot, IsDivision, add_pieces, text_end, blanks_at_end}
+use Rattle.first_pass_tokens.specs.LineTokens.{Spot, IsInPieces, add_pieces, text_end, blanks_at_end}
 use Rattle.first_pass_tokens.specs.TreeTokens.{with_tokens}
 use Rattle.first_pass_tokens.specs.Chains.{token, run_tokens}
 
@@ -30,9 +30,9 @@ tree_after at (Run n opens closes) p f = with_tokens (with_text f p.begin at p.e
 -- A content is read up to its end, with a text pending. If that text is ended at any offset, the tree has the tokens
 -- of the content up to there. The text begins before the white space at the end of the content, and before a
 -- backslash that breaks the line there (this project).
-pub record IsReadTo (texts : List CowStr) (s : Inline) (old new : Forest Item) (to : Spot) (p : HeldText) : Type 0 where
+pub record IsHeldTo (texts : List CowStr) (s : Inline) (old new : Forest Item) (to : Spot) (p : HeldText) : Type 0 where
   pub pieces : List Piece
-  pub division : IsDivision texts s pieces to
+  pub division : IsInPieces texts s pieces to
   pub before_break : p.begin ≤ text_end s to.at
   pub before_white : p.begin ≤ to.at - blanks_at_end s to.at
   pub appended : (stop : ℕ) → p.begin ≤ stop → stop ≤ to.at

@@ -15,7 +15,7 @@ use Rattle.first_pass_tokens.specs.Chains.{token, run_tokens, add_token, add_tok
 use Rattle.first_pass_items.specs.declared.cow_str.CowStr.{CowStr}
 use Rattle.first_pass_tokens.specs.Pieces.{Inline, found_at, size}
 use Rattle.first_pass_tokens.specs.Braces.{MathBraces, braces_after}
-use Rattle.first_pass_tokens.specs.NamedTexts.{Becomes}
+use Rattle.first_pass_tokens.specs.NamedTexts.{MakesPiece}
 
 -- with tables, a pipe ends the content of a cell (GFM 4.10)
 abbrev pub ends_cell : Inline → ℕ → Bool
@@ -23,8 +23,8 @@ ends_cell s b = s.row && (has s.options tables && b == pipe)
 
 -- the content ends at this place: at a line ending or the end of the text (CommonMark 2.1), or at a pipe that ends a
 -- cell; an escaped pipe is inside a piece (GFM 4.10)
-unfoldable pub ends_at : Inline → ℕ → Bool
-ends_at s at = nat_le (length s.text) at || (is_line_end (slice_index s.text at) || ends_cell s (slice_index s.text at))
+unfoldable pub content_ends_at : Inline → ℕ → Bool
+content_ends_at s at = nat_le (length s.text) at || (is_line_end (slice_index s.text at) || ends_cell s (slice_index s.text at))
 
 -- a place with the brace contexts before it (this project)
 pub record Spot : Type 0 where
@@ -39,12 +39,12 @@ spot at braces = record { at = at; braces = braces }
 abbrev pub ArePieces : List CowStr → Inline → ℕ → MathBraces → List Piece → Spot → Type 0
 ArePieces texts s at braces [] to = spot at braces ≡ to
 ArePieces texts s at braces (p ∷ ps) to =
-    (ends_at s at ≡ false) × Becomes texts braces (found_at s at) p × ArePieces texts s (at + size p) (braces_after (found_at s at) braces) ps to
+    (content_ends_at s at ≡ false) × MakesPiece texts braces (found_at s at) p × ArePieces texts s (at + size p) (braces_after (found_at s at) braces) ps to
 
 -- the content up to the end of its line, divided into pieces, with their texts among these (this project)
-pub record IsDivision (texts : List CowStr) (s : Inline) (pieces : List Piece) (to : Spot) : Type 0 where
+pub record IsInPieces (texts : List CowStr) (s : Inline) (pieces : List Piece) (to : Spot) : Type 0 where
   pub divided : ArePieces texts s s.start s.braces pieces to
-  pub ended : ends_at s to.at ≡ true
+  pub ended : content_ends_at s to.at ≡ true
 
 -- the chain with the text or the tokens of a piece after it, and no text past an offset; a dropped backslash is in no
 -- token (CommonMark 2.4)
@@ -101,11 +101,11 @@ line_break s end =
 -- The tokens of the line whose content is this, no cell's, with each text that they name among these. `answer` has
 -- the end of the line, after its line ending, and its break; `after` has the brace contexts there (CommonMark 2.4,
 -- 2.5, 6.1 to 6.8).
-pub record IsLine (texts : List CowStr) (s : Inline) (tokens : List Item) (answer : ℕ × Option Item) (after : MathBraces) : Type 0 where
+pub record AreLineTokens (texts : List CowStr) (s : Inline) (tokens : List Item) (answer : ℕ × Option Item) (after : MathBraces) : Type 0 where
   pub no_cell : s.row ≡ false
   pub pieces : List Piece
   pub content_end : ℕ
-  pub division : IsDivision texts s pieces (spot content_end after)
+  pub division : IsInPieces texts s pieces (spot content_end after)
   pub tokens_are : tokens ≡ add_pieces (text_end s content_end) s.start pieces []
   pub answer_is : answer ≡ (content_end + line_end_len s content_end, line_break s content_end)
 
@@ -114,7 +114,7 @@ pub record IsLine (texts : List CowStr) (s : Inline) (tokens : List Item) (answe
 -- and no break follows (GFM 4.10).
 pub record IsCell (texts : List CowStr) (s : Inline) (tokens : List Item) (end : ℕ) (after : MathBraces) : Type 0 where
   pub pieces : List Piece
-  pub division : IsDivision texts s pieces (spot end after)
+  pub division : IsInPieces texts s pieces (spot end after)
   pub tokens_are : tokens ≡ add_pieces (end - blanks_at_end s end) s.start pieces []
 
 -- a soft or a hard break (CommonMark 6.7, 6.8)
@@ -146,5 +146,5 @@ pub record EndsCell (s : Inline) (end : ℕ) : Type 0 where
   pub from : s.start ≤ end
   pub within : end ≤ length s.text
   pub in_line : end ≤ s.start + prefix_len is_content (drop s.start s.text)
-  pub ended : ends_at s end ≡ true
-  pub later : ends_at s s.start ≡ false → s.start < end
+  pub ended : content_ends_at s end ≡ true
+  pub later : content_ends_at s s.start ≡ false → s.start < end

@@ -7,8 +7,8 @@ use Rattle.first_pass_items.specs.declared.item.CowIndex.{CowIndex}
 use Rattle.first_pass_items.specs.declared.item.ItemBody.TheVariants.{SynthesizeText, MaybeMath}
 use Rattle.first_pass_entities.specs.Texts.{TakesNoMemory}
 use Rattle.first_pass_tokens.specs.Braces.{MathBraces, dollar_context}
-use Rattle.first_pass_tokens.specs.declared.pieces.Found.{Found}
-use Rattle.first_pass_tokens.specs.declared.pieces.Found.TheVariants.{Ready, Reference, Dashes, Dollar, OpenBrace, CloseBrace}
+use Rattle.first_pass_tokens.specs.declared.pieces.TokenStart.{TokenStart}
+use Rattle.first_pass_tokens.specs.declared.pieces.TokenStart.TheVariants.{Ready, Reference, Dashes, Dollar, OpenBrace, CloseBrace}
 use Rattle.first_pass_tokens.specs.declared.pieces.Piece.{Piece}
 use Rattle.first_pass_tokens.specs.declared.pieces.Piece.TheVariants.{Left, Token}
 
@@ -42,13 +42,13 @@ IsNamingToken texts n text piece = (ix : CowIndex) × NamesAmong texts ix text �
 -- The piece at a place after these brace contexts, with the text that it names among these. A reference names its
 -- character, a run of hyphens its dashes. A dollar sign is a token of possible math with its context; a brace is
 -- plain text (CommonMark 2.5; smart punctuation and math: this project).
-abbrev pub Becomes : List CowStr → MathBraces → Found → Piece → Type 0
-Becomes texts braces (Ready ready) piece = piece ≡ ready
-Becomes texts braces (Reference n c) piece = IsNamingToken texts n (encode_utf8 c) piece
-Becomes texts braces (Dashes n) piece = IsNamingToken texts n (dashes n) piece
-Becomes texts braces (Dollar opens closes) piece = piece ≡ Token 0 1 (MaybeMath opens closes (dollar_context braces))
-Becomes texts braces OpenBrace piece = piece ≡ Left 1
-Becomes texts braces CloseBrace piece = piece ≡ Left 1
+abbrev pub MakesPiece : List CowStr → MathBraces → TokenStart → Piece → Type 0
+MakesPiece texts braces (Ready ready) piece = piece ≡ ready
+MakesPiece texts braces (Reference n c) piece = IsNamingToken texts n (encode_utf8 c) piece
+MakesPiece texts braces (Dashes n) piece = IsNamingToken texts n (dashes n) piece
+MakesPiece texts braces (Dollar opens closes) piece = piece ≡ Token 0 1 (MaybeMath opens closes (dollar_context braces))
+MakesPiece texts braces OpenBrace piece = piece ≡ Left 1
+MakesPiece texts braces CloseBrace piece = piece ≡ Left 1
 
 -- these texts are the old ones with others after them, so each index still names the same text (this project)
 abbrev pub AreMore : List CowStr → List CowStr → Type 0
@@ -60,7 +60,7 @@ AddsOne P new old = (text : CowStr) × P text × (new ≡ old ++ text ∷ [])
 
 -- these texts are the old ones with that of the piece at a place, if it has one; the character of a reference takes
 -- no memory, nor do seven dashes or fewer (this project)
-abbrev pub AddsNamed : Found → List CowStr → List CowStr → Type 0
+abbrev pub AddsNamed : TokenStart → List CowStr → List CowStr → Type 0
 AddsNamed (Ready piece) new old = new ≡ old
 AddsNamed (Reference n c) new old = AddsOne TakesNoMemory new old
 AddsNamed (Dashes n) new old = AddsOne (λ text. (dash_counts n).0 + (dash_counts n).1 ≤ 7 → TakesNoMemory text) new old

@@ -14,8 +14,8 @@ use Rattle.first_pass_items.specs.declared.item.ItemBody.TheVariants.{Synthesize
 use Rattle.first_pass_items.specs.declared.option_set.Options.{Options}
 use Rattle.first_pass_entities.specs.Entities.{entity_at}
 use Rattle.first_pass_walk.specs.Walk.{is_special}
-use Rattle.first_pass_tokens.specs.declared.pieces.Found.{Found}
-use Rattle.first_pass_tokens.specs.declared.pieces.Found.TheVariants.{Ready, Reference, Dashes, Dollar, OpenBrace, CloseBrace}
+use Rattle.first_pass_tokens.specs.declared.pieces.TokenStart.{TokenStart}
+use Rattle.first_pass_tokens.specs.declared.pieces.TokenStart.TheVariants.{Ready, Reference, Dashes, Dollar, OpenBrace, CloseBrace}
 use Rattle.first_pass_tokens.specs.declared.pieces.Piece.{Piece}
 use Rattle.first_pass_tokens.specs.declared.pieces.Piece.TheVariants.{Left, Begins, Token, Run}
 use Rattle.first_pass_tokens.specs.declared.pieces.Content.{Content}
@@ -154,11 +154,11 @@ special_piece s at =
     else bracket_piece s.text at))))
 
 -- the piece at an ampersand: a reference if there is one, otherwise plain text (CommonMark 2.5)
-unfoldable pub reference_found : List ℕ → ℕ → Found
+unfoldable pub reference_found : List ℕ → ℕ → TokenStart
 reference_found text at = option_map_or (λ (e : ℕ × ℕ). Reference e.0 e.1) (entity_at (drop at text)) (Ready (Left 1))
 
 -- the piece at a hyphen: dashes for a run of four and more (this project)
-unfoldable pub dash_found : List ℕ → ℕ → Found
+unfoldable pub dash_found : List ℕ → ℕ → TokenStart
 dash_found text at = if nat_lt 3 (run_at text at) then Dashes (run_at text at) else Ready (dash_piece text at)
 
 -- the text has a byte at this place, and it is no white space (this project)
@@ -167,11 +167,11 @@ is_solid_at text at = nat_lt at (length text) && not (is_ascii_white (slice_inde
 
 -- the piece at a dollar sign: it can open if a byte follows that is no white space, and close if the content has such
 -- a byte before it; no byte past the end of the content counts (math; this project)
-unfoldable pub dollar_found : Inline → ℕ → Found
+unfoldable pub dollar_found : Inline → ℕ → TokenStart
 dollar_found s at = Dollar (is_solid_at s.text (at + 1)) (nat_lt s.start at && is_solid_at s.text (at - 1))
 
 -- the piece at a special byte (CommonMark 2.4, 2.5, 6.1 to 6.6; smart punctuation and math: this project)
-unfoldable pub special_found : Inline → ℕ → Found
+unfoldable pub special_found : Inline → ℕ → TokenStart
 special_found s at =
     if slice_index s.text at == ampersand then reference_found s.text at
     else (if slice_index s.text at == hyphen then dash_found s.text at
@@ -181,7 +181,7 @@ special_found s at =
     else Ready (special_piece s at)))))
 
 -- the piece at a place: a byte that is not special is plain text (CommonMark 6.9, textual content)
-unfoldable pub found_at : Inline → ℕ → Found
+unfoldable pub found_at : Inline → ℕ → TokenStart
 found_at s at = if is_special s.options (slice_index s.text at) then special_found s at else Ready (Left 1)
 
 -- the number of bytes that a piece takes (this project)
@@ -192,7 +192,7 @@ size (Token dropped n body) = dropped + n
 size (Run n opens closes) = n
 
 -- the number of bytes of the piece found at a place (this project)
-abbrev pub found_size : Found → ℕ
+abbrev pub found_size : TokenStart → ℕ
 found_size (Ready piece) = size piece
 found_size (Reference n c) = n
 found_size (Dashes n) = n
@@ -209,7 +209,7 @@ EndsSolid text at (Token dropped n body) = 0 < n
 EndsSolid text at (Run n opens closes) = 0 < n
 
 -- the same for the piece found at a place (this project)
-abbrev pub FoundSolid : List ℕ → ℕ → Found → Type 0
+abbrev pub FoundSolid : List ℕ → ℕ → TokenStart → Type 0
 FoundSolid text at (Ready piece) = EndsSolid text at piece
 FoundSolid text at (Reference n c) = 0 < n
 FoundSolid text at (Dashes n) = 0 < n

@@ -5,7 +5,7 @@ use Rattle.first_pass_items.specs.declared.item.Item.{Item}
 use Rattle.first_pass_tree.specs.Forest.{Forest, appended, is_text, joins_at, with_end}
 use Rattle.first_pass_tokens.specs.Braces.{MathBraces}
 use Rattle.first_pass_tokens.specs.Pieces.{Inline}
-use Rattle.first_pass_tokens.specs.LineTokens.{IsLine, IsCell}
+use Rattle.first_pass_tokens.specs.LineTokens.{AreLineTokens, IsCell}
 
 -- the tree with a token after its nodes: a text is joined to the current node if that is a text that ends where it
 -- begins (this project)
@@ -35,7 +35,7 @@ JoinsNone f = (at : ℕ) → joins_at f at f.current ≡ false
 -- these; `after` has the brace contexts after the line (CommonMark 2.4, 2.5, 6.1 to 6.8)
 pub record AppendsLine (texts : List CowStr) (s : Inline) (old new : Forest Item) (answer : ℕ × Option Item) (after : MathBraces) : Type 0 where
   pub tokens : List Item
-  pub line : IsLine texts s tokens answer after
+  pub line : AreLineTokens texts s tokens answer after
   pub tree_is : new ≡ with_tokens old tokens
 
 -- the new tree is the old one with the tokens of the cell whose content is this, with each text that they name among

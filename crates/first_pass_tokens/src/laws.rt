@@ -10,14 +10,14 @@ ghost use Rattle.first_pass_tokens.specs.Braces.{MathBraces};
 ghost use Rattle.first_pass_tokens.specs.Pieces.{Inline};
 ghost use Rattle.first_pass_tokens.specs.Alike.{AreAlike};
 ghost use Rattle.first_pass_tokens.specs.Chains.{AreApart};
-ghost use Rattle.first_pass_tokens.specs.LineTokens.{Spot, IsLine, IsCell, IsDivision};
+ghost use Rattle.first_pass_tokens.specs.LineTokens.{Spot, AreLineTokens, IsCell, IsInPieces};
 ghost use Rattle.first_pass_tokens.specs.MarkupBytes.{StandOver, TextsHaveNoBackquote, PipesAreEscaped};
 
 /// A line has only one list of tokens (except for the indices of the texts that they name), one end and break, and
 /// one list of brace contexts after it.
 pub fn one_line()
     ensures { (texts more : List CowStr) (s : Inline) (tokens others : List Item) (a b : ℕ × Option Item)
-        (c d : MathBraces) → IsLine texts s tokens a c → IsLine more s others b d
+        (c d : MathBraces) → AreLineTokens texts s tokens a c → AreLineTokens more s others b d
         → AreAlike texts more tokens others × (a ≡ b) × (c ≡ d) }
 {}
 
@@ -38,14 +38,14 @@ pub fn cell_has_no_other_pipe()
 /// The content of a line or a cell has no line ending.
 pub fn content_has_no_line_end()
     ensures { (texts : List CowStr) (s : Inline) (pieces : List Piece) (to : Spot) → s.start ≤ length s.text
-        → IsDivision texts s pieces to
+        → IsInPieces texts s pieces to
         → (k : ℕ) → s.start ≤ k → k < to.at → is_line_end (slice_index s.text k) ≡ false }
 {}
 
 /// No token of a line or a cell touches the one before it: texts that touch are one text.
 pub fn line_is_joined()
     ensures line { (texts : List CowStr) (s : Inline) (tokens : List Item) (answer : ℕ × Option Item)
-        (after : MathBraces) → IsLine texts s tokens answer after
+        (after : MathBraces) → AreLineTokens texts s tokens answer after
         → AreApart tokens }
     ensures cell { (texts : List CowStr) (s : Inline) (tokens : List Item) (end : ℕ) (after : MathBraces)
         → IsCell texts s tokens end after → AreApart tokens }
@@ -56,7 +56,7 @@ pub fn line_is_joined()
 /// (6.3, 6.4); a quote, or the bytes that its character replaces.
 pub fn markup_has_its_bytes()
     ensures line { (texts : List CowStr) (s : Inline) (tokens : List Item) (answer : ℕ × Option Item)
-        (after : MathBraces) → IsLine texts s tokens answer after
+        (after : MathBraces) → AreLineTokens texts s tokens answer after
         → StandOver s.text tokens }
     ensures cell { (texts : List CowStr) (s : Inline) (tokens : List Item) (end : ℕ) (after : MathBraces)
         → IsCell texts s tokens end after → StandOver s.text tokens }
@@ -65,7 +65,7 @@ pub fn markup_has_its_bytes()
 /// No text of a line or a cell has a backquote, escaped or not (CommonMark 6.1).
 pub fn texts_have_no_backquote()
     ensures line { (texts : List CowStr) (s : Inline) (tokens : List Item) (answer : ℕ × Option Item)
-        (after : MathBraces) → IsLine texts s tokens answer after
+        (after : MathBraces) → AreLineTokens texts s tokens answer after
         → TextsHaveNoBackquote s.text tokens }
     ensures cell { (texts : List CowStr) (s : Inline) (tokens : List Item) (end : ℕ) (after : MathBraces)
         → IsCell texts s tokens end after → TextsHaveNoBackquote s.text tokens }

@@ -9,10 +9,10 @@ ghost use Rattle.first_pass_tree.specs.Forest.{with_text};
 ghost use Rattle.first_pass_tokens.specs.Braces.{MathBraces};
 ghost use Rattle.first_pass_tokens.specs.NamedTexts.{AreMore};
 ghost use Rattle.first_pass_tokens.specs.Pieces.{source, content_in, text_upto, size};
-ghost use Rattle.first_pass_tokens.specs.LineTokens.{spot, line_end_len, text_end, break_of, line_break, ends_at, EndsLine, EndsCell};
+ghost use Rattle.first_pass_tokens.specs.LineTokens.{spot, line_end_len, text_end, break_of, line_break, content_ends_at, EndsLine, EndsCell};
 ghost use Rattle.first_pass_tokens.specs.TreeTokens.{with_tokens, AppendsLine, AppendsCell};
 ghost use Rattle.first_pass_tokens.specs.Chains.{run_tokens};
-ghost use Rattle.first_pass_tokens.specs.HeldText.{held_after, tree_after, IsReadTo};
+ghost use Rattle.first_pass_tokens.specs.HeldText.{held_after, tree_after, IsHeldTo};
 
 use crate::braces::BraceContexts;
 use crate::named::named_piece;
@@ -122,7 +122,7 @@ fn append_pieces(
     requires within { content.start ≤ length text.now }
     requires marks { MarksSpecial content.special.now content.options }
     ensures read { IfOk result (λ answer.
-        IsReadTo texts.new.items (content_in text.now content.entry braces.old) tree.old tree.new
+        IsHeldTo texts.new.items (content_in text.now content.entry braces.old) tree.old tree.new
         (spot answer.0 braces.new) answer.1) }
     ensures more { OnOk result (AreMore texts.new.items texts.old.items) }
     ensures order { IfOk result (λ answer. content.entry.start ≤ answer.0) }
@@ -134,7 +134,7 @@ fn append_pieces(
     };
     let mut from = content.start;
     while let Some(at) = next_special_in_words(content.special, text, from) {
-        if ends_at(text, content, at) {
+        if content_ends_at(text, content, at) {
             return Ok((at, pending));
         }
         let found = special_found(text, content, at);
@@ -147,10 +147,10 @@ fn append_pieces(
 
 // Whether the content ends at a byte: at a line ending, or at a pipe in a row.
 #[inline(always)]
-#[tactic(auto, unfolding(crate::specs::LineTokens::ends_at))]
-fn ends_at(text: &[u8], content: Content<'_>, at: usize) -> bool
+#[tactic(auto, unfolding(crate::specs::LineTokens::content_ends_at))]
+fn content_ends_at(text: &[u8], content: Content<'_>, at: usize) -> bool
     requires { at < length text.now }
-    ensures { (b : MathBraces) → result ≡ ends_at (content_in text.now content.entry b) at }
+    ensures { (b : MathBraces) → result ≡ content_ends_at (content_in text.now content.entry b) at }
 {
     let byte = text[at];
     is_line_end(byte)

@@ -6,10 +6,10 @@ ghost use Rattle.first_pass_items.specs.CowText.{text_of};
 ghost use Rattle.first_pass_entities.specs.Texts.{TakesNoMemory};
 ghost use Rattle.first_pass_tokens.specs.Pieces.{found_size, size};
 ghost use Rattle.first_pass_tokens.specs.Braces.{braces_after};
-ghost use Rattle.first_pass_tokens.specs.NamedTexts.{times, dash_counts, dashes, IsNamingToken, Becomes, AreMore, AddsNamed};
+ghost use Rattle.first_pass_tokens.specs.NamedTexts.{times, dash_counts, dashes, IsNamingToken, MakesPiece, AreMore, AddsNamed};
 
 use crate::braces::BraceContexts;
-use crate::pieces::{Found, Piece};
+use crate::pieces::{Piece, TokenStart};
 use first_pass_items::cow_str::{CowStr, InlineStr};
 use first_pass_items::item::{CowIndex, ItemBody};
 use std::alloc::{AllocError, Global};
@@ -21,33 +21,33 @@ use std::alloc::{AllocError, Global};
 pub fn named_piece<'a>(
     texts: &mut Vec<CowStr<'a>>,
     braces: &mut BraceContexts,
-    found: Found,
+    found: TokenStart,
 ) -> Result<Piece, AllocError>
-    ensures becomes { IfOk result (λ piece. Becomes texts.new.items braces.old found piece) }
+    ensures becomes { IfOk result (λ piece. MakesPiece texts.new.items braces.old found piece) }
     ensures braces { OnOk result (braces.new ≡ braces_after found braces.old) }
     ensures more { OnOk result (AreMore texts.new.items texts.old.items) }
     ensures adds { OnOk result (AddsNamed found texts.new.items texts.old.items) }
     ensures size { IfOk result (λ piece. size piece ≡ found_size found) }
 {
     match found {
-        Found::Ready(piece) => Ok(piece),
-        Found::Reference(n, character) => {
+        TokenStart::Ready(piece) => Ok(piece),
+        TokenStart::Reference(n, character) => {
             name_text(texts, CowStr::Inlined(InlineStr::from_char(character)), n)
         }
-        Found::Dashes(n) => {
+        TokenStart::Dashes(n) => {
             let text = dash_text(*texts.allocator(), n)?;
             name_text(texts, text, n)
         }
-        Found::Dollar(opens, closes) => {
+        TokenStart::Dollar(opens, closes) => {
             let context = braces.dollar();
             braces.pass_dollar();
             Ok(Piece::Token(0, 1, ItemBody::MaybeMath(opens, closes, context)))
         }
-        Found::OpenBrace => {
+        TokenStart::OpenBrace => {
             braces.open();
             Ok(Piece::Left(1))
         }
-        Found::CloseBrace => {
+        TokenStart::CloseBrace => {
             braces.close();
             Ok(Piece::Left(1))
         }
@@ -89,7 +89,7 @@ fn dash_text<'a>(alloc: Global, n: usize) -> Result<CowStr<'a>, AllocError>
 #[tactic(auto, unfolding(crate::specs::NamedTexts::dash_counts))]
 fn dash_counts(n: usize) -> (usize, usize)
     ensures value { result ≡ dash_counts n }
-    ensures few { 2 * (result.0 + result.1) ≤ n + 4 }
+    ensures node_bound { 2 * (result.0 + result.1) ≤ n + 4 }
 {
     if n % 3 == 0 {
         (n / 3, 0)

@@ -45,7 +45,7 @@ pub enum Piece {
 /// A piece at a place of a content, or one that `named_piece` completes with the texts that tokens name and the brace
 /// contexts.
 #[derive(Clone, Copy, Drop)]
-pub enum Found {
+pub enum TokenStart {
     /// A piece that names no text.
     Ready(Piece),
     /// A reference: its length in bytes, and its character.
@@ -65,7 +65,7 @@ pub enum Found {
 /// `at` is the offset of the byte into the whole text, and `text` is that text up to the end of the content.
 #[inline(always)]
 #[tactic(auto, unfolding(crate::specs::Pieces::special_found))]
-pub fn special_found(text: &[u8], content: Content<'_>, at: usize) -> Found
+pub fn special_found(text: &[u8], content: Content<'_>, at: usize) -> TokenStart
     requires utf8 { IsUtf8 content.whole.now }
     requires front { text.now ≡ take (length text.now) content.whole.now }
     requires within { at < length text.now }
@@ -78,15 +78,15 @@ pub fn special_found(text: &[u8], content: Content<'_>, at: usize) -> Found
         b'&' => reference_found(text, at),
         b'-' => dash_found(text, at),
         b'$' => dollar_found(text, content, at),
-        b'{' => Found::OpenBrace,
-        b'}' => Found::CloseBrace,
-        _ => Found::Ready(special_piece(text, content, at)),
+        b'{' => TokenStart::OpenBrace,
+        b'}' => TokenStart::CloseBrace,
+        _ => TokenStart::Ready(special_piece(text, content, at)),
     }
 }
 
 // The piece found at a dollar sign.
 #[tactic(auto, unfolding(crate::specs::Pieces::dollar_found))]
-fn dollar_found(text: &[u8], content: Content<'_>, at: usize) -> Found
+fn dollar_found(text: &[u8], content: Content<'_>, at: usize) -> TokenStart
     requires { at < length text.now }
     ensures value { (b : MathBraces) → result ≡ dollar_found (content_in text.now content.entry b) at }
     ensures one { found_size result ≡ 1 }
@@ -94,7 +94,7 @@ fn dollar_found(text: &[u8], content: Content<'_>, at: usize) -> Found
 {
     let opens = is_solid_at(text, at + 1);
     let closes = content.start < at && is_solid_at(text, at - 1);
-    Found::Dollar(opens, closes)
+    TokenStart::Dollar(opens, closes)
 }
 
 // Whether there is a byte at a place that is no white space.
@@ -106,21 +106,21 @@ fn is_solid_at(text: &[u8], at: usize) -> bool
 
 // The piece found at an ampersand.
 #[tactic(auto, unfolding(crate::specs::Pieces::reference_found))]
-fn reference_found(text: &[u8], at: usize) -> Found
+fn reference_found(text: &[u8], at: usize) -> TokenStart
     requires { at < length text.now }
     ensures value { result ≡ reference_found text.now at }
     ensures fits { at + found_size result ≤ length text.now }
     ensures ends { FoundSolid text.now at result }
 {
     match scan_reference(rest_of(text, at)) {
-        Some((len, character)) => Found::Reference(len, character),
-        None => Found::Ready(Piece::Left(1)),
+        Some((len, character)) => TokenStart::Reference(len, character),
+        None => TokenStart::Ready(Piece::Left(1)),
     }
 }
 
 // The piece found at a hyphen.
 #[tactic(auto, unfolding(crate::specs::Pieces::dash_found, crate::specs::Pieces::dash_piece))]
-fn dash_found(text: &[u8], at: usize) -> Found
+fn dash_found(text: &[u8], at: usize) -> TokenStart
     requires within { at < length text.now }
     requires here { slice_index text.now at ≡ hyphen }
     ensures value { result ≡ dash_found text.now at }
@@ -128,10 +128,10 @@ fn dash_found(text: &[u8], at: usize) -> Found
     ensures ends { FoundSolid text.now at result }
 {
     match run_len(text, at) {
-        2 => Found::Ready(Piece::Token(0, 2, ItemBody::SynthesizeChar('\u{2013}'))),
-        3 => Found::Ready(Piece::Token(0, 3, ItemBody::SynthesizeChar('\u{2014}'))),
-        n if n > 3 => Found::Dashes(n),
-        n => Found::Ready(Piece::Left(n)),
+        2 => TokenStart::Ready(Piece::Token(0, 2, ItemBody::SynthesizeChar('\u{2013}'))),
+        3 => TokenStart::Ready(Piece::Token(0, 3, ItemBody::SynthesizeChar('\u{2014}'))),
+        n if n > 3 => TokenStart::Dashes(n),
+        n => TokenStart::Ready(Piece::Left(n)),
     }
 }
 

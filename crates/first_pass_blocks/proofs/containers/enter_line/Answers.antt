@@ -57,7 +57,7 @@ returns-then-is_some-clause-entered c =
     let same = ap count c.read_blank_line.ensures in
     let unchanged = blank_count now in
     let before = ap count is in
-    let few = ended_count options start closed in
+    let node_bound = ended_count options start closed in
     let first = kept.count in
     record {
       ready = λ names defined ready.
@@ -73,7 +73,7 @@ returns-then-is_some-clause-entered c =
           (kept.all_kept (handed_whole options text c.args.reading.now start c.scan_front-front.result.kept
           _ (left a) refl c.scan_front-front.ensures.within c.scan_front-front.ensures.taken
           c.scan_front-front.ensures.stops h).0)) ordered));
-      few = λ first grows. omega arith;
+      node_bound = λ first grows. omega arith;
       named = λ names h. subst (AreReadNamed names) (sym c.read_blank_line.ensures) (blank_named names now
           (subst (AreReadNamed names) (sym is) (ended_named options names start closed (kept.named names h))));
       whole = λ names h. subst (IsReadWhole names) (sym c.read_blank_line.ensures) (blank_whole names now
@@ -96,12 +96,12 @@ returns-clause-entered c =
     let same = ap count c.finish_empty_list_item.ensures in
     let item = item_finished_count now in
     let before = ap count is in
-    let few = ended_count options start closed in
+    let node_bound = ended_count options start closed in
     let first = kept.count in
     let here = line_kept source.options text start c.scan_front-front.result.kept c.args.reading.now.tree (left a) c.scan_front-front.ensures.utf8
     c.requires.boundary c.scan_front-front.ensures.taken in (
       (here.0, refl, here.1),
-      ap (λ (q : Reading). q.empty_item) c.finish_empty_list_item.ensures ∙ finished_none now,
+      ap (λ (q : Reading). q.begin_list_item) c.finish_empty_list_item.ensures ∙ finished_none now,
       record {
         ready = λ names defined ready.
             let d : Document = document text source.options names in
@@ -116,7 +116,7 @@ returns-clause-entered c =
             (λ h. let some = (handed_whole source.options text c.args.reading.now start c.scan_front-front.result.kept _ (left a)
             refl c.scan_front-front.ensures.within c.scan_front-front.ensures.taken c.scan_front-front.ensures.stops h).1 in
             let none = blank a ∙ c.if-is_some.false in cc) ordered));
-        few = λ first grows. omega arith;
+        node_bound = λ first grows. omega arith;
         named = λ names h. subst (AreReadNamed names) (sym c.finish_empty_list_item.ensures) (item_finished_named names now
             (subst (AreReadNamed names) (sym is) (ended_named options names start closed (kept.named names h))));
         whole = λ names h. subst (IsReadWhole names) (sym c.finish_empty_list_item.ensures) (item_finished_whole names now

@@ -32,7 +32,7 @@ loop-ix-init c = record {
   order = inl c.in_ok-pass.ensures.order;
   named = c.in_ok-pass.ensures.named;
   written = none_written c.args.text.now c.in_ok-pass.pass.allocs c.in_ok-pass.ensures.tables;
-  few = (let root = c.in_ok-pass.ensures.root in let most = own_at_most None c.in_ok-pass.pass.reading.tree.nodes in omega arith);
+  node_bound = (let root = c.in_ok-pass.ensures.root in let most = own_at_most None c.in_ok-pass.pass.reading.tree.nodes in omega arith);
 }
 
 both_same : {t u : List ℕ} {o w : Options} → t ≡ u → o ≡ w → ◌≡◌ {A = List ℕ × Options} (t, o) (u, w)
@@ -71,7 +71,7 @@ loop-ix-preserved c =
           (both_same i.same_text i.same_options) e.order i.order);
       named = e.named i.named;
       written = subst (λ t. TablesAreWritten t pass.allocs → TablesAreWritten t new.allocs) i.same_text e.written i.written;
-      few = (let read = i.few in let grows = e.few in let later = e.later in let on = more_lines.later in omega arith);
+      node_bound = (let read = i.node_bound in let grows = e.node_bound in let later = e.later in let on = more_lines.later in omega arith);
     }
 
 -- At the end of the text no block has ended at a blank line.
@@ -129,17 +129,17 @@ returns-clause-order c =
     let same : c.loop-ix.ix ≡ n = omega arith in
     let closes = c.close_containers.ensures.kept.order text in
     let here : IsReadTo text now n = closes (omega arith) last (subst (IsReadTo text read) same order) in
-    ordered_whole text now.tree (reached now.empty_item n) (all_closed c) here.0.ordered
+    ordered_whole text now.tree (reached now.begin_list_item n) (all_closed c) here.0.ordered
 
 pub returns-clause-own : goal.returns-clause-own
 returns-clause-own c =
-    let read = c.loop-ix.invariant.few in
+    let read = c.loop-ix.invariant.node_bound in
     let within = c.loop-ix.invariant.boundary.0 in
     let closed = c.close_containers.ensures.kept.count in
     omega arith
 
-pub returns-clause-few : goal.returns-clause-few
-returns-clause-few c =
+pub returns-clause-node_bound : goal.returns-clause-node_bound
+returns-clause-node_bound c =
     let own = returns-clause-own c in
     let all = all_nodes (names_of c.loop-ix.pass.allocs) c.close_containers.new.reading.tree.nodes (returns-clause-whole c) in
     omega arith

@@ -20,7 +20,7 @@ invariant-loop-ix l = record {
   order : IsReadFrom l.fn.options l.text l.pass.reading l.ix;
   named : AreNamed (names_of l.pass.allocs) l.pass.reading.tree.nodes;
   written : TablesAreWritten l.text l.pass.allocs;
-  few : own_nodes l.pass.reading.tree.nodes ≤ 1 + 4 * l.ix;
+  node_bound : own_nodes l.pass.reading.tree.nodes ≤ 1 + 4 * l.ix;
 }
 
 abbrev pub decreases-loop-ix : goal.decreases-loop-ix

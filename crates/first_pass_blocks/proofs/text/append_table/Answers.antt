@@ -7,18 +7,18 @@ use Rattle.first_pass_names.specs.TableEntries.{names_of}
 use Rattle.first_pass_names.proofs.NameLemmas.{extends_none, extends_both, extends_alignments, alignments_last}
 use Rattle.first_pass_open.proofs.PathLemmas.{open_are_in}
 use Rattle.first_pass_tables.specs.Appends.{AppendsRows}
-use Rattle.first_pass_blocks.proofs.TextsAre.{opened_alone, line_bounds, body_at, table_text, table_between}
+use Rattle.first_pass_blocks.proofs.TextsAre.{only_opened, line_bounds, body_at, table_text, table_between}
 use Rattle.first_pass_blocks.proofs.text.append_table.Goals as goal
 
 pub parse_table-requires-clause-body : goal.parse_table-requires-clause-body
 parse_table-requires-clause-body c =
     let text = c.args.source.now.text.now in
-    let body_is = body_at text c.args.start c.args.table.head_len c.requires.head in
+    let body_is = body_at text c.args.start c.args.table.table_head_len c.requires.head in
     let utf8 = c.requires.utf8 in
     subst (IsCharBoundary text) (sym body_is) (line_bounds text _ utf8 (line_bounds text c.args.start utf8 c.requires.boundary))
 
 pub parse_table-requires-clause-open : goal.parse_table-requires-clause-open
-parse_table-requires-clause-open c = opened_alone c.args.tree.now c.open_block.new.tree c.args.start c.in_ok-index.index c.in_ok-open_block.ensures.tree
+parse_table-requires-clause-open c = only_opened c.args.tree.now c.open_block.new.tree c.args.start c.in_ok-index.index c.in_ok-open_block.ensures.tree
 
 -- the names after the table's rows are read extend those with its alignments
 grown_table : (c : goal.In_ok-next) → Extends (names_of c.parse_table.new.allocs) (names_of c.allocate_alignment.new.self)
@@ -45,27 +45,27 @@ returns-clause-more c =
 pub returns-clause-block : goal.returns-clause-block
 returns-clause-block c = λ marker.
     let text = c.args.source.now.text.now in
-    let body_is = body_at text c.args.start c.args.table.head_len c.requires.head in
+    let body_is = body_at text c.args.start c.args.table.table_head_len c.requires.head in
     let old = c.args.tree.now in
     let names = names_of c.parse_table.new.allocs in
     let ix = c.in_ok-index.index in
     let alignments = c.args.table.alignments.items in
     let opened = c.in_ok-open_block.ensures.tree in
     let rows = subst (λ (f : Forest Item). AppendsRows (document text c.args.source.now.options names) (length alignments) c.args.start
-    (c.args.start + c.args.table.head_len) f
+    (c.args.start + c.args.table.table_head_len) f
     c.parse_table.new.tree c.in_ok-next.next) opened
-    (subst (λ n. AppendsRows (document text c.args.source.now.options names) n c.args.start (c.args.start + c.args.table.head_len)
+    (subst (λ n. AppendsRows (document text c.args.source.now.options names) n c.args.start (c.args.start + c.args.table.table_head_len)
     c.open_block.new.tree c.parse_table.new.tree
     c.in_ok-next.next) (c.len.ensures ∙ c.args.table.alignments.ok.0) c.in_ok-next.ensures.rows) in
     let there = open_are_in old.nodes old.spine c.recall_forest.ensures.opened in
-    table_text text c.args.source.now.options names c.args.start (c.args.start + c.args.table.head_len) c.in_ok-next.next ix alignments old
+    table_text text c.args.source.now.options names c.args.start (c.args.start + c.args.table.table_head_len) c.in_ok-next.next ix alignments old
     c.parse_table.new.tree rows there
     (named_yet c) body_is c.requires.headed marker
 
 pub returns-clause-fits : goal.returns-clause-fits
 returns-clause-fits c = λ from low.
     let text = c.args.source.now.text.now in
-    let body_is = body_at text c.args.start c.args.table.head_len c.requires.head in
+    let body_is = body_at text c.args.start c.args.table.table_head_len c.requires.head in
     let utf8 = c.requires.utf8 in
     let old = c.args.tree.now in
     let names = names_of c.parse_table.new.allocs in
@@ -73,13 +73,13 @@ returns-clause-fits c = λ from low.
     let alignments = c.args.table.alignments.items in
     let opened = c.in_ok-open_block.ensures.tree in
     let rows = subst (λ (f : Forest Item). AppendsRows (document text c.args.source.now.options names) (length alignments) c.args.start
-    (c.args.start + c.args.table.head_len) f
+    (c.args.start + c.args.table.table_head_len) f
     c.parse_table.new.tree c.in_ok-next.next) opened
-    (subst (λ n. AppendsRows (document text c.args.source.now.options names) n c.args.start (c.args.start + c.args.table.head_len)
+    (subst (λ n. AppendsRows (document text c.args.source.now.options names) n c.args.start (c.args.start + c.args.table.table_head_len)
     c.open_block.new.tree c.parse_table.new.tree
     c.in_ok-next.next) (c.len.ensures ∙ c.args.table.alignments.ok.0) c.in_ok-next.ensures.rows) in
     let there = open_are_in old.nodes old.spine c.recall_forest.ensures.opened in
-    table_between text c.args.source.now.options names c.args.start (c.args.start + c.args.table.head_len) c.in_ok-next.next ix alignments old
+    table_between text c.args.source.now.options names c.args.start (c.args.start + c.args.table.table_head_len) c.in_ok-next.next ix alignments old
     c.parse_table.new.tree rows
     there
     (named_yet c) body_is c.requires.headed (extends_none names) utf8 c.requires.boundary from low

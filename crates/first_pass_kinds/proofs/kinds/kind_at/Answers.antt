@@ -4,7 +4,7 @@ use Rattle.first_pass_lines.specs.Lines.{blank_len, atx_level}
 use Rattle.first_pass_lines.specs.Rest.{Rest}
 use Rattle.first_pass_lines.specs.Places.{place_at, IsPlaceOf}
 use Rattle.first_pass_grammar.specs.Kinds.{all_taken, html_kind, last_kind, IsKind}
-use Rattle.first_pass_kinds.specs.Found.{kind_of, IsFoundWith}
+use Rattle.first_pass_kinds.specs.BlockStart.{kind_of, IsFoundWith}
 use Rattle.first_pass_kinds.proofs.KindLemmas.{few_columns, many_columns, blank_kind, code_kind, past_columns, found_early, tag_found, tag_absent}
 use Rattle.first_pass_kinds.proofs.KindLemmas.{metadata_here, html_here, tag_here, last_here, found_html}
 use Rattle.first_pass_open.proofs.PlainLemmas.{plain_all, plain_few}
@@ -53,24 +53,24 @@ overflow_add-at c =
     (subst (IsPlaceOf c.args.source.now.text.now) (sym c.place.view_is) c.requires.place) c.scan_indentation-columns.ensures.rest c.bytes_scanned.ensures in
     omega (arith, w.0)
 
-pub metadata_after-requires-clause-within : goal.metadata_after-requires-clause-within
-metadata_after-requires-clause-within c =
+pub scan_metadata-requires-clause-within : goal.scan_metadata-requires-clause-within
+scan_metadata-requires-clause-within c =
     let w = (past_columns c.args.source.now.text.now c.place.inside.line c.bytes_scanned.result c.place.inside.rest _
     (subst IsUtf8 c.as_bytes-bytes.ensures.value c.as_bytes-bytes.ensures.utf8)
     (subst (IsPlaceOf c.args.source.now.text.now) (sym c.place.view_is) c.requires.place) c.scan_indentation-columns.ensures.rest c.bytes_scanned.ensures).0 in
     let l = ap length c.as_bytes-bytes.ensures.value in
     omega arith
 
-pub returns-in-Some-metadata_after-clause-kind : goal.returns-in-Some-metadata_after-clause-kind
-returns-in-Some-metadata_after-clause-kind c =
-    rw (← c.place.view_is) (metadata_here c.args.source.now.options c.place.inside.rest c.in-Some-metadata_after.byte
+pub returns-in-Some-scan_metadata-clause-kind : goal.returns-in-Some-scan_metadata-clause-kind
+returns-in-Some-scan_metadata-clause-kind c =
+    rw (← c.place.view_is) (metadata_here c.args.source.now.options c.place.inside.rest c.in-Some-scan_metadata.byte
     (found_early c.args.source.now.text.now c.as_bytes-bytes.result.now c.place.inside.line c.bytes_scanned.result
     c.scan_indentation-columns.result c.args.source.now.options c.place.inside.rest _ _
     (subst IsUtf8 c.as_bytes-bytes.ensures.value c.as_bytes-bytes.ensures.utf8)
     (subst (IsPlaceOf c.args.source.now.text.now) (sym c.place.view_is) c.requires.place)
     (ap (λ bs. is_some (blank_len bs)) (sym c.left.ensures) ∙ ap is_some (sym c.scan_blank_line.ensures.value) ∙ sym c.is_some-blank.ensures ∙ c.if-blank.false)
     c.scan_indentation-columns.ensures.columns c.scan_indentation-columns.ensures.rest c.bytes_scanned.ensures c.if-columns-ge4.false
-    c.as_bytes-bytes.ensures.value (sym c.in-Some-metadata_after.is ∙ c.metadata_after.ensures.value)))
+    c.as_bytes-bytes.ensures.value (sym c.in-Some-scan_metadata.is ∙ c.scan_metadata.ensures.value)))
 
 pub returns-in-Some-html_kind-clause-kind : goal.returns-in-Some-html_kind-clause-kind
 returns-in-Some-html_kind-clause-kind c =
@@ -80,7 +80,7 @@ returns-in-Some-html_kind-clause-kind c =
     (subst (IsPlaceOf c.args.source.now.text.now) (sym c.place.view_is) c.requires.place)
     (ap (λ bs. is_some (blank_len bs)) (sym c.left.ensures) ∙ ap is_some (sym c.scan_blank_line.ensures.value) ∙ sym c.is_some-blank.ensures ∙ c.if-blank.false)
     c.scan_indentation-columns.ensures.columns c.scan_indentation-columns.ensures.rest c.bytes_scanned.ensures c.if-columns-ge4.false
-    c.as_bytes-bytes.ensures.value (sym c.in_default-metadata_after.is ∙ c.metadata_after.ensures.value)) in
+    c.as_bytes-bytes.ensures.value (sym c.in_default-scan_metadata.is ∙ c.scan_metadata.ensures.value)) in
     let same = sym (c.left-left.ensures ∙ ap (λ (q : Rest). q.left) c.scan_indentation-columns.ensures.rest) in
     rw (← c.place.view_is) (html_here c.args.source.now.options c.place.inside.rest (kind_of c.in-Some-html_kind.found) early (ap html_kind same
     ∙ (found_html c.html_kind.result c.in-Some-html_kind.found _ _ _ c.in-Some-html_kind.is c.html_kind.ensures.kind c.html_kind.ensures.«end» same).0))
@@ -99,7 +99,7 @@ returns-then-is_some-clause-kind c =
     (subst (IsPlaceOf c.args.source.now.text.now) (sym c.place.view_is) c.requires.place)
     (ap (λ bs. is_some (blank_len bs)) (sym c.left.ensures) ∙ ap is_some (sym c.scan_blank_line.ensures.value) ∙ sym c.is_some-blank.ensures ∙ c.if-blank.false)
     c.scan_indentation-columns.ensures.columns c.scan_indentation-columns.ensures.rest c.bytes_scanned.ensures c.if-columns-ge4.false
-    c.as_bytes-bytes.ensures.value (sym c.in_default-metadata_after.is ∙ c.metadata_after.ensures.value)) in
+    c.as_bytes-bytes.ensures.value (sym c.in_default-scan_metadata.is ∙ c.scan_metadata.ensures.value)) in
     let tag = tag_found c.scan_html_type_7.result _ (all_taken c.place.inside.rest).left (sym c.is_some.ensures ∙ c.if-is_some.true)
     (sym (c.left-left.ensures ∙ ap (λ (q : Rest). q.left) c.scan_indentation-columns.ensures.rest)) c.scan_html_type_7.ensures.tag in
     rw (← c.place.view_is) (tag_here c.args.source.now.options c.place.inside.rest tag.0 early
@@ -114,7 +114,7 @@ returns-clause-kind c =
     (subst (IsPlaceOf c.args.source.now.text.now) (sym c.place.view_is) c.requires.place)
     (ap (λ bs. is_some (blank_len bs)) (sym c.left.ensures) ∙ ap is_some (sym c.scan_blank_line.ensures.value) ∙ sym c.is_some-blank.ensures ∙ c.if-blank.false)
     c.scan_indentation-columns.ensures.columns c.scan_indentation-columns.ensures.rest c.bytes_scanned.ensures c.if-columns-ge4.false
-    c.as_bytes-bytes.ensures.value (sym c.in_default-metadata_after.is ∙ c.metadata_after.ensures.value)) in
+    c.as_bytes-bytes.ensures.value (sym c.in_default-scan_metadata.is ∙ c.scan_metadata.ensures.value)) in
     rw (← c.place.view_is) (subst (IsKind c.args.source.now.options c.place.inside.rest)
     (ap last_kind (sym (c.left-left.ensures ∙ ap (λ (q : Rest). q.left) c.scan_indentation-columns.ensures.rest)) ∙ sym c.last_kind.ensures.kind)
     (last_here c.args.source.now.options c.place.inside.rest early

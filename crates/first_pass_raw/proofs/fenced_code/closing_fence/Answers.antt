@@ -19,17 +19,17 @@ rest_of-requires c =
 
 pub returns-in_err-size : goal.returns-in_err-size
 returns-in_err-size c =
-    let few = c.if-scan_indentation-ge4.false in
+    let node_bound = c.if-scan_indentation-ge4.false in
     c.from_residual.ensures
     ∙ sym (closing_end c.args.text.now _ _ c.args.start c.bytes_scanned.result _ c.args.fence.byte c.args.fence.count c.args.line_start
-    c.scan_indentation.new.line_start _ (lt-ltb _ _ (omega (arith, few, c.scan_indentation.ensures.columns)))
+    c.scan_indentation.new.line_start _ (lt-ltb _ _ (omega (arith, node_bound, c.scan_indentation.ensures.columns)))
     c.utf8.text c.scan_indentation.ensures.rest c.bytes_scanned.ensures c.requires.place c.as_bytes-bytes.ensures.value refl c.rest_of.ensures.value
     c.in_err-size.ensures.value)
 
 pub returns : goal.returns
 returns c =
-    let few = c.if-scan_indentation-ge4.false in
+    let node_bound = c.if-scan_indentation-ge4.false in
     sym (closing_end c.args.text.now _ _ c.args.start c.bytes_scanned.result _ c.args.fence.byte c.args.fence.count c.args.line_start
-    c.scan_indentation.new.line_start _ (lt-ltb _ _ (omega (arith, few, c.scan_indentation.ensures.columns)))
+    c.scan_indentation.new.line_start _ (lt-ltb _ _ (omega (arith, node_bound, c.scan_indentation.ensures.columns)))
     c.utf8.text c.scan_indentation.ensures.rest c.bytes_scanned.ensures c.requires.place c.as_bytes-bytes.ensures.value refl c.rest_of.ensures.value
     c.in_ok-size.ensures.value)

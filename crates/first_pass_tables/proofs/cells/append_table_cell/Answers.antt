@@ -4,7 +4,7 @@ use Rattle.first_pass_items.specs.declared.item.ItemBody.TheVariants.{TableCell}
 use Rattle.first_pass_tree.specs.Forest.{Forest}
 use Rattle.first_pass_tokens.specs.TreeTokens.{chained}
 use Rattle.first_pass_tokens.proofs.ChainLemmas.{joins_none-fresh}
-use Rattle.first_pass_tokens.proofs.LineLemmas.{appended_cell_alone}
+use Rattle.first_pass_tokens.proofs.LineLemmas.{only_appended_cell}
 use Rattle.first_pass_open.specs.OpenBlock.{begun_item}
 use Rattle.first_pass_open.proofs.BlockLemmas.{still_open, block_closed}
 use Rattle.first_pass_tables.proofs.cells.append_table_cell.Goals as goal
@@ -15,7 +15,7 @@ close_block-requires c =
     let opened = c.in_ok-open_block.ensures.tree in
     let cell = c.in_ok-end.ensures.cell in
     let filled =
-    appended_cell_alone cell (joins_none-fresh c.open_block.new.tree (ap (λ (f : Forest Item). f.current) opened)) ∙ ap (λ v. chained v cell.tokens) opened in
+    only_appended_cell cell (joins_none-fresh c.open_block.new.tree (ap (λ (f : Forest Item). f.current) opened)) ∙ ap (λ v. chained v cell.tokens) opened in
     still_open g c.append_cell.new.tree (begun_item c.args.cell.at TableCell) cell.tokens (record { 0 = length g.nodes }) refl filled
 
 pub returns-clause-cell : goal.returns-clause-cell
@@ -24,7 +24,7 @@ returns-clause-cell c =
     let opened = c.in_ok-open_block.ensures.tree in
     let cell = c.in_ok-end.ensures.cell in
     let filled =
-    appended_cell_alone cell (joins_none-fresh c.open_block.new.tree (ap (λ (f : Forest Item). f.current) opened)) ∙ ap (λ v. chained v cell.tokens) opened in
+    only_appended_cell cell (joins_none-fresh c.open_block.new.tree (ap (λ (f : Forest Item). f.current) opened)) ∙ ap (λ v. chained v cell.tokens) opened in
     record {
       tokens = cell.tokens;
       cell = cell.cell;

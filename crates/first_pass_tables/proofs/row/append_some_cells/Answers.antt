@@ -13,7 +13,7 @@ loop-count-init c =
     record {
       read = none_read (document c.args.source.now.text.now c.args.source.now.options (names_of c.args.allocs.now)) (spot c.args.wanted.start c.args.braces.now)
           c.args.tree.now c.requires.within;
-      few = omega arith;
+      node_bound = omega arith;
       grown = texts_none (names_of c.args.allocs.now);
       entries = refl;
     }
@@ -32,7 +32,7 @@ returns-in-Some-clause-cells c =
     let order : at ≤ cell = c.cell_start-cell.ensures.order in
     let eol = c.in-Some.ensures.within in
     record {
-      few = c.loop-count.invariant.few;
+      node_bound = c.loop-count.invariant.node_bound;
       all = λ ended. all_read (document text c.args.source.now.options (names_of c.loop-count.allocs)) (spot c.args.wanted.start c.args.braces.now)
           (spot at c.loop-count.braces) c.loop-count.count from c.in-Some.eol c.args.tree.now c.loop-count.tree
           c.loop-count.invariant.read (content_found text bytes c.rest_of.result.now at cell c.scan_whitespace_no_nl.result same
@@ -84,7 +84,7 @@ loop-count-preserved c =
     let test = c.loop-count-test.true in
     record {
       read = (one_read c).0;
-      few = omega arith;
+      node_bound = omega arith;
       grown = texts_both (names_of c.append_table_cell.new.allocs) (names_of c.loop-count.allocs) (names_of c.args.allocs.now) c.in_ok-at.ensures.texts
           c.loop-count.invariant.grown;
       entries = c.in_ok-at.ensures.more.entries ∙ c.loop-count.invariant.entries;

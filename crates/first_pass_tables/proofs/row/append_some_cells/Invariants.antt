@@ -10,7 +10,7 @@ abbrev pub invariant-loop-count : goal.invariant-loop-count
 invariant-loop-count l = record {
   read : AreAppended (document l.source.text.now l.source.options (names_of l.allocs)) (spot l.wanted.start l.initial.braces) l.initial.tree l.tree
       (spot l.at l.braces) l.count;
-  few : l.count ≤ l.wanted.most;
+  node_bound : l.count ≤ l.wanted.most;
   grown : AddsTexts (names_of l.allocs) (names_of l.initial.allocs);
   entries : entries l.allocs ≡ entries l.initial.allocs;
 }

@@ -80,12 +80,12 @@ returns-clause-entry c =
     given_entry (names_of c.name_attributes.new.allocs) c.in_ok-index.index _
     (c.in_ok-index.ensures.named (names_of c.name_attributes.new.allocs) (extends_none (names_of c.name_attributes.new.allocs)))
 
-pub returns-clause-few : goal.returns-clause-few
-returns-clause-few c =
+pub returns-clause-node_bound : goal.returns-clause-node_bound
+returns-clause-node_bound c =
     let old : Forest Item = c.args.tree.now in
-    let few = λ (f : Forest Item). length f.nodes ≤ length old.nodes in
+    let node_bound = λ (f : Forest Item). length f.nodes ≤ length old.nodes in
     elim c.if-is_some.branch [
       | then-is_some w ↦
-          subst few (sym (w.tree-is ∙ w.truncate_siblings.ensures)) (siblings_fewer old (c.in_ok-content_end.content_end - w.white_at_cut.result))
-      | else-is_some w ↦ subst few (sym w.tree-is) (omega arith)
+          subst node_bound (sym (w.tree-is ∙ w.truncate_siblings.ensures)) (siblings_fewer old (c.in_ok-content_end.content_end - w.white_at_cut.result))
+      | else-is_some w ↦ subst node_bound (sym w.tree-is) (omega arith)
     ]

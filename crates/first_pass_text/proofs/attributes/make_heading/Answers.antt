@@ -31,9 +31,9 @@ returns-clause-heading c =
       tree_is = c.set_body.ensures;
     }
 
-pub returns-clause-few : goal.returns-clause-few
-returns-clause-few c =
+pub returns-clause-node_bound : goal.returns-clause-node_bound
+returns-clause-node_bound c =
     let cut : Forest Item = c.cut_attributes.new.tree in
     let same = ap (λ (f : Forest Item). length f.nodes) c.set_body.ensures
     ∙ length-modify cut.nodes c.args.node_ix.0 (λ (x : Item). record x { body = Heading c.args.underlined.level c.in_ok-index.index }) in
-    subst (λ n. n ≤ length c.args.tree.now.nodes) (sym same) c.in_ok-index.ensures.few
+    subst (λ n. n ≤ length c.args.tree.now.nodes) (sym same) c.in_ok-index.ensures.node_bound

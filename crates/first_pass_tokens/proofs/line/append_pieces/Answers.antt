@@ -2,7 +2,7 @@ use Rattle.std.proofs.Common.{◌+◌, length, sym, ◌∙◌, ap, subst, arith}
 use Rattle.first_pass_tokens.specs.Pieces.{Inline, content_in, size}
 use Rattle.first_pass_tokens.specs.Braces.{braces_after}
 use Rattle.first_pass_tokens.specs.LineTokens.{spot}
-use Rattle.first_pass_tokens.specs.NamedTexts.{Becomes}
+use Rattle.first_pass_tokens.specs.NamedTexts.{MakesPiece}
 use Rattle.first_pass_tokens.proofs.SoFar.{IsRead, read_start, read_upto, read_more, read_piece, read_all, becomes_solid, found_special, ended_by_text}
 use Rattle.first_pass_tokens.proofs.NamedTexts.{more_none, more_both}
 use Rattle.first_pass_tokens.proofs.RunPlaces.{front_upto}
@@ -40,11 +40,11 @@ loop-at-preserved c =
     let piece = c.in_ok-piece in
     let special = sym (c.requires.marks _ (omega (arith, c.type_inv.text at))) ∙ found.marked in
     let here = c.special_found-found.ensures.value c.args.braces.now ∙ found_special z at special in
-    let is = subst (λ f. Becomes texts c.loop-at.braces f piece.piece) here piece.ensures.becomes in
+    let is = subst (λ f. MakesPiece texts c.loop-at.braces f piece.piece) here piece.ensures.becomes in
     let more = piece.ensures.more in
     record {
       read = read_piece piece.piece (read_more more (upto_special (goal.at.loop-at-preserved c).In-Some))
-          (sym (c.ends_at.ensures c.args.braces.now) ∙ c.if-ends_at.false)
+          (sym (c.content_ends_at.ensures c.args.braces.now) ∙ c.if-content_ends_at.false)
           is (omega (arith, c.special_found-found.ensures.fits, piece.ensures.size))
           (becomes_solid _ _ z.text at _ piece.piece piece.ensures.becomes c.special_found-found.ensures.ends)
           c.in_ok-append_piece.ensures.tree c.in_ok-append_piece.ensures.pending
@@ -53,10 +53,10 @@ loop-at-preserved c =
       more = more_both texts c.loop-at.texts.items c.args.texts.now.items more c.loop-at.invariant.more;
     }
 
-pub returns-then-ends_at-clause-read : goal.returns-then-ends_at-clause-read
-returns-then-ends_at-clause-read c =
+pub returns-then-content_ends_at-clause-read : goal.returns-then-content_ends_at-clause-read
+returns-then-content_ends_at-clause-read c =
     read_all (content_in c.args.text.now c.args.content c.args.braces.now) _ _ _ (spot c.in-Some.at c.loop-at.braces)
-    (upto_special (goal.at.returns-then-ends_at-clause-read c).In-Some) (sym (c.ends_at.ensures c.args.braces.now) ∙ c.if-ends_at.true)
+    (upto_special (goal.at.returns-then-content_ends_at-clause-read c).In-Some) (sym (c.content_ends_at.ensures c.args.braces.now) ∙ c.if-content_ends_at.true)
 
 pub returns-clause-read : goal.returns-clause-read
 returns-clause-read c =

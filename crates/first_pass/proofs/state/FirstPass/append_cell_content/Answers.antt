@@ -22,7 +22,7 @@ returns-clause-tokens c =
     let options = self.pass.source.options in
     let names = names_of c.append_cell.new.self in
     let old : Reading = self.pass.reading in
-    let new : Reading = record old { tree = c.append_cell.new.tree; empty_item = None } in
+    let new : Reading = record old { tree = c.append_cell.new.tree; begin_list_item = None } in
     let stop = c.in_ok-stop.stop in
     let e = c.in_ok-stop.ensures in
     record {
@@ -37,10 +37,10 @@ returns-clause-tokens c =
           subst (λ t. IsCharBoundary t stop) same (cell_end_place (subst (λ t. c.args.start ≤ length t) (sym same) c.requires.start) e.cell.cell);
       order = λ ends boundary at low o.
           let before = o.later in
-          let k : ℕ = reached old.empty_item at in
+          let k : ℕ = reached old.begin_list_item at in
           let low' : k ≤ at = before in
           let to = ordered_cell text options self.braces c.args.start c.args.end old.tree new.tree stop k e.utf8
           (both_ends text c.args.start c.args.end c.requires.end ends) boundary c.recall_forest.ensures e.cell (omega arith) o.ordered in
           ordered_none text new stop refl to.within to;
-      few = few_of_cell e.cell;
+      node_bound = few_of_cell e.cell;
     }

@@ -24,7 +24,7 @@ returns-clause-tokens c =
     let options = self.pass.source.options in
     let names = names_of c.append_line.new.self in
     let old : Reading = self.pass.reading in
-    let new : Reading = record old { tree = c.append_line.new.tree; empty_item = None } in
+    let new : Reading = record old { tree = c.append_line.new.tree; begin_list_item = None } in
     let answer = c.in_ok-line.line in
     let e = c.in_ok-line.ensures in
     record {
@@ -40,10 +40,10 @@ returns-clause-tokens c =
           (record { options = options; whole = text; text = text_upto text t; start = c.args.start; row = false; braces = self.braces }) answer) whole e.ends);
       order = λ ends boundary at low o.
           let before = o.later in
-          let k : ℕ = reached old.empty_item at in
+          let k : ℕ = reached old.begin_list_item at in
           let low' : k ≤ at = before in
           let to = ordered_line (document text options no_names) self.braces c.args.start c.args.end old.tree new.tree answer.0 answer.1 k e.utf8
           (both_ends text c.args.start c.args.end c.requires.end ends) boundary c.recall_forest.ensures e.line (omega arith) o.ordered in
           ordered_none text new answer.0 refl to.within to;
-      few = few_of_line e.line;
+      node_bound = few_of_line e.line;
     }

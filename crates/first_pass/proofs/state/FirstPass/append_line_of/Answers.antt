@@ -26,7 +26,7 @@ returns-clause-bytes c =
     let from = c.args.start in
     let to = c.args.end in
     let old : Reading = self.pass.reading in
-    let new : Reading = record old { tree = c.append_raw_line.new.tree; empty_item = None } in
+    let new : Reading = record old { tree = c.append_raw_line.new.tree; begin_list_item = None } in
     let names = names_of c.append_raw_line.new.allocs in
     let d = document text self.pass.source.options names in
     let e = c.in_ok-append_raw_line.ensures in

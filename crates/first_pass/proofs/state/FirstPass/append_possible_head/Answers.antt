@@ -27,7 +27,7 @@ returns-clause-tokens c =
     let within = c.next_line.ensures.within in
     let value = c.next_line.ensures.value in
     let later : next ≤ c.next_line.result = omega arith in
-    let few = e.few in
+    let node_bound = e.node_bound in
     record {
       kept = record {
         source = e.kept.source;
@@ -44,5 +44,5 @@ returns-clause-tokens c =
           subst (IsCharBoundary text) (sym there) (line_bounds text next c.in_ok-next.ensures.utf8 (e.boundary whole boundary));
       order = λ ends boundary at low o.
           ordered_at_later text c.append_content.new.self.pass.reading next c.next_line.result later (omega arith) (e.order ends boundary at low o);
-      few = omega arith;
+      node_bound = omega arith;
     }

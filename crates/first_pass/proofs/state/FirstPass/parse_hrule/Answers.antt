@@ -14,7 +14,7 @@ returns c =
     let text = c.args.self.now.pass.source.text.now in
     let names = names_of c.args.self.now.pass.allocs in
     let old : Reading = c.args.self.now.pass.reading in
-    let new : Reading = record old { tree = c.parse_hrule.new.tree; empty_item = None } in
+    let new : Reading = record old { tree = c.parse_hrule.new.tree; begin_list_item = None } in
     let e = c.in_ok-next.ensures in
     record {
       kept = record {

@@ -26,7 +26,7 @@ returns-clause-leaf c =
     let names = names_of c.parse_html_block_type_6_or_7.new.allocs in
     let e = c.in_ok-next.ensures in
     let old : Reading = self.pass.reading in
-    let new : Reading = record old { tree = c.parse_html_block_type_6_or_7.new.tree; empty_item = None } in
+    let new : Reading = record old { tree = c.parse_html_block_type_6_or_7.new.tree; begin_list_item = None } in
     let p = first_at text c.args.start_ix 0 in
     let i = first_is text c.args.start_ix 0 in
     let block = e.block p i in
@@ -56,7 +56,7 @@ returns-clause-leaf c =
           e.boundary.1 refl path
           (html_stops (length text) (path_of options old.tree) p (lines_from text (after_line_at text (offset p)))) block.left_is
           (block_ordered text old new at c.args.start_ix _ o low (fits p i) ends.0 refl);
-      few = λ from low apart.
+      node_bound = λ from low apart.
           to_blank_few text options names old.tree new.tree c.args.start_ix c.in_ok-next.next e.utf8 c.requires.boundary e.boundary.1.0
           c.max.result p i block from low apart;
     }

@@ -13,7 +13,7 @@ returns-clause-leaf c =
     let text = self.pass.source.text.now in
     let names = names_of c.parse_paragraph.new.allocs in
     let old : Reading = self.pass.reading in
-    let new : Reading = record old { tree = c.parse_paragraph.new.tree; empty_item = None } in
+    let new : Reading = record old { tree = c.parse_paragraph.new.tree; begin_list_item = None } in
     let e = c.in_ok-next.ensures in
     record {
       source = refl;

@@ -20,7 +20,7 @@ returns-in_default c = record {
   reading = refl;
   value = search rules;
   heading = search rules;
-  few = omega arith;
+  node_bound = omega arith;
   order = λ at holds o. o;
 }
 
@@ -44,6 +44,6 @@ returns c =
       reading = refl;
       value = search rules;
       heading = search rules;
-      few = e.few;
+      node_bound = e.node_bound;
       order = λ at holds o. heading_ordered d c.in-Some.level c.args.has_trailing_content c.args.node_ix old new at c.requires.open e.heading holds o;
     }

@@ -28,7 +28,7 @@ returns c =
       rows = e.rows;
       order = λ at low following o.
           rows_ordered text old new at c.in_ok-next.next c.requires.open.0 c.requires.open.1 e.rows.boundary (e.fits at low following) o;
-      few = λ from low following apart.
+      node_bound = λ from low following apart.
           rows_count text old new from c.in_ok-next.next c.requires.open.0 c.requires.open.1 (e.fits from low following) apart;
       whole = e.whole;
     }

@@ -29,5 +29,5 @@ returns-clause-kept c =
       order = λ begins at low o.
           row_ordered d.text old new at c.args.ix row low c.requires.boundary.0 none
           (line_row_ends d c.args.row_cells c.args.ix before after row e.utf8 c.requires.boundary e.row) (e.fits at low) o;
-      few = λ begins from low apart. row_count d.text old new from c.args.ix row none (e.fits from low) apart;
+      node_bound = λ begins from low apart. row_count d.text old new from c.args.ix row none (e.fits from low) apart;
     }

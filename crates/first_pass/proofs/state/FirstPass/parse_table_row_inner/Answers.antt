@@ -29,5 +29,5 @@ returns-clause-kept c =
       order = λ begins at low o.
           row_ordered d.text old new at c.args.ix row low c.requires.within none
           (row_ends d c.args.row_cells c.args.ix before after row c.requires.within e.row) (e.fits begins at low) o;
-      few = λ begins from low apart. row_count d.text old new from c.args.ix row none (e.fits begins from low) apart;
+      node_bound = λ begins from low apart. row_count d.text old new from c.args.ix row none (e.fits begins from low) apart;
     }

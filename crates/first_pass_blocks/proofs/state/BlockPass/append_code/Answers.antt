@@ -61,7 +61,7 @@ returns c =
     record {
       source = refl;
       more = e.more;
-      empty_item = f.no_empty;
+      begin_list_item = f.no_empty;
       block = code_added text options names p self.reading.tree tree next _ i
           (e.block q (record { offset_is = sym there; left_is = i.left ∙ ap (λ n. drop n text) (sym there) }) (sym owed));
       later = omega arith;

@@ -1,5 +1,5 @@
 use Rattle.std.proofs.Common.{◌≡◌, Some, drop, refl}
-use Rattle.first_pass_html.specs.Ends.{end_of}
+use Rattle.first_pass_html.specs.Ends.{condition_of}
 use Rattle.first_pass_html.specs.Starts.{html_end}
 use Rattle.first_pass_grammar.specs.Kinds.{unindented, all_taken}
 use Rattle.first_pass_names.specs.TableEntries.{names_of}
@@ -23,7 +23,7 @@ returns c = λ p f.
     let text = self.source.text.now in
     let options = self.source.options in
     let leaf : MarkedLeaf = HtmlToEnd c.args.«end» in
-    let until = end_of c.args.«end» in
+    let until = condition_of c.args.«end» in
     let e = c.in_ok-next.ensures in
     let next = c.in_ok-next.next in
     let at = c.args.at in

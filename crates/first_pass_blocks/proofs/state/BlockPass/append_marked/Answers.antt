@@ -1,5 +1,5 @@
 use Rattle.std.proofs.Common.{sym, subst}
-use Rattle.first_pass_kinds.specs.Found.{marked_kind}
+use Rattle.first_pass_kinds.specs.BlockStart.{marked_kind}
 use Rattle.first_pass_kinds.specs.declared.kinds.MarkedLeaf.{MarkedLeaf}
 use Rattle.first_pass_blocks.specs.Adding.{AddsLeaf, IsFoundIn}
 use Rattle.first_pass_blocks.proofs.state.BlockPass.append_marked.Goals as goal

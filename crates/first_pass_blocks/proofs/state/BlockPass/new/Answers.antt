@@ -1,5 +1,5 @@
 use Rattle.std.proofs.Common.{length, None, false, refl, ap, ◌∙◌, arith}
-use Rattle.first_pass_lists.specs.Closing.{remembered}
+use Rattle.first_pass_lists.specs.Closing.{reading_with}
 use Rattle.first_pass_tree.specs.Forest.{with_end_at}
 use Rattle.first_pass_order.proofs.NamedLemmas.{first_named}
 use Rattle.first_pass_order.proofs.Nests.{first_closes}
@@ -18,7 +18,7 @@ returns-clause-order c =
     let text = c.args.text.now in
     let tree = c.set_end.new.self in
     let is = c.set_end.ensures ∙ ap (λ f. with_end_at f c.root-root.result (length text)) c.in_ok-tree.ensures in (
-      ordered_none text (remembered tree None false) 0 refl (omega arith)
+      ordered_none text (reading_with tree None false) 0 refl (omega arith)
           (ordered_first text tree c.root-root.result c.utf8.text c.root-root.ensures.value is),
       first_closes text tree c.root-root.result (length text) 0 is,
     )

@@ -10,7 +10,7 @@ use Rattle.first_pass_open.specs.Path.{context_of}
 use Rattle.first_pass_open.specs.declared.source.Source.{Source}
 use Rattle.first_pass_lists.specs.declared.reading.Reading.{Reading}
 use Rattle.first_pass_grammar.specs.declared.kind.AfterMarker.{AfterMarker}
-use Rattle.first_pass_grammar.specs.declared.kind.AfterMarker.TheVariants.{OnLine, TaskText, LineEnds, TagAlone}
+use Rattle.first_pass_grammar.specs.declared.kind.AfterMarker.TheVariants.{OnLine, TaskText, LineEnds, OnlyTag}
 use Rattle.first_pass_blocks.specs.declared.openers.Start.{Start}
 use Rattle.first_pass_blocks.specs.declared.state.BlockPass.{BlockPass}
 use Rattle.first_pass_blocks.specs.FootnoteHeads.{StaysSame, TriesFootnote}
@@ -19,7 +19,7 @@ use Rattle.first_pass_blocks.specs.Progress.{PassesTo}
 use Rattle.first_pass_blocks.specs.Starts.{StartMatches, start_opened, after_at, last_at, IsAfter, OpensNone}
 use Rattle.first_pass_blocks.specs.Views.{allocs_of, reading_of, source_of, tree_of}
 use Rattle.first_pass_blocks.proofs.BlockRead.{passes_reading, passes_both}
-use Rattle.first_pass_blocks.proofs.NoContainer.{leaf_alone}
+use Rattle.first_pass_blocks.proofs.NoContainer.{only_leaf}
 use Rattle.first_pass_blocks.proofs.StartLemmas.{start_opens, no_start, opened_start, reads_none}
 use Rattle.first_pass_blocks.proofs.StartFound.{start_found, start_missing}
 use Rattle.first_pass_blocks.proofs.state.BlockPass.open_in_turn.Goals as goal
@@ -44,12 +44,12 @@ loop-self-init c =
 -- no footnote definition begins at the place, and the search for another container begins
 record IsTried (over : Source) (first : Place) (old mid : BlockPass) (p : Place) : Type 0 where
   here : IsFrom over.text.now first p
-  no_empty : (reading_of mid).empty_item ≡ None
+  no_empty : (reading_of mid).begin_list_item ≡ None
   opened : PassesTo over first.line old mid (InLine first) (InLine p)
   bare : in_table (tree_of mid).nodes (tree_of mid).spine ≡ false → footnote_head_at (context_of over.options (tree_of mid)) p ≡ None
 
 tried : (over : Source) (first : Place) (old now mid : BlockPass) (p q : Place) (t : Bool) → t ≡ false → IsFrom over.text.now first p
-    → (reading_of now).empty_item ≡ None → source_of now ≡ over → PassesTo over first.line old now (InLine first) (InLine p) → TriesFootnote now mid p q t
+    → (reading_of now).begin_list_item ≡ None → source_of now ≡ over → PassesTo over first.line old now (InLine first) (InLine p) → TriesFootnote now mid p q t
     → IsTried over first old mid q
 tried over first old now mid p q t is here none source opened tries =
     let no = subst (TriesFootnote now mid p q) is tries in
@@ -61,7 +61,7 @@ tried over first old now mid p q t is here none source opened tries =
     (passes_reading over first.line now mid (InLine p) (InLine p) same.0 same.2 kept) in
     record {
       here = subst (IsFrom over.text.now first) (sym at) here;
-      no_empty = ap (λ (r : Reading). r.empty_item) same.1 ∙ none;
+      no_empty = ap (λ (r : Reading). r.begin_list_item) same.1 ∙ none;
       opened = subst (λ (z : Place). PassesTo over first.line old mid (InLine first) (InLine z)) (sym at) steps;
       bare = λ no_table.
           ap (footnote_head_at (context_of over.options (tree_of mid))) at
@@ -73,7 +73,7 @@ tried over first old now mid p q t is here none source opened tries =
 -- one more container is open at the place, and less of its line is left
 record IsNested (over : Source) (first : Place) (old mid : BlockPass) (p q : Place) : Type 0 where
   here : IsFrom over.text.now first q
-  no_empty : (reading_of mid).empty_item ≡ None
+  no_empty : (reading_of mid).begin_list_item ≡ None
   less : length q.rest.left < length p.rest.left
   opened : PassesTo over first.line old mid (InLine first) (InLine q)
 
@@ -209,7 +209,7 @@ last_is : (p : Place) (e : ℕ) (a : AfterMarker) → (a ≡ OnLine → ⊥) →
 last_is p e OnLine other = absurd (other refl)
 last_is p e (TaskText marker) other = refl
 last_is p e (LineEnds marker) other = refl
-last_is p e TagAlone other = refl
+last_is p e OnlyTag other = refl
 
 pub returns-in_default-after : goal.returns-in_default-after
 returns-in_default-after c =
@@ -288,5 +288,5 @@ returns-then-opens_none-clause-opened c =
     let n = nested (goal.at.returns-then-opens_none-clause-opened c).Joined-not-branch in
     passes_both over first.line c.args.self.now now now (InLine first) (InLine p) (LeafAt p) n.opened
     (passes_reading over first.line now now (InLine p) (LeafAt p) refl refl
-    (leaf_alone over now.reading p first.line
+    (only_leaf over now.reading p first.line
     (subst (λ (q : Place). OpensNone q.rest) c.place-in-loop-self.view_is (c.opens_none.ensures c.if-opens_none.true))))

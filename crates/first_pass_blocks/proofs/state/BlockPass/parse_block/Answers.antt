@@ -5,7 +5,7 @@ use Rattle.first_pass_open.specs.declared.source.Source.{Source}
 use Rattle.first_pass_open.proofs.PlaceLemmas.{place_end}
 use Rattle.first_pass_lists.specs.declared.reading.Reading.{Reading}
 use Rattle.first_pass_grammar.specs.declared.kind.AfterMarker.{AfterMarker}
-use Rattle.first_pass_grammar.specs.declared.kind.AfterMarker.TheVariants.{OnLine, TaskText, TagAlone}
+use Rattle.first_pass_grammar.specs.declared.kind.AfterMarker.TheVariants.{OnLine, TaskText, OnlyTag}
 use Rattle.first_pass_blocks.specs.declared.state.BlockPass.{BlockPass}
 use Rattle.first_pass_blocks.specs.Entering.{EntersLine}
 use Rattle.first_pass_blocks.specs.Positions.{LineAt, InLine, LeafAt, TaskAt, TaggedAt}
@@ -125,23 +125,23 @@ parse_tagged-requires-clause-boundary c =
 
 pub parse_tagged-requires-clause-no_empty : goal.parse_tagged-requires-clause-no_empty
 parse_tagged-requires-clause-no_empty c =
-    subst (λ (a : AfterMarker). IsAfter a c.open_containers.new.self.reading) c.in-TagAlone.is c.in_ok-open_containers.ensures.after
+    subst (λ (a : AfterMarker). IsAfter a c.open_containers.new.self.reading) c.in-OnlyTag.is c.in_ok-open_containers.ensures.after
 
-pub returns-in_ok-next-in-TagAlone : goal.returns-in_ok-next-in-TagAlone
-returns-in_ok-next-in-TagAlone c =
+pub returns-in_ok-next-in-OnlyTag : goal.returns-in_ok-next-in-OnlyTag
+returns-in_ok-next-in-OnlyTag c =
     let over = c.args.self.now.source in
     let start = c.args.start_ix in
     let q : Place = c.open_containers.new.place in
     let mid : BlockPass = c.open_containers.new.self in
     let stop : ℕ = c.line_over-following.result in
-    let next = c.in_ok-next-in-TagAlone.next in
-    let at : In_ok-open_containers = (goal.at.returns-in_ok-next-in-TagAlone c).In_ok-open_containers in
+    let next = c.in_ok-next-in-OnlyTag.next in
+    let at : In_ok-open_containers = (goal.at.returns-in_ok-next-in-OnlyTag c).In_ok-open_containers in
     let e = c.in_ok-open_containers.ensures in
-    let o = opened at _ _ TagAlone refl refl refl e.after e.opened c.in-TagAlone.is in
+    let o = opened at _ _ OnlyTag refl refl refl e.after e.opened c.in-OnlyTag.is in
     let is = c.line_over-following.ensures in
     let ends = o.ends in
     let steps = subst (λ (n : ℕ). PassesTo over start c.args.self.now mid (LineAt start) (TaggedAt n)) (sym is) o.steps in
-    let r = subst (λ (z : Source). ReadsBlockOf z mid c.parse_tagged.new.self stop (TaggedAt stop) next) e.opened.source c.in_ok-next-in-TagAlone.ensures in
+    let r = subst (λ (z : Source). ReadsBlockOf z mid c.parse_tagged.new.self stop (TaggedAt stop) next) e.opened.source c.in_ok-next-in-OnlyTag.ensures in
     let later = r.later in
     let boundary = subst (IsCharBoundary over.text.now) (sym is) (place_end over.text.now q c.enter_line.ensures.utf8 o.place) in
     let some = passes at stop (omega arith) boundary in

@@ -10,7 +10,7 @@ use Rattle.first_pass_open.proofs.PlaceLemmas.{all_keep, place_end}
 use Rattle.first_pass_lists.specs.Closing.{list_finished, blank_read}
 use Rattle.first_pass_lists.specs.declared.reading.Reading.{Reading}
 use Rattle.first_pass_open.specs.Between.{line_end_at}
-use Rattle.first_pass_kinds.specs.Found.{IsFoundAt, kind_of, marked_kind}
+use Rattle.first_pass_kinds.specs.BlockStart.{IsFoundAt, kind_of, marked_kind}
 use Rattle.first_pass_kinds.specs.declared.kinds.MarkedLeaf.{MarkedLeaf}
 use Rattle.first_pass_kinds.proofs.KindLemmas.{Says, kind_says}
 use Rattle.first_pass_blocks.specs.Adding.{AddsLeaf}
@@ -71,7 +71,7 @@ returns-in-Blank c =
       order = λ o. inl (subst (λ (q : Reading). IsReadTo text q next) (sym c.read_blank_line.ensures)
           (read_blank_read text old from next (omega arith) high (ordered_none text old from c.requires.no_empty (omega arith) o.1.0, o.1.1)));
       whole = λ h k. subst (IsReadWhole (names_of self.allocs)) (sym c.read_blank_line.ensures) (blank_whole (names_of self.allocs) old k);
-      few = omega arith;
+      node_bound = omega arith;
     }
 
 pub parse_html_block_type_6_or_7-requires : goal.parse_html_block_type_6_or_7-requires
@@ -93,7 +93,7 @@ returns-in_ok-next-in-HtmlToBlank c =
     html_read self _ p c.args.at c.args.columns c.in_ok-next-in-HtmlToBlank.next c.requires.utf8 c.requires.place c.requires.no_empty c.recall_forest.ensures
     (subst (λ (z : Reading). IsForest z.tree) rem c.recall_forest-in-HtmlToBlank.ensures)
     (subst (IsKind self.source.options p.rest) (ap kind_of c.in-HtmlToBlank.is) c.requires.found.kind) c.requires.found.columns_are c.requires.found.at_is
-    refl e.more (ap (λ (z : Reading). z.empty_item) rem) (ap (λ (z : Reading). z.blank) rem) e.boundary
+    refl e.more (ap (λ (z : Reading). z.begin_list_item) rem) (ap (λ (z : Reading). z.blank) rem) e.boundary
     (subst (λ (z : Reading). AddsHtml self.source.text.now self.source.options (names_of c.parse_html_block_type_6_or_7.new.allocs) c.args.at c.args.columns
     (unindented p) z.tree c.parse_html_block_type_6_or_7.new.tree c.in_ok-next-in-HtmlToBlank.next) rem
     (e.block (unindented p) (html_stands self.source.text.now p
@@ -111,7 +111,7 @@ append_marked-requires c =
       place = c.requires.place;
       found = subst (λ x. IsFoundAt self.source.options p x c.args.columns c.args.at) c.in-Marked.is c.requires.found;
       not_blank = ap (λ (r : Reading). r.blank) rem ∙ list_finished_blank p.line old;
-      no_empty = ap (λ (r : Reading). r.empty_item) rem ∙ list_finished_none p.line old;
+      no_empty = ap (λ (r : Reading). r.begin_list_item) rem ∙ list_finished_none p.line old;
     }
 
 pub returns-in_ok-next-in-Marked : goal.returns-in_ok-next-in-Marked
@@ -129,7 +129,7 @@ returns-in_ok-next-in-Marked c =
     let adds : AddsLeaf (record self { reading = f }) new p (marked_kind leaf) next = record {
       source = e.source;
       more = e.more;
-      empty_item = e.empty_item;
+      begin_list_item = e.begin_list_item;
       block = e.block;
       later = e.later;
       boundary = e.boundary;

@@ -53,7 +53,7 @@ returns-in-None c =
       written = λ h. h;
       order = λ ordered. inl (ordered_none text self.reading at c.requires.no_empty c.requires.boundary.0 ordered.0, ordered.1);
       whole = λ h k. k;
-      few = omega arith;
+      node_bound = omega arith;
     }
 
 pub returns-in_ok-next-in-Some : goal.returns-in_ok-next-in-Some
@@ -73,7 +73,7 @@ returns-in_ok-next-in-Some c =
     let ends : line_end p ≡ at + line_len (drop at text) = here.1 in
     let later = e.later in
     let before = place_before_end q in
-    let few = e.few in
+    let node_bound = e.node_bound in
     record {
       source = e.source;
       names = e.names;
@@ -88,7 +88,7 @@ returns-in_ok-next-in-Some c =
       written = e.written;
       order = λ ordered. e.order (ordered_at_place text self.reading.tree at q refl c.requires.boundary (subst (IsPlaceOf text) (sym same) here.0) ordered);
       whole = e.whole;
-      few = omega arith;
+      node_bound = omega arith;
     }
 
 pub parse_leaf-requires-clause-place : goal.parse_leaf-requires-clause-place

@@ -79,5 +79,5 @@ returns c =
           (e.block.is_text now (extends_none now) (unindented p) i (sym there)))
           (text_silent_first (document text options now) _ (unindented p) (Some c.args.marker) _ _ (task_shows c.args.marker.body mark)
           (e.block.is_text now (extends_none now) (unindented p) i (sym there))) h (kept_of (names_of self.allocs) old.tree k);
-      few = λ from stands apart. block_count text from next old.tree tree (fits from stands) apart;
+      node_bound = λ from stands apart. block_count text from next old.tree tree (fits from stands) apart;
     }

@@ -97,7 +97,7 @@ returns c =
     let run = subst (ReadsRun text (context_in self) nested (unindented p) (tables_of self.allocs) (tables_of mid.allocs)) c.in-Paragraph.is
     (e.run (unindented p) (ap (λ (q : Place). q.line) (sym c.place.view_is)) (sym c.requires.at) i) in
     let done : ended ≡ list_finished at r = c.finish_list-in-Paragraph.ensures ∙ ap (list_finished at) e.kept.reading in
-    let none = ap (λ (z : Reading). z.empty_item) done ∙ list_finished_none at r in
+    let none = ap (λ (z : Reading). z.begin_list_item) done ∙ list_finished_none at r in
     let blank = ap (λ (z : Reading). z.blank) done ∙ list_finished_blank at r in
     let block : AddsText (document text options names) at None (list_finished at r).tree tree next =
     subst (λ (z : Reading). AddsText (document text options names) at None z.tree tree next) done

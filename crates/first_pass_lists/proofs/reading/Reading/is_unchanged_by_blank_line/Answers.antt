@@ -2,7 +2,7 @@ use Rattle.std.proofs.Common.{◌≡◌, inl, inr, ℕ, nat_eq, not, Some, true,
 use Rattle.std.proofs.lemmas.Bool.{cases_eq, ne_eqb}
 use Rattle.first_pass_items.specs.declared.item.ItemBody.TheVariants.{ListItem as ListItemBody, DefinitionListDefinition}
 use Rattle.first_pass_lists.proofs.BlankLemmas.{kept_none, kept_closed, kept_item, kept_definition, kept_other, top_is}
-use Rattle.first_pass_lists.proofs.reading.Reading.keeps_blank_lines.Goals as goal
+use Rattle.first_pass_lists.proofs.reading.Reading.is_unchanged_by_blank_line.Goals as goal
 
 zero_is : (n : ℕ) → nat_eq n 0 ≡ true → n ≡ 0
 zero_is n h = elim (cases_eq n 0) [

@@ -3,12 +3,12 @@ use Rattle.std.specs.Prelude.{◌≡◌, ℕ, List, drop, min, Some}
 use Rattle.first_pass_items.specs.declared.option_set.Options.{Options}
 use Rattle.first_pass_lines.specs.Rest.{indent}
 use Rattle.first_pass_lines.specs.Places.{Place, offset}
-use Rattle.first_pass_html.specs.Ends.{end_of}
+use Rattle.first_pass_html.specs.Ends.{condition_of}
 use Rattle.first_pass_html.specs.Starts.{html_end}
 use Rattle.first_pass_grammar.specs.Kinds.{Kind, IsKind, unindented, Blank, IndentedCode, Metadata, HtmlToEnd, HtmlToBlank, ThematicBreak, AtxHeading}
 use Rattle.first_pass_grammar.specs.Kinds.{FencedCode, Paragraph}
-use Rattle.first_pass_kinds.specs.declared.kinds.Found.{Found}
-use Rattle.first_pass_kinds.specs.declared.kinds.Found.TheVariants.{Blank as FoundBlank, Paragraph as FoundParagraph, HtmlToBlank as FoundHtml, Marked}
+use Rattle.first_pass_kinds.specs.declared.kinds.BlockStart.{BlockStart}
+use Rattle.first_pass_kinds.specs.declared.kinds.BlockStart.TheVariants.{Blank as FoundBlank, Paragraph as FoundParagraph, HtmlToBlank as FoundHtml, Marked}
 use Rattle.first_pass_kinds.specs.declared.kinds.MarkedLeaf.{MarkedLeaf}
 use Rattle.first_pass_kinds.specs.declared.kinds.MarkedLeaf.TheVariants.{IndentedCode as MarkedCode, Metadata as MarkedMetadata, HtmlToEnd as MarkedHtml}
 use Rattle.first_pass_kinds.specs.declared.kinds.MarkedLeaf.TheVariants.{ThematicBreak as MarkedBreak, AtxHeading as MarkedHeading, FencedCode as MarkedFence}
@@ -22,7 +22,7 @@ marked_kind (MarkedHeading level) = AtxHeading level
 marked_kind (MarkedFence count byte) = FencedCode count byte
 
 -- the kind of the block that was found
-abbrev pub kind_of : Found → Kind
+abbrev pub kind_of : BlockStart → Kind
 kind_of FoundBlank = Blank
 kind_of FoundParagraph = Paragraph
 kind_of FoundHtml = HtmlToBlank
@@ -30,16 +30,16 @@ kind_of (Marked leaf) = marked_kind leaf
 
 -- the end found for an HTML block of the kinds 1 to 5 is that of the block which begins here (CommonMark 4.6)
 abbrev pub HasEnd : List ℕ → MarkedLeaf → Type 0
-HasEnd bs (MarkedHtml «end») = html_end (drop 1 bs) ≡ Some (end_of «end»)
+HasEnd bs (MarkedHtml «end») = html_end (drop 1 bs) ≡ Some (condition_of «end»)
 HasEnd bs _ = Unit {0}
 
-abbrev pub IsFoundWith : List ℕ → Found → Type 0
+abbrev pub IsFoundWith : List ℕ → BlockStart → Type 0
 IsFoundWith bs (Marked leaf) = HasEnd bs leaf
 IsFoundWith bs _ = Unit {0}
 
 -- A block was found at a place: its kind and its end are those of the block which begins there. With it come the
 -- columns before it, or 4 if there are more, and its offset.
-pub record IsFoundAt (options : Options) (p : Place) (found : Found) (columns at : ℕ) : Type 0 where
+pub record IsFoundAt (options : Options) (p : Place) (found : BlockStart) (columns at : ℕ) : Type 0 where
   pub kind : IsKind options p.rest (kind_of found)
   pub «end» : IsFoundWith (unindented p).rest.left found
   pub columns_are : columns ≡ min 4 (indent p.rest)
