@@ -21,8 +21,8 @@ impl<'a> FirstPass<'a> {
     /// Returns the end of the content of a heading, and its attributes. The heading's text extends from the offset
     /// `header_start` to `header_end`. With an attribute block, the content ends directly before the block, and
     /// includes white space before it. Without one, or if the options have no heading attributes, returns the text's
-    /// end and `None`. If `header_end` is before `header_start`, the text is empty. The pass is unchanged. Fails only if an
-    /// allocation fails (this project).
+    /// end and `None`. If `header_end` is before `header_start`, the text is empty. The pass is unchanged. Fails only
+    /// if an allocation fails (this project).
     pub fn extract_and_parse_heading_attribute_block(
         &self,
         header_start: usize,

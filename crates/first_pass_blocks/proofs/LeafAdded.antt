@@ -57,7 +57,8 @@ module _ (old new : BlockPass) (p : Place) (leaf : MarkedLeaf) (columns at next 
   line_read ends =
       let same = here in (omega arith, subst (IsCharBoundary (source_text old)) (sym ends) (place_end (source_text old) p f.utf8 f.place))
 
-  pub leaf_added : source_of new ≡ source_of old → NamesMore (allocs_of old) (allocs_of new) → (reading_of new).begin_list_item ≡ (reading_of old).begin_list_item
+  pub leaf_added : source_of new ≡ source_of old → NamesMore (allocs_of old) (allocs_of new)
+      → (reading_of new).begin_list_item ≡ (reading_of old).begin_list_item
       → (reading_of new).blank ≡ (reading_of old).blank → (after_line_at (source_text old) at ≤ next) × IsCharBoundary (source_text old) next
       → ((from : ℕ) → from ≤ at → AddsBetween (source_text old) from next (tree_of old) (tree_of new))
       → AddsKind (document (source_text old) (source_options old) (names_of (allocs_of new))) p (marked_kind leaf) false (tree_of old) (tree_of new) next

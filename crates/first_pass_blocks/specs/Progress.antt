@@ -27,7 +27,8 @@ pub record PassesTo (over : Source) (line : ℕ) (old new : BlockPass) (from to 
       → ReadyOn (document over.text.now over.options more) (tables_of (allocs_of old)) (reading_of old) from
       → ReadyOn (document over.text.now over.options more) (tables_of (allocs_of new)) (reading_of new) to
   pub order : OrderedOn over.options over.text.now (reading_of old) from → OrderedOn over.options over.text.now (reading_of new) to
-  pub node_bound : (first : List (ℕ × Item)) → GrowsTo over.text.now line first (tree_of old).nodes from → GrowsTo over.text.now line first (tree_of new).nodes to
+  pub node_bound : (first : List (ℕ × Item)) → GrowsTo over.text.now line first (tree_of old).nodes from
+      → GrowsTo over.text.now line first (tree_of new).nodes to
   pub named : AreNamed (names_of (allocs_of old)) (tree_of old).nodes → AreNamed (names_of (allocs_of new)) (tree_of new).nodes
   pub written : TablesAreWritten over.text.now (allocs_of old) → TablesAreWritten over.text.now (allocs_of new)
   pub whole : AreNamed (names_of (allocs_of old)) (tree_of old).nodes → HasWholeTables (names_of (allocs_of old)) (tree_of old)

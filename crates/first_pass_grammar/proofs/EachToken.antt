@@ -150,7 +150,8 @@ module _ (P : ItemBody → Type 0) (soft : P SoftBreak) (hard : (by_backslash : 
       some_each (nat_le (length s.text) end) (break_of end (end + line_end_len s end) (breaks_by_backslash s end) (blanks_at_end s end))
       (break_of_each end (end + line_end_len s end) (breaks_by_backslash s end) (blanks_at_end s end))
 
-  pub break_each : {after : MathBraces} (texts : List CowStr) (s : Inline) (tokens : List Item) (answer : ℕ × Option Item) → AreLineTokens texts s tokens answer after
+  pub break_each : {after : MathBraces} (texts : List CowStr) (s : Inline) (tokens : List Item) (answer : ℕ × Option Item)
+      → AreLineTokens texts s tokens answer after
       → IfSome answer.1 (λ y. P y.body)
   break_each texts s tokens answer h = subst (λ (a : ℕ × Option Item). IfSome a.1 (λ y. P y.body)) (sym h.answer_is) (line_break_each s h.content_end)
 
@@ -178,7 +179,8 @@ module _ (texts : List CowStr) (P : ItemBody → Type 0) (holds : HoldsOfTokens 
       (piece_each s.text stop at p chain (piece_of texts b s at p are.0 are.1) (piece_within texts b s at p are.1) h)
 
   -- the tokens of a line, and of a cell
-  pub line_each : {after : MathBraces} (s : Inline) (tokens : List Item) (answer : ℕ × Option Item) → AreLineTokens texts s tokens answer after → AreEach P tokens
+  pub line_each : {after : MathBraces} (s : Inline) (tokens : List Item) (answer : ℕ × Option Item) → AreLineTokens texts s tokens answer after
+      → AreEach P tokens
   line_each {after} s tokens answer h =
       subst (AreEach P) (sym h.tokens_are)
       (pieces_each s (text_end s h.content_end) s.start s.braces h.pieces (spot h.content_end after) [] h.division.divided tt)

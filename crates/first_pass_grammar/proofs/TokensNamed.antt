@@ -36,7 +36,8 @@ ready_within texts (Begins dropped escaped) h = tt
 ready_within texts (Token dropped n body) h = none_within texts body h
 ready_within texts (Run n opens closes) h = tt
 
-becomes_within : (texts : List CowStr) (b : MathBraces) (found : TokenStart) (p : Piece) → ReadyNamesNone found → MakesPiece texts b found p → PieceWithin texts p
+becomes_within : (texts : List CowStr) (b : MathBraces) (found : TokenStart) (p : Piece) → ReadyNamesNone found → MakesPiece texts b found p
+    → PieceWithin texts p
 becomes_within texts b (Ready piece) p none is = subst (PieceWithin texts) (sym is) (ready_within texts piece none)
 becomes_within texts b (Reference n c) p none is = subst (PieceWithin texts) (sym is.2) (slice_get_within texts is.0.0 is.1.0 is.1.1)
 becomes_within texts b (Dashes n) p none is = subst (PieceWithin texts) (sym is.2) (slice_get_within texts is.0.0 is.1.0 is.1.1)

@@ -132,7 +132,8 @@ pub fn scan_headed_table(
     requires { IsCharBoundary source.now.text.now start }
     ensures value { IfOk result (λ found. option_map (λ t. t.alignments.items) found
         ≡ headed_table (context_of source.now.options tree.now) (drop start source.now.text.now)) }
-    ensures head { IfOk result (λ found. IfSome found (λ t. t.table_head_len ≡ table_head_len (drop start source.now.text.now))) }
+    ensures head { IfOk result (λ found. IfSome found (λ t.
+        t.table_head_len ≡ table_head_len (drop start source.now.text.now))) }
     ensures within { IfOk result (λ found. IfSome found (λ t. start + t.table_head_len ≤ length source.now.text.now)) }
     ensures utf8 { OnOk result (IsUtf8 source.now.text.now) }
 {

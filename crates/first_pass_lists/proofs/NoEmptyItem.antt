@@ -57,7 +57,8 @@ left_none : (t : Bool) (e : ℕ) (r : Reading) → r.begin_list_item ≡ None �
 left_none true e r none = popped_none e r none
 left_none false e r none = none
 
-noted_none : (t : Bool) (r : Reading) (f : Forest Item) → r.begin_list_item ≡ None → (if t then record r { tree = f; blank = false } else r).begin_list_item ≡ None
+noted_none : (t : Bool) (r : Reading) (f : Forest Item) → r.begin_list_item ≡ None
+    → (if t then record r { tree = f; blank = false } else r).begin_list_item ≡ None
 noted_none true r f none = none
 noted_none false r f none = none
 

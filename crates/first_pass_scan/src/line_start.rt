@@ -372,8 +372,8 @@ impl<'a> LineStart<'a> {
         self.scan_content_indent(width + 1)
     }
 
-    // Takes `n` spaces and returns `true`, if they are next, no column is owed, and at least 16 bytes are left; otherwise
-    // takes nothing. Reads 16 bytes at once, without a loop whose end is hard to predict.
+    // Takes `n` spaces and returns `true`, if they are next, no column is owed, and at least 16 bytes are left.
+    // Otherwise takes nothing. Reads 16 bytes at once, without a loop whose end is hard to predict.
     #[inline(always)]
     fn take_spaces(&mut self, n: usize) -> bool
         ensures yes { result ≡ true → (self.new ≡ after_columns n self.old) × (n ≤ indent self.old) }

@@ -201,7 +201,8 @@ module _ (texts others : List CowStr) where
         (record { starts = refl; ends = refl; bodies = (iy, refl, among_same ix iy text h k) });
   }
 
-  pieces_alike : (stop at : ℕ) (b : MathBraces) (found : TokenStart) (p q : Piece) → ReadyNamesNone found → MakesPiece texts b found p → MakesPiece others b found q
+  pieces_alike : (stop at : ℕ) (b : MathBraces) (found : TokenStart) (p q : Piece) → ReadyNamesNone found → MakesPiece texts b found p
+      → MakesPiece others b found q
       → PiecesAlike stop at p q
   pieces_alike stop at b (Ready piece) p q none h k = rw (h, k) (piece_same stop at piece none)
   pieces_alike stop at b (Reference n c) p q none h k = rw (h.2, k.2) (named_alike stop at n h.0 k.0 _ h.1 k.1)
@@ -238,7 +239,8 @@ module _ (texts others : List CowStr) where
   one_division s ps qs to stop h k = one_way s s.start s.braces ps to qs stop h.divided h.ended k.divided k.ended
 
   -- a line has only one list of tokens, except for the indices, and one end and break
-  pub one_line : (s : Inline) (tokens more : List Item) (a b : ℕ × Option Item) (c d : MathBraces) → AreLineTokens texts s tokens a c → AreLineTokens others s more b d
+  pub one_line : (s : Inline) (tokens more : List Item) (a b : ℕ × Option Item) (c d : MathBraces) → AreLineTokens texts s tokens a c
+      → AreLineTokens others s more b d
       → AreAlike texts others tokens more × (a ≡ b) × (c ≡ d)
   one_line s tokens more a b c d h k =
       let same = one_division s h.pieces k.pieces (spot h.content_end c) (spot k.content_end d) h.division k.division in

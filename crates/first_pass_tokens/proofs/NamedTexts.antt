@@ -34,7 +34,8 @@ among_more new old ix text more named = (named.0, ap (λ (xs : List CowStr). sli
 pub among_last : (new old : List CowStr) (ix : CowIndex) (cow : CowStr) → ix.0 ≡ length old → new ≡ old ++ cow ∷ [] → slice_get new ix.0 ≡ Some cow
 among_last new old ix cow at is = ap (slice_get new) at ∙ ap (λ (xs : List CowStr). slice_get xs (length old)) is ∙ got_last old cow
 
-pub becomes_more : (new old : List CowStr) (b : MathBraces) (found : TokenStart) (p : Piece) → AreMore new old → MakesPiece old b found p → MakesPiece new b found p
+pub becomes_more : (new old : List CowStr) (b : MathBraces) (found : TokenStart) (p : Piece) → AreMore new old → MakesPiece old b found p
+    → MakesPiece new b found p
 becomes_more new old b (Ready piece) p more is = is
 becomes_more new old b (Reference n c) p more is = (is.0, among_more new old is.0 _ more is.1, is.2)
 becomes_more new old b (Dashes n) p more is = (is.0, among_more new old is.0 _ more is.1, is.2)
