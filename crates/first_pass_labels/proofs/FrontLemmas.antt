@@ -1,10 +1,11 @@
 -- The first bytes of two texts, as numbers, decide their order if the numbers differ.
-use Rattle.std.proofs.Common.{◌≡◌, ◌≢◌, ℕ, zero, suc, ◌*◌, ◌^◌, ◌<◌, ◌≤◌, List, [], ◌∷◌, slice_index, inl, inr, refl, sym, ap, ap₂, subst, ◌∙◌, arith}
+use Rattle.std.proofs.Common.{◌≡◌, ◌≢◌, ℕ, zero, suc, ◌+◌, ◌*◌, ◌^◌, ◌<◌, ◌≤◌, List, [], ◌∷◌, slice_index, inl, inr, refl, sym, ap, ap₂, subst, ◌∙◌, arith}
 use Rattle.std.proofs.Common.{suc-le-suc, zero-le, not-suc-le-zero}
 use Rattle.std.proofs.Math.Nat.{pow-le-pow_right, pow-suc}
 use Rattle.std.proofs.lemmas.Bool.{cases_lt}
 use Rattle.std.specs.Cmp.{nat_cmp_is}
 use Rattle.std.specs.Cmp.Lexicographic.{slice_cmp, nat_list_cmp_total}
+use Rattle.std.specs.Int.{w128, from_be_bytes}
 use Rattle.std.specs.Ordering.{nat_cmp, ordering_then, ordering_reverse}
 use Rattle.std.specs.declared.cmp.Ordering.TheVariants.{Less, Equal, Greater}
 use Rattle.first_pass_items.specs.declared.cow_str.CowStr.{CowStr}
@@ -13,6 +14,20 @@ use Rattle.first_pass_labels.specs.Foldings.{leading_number, folding_of, label_c
 -- each byte is below 256
 abbrev Fit : List ℕ → Type 0
 Fit bs = (k : ℕ) → slice_index bs k < 256
+
+-- the number of sixteen bytes, the first one the most significant
+number_of : (bs : List ℕ) → from_be_bytes w128 bs ≡ leading_number 16 bs
+number_of bs = omega arith
+
+-- the same bytes have the same number
+alike_number : (n : ℕ) (xs ys : List ℕ) → ((k : ℕ) → k < n → slice_index xs k ≡ slice_index ys k) → leading_number n xs ≡ leading_number n ys
+alike_number zero xs ys same = refl
+alike_number (suc n) xs ys same =
+    ap₂ (λ (a b : ℕ). a * 256 + b) (alike_number n xs ys (λ k below. same k (omega (arith, below)))) (same n (omega arith))
+
+pub front_number : (front bytes : List ℕ) (r : ℕ) → r ≡ from_be_bytes w128 front → ((k : ℕ) → k < 16 → slice_index front k ≡ slice_index bytes k)
+    → r ≡ leading_number 16 bytes
+front_number front bytes r is same = is ∙ number_of front ∙ alike_number 16 front bytes same
 
 -- fronts with the same number have the same bytes
 alike : (n : ℕ) (xs ys : List ℕ) → Fit xs → Fit ys → leading_number n xs ≡ leading_number n ys → (k : ℕ) → k < n → slice_index xs k ≡ slice_index ys k
@@ -62,7 +77,18 @@ pub front_room : (n : ℕ) → n < 16 → 256 ^ n * 256 ≤ 2 ^ 128
 front_room n h = subst (λ (k : ℕ). k ≤ 2 ^ 128) (pow-suc 256 n) (pow-le-pow_right {n = 256} (omega arith) h)
 
 -- keys whose fronts differ have the order of these numbers
-pub front_compared : (x y label other : CowStr) (m n : ℕ) → m ≡ leading_number 16 (folding_of x) → n ≡ leading_number 16 (folding_of y)
+front_compared : (x y label other : CowStr) (m n : ℕ) → m ≡ leading_number 16 (folding_of x) → n ≡ leading_number 16 (folding_of y)
     → Fit (folding_of x) → Fit (folding_of y) → m ≢ n → x ≡ label → y ≡ other → nat_cmp m n ≡ label_cmp label other
 front_compared x y label other m n p q f g apart same also =
     ap₂ nat_cmp p q ∙ fronts_decide 16 (folding_of x) (folding_of y) f g (λ e. apart (p ∙ e ∙ sym q)) ∙ ap₂ label_cmp same also
+
+-- a key with a larger front is after the other, and one with a smaller front before it
+pub front_above : (x y label other : CowStr) (m n : ℕ) → m ≡ leading_number 16 (folding_of x) → n ≡ leading_number 16 (folding_of y)
+    → Fit (folding_of x) → Fit (folding_of y) → n < m → x ≡ label → y ≡ other → Greater ≡ label_cmp label other
+front_above x y label other m n p q f g above same also =
+    nat_cmp_is m n Greater above ∙ front_compared x y label other m n p q f g (λ e. omega (arith, e, above)) same also
+
+pub front_below : (x y label other : CowStr) (m n : ℕ) → m ≡ leading_number 16 (folding_of x) → n ≡ leading_number 16 (folding_of y)
+    → Fit (folding_of x) → Fit (folding_of y) → m < n → x ≡ label → y ≡ other → Less ≡ label_cmp label other
+front_below x y label other m n p q f g below same also =
+    nat_cmp_is m n Less below ∙ front_compared x y label other m n p q f g (λ e. omega (arith, e, below)) same also

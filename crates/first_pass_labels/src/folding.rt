@@ -100,16 +100,15 @@ pub(crate) fn leading_number(bytes: &[u8]) -> u128
     ensures value { result ≡ leading_number 16 bytes.now }
     ensures fit { (at : ℕ) → slice_index bytes.now at < 256 }
 {
-    let mut front = 0;
-    for at in 0..16 {
-        front = front * 256 + u128::from(byte_at(bytes, at));
-    }
-    front
+    u128::from_be_bytes(first_bytes(bytes))
 }
 
-// The byte at an offset; 0 if there is none.
-fn byte_at(bytes: &[u8], at: usize) -> u8
-    ensures { result ≡ slice_index bytes.now at }
+// The first sixteen bytes, with 0 for each missing byte.
+fn first_bytes(bytes: &[u8]) -> [u8; 16]
+    ensures { (at : ℕ) → at < 16 → slice_index result at ≡ slice_index bytes.now at }
 {
-    if at < bytes.len() { bytes[at] } else { 0 }
+    let mut first = [0; 16];
+    let count = bytes.len().min(16);
+    first[..count].copy_from_slice(&bytes[..count]);
+    first
 }

@@ -68,6 +68,14 @@ impl<'a> LabelKey<'a> {
     {
         self.folding.text_of(self.label.deref())
     }
+
+    // The byte order of the foldings. Most keys differ in their first bytes, so it is kept out of the search in a table.
+    #[inline(never)]
+    fn cmp_foldings(&self, other: &LabelKey<'a>) -> Ordering
+        ensures { result ≡ label_cmp self.now other.now }
+    {
+        self.folding().cmp(other.folding())
+    }
 }
 
 impl<'a> PartialEq for LabelKey<'a> {
@@ -108,10 +116,14 @@ impl<'a> Ord for LabelKey<'a> {
     /// Returns the byte order of the foldings.
     #[inline(always)]
     fn cmp(&self, other: &LabelKey<'a>) -> Ordering {
-        if self.front != other.front {
-            return self.front.cmp(&other.front);
+        // A search in a table passes smaller keys most often.
+        if self.front > other.front {
+            return Ordering::Greater;
         }
-        self.folding().cmp(other.folding())
+        if self.front < other.front {
+            return Ordering::Less;
+        }
+        self.cmp_foldings(other)
     }
 }
 
