@@ -2,7 +2,7 @@
 
 ghost use Rattle.std.specs.List.{suffix_len};
 ghost use Rattle.std.specs.Option.{option_map};
-ghost use Rattle.std.specs.Prelude.{◌≡◌, ◌≤◌, ◌<◌, ◌+◌, ◌-◌, length, true, take, slice_index, IfSome, IfOk, OnOk, IsSomeAnd, Some, None, IsUtf8, IsCharBoundary, filter, [], ◌∷◌};
+ghost use Rattle.std.specs.Prelude.{◌≡◌, ◌≤◌, ◌<◌, ◌+◌, ◌-◌, length, true, take, slice_index, IfSome, IfOk, OnOk, IsSomeAnd, Some, None, IsUtf8, IsCharBoundary, filter, [], ◌∷◌, ◌++◌};
 ghost use Rattle.first_pass_items.specs.Bytes.{left_brace, right_brace};
 ghost use Rattle.first_pass_attributes.specs.AttributeBlocks.{ends as ends_with, is_after_block, is_inside_block, opening_brace as opening_of, length_before_block, inside_block};
 ghost use Rattle.first_pass_attributes.specs.Attributes.{is_telling, key_and_value as key_and_value_of, with_words, attributes_of, pair_in, attributes_in};
@@ -58,17 +58,20 @@ fn scan_inside_block(bytes: &[u8]) -> usize
     ensures value { result ≡ suffix_len is_inside_block bytes.now }
     ensures within { result ≤ length bytes.now }
 {
-    bytes
-        .iter()
-        .rev()
-        .take_while(|b| is_inside_block(**b))
-        .count()
+    let mut at = bytes.len();
+    while at > 0 && is_inside_block(bytes[at - 1]) {
+        at -= 1;
+    }
+    bytes.len() - at
 }
 
 // Whether a byte may be between the braces of an attribute block.
 fn is_inside_block(byte: u8) -> bool
     ensures { result ≡ is_inside_block byte }
 {
+    if byte.is_ascii_lowercase() {
+        return true;
+    }
     !matches!(byte, b'{' | b'}' | b'<' | b'>' | b'\\' | b'\n' | b'\r')
 }
 
@@ -150,10 +153,21 @@ fn add_word<'a>(attributes: &mut HeadingAttributes<'a>, word: &'a str) -> Result
         return Ok(());
     }
     if let Some(class) = word.strip_prefix('.') {
-        attributes.classes.push(class)?;
+        append(&mut attributes.classes, class)?;
         return Ok(());
     }
-    attributes.attrs.push(key_and_value(word))?;
+    append(&mut attributes.attrs, key_and_value(word))?;
+    Ok(())
+}
+
+// Appends an item. Most headings have at most one of a kind, so the first item takes memory for itself alone.
+fn append<T: Copy>(list: &mut Vec<T>, item: T) -> Result<(), AllocError>
+    ensures { OnOk result (list.new.items ≡ list.old.items ++ item ∷ []) }
+{
+    if list.is_empty() {
+        list.reserve_exact(1)?;
+    }
+    list.push(item)?;
     Ok(())
 }
 

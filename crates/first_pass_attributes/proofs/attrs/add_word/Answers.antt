@@ -23,7 +23,7 @@ returns-in-Some-strip_prefix c =
     let word : List ℕ = c.args.word.now in
     let class = c.in-Some-strip_prefix.class in
     let classes = c.args.attributes.now.classes.items in
-    let pushed : c.push.new.self.items ≡ classes ++ class ∷ [] = grind arith in
+    let pushed : c.append.new.list.items ≡ classes ++ class ∷ [] = grind arith in
     let tells : is_telling word ≡ true = cc in
     let marked = strip_prefix_char 46 word (Some class) c.in-Some-strip_prefix.ensures.cases (omega arith) in
     same_parts refl (ap (map (λ text. text.now)) pushed ∙ map-append (λ text. text.now) classes (class ∷ [])) refl
@@ -35,7 +35,7 @@ returns c =
     let word : List ℕ = c.args.word.now in
     let pair = c.key_and_value.result in
     let pairs = c.args.attributes.now.attrs.items in
-    let pushed : c.push-2.new.self.items ≡ pairs ++ pair ∷ [] = grind arith in
+    let pushed : c.append-2.new.list.items ≡ pairs ++ pair ∷ [] = grind arith in
     let tells : is_telling word ≡ true = cc in
     let no_id = strip_prefix_char 35 word None c.in_default.ensures.cases (omega arith) in
     let no_class = strip_prefix_char 46 word None c.in_default-strip_prefix.ensures.cases (omega arith) in
