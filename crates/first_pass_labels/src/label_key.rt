@@ -43,6 +43,7 @@ impl<'a> Model for LabelKey<'a> {
 
 impl<'a> LabelKey<'a> {
     /// Returns the key of a label. Fails only if an allocation fails.
+    #[inline(always)]
     pub fn new(alloc: Global, label: CowStr<'a>) -> Result<LabelKey<'a>, AllocError>
         ensures { IfOk result (λ key. key ≡ label.entry) }
     {
