@@ -12,6 +12,7 @@ use Rattle.std.proofs.lemmas.List.{drop_more, take_more, drop-drop, get_or-drop,
 use Rattle.std.proofs.lemmas.List.Sums.{prefix_len-le-length}
 use Rattle.std.proofs.lemmas.Option.{some_pair_parts, none-some}
 use Rattle.std.proofs.lemmas.Str.{encode_ascii, length-encode, IsCharBoundary-after_ascii}
+use Rattle.first_pass_lines.specs.Lanes.{IsRunIn}
 use Rattle.first_pass_lines.specs.Lines.{begins}
 use Rattle.first_pass_entities.specs.Entities.{entity_at}
 use Rattle.first_pass_links.specs.Escapes.{unescaped, unescaped_after, replaced_at, begins_escape, without_pipe_escapes}
@@ -381,6 +382,13 @@ kept_all t text from at i e =
     let none : drop at text ≡ [] = drop_all at text (omega arith) in
     i.kept ∙ ap (λ xs. take (at - from) (drop from text) ++ unescaped t xs) none ∙ ap (λ xs. take (at - from) (drop from text) ++ xs) (unescaped-nil t)
     ∙ append-nil (take (at - from) (drop from text)) ∙ take_all (at - from) (drop from text) (omega arith)
+
+-- a text without a backslash and `&` is unescaped to itself
+pub unmarked_same : (t : Bool) (text : List ℕ) → IsRunIn is_unmarked text 0 (length text) (length text) → unescaped t text ≡ text
+unmarked_same t text run =
+    let start : IsKept t text 0 0 = record { order = omega arith; within = omega arith; kept = refl } in
+    let all = kept_run t text 0 0 (length text) start (omega arith) (λ j l. run.1 j (omega arith) (omega arith)) in
+    kept_all t text 0 (0 + length text) all (omega arith)
 
 -- bytes that are written
 pub written_none : (t : Bool) (text : List ℕ) → IsCharBoundary text 0 → IsWritten t text 0 []

@@ -18,7 +18,25 @@ use std::alloc::{AllocError, Global};
 /// Returns the text with each backslash escape and each reference replaced by its character. In a table, a backslash
 /// directly before a pipe is dropped first. If nothing changes, the result borrows the text and takes no memory.
 /// Fails only if an allocation fails, which can happen only if something changes. CommonMark 2.4, 2.5, GFM 4.10.
+#[inline(always)]
 pub fn unescape<'a>(alloc: Global, text: &'a str, in_table: bool) -> Result<CowStr<'a>, AllocError>
+    ensures value { IfOk result (λ answer. text_of answer ≡ unescaped in_table text.now) }
+    ensures borrowed { unescaped in_table text.now ≡ text.now → IsOkAnd result (Borrows text.now) }
+    ensures changed { IfOk result (λ answer. TakesNoMemory answer → unescaped in_table text.now ≡ text.now) }
+{
+    match next_mark(text.as_bytes()) {
+        None => Ok(CowStr::Borrowed(text)),
+        Some(_) => unescape_marked(alloc, text, in_table),
+    }
+}
+
+// The same. Most texts have no backslash or `&`, so the string that is written is kept out of the callers.
+#[inline(never)]
+fn unescape_marked<'a>(
+    alloc: Global,
+    text: &'a str,
+    in_table: bool,
+) -> Result<CowStr<'a>, AllocError>
     ensures value { IfOk result (λ answer. text_of answer ≡ unescaped in_table text.now) }
     ensures borrowed { unescaped in_table text.now ≡ text.now → IsOkAnd result (Borrows text.now) }
     ensures changed { IfOk result (λ answer. TakesNoMemory answer → unescaped in_table text.now ≡ text.now) }
@@ -56,6 +74,7 @@ fn next_change(bytes: &[u8], from: usize, in_table: bool) -> Option<(usize, usiz
 }
 
 // The place of the first backslash or `&`. Most texts are short, and `memchr2` costs more before its first look.
+#[inline(always)]
 fn next_mark(bytes: &[u8]) -> Option<usize>
     ensures within { IfSome result (λ at. at < length bytes.now) }
     ensures first { IsRunIn is_unmarked bytes.now 0 (length bytes.now) (unwrap_or result (length bytes.now)) }

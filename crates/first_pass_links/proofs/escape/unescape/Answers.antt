@@ -1,39 +1,18 @@
-use Rattle.std.proofs.Common.{◌≡◌, ◌+◌, ◌-◌, ◌++◌, take, drop, encode_utf8, sym, ap, subst, ◌∙◌}
-use Rattle.std.specs.String.{string_bytes}
-use Rattle.std.proofs.lemmas.Str.{IsCharBoundary-start}
-use Rattle.first_pass_links.specs.Changes.{IsChange}
-use Rattle.first_pass_links.proofs.Escapes.{IsWritten, written_none, written_more, change_differs}
+use Rattle.std.proofs.Common.{◌≡◌, ℕ, List, length, sym, subst}
+use Rattle.first_pass_lines.specs.Lanes.{IsRunIn}
+use Rattle.first_pass_links.specs.Escapes.{unescaped}
+use Rattle.first_pass_links.specs.Plain.{is_unmarked}
+use Rattle.first_pass_links.proofs.Escapes.{unmarked_same}
 use Rattle.first_pass_links.proofs.escape.unescape.Goals as goal
-use Rattle.first_pass_links.proofs.escape.unescape.Goals.{In-Some}
+use Rattle.first_pass_links.proofs.escape.unescape.Goals.{In-None}
 
-pub loop-at-init : goal.loop-at-init
-loop-at-init c =
-    record {
-      so_far = subst (IsWritten c.args.in_table c.args.text.now 0) (sym c.new-written.ensures.bytes)
-          (written_none c.args.in_table c.args.text.now (IsCharBoundary-start c.args.text.now c.utf8.text));
-    }
+same : (c : In-None) → unescaped c.args.in_table c.args.text.now ≡ c.args.text.now
+same c =
+    unmarked_same c.args.in_table c.args.text.now
+    (subst (λ (xs : List ℕ). IsRunIn is_unmarked xs 0 (length xs) (length xs)) c.as_bytes.ensures.value c.in-None.ensures.first)
 
-change : (c : In-Some) → IsChange c.args.in_table c.args.text.now c.loop-at.from (c.in-Some.at, c.in-Some.len, c.in-Some.character)
-change c =
-    subst (λ xs. IsChange c.args.in_table xs c.loop-at.from (c.in-Some.at, c.in-Some.len, c.in-Some.character)) c.as_bytes.ensures.value c.in-Some.ensures.some
+pub returns-in-None-clause-value : goal.returns-in-None-clause-value
+returns-in-None-clause-value c = sym (same (goal.at.returns-in-None-clause-value c).In-None)
 
-pub returns-in_err-push_str-clause-borrowed : goal.returns-in_err-push_str-clause-borrowed
-returns-in_err-push_str-clause-borrowed c =
-    λ e. absurd (change_differs c.args.in_table c.args.text.now c.loop-at.from c.in-Some.at c.in-Some.len c.in-Some.character _ c.loop-at.invariant.so_far
-    (change (goal.at.returns-in_err-push_str-clause-borrowed c).In-Some) e)
-
-pub returns-in_err-push-clause-borrowed : goal.returns-in_err-push-clause-borrowed
-returns-in_err-push-clause-borrowed c =
-    λ e. absurd (change_differs c.args.in_table c.args.text.now c.loop-at.from c.in-Some.at c.in-Some.len c.in-Some.character _ c.loop-at.invariant.so_far
-    (change (goal.at.returns-in_err-push-clause-borrowed c).In-Some) e)
-
-pub loop-at-preserved : goal.loop-at-preserved
-loop-at-preserved c =
-    let w = written_more c.args.in_table c.args.text.now c.loop-at.from c.in-Some.at c.in-Some.len c.in-Some.character _ c.utf8.text c.loop-at.invariant.so_far
-    (change (goal.at.loop-at-preserved c).In-Some) in
-    let e : string_bytes c.push.new.self
-    ≡ (string_bytes c.loop-at.written ++ take (c.in-Some.at - c.loop-at.from) (drop c.loop-at.from c.args.text.now)) ++ encode_utf8 c.in-Some.character =
-    c.in_ok-push.ensures.bytes
-    ∙ ap (λ xs. xs ++ encode_utf8 c.in-Some.character) (c.in_ok-push_str.ensures.bytes ∙ ap (λ xs. string_bytes c.loop-at.written ++ xs) c.range.ensures.value)
-    in
-    record { so_far = subst (IsWritten c.args.in_table c.args.text.now (c.in-Some.at + c.in-Some.len)) (sym e) w }
+pub returns-in-None-clause-changed : goal.returns-in-None-clause-changed
+returns-in-None-clause-changed c = λ owned. same (goal.at.returns-in-None-clause-changed c).In-None

@@ -1,7 +1,7 @@
 use Rattle.std.proofs.Common.{◌-◌, length}
 use Rattle.std.specs.String.{string_bytes}
 use Rattle.first_pass_links.proofs.Escapes.{IsWritten}
-use Rattle.first_pass_links.proofs.escape.unescape.Given as goal
+use Rattle.first_pass_links.proofs.escape.unescape_marked.Given as goal
 
 -- the text up to here is written
 abbrev pub invariant-loop-at : goal.invariant-loop-at
