@@ -26,6 +26,7 @@ pub(crate) enum Folding {
 impl Folding {
     /// Returns the folding of a text. Takes memory if the text has characters past ASCII, or if its folding is
     /// another text of more than 22 bytes. Fails only if an allocation fails.
+    #[inline(always)]
     #[tactic(auto, using(crate::proofs::FoldingLemmas::own_folded))]
     pub(crate) fn of_text(alloc: Global, text: &str) -> Result<Folding, AllocError>
         ensures { IfOk result (λ folding. kept_folding folding text.now ≡ folded text.now) }
