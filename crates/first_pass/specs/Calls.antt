@@ -1,11 +1,18 @@
 -- What the calls of a pass do: one record for each kind of call.
-use Rattle.std.specs.Prelude.{◌≡◌, ℕ, ◌+◌, ◌-◌, ◌≤◌, ◌<◌, Bool, List, length, Option, None, IfSome, IsCharBoundary}
+use Rattle.std.specs.Prelude.{◌≡◌, ℕ, ◌+◌, ◌-◌, ◌≤◌, ◌<◌, Bool, List, length, Option, None, IfSome, IsCharBoundary, Result, IfOk}
+use Rattle.std.specs.declared.alloc.AllocError.{AllocError}
+use Rattle.first_pass_items.specs.declared.item.HeadingLevel.{HeadingLevel}
 use Rattle.first_pass_items.specs.declared.item.Item.{Item}
 use Rattle.first_pass_items.specs.declared.option_set.Options.{Options}
 use Rattle.first_pass_tree.specs.Forest.{added}
+use Rattle.first_pass_tree.specs.declared.tree_index.TreeIndex.{TreeIndex}
+use Rattle.first_pass_flank.specs.declared.flank.TableParseMode.{TableParseMode}
+use Rattle.first_pass_html.specs.Ends.{BlockEnd}
 use Rattle.first_pass_lines.specs.Places.{Place}
 use Rattle.first_pass_grammar.specs.Completion.{lines_from}
 use Rattle.first_pass_grammar.specs.Derivation.{no_tables}
+use Rattle.first_pass_grammar.specs.CodeBlocks.{IsFencedCode, IsMetadata}
+use Rattle.first_pass_grammar.specs.HtmlBlocks.{IsHtml}
 use Rattle.first_pass_grammar.specs.Leaves.{document, rule_block}
 use Rattle.first_pass_grammar.specs.Names.{Names, AreNamed, index_of}
 use Rattle.first_pass_grammar.specs.Order.{GrowsBy}
@@ -16,16 +23,23 @@ use Rattle.first_pass_tokens.specs.Braces.{no_braces}
 use Rattle.first_pass_open.specs.Between.{line_end_at, AddsBetween, IsInItem, StandsBefore}
 use Rattle.first_pass_lists.specs.Closing.{reading_with, with_block, item_finished}
 use Rattle.first_pass_lists.specs.declared.reading.Reading.{Reading}
-use Rattle.first_pass_raw.specs.RawBlocks.{IsPlaceAt, html_to_blank}
-use Rattle.first_pass_tables.specs.Appends.{AppendsRows, AddsWholeRows}
+use Rattle.first_pass_raw.specs.RawBlocks.{IsPlaceAt, range_of, AppendsRaw, AddsIndented, AddsRaw, fenced_after, metadata_after, html_to_end, html_to_blank}
+use Rattle.first_pass_raw.specs.declared.fenced_code.Fence.{Fence}
+use Rattle.first_pass_raw.specs.declared.raw_line.RawKind.{RawKind}
+use Rattle.first_pass_tables.specs.Appends.{open_table, ReadsRow, ReadsRowLine, AppendsRows, AddsWholeRows}
+use Rattle.first_pass_tables.specs.declared.row.CellsWanted.{CellsWanted}
+use Rattle.first_pass_text.specs.Appends.{AddsHeading}
+use Rattle.first_pass_blocks.specs.TextsAdded.{AddsText}
 use Rattle.first_pass_blocks.specs.FootnoteHeads.{ReadsFootnote}
 use Rattle.first_pass_order.specs.Ordered.{IsOrderedAt, IsOrderedFrom, IsReadTo}
 use Rattle.first_pass_blocks.specs.Positions.{LineAt}
 use Rattle.first_pass_blocks.specs.Progress.{ReadsBlock}
 use Rattle.first_pass_ready.specs.State.{Ready}
 use Rattle.first_pass.specs.declared.state.FirstPass.{FirstPass}
+use Rattle.first_pass.specs.Holds.{after_row}
+use Rattle.first_pass.specs.Lines.{ReadsInMode}
 use Rattle.first_pass.specs.Kept.{StayNamed, KeepsEntries, KeepsNames, KeepsTables}
-use Rattle.first_pass.specs.Views.{allocs_of, braces_of, context_in, pass_of, reading_of, source_of, source_options, source_text, tree_of, with_tree}
+use Rattle.first_pass.specs.Views.{allocs_of, braces_of, context_in, document_named, pass_of, reading_of, source_of, source_options, source_text, tree_of, with_tree}
 
 -- The state of a pass over this text under these options before it reads anything: the root is its only node, nothing
 -- is defined, no brace context is open, and the derivation of the text begins here (this project).
@@ -78,10 +92,42 @@ pub record AddsLineBlock (old new : FirstPass) (start next : ℕ) (blank : Bool)
   pub later : line_end_at (source_text old) start ≤ next
   pub boundary : IsCharBoundary (source_text old) next
 
--- An HTML block is added that ends before a blank line. Its nodes lie between an offset and the block's end, which may
--- be after the container prefixes of the blank line. Reading continues at the start of that line. The state is in
--- order up to there, or the tree is in order up to after these prefixes (CommonMark 4.6, and this project).
-pub record AddsHtmlToBlank (old new : FirstPass) (start next : ℕ) : Type 0 where
+-- the ATX heading of a level that begins at an offset is added, and reading continues at another (CommonMark 4.2)
+pub record AddsAtxHeading (old new : FirstPass) (start : ℕ) (level : HeadingLevel) (next : ℕ) : Type 0 where
+  pub block : AddsHeading (document_named old new) start level (tree_of old) (tree_of new) next
+  pub leaf : AddsLeafBlock old new start next (reading_of old).blank
+
+-- Indented code is added. The content of its first line begins at an offset, with columns owed there (CommonMark 4.4).
+pub record AddsIndentedCode (old new : FirstPass) (start owed next : ℕ) : Type 0 where
+  pub block : (p : Place) → IsPlaceAt (source_text old) start p → p.rest.owed ≡ owed
+      → AddsIndented (document_named old new) p (tree_of old) (tree_of new) next (reading_of new).blank
+  pub leaf : AddsLineBlock old new start next (reading_of new).blank
+
+-- the fenced code block is added whose opening fence begins at an offset (CommonMark 4.5)
+pub record AddsFencedCode (old new : FirstPass) (start : ℕ) (fence : Fence) (next : ℕ) : Type 0 where
+  pub block : let e = fenced_after (source_text old) (context_in old).path fence.indent fence.byte fence.count start in
+      AddsRaw (document_named old new) (λ d. IsFencedCode d start fence.count e.places e.«end») e.left (tree_of old) (tree_of new) next
+  pub leaf : AddsLineBlock old new start next (reading_of old).blank
+
+-- the metadata block is added that begins at an offset with three of a byte (this project)
+pub record AddsMetadata (old new : FirstPass) (start byte next : ℕ) : Type 0 where
+  pub block : let e = metadata_after (source_text old) (context_in old).path byte start in
+      AddsRaw (document_named old new) (λ d. IsMetadata d start byte e.places e.«end») e.left (tree_of old) (tree_of new) next
+  pub leaf : AddsLineBlock old new start next (reading_of old).blank
+
+-- An HTML block after these columns is added that ends with the first line that has its end condition (CommonMark 4.6).
+pub record AddsHtmlToEnd (old new : FirstPass) (start : ℕ) (until : BlockEnd) (columns next : ℕ) : Type 0 where
+  pub block : (p : Place) → IsPlaceAt (source_text old) start p → let e = html_to_end (source_text old) (context_in old).path until p in
+      AddsRaw (document_named old new) (λ d. IsHtml d start columns e.places e.«end») e.left (tree_of old) (tree_of new) next
+  pub leaf : AddsLineBlock old new start next (reading_of old).blank
+
+-- An HTML block after these columns is added that ends before a blank line. Its nodes lie between an offset and the
+-- block's end, which may be after the container prefixes of the blank line. Reading continues at the start of that
+-- line. The state is in order up to there, or the tree is in order up to after these prefixes (CommonMark 4.6, and this
+-- project).
+pub record AddsHtmlToBlank (old new : FirstPass) (start columns next : ℕ) : Type 0 where
+  pub block : (p : Place) → IsPlaceAt (source_text old) start p → let e = html_to_blank (source_text old) (context_in old).path p in
+      AddsRaw (document_named old new) (λ d. IsHtml d start columns e.places e.«end») e.left (tree_of old) (tree_of new) next
   pub kept : KeepsNames old new
   pub reading : reading_of new ≡ with_block (reading_of old) (tree_of new)
   pub later : line_end_at (source_text old) start ≤ next
@@ -104,10 +150,11 @@ pub record AddsRule (old new : FirstPass) (ix size next : ℕ) : Type 0 where
       → IsOrderedAt (source_text old) (reading_of old) at → IsOrderedAt (source_text old) (reading_of new) next
   pub following : next ≡ ix + size
 
--- A paragraph, setext heading or table is added, after the marker of its task list item if it has one. Its nodes lie
--- between the start of the text, or of that marker, and the offset at which reading continues. If the marker has no
--- index, each index names an entry if each did before (CommonMark 4.8, GFM 5.3, and this project).
+-- The paragraph, setext heading or table at an offset is added, after the marker of its task list item if it has one.
+-- Its nodes lie between the start of the text, or of that marker, and the offset at which reading continues. If the
+-- marker has no index, each index names an entry if each did before (CommonMark 4.8, GFM 5.3, and this project).
 pub record AddsParagraph (old new : FirstPass) (start : ℕ) (marker : Option Item) (next : ℕ) : Type 0 where
+  pub block : AddsText (document_named old new) start marker (tree_of old) (tree_of new) next
   pub source : source_of new ≡ source_of old
   pub more : NamesMore (allocs_of old) (allocs_of new)
   pub braces : braces_of new ≡ braces_of old
@@ -118,9 +165,10 @@ pub record AddsParagraph (old new : FirstPass) (start : ℕ) (marker : Option It
   pub order : IsInItem (tree_of old) marker → (at : ℕ) → StandsBefore (source_text old) at start marker
       → IsOrderedAt (source_text old) (reading_of old) at → IsOrderedAt (source_text old) (reading_of new) next
 
--- A raw line between two offsets is appended. The state is in order up to the line's end if both offsets are character
--- boundaries (this project).
-pub record AppendsBytes (old new : FirstPass) (start «end» : ℕ) : Type 0 where
+-- A raw line between two offsets is appended, after the columns owed before it. The state is in order up to the line's
+-- end if both offsets are character boundaries (this project).
+pub record AppendsRawLine (kind : RawKind) (old new : FirstPass) (owed start «end» : ℕ) : Type 0 where
+  pub line : AppendsRaw (range_of kind) (source_text old) (names_of (allocs_of new)) owed start «end» (tree_of old) (tree_of new)
   pub kept : KeepsNames old new
   pub reading : reading_of new ≡ with_block (reading_of old) (tree_of new)
   pub order : (at : ℕ) → at ≤ start → IsCharBoundary (source_text old) start → IsCharBoundary (source_text old) «end»
@@ -135,6 +183,12 @@ pub record AppendsTokens (old new : FirstPass) (start : ℕ) (end : Option ℕ) 
   pub order : IfSome end (λ e. IsCharBoundary (source_text old) e) → IsCharBoundary (source_text old) start → (at : ℕ) → at ≤ start
       → IsOrderedAt (source_text old) (reading_of old) at → IsOrderedAt (source_text old) (reading_of new) stop
   pub node_bound : length (tree_of new).nodes ≤ length (tree_of old).nodes + (stop - start)
+
+-- A line, a cell of a row, or a possible header row is read, depending on the mode. Reading continues at the returned
+-- offset (CommonMark 2.4, GFM 4.10).
+pub record ReadsContent (mode : TableParseMode) (old new : FirstPass) (start : ℕ) (end : Option ℕ) (answer : ℕ × Option Item) : Type 0 where
+  pub line : ReadsInMode mode old new start end answer
+  pub tokens : AppendsTokens old new start end answer.0
 
 -- The rows of a table with this many columns are added to it, and the table is closed where reading continues. They
 -- are whole, in order, and at most four nodes for each byte, if the line of the header row ends at or before
@@ -162,13 +216,32 @@ pub record ReadsRowFrom (old new : FirstPass) (ix next : ℕ) : Type 0 where
       → IsOrderedTo (source_text old) (tree_of new) next
   pub node_bound : IsCharBoundary (source_text old) ix → (from : ℕ) → from ≤ ix → from < next → GrowsBy from next (tree_of old).nodes (tree_of new).nodes
 
+-- A row of a table is read from an offset on, after the container prefixes of its line, or there is none. The numbers
+-- count the cells that are filled into the table before and after it (GFM 4.10, and this project).
+pub record ReadsTableRow (old new : FirstPass) (wanted : CellsWanted) (filled more : ℕ) (row : Option (ℕ × TreeIndex)) : Type 0 where
+  pub row_is : ReadsRow (document_named old new) wanted.most wanted.start (open_table (tree_of old) filled (braces_of old))
+      (open_table (tree_of new) more (braces_of new)) row
+  pub reads : ReadsRowFrom old new wanted.start (after_row row wanted.start)
+
+-- the same for a row in the line that begins at an offset, which may have container prefixes (GFM 4.10, and this
+-- project)
+pub record ReadsTableLine (old new : FirstPass) (wanted : CellsWanted) (filled more : ℕ) (row : Option (ℕ × TreeIndex)) : Type 0 where
+  pub row_is : ReadsRowLine (document_named old new) wanted.most wanted.start (open_table (tree_of old) filled (braces_of old))
+      (open_table (tree_of new) more (braces_of new)) row
+  pub reads : ReadsRowFrom old new wanted.start (after_row row wanted.start)
+
 -- The head of a footnote definition is sought at an offset; `size` is the number of bytes of the head, if one begins
 -- there. Then its definition is open and in order. The brace contexts are unchanged, and each index names an entry if
 -- each did before (this project).
-pub record SeeksFootnote (old new : FirstPass) (start : ℕ) (size : Option ℕ) : Type 0 where
-  pub source : source_of new ≡ source_of old
+pub record OpensFootnote (old new : FirstPass) (start : ℕ) (size : Option ℕ) : Type 0 where
   pub braces : braces_of new ≡ braces_of old
   pub named : StayNamed old new
   pub head : ReadsFootnote (pass_of old) (pass_of new) start size
   pub within : IfSome size (λ n. (3 < n) × IsCharBoundary (source_text old) (start + n))
   pub order : IfSome size (λ n. (at : ℕ) → at ≤ start → IsReadTo (source_text old) (reading_of old) at → IsReadTo (source_text old) (reading_of new) start)
+
+-- The head of a footnote definition is sought at an offset, and opened if one begins there. The text and the options
+-- are the same, also after an error (this project).
+pub record SeeksFootnote (old new : FirstPass) (start : ℕ) (result : Result (Option ℕ) AllocError) : Type 0 where
+  pub source : source_of new ≡ source_of old
+  pub footnote : IfOk result (λ size. OpensFootnote old new start size)

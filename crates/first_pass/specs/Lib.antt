@@ -3,4 +3,5 @@ pub mod Holds
 pub mod Interrupts
 pub mod Kept
 pub mod Lines
+pub mod Results
 pub mod Views

@@ -1,5 +1,5 @@
 -- What reading one line, or one cell of a table row, adds to a pass.
-use Rattle.std.specs.Prelude.{◌≡◌, ℕ, ◌+◌, Bool, true, false, List, length, drop, Option, Some, None, MatchOption}
+use Rattle.std.specs.Prelude.{◌≡◌, ℕ, ◌+◌, ◌≤◌, Bool, true, false, List, length, drop, Option, Some, None, IfSome, MatchOption, IsUtf8}
 use Rattle.std.specs.List.{prefix_len}
 use Rattle.first_pass_items.specs.declared.item.Alignment.{Alignment}
 use Rattle.first_pass_items.specs.declared.item.AlignmentIndex.{AlignmentIndex}
@@ -16,6 +16,10 @@ use Rattle.first_pass_names.specs.TableEntries.{names_of, with_alignments, AddsT
 use Rattle.first_pass_open.specs.Between.{line_end_at}
 use Rattle.first_pass.specs.declared.state.FirstPass.{FirstPass}
 use Rattle.first_pass.specs.Views.{allocs_of, braces_of, context_in, source_options, source_text, tree_of}
+
+-- content may begin at `start`, of a text that is cut at `end` (this project)
+abbrev pub CanBeRead : List ℕ → ℕ → Option ℕ → Type 0
+CanBeRead text start end = (start ≤ length text) × IfSome end (λ e. (start ≤ e) × (e ≤ length text))
 
 -- the content of a line or cell from `start`, of a text that is cut at `end`, under the brace contexts of the pass
 abbrev pub content_upto : FirstPass → ℕ → Option ℕ → Bool → Inline
@@ -34,6 +38,12 @@ pub record ReadsLine (old new : FirstPass) (start : ℕ) (end : Option ℕ) (ans
   pub line : AppendsLine (names_of (allocs_of new)).texts (content_upto old start end false) (tree_of old) (tree_of new) answer (braces_of new)
   pub ends : EndsLine (content_upto old start end false) answer
   pub names : AddsTexts (names_of (allocs_of new)) (names_of (allocs_of old))
+
+-- the text is UTF-8, and content from `start` to `stop` is within it, also if it is cut at `end` (this project)
+pub record IsReadTo (text : List ℕ) (start : ℕ) (end : Option ℕ) (stop : ℕ) : Type 0 where
+  pub utf8 : IsUtf8 text
+  pub later : start ≤ stop
+  pub within : stop ≤ length (text_upto text end)
 
 -- the tokens of the cell are appended and the texts that they name are added; the call returns the end of the cell's
 -- content (GFM 4.10)

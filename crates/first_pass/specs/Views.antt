@@ -1,13 +1,15 @@
 -- The parts of a pass: its text and options, its state between two lines with the tree, and its tables of entries.
-use Rattle.std.specs.Prelude.{ℕ, List}
+use Rattle.std.specs.Prelude.{ℕ, Bool, List}
 use Rattle.first_pass_items.specs.declared.item.Item.{Item}
 use Rattle.first_pass_items.specs.declared.option_set.Options.{Options}
-use Rattle.first_pass_tree.specs.Forest.{Forest}
+use Rattle.first_pass_tree.specs.Forest.{Forest, in_table}
 use Rattle.first_pass_names.specs.declared.items.Allocations.{Allocations}
+use Rattle.first_pass_names.specs.TableEntries.{names_of}
 use Rattle.first_pass_tokens.specs.Braces.{MathBraces}
 use Rattle.first_pass_open.specs.declared.source.Source.{Source}
 use Rattle.first_pass_lists.specs.declared.reading.Reading.{Reading}
 use Rattle.first_pass_grammar.specs.Containers.{Context}
+use Rattle.first_pass_grammar.specs.Leaves.{Document, document}
 use Rattle.first_pass_open.specs.Path.{context_of}
 use Rattle.first_pass_blocks.specs.declared.state.BlockPass.{BlockPass}
 use Rattle.first_pass.specs.declared.state.FirstPass.{FirstPass}
@@ -41,6 +43,14 @@ braces_of pass = pass.braces
 -- the context in which the pass reads a line
 abbrev pub context_in : FirstPass → Context
 context_in pass = context_of pass.pass.source.options pass.pass.reading.tree
+
+-- the innermost open node is in a table (this project)
+abbrev pub is_nested : FirstPass → Bool
+is_nested pass = in_table pass.pass.reading.tree.nodes pass.pass.reading.tree.spine
+
+-- the text and the options of the first pass, with the names of the second
+abbrev pub document_named : FirstPass → FirstPass → Document
+document_named old new = document old.pass.source.text.now old.pass.source.options (names_of new.pass.allocs)
 
 -- the state with another tree
 abbrev pub with_tree : Reading → Forest Item → Reading

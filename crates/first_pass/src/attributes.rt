@@ -1,13 +1,10 @@
 //! Setext headings, and the attributes of a heading, as calls of the pass.
 
-ghost use Rattle.std.specs.Prelude.{◌≡◌, ◌+◌, ◌≤◌, length, slice_get, Some, IfOk, IfSome};
-ghost use Rattle.std.specs.List.{slice_range};
-ghost use Rattle.std.specs.Option.{option_map};
+ghost use Rattle.std.specs.Prelude.{◌≡◌, ◌≤◌, length, slice_get, Some, IfOk, IfSome};
 ghost use Rattle.first_pass_tree.specs.Forest.{item_at};
-ghost use Rattle.first_pass_attributes.specs.Attributes.{attributes_in};
-ghost use Rattle.first_pass_grammar.specs.Headings.{before_attributes, heading_attributes_of};
 ghost use Rattle.first_pass.specs.Holds.{MakesHeading};
-ghost use Rattle.first_pass.specs.Views.{source_options, source_text, tree_of};
+ghost use Rattle.first_pass.specs.Results.{FindsAttributes};
+ghost use Rattle.first_pass.specs.Views.{source_text, tree_of};
 
 use crate::state::FirstPass;
 use first_pass_attributes::attrs::HeadingAttributes;
@@ -30,10 +27,7 @@ impl<'a> FirstPass<'a> {
     ) -> Result<(usize, Option<HeadingAttributes<'a>>), AllocError>
         requires from { header_start ≤ length (source_text self.now) }
         requires to { header_end ≤ length (source_text self.now) }
-        ensures content { IfOk result (λ answer. answer.0 ≡ header_start + length (before_attributes
-            (source_options self.now) (slice_range (source_text self.now) header_start header_end))) }
-        ensures attributes { IfOk result (λ answer. option_map attributes_in answer.1 ≡ heading_attributes_of
-            (source_options self.now) (slice_range (source_text self.now) header_start header_end)) }
+        ensures { IfOk result (λ answer. FindsAttributes self.now header_start header_end answer) }
     {
         let answer = attributes::extract_and_parse_heading_attribute_block(
             &self.pass.source,

@@ -1,18 +1,9 @@
 //! Link reference definitions, as calls of the pass.
 
-ghost use Rattle.std.specs.Prelude.{◌≡◌, ◌+◌, ◌-◌, ◌<◌, take, drop, None, IfOk, IfSome, IsSomeAnd, MatchOption, OnErr, IsCharBoundary, true, false};
-ghost use Rattle.std.specs.List.{list_any};
-ghost use Rattle.std.specs.Option.{option_map};
-ghost use Rattle.first_pass_items.specs.CowText.{text_of};
-ghost use Rattle.first_pass_lines.specs.Lines.{is_line_end};
-ghost use Rattle.first_pass_links.specs.Labels.{label_at};
-ghost use Rattle.first_pass_entities.specs.Texts.{Borrows};
-ghost use Rattle.first_pass_tree.specs.Forest.{in_table};
-ghost use Rattle.first_pass_grammar.specs.Definitions.{prefix_crossed, space_at, title_at, target_at, reference_at};
+ghost use Rattle.std.specs.Prelude.{◌≡◌, IsCharBoundary};
 ghost use Rattle.first_pass_kinds.specs.Rests.{IsRestOf};
-ghost use Rattle.first_pass_definitions.specs.Found.{AreInOrder, HasParts, IsTarget, IsReference, BorrowsLabel};
-ghost use Rattle.first_pass_definitions.specs.Memory.{LabelAsks, TargetAsks, ReferenceAsks, space_asks, title_asks};
-ghost use Rattle.first_pass.specs.Views.{context_in, source_text, tree_of};
+ghost use Rattle.first_pass.specs.Results.{FindsDefinition, FindsLabel, FindsSpace, FindsTarget, FindsTitle};
+ghost use Rattle.first_pass.specs.Views.{source_text};
 
 use crate::state::FirstPass;
 use first_pass_definitions::{label, reference, space, target, title};
@@ -32,21 +23,7 @@ impl<'a> FirstPass<'a> {
         start: usize,
     ) -> Result<Option<(usize, LabelKey<'a>, LinkDef<'a>)>, AllocError>
         requires { IsCharBoundary (source_text self.old) start }
-        ensures unchanged { self.new ≡ self.old }
-        ensures value { IfOk result (λ answer.
-            let nested = in_table (tree_of self.old).nodes (tree_of self.old).spine in
-            MatchOption (reference_at nested (context_in self.old) (drop start (source_text self.old)))
-            (answer ≡ None)
-            (λ reference. IsSomeAnd answer (IsReference nested start reference))) }
-        ensures fits { IfOk result (λ answer. IfSome answer (λ found.
-            (0 < found.0) × IsCharBoundary (source_text self.old) (start + found.0))) }
-        ensures borrowed { IfOk result (λ answer. IfSome answer (λ found.
-            BorrowsLabel (context_in self.old) (in_table (tree_of self.old).nodes (tree_of self.old).spine)
-            (drop (start + 1) (source_text self.old)) found.1)) }
-        ensures places { IfOk result (λ answer. IfSome answer (λ found.
-            HasParts (source_text self.old) found.2)) }
-        ensures err { OnErr result (ReferenceAsks (in_table (tree_of self.old).nodes (tree_of self.old).spine)
-            (context_in self.old) (drop start (source_text self.old))) }
+        ensures { FindsDefinition self.old self.new start result }
     {
         let pass = &self.pass;
         reference::parse_refdef_total(&pass.source, &pass.reading.tree, start)
@@ -63,17 +40,7 @@ impl<'a> FirstPass<'a> {
         start: usize,
     ) -> Result<Option<(usize, CowStr<'a>)>, AllocError>
         requires { IsCharBoundary (source_text self.now) start }
-        ensures value { IfOk result (λ answer. MatchOption (label_at (prefix_crossed true (context_in self.now))
-            (in_table (tree_of self.now).nodes (tree_of self.now).spine) (drop start (source_text self.now)))
-            (answer ≡ None)
-            (λ label. IsSomeAnd answer (λ found. (found.0 ≡ label.0) × (text_of found.1 ≡ label.1)))) }
-        ensures fits { IfOk result (λ answer. IfSome answer (λ found.
-            (0 < found.0) × IsCharBoundary (source_text self.now) (start + found.0))) }
-        ensures borrowed { IfOk result (λ answer. IfSome answer (λ found.
-            text_of found.1 ≡ take (found.0 - 1) (drop start (source_text self.now))
-            → Borrows (take (found.0 - 1) (drop start (source_text self.now))) found.1)) }
-        ensures err { OnErr result (LabelAsks (context_in self.now)
-            (in_table (tree_of self.now).nodes (tree_of self.now).spine) (drop start (source_text self.now))) }
+        ensures { FindsLabel self.now start result }
     {
         label::parse_refdef_label(&self.pass.source, &self.pass.reading.tree, start)
     }
@@ -90,17 +57,7 @@ impl<'a> FirstPass<'a> {
         start: usize,
     ) -> Result<Option<(usize, LinkDef<'a>)>, AllocError>
         requires { IsCharBoundary (source_text self.now) start }
-        ensures value { IfOk result (λ answer. MatchOption
-            (target_at (context_in self.now) (drop start (source_text self.now)))
-            (answer ≡ None)
-            (λ target. IsSomeAnd answer
-            (IsTarget (in_table (tree_of self.now).nodes (tree_of self.now).spine) span_start start target))) }
-        ensures fits { IfOk result (λ answer. IfSome answer (λ found.
-            IsCharBoundary (source_text self.now) (start + found.0))) }
-        ensures places { IfOk result (λ answer. IfSome answer (λ found.
-            AreInOrder (source_text self.now) start found.1)) }
-        ensures err { OnErr result (TargetAsks (in_table (tree_of self.now).nodes (tree_of self.now).spine)
-            (context_in self.now) (drop start (source_text self.now))) }
+        ensures { FindsTarget self.now span_start start result }
     {
         target::scan_refdef(
             &self.pass.source,
@@ -122,11 +79,7 @@ impl<'a> FirstPass<'a> {
     ) -> Result<Option<(usize, usize)>, AllocError>
         requires whole { bytes.now ≡ source_text self.now }
         requires place { IsCharBoundary (source_text self.now) i }
-        ensures value { IfOk result (λ answer. answer
-            ≡ option_map (λ s. (i + s.0, s.1))
-            (space_at (context_in self.now) (drop i (source_text self.now)))) }
-        ensures place { IfOk result (λ answer. IfSome answer (λ s. IsCharBoundary (source_text self.now) s.0)) }
-        ensures err { OnErr result (space_asks (context_in self.now) (drop i (source_text self.now)) ≡ true) }
+        ensures { FindsSpace self.now i result }
     {
         let _ = bytes;
         space::scan_refdef_space(&self.pass.source, &self.pass.reading.tree, i)
@@ -142,14 +95,7 @@ impl<'a> FirstPass<'a> {
         text: &'t str,
     ) -> Result<Option<(usize, CowStr<'t>)>, AllocError>
         requires { IsRestOf (source_text self.now) text.now }
-        ensures value { IfOk result (λ answer. MatchOption (title_at (context_in self.now) text.now)
-            (answer ≡ None)
-            (λ title. IsSomeAnd answer (λ found. (found.0 ≡ title.0) × (text_of found.1 ≡ title.1)))) }
-        ensures fits { IfOk result (λ answer. IfSome answer (λ found.
-            (1 < found.0) × IsCharBoundary text.now found.0)) }
-        ensures borrowed { IfOk result (λ answer. IfSome answer (λ found.
-            list_any is_line_end (text_of found.1) ≡ false → Borrows (text_of found.1) found.1)) }
-        ensures err { OnErr result (title_asks (context_in self.now) text.now ≡ true) }
+        ensures { FindsTitle self.now text.now result }
     {
         title::scan_refdef_title(&self.pass.source, &self.pass.reading.tree, text)
     }

@@ -1,8 +1,8 @@
 //! Footnote definitions, as a call of the pass (this project).
 
-ghost use Rattle.std.specs.Prelude.{◌≡◌, IfOk, IsCharBoundary};
+ghost use Rattle.std.specs.Prelude.{IsCharBoundary};
 ghost use Rattle.first_pass.specs.Calls.{SeeksFootnote};
-ghost use Rattle.first_pass.specs.Views.{source_of, source_text};
+ghost use Rattle.first_pass.specs.Views.{source_text};
 
 use crate::state::FirstPass;
 use std::alloc::AllocError;
@@ -16,8 +16,7 @@ impl<'a> FirstPass<'a> {
     /// allocation fails (this project).
     pub fn parse_footnote(&mut self, start: usize) -> Result<Option<usize>, AllocError>
         requires { IsCharBoundary (source_text self.old) start }
-        ensures source { source_of self.new ≡ source_of self.old }
-        ensures footnote { IfOk result (λ size. SeeksFootnote self.old self.new start size) }
+        ensures { SeeksFootnote self.old self.new start result }
     {
         let pass = &mut self.pass;
         let size = pass.parse_footnote(start)?;

@@ -1,18 +1,13 @@
 //! Which lines interrupt a paragraph, as calls of the pass.
 
-ghost use Rattle.std.specs.Prelude.{◌≡◌, is_some, ◌&&◌, ◌||◌, not, true, false, Some, None, IfOk, IsOk, OnErr, if◌then◌else◌};
-ghost use Rattle.first_pass_lines.specs.Places.{line_rest};
+ghost use Rattle.std.specs.Prelude.{◌≡◌, is_some, ◌&&◌, ◌||◌, not, false, None, IfOk, IsOk};
 ghost use Rattle.first_pass_links.specs.Footnotes.{footnote_head};
-ghost use Rattle.first_pass_grammar.specs.Containers.{front};
-ghost use Rattle.first_pass_grammar.specs.Kinds.{all_taken, ends_tag, footnote_interrupts, interrupts_with, is_blank_rest};
-ghost use Rattle.first_pass_grammar.specs.TableHeads.{table_interrupts};
-ghost use Rattle.first_pass_kinds.specs.Memory.{may_head, line_may_head};
+ghost use Rattle.first_pass_grammar.specs.Kinds.{interrupts_with};
 ghost use Rattle.first_pass_items.specs.declared.option_set.Options.{Options};
-ghost use Rattle.first_pass_items.specs.OptionWords.{has, definition_list};
 ghost use Rattle.first_pass_lists.specs.Closing.{top_body};
 ghost use Rattle.first_pass_tree.specs.Forest.{in_table};
 ghost use Rattle.first_pass.specs.Interrupts.{is_open_text, colon_interrupts};
-ghost use Rattle.first_pass.specs.Views.{context_in, source_options, tree_of};
+ghost use Rattle.first_pass.specs.Results.{FindsInterrupt, FindsNextLine};
 
 use crate::state::FirstPass;
 use bitflags::Flags;
@@ -97,13 +92,7 @@ impl<'a> FirstPass<'a> {
         current_container: bool,
         tree_position: usize,
     ) -> Result<bool, AllocError>
-        ensures value { IfOk result (λ yes. let tree = tree_of self.now in
-            yes ≡ (interrupts_with (current_container && not (in_table tree.nodes tree.spine)) text.now
-            || (footnote_interrupts (context_in self.now).options false text.now
-            || ((has (source_options self.now) definition_list
-            && colon_interrupts (source_options self.now) current_container tree tree_position text.now)
-            || table_interrupts (context_in self.now) text.now)))) }
-        ensures err { OnErr result (may_head (context_in self.now) text.now ≡ true) }
+        ensures { FindsInterrupt self.now text.now current_container tree_position result }
     {
         if scan_paragraph_interrupt_no_table(
             self.pass.source.alloc,
@@ -132,12 +121,7 @@ impl<'a> FirstPass<'a> {
         &mut self,
         bytes: &'input [u8],
     ) -> Result<Option<LineStart<'input>>, AllocError>
-        ensures unchanged { self.new ≡ self.old }
-        ensures value { IfOk result (λ rest. let line = front (context_in self.old).path (line_rest bytes.now) in
-            rest ≡ (if ends_tag (context_in self.old) (line_rest bytes.now) || is_blank_rest (all_taken line)
-            then None
-            else Some (all_taken line))) }
-        ensures err { OnErr result (line_may_head (context_in self.old) (line_rest bytes.now) ≡ true) }
+        ensures { FindsNextLine self.old self.new bytes.now result }
     {
         let pass = &self.pass;
         scan_next_line_or_lazy_continuation(&pass.source, bytes, &pass.reading.tree)

@@ -3,12 +3,8 @@
 ghost use Rattle.std.specs.Prelude.{◌≡◌, ◌+◌, ◌≤◌, drop, Some, false, length, IfOk, IfSome, IsCharBoundary};
 ghost use Rattle.first_pass_lines.specs.Lines.{atx_level as atx_level_of};
 ghost use Rattle.first_pass_tree.specs.Forest.{is_text};
-ghost use Rattle.first_pass_names.specs.TableEntries.{names_of};
-ghost use Rattle.first_pass_grammar.specs.Leaves.{document};
-ghost use Rattle.first_pass_text.specs.Appends.{AddsHeading};
-ghost use Rattle.first_pass_blocks.specs.TextsAdded.{AddsText};
-ghost use Rattle.first_pass.specs.Calls.{AddsLeafBlock, AddsParagraph, AddsRule};
-ghost use Rattle.first_pass.specs.Views.{allocs_of, reading_of, source_options, source_text, tree_of};
+ghost use Rattle.first_pass.specs.Calls.{AddsAtxHeading, AddsParagraph, AddsRule};
+ghost use Rattle.first_pass.specs.Views.{source_text};
 
 use crate::state::FirstPass;
 use first_pass_blocks::text;
@@ -28,10 +24,7 @@ impl<'a> FirstPass<'a> {
     ) -> Result<usize, AllocError>
         requires boundary { IsCharBoundary (source_text self.old) start_ix }
         requires marker { IfSome tasklist_marker (λ x. is_text x.body ≡ false) }
-        ensures block { IfOk result (λ next.
-            AddsText (document (source_text self.old) (source_options self.old) (names_of (allocs_of self.new)))
-            start_ix tasklist_marker (tree_of self.old) (tree_of self.new) next) }
-        ensures leaf { IfOk result (λ next. AddsParagraph self.old self.new start_ix tasklist_marker next) }
+        ensures { IfOk result (λ next. AddsParagraph self.old self.new start_ix tasklist_marker next) }
     {
         let pass = &mut self.pass;
         let next = text::parse_paragraph(
@@ -54,10 +47,7 @@ impl<'a> FirstPass<'a> {
     ) -> Result<usize, AllocError>
         requires within { start ≤ length (source_text self.old) }
         requires heading { atx_level_of (drop start (source_text self.old)) ≡ Some atx_level }
-        ensures block { IfOk result (λ next.
-            AddsHeading (document (source_text self.old) (source_options self.old) (names_of (allocs_of self.new)))
-            start atx_level (tree_of self.old) (tree_of self.new) next) }
-        ensures leaf { IfOk result (λ next. AddsLeafBlock self.old self.new start next (reading_of self.old).blank) }
+        ensures { IfOk result (λ next. AddsAtxHeading self.old self.new start atx_level next) }
     {
         let pass = &mut self.pass;
         let next = heading::parse_atx_heading(

@@ -1,9 +1,9 @@
 //! A line of a paragraph, or a cell of a table row, as a call of the pass (CommonMark 2.4, 4.8, GFM 4.10).
 
-ghost use Rattle.std.specs.Prelude.{◌≤◌, length, IfOk, IfSome, OnOk, IsUtf8};
-ghost use Rattle.first_pass_tokens.specs.Pieces.{text_upto};
-ghost use Rattle.first_pass.specs.Calls.{AppendsTokens};
-ghost use Rattle.first_pass.specs.Lines.{ReadsLine, ReadsCell, ReadsPossibleHead, ReadsInMode};
+ghost use Rattle.std.specs.Prelude.{IfOk, None};
+ghost use Rattle.first_pass_flank.specs.declared.flank.TableParseMode.TheVariants.{Active, Disabled};
+ghost use Rattle.first_pass.specs.Calls.{AppendsTokens, ReadsContent};
+ghost use Rattle.first_pass.specs.Lines.{CanBeRead, IsReadTo, ReadsPossibleHead};
 ghost use Rattle.first_pass.specs.Views.{source_text};
 
 use crate::state::FirstPass;
@@ -35,10 +35,8 @@ impl<'a> FirstPass<'a> {
         end: Option<usize>,
         mode: TableParseMode,
     ) -> Result<(usize, Option<Item>), AllocError>
-        requires start { start ≤ length (source_text self.old) }
-        requires end { IfSome end (λ e. (start ≤ e) × (e ≤ length (source_text self.old))) }
-        ensures line { IfOk result (λ answer. ReadsInMode mode self.old self.new start end answer) }
-        ensures tokens { IfOk result (λ answer. AppendsTokens self.old self.new start end answer.0) }
+        requires { CanBeRead (source_text self.old) start end }
+        ensures { IfOk result (λ answer. ReadsContent mode self.old self.new start end answer) }
     {
         match mode {
             TableParseMode::Disabled => {
@@ -62,13 +60,9 @@ impl<'a> FirstPass<'a> {
         start: usize,
         end: Option<usize>,
     ) -> Result<(usize, Option<Item>), AllocError>
-        requires start { start ≤ length (source_text self.old) }
-        requires end { IfSome end (λ e. (start ≤ e) × (e ≤ length (source_text self.old))) }
-        ensures line { IfOk result (λ answer. ReadsLine self.old self.new start end answer) }
-        ensures tokens { IfOk result (λ answer. AppendsTokens self.old self.new start end answer.0) }
-        ensures utf8 { OnOk result (IsUtf8 (source_text self.old)) }
-        ensures later { IfOk result (λ answer. start ≤ answer.0) }
-        ensures within { IfOk result (λ answer. answer.0 ≤ length (text_upto (source_text self.old) end)) }
+        requires { CanBeRead (source_text self.old) start end }
+        ensures line { IfOk result (λ answer. ReadsContent Disabled self.old self.new start end answer) }
+        ensures place { IfOk result (λ answer. IsReadTo (source_text self.old) start end answer.0) }
     {
         let pass = &mut self.pass;
         pass.reading.tree.recall_forest();
@@ -90,10 +84,8 @@ impl<'a> FirstPass<'a> {
 
     // Appends the tokens of a cell; returns the end of its content.
     fn append_cell_content(&mut self, start: usize, end: Option<usize>) -> Result<usize, AllocError>
-        requires start { start ≤ length (source_text self.old) }
-        requires end { IfSome end (λ e. (start ≤ e) × (e ≤ length (source_text self.old))) }
-        ensures cell { IfOk result (λ stop. ReadsCell self.old self.new start end stop) }
-        ensures tokens { IfOk result (λ stop. AppendsTokens self.old self.new start end stop) }
+        requires { CanBeRead (source_text self.old) start end }
+        ensures { IfOk result (λ stop. ReadsContent Active self.old self.new start end (stop, None)) }
     {
         let pass = &mut self.pass;
         pass.reading.tree.recall_forest();
@@ -121,8 +113,7 @@ impl<'a> FirstPass<'a> {
         start: usize,
         end: Option<usize>,
     ) -> Result<(usize, Option<Item>), AllocError>
-        requires start { start ≤ length (source_text self.old) }
-        requires end { IfSome end (λ e. (start ≤ e) × (e ≤ length (source_text self.old))) }
+        requires { CanBeRead (source_text self.old) start end }
         ensures line { IfOk result (λ answer. ReadsPossibleHead self.old self.new start end answer) }
         ensures tokens { IfOk result (λ answer. AppendsTokens self.old self.new start end answer.0) }
     {

@@ -4,15 +4,9 @@ ghost use Rattle.std.specs.Prelude.{◌≡◌, ◌≤◌, Some, true, false, max
 ghost use Rattle.first_pass_html.specs.Ends.{condition_of};
 ghost use Rattle.first_pass_lines.specs.Lines.{is_blank_line, is_content};
 ghost use Rattle.first_pass_scan.specs.LeafLines.{code_fence};
-ghost use Rattle.first_pass_lines.specs.Places.{Place};
-ghost use Rattle.first_pass_grammar.specs.Leaves.{document};
-ghost use Rattle.first_pass_grammar.specs.RawLines.{range_text, range_html};
-ghost use Rattle.first_pass_grammar.specs.CodeBlocks.{IsFencedCode, IsMetadata};
-ghost use Rattle.first_pass_grammar.specs.HtmlBlocks.{IsHtml};
-ghost use Rattle.first_pass_names.specs.TableEntries.{names_of};
-ghost use Rattle.first_pass_raw.specs.RawBlocks.{range_of, AppendsRaw, IsPlaceAt, AddsIndented, AddsRaw, fenced_after, metadata_after, html_to_end, html_to_blank};
-ghost use Rattle.first_pass.specs.Calls.{AddsHtmlToBlank, AddsLineBlock, AppendsBytes};
-ghost use Rattle.first_pass.specs.Views.{allocs_of, context_in, reading_of, source_options, source_text, tree_of};
+ghost use Rattle.first_pass_raw.specs.declared.raw_line.RawKind.TheVariants.{Code, Html};
+ghost use Rattle.first_pass.specs.Calls.{AddsFencedCode, AddsHtmlToBlank, AddsHtmlToEnd, AddsIndentedCode, AddsMetadata, AppendsRawLine};
+ghost use Rattle.first_pass.specs.Views.{source_text};
 
 use crate::state::FirstPass;
 use first_pass_html::ends::HtmlEnd;
@@ -33,11 +27,8 @@ impl<'a> FirstPass<'a> {
         end: usize,
     ) -> Result<(), AllocError>
         requires owed { remaining_space ≤ 3 }
-        requires order { start ≤ end }
-        requires within { end ≤ length (source_text self.old) }
-        ensures line { OnOk result (AppendsRaw range_text (source_text self.old) (names_of (allocs_of self.new))
-            remaining_space start end (tree_of self.old) (tree_of self.new)) }
-        ensures bytes { OnOk result (AppendsBytes self.old self.new start end) }
+        requires range { (start ≤ end) × (end ≤ length (source_text self.old)) }
+        ensures { OnOk result (AppendsRawLine Code self.old self.new remaining_space start end) }
     {
         self.append_line_of(RawKind::Code, remaining_space, start, end)
     }
@@ -51,11 +42,8 @@ impl<'a> FirstPass<'a> {
         end: usize,
     ) -> Result<(), AllocError>
         requires owed { remaining_space ≤ 3 }
-        requires order { start ≤ end }
-        requires within { end ≤ length (source_text self.old) }
-        ensures line { OnOk result (AppendsRaw range_html (source_text self.old) (names_of (allocs_of self.new))
-            remaining_space start end (tree_of self.old) (tree_of self.new)) }
-        ensures bytes { OnOk result (AppendsBytes self.old self.new start end) }
+        requires range { (start ≤ end) × (end ≤ length (source_text self.old)) }
+        ensures { OnOk result (AppendsRawLine Html self.old self.new remaining_space start end) }
     {
         self.append_line_of(RawKind::Html, remaining_space, start, end)
     }
@@ -69,11 +57,8 @@ impl<'a> FirstPass<'a> {
         end: usize,
     ) -> Result<(), AllocError>
         requires owed { remaining_space ≤ 3 }
-        requires order { start ≤ end }
-        requires within { end ≤ length (source_text self.old) }
-        ensures line { OnOk result (AppendsRaw (range_of kind) (source_text self.old) (names_of (allocs_of self.new))
-            remaining_space start end (tree_of self.old) (tree_of self.new)) }
-        ensures bytes { OnOk result (AppendsBytes self.old self.new start end) }
+        requires range { (start ≤ end) × (end ≤ length (source_text self.old)) }
+        ensures { OnOk result (AppendsRawLine kind self.old self.new remaining_space start end) }
     {
         let pass = &mut self.pass;
         pass.reading.tree.recall_forest();
@@ -105,12 +90,7 @@ impl<'a> FirstPass<'a> {
         requires boundary { IsCharBoundary (source_text self.old) start_ix }
         requires owed { remaining_space ≤ 3 }
         requires code { is_blank_line (drop start_ix (source_text self.old)) ≡ false }
-        ensures block { IfOk result (λ next. (p : Place) → IsPlaceAt (source_text self.old) start_ix p
-            → p.rest.owed ≡ remaining_space
-            → AddsIndented (document (source_text self.old) (source_options self.old) (names_of (allocs_of self.new))) p
-            (tree_of self.old) (tree_of self.new) next (reading_of self.new).blank) }
-        ensures leaf { IfOk result (λ next.
-            AddsLineBlock self.old self.new start_ix next (reading_of self.new).blank) }
+        ensures { IfOk result (λ next. AddsIndentedCode self.old self.new start_ix remaining_space next) }
     {
         let pass = &mut self.pass;
         let (next, blank) = indented_code::parse_indented_code_block(
@@ -137,13 +117,8 @@ impl<'a> FirstPass<'a> {
     ) -> Result<usize, AllocError>
         requires boundary { IsCharBoundary (source_text self.old) start_ix }
         requires fence { code_fence (drop start_ix (source_text self.old)) ≡ Some (n_fence_char, fence_ch) }
-        ensures block { IfOk result (λ next. let e = fenced_after (source_text self.old)
-            (context_in self.old).path indent fence_ch n_fence_char start_ix in
-            AddsRaw (document (source_text self.old) (source_options self.old) (names_of (allocs_of self.new))) (λ d.
-            IsFencedCode d start_ix n_fence_char e.places e.«end») e.left (tree_of self.old) (tree_of self.new)
-            next) }
-        ensures leaf { IfOk result (λ next.
-            AddsLineBlock self.old self.new start_ix next (reading_of self.old).blank) }
+        ensures { IfOk result (λ next. AddsFencedCode self.old self.new start_ix
+            (record { indent = indent; byte = fence_ch; count = n_fence_char }) next) }
     {
         let pass = &mut self.pass;
         let fence = Fence {
@@ -171,13 +146,7 @@ impl<'a> FirstPass<'a> {
     ) -> Result<usize, AllocError>
         requires boundary { IsCharBoundary (source_text self.old) start_ix }
         requires byte { is_content metadata_block_ch ≡ true }
-        ensures block { IfOk result (λ next. let e = metadata_after (source_text self.old)
-            (context_in self.old).path metadata_block_ch start_ix in
-            AddsRaw (document (source_text self.old) (source_options self.old) (names_of (allocs_of self.new))) (λ d.
-            IsMetadata d start_ix metadata_block_ch e.places e.«end») e.left (tree_of self.old) (tree_of self.new)
-            next) }
-        ensures leaf { IfOk result (λ next.
-            AddsLineBlock self.old self.new start_ix next (reading_of self.old).blank) }
+        ensures { IfOk result (λ next. AddsMetadata self.old self.new start_ix metadata_block_ch next) }
     {
         let pass = &mut self.pass;
         let next = metadata_block::parse_metadata_block(
@@ -202,15 +171,9 @@ impl<'a> FirstPass<'a> {
         indent: usize,
     ) -> Result<usize, AllocError>
         requires boundary { IsCharBoundary (source_text self.old) start_ix }
-        requires owed { remaining_space ≤ 3 }
-        requires indent { indent ≤ 3 }
-        ensures block { IfOk result (λ next. (p : Place) → IsPlaceAt (source_text self.old) start_ix p
-            → let e = html_to_end (source_text self.old) (context_in self.old).path (condition_of html_end) p in
-            AddsRaw (document (source_text self.old) (source_options self.old) (names_of (allocs_of self.new))) (λ d.
-            IsHtml d start_ix (max remaining_space indent) e.places e.«end») e.left (tree_of self.old)
-            (tree_of self.new) next) }
-        ensures leaf { IfOk result (λ next.
-            AddsLineBlock self.old self.new start_ix next (reading_of self.old).blank) }
+        requires columns { max remaining_space indent ≤ 3 }
+        ensures { IfOk result (λ next. AddsHtmlToEnd self.old self.new start_ix (condition_of html_end)
+            (max remaining_space indent) next) }
     {
         let pass = &mut self.pass;
         let start = HtmlStart {
@@ -238,14 +201,9 @@ impl<'a> FirstPass<'a> {
         indent: usize,
     ) -> Result<usize, AllocError>
         requires boundary { IsCharBoundary (source_text self.old) start_ix }
-        requires owed { remaining_space ≤ 3 }
-        requires indent { indent ≤ 3 }
-        ensures block { IfOk result (λ next. (p : Place) → IsPlaceAt (source_text self.old) start_ix p
-            → let e = html_to_blank (source_text self.old) (context_in self.old).path p in
-            AddsRaw (document (source_text self.old) (source_options self.old) (names_of (allocs_of self.new))) (λ d.
-            IsHtml d start_ix (max remaining_space indent) e.places e.«end») e.left (tree_of self.old)
-            (tree_of self.new) next) }
-        ensures leaf { IfOk result (λ next. AddsHtmlToBlank self.old self.new start_ix next) }
+        requires columns { max remaining_space indent ≤ 3 }
+        ensures { IfOk result (λ next.
+            AddsHtmlToBlank self.old self.new start_ix (max remaining_space indent) next) }
     {
         let pass = &mut self.pass;
         pass.reading.tree.recall_forest();

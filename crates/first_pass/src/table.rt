@@ -2,13 +2,10 @@
 
 ghost use Rattle.std.specs.Prelude.{◌≤◌, length, IfOk, IsSomeAnd, IsCharBoundary};
 ghost use Rattle.first_pass_tree.specs.declared.tree_index.TreeIndex.{TreeIndex};
-ghost use Rattle.first_pass_names.specs.TableEntries.{names_of};
-ghost use Rattle.first_pass_grammar.specs.Leaves.{document};
 ghost use Rattle.first_pass_open.specs.OpenBlock.{IsJustPushed};
-ghost use Rattle.first_pass_tables.specs.Appends.{IsOpenNode, open_table, ReadsRow, ReadsRowLine};
-ghost use Rattle.first_pass.specs.Calls.{ClosesTable, ReadsRowFrom};
-ghost use Rattle.first_pass.specs.Holds.{after_row};
-ghost use Rattle.first_pass.specs.Views.{allocs_of, braces_of, source_options, source_text, tree_of};
+ghost use Rattle.first_pass_tables.specs.Appends.{IsOpenNode};
+ghost use Rattle.first_pass.specs.Calls.{ClosesTable, ReadsTableLine, ReadsTableRow};
+ghost use Rattle.first_pass.specs.Views.{source_text, tree_of};
 
 use crate::state::FirstPass;
 use first_pass_tables::row::{self, CellsWanted, TableSoFar};
@@ -61,12 +58,8 @@ impl<'a> FirstPass<'a> {
     ) -> Result<Option<(usize, TreeIndex)>, AllocError>
         requires boundary { IsCharBoundary (source_text self.old) ix }
         requires open { IsOpenNode (tree_of self.old) }
-        ensures row { IfOk result (λ row.
-            ReadsRowLine (document (source_text self.old) (source_options self.old) (names_of (allocs_of self.new)))
-            row_cells ix
-            (open_table (tree_of self.old) missing_empty_cells.old (braces_of self.old))
-            (open_table (tree_of self.new) missing_empty_cells.new (braces_of self.new)) row) }
-        ensures kept { IfOk result (λ row. ReadsRowFrom self.old self.new ix (after_row row ix)) }
+        ensures { IfOk result (λ row. ReadsTableLine self.old self.new (record { start = ix; most = row_cells })
+            missing_empty_cells.old missing_empty_cells.new row) }
     {
         let mut table = TableSoFar {
             missing_empty_cells: *missing_empty_cells,
@@ -103,12 +96,8 @@ impl<'a> FirstPass<'a> {
     ) -> Result<Option<(usize, TreeIndex)>, AllocError>
         requires within { ix ≤ length (source_text self.old) }
         requires open { IsOpenNode (tree_of self.old) }
-        ensures row { IfOk result (λ row.
-            ReadsRow (document (source_text self.old) (source_options self.old) (names_of (allocs_of self.new)))
-            row_cells ix
-            (open_table (tree_of self.old) missing_empty_cells.old (braces_of self.old))
-            (open_table (tree_of self.new) missing_empty_cells.new (braces_of self.new)) row) }
-        ensures kept { IfOk result (λ row. ReadsRowFrom self.old self.new ix (after_row row ix)) }
+        ensures { IfOk result (λ row. ReadsTableRow self.old self.new (record { start = ix; most = row_cells })
+            missing_empty_cells.old missing_empty_cells.new row) }
     {
         let mut table = TableSoFar {
             missing_empty_cells: *missing_empty_cells,

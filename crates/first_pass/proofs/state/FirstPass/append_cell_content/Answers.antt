@@ -15,8 +15,8 @@ both_ends : (text : List ℕ) (start : ℕ) (end : Option ℕ)
 both_ends text start None h b = tt
 both_ends text start (Some e) h b = (h.0, b)
 
-pub returns-clause-tokens : goal.returns-clause-tokens
-returns-clause-tokens c =
+pub returns : goal.returns
+returns c =
     let self = c.args.self.now in
     let text = self.pass.source.text.now in
     let options = self.pass.source.options in
@@ -26,21 +26,24 @@ returns-clause-tokens c =
     let stop = c.in_ok-stop.stop in
     let e = c.in_ok-stop.ensures in
     record {
-      kept = record {
-        source = refl;
-        more = record { names = e.names; entries = e.entries };
-        named = cell_named names (names_of self.pass.allocs) _ old.tree new.tree stop e.names e.cell;
+      line = (record { cell = e.cell; ends = e.ends; names = e.texts }, refl);
+      tokens = record {
+        kept = record {
+          source = refl;
+          more = record { names = e.names; entries = e.entries };
+          named = cell_named names (names_of self.pass.allocs) _ old.tree new.tree stop e.names e.cell;
+        };
+        reading = refl;
+        boundary = λ whole boundary.
+            let same : text_upto text c.args.«end» ≡ text = ap (text_upto text) whole in
+            subst (λ t. IsCharBoundary t stop) same (cell_end_place (subst (λ t. c.args.start ≤ length t) (sym same) c.requires.0) e.cell.cell);
+        order = λ ends boundary at low o.
+            let before = o.later in
+            let k : ℕ = reached old.begin_list_item at in
+            let low' : k ≤ at = before in
+            let to = ordered_cell text options self.braces c.args.start c.args.end old.tree new.tree stop k e.utf8
+            (both_ends text c.args.start c.args.end c.requires.1 ends) boundary c.recall_forest.ensures e.cell (omega arith) o.ordered in
+            ordered_none text new stop refl to.within to;
+        node_bound = few_of_cell e.cell;
       };
-      reading = refl;
-      boundary = λ whole boundary.
-          let same : text_upto text c.args.«end» ≡ text = ap (text_upto text) whole in
-          subst (λ t. IsCharBoundary t stop) same (cell_end_place (subst (λ t. c.args.start ≤ length t) (sym same) c.requires.start) e.cell.cell);
-      order = λ ends boundary at low o.
-          let before = o.later in
-          let k : ℕ = reached old.begin_list_item at in
-          let low' : k ≤ at = before in
-          let to = ordered_cell text options self.braces c.args.start c.args.end old.tree new.tree stop k e.utf8
-          (both_ends text c.args.start c.args.end c.requires.end ends) boundary c.recall_forest.ensures e.cell (omega arith) o.ordered in
-          ordered_none text new stop refl to.within to;
-      node_bound = few_of_cell e.cell;
     }

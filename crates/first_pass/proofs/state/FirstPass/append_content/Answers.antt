@@ -17,8 +17,8 @@ both_ends : (text : List ℕ) (start : ℕ) (end : Option ℕ)
 both_ends text start None h b = tt
 both_ends text start (Some e) h b = (h.0, b)
 
-pub returns-clause-tokens : goal.returns-clause-tokens
-returns-clause-tokens c =
+pub returns-clause-line : goal.returns-clause-line
+returns-clause-line c =
     let self = c.args.self.now in
     let text = self.pass.source.text.now in
     let options = self.pass.source.options in
@@ -28,22 +28,26 @@ returns-clause-tokens c =
     let answer = c.in_ok-line.line in
     let e = c.in_ok-line.ensures in
     record {
-      kept = record {
-        source = refl;
-        more = record { names = e.names; entries = e.entries };
-        named = line_named names (names_of self.pass.allocs) _ old.tree new.tree answer e.names e.line;
+      line = record { line = e.line; ends = e.ends; names = e.texts };
+      tokens = record {
+        kept = record {
+          source = refl;
+          more = record { names = e.names; entries = e.entries };
+          named = line_named names (names_of self.pass.allocs) _ old.tree new.tree answer e.names e.line;
+        };
+        reading = refl;
+        boundary = λ whole boundary.
+            next_boundary (document text options no_names) c.args.start answer.0 self.braces answer.1 e.utf8 boundary
+            (subst (λ (t : Option ℕ). EndsLine
+            (record { options = options; whole = text; text = text_upto text t; start = c.args.start; row = false; braces = self.braces }) answer)
+            whole e.ends);
+        order = λ ends boundary at low o.
+            let before = o.later in
+            let k : ℕ = reached old.begin_list_item at in
+            let low' : k ≤ at = before in
+            let to = ordered_line (document text options no_names) self.braces c.args.start c.args.end old.tree new.tree answer.0 answer.1 k e.utf8
+            (both_ends text c.args.start c.args.end c.requires.1 ends) boundary c.recall_forest.ensures e.line (omega arith) o.ordered in
+            ordered_none text new answer.0 refl to.within to;
+        node_bound = few_of_line e.line;
       };
-      reading = refl;
-      boundary = λ whole boundary.
-          next_boundary (document text options no_names) c.args.start answer.0 self.braces answer.1 e.utf8 boundary
-          (subst (λ (t : Option ℕ). EndsLine
-          (record { options = options; whole = text; text = text_upto text t; start = c.args.start; row = false; braces = self.braces }) answer) whole e.ends);
-      order = λ ends boundary at low o.
-          let before = o.later in
-          let k : ℕ = reached old.begin_list_item at in
-          let low' : k ≤ at = before in
-          let to = ordered_line (document text options no_names) self.braces c.args.start c.args.end old.tree new.tree answer.0 answer.1 k e.utf8
-          (both_ends text c.args.start c.args.end c.requires.end ends) boundary c.recall_forest.ensures e.line (omega arith) o.ordered in
-          ordered_none text new answer.0 refl to.within to;
-      node_bound = few_of_line e.line;
     }

@@ -19,8 +19,8 @@ line_in_order : (kind : RawKind) (d : Document) (owed from to : ℕ) (items : Li
 line_in_order Code d owed from to items order b c line = text_line_in_order d owed from to items order b c line
 line_in_order Html d owed from to items order b c line = html_line_in_order d owed from to items order b c line
 
-pub returns-clause-bytes : goal.returns-clause-bytes
-returns-clause-bytes c =
+pub returns : goal.returns
+returns c =
     let self = c.args.self.now in
     let text = self.pass.source.text.now in
     let from = c.args.start in
@@ -32,6 +32,7 @@ returns-clause-bytes c =
     let e = c.in_ok-append_raw_line.ensures in
     let are = e.line.are self.pass.source.options names (extends_none names) in
     record {
+      line = e.line;
       kept = record {
         entries = record {
           source = refl;
@@ -43,5 +44,5 @@ returns-clause-bytes c =
       reading = refl;
       order = λ at low begins ends o.
           tokens_ordered text old new at from to e.line.items c.recall_forest.ensures o low
-          (line_in_order c.args.kind d c.args.remaining_space from to e.line.items c.requires.order begins ends are) ends.0 e.line.tree_is refl;
+          (line_in_order c.args.kind d c.args.remaining_space from to e.line.items c.requires.range.0 begins ends are) ends.0 e.line.tree_is refl;
     }

@@ -18,11 +18,11 @@ pub returns-clause-tokens : goal.returns-clause-tokens
 returns-clause-tokens c =
     let text = c.args.self.now.pass.source.text.now in
     let next = c.in_ok-next.next in
-    let e = c.in_ok-next.ensures.tokens in
+    let e = c.in_ok-next.ensures.line.tokens in
     let mid = names_of (allocs_of c.append_content.new.self) in
     let last = names_of c.allocate_alignment.new.self in
     let grown = extends_alignments mid last c.in-Some.head.alignments.items c.in_ok-index.ensures.names in
-    let all = upto_within text c.args.start c.args.end c.requires.end in
+    let all = upto_within text c.args.start c.args.end c.requires.1 in
     let same = ap length c.text_upto-bytes.ensures.value in
     let within = c.next_line.ensures.within in
     let value = c.next_line.ensures.value in
@@ -41,7 +41,7 @@ returns-clause-tokens c =
       boundary = λ whole boundary.
           let bytes : c.text_upto-bytes.result.now ≡ text = c.text_upto-bytes.ensures.value ∙ ap (text_upto text) whole in
           let there = value ∙ ap (λ t. next + line_len (drop next t)) bytes in
-          subst (IsCharBoundary text) (sym there) (line_bounds text next c.in_ok-next.ensures.utf8 (e.boundary whole boundary));
+          subst (IsCharBoundary text) (sym there) (line_bounds text next c.in_ok-next.ensures.place.utf8 (e.boundary whole boundary));
       order = λ ends boundary at low o.
           ordered_at_later text c.append_content.new.self.pass.reading next c.next_line.result later (omega arith) (e.order ends boundary at low o);
       node_bound = omega arith;

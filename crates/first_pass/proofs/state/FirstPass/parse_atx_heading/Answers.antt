@@ -7,8 +7,8 @@ use Rattle.first_pass.proofs.Added.{adds_leaf}
 use Rattle.first_pass.proofs.CallsNamed.{atx_named}
 use Rattle.first_pass.proofs.state.FirstPass.parse_atx_heading.Goals as goal
 
-pub returns-clause-leaf : goal.returns-clause-leaf
-returns-clause-leaf c =
+pub returns : goal.returns
+returns c =
     let self = c.args.self.now in
     let text = self.pass.source.text.now in
     let d = document text self.pass.source.options (names_of c.parse_atx_heading.new.allocs) in
@@ -17,14 +17,18 @@ returns-clause-leaf c =
     let left = length-drop c.args.start text in
     let start = c.requires.within in
     let ends = e.block.end_is in
-    adds_leaf self _ c.args.start c.in_ok-next.next self.pass.reading.blank
-    (heading_block c.args.start c.in_ok-next.next c.args.atx_level e.block.index e.block.chain)
-    (record {
-      source = refl;
-      braces = refl;
-      reading = refl;
-      more = e.more;
-      tree_is = e.block.tree_is;
-      own = atx_named d c.args.start c.args.atx_level self.pass.reading.tree c.parse_atx_heading.new.tree c.in_ok-next.next e.block;
-    })
-    e.fits (omega arith)
+    record {
+      block = e.block;
+      leaf =
+          adds_leaf self _ c.args.start c.in_ok-next.next self.pass.reading.blank
+          (heading_block c.args.start c.in_ok-next.next c.args.atx_level e.block.index e.block.chain)
+          (record {
+            source = refl;
+            braces = refl;
+            reading = refl;
+            more = e.more;
+            tree_is = e.block.tree_is;
+            own = atx_named d c.args.start c.args.atx_level self.pass.reading.tree c.parse_atx_heading.new.tree c.in_ok-next.next e.block;
+          })
+          e.fits (omega arith);
+    }

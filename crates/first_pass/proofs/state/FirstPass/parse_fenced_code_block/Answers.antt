@@ -7,22 +7,26 @@ use Rattle.first_pass.proofs.Added.{adds_lines}
 use Rattle.first_pass.proofs.CallsNamed.{fenced_named}
 use Rattle.first_pass.proofs.state.FirstPass.parse_fenced_code_block.Goals as goal
 
-pub returns-clause-leaf : goal.returns-clause-leaf
-returns-clause-leaf c =
+pub returns : goal.returns
+returns c =
     let self = c.args.self.now in
     let text = self.pass.source.text.now in
     let names = names_of c.parse_fenced_code_block.new.allocs in
     let e = c.in_ok-next.ensures in
-    adds_lines self _ c.args.start_ix c.in_ok-next.next self.pass.reading.blank e.block.items
-    (record {
-      source = refl;
-      braces = refl;
-      reading = refl;
-      more = e.more;
-      tree_is = e.block.tree_is;
-      own = fenced_named (document text self.pass.source.options names) c.args.start_ix c.args.n_fence_char _ _ e.block.items
-          (e.block.are names (extends_none names));
-    })
-    (fenced_between text self.pass.source.options names self.pass.reading.tree c.parse_fenced_code_block.new.tree
-    c.args.start_ix c.in_ok-next.next e.utf8 c.requires.boundary e.boundary.1.0 c.args.indent c.args.fence_ch
-    c.args.n_fence_char c.requires.fence e.block) e.boundary
+    record {
+      block = e.block;
+      leaf =
+          adds_lines self _ c.args.start_ix c.in_ok-next.next self.pass.reading.blank e.block.items
+          (record {
+            source = refl;
+            braces = refl;
+            reading = refl;
+            more = e.more;
+            tree_is = e.block.tree_is;
+            own = fenced_named (document text self.pass.source.options names) c.args.start_ix c.args.n_fence_char _ _ e.block.items
+                (e.block.are names (extends_none names));
+          })
+          (fenced_between text self.pass.source.options names self.pass.reading.tree c.parse_fenced_code_block.new.tree
+          c.args.start_ix c.in_ok-next.next e.utf8 c.requires.boundary e.boundary.1.0 c.args.indent c.args.fence_ch
+          c.args.n_fence_char c.requires.fence e.block) e.boundary;
+    }

@@ -19,16 +19,18 @@ order_by old new start (Some n) boundary reads = λ at low o.
     footnote_keeps_order (source_text old) (reading_of old) (reading_of new) at start opened.index opened.opened low boundary.0 boundary
     (footnote_begun_none start opened.index (reading_of old)) o
 
-pub returns-clause-footnote : goal.returns-clause-footnote
-returns-clause-footnote c =
+pub returns : goal.returns
+returns c =
     let old : BlockPass = c.args.self.now.pass in
     let new : BlockPass = c.parse_footnote.new.self in
     let e = c.in_ok-size.ensures in
     record {
       source = e.source;
-      braces = refl;
-      named = λ h. footnote_named old new c.args.start h c.in_ok-size.size e.head;
-      head = e.head;
-      within = e.within;
-      order = order_by old new c.args.start c.in_ok-size.size c.requires e.head;
+      footnote = record {
+        braces = refl;
+        named = λ h. footnote_named old new c.args.start h c.in_ok-size.size e.head;
+        head = e.head;
+        within = e.within;
+        order = order_by old new c.args.start c.in_ok-size.size c.requires e.head;
+      };
     }

@@ -13,31 +13,31 @@ use Rattle.first_pass.proofs.Added.{adds_lines}
 use Rattle.first_pass.proofs.CallsNamed.{html_named}
 use Rattle.first_pass.proofs.state.FirstPass.parse_html_block_type_1_to_5.Goals as goal
 
-pub returns-clause-leaf : goal.returns-clause-leaf
-returns-clause-leaf c =
+pub returns : goal.returns
+returns c =
     let self = c.args.self.now in
     let text = self.pass.source.text.now in
+    let options = self.pass.source.options in
+    let old = self.pass.reading.tree in
+    let new = c.parse_html_block_type_1_to_5.new.tree in
     let names = names_of c.parse_html_block_type_1_to_5.new.allocs in
     let e = c.in_ok-next.ensures in
     let block = e.block (first_at text c.args.start_ix 0) (first_is text c.args.start_ix 0) in
-    adds_lines self _ c.args.start_ix c.in_ok-next.next self.pass.reading.blank block.items
-    (record {
-      source = refl;
-      braces = refl;
-      reading = refl;
-      more = e.more;
-      tree_is = block.tree_is;
-      own = html_named (document text self.pass.source.options names) c.args.start_ix c.max.result _ _ block.items (block.are names (extends_none names));
-    })
-    (to_end_between text self.pass.source.options names self.pass.reading.tree c.parse_html_block_type_1_to_5.new.tree
-    c.args.start_ix c.in_ok-next.next e.utf8 c.requires.boundary e.boundary.1.0 (condition_of c.args.html_end) _ e.block) e.boundary
-
-pub returns-clause-block : goal.returns-clause-block
-returns-clause-block c = λ p i.
-    let self = c.args.self.now in
-    let text = self.pass.source.text.now in
-    let tree = self.pass.reading.tree in
-    let e : Extent = html_to_end text (path_of self.pass.source.options tree) (condition_of c.args.html_end) p in
-    subst (λ n. AddsRaw (document text self.pass.source.options (names_of c.parse_html_block_type_1_to_5.new.allocs))
-    (λ d. IsHtml d c.args.start_ix n e.places e.«end») e.left
-    tree c.parse_html_block_type_1_to_5.new.tree c.in_ok-next.next) c.max.ensures (c.in_ok-next.ensures.block p i)
+    record {
+      block = λ p i.
+          let x : Extent = html_to_end text (path_of options old) (condition_of c.args.html_end) p in
+          subst (λ n. AddsRaw (document text options names) (λ d. IsHtml d c.args.start_ix n x.places x.«end») x.left old new c.in_ok-next.next) c.max.ensures
+          (e.block p i);
+      leaf =
+          adds_lines self _ c.args.start_ix c.in_ok-next.next self.pass.reading.blank block.items
+          (record {
+            source = refl;
+            braces = refl;
+            reading = refl;
+            more = e.more;
+            tree_is = block.tree_is;
+            own = html_named (document text options names) c.args.start_ix c.max.result _ _ block.items (block.are names (extends_none names));
+          })
+          (to_end_between text options names old new c.args.start_ix c.in_ok-next.next e.utf8 c.requires.boundary e.boundary.1.0
+          (condition_of c.args.html_end) _ e.block) e.boundary;
+    }

@@ -18,8 +18,8 @@ use Rattle.first_pass.proofs.Added.{adds_kept}
 use Rattle.first_pass.proofs.CallsNamed.{html_named}
 use Rattle.first_pass.proofs.state.FirstPass.parse_html_block_type_6_or_7.Goals as goal
 
-pub returns-clause-leaf : goal.returns-clause-leaf
-returns-clause-leaf c =
+pub returns : goal.returns
+returns c =
     let self = c.args.self.now in
     let text = self.pass.source.text.now in
     let options = self.pass.source.options in
@@ -38,6 +38,10 @@ returns-clause-leaf c =
     ap (path_of options) block.tree_is ∙ path_added options old.tree block.items c.recall_forest.ensures in
     let ends = to_blank_ends text options names old.tree new.tree c.args.start_ix c.in_ok-next.next e.utf8 c.requires.boundary e.boundary.1.0 p i in
     record {
+      block = λ p i.
+          let x : Extent = html_to_blank text (path_of options old.tree) p in
+          subst (λ n. AddsRaw (document text options names) (λ d. IsHtml d c.args.start_ix n x.places x.«end») x.left old.tree new.tree c.in_ok-next.next)
+          c.max.ensures (e.block p i);
       kept = adds_kept self _ old.blank block.items
           (record {
             source = refl;
@@ -60,13 +64,3 @@ returns-clause-leaf c =
           to_blank_few text options names old.tree new.tree c.args.start_ix c.in_ok-next.next e.utf8 c.requires.boundary e.boundary.1.0
           c.max.result p i block from low apart;
     }
-
-pub returns-clause-block : goal.returns-clause-block
-returns-clause-block c = λ p i.
-    let self = c.args.self.now in
-    let text = self.pass.source.text.now in
-    let tree = self.pass.reading.tree in
-    let e : Extent = html_to_blank text (path_of self.pass.source.options tree) p in
-    subst (λ n. AddsRaw (document text self.pass.source.options (names_of c.parse_html_block_type_6_or_7.new.allocs))
-    (λ d. IsHtml d c.args.start_ix n e.places e.«end») e.left
-    tree c.parse_html_block_type_6_or_7.new.tree c.in_ok-next.next) c.max.ensures (c.in_ok-next.ensures.block p i)

@@ -7,21 +7,25 @@ use Rattle.first_pass.proofs.Added.{adds_lines}
 use Rattle.first_pass.proofs.CallsNamed.{metadata_named}
 use Rattle.first_pass.proofs.state.FirstPass.parse_metadata_block.Goals as goal
 
-pub returns-clause-leaf : goal.returns-clause-leaf
-returns-clause-leaf c =
+pub returns : goal.returns
+returns c =
     let self = c.args.self.now in
     let text = self.pass.source.text.now in
     let names = names_of c.parse_metadata_block.new.allocs in
     let e = c.in_ok-next.ensures in
-    adds_lines self _ c.args.start_ix c.in_ok-next.next self.pass.reading.blank e.block.items
-    (record {
-      source = refl;
-      braces = refl;
-      reading = refl;
-      more = e.more;
-      tree_is = e.block.tree_is;
-      own = metadata_named (document text self.pass.source.options names) c.args.start_ix c.args.metadata_block_ch _ _ e.block.items
-          (e.block.are names (extends_none names));
-    })
-    (metadata_between text self.pass.source.options names self.pass.reading.tree c.parse_metadata_block.new.tree
-    c.args.start_ix c.in_ok-next.next e.utf8 c.requires.boundary e.boundary.1.0 c.args.metadata_block_ch c.requires.byte e.block) e.boundary
+    record {
+      block = e.block;
+      leaf =
+          adds_lines self _ c.args.start_ix c.in_ok-next.next self.pass.reading.blank e.block.items
+          (record {
+            source = refl;
+            braces = refl;
+            reading = refl;
+            more = e.more;
+            tree_is = e.block.tree_is;
+            own = metadata_named (document text self.pass.source.options names) c.args.start_ix c.args.metadata_block_ch _ _ e.block.items
+                (e.block.are names (extends_none names));
+          })
+          (metadata_between text self.pass.source.options names self.pass.reading.tree c.parse_metadata_block.new.tree
+          c.args.start_ix c.in_ok-next.next e.utf8 c.requires.boundary e.boundary.1.0 c.args.metadata_block_ch c.requires.byte e.block) e.boundary;
+    }

@@ -7,8 +7,8 @@ use Rattle.first_pass_blocks.proofs.OrderSteps.{text_ordered}
 use Rattle.first_pass.proofs.CallsNamed.{text_added}
 use Rattle.first_pass.proofs.state.FirstPass.parse_paragraph.Goals as goal
 
-pub returns-clause-leaf : goal.returns-clause-leaf
-returns-clause-leaf c =
+pub returns : goal.returns
+returns c =
     let self = c.args.self.now in
     let text = self.pass.source.text.now in
     let names = names_of c.parse_paragraph.new.allocs in
@@ -16,6 +16,7 @@ returns-clause-leaf c =
     let new : Reading = record old { tree = c.parse_paragraph.new.tree; begin_list_item = None } in
     let e = c.in_ok-next.ensures in
     record {
+      block = e.block;
       source = refl;
       more = e.more;
       braces = refl;

@@ -1,4 +1,4 @@
-use Rattle.std.proofs.Common.{◌≡◌, ◌&&◌, ◌||◌, not, ℕ, List, Bool, true, false, None, is_some, refl, sym, ap, ◌∙◌}
+use Rattle.std.proofs.Common.{◌≡◌, ◌&&◌, ◌||◌, not, ℕ, List, Bool, true, false, None, OnErr, is_some, refl, sym, ap, subst, ◌∙◌}
 use Rattle.std.proofs.lemmas.Result.{IfOk-weaker}
 use Rattle.first_pass_items.specs.declared.item.Item.{Item}
 use Rattle.first_pass_items.specs.declared.option_set.Options.{Options}
@@ -7,6 +7,7 @@ use Rattle.first_pass_tree.specs.Forest.{Forest, in_table}
 use Rattle.first_pass_links.specs.Footnotes.{footnote_head}
 use Rattle.first_pass_grammar.specs.Kinds.{interrupts_with}
 use Rattle.first_pass_grammar.specs.TableHeads.{table_interrupts}
+use Rattle.first_pass_kinds.specs.Memory.{may_head}
 use Rattle.first_pass.specs.Interrupts.{colon_interrupts}
 use Rattle.first_pass.specs.Views.{context_in, tree_of}
 use Rattle.first_pass.proofs.state.FirstPass.scan_paragraph_interrupt.Goals as goal
@@ -55,20 +56,31 @@ module _ (options : Options) (whole : Bool) (f : Forest Item) (kept : ℕ) (text
       or_last begins_block (begins_note (has options footnotes)) (begins_colon (has options definition_list)) d
       (sym is ∙ before_table answer t u said first second)
 
-pub returns-then-branch-clause-value : goal.returns-then-branch-clause-value
-returns-then-branch-clause-value c =
+pub returns-then-branch : goal.returns-then-branch
+returns-then-branch c =
     let options : Options = c.args.self.now.pass.source.options in
     let bs : List ℕ = c.args.text.now in
-    interrupted options c.args.current_container (tree_of c.args.self.now) c.args.tree_position bs _ c.contains.result c.contains-2.result
-    (table_interrupts (context_in c.args.self.now) bs) (c.in_ok-scan_paragraph_interrupt_no_table.ensures.value options) (c.contains.ensures tt)
-    (c.contains-2.ensures tt) c.if-branch.true
+    record {
+      value =
+          interrupted options c.args.current_container (tree_of c.args.self.now) c.args.tree_position bs _ c.contains.result c.contains-2.result
+          (table_interrupts (context_in c.args.self.now) bs) (c.in_ok-scan_paragraph_interrupt_no_table.ensures.value options) (c.contains.ensures tt)
+          (c.contains-2.ensures tt) c.if-branch.true;
+      err = tt;
+    }
 
-pub returns-clause-value : goal.returns-clause-value
-returns-clause-value c =
+pub returns : goal.returns
+returns c =
     let options : Options = c.args.self.now.pass.source.options in
     let bs : List ℕ = c.args.text.now in
-    let d : Bool = table_interrupts (context_in c.args.self.now) bs in
+    let around = context_in c.args.self.now in
+    let d : Bool = table_interrupts around bs in
     let none = by_table options c.args.current_container (tree_of c.args.self.now) c.args.tree_position bs _ c.contains.result c.contains-2.result d
     (c.in_ok-scan_paragraph_interrupt_no_table.ensures.value options) (c.contains.ensures tt) (c.contains-2.ensures tt) c.if-branch.false in
-    IfOk-weaker c.interrupts_as_table.result _ _ (λ answer h. h ∙ ap (table_interrupts (context_in c.args.self.now)) c.as_bytes.ensures.value ∙ none)
-    c.interrupts_as_table.ensures.value
+    record {
+      value =
+          IfOk-weaker c.interrupts_as_table.result _ _ (λ answer h. h ∙ ap (table_interrupts around) c.as_bytes.ensures.value ∙ none)
+          c.interrupts_as_table.ensures.value;
+      err =
+          subst (λ (b : List ℕ). OnErr c.interrupts_as_table.result (may_head around b ≡ true)) c.as_bytes.ensures.value
+          c.interrupts_as_table.ensures.err;
+    }
