@@ -1,7 +1,6 @@
 -- The first bytes of two texts, as numbers, decide their order if the numbers differ.
-use Rattle.std.proofs.Common.{◌≡◌, ◌≢◌, ℕ, zero, suc, ◌+◌, ◌*◌, ◌^◌, ◌<◌, ◌≤◌, List, [], ◌∷◌, slice_index, inl, inr, refl, sym, ap, ap₂, subst, ◌∙◌, arith}
+use Rattle.std.proofs.Common.{◌≡◌, ◌≢◌, ℕ, zero, suc, ◌+◌, ◌*◌, ◌<◌, ◌≤◌, List, [], ◌∷◌, slice_index, inl, inr, refl, sym, ap, ap₂, subst, ◌∙◌, arith}
 use Rattle.std.proofs.Common.{suc-le-suc, zero-le, not-suc-le-zero}
-use Rattle.std.proofs.Math.Nat.{pow-le-pow_right, pow-suc}
 use Rattle.std.proofs.lemmas.Bool.{cases_lt}
 use Rattle.std.specs.Cmp.{nat_cmp_is}
 use Rattle.std.specs.Cmp.Lexicographic.{slice_cmp, nat_list_cmp_total}
@@ -71,10 +70,6 @@ fronts_decide n xs ys f g apart =
           sym (nat_cmp_is (leading_number n xs) (leading_number n ys) Greater more)
           ∙ sym (nat_list_cmp_total.antisymm xs ys ∙ ap ordering_reverse (front_less n ys xs g f more))
     ]
-
--- the number of fewer than sixteen bytes has room for one more
-pub front_room : (n : ℕ) → n < 16 → 256 ^ n * 256 ≤ 2 ^ 128
-front_room n h = subst (λ (k : ℕ). k ≤ 2 ^ 128) (pow-suc 256 n) (pow-le-pow_right {n = 256} (omega arith) h)
 
 -- keys whose fronts differ have the order of these numbers
 front_compared : (x y label other : CowStr) (m n : ℕ) → m ≡ leading_number 16 (folding_of x) → n ≡ leading_number 16 (folding_of y)
