@@ -28,7 +28,8 @@ use Rattle.first_pass_text.specs.declared.paragraph.TextEnd.{TextEnd}
 abbrev pub line_from : List ℕ → ℕ → List ℕ
 line_from text start = take (line_len (drop start text)) (drop start text)
 
--- of the line containing an offset: the start of its trailing attribute block, and the end of the line (this project)
+-- of the rest of a line from an offset on, if an attribute block ends it: the start of the block, and the end of the
+-- line (this project)
 abbrev pub attribute_place : Options → List ℕ → ℕ → Option AttributePlace
 attribute_place options text start =
     option_map (λ block. record { opening = start + block.opening; line_end = line_end_at text start }) (heading_braces options (line_from text start))
@@ -38,9 +39,9 @@ abbrev pub with_closed_break : Forest Item → Option Item → Forest Item
 with_closed_break f None = f
 with_closed_break f (Some x) = if is_backslash_break x.body then with_text f x.start (x.start + 1) false else f
 
--- The chain of a text that begins at an offset is in the innermost open node, without the break after its last line,
--- and remains its chain under any further names. The remaining lines begin at another offset, and the first of them
--- may be an underline (CommonMark 4.3, 4.8).
+-- The chain of the text that begins at an offset is in the innermost open node, without the break after its last line.
+-- It is still the chain of that text if names are added. The remaining lines begin at another offset, and the first of
+-- them may be an underline (CommonMark 4.3, 4.8).
 pub record AppendsLines (d : Document) (start : ℕ) (old new : Forest Item) (end : TextEnd) : Type 0 where
   pub chain : List Item
   pub are : (more : Names) → Extends more d.names
@@ -52,8 +53,8 @@ pub record AppendsLines (d : Document) (start : ℕ) (old new : Forest Item) (en
   pub boundary : IsCharBoundary d.text end.next
   pub short : IfSome end.line_break (λ x. x.start < 2 ^ 63)
 
--- The tokens of an ATX heading's line with this text are in the innermost open node, without the closing sequence.
--- Each text that they name is among these.
+-- The tokens of an ATX heading's line are in the innermost open node, without the closing sequence. `content` is the
+-- text of the heading. Each text that the tokens name is among `texts`.
 pub record AppendsHeading (texts : List CowStr) (s : Inline) (content : List ℕ) (old new : Forest Item) : Type 0 where
   pub tokens : List Item
   pub answer : ℕ × Option Item
@@ -61,9 +62,9 @@ pub record AppendsHeading (texts : List CowStr) (s : Inline) (content : List ℕ
   pub line : AreLineTokens texts s tokens answer after
   pub tree_is : new ≡ chained old (heading_chain (kept_len content) s.start (close_break answer.1 (add_tokens [] tokens)))
 
--- The paragraph or setext heading of a text that begins at an offset and heads no table is added as a last child of
--- the innermost open node. It remains one under any further names. The remaining lines begin at another offset
--- (CommonMark 4.3, 4.8).
+-- The paragraph or setext heading whose text begins at an offset and heads no table is added as the last child of the
+-- innermost open node. It is still one if names are added. The remaining lines begin at another offset (CommonMark
+-- 4.3, 4.8).
 pub record AddsPlainText (d : Document) (start : ℕ) (marker : Option Item) (old new : Forest Item) (next : ℕ) : Type 0 where
   pub items : List (ℕ × Item)
   pub is : (more : Names) → Extends more d.names
@@ -73,8 +74,8 @@ pub record AddsPlainText (d : Document) (start : ℕ) (marker : Option Item) (ol
   pub later : line_end_at d.text start ≤ next
   pub boundary : IsCharBoundary d.text next
 
--- The ATX heading that begins at an offset is added as a last child of the innermost open node, and remains one under
--- any further names. Its line ends at another offset.
+-- The ATX heading that begins at an offset is added as the last child of the innermost open node. It is still one if
+-- names are added. Its line ends at another offset.
 pub record AddsHeading (d : Document) (start : ℕ) (level : HeadingLevel) (old new : Forest Item) (next : ℕ) : Type 0 where
   pub index : Option HeadingIndex
   pub chain : List Item

@@ -26,8 +26,8 @@ cut_chain text options start broken chain =
     option_map_or (λ block. cut (start + kept_before broken block.opening (chain_bytes text start chain)) chain)
     (heading_braces options (chain_bytes text start chain)) chain
 
--- The attribute block of a heading's text that begins at an offset is cut off its chain, the only content of the
--- innermost open node. Under any further names, the index names the attributes.
+-- The innermost open node has only the chain of a heading's text that begins at an offset. The attribute block is cut
+-- off that chain, and the index names the attributes, also if names are added.
 abbrev pub CutsBlock : Document → ℕ → Bool → Forest Item → Forest Item → Option HeadingIndex → Type 0
 CutsBlock d start broken old new index =
     (f : Forest Item) → (chain : List Item) → IsBare f → old ≡ chained f chain
@@ -40,8 +40,8 @@ abbrev pub CutsChildren : List ℕ → ℕ → Forest Item → Forest Item → T
 CutsChildren text start old new = (new ≡ old) ⊎ ((e : ℕ) × (start ≤ e) × IsCharBoundary text e × (new ≡ cut_siblings old e))
 
 -- An open block becomes a heading of this level, and the attribute block is cut off the chain in it; `broken` if a
--- backslash breaks the last line of its text. The block's children are at most cut, and an index of the heading names
--- attributes (CommonMark 4.3, and this project).
+-- backslash breaks the last line of its text. The block's children are unchanged or cut. The heading's index, if it
+-- has one, names attributes (CommonMark 4.3, and this project).
 pub record BecomesHeading (d : Document) (level : HeadingLevel) (broken : Bool) (block : TreeIndex) (old new : Forest Item) : Type 0 where
   pub index : Option HeadingIndex
   pub cut : Forest Item

@@ -8,7 +8,8 @@ use Rattle.first_pass_text.specs.declared.line_break.BreakKind.{BreakKind}
 use Rattle.first_pass_text.specs.declared.line_break.BreakKind.TheVariants.{Soft, BySpaces, ByBackslash}
 use Rattle.first_pass_text.specs.declared.line_break.LineBreak.{LineBreak}
 
--- a soft break, or a hard one by white space or by a backslash (CommonMark 6.7, 6.8; white space that is no space: this project)
+-- a soft break, or a hard one by white space or by a backslash (CommonMark 6.7, 6.8; white space other than spaces:
+-- this project)
 abbrev pub body_of : BreakKind → ItemBody
 body_of Soft = SoftBreak
 body_of BySpaces = HardBreak false

@@ -28,10 +28,11 @@ use first_pass_tree::forest::Tree;
 use first_pass_tree::tree_index::TreeIndex;
 use std::alloc::AllocError;
 
-/// Returns the offset at which a heading's content ends, and its attributes. Its text extends from the offset
-/// `header_start` into the text to `header_end`. The content ends before the attribute block and includes the white
-/// space there. Without such a block, or if headings have no attributes, returns the end of the text and `None`. A
-/// text whose end is before its start is empty. Fails only if an allocation fails (this project).
+/// Returns the offset at which the content of a heading ends, and the heading's attributes. The heading's text extends
+/// from the offset `header_start` to `header_end`; if the end is before the start, it is empty and ends at its start.
+/// The content ends at the attribute block, and includes the white space before the block. Without a block, or without
+/// the option for heading attributes, returns the end of the heading's text and `None`. Fails only if an allocation
+/// fails (this project).
 pub fn extract_and_parse_heading_attribute_block<'a>(
     source: &Source<'a>,
     header_start: usize,
@@ -62,8 +63,8 @@ pub fn extract_and_parse_heading_attribute_block<'a>(
     }
 }
 
-/// Adds the attributes of a heading, if it has some, to those that nodes name, and returns their index. Fails only if
-/// an allocation fails (this project).
+/// Adds the attributes of a heading, if it has some, to `allocs`, and returns their index. Fails only if an allocation
+/// fails (this project).
 pub fn name_attributes<'a>(
     allocs: &mut Allocations<'a>,
     attributes: Option<HeadingAttributes<'a>>,
@@ -81,8 +82,8 @@ pub fn name_attributes<'a>(
     }
 }
 
-// The end of the chain in the innermost open node, for a text that begins at an offset; that offset if the chain has
-// no token.
+// The end of the chain in the innermost open node; `start`, the offset at which its text begins, if the chain has no
+// token.
 fn chain_end(tree: &Tree<Item>, start: usize) -> usize
     ensures { (f : Forest Item) → (chain : List Item) → IsBare f → tree.now ≡ chained f chain
         → result ≡ chain_end_of start chain }
@@ -102,8 +103,8 @@ fn trailing_white(bytes: &[u8]) -> usize
     bytes.iter().rev().take_while(|b| is_white(**b)).count()
 }
 
-// The number of white space bytes at the end of a setext heading's content that are cut off with its attribute block:
-// none if a backslash breaks its last line.
+// The number of white space bytes before the attribute block of a setext heading that are cut off with the block: none
+// if a backslash breaks the last line of the heading's text.
 fn white_at_cut(content: &[u8], broken: bool) -> usize
     ensures value { result ≡ (if broken then 0 else suffix_len is_white content.now) }
     ensures within { result ≤ length content.now }
@@ -111,10 +112,10 @@ fn white_at_cut(content: &[u8], broken: bool) -> usize
     if broken { 0 } else { trailing_white(content) }
 }
 
-/// Cuts the attribute block of a setext heading off its chain in the innermost open node, and returns the index of the
-/// attributes; `None` if there is no such block. The heading's text begins at the offset `start`, and a backslash
-/// breaks its last line if `broken`. Adds the attributes to `allocs`, and no node to the tree. Fails only if an
-/// allocation fails (CommonMark 4.3, and this project).
+/// Removes the attribute block of a setext heading from the end of its chain, which is in the innermost open node. The
+/// heading's text begins at the offset `start`. The white space before the block is removed too, unless a backslash
+/// breaks the last line of the text (`broken`). Adds the attributes to `allocs`, and returns their index; `None` if
+/// there is no block. Adds no node. Fails only if an allocation fails (CommonMark 4.3, and this project).
 pub fn cut_attributes<'a>(
     source: &Source<'a>,
     tree: &mut Tree<Item>,
@@ -132,7 +133,7 @@ pub fn cut_attributes<'a>(
     ensures open { OnOk result (tree.new.spine ≡ tree.old.spine) }
     ensures node_bound { OnOk result (length tree.new.nodes ≤ length tree.old.nodes) }
 {
-    // A marker before the text ends before it; no token ends after the whole text.
+    // The end is before `start` if a task list item marker is the only child. No token ends after the whole text.
     let end = chain_end(tree, start).min(source.text.len());
     let (content_end, attributes) = extract_and_parse_heading_attribute_block(source, start, end)?;
     if attributes.is_some() {
@@ -152,9 +153,9 @@ pub struct Underlined {
     pub broken: bool,
 }
 
-/// Makes the block `node_ix`, the innermost open node with the chain of a setext heading, a heading. Cuts the
-/// attribute block off the chain, and adds the attributes to `allocs`. No node is added. Fails only if an allocation
-/// fails (CommonMark 4.3, and this project).
+/// Turns the block `node_ix`, the innermost open node, into a setext heading. It already has the heading's chain.
+/// Removes the attribute block from the chain, and adds the attributes to `allocs`. Adds no node. Fails only if an
+/// allocation fails (CommonMark 4.3, and this project).
 pub fn make_heading<'a>(
     source: &Source<'a>,
     tree: &mut Tree<Item>,

@@ -61,7 +61,7 @@ fn trailing_run(text: &[u8], byte: u8) -> usize
     text.iter().rev().take_while(|b| **b == byte).count()
 }
 
-// The first bytes.
+// The first `count` bytes.
 fn first_bytes(text: &[u8], count: usize) -> &[u8]
     requires { count ≤ length text.now }
     ensures { result.now ≡ take count text.now }
@@ -95,9 +95,10 @@ struct AttributePlace {
     line_end: usize,
 }
 
-// The place of the attribute block of the heading whose text begins at the offset `start` into the text, and the index
-// of its attributes; neither if there is no block. Adds the attributes to `allocs`. If headings have no attributes, it
-// does not search for the end of the line: the tokens end there. Fails only if an allocation fails (this project).
+// The place of a heading's attribute block, and the index of its attributes; neither if there is no block. The
+// heading's text begins at the offset `start`. Adds the attributes to `allocs`. Without the option for heading
+// attributes, it does not search for the end of the line, which reading the tokens finds anyway. Fails only if an
+// allocation fails (this project).
 #[inline(always)]
 fn name_attribute_block<'a>(
     source: &Source<'a>,
@@ -130,7 +131,7 @@ fn opening_of(place: Option<AttributePlace>) -> Option<usize>
     place.map(|block| block.opening)
 }
 
-// The end of the line: from the place of its attribute block, or after its content.
+// The end of a heading's line: that in the place of its attribute block, or `next` if it has no block.
 fn line_end_of(place: Option<AttributePlace>, next: usize) -> usize
     ensures { result ≡ option_map_or (λ p. p.line_end) place next }
 {
@@ -140,9 +141,10 @@ fn line_end_of(place: Option<AttributePlace>, next: usize) -> usize
     }
 }
 
-/// Appends the ATX heading of this level that begins at the offset `start` into the text to the innermost open node,
-/// without its attribute block. Returns the offset at which its line ends (CommonMark 4.2). Adds the attributes to
-/// `allocs`. Fails only if an allocation fails.
+/// Appends an ATX heading of this level to the innermost open node. It begins at the offset `start` into the text, and
+/// its chain ends before its attribute block. Returns the offset at which its line ends, after the line ending
+/// (CommonMark 4.2). Adds the attributes, and the texts that tokens name, to `allocs`. Fails only if an allocation
+/// fails.
 pub fn parse_atx_heading<'a>(
     source: &Source<'a>,
     tree: &mut Tree<Item>,
@@ -177,7 +179,7 @@ pub fn parse_atx_heading<'a>(
 }
 
 // Appends the chain of a heading with this content to `node_ix`, the innermost open node, which was just opened.
-// Returns the end of the content, with its line ending. Adds the texts that its tokens name to `allocs`.
+// Returns the end of the content, after its line ending if it has one. Adds the texts that tokens name to `allocs`.
 #[inline(always)]
 fn heading_text(
     content: Content<'_>,

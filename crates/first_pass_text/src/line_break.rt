@@ -6,7 +6,7 @@ ghost use Rattle.first_pass_text.specs.LineBreaks.{body_of, break_item};
 
 use first_pass_items::item::{Item, ItemBody};
 
-/// The kind of a break (CommonMark 6.7, 6.8).
+/// The kind of a break: soft, or hard by white space or by a backslash (CommonMark 6.7, 6.8, and this project).
 #[derive(Clone, Copy, Drop)]
 pub enum BreakKind {
     Soft,

@@ -69,8 +69,8 @@ pub fn append_last_backslash(
     }
 }
 
-// The end of the lines of a text: the start of the next line, or the end of the text; the break after the last line;
-// and the level of the heading, if the next line is an underline.
+// What follows the lines of paragraph text: the start of the next line, or the end of the whole text; the break after
+// the last line; and the level of the heading, if the next line is an underline.
 #[derive(Clone, Copy, Drop)]
 struct TextEnd {
     next: usize,
@@ -78,10 +78,10 @@ struct TextEnd {
     underline: Option<HeadingLevel>,
 }
 
-/// Appends the paragraph or setext heading whose text begins at the offset `start_ix` into the text to the innermost
-/// open node. The marker of its task list item, if it has one, is its first child. Returns the start of the next
-/// unread line, or the end of the text (CommonMark 4.3, 4.8). Adds the attributes of a heading, and the texts that
-/// tokens name, to `allocs`.
+/// Appends a paragraph or a setext heading to the innermost open node. Its text begins at the offset `start_ix` into
+/// the whole text. The task list item marker before it, if there is one, becomes its first child. Returns the start of
+/// the line after it, or the end of the text (CommonMark 4.3, 4.8). Adds the attributes of a heading, and the texts
+/// that tokens name, to `allocs`.
 pub fn parse_paragraph<'a>(
     source: &Source<'a>,
     tree: &mut Tree<Item>,
@@ -119,8 +119,8 @@ pub fn parse_paragraph<'a>(
     Ok(following)
 }
 
-// Appends the chain of the text that begins at `start` to the innermost open node, except the break after its last
-// line. Adds the texts that its tokens name to `allocs`.
+// Appends to the innermost open node the chain of the paragraph text that begins at `start`, without the break after
+// its last line. Adds the texts that its tokens name to `allocs`.
 fn append_text_lines<'a>(
     source: &Source<'a>,
     tree: &mut Tree<Item>,

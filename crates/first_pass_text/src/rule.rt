@@ -9,8 +9,8 @@ use first_pass_items::item::{Item, ItemBody};
 use first_pass_tree::forest::Tree;
 use std::alloc::AllocError;
 
-/// Appends the thematic break at the offset `ix` into a text, of `hrule_size` bytes with its line ending, to the
-/// innermost open node. Returns the offset after it (CommonMark 4.1).
+/// Appends a thematic break to the innermost open node. It begins at the offset `ix` into a text, and has `hrule_size`
+/// bytes, its line ending included. Returns the offset after it (CommonMark 4.1).
 pub fn parse_hrule(tree: &mut Tree<Item>, hrule_size: usize, ix: usize) -> Result<usize, AllocError>
     requires { ix + hrule_size < 2 ^ 64 }
     ensures block { OnOk result (tree.new ≡ added tree.old (rule_block ix hrule_size)) }
