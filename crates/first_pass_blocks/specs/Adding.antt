@@ -13,8 +13,8 @@ use Rattle.first_pass_blocks.specs.Views.{allocs_of, reading_of, source_of, sour
 use Rattle.first_pass_order.specs.LeafBlocks.{AddsKind}
 
 -- A pass added a leaf block. It reads the same text, earlier names are kept, no table entry changed, and no item is
--- empty. The nodes of the block lie between any offset up to the place and the offset at which reading continues.
--- That offset is a character boundary after the line of the place.
+-- still empty. The nodes of the block lie between any offset up to the place and the offset at which reading
+-- continues. That offset is a character boundary after the line of the place.
 pub record AddsLeaf (old new : BlockPass) (p : Place) (kind : Kind) (next : ℕ) : Type 0 where
   pub source : source_of new ≡ source_of old
   pub more : NamesMore (allocs_of old) (allocs_of new)
@@ -25,8 +25,8 @@ pub record AddsLeaf (old new : BlockPass) (p : Place) (kind : Kind) (next : ℕ)
   pub boundary : IsCharBoundary (source_text old) next
   pub fits : (from : ℕ) → from ≤ offset p → AddsBetween (source_text old) from next (tree_of old) (tree_of new)
 
--- A leaf block that is recognised by its mark was found at a place, after these columns, at this offset. The pass has
--- already ended the open list and the empty item, as before any new block.
+-- A leaf block that is recognised by its mark was found at a place, after these columns, at this offset. No
+-- counting blank line is pending and no item is still empty, as before any new block.
 pub record IsFoundIn (pass : BlockPass) (p : Place) (leaf : MarkedLeaf) (columns at : ℕ) : Type 0 where
   pub utf8 : IsUtf8 (source_text pass)
   pub place : IsPlaceOf (source_text pass) p

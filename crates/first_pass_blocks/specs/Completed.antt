@@ -31,6 +31,7 @@ abbrev pub CompletedBeforeLine : Document → Tables → Forest Item → ℕ →
 CompletedBeforeLine d defined tree e lines true = CompletedAt d defined (emptied_top tree) false (Blanks e) lines
 CompletedBeforeLine d defined tree e lines false = CompletedAt d defined tree false Line lines
 
+-- the same; after a counting blank line, it takes only blank lines
 abbrev pub CompletedInItem : Document → Tables → Forest Item → ℕ → List Place → Bool → Type 0
 CompletedInItem d defined tree e lines true = CompletedAt d defined tree true (Blanks e) lines
 CompletedInItem d defined tree e lines false = CompletedBeforeLine d defined tree e lines (next_is_blank (path_of d.options tree) lines)
@@ -40,5 +41,6 @@ abbrev pub CompletedWith : Document → Tables → Reading → List Place → Op
 CompletedWith d defined r lines None = CompletedAt d defined r.tree r.blank Line lines
 CompletedWith d defined r lines (Some e) = CompletedInItem d defined r.tree e lines r.blank
 
+-- blocks complete the state before these lines, and the text derives the tree
 unfoldable pub IsCompleted : Document → Tables → Reading → List Place → Type 0
 IsCompleted d defined r lines = CompletedWith d defined r lines r.begin_list_item

@@ -34,7 +34,8 @@ abbrev pub footnote_mark_at : Options → Place → Option ℕ
 footnote_mark_at options p =
     if has options footnotes && (nat_lt (indent p.rest) 4 && begins_footnote (unindented p).rest.left) then Some (offset (unindented p)) else None
 
--- the length of a head, given the bytes after it; in GitHub's form it includes the white space there (this project)
+-- the length of a head, given its length up to after the colon and the bytes after that; in GitHub's form it includes
+-- the white space there (this project)
 abbrev pub head_read : Bool → ℕ → List ℕ → ℕ
 head_read true n bs = n + prefix_len is_white bs
 head_read false n bs = n

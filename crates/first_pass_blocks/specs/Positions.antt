@@ -103,8 +103,8 @@ OrderedOn options text r (LeafAt p) = OrderedIn text r.tree p
 OrderedOn options text r (TaskAt p marker) = OrderedText text r.tree marker (offset p)
 OrderedOn options text r (TaggedAt n) = OrderedUpTo text r.tree n
 
--- The nodes grew by at most four of their own for each byte from the start of a line to a task list item marker,
--- which is before an offset.
+-- The nodes grew by at most four (as `own_nodes` counts) for each byte from the start of a line to a task list item
+-- marker, which is before an offset.
 pub record GrowsText (text : List ℕ) (line : ℕ) (old new : List (ℕ × Item)) (marker : Item) (at : ℕ) : Type 0 where
   pub from : ℕ
   pub grows : GrowsBy line from old new
@@ -112,7 +112,8 @@ pub record GrowsText (text : List ℕ) (line : ℕ) (old new : List (ℕ × Item
   pub stands : StandsBefore text from at (Some marker)
   pub before : from < at
 
--- the nodes grew by at most four of their own for each byte from the start of a line to a position in it or after it
+-- the nodes grew by at most four (as `own_nodes` counts) for each byte from the start of a line to a position in it or
+-- after it
 abbrev pub GrowsTo : List ℕ → ℕ → List (ℕ × Item) → List (ℕ × Item) → Position → Type 0
 GrowsTo text line old new (LineAt n) = GrowsBy line n old new
 GrowsTo text line old new (InLine p) = GrowsBy line (offset p) old new
@@ -120,8 +121,8 @@ GrowsTo text line old new (LeafAt p) = GrowsBy line (offset p) old new
 GrowsTo text line old new (TaskAt p marker) = GrowsText text line old new marker (offset p)
 GrowsTo text line old new (TaggedAt n) = GrowsBy line n old new
 
--- the nodes grew by at most four of their own for each byte from a position to an offset; before the text of a task,
--- from any offset after which its marker may be
+-- the nodes grew by at most four (as `own_nodes` counts) for each byte from a position to an offset; before the text
+-- of a task, from any offset after which its marker may be
 abbrev pub GrowsFrom : List ℕ → Position → ℕ → List (ℕ × Item) → List (ℕ × Item) → Type 0
 GrowsFrom text (LineAt n) next old new = GrowsBy n next old new
 GrowsFrom text (InLine p) next old new = GrowsBy (offset p) next old new

@@ -41,6 +41,7 @@ pub record StartMatches (s : ContainerStart) (t : Start) : Type 0 where
   pub start : t.start ≡ s.head.start
   pub after : t.after ≡ s.after
 
+-- what follows an item's marker, with the marker of a task or without; `is_over` if the line ends there
 abbrev pub item_after : Option Item → Bool → AfterMarker
 item_after marker is_over = if is_over then LineEnds marker else after_task marker
 
@@ -58,6 +59,7 @@ after_read (TaskText marker) e r = r
 after_read (LineEnds marker) e r = record r { tree = with_child r.tree marker; begin_list_item = Some e }
 after_read OnlyTag e r = r
 
+-- the state after a container is opened and its marker is read, in a line that ends at an offset
 abbrev pub start_opened : ℕ → Start → ℕ → Reading → Reading
 start_opened line s e r = after_read s.after e (container_opened line s.start s.opener r)
 

@@ -33,8 +33,8 @@ pub(crate) enum RunEnd {
 
 /// Returns the rest of the first line of `bytes` (the rest of the text), after the prefixes of the containers that it
 /// continues and after its indentation. The line may continue a run of link reference definitions, and any number of
-/// open containers. Returns `None` if it ends the run: if it would be read like any other line after the tag of a
-/// block quote, or if its rest is blank, as at the end of the text. Fails only if an allocation fails, which can
+/// open containers. Returns `None` if it ends the run: if its rest is blank, as at the end of the text, or if it would
+/// interrupt a paragraph at fewer than four columns (as in `ends_tag`). Fails only if an allocation fails, which can
 /// happen only if the line may head a table (CommonMark 4.7, 4.8, 5.1).
 pub fn scan_next_line_or_lazy_continuation<'input>(
     source: &Source<'_>,

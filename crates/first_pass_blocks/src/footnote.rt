@@ -21,8 +21,8 @@ use std::alloc::AllocError;
 
 impl<'a> BlockPass<'a> {
     /// Opens the footnote definition that begins at a place, if the indentation is under four columns and the options
-    /// include footnotes, and moves the place past its head. Returns whether one begins. An innermost list ends there,
-    /// and then another footnote definition.
+    /// include footnotes, and moves the place past its head. Returns whether one begins. If a list is innermost, it
+    /// ends there. If another footnote definition is innermost after that, it ends there too.
     pub(crate) fn open_footnote(&mut self, place: &mut Place<'a>) -> Result<bool, AllocError>
         requires utf8 { IsUtf8 (source_text self.old) }
         requires place { IsPlaceOf (source_text self.old) place.old }
@@ -45,10 +45,11 @@ impl<'a> BlockPass<'a> {
 
     /// Opens the footnote definition that begins at the offset `start` into the text, and returns the length of its
     /// head in bytes; `None` if none begins. The head extends to after its colon, and in GitHub's form to after the
-    /// white space there, without line endings. An innermost list ends at `start`, and then another footnote
-    /// definition. The label is added to the table, unless that has one with the same folding. If none begins, nothing
-    /// changes. The call does not check whether the options include footnotes; without GitHub's form it reads the head
-    /// in the old form. Fails only if an allocation fails (this project).
+    /// white space there, without line endings. If a list is innermost, it ends at `start`. If another footnote
+    /// definition is innermost after that, it ends there too. The label is added to the table, unless that has one
+    /// with the same folding. If none begins, nothing changes. The call does not check whether the options include
+    /// footnotes; without GitHub's form it reads the head in the old form. Fails only if an allocation fails (this
+    /// project).
     pub fn parse_footnote(&mut self, start: usize) -> Result<Option<usize>, AllocError>
         requires boundary { IsCharBoundary (source_text self.old) start }
         ensures source { source_of self.new ≡ source_of self.old }

@@ -21,8 +21,8 @@ use first_pass_text::rule::parse_hrule;
 use std::alloc::AllocError;
 
 impl<'a> BlockPass<'a> {
-    /// Appends the leaf block that was recognised by its mark at a place, after `columns` columns, at the offset `at`.
-    /// Returns the start of the next unread line, or the end of the text.
+    /// Appends the leaf block that was recognised at a place by its mark, which is at the offset `at`, after `columns`
+    /// columns. Returns the start of the next unread line, or the end of the text.
     #[inline(always)]
     pub(crate) fn append_marked(
         &mut self,
@@ -103,7 +103,7 @@ impl<'a> BlockPass<'a> {
         Ok(next)
     }
 
-    // Appends the HTML block with this end at the offset `at`, after `columns` columns.
+    // Appends the HTML block with this end. It begins at the offset `at`, after `columns` columns.
     fn append_html(&mut self, end: HtmlEnd, columns: usize, at: usize) -> Result<usize, AllocError>
         requires { (p : Place) × IsFoundIn self.old p (HtmlToEnd end) columns at }
         ensures { IfOk result (λ next. (p : Place) → IsFoundIn self.old p (HtmlToEnd end) columns at

@@ -87,9 +87,9 @@ impl<'a> BlockPass<'a> {
     /// text if nothing in them changes: the label, the destination and a title of one line of a link definition, and
     /// the label of a footnote (CommonMark 4.7, and this project).
     ///
-    /// If each index in the nodes names an entry and no row of a table is open, whole tables stay whole: their rows
-    /// are one deeper, the cells of these two deeper, and none are elsewhere. Each row has as many cells as its table
-    /// has columns, and at most 262,144 cells of a table are filled in (GFM 4.10, and this project).
+    /// If each index in the nodes names an entry and no row of a table is open, whole tables stay whole: rows are only
+    /// one level below a table, and cells only two levels below one. Each row has as many cells as its table has
+    /// columns, and at most 262,144 cells of a table are filled in (GFM 4.10, and this project).
     pub fn parse_block(&mut self, start_ix: usize) -> Result<usize, AllocError>
         requires within { start_ix < length (source_text self.old) }
         requires boundary { IsCharBoundary (source_text self.old) start_ix }
@@ -116,8 +116,8 @@ impl<'a> BlockPass<'a> {
         }
     }
 
-    // Reads the line at `start`, after the tag of the innermost block quote, if it belongs to that quote, and returns
-    // as `parse_block`. Returns `start` if the line is read like any other.
+    // Reads the line at `start`, after the tag of the innermost block quote, if it belongs to that quote. Returns the
+    // start of the next unread line, like `parse_block`; `start` if the line is read like any other.
     fn parse_tagged(&mut self, start: usize) -> Result<usize, AllocError>
         requires boundary { IsCharBoundary (source_text self.old) start }
         requires no_empty { (reading_of self.old).begin_list_item ≡ None }
@@ -133,7 +133,7 @@ impl<'a> BlockPass<'a> {
         }
     }
 
-    // Reads the paragraph at a place after the marker of a task list item; returns as `parse_block`.
+    // Reads the paragraph at a place after the marker of a task list item; returns the same as `parse_block`.
     fn parse_task_text(&mut self, place: Place<'a>, marker: Item) -> Result<usize, AllocError>
         requires utf8 { IsUtf8 (source_text self.old) }
         requires place { IsPlaceOf (source_text self.old) place }
@@ -155,7 +155,7 @@ impl<'a> BlockPass<'a> {
     }
 
     // Reads the leaf block at a place at which no container begins, or in the line after a block quote's tag; returns
-    // as `parse_block`.
+    // the same as `parse_block`.
     fn parse_leaf(&mut self, place: Place<'a>) -> Result<usize, AllocError>
         requires utf8 { IsUtf8 (source_text self.old) }
         requires place { IsPlaceOf (source_text self.old) place }
@@ -169,8 +169,8 @@ impl<'a> BlockPass<'a> {
         Ok(next)
     }
 
-    // Reads the leaf block that was found at a place, after `columns` columns, at the offset `at`; returns as
-    // `parse_block`.
+    // Reads the leaf block that was found at a place; it begins at the offset `at`, after `columns` columns. Returns
+    // the same as `parse_block`.
     #[inline(always)]
     fn parse_kind(
         &mut self,
@@ -215,7 +215,7 @@ impl<'a> BlockPass<'a> {
     }
 
     // Reads the link reference definitions at a place, whose text begins at the offset `at`, and the paragraph that
-    // follows them; or the paragraph that begins there. Returns as `parse_block`.
+    // follows them; or the paragraph that begins there. Returns the same as `parse_block`.
     fn parse_text(&mut self, place: Place<'a>, at: usize) -> Result<usize, AllocError>
         requires utf8 { IsUtf8 (source_text self.old) }
         requires place { IsPlaceOf (source_text self.old) place }
@@ -254,10 +254,10 @@ impl<'a> BlockPass<'a> {
 /// Nothing is open in the tree, and no paragraph in it may still become a title. It has at most four nodes for each
 /// byte, not counting its root and its filled cells, which start at their row's end. Each row has as many cells as its
 /// table has columns. Each cell starts after the one before it or is a filled cell, and a table has at most 262,144
-/// filled cells. Each link definition in the tables is the one at its range, with the places of its label, its
-/// destination and its title there, in this order. Its label, its destination and a title of one line, and the label of
-/// each footnote, are borrowed from the text if nothing in them changes. No use of a footnote is counted. Fails only if
-/// an allocation fails.
+/// filled cells. Each link definition in the tables is the one that the text has at its range; its label, its
+/// destination and its title have ranges in it, in this order. Its label, its destination and a title of one line, and
+/// the label of each footnote, are borrowed from the text if nothing in them changes. Use counts of footnotes are 0.
+/// Fails only if an allocation fails.
 pub fn run_first_pass<'a>(
     alloc: Global,
     text: &'a str,
