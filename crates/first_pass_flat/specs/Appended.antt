@@ -7,12 +7,12 @@ use Rattle.first_pass_flat.specs.FlatDefinitions.{definition_bytes, flat_definit
 use Rattle.first_pass_flat.specs.declared.attributes.NamedAttributes.{NamedAttributes}
 use Rattle.first_pass_flat.specs.declared.definitions.NamedDefinitions.{NamedDefinitions}
 
--- attributes are appended: their records, and their bytes to the names (this project)
+-- more attributes are appended: their records to the records, and their bytes to the names (this project)
 pub record AppendsAttributes (old new : NamedAttributes) (more : List OneAttribute) : Type 0 where
   pub attributes : new.attributes.items ≡ old.attributes.items ++ flat_attributes (length old.names.items) more
   pub names : new.names.items ≡ old.names.items ++ flat_map attribute_bytes more
 
--- definitions are appended: their records, and their bytes to the names (this project)
+-- more definitions are appended: their records to the records, and their bytes to the names (this project)
 pub record AppendsDefinitions (old new : NamedDefinitions) (more : List LinkEntry) : Type 0 where
   pub definitions : new.definitions.items ≡ old.definitions.items ++ flat_definitions (length old.names.items) more
   pub names : new.names.items ≡ old.names.items ++ flat_map definition_bytes more

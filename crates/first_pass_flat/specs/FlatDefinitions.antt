@@ -6,7 +6,7 @@ use Rattle.first_pass_grammar.specs.Derivation.{Tables}
 use Rattle.first_pass_flat.specs.Kinds.{flag}
 use Rattle.first_pass_flat.specs.declared.records.FlatDefinition.{FlatDefinition}
 
--- the places of a definition that has none (this project)
+-- the places of an entry that is no link definition (this project)
 abbrev pub no_places : LinkPlaces
 no_places = record { label_end = 0; dest_start = 0; dest_end = 0; title_start = 0 }
 

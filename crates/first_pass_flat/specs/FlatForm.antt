@@ -11,7 +11,7 @@ use Rattle.first_pass_flat.specs.declared.records.FlatNode.{FlatNode}
 use Rattle.first_pass_flat.specs.declared.records.FlatAttribute.{FlatAttribute}
 use Rattle.first_pass_flat.specs.declared.records.FlatDefinition.{FlatDefinition}
 
--- a tree and its tables as records, and the bytes that these name (this project)
+-- a tree and its tables as records, the number of link definitions, and the bytes that the records name (this project)
 pub record FlatForm : Type 0 where
   pub nodes : List FlatNode
   pub attributes : List FlatAttribute
@@ -27,7 +27,7 @@ node_names names nodes = flat_map (name_by names) nodes
 abbrev pub tree_names : Names → List (ℕ × Item) → List ℕ
 tree_names names nodes = node_names names nodes ++ flat_map attribute_bytes (flat_map (attributes_by names) nodes)
 
--- the flat form of nodes, with the entries of their indices, and of tables (this project)
+-- the flat form of nodes, whose indices are read in these names, and of tables (this project)
 abbrev pub flat_form : Names → List (ℕ × Item) → Tables → FlatForm
 flat_form names nodes tables = record {
   nodes = flat_nodes names first_place nodes;

@@ -21,8 +21,8 @@ name_of names _ = []
 abbrev pub name_by : Names → ℕ × Item → List ℕ
 name_by names node = name_of names node.1.body
 
--- where the name of a node begins: for a heading the index of its first attribute, for any other node its first byte
--- in the names (this project)
+-- where the name of a node at a place begins: for a heading the index of its first attribute, for any other node the
+-- offset of its first byte in the names (this project)
 abbrev pub named_at : FlatPlace → ItemBody → ℕ
 named_at at (Heading level ix) = at.attribute
 named_at at _ = at.name
@@ -37,8 +37,8 @@ named_length names body = length (name_of names body)
 abbrev pub deeper_before : ℕ → List (ℕ × Item) → ℕ
 deeper_before depth nodes = prefix_len (λ n. nat_lt depth n.0) nodes
 
--- the record of a node at a place, before later nodes; its next node is the first later one that is not deeper
--- (this project)
+-- the record of a node at a place, before later nodes; `next` is the index of the first of these that is not deeper,
+-- or the number of all nodes (this project)
 abbrev pub flat_node : Names → FlatPlace → ℕ × Item → List (ℕ × Item) → FlatNode
 flat_node names at n later = record {
   start = n.1.start;

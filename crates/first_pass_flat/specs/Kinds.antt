@@ -61,7 +61,7 @@ abbrev pub flag : Bool → ℕ
 flag true = 1
 flag false = 0
 
--- the kind that a tag gives a block quote, as a number; 0 without one (GitHub's alerts)
+-- the kind that a tag gives a block quote, as a number; 0 without a tag (GitHub's alerts)
 abbrev pub quote_number : Option BlockQuoteKind → ℕ
 quote_number None = 0
 quote_number (Some Note) = 1
@@ -86,7 +86,7 @@ alignment_byte Right = 114
 abbrev pub of_number : ℕ → FlatValues
 of_number n = record { number = n; first = 0; second = 0; third = 0 }
 
--- one small value without further values (this project)
+-- the value `first` without further values (this project)
 abbrev pub of_first : ℕ → FlatValues
 of_first n = record { number = 0; first = n; second = 0; third = 0 }
 

@@ -5,7 +5,7 @@ use Rattle.first_pass_grammar.specs.Names.{Names, AreNamed, read_nodes}
 use Rattle.first_pass_grammar.specs.Derivation.{Tables}
 use Rattle.first_pass_flat.specs.FlatForm.{flat_form}
 
--- Trees of the same flat form are equal up to the numbering of indices: each index names the same in both
+-- Trees of the same flat form, whose indices all name entries, are equal once each index is replaced by its entry
 -- (this project).
 abbrev pub DeterminesNodes : Type 0
 DeterminesNodes = (m n : Names) (f g : List (ℕ × Item)) (t u : Tables) → AreNamed m f → AreNamed n g → flat_form m f t ≡ flat_form n g u

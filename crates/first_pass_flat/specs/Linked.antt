@@ -1,10 +1,10 @@
--- The next node of each record written so far (this project).
+-- The next node in each record that is already written (this project).
 use Rattle.std.specs.Prelude.{◌≡◌, ℕ, ◌+◌, ◌≤◌, List, drop, slice_get, Some}
 use Rattle.first_pass_items.specs.declared.item.Item.{Item}
 use Rattle.first_pass_flat.specs.FlatNodes.{deeper_before}
 use Rattle.first_pass_flat.specs.declared.records.FlatNode.{FlatNode}
 
--- in the records from a place on, the next node is the first later one that is not deeper (this project)
+-- in each record from an index on, the next node is the first later one that is not deeper (this project)
 abbrev pub AreLinked : List (ℕ × Item) → List FlatNode → ℕ → Type 0
 AreLinked nodes flat from =
     (k : ℕ) (n : ℕ × Item) (r : FlatNode) → from ≤ k → slice_get nodes k ≡ Some n → slice_get flat k ≡ Some r

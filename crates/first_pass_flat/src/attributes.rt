@@ -16,7 +16,7 @@ use first_pass_items::item::{HeadingIndex, Item, ItemBody};
 use first_pass_names::items::{Allocations, HeadingAttributes};
 use std::alloc::AllocError;
 
-/// Attributes, and the names that contain their bytes.
+/// Attributes, and the names to which their bytes are appended.
 #[derive(Drop)]
 pub struct NamedAttributes {
     pub attributes: Vec<FlatAttribute>,
@@ -52,6 +52,7 @@ impl NamedAttributes {
         ensures { OnOk result (AppendsAttributes self.old self.new
             (flat_map (attributes_by (names_of allocs.now)) nodes.now)) }
     {
+        // Without a first entry, no heading has attributes.
         if allocs.attributes_at(HeadingIndex(0)).is_none() {
             return Ok(());
         }
@@ -71,7 +72,7 @@ impl NamedAttributes {
         }
     }
 
-    // Appends the attributes of a heading, if there are any.
+    // Appends the attributes of a heading, if they are given.
     fn append_given(&mut self, attributes: Option<&HeadingAttributes<'_>>) -> Result<(), AllocError>
         ensures { OnOk result (AppendsAttributes self.old self.new
             (listed (unwrap_or (option_map (λ h. attributes_in h.now) attributes.entry) no_attributes))) }
@@ -193,7 +194,7 @@ pub(crate) fn attribute_count(body: &ItemBody, allocs: &Allocations<'_>) -> usiz
     }
 }
 
-// The number of these attributes.
+// The number of a heading's attributes; 0 if none are given.
 fn count_of(attributes: Option<&HeadingAttributes<'_>>) -> usize
     requires { length (listed (unwrap_or (option_map (λ h. attributes_in h.now) attributes) no_attributes)) < 2 ^ 64 }
     ensures { result

@@ -16,7 +16,7 @@ use first_pass_names::items::{FootDefs, LabelKey, LinkDef, RefDefs};
 use std::alloc::AllocError;
 use std::ops::DerefStr;
 
-/// Definitions, and the names to which their bytes are appended.
+/// Records of definitions, and the names to which their bytes are appended.
 #[derive(Drop)]
 pub struct NamedDefinitions {
     pub definitions: Vec<FlatDefinition>,
@@ -79,7 +79,7 @@ impl NamedDefinitions {
         Ok(())
     }
 
-    // Appends the label of a footnote and its bytes.
+    // Appends a record for the label of a footnote, and the bytes of the label.
     fn append_footnote(&mut self, label: &LabelKey<'_>) -> Result<(), AllocError>
         ensures { OnOk result (AppendsDefinitions self.old self.new (label_entry (text_of label.now) ∷ [])) }
     {
@@ -107,7 +107,7 @@ impl NamedDefinitions {
     }
 }
 
-// 1 if there is a title, and 0 if not.
+// 1 if there is a title, otherwise 0.
 fn number_given(title: &Option<CowStr<'_>>) -> usize
     ensures { result ≡ flag (is_some (option_map text_of title.now)) }
 {

@@ -4,7 +4,7 @@ ghost use Rattle.std.specs.Prelude.{◌≡◌, ◌≤◌, ◌<◌, ◌^◌, ◌+
 
 use std::alloc::AllocError;
 
-/// The fault that a number needs more than 32 bits.
+/// The fault: a number needs more than 32 bits.
 #[derive(Clone, Copy, Debug)]
 pub struct TooLong;
 

@@ -6,7 +6,7 @@ ghost use Rattle.first_pass_flat.specs.Kinds.{alignment_byte, kind_number, metad
 use bitflags::Flags;
 use first_pass_items::item::{Alignment, BlockQuoteKind, ItemBody, MetadataBlockKind};
 
-/// The values of a node's kind, as numbers: see `FlatNode`.
+/// The values of a node's kind, as numbers. `FlatNode` explains each field.
 #[derive(Clone, Copy)]
 pub struct FlatValues {
     pub number: u64,
@@ -61,7 +61,7 @@ impl FlatValues {
     }
 }
 
-/// Returns the values of a node's kind, all 0 for a kind without values.
+/// Returns the values of a node's kind. All are 0 for a kind without values.
 #[inline(always)]
 pub fn values_of(body: &ItemBody) -> FlatValues
     ensures { result ≡ values_of body.now }
@@ -102,7 +102,7 @@ pub fn values_of(body: &ItemBody) -> FlatValues
     }
 }
 
-// The number of the kind that a tag gives a block quote, 0 without one.
+// The number of the kind that a tag gives a block quote; 0 without a tag.
 fn quote_number(kind: Option<BlockQuoteKind>) -> u8
     ensures { result ≡ quote_number kind }
 {
@@ -138,7 +138,7 @@ pub fn alignment_byte(alignment: Alignment) -> u8
     }
 }
 
-/// Returns the number of a kind: from 0 for the root to 35 for a task list item marker.
+/// Returns the number of a node's kind: from 0 for the root to 35 for a task list item marker.
 pub fn kind_number(body: &ItemBody) -> u8
     ensures { result ≡ kind_number body.now }
 {

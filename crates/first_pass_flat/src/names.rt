@@ -1,4 +1,4 @@
-//! The bytes that nodes name.
+//! The bytes that nodes name, and how texts are appended to the names.
 
 ghost use Rattle.std.specs.Prelude.{◌≡◌, ◌++◌, length, map, IfOk, OnOk};
 ghost use Rattle.std.specs.List.{flat_map};
@@ -11,7 +11,7 @@ use first_pass_items::item::{Alignment, Item, ItemBody};
 use first_pass_names::items::Allocations;
 use std::alloc::AllocError;
 
-/// A range in the names.
+/// A range of bytes in the names.
 #[derive(Clone, Copy)]
 pub struct NameRange {
     pub start: usize,
@@ -64,7 +64,7 @@ fn append_name(
     }
 }
 
-// The same out of line, because few nodes name bytes.
+// The same as `append_name`, out of line because few nodes name bytes.
 #[inline(never)]
 fn append_named(
     names: &mut Vec<u8>,

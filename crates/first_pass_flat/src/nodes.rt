@@ -18,8 +18,8 @@ use crate::side::SideTables;
 use first_pass_items::item::{Item, ItemBody};
 use first_pass_names::items::Allocations;
 
-/// The index of a node, and where its name begins: its first byte in the names and, for a heading, its first
-/// attribute.
+/// A place between nodes: the number of nodes before it, of the bytes that they name, and of their attributes. For the
+/// node after it, these are its index, the start of its bytes in the names, and the index of its first attribute.
 #[derive(Clone, Copy)]
 pub struct FlatPlace {
     pub node: usize,
@@ -58,8 +58,8 @@ pub fn fill_nodes(
     Ok(())
 }
 
-// The first place, from `from` on, of a node that is not deeper than `depth`, or the number of nodes. The records from
-// `from` on must already have their next nodes.
+// The index of the first node, from `from` on, that is not deeper than `depth`; the number of nodes if there is none.
+// The records from `from` on must already have their next nodes.
 fn next_place(nodes: &[(usize, Item)], flat: &[FlatNode], depth: usize, from: usize) -> usize
     requires within { from ≤ length nodes.now }
     requires same { length flat.now ≡ length nodes.now }
@@ -74,7 +74,7 @@ fn next_place(nodes: &[(usize, Item)], flat: &[FlatNode], depth: usize, from: us
     at
 }
 
-// The place of a node, computed from the place after it.
+// The place before a node, computed from the place after it.
 #[inline(always)]
 fn place_before(after: FlatPlace, body: &ItemBody, allocs: &Allocations<'_>) -> FlatPlace
     requires node { 0 < after.node }
@@ -100,8 +100,7 @@ fn place_before(after: FlatPlace, body: &ItemBody, allocs: &Allocations<'_>) -> 
     }
 }
 
-// The record of a node, computed from its place and the place after it. Fails only if a number needs more than 32
-// bits.
+// The record of a node, from the places before and after it. Fails only if a number needs more than 32 bits.
 #[inline(always)]
 fn flat_node(
     places: (FlatPlace, FlatPlace),
@@ -143,8 +142,8 @@ fn flat_node(
     })
 }
 
-// The start and the length of a node's name: its range in the names, or for a heading its range in the attributes. The
-// range ends at the place after the node.
+// The start and the length of a node's name: a range in the names or, for a heading, in the attributes. It extends
+// from the place before the node to the place after it.
 #[inline(always)]
 fn named_range(
     places: (FlatPlace, FlatPlace),

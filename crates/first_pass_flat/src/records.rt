@@ -11,23 +11,23 @@ pub struct FlatNode {
     pub depth: u32,
     /// The index of the first later node that is not deeper, or the number of nodes.
     pub next: u32,
-    /// The range of the node's name in the names: an info string, a label, a text, or a byte for each column of a
-    /// table, `-`, `l`, `c` or `r`. For a heading, the range in the attributes.
+    /// The range of the node's name in the names: an info string, a label, a text, or for a table one byte for each
+    /// column, `-`, `l`, `c` or `r`. For a heading, the range of its attributes among all attributes.
     pub name: u32,
     pub name_length: u32,
-    /// A list's first number; the columns of an item or a definition; how many delimiters of a run are left; how many
-    /// backquotes; the brace context of a dollar sign; a character. Otherwise 0.
+    /// A list's first number; the indent of an item or a definition; how many delimiters of a run are left, this one
+    /// included; how many backquotes; the brace context of a dollar sign; a character's code point. Otherwise 0.
     pub number: u32,
     /// The kind, in the order of `ItemBody`: from 0 for the root to 35 for a task list item marker.
     pub kind: u8,
-    /// A heading's level; the kind of a block quote, 1 to 5; the kind of a metadata block; whether a list is tight, a
-    /// text escaped, a break made by a backslash, backquotes escaped, a bracket active, a task checked; whether a
-    /// delimiter can open. Otherwise 0.
+    /// A heading's level; the kind that a tag gives a block quote, 1 to 5; the kind of a metadata block, 0 or 1;
+    /// whether a list is tight, a text escaped, a hard break made by a backslash, backquotes escaped, a `]` active, a
+    /// task checked; whether a delimiter, a dollar sign or a quotation mark can open. Otherwise 0.
     pub first: u8,
-    /// Whether a heading has an attribute block; the byte of a list's markers or of a quote; whether a delimiter can
-    /// close. Otherwise 0.
+    /// Whether a heading has an attribute block; the byte of a list's markers or of a quotation mark; whether a
+    /// delimiter or a dollar sign can close. Otherwise 0.
     pub second: u8,
-    /// Whether a quote can close. Otherwise 0.
+    /// Whether a quotation mark can close. Otherwise 0.
     pub third: u8,
 }
 
@@ -47,12 +47,12 @@ pub struct FlatAttribute {
     pub kind: u32,
 }
 
-/// A link reference definition, or the label of a footnote. A range with a length is in the names. Each other offset is
-/// in the text, and 0 for the label of a footnote.
+/// A link reference definition, or the label of a footnote. `label`, `destination` and `title` with their lengths are
+/// ranges in the names. Each other offset is in the text, and 0 for the label of a footnote.
 #[repr(C)]
 #[derive(Clone, Copy)]
 pub struct FlatDefinition {
-    /// The range of a link definition.
+    /// The range of the link definition in the text.
     pub start: usize,
     pub end: usize,
     pub label: usize,
@@ -68,6 +68,6 @@ pub struct FlatDefinition {
     /// The range of the destination, with its angle brackets if it has them.
     pub destination_start: usize,
     pub destination_end: usize,
-    /// The offset of what begins the title. Without a title, the end of the definition.
+    /// The offset of the title's first quotation mark or parenthesis. Without a title, the end of the definition.
     pub title_start: usize,
 }

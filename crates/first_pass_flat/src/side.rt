@@ -19,16 +19,15 @@ pub struct SideTables {
     pub attributes: Vec<FlatAttribute>,
     /// The link definitions, then the labels of footnotes, both in the order of their tables.
     pub definitions: Vec<FlatDefinition>,
-    /// The number of definitions that are link definitions.
+    /// How many of the definitions are link definitions.
     pub links: usize,
-    /// The bytes named by the nodes, then those of the attributes, then those of the definitions.
+    /// The bytes that the nodes name, then those of the attributes, then those of the definitions.
     pub names: Vec<u8>,
     /// The number of bytes that the nodes name.
     pub node_names: usize,
 }
 
-/// Returns the parts of the flat form of a tree and its tables other than its nodes. Fails only if an allocation
-/// fails.
+/// Returns the flat form of a tree and its tables, except for the records of nodes. Fails only if an allocation fails.
 pub fn side_tables(
     alloc: Global,
     nodes: &[(usize, Item)],
