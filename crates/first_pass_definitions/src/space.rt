@@ -21,6 +21,7 @@ use std::alloc::AllocError;
 /// Returns `None` if a second line ending follows, or if no line follows in which the definition continues. Fails only
 /// if an allocation fails, which can happen only if the line after the first line ending may head a table
 /// (CommonMark 4.7).
+#[inline(always)]
 pub fn scan_refdef_space(
     source: &Source<'_>,
     tree: &Tree<Item>,

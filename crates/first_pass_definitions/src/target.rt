@@ -149,6 +149,7 @@ fn scan_title_after<'a>(
 }
 
 // Unescapes a title.
+#[inline(always)]
 fn unescape_title<'a>(
     alloc: Global,
     title: Option<CowStr<'a>>,

@@ -124,8 +124,13 @@ fn scan_title_line(bytes: &[u8], close: u8) -> usize
 
 // Whether a byte must be escaped in a line of a title with this end.
 fn stops_title(byte: u8, close: u8) -> bool
+    requires { ClosesTitle close }
     ensures { result ≡ stops_title close byte }
 {
+    // No byte after `)` does, and most bytes of a title are letters.
+    if byte > b')' {
+        return false;
+    }
     is_line_end(byte) || byte == close || close == b')' && byte == b'('
 }
 
