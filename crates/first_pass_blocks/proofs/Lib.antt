@@ -10,6 +10,7 @@ pub mod FootnoteSteps
 pub mod HandedOn
 pub mod HeadLemmas
 pub mod HtmlRead
+pub mod Indented
 pub mod KindBlocks
 pub mod LeafAdded
 pub mod LeafLemmas

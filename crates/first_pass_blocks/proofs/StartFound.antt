@@ -1,14 +1,14 @@
 -- The container that begins at a place, from the results of the calls.
-use Rattle.std.proofs.Common.{◌≡◌, ℕ, Bool, true, false, List, Option, Some, None, MatchOption, IsSomeAnd, refl, sym, ap, subst, ◌∙◌, if◌then◌else◌}
+use Rattle.std.proofs.Common.{◌≡◌, ℕ, Bool, true, false, List, Option, Some, None, MatchOption, IsSomeAnd, refl, sym, ap, subst, ◌∙◌}
 use Rattle.first_pass_items.specs.declared.option_set.Options.{Options}
 use Rattle.std.specs.Option.{option_map}
 use Rattle.first_pass_lines.specs.Rest.{Rest, after_columns}
 use Rattle.first_pass_lines.specs.Places.{Place, IsPlaceOf}
 use Rattle.first_pass_grammar.specs.declared.kind.Container.TheVariants.{BlockQuote}
 use Rattle.first_pass_grammar.specs.Containers.{prefix, at_rest}
-use Rattle.first_pass_grammar.specs.Kinds.{item_at, definition_marker_at}
+use Rattle.first_pass_grammar.specs.Kinds.{item_at}
 use Rattle.first_pass_grammar.specs.Openers.{Start, definition_start, start_at}
-use Rattle.first_pass_grammar.proofs.OpenerFacts.{marker_where, start_quote, start_none}
+use Rattle.first_pass_grammar.proofs.OpenerFacts.{start_quote, start_none}
 use Rattle.first_pass_open.proofs.PlaceLemmas.{quote_taken}
 use Rattle.first_pass_blocks.specs.declared.openers.Start.{Start as ToldStart}
 use Rattle.first_pass_blocks.specs.declared.openers.Opener.{Opener}
@@ -92,19 +92,3 @@ may_if options false p marker item begins = absurd (none_begins options p marker
 
 pub same_place : (text : List ℕ) (p q : Place) → p ≡ q → IsPlaceOf text q → IsPlaceOf text p
 same_place text p q same i = subst (IsPlaceOf text) (sym same) i
-
--- no definition begins at a place, and nothing was read there
-abbrev pub IsUntaken : Bool → Place → Place → Type 0
-IsUntaken may p q = (marker_where may p ≡ None) × (q ≡ p)
-
-pub untaken_then : (may : Bool) (p q : Place) (found : Option ℕ) (mid new : Rest) → may ≡ true → mid ≡ p.rest → found ≡ None
-    → MatchOption (definition_marker_at mid) ((found ≡ None) × (new ≡ mid)) (λ marker. (found ≡ Some marker.0) × (new ≡ marker.1))
-    → q ≡ at_rest p new → IsUntaken may p q
-untaken_then may p q found mid new is same none says there =
-    let m = definition_absent (definition_marker_at mid) found mid new none says in (
-      ap (λ (t : Bool). if t then definition_marker_at p.rest else None) is ∙ ap definition_marker_at (sym same) ∙ m.0,
-      there ∙ ap (at_rest p) (m.1 ∙ same),
-    )
-
-pub untaken_else : (may : Bool) (p q : Place) (mid : Rest) → may ≡ false → mid ≡ p.rest → q ≡ at_rest p mid → IsUntaken may p q
-untaken_else may p q mid is same there = (ap (λ (t : Bool). if t then definition_marker_at p.rest else None) is, there ∙ ap (at_rest p) same)

@@ -1,6 +1,6 @@
 -- A container that begins at a place, in terms of the pass, and the state after it is opened (only private functions
 -- cite this).
-use Rattle.std.specs.Prelude.{◌≡◌, ℕ, Bool, true, false, Option, Some, None, if◌then◌else◌}
+use Rattle.std.specs.Prelude.{◌≡◌, ◌≤◌, ℕ, Bool, true, false, Option, Some, None, if◌then◌else◌}
 use Rattle.first_pass_items.specs.Bytes.{colon, left_bracket}
 use Rattle.first_pass_items.specs.declared.item.Item.{Item}
 use Rattle.first_pass_items.specs.declared.item.ItemBody.TheVariants.{BlockQuote as BlockQuoteBody, ListItem as ListItemBody}
@@ -11,9 +11,10 @@ use Rattle.first_pass_grammar.specs.Openers.{Start as ContainerStart, after_task
 use Rattle.first_pass_lines.specs.Lines.{begins}
 use Rattle.first_pass_lines.specs.Places.{Place}
 use Rattle.first_pass_lines.specs.Plain.{begins_inert}
-use Rattle.first_pass_lines.specs.Rest.{Rest}
+use Rattle.first_pass_lines.specs.Rest.{Rest, indent}
 use Rattle.first_pass_grammar.specs.Order.{is_task_marker}
 use Rattle.first_pass_grammar.specs.OpenOrder.{is_in_item}
+use Rattle.first_pass_grammar.specs.Kinds.{all_taken}
 use Rattle.first_pass_lists.specs.Closing.{begun, list_finished, list_continued, definition_begun}
 use Rattle.first_pass_lists.specs.declared.list.ListMarker.{ListMarker}
 use Rattle.first_pass_lists.specs.declared.reading.Reading.{Reading}
@@ -22,6 +23,12 @@ use Rattle.first_pass_blocks.specs.Positions.{Position, LineAt, InLine, LeafAt, 
 use Rattle.first_pass_blocks.specs.declared.openers.Opener.{Opener}
 use Rattle.first_pass_blocks.specs.declared.openers.Opener.TheVariants.{Quote, Item as ItemOpener, Definition as DefinitionOpener}
 use Rattle.first_pass_blocks.specs.declared.openers.Start.{Start}
+
+-- the second rest of a line is the first after its indentation, of fewer than four columns (CommonMark 2.2)
+pub record IsIndented (r mark : Rest) (columns : ℕ) : Type 0 where
+  pub few : columns ≤ 3
+  pub columns_are : columns ≡ indent r
+  pub mark_is : mark ≡ all_taken r
 
 -- the marker of a list item, from its byte, its number and its indent
 abbrev pub marker_of : ℕ × ℕ × ℕ → ListMarker

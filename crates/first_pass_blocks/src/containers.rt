@@ -134,6 +134,7 @@ impl<'a> BlockPass<'a> {
 
     // Like `open_containers`, one container in each turn. It skips the check of `opens_none` at the first place, which
     // the caller has made.
+    #[inline(never)]
     fn open_in_turn(&mut self, place: &mut Place<'a>) -> Result<AfterMarker, AllocError>
         requires utf8 { IsUtf8 (source_text self.old) }
         requires place { IsPlaceOf (source_text self.old) place.old }

@@ -1,11 +1,13 @@
 //! The list item, definition or block quote that begins at a place (CommonMark 5.1, 5.2, and this project).
 
-ghost use Rattle.std.specs.Prelude.{◌≡◌, Some, None, MatchOption, IsSomeAnd, IsUtf8};
+ghost use Rattle.std.specs.Prelude.{◌≡◌, ℕ, Some, None, MatchOption, IsSomeAnd, IsUtf8, if◌then◌else◌};
 ghost use Rattle.first_pass_lines.specs.Places.{IsPlaceOf};
-ghost use Rattle.first_pass_grammar.specs.Containers.{at_rest};
+ghost use Rattle.first_pass_lines.specs.Rest.{after_columns};
+ghost use Rattle.first_pass_grammar.specs.declared.kind.Container.TheVariants.{BlockQuote};
+ghost use Rattle.first_pass_grammar.specs.Containers.{at_rest, prefix};
 ghost use Rattle.first_pass_grammar.specs.Kinds.{item_at, definition_marker_at};
 ghost use Rattle.first_pass_grammar.specs.Openers.{task_after, tag_after, after_quote, start_at};
-ghost use Rattle.first_pass_blocks.specs.Starts.{marker_of, item_after, StartMatches};
+ghost use Rattle.first_pass_blocks.specs.Starts.{marker_of, item_after, IsIndented, StartMatches};
 
 use bitflags::Flags;
 use first_pass_grammar::AfterMarker;
@@ -13,7 +15,6 @@ use first_pass_items::item::{BlockQuoteKind, Item, ItemBody};
 use first_pass_items::option_set::Options;
 use first_pass_lines::lines::scan_blank_line;
 use first_pass_lists::list::ListMarker;
-use first_pass_open::containers::scan_quote;
 use first_pass_open::indentation::scan_indentation;
 use first_pass_open::place::Place;
 use first_pass_open::source::Source;
@@ -56,7 +57,12 @@ pub(crate) fn start_at<'a>(
 {
     source.recall_length();
     let before = place.offset();
-    if let Some(marker) = scan_item(&mut place.rest) {
+    let mut mark = place.rest.copy();
+    let columns = scan_indentation(&mut mark);
+    if columns >= 4 {
+        return None;
+    }
+    if let Some(marker) = scan_item(&mut place.rest, &mark, columns) {
         let task = scan_task(source, place);
         let is_over = scan_blank_line(place.left()).is_some();
         return Some(Start {
@@ -65,17 +71,15 @@ pub(crate) fn start_at<'a>(
             after: item_after(task, is_over),
         });
     }
-    if may_define {
-        if let Some(indent) = scan_definition(&mut place.rest) {
-            let is_over = scan_blank_line(place.left()).is_some();
-            return Some(Start {
-                opener: Opener::Definition(indent),
-                start: before,
-                after: item_after(None, is_over),
-            });
-        }
+    if let Some(indent) = scan_definition(&mut place.rest, &mark, columns, may_define) {
+        let is_over = scan_blank_line(place.left()).is_some();
+        return Some(Start {
+            opener: Opener::Definition(indent),
+            start: before,
+            after: item_after(None, is_over),
+        });
     }
-    let quote = scan_quote(&mut place.rest)?;
+    let quote = scan_quote_mark(&mut place.rest, mark)?;
     let tag = scan_tag(source.options, &place.rest);
     Some(Start {
         opener: Opener::Quote(tag),
@@ -140,21 +144,20 @@ fn scan_task<'a>(source: &Source<'a>, place: &mut Place<'a>) -> Option<Item>
     })
 }
 
-// Reads the list item marker here with its indentation and returns it, if an item begins at under four columns.
-// Otherwise reads nothing.
+// Reads the list item marker here and returns it, if an item begins. The marker is at `mark`, after `columns` columns
+// of indentation. Otherwise reads nothing.
+#[inline(always)]
 #[tactic(auto, unfolding(first_pass_grammar::specs::Kinds::item_at))]
-fn scan_item<'a>(line_start: &mut LineStart<'a>) -> Option<ListMarker>
+fn scan_item<'a>(
+    line_start: &mut LineStart<'a>,
+    mark: &LineStart<'a>,
+    columns: usize,
+) -> Option<ListMarker>
+    requires { IsIndented line_start.old mark.now columns }
     ensures { MatchOption (item_at line_start.old) ((result ≡ None) × (line_start.new ≡ line_start.old))
         (λ item. (result ≡ Some (marker_of item.0)) × (line_start.new ≡ item.1)) }
 {
-    if line_start.is_at_inert() {
-        return None;
-    }
-    let mut next = line_start.copy();
-    let columns = scan_indentation(&mut next);
-    if columns >= 4 {
-        return None;
-    }
+    let mut next = mark.copy();
     let (byte, number, indent) = next.scan_list_marker_with_indent(columns)?;
     *line_start = next;
     Some(ListMarker {
@@ -164,19 +167,44 @@ fn scan_item<'a>(line_start: &mut LineStart<'a>) -> Option<ListMarker>
     })
 }
 
-// Reads the `:` of a definition here with its indentation and returns the definition's indent, if one begins at under
-// four columns. Otherwise reads nothing.
+// Reads the `:` of a definition here and returns the definition's indent, if one begins and may begin. The `:` is at
+// `mark`, after `columns` columns of indentation. Otherwise reads nothing.
+#[inline(always)]
 #[tactic(auto, unfolding(first_pass_grammar::specs::Kinds::definition_marker_at))]
-fn scan_definition<'a>(line_start: &mut LineStart<'a>) -> Option<usize>
-    ensures { MatchOption (definition_marker_at line_start.old) ((result ≡ None) × (line_start.new ≡ line_start.old))
+fn scan_definition<'a>(
+    line_start: &mut LineStart<'a>,
+    mark: &LineStart<'a>,
+    columns: usize,
+    may_define: bool,
+) -> Option<usize>
+    requires { IsIndented line_start.old mark.now columns }
+    ensures { MatchOption (if may_define then definition_marker_at line_start.old else None)
+        ((result ≡ None) × (line_start.new ≡ line_start.old))
         (λ definition. (result ≡ Some definition.0) × (line_start.new ≡ definition.1)) }
 {
-    let mut next = line_start.copy();
-    let columns = scan_indentation(&mut next);
-    if columns >= 4 {
+    if !may_define {
         return None;
     }
+    let mut next = mark.copy();
     let indent = next.scan_definition_list_definition_marker_with_indent(columns)?;
     *line_start = next;
     Some(indent)
+}
+
+// Reads the `>` of a block quote here and returns the number of bytes of the line before it, if there is one. The `>`
+// is at `mark`. Otherwise reads nothing.
+#[inline(always)]
+fn scan_quote_mark<'a>(line_start: &mut LineStart<'a>, mark: LineStart<'a>) -> Option<usize>
+    requires { (n : ℕ) × IsIndented line_start.old mark n }
+    ensures { MatchOption (prefix (BlockQuote None) line_start.old) ((result ≡ None)
+        × (line_start.new ≡ line_start.old))
+        (λ next. (result ≡ Some (after_columns 3 line_start.old).taken) × (line_start.new ≡ next)) }
+{
+    let before = mark.bytes_scanned();
+    let mut next = mark;
+    if !next.scan_blockquote_marker() {
+        return None;
+    }
+    *line_start = next;
+    Some(before)
 }
