@@ -1,0 +1,71 @@
+-- The label that a footnote definition names is read from its range.
+use Rattle.std.proofs.Common.{◌≡◌, ℕ, ◌+◌, ◌-◌, ◌&&◌, Bool, true, false, nat_lt, List, drop, Option, Some, None, refl, sym, ap, ◌∙◌, drop-drop, arith, if◌then◌else◌}
+use Rattle.std.specs.Option.{option_and_then}
+use Rattle.std.proofs.lemmas.Option.{none-some, same_Some}
+use Rattle.first_pass_items.specs.Bytes.{colon}
+use Rattle.first_pass_items.specs.OptionWords.{has, footnotes, gfm_footnotes}
+use Rattle.first_pass_items.specs.declared.item.CowIndex.{CowIndex}
+use Rattle.first_pass_lines.specs.Lines.{begins}
+use Rattle.first_pass_lines.specs.Places.{Place, offset}
+use Rattle.first_pass_lines.specs.Rest.{indent}
+use Rattle.first_pass_links.specs.Footnotes.{begins_footnote, head_after, footnote_head}
+use Rattle.first_pass_links.specs.Labels.{label_at, label_len}
+use Rattle.first_pass_grammar.specs.declared.kind.Container.{Container}
+use Rattle.first_pass_grammar.specs.Containers.{Context}
+use Rattle.first_pass_grammar.specs.Definitions.{prefix_crossed}
+use Rattle.first_pass_grammar.specs.Footnotes.{footnote_prefix, footnote_at, footnote_head_at, label_bytes, NamesLabel}
+use Rattle.first_pass_grammar.specs.Kinds.{unindented}
+use Rattle.first_pass_grammar.specs.Leaves.{Document, around}
+use Rattle.first_pass_places.specs.FootnoteLabels.{label_range}
+use Rattle.first_pass_places.specs.NamePlaces.{NamesLabelAt}
+use Rattle.first_pass_places.proofs.LabelPlaces.{IsPlainPrefix, label_ends, plain_prefix}
+
+plain_if : (t : Bool) (prefix : List ℕ → Option ℕ) → IsPlainPrefix prefix → IsPlainPrefix (λ bs. if t then None else prefix bs)
+plain_if true prefix h bs n e = absurd (none-some n e)
+plain_if false prefix h bs n e = h bs n e
+
+footnote_plain : (around : Context) → IsPlainPrefix (footnote_prefix around)
+footnote_plain around = plain_if (gfm_footnotes around.options) (prefix_crossed true around) (plain_prefix true around)
+
+some_if : (t : Bool) (o : Option (ℕ × List ℕ)) (head : ℕ × List ℕ) → (if t then o else None) ≡ Some head → o ≡ Some head
+some_if true o head e = e
+some_if false o head e = absurd (none-some head e)
+
+-- the label of a head
+label_of_head : (bs : List ℕ) (o : Option (ℕ × List ℕ)) (head : ℕ × List ℕ) → option_and_then (head_after bs) o ≡ Some head
+    → (found : ℕ × List ℕ) × (o ≡ Some found) × (found.1 ≡ head.1)
+label_of_head bs None head e = absurd (none-some head e)
+label_of_head bs (Some found) head e =
+    let same = some_if (begins colon (drop found.0 bs)) (Some (found.0 + 3, found.1)) head e in
+    (found, refl, ap (λ (p : ℕ × List ℕ). p.1) (same_Some (found.0 + 3, found.1) head same))
+
+head_label : (prefix : List ℕ → Option ℕ) (bs : List ℕ) (head : ℕ × List ℕ) → footnote_head prefix false bs ≡ Some head
+    → (found : ℕ × List ℕ) × (label_at prefix false (drop 2 bs) ≡ Some found) × (found.1 ≡ head.1)
+unfolding footnote_head
+head_label prefix bs head e = label_of_head (drop 2 bs) (label_at prefix false (drop 2 bs)) head (some_if (begins_footnote bs) _ head e)
+
+head_here : (around : Context) (p : Place) (head : ℕ × List ℕ) → footnote_head_at around p ≡ Some head
+    → footnote_head (footnote_prefix around) false (unindented p).rest.left ≡ Some head
+unfolding footnote_head_at
+head_here around p head e = some_if (has around.options footnotes && nat_lt (indent p.rest) 4) (footnote_at false around (unindented p).rest.left) head e
+
+pub footnote_is_read : (d : Document) (path : List Container) (p : Place) (index : CowIndex) (head : ℕ × List ℕ)
+    → (unindented p).rest.left ≡ drop (offset (unindented p)) d.text → footnote_head_at (around d path) p ≡ Some head
+    → NamesLabel d.names index (label_bytes head.0 (unindented p).rest.left) head.1
+    → NamesLabelAt d.names index d.text (label_range d.text (offset (unindented p)))
+unfolding label_range
+footnote_is_read d path p index head at is named =
+    let start : ℕ = offset (unindented p) in
+    let prefix : List ℕ → Option ℕ = footnote_prefix (around d path) in
+    let rest : List ℕ = drop (start + 2) d.text in
+    let found = head_label prefix (unindented p).rest.left head (head_here (around d path) p head is) in
+    let there : drop 2 (unindented p).rest.left ≡ rest = ap (drop 2) at ∙ drop-drop 2 start d.text in
+    let reads : label_at prefix false rest ≡ Some found.0 = ap (label_at prefix false) (sym there) ∙ found.1 in
+    let size : found.0.0 ≡ label_len rest + 1 = label_ends prefix (footnote_plain (around d path)) false rest found.0 reads in
+    let whole : found.0.0 ≡ start + 2 + label_len rest + 1 - (start + 2) = omega (arith, size) in
+    record {
+      prefix = prefix;
+      label = head.1;
+      reads = reads ∙ ap (λ n. Some (n, found.0.1)) whole ∙ ap (λ l. Some (start + 2 + label_len rest + 1 - (start + 2), l)) found.2;
+      named = (named.named, named.at, named.text);
+    }

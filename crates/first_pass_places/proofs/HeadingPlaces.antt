@@ -1,0 +1,49 @@
+-- The attributes that a heading names are those of its block's range.
+use Rattle.std.proofs.Common.{◌≡◌, ℕ, ◌+◌, Bool, true, false, List, drop, Option, Some, None, refl, sym, ap, ◌∙◌, arith, if◌then◌else◌}
+use Rattle.std.specs.Option.{option_map}
+use Rattle.std.specs.List.{slice_range}
+use Rattle.std.proofs.lemmas.Option.{none-some}
+use Rattle.first_pass_items.specs.OptionWords.{has, heading_attributes}
+use Rattle.first_pass_items.specs.declared.item.HeadingIndex.{HeadingIndex}
+use Rattle.first_pass_items.specs.declared.item.HeadingLevel.{HeadingLevel}
+use Rattle.first_pass_items.specs.declared.item.Item.{Item}
+use Rattle.first_pass_items.specs.declared.option_set.Options.{Options}
+use Rattle.first_pass_lines.specs.Lines.{line_len, level_number}
+use Rattle.first_pass_attributes.specs.AttributeBlocks.{Braces, attribute_block}
+use Rattle.first_pass_attributes.specs.Attributes.{attributes_of}
+use Rattle.first_pass_grammar.specs.Headings.{heading_braces}
+use Rattle.first_pass_grammar.specs.Leaves.{Document, IsHeading, heading_text_at, line_bytes, heading_block}
+use Rattle.first_pass_grammar.specs.Names.{Names, NamesAttributes}
+use Rattle.first_pass_places.specs.AttributeBlockPlaces.{block_range}
+use Rattle.first_pass_places.specs.InfoStrings.{bytes_in}
+use Rattle.first_pass_places.specs.NamePlaces.{NamesAttributesIn, FirstIsReadFromText}
+use Rattle.first_pass_places.proofs.BlockPlaces.{found_between}
+
+braces_if : (t : Bool) (o : Option Braces) (block : Braces) → (if t then o else None) ≡ Some block → o ≡ Some block
+braces_if true o block e = e
+braces_if false o block e = absurd (none-some block e)
+
+braces_found : (options : Options) (bs : List ℕ) (block : Braces) → heading_braces options bs ≡ Some block → attribute_block bs ≡ Some block
+unfolding heading_braces
+braces_found options bs block e = braces_if (has options heading_attributes) (attribute_block bs) block e
+
+-- the attributes of the bytes that are found are those of the bytes in the range
+pub named_by : (names : Names) (options : Options) (index : Option HeadingIndex) (bs inside : List ℕ) (o : Option Braces)
+    → heading_braces options bs ≡ o
+    → ((block : Braces) → attribute_block bs ≡ Some block → inside ≡ slice_range bs (block.opening + 1) block.closing)
+    → NamesAttributes names index (option_map (λ block. attributes_of (slice_range bs (block.opening + 1) block.closing)) o)
+    → NamesAttributesIn names index inside
+named_by names options None bs inside o found same named = tt
+named_by names options (Some ix) bs inside None found same named = absurd named
+named_by names options (Some ix) bs inside (Some block) found same named =
+    named ∙ ap (λ l. Some (attributes_of l)) (sym (same block (braces_found options bs block found)))
+
+-- an ATX heading
+pub heading_is_read : (d : Document) (start : ℕ) (level : HeadingLevel) (index : Option HeadingIndex) (chain : List Item) (e : ℕ)
+    → IsHeading d (heading_text_at d.text start (level_number level)) index chain e → FirstIsReadFromText d (heading_block start e level index chain)
+heading_is_read d start level index chain e is =
+    let from : ℕ = heading_text_at d.text start (level_number level) in
+    let size : ℕ = line_len (drop from d.text) in
+    let end_is : e ≡ from + size = is.end_is in
+    named_by d.names d.options index (line_bytes d from) (bytes_in d.text (block_range d.text start e)) (heading_braces d.options (line_bytes d from)) refl
+    (λ block found. found_between d.text start e from size block (omega arith) (omega arith) found (λ k low high. absurd (omega arith))) is.named

@@ -1,0 +1,9 @@
+pub mod BlockPlaces
+pub mod FootnotePlaces
+pub mod HeadingPlaces
+pub mod InfoFacts
+pub mod LabelPlaces
+pub mod PrefixBytes
+pub mod SetextPlaces
+pub mod TokenBraces
+pub mod WordPlaces

@@ -1,0 +1,344 @@
+-- The attributes that a setext heading names are those of its block's range.
+use Rattle.std.proofs.Common.{◌≡◌, inl, inr, ℕ, zero, suc, ◌+◌, ◌-◌, ◌<◌, ◌≤◌, ◌==◌, Bool, true, false, nat_lt, List, [], ◌∷◌, ◌++◌, length, drop}
+use Rattle.std.proofs.Common.{slice_index, Option, Some, None, MatchOption, IfSome, is_some, refl, sym, ap, subst, ◌∙◌, arith, if◌then◌else◌}
+use Rattle.std.specs.Option.{option_map}
+use Rattle.std.specs.List.{slice_range, prefix_len}
+use Rattle.std.proofs.lemmas.Bool.{cases_lt, eqb-true, true≢false}
+use Rattle.std.proofs.lemmas.Bool.Decides.{nat_tests}
+use Rattle.std.proofs.lemmas.List.{drop-drop, get_or-drop, length-append, length-drop}
+use Rattle.std.proofs.lemmas.List.Sums.{AllPass-from_list_all, prefix_len_passes, prefix_len-le-length}
+use Rattle.std.proofs.Math.ListN.{get_or-append}
+use Rattle.std.proofs.lemmas.Option.{none-some, same_Some}
+use Rattle.first_pass_items.specs.Bytes.{right_brace}
+use Rattle.first_pass_items.specs.declared.item.HeadingLevel.{HeadingLevel}
+use Rattle.first_pass_items.specs.declared.item.HeadingLevel.TheVariants.{H1, H2}
+use Rattle.first_pass_items.specs.declared.item.Item.{Item}
+use Rattle.first_pass_lines.specs.Lines.{is_content, is_white, eol_len, blank_len, begins, line_len}
+use Rattle.first_pass_lines.specs.Places.{Place, line_place, offset, start_of}
+use Rattle.first_pass_lines.specs.Rest.{Rest, indent}
+use Rattle.first_pass_lines.proofs.LineFacts.{line_len-content_first, line_len-blank, line_len-fits, lines_at-line, lines_at-end}
+use Rattle.first_pass_lines.proofs.PlaceFacts.{start_of-lines}
+use Rattle.first_pass_scan.specs.LeafLines.{run_len, underline_len, setext_underline}
+use Rattle.first_pass_tokens.specs.Braces.{MathBraces, no_braces}
+use Rattle.first_pass_tokens.specs.Chains.{add_tokens}
+use Rattle.first_pass_tokens.specs.LineTokens.{Spot, spot, AreLineTokens, IsBreak}
+use Rattle.first_pass_tokens.proofs.LineLemmas.{ends_line}
+use Rattle.first_pass_attributes.specs.AttributeBlocks.{Braces, attribute_block}
+use Rattle.first_pass_grammar.specs.declared.kind.Container.{Container}
+use Rattle.first_pass_grammar.specs.Completion.{lines_from}
+use Rattle.first_pass_grammar.specs.Containers.{at_rest, after, front}
+use Rattle.first_pass_grammar.specs.Headings.{chain_end, heading_braces}
+use Rattle.first_pass_grammar.specs.Kinds.{all_taken, unindented, underline_left, underline_of}
+use Rattle.first_pass_grammar.specs.Leaves.{Document, content_at, add_break, marker_items, TextLines, AreTextLines}
+use Rattle.first_pass_grammar.specs.Tables.{Taken}
+use Rattle.first_pass_grammar.specs.Texts.{IsPlainText, IsUnderlined, plain_text, underline_first, heading_bytes}
+use Rattle.first_pass_grammar.proofs.PlacesKept.{IsAt, at_front}
+use Rattle.first_pass_places.specs.AttributeBlockPlaces.{block_range}
+use Rattle.first_pass_places.specs.InfoStrings.{bytes_in}
+use Rattle.first_pass_places.specs.NamePlaces.{FirstIsReadFromText}
+use Rattle.first_pass_places.proofs.BlockPlaces.{AreBraces, found_braces, found_between, is_in, part_short}
+use Rattle.first_pass_places.proofs.HeadingPlaces.{named_by}
+use Rattle.first_pass_places.proofs.PrefixBytes.{is_prefix_byte, Skips, line_skips}
+use Rattle.first_pass_places.proofs.TokenBraces.{HasNoBrace, both_none, nothing_none, Reaches, reach_further, tokens_end, line_reaches, later_end}
+
+-- a line after some bytes of its content
+content_run : (n : ℕ) (bs : List ℕ) → n ≤ length bs → ((k : ℕ) → k < n → is_content (slice_index bs k) ≡ true) → line_len bs ≡ n + line_len (drop n bs)
+content_run zero bs within h = omega arith
+content_run (suc n) [] within h = absurd (omega arith)
+content_run (suc n) (b ∷ bs) within h =
+    let more = content_run n bs (omega arith) (λ k low. h (suc k) (omega arith)) in
+    line_len-content_first b bs (h 0 (omega arith)) ∙ omega (arith, more)
+
+prefix_content : (b : ℕ) → is_prefix_byte b ≡ true → is_content b ≡ true
+prefix_content b h = grind (arith, nat_tests, h)
+
+prefix_none : (b : ℕ) → is_prefix_byte b ≡ true → (b == right_brace) ≡ false
+prefix_none b h = grind (arith, nat_tests, h)
+
+white_content : (b : ℕ) → is_white b ≡ true → is_content b ≡ true
+white_content b h = grind (arith, nat_tests, h)
+
+white_none : (b : ℕ) → is_white b ≡ true → (b == right_brace) ≡ false
+white_none b h = grind (arith, nat_tests, h)
+
+-- the place in a line of a text after the prefixes of containers and the indentation
+pub record IsAfterPrefix (text : List ℕ) (at to : ℕ) : Type 0 where
+  pub order : at ≤ to
+  pub within : to ≤ length text
+  pub none : HasNoBrace text at to
+  pub line : to + line_len (drop to text) ≡ at + line_len (drop at text)
+
+skipped : (text : List ℕ) (at : ℕ) (r s : Rest) → at ≤ length text → r.left ≡ drop at text → r.taken ≡ 0 → Skips r s → IsAfterPrefix text at (at + s.taken)
+skipped text at r s within left none skips =
+    let n : ℕ = length skips.bytes in
+    let count : s.taken ≡ n = (let t = skips.taken in omega (arith, t, none)) in
+    let parts : drop at text ≡ skips.bytes ++ s.left = sym left ∙ skips.left in
+    let size = ap length parts ∙ length-append skips.bytes s.left in
+    let rest = length-drop at text in
+    let byte : (k : ℕ) → k < n → is_prefix_byte (slice_index (drop at text) k) ≡ true =
+    (λ k low. ap (λ (l : List ℕ). is_prefix_byte (slice_index l k)) parts ∙ ap is_prefix_byte (get_or-append skips.bytes s.left 0 k low)
+    ∙ AllPass-from_list_all is_prefix_byte skips.bytes skips.plain k 0 low) in
+    let long = content_run n (drop at text) (omega (arith, size)) (λ k low. prefix_content (slice_index (drop at text) k) (byte k low)) in
+    let there : drop n (drop at text) ≡ drop (at + n) text = drop-drop n at text in
+    let all : IsAfterPrefix text at (at + n) = record {
+      order = omega arith;
+      within = omega (arith, size, rest);
+      none = λ k low high.
+          let j : ℕ = k - at in
+          let on : at + j ≡ k = omega arith in
+          ap (λ i. slice_index text i == right_brace) (sym on) ∙ ap (λ b. b == right_brace) (sym (get_or-drop at text j 0))
+          ∙ prefix_none (slice_index (drop at text) j) (byte j (omega arith));
+      line = (let same = ap line_len there in omega (arith, long, same));
+    } in
+    subst (λ k. IsAfterPrefix text at (at + k)) (sym count) all
+
+prefix_place : (text : List ℕ) (path : List Container) (at : ℕ) (line : Place) → at ≤ length text → line ≡ line_place at (drop at text)
+    → IsAfterPrefix text at (offset (unindented (at_rest line (front path line.rest))))
+prefix_place text path at line within is =
+    let here : Place = line_place at (drop at text) in
+    let r : Rest = here.rest in
+    subst (λ (p : Place). IsAfterPrefix text at (offset (unindented (at_rest p (front path p.rest))))) (sym is)
+    (skipped text at r (all_taken (front path r)) within refl refl (line_skips path (indent (front path r)) r))
+
+prefix_left : (text : List ℕ) (path : List Container) (at : ℕ) (line : Place) → line ≡ line_place at (drop at text)
+    → (all_taken (front path line.rest)).left ≡ drop (offset (unindented (at_rest line (front path line.rest)))) text
+prefix_left text path at line is =
+    let here : Place = line_place at (drop at text) in
+    let same : at ≡ at + 0 = omega arith in
+    at_front text path line (subst (IsAt text) (sym is) (ap (λ n. drop n text) same))
+
+abbrev head_or : Place → List Place → Place
+head_or p [] = p
+head_or p (q ∷ qs) = q
+
+some_line : (line : Place) (lines : List Place) → line ∷ lines ≡ [] → ⊥
+some_line line lines e = cc
+
+-- the first of the lines from an offset on
+first_line : (text : List ℕ) (at : ℕ) (line : Place) (lines : List Place) → line ∷ lines ≡ lines_from text at
+    → (at < length text) × (line ≡ line_place at (drop at text)) × (lines ≡ lines_from text (at + line_len (drop at text)))
+first_line text at line lines e = elim (cases_lt at (length text)) [
+  | inl inside ↦ (
+      let here : Place = line_place at (drop at text) in
+      let more : List Place = lines_from text (at + line_len (drop at text)) in
+      let same : line ∷ lines ≡ here ∷ more = e ∙ lines_at-line text at inside in
+      (inside, ap (λ (l : List Place). head_or line l) same, ap (λ (l : List Place). drop 1 l) same))
+  | inr past ↦ absurd (some_line line lines (e ∙ lines_at-end text at past))
+]
+
+-- the lines of a text are read up to an offset, and no closing brace is between the end of their chain and that offset
+pub record AreReadUpTo (text : List ℕ) (start : ℕ) (l : TextLines) : Type 0 where
+  pub to : ℕ
+  pub within : to ≤ length text
+  pub left : l.left ≡ lines_from text to
+  pub reaches : Reaches text start l.chain to
+
+last_end : (s : ℕ) (chain : List Item) (x : Item) → chain_end s (chain ++ x ∷ []) ≡ x.«end»
+last_end s [] x = refl
+last_end s (y ∷ ys) x = later_end s y (ys ++ x ∷ []) ∙ last_end y.«end» ys x
+
+-- a line is read
+pub record IsReadTo (d : Document) (start : ℕ) (p : Spot) (chain : List Item) (answer : ℕ × Option Item) : Type 0 where
+  pub within : answer.0 ≤ length d.text
+  pub place : answer.0 ≡ p.at + line_len (drop p.at d.text)
+  pub reaches : Reaches d.text start chain answer.0
+  pub broken : Reaches d.text start (add_break answer.1 chain) answer.0
+
+broken_by : (d : Document) (start begin : ℕ) (chain : List Item) (n : ℕ) (o : Option Item) → IfSome o (λ x. IsBreak begin n x) → Reaches d.text start chain n
+    → Reaches d.text start (add_break o chain) n
+broken_by d start begin chain n None broken h = h
+broken_by d start begin chain n (Some x) broken h =
+    let e : chain_end start (chain ++ x ∷ []) ≡ n = last_end start chain x ∙ broken.to in
+    record { order = omega (arith, e); none = nothing_none d.text (chain_end start (chain ++ x ∷ [])) n (omega (arith, e)) }
+
+line_read : (d : Document) (start : ℕ) (p : Spot) (chain tokens : List Item) (answer : ℕ × Option Item) (after : MathBraces) → p.at ≤ length d.text
+    → Reaches d.text start chain p.at → AreLineTokens d.names.texts (content_at d p) tokens answer after → IsReadTo d start p (add_tokens chain tokens) answer
+line_read d start p chain tokens answer after within h line =
+    let ends = ends_line within line in
+    let read = line_reaches d.names.texts (content_at d p) tokens answer after (chain_end start chain) line h.order h.none in
+    let e = tokens_end start chain tokens in
+    let all : Reaches d.text start (add_tokens chain tokens) answer.0 =
+    record { order = (let o = read.order in omega (arith, e, o)); none = subst (λ n. HasNoBrace d.text n answer.0) (sym e) read.none } in
+    record {
+      within = ends.within;
+      place = ends.place;
+      reaches = all;
+      broken = broken_by d start p.at (add_tokens chain tokens) answer.0 answer.1 ends.broken all;
+    }
+
+lines_read : (d : Document) (path : List Container) (start : ℕ) (p : Spot) (chain : List Item) (lines : List Place) (l : TextLines) → p.at ≤ length d.text
+    → lines ≡ lines_from d.text (p.at + line_len (drop p.at d.text)) → Reaches d.text start chain p.at → AreTextLines d path p chain lines l
+    → AreReadUpTo d.text start l
+unfolding AreTextLines
+lines_read d path start p chain [] l within left h (tokens, answer, after, line, e) =
+    let read = line_read d start p chain tokens answer after within h line in
+    subst (AreReadUpTo d.text start) (sym e)
+    (record { to = answer.0; within = read.within; left = left ∙ ap (lines_from d.text) (sym read.place); reaches = read.reaches })
+lines_read d path start p chain (line ∷ lines) l within left h (tokens, answer, after, is, inl (ends, e)) =
+    let read = line_read d start p chain tokens answer after within h is in
+    subst (AreReadUpTo d.text start) (sym e)
+    (record { to = answer.0; within = read.within; left = left ∙ ap (lines_from d.text) (sym read.place); reaches = read.reaches })
+lines_read d path start p chain (line ∷ lines) l within left h (tokens, answer, after, is, inr (goes, more)) =
+    let read = line_read d start p chain tokens answer after within h is in
+    let first = first_line d.text answer.0 line lines (left ∙ ap (lines_from d.text) (sym read.place)) in
+    let next : ℕ = offset (unindented (at_rest line (front path line.rest))) in
+    let past : IsAfterPrefix d.text answer.0 next = prefix_place d.text path answer.0 line read.within first.1 in
+    let there : Spot = spot next after in
+    let all : Reaches d.text start (add_break answer.1 (add_tokens chain tokens)) next =
+    reach_further d.text start answer.0 next (add_break answer.1 (add_tokens chain tokens)) past.order past.none read.broken in
+    lines_read d path start there (add_break answer.1 (add_tokens chain tokens)) lines l past.within (first.2 ∙ ap (lines_from d.text) (sym past.line)) all more
+
+-- the bytes of an underline
+eol_second : (t : Bool) (bs : List ℕ) (n k : ℕ) → begins 10 bs ≡ t → (if t then 2 else 1) ≡ n → suc k < n → (slice_index bs k == right_brace) ≡ false
+eol_second true [] n k e f low = absurd (true≢false (sym e))
+eol_second true (b ∷ bs) n zero e f low = ap (λ c. c == right_brace) (eqb-true b 10 e)
+eol_second true (b ∷ bs) n (suc k) e f low = absurd (omega (arith, f))
+eol_second false bs n k e f low = absurd (omega (arith, f))
+
+eol_by : (t u : Bool) (b : ℕ) (bs : List ℕ) (n k : ℕ) → (b == 10) ≡ t → (b == 13) ≡ u
+    → (if t then Some 1 else (if u then Some (if begins 10 bs then 2 else 1) else None)) ≡ Some n → k < n → (slice_index (b ∷ bs) k == right_brace) ≡ false
+eol_by true u b bs n zero e f h low = ap (λ c. c == right_brace) (eqb-true b 10 e)
+eol_by true u b bs n (suc k) e f h low = absurd (let one = same_Some 1 n h in omega (arith, one))
+eol_by false true b bs n zero e f h low = ap (λ c. c == right_brace) (eqb-true b 13 f)
+eol_by false true b bs n (suc k) e f h low = eol_second (begins 10 bs) bs n k refl (same_Some _ n h) low
+eol_by false false b bs n k e f h low = absurd (none-some n h)
+
+eol_none : (bs : List ℕ) (n k : ℕ) → eol_len bs ≡ Some n → k < n → (slice_index bs k == right_brace) ≡ false
+eol_none [] n k h low = absurd (let zero_is = same_Some 0 n h in omega (arith, zero_is))
+eol_none (b ∷ bs) n k h low = eol_by (b == 10) (b == 13) b bs n k refl refl h low
+
+longer_by : (m n : ℕ) (o : Option ℕ) → option_map (λ k. m + k) o ≡ Some n → (j : ℕ) × (o ≡ Some j) × (m + j ≡ n)
+longer_by m n None h = absurd (none-some n h)
+longer_by m n (Some j) h = (j, refl, same_Some (m + j) n h)
+
+drop_none : (bs : List ℕ) (m n k : ℕ) → ((j : ℕ) → j < m → (slice_index bs j == right_brace) ≡ false)
+    → ((j : ℕ) → j < n → (slice_index (drop m bs) j == right_brace) ≡ false) → k < m + n → (slice_index bs k == right_brace) ≡ false
+drop_none bs m n k first second low = elim (cases_lt k m) as (λ _. (slice_index bs k == right_brace) ≡ false) [
+  | inl less ↦ first k less
+  | inr more ↦ (
+      let j : ℕ = k - m in
+      let on : m + j ≡ k = omega arith in
+      ap (λ i. slice_index bs i == right_brace) (sym on) ∙ ap (λ b. b == right_brace) (sym (get_or-drop m bs j 0)) ∙ second j (omega arith))
+]
+
+blank_none : (bs : List ℕ) (n k : ℕ) → blank_len bs ≡ Some n → k < n → (slice_index bs k == right_brace) ≡ false
+blank_none bs n k h low =
+    let w : ℕ = prefix_len is_white bs in
+    let rest = longer_by w n (eol_len (drop w bs)) h in
+    drop_none bs w rest.0 k (λ j less. white_none (slice_index bs j) (prefix_len_passes is_white bs j 0 less)) (λ j less. eol_none (drop w bs) rest.0 j rest.1 less)
+    (omega (arith, rest.2))
+
+-- a line without a closing brace
+pub record IsPlainLine (bs : List ℕ) : Type 0 where
+  pub none : (k : ℕ) → k < line_len bs → (slice_index bs k == right_brace) ≡ false
+
+run_plain : (c : ℕ) (bs : List ℕ) (n : ℕ) → is_content c ≡ true → (c == right_brace) ≡ false → underline_len c bs ≡ Some n → IsPlainLine bs
+run_plain c bs n content other h =
+    let m : ℕ = run_len c bs in
+    let rest = longer_by m n (blank_len (drop m bs)) h in
+    let is : (k : ℕ) → k < m → slice_index bs k ≡ c = λ k less. eqb-true (slice_index bs k) c (prefix_len_passes (λ b. b == c) bs k 0 less) in
+    let long = content_run m bs (prefix_len-le-length (λ b. b == c) bs) (λ k less. ap is_content (is k less) ∙ content) in
+    let end = line_len-blank (drop m bs) rest.0 rest.1 in
+    record {
+      none = λ k low. drop_none bs m rest.0 k (λ j less. ap (λ b. b == right_brace) (is j less) ∙ other) (λ j less. blank_none (drop m bs) rest.0 j rest.1 less)
+          (omega (arith, long, end));
+    }
+
+mapped_some : (level : HeadingLevel) (o : Option ℕ) (found : ℕ × HeadingLevel) → option_map (λ n. (n, level)) o ≡ Some found → (n : ℕ) × (o ≡ Some n)
+mapped_some level None found h = absurd (none-some found h)
+mapped_some level (Some n) found h = (n, refl)
+
+level_by : (t u : Bool) (bs : List ℕ) (found : ℕ × HeadingLevel)
+    → (if t then option_map (λ n. (n, H1)) (underline_len 61 bs) else (if u then option_map (λ n. (n, H2)) (underline_len 45 bs) else None)) ≡ Some found
+    → IsPlainLine bs
+level_by true u bs found h = let n = mapped_some H1 (underline_len 61 bs) found h in run_plain 61 bs n.0 refl refl n.1
+level_by false true bs found h = let n = mapped_some H2 (underline_len 45 bs) found h in run_plain 45 bs n.0 refl refl n.1
+level_by false false bs found h = absurd (none-some found h)
+
+underline_plain : (bs : List ℕ) (found : ℕ × HeadingLevel) → setext_underline bs ≡ Some found → IsPlainLine bs
+unfolding setext_underline
+underline_plain bs found h = level_by (begins 61 bs) (begins 45 bs) bs found h
+
+some_if : (t : Bool) (o : Option (ℕ × HeadingLevel)) (found : ℕ × HeadingLevel) → (if t then o else None) ≡ Some found → o ≡ Some found
+some_if true o found e = e
+some_if false o found e = absurd (none-some found e)
+
+underline_here : (path : List Container) (r : Rest) (found : ℕ × HeadingLevel) → underline_of path r ≡ Some found → IsPlainLine (all_taken (front path r)).left
+unfolding underline_of
+underline_here path r found h =
+    underline_plain (all_taken (front path r)).left found
+    (some_if (nat_lt (indent (front path r)) 4) (setext_underline (all_taken (front path r)).left) found
+    (some_if (is_some (after path r)) (underline_left (front path r)) found h))
+
+-- no closing brace is in the line of an underline
+underline_none : (text : List ℕ) (path : List Container) (at : ℕ) (left : List Place) (found : ℕ × HeadingLevel) → underline_first path left ≡ Some found
+    → at ≤ length text → left ≡ lines_from text at
+    → (at ≤ start_of (length text) (drop 1 left)) × HasNoBrace text at (start_of (length text) (drop 1 left))
+underline_none text path at [] found h within is = absurd (none-some found h)
+underline_none text path at (line ∷ lines) found h within is =
+    let first = first_line text at line lines is in
+    let next : ℕ = offset (unindented (at_rest line (front path line.rest))) in
+    let past : IsAfterPrefix text at next = prefix_place text path at line within first.1 in
+    let plain = underline_here path line.rest found h in
+    let there = prefix_left text path at line first.1 in
+    let size : ℕ = line_len (drop next text) in
+    let whole : IsPlainLine (drop next text) = subst IsPlainLine there plain in
+    let fits = line_len-fits (drop next text) in
+    let rest = length-drop next text in
+    let end : start_of (length text) lines ≡ next + size =
+    ap (start_of (length text)) first.2 ∙ ap (λ n. start_of (length text) (lines_from text n)) (sym past.line)
+    ∙ start_of-lines text (next + size) (let w = past.within in omega (arith, fits, rest)) in
+    let bytes : HasNoBrace text next (next + size) = (λ k low high.
+    let j : ℕ = k - next in
+    let on : next + j ≡ k = omega arith in
+    ap (λ i. slice_index text i == right_brace) (sym on) ∙ ap (λ b. b == right_brace) (sym (get_or-drop next text j 0)) ∙ whole.none j (omega arith)) in
+    let order = past.order in
+    (omega (arith, end), subst (HasNoBrace text at) (sym end) (both_none text at next (next + size) past.none bytes))
+
+-- the end of a chain with a marker before it
+marked_end : (start : ℕ) (marker : Option Item) (chain : List Item) → IfSome marker (λ x. x.«end» ≤ start) → start < chain_end start (marker_items marker ++ chain)
+    → chain_end start (marker_items marker ++ chain) ≡ chain_end start chain
+marked_end start None chain before h = refl
+marked_end start (Some x) [] before h = absurd (omega arith)
+marked_end start (Some x) (y ∷ ys) before h = refl
+
+-- the block at the end of a heading's text
+block_is : (d : Document) (path : List Container) (start : ℕ) (marker : Option Item) (l : TextLines) (found : ℕ × HeadingLevel) (block : Braces)
+    → IfSome marker (λ x. x.«end» ≤ start) → AreReadUpTo d.text start l → underline_first path l.left ≡ Some found
+    → attribute_block (heading_bytes d start marker l) ≡ Some block
+    → bytes_in d.text (block_range d.text start (start_of (length d.text) (drop 1 l.left)))
+    ≡ slice_range (heading_bytes d start marker l) (block.opening + 1) block.closing
+block_is d path start marker l found block before read underline is =
+    let end : ℕ = start_of (length d.text) (drop 1 l.left) in
+    let last : ℕ = chain_end start (marker_items marker ++ l.chain) in
+    let m : ℕ = last - start in
+    let are : AreBraces (heading_bytes d start marker l) block.opening block.closing = found_braces (heading_bytes d start marker l) block is in
+    let short = part_short d.text start m in
+    let some = is_in (heading_bytes d start marker l) block.closing right_brace are.closes (omega arith) in
+    let same : last ≡ chain_end start l.chain = marked_end start marker l.chain before (omega arith) in
+    let under = underline_none d.text path read.to l.left found underline read.within read.left in
+    let order = read.reaches.order in
+    let later = under.0 in
+    let none : HasNoBrace d.text last end =
+    subst (λ n. HasNoBrace d.text n end) (sym same) (both_none d.text (chain_end start l.chain) read.to end read.reaches.none under.1) in
+    found_between d.text start end start m block (omega arith) (omega (arith, same, order, later)) is (λ k low high. none k (omega arith) high)
+
+setext_by : (d : Document) (path : List Container) (start : ℕ) (marker : Option Item) (l : TextLines) (t : Taken) (o : Option (ℕ × HeadingLevel))
+    → IfSome marker (λ x. x.«end» ≤ start) → AreReadUpTo d.text start l → underline_first path l.left ≡ o
+    → MatchOption o (t ≡ plain_text d start marker l) (λ underline. IsUnderlined d start marker l underline.1 t) → FirstIsReadFromText d t.items
+setext_by d path start marker l t None before read is e = subst (λ (z : Taken). FirstIsReadFromText d z.items) (sym e) tt
+setext_by d path start marker l t (Some found) before read is (index, named, e) =
+    subst (λ (z : Taken). FirstIsReadFromText d z.items) (sym e)
+    (named_by d.names d.options index (heading_bytes d start marker l)
+    (bytes_in d.text (block_range d.text start (start_of (length d.text) (drop 1 l.left))))
+    (heading_braces d.options (heading_bytes d start marker l)) refl
+    (λ block h. block_is d path start marker l found block before read is h) named)
+
+-- a setext heading, or a paragraph
+pub text_is_read : (d : Document) (path : List Container) (start : ℕ) (marker : Option Item) (lines : List Place) (t : Taken)
+    → IfSome marker (λ x. x.«end» ≤ start) → start ≤ length d.text → lines ≡ lines_from d.text (start + line_len (drop start d.text))
+    → IsPlainText d path start marker lines t → FirstIsReadFromText d t.items
+text_is_read d path start marker lines t before within left (l, are, is) =
+    setext_by d path start marker l t (underline_first path l.left) before
+    (lines_read d path start (spot start no_braces) [] lines l within left
+    (record { order = omega arith; none = nothing_none d.text start start (omega arith) }) are) refl is

@@ -1,0 +1,229 @@
+-- No closing brace follows the last token of a line in that line.
+use Rattle.std.proofs.Common.{◌≡◌, ℕ, zero, suc, ◌+◌, ◌-◌, ◌%◌, ◌<◌, ◌≤◌, ◌==◌, ◌&&◌, ◌||◌, Bool, true, false, nat_lt, nat_le, min, List, [], ◌∷◌, length, drop}
+use Rattle.std.proofs.Common.{get_or, slice_index, Option, refl, sym, ap, subst, ◌∙◌, arith, inl, inr, if◌then◌else◌}
+use mathlib.Core.List.{reverse}
+use Rattle.std.specs.List.{slice_range, suffix_len}
+use Rattle.std.proofs.lemmas.Bool.{and_parts, cases_lt, eqb-true, ltb-false, true≢false}
+use Rattle.std.proofs.lemmas.Bool.Decides.{nat_tests}
+use Rattle.std.proofs.lemmas.List.{get_or-drop, get_or-take, get_or_past, get_or-reverse, length-take, length-drop}
+use Rattle.std.proofs.lemmas.List.Sums.{prefix_len_passes, suffix_len-le-length}
+use Rattle.first_pass_items.specs.Bytes.{right_brace}
+use Rattle.first_pass_items.specs.declared.cow_str.CowStr.{CowStr}
+use Rattle.first_pass_items.specs.declared.item.Item.{Item}
+use Rattle.first_pass_items.specs.declared.item.ItemBody.TheVariants.{MaybeEmphasis}
+use Rattle.first_pass_lines.specs.Lines.{is_line_end, is_white}
+use Rattle.first_pass_tokens.specs.declared.pieces.Piece.{Piece}
+use Rattle.first_pass_tokens.specs.declared.pieces.Piece.TheVariants.{Left, Begins, Token, Run}
+use Rattle.first_pass_tokens.specs.Braces.{MathBraces, braces_after}
+use Rattle.first_pass_tokens.specs.Chains.{text_token, token, run_tokens, touches, add_token, add_tokens, add_text}
+use Rattle.first_pass_tokens.specs.LineTokens.{Spot, spot, content_ends_at, ends_cell, ArePieces, add_piece, add_pieces, text_end, line_end_len, breaks_by_backslash}
+use Rattle.first_pass_tokens.specs.LineTokens.{backslashes_at_end, blanks_at_end, AreLineTokens}
+use Rattle.first_pass_tokens.specs.Pieces.{Inline, found_at, size}
+use Rattle.first_pass_tokens.proofs.LineLemmas.{piece_of}
+use Rattle.first_pass_tokens.proofs.PieceFacts.{IsPieceAt}
+use Rattle.first_pass_grammar.specs.Headings.{chain_end}
+
+-- no closing brace is in the bytes of a text from one offset up to another
+abbrev pub HasNoBrace : List ℕ → ℕ → ℕ → Type 0
+HasNoBrace text from to = (k : ℕ) → from ≤ k → k < to → (slice_index text k == right_brace) ≡ false
+
+pub both_none : (text : List ℕ) (a b c : ℕ) → HasNoBrace text a b → HasNoBrace text b c → HasNoBrace text a c
+both_none text a b c h k n low high = elim (cases_lt n b) as (λ _. (slice_index text n == right_brace) ≡ false) [
+  | inl less ↦ h n low less
+  | inr more ↦ k n more high
+]
+
+pub nothing_none : (text : List ℕ) (a b : ℕ) → b ≤ a → HasNoBrace text a b
+nothing_none text a b h n low high = absurd (omega arith)
+
+pub byte_none : (text : List ℕ) (n c : ℕ) → slice_index text n ≡ c → (c == right_brace) ≡ false → (slice_index text n == right_brace) ≡ false
+byte_none text n c e h = ap (λ b. b == right_brace) e ∙ h
+
+-- the end of a chain
+pub same_end : (s t : ℕ) (x : Item) (xs : List Item) → chain_end s (x ∷ xs) ≡ chain_end t (x ∷ xs)
+same_end s t x [] = refl
+same_end s t x (y ∷ ys) = same_end s t y ys
+
+pub later_end : (s : ℕ) (x : Item) (xs : List Item) → chain_end s (x ∷ xs) ≡ chain_end x.«end» xs
+later_end s x [] = refl
+later_end s x (y ∷ ys) = same_end s x.«end» y ys
+
+joined_end : (t : Bool) (s : ℕ) (x y : Item) → chain_end s (if t then record x { «end» = y.«end» } ∷ [] else x ∷ y ∷ []) ≡ y.«end»
+joined_end true s x y = refl
+joined_end false s x y = refl
+
+pub token_end : (s : ℕ) (chain : List Item) (y : Item) → chain_end s (add_token chain y) ≡ y.«end»
+token_end s [] y = refl
+token_end s (x ∷ []) y = joined_end (touches x y) s x y
+token_end s (x ∷ z ∷ zs) y = later_end s x (add_token (z ∷ zs) y) ∙ token_end x.«end» (z ∷ zs) y
+
+pub tokens_end : (s : ℕ) (chain tokens : List Item) → chain_end s (add_tokens chain tokens) ≡ chain_end (chain_end s chain) tokens
+tokens_end s chain [] = refl
+tokens_end s chain (x ∷ xs) =
+    tokens_end s (add_token chain x) xs ∙ ap (λ n. chain_end n xs) (token_end s chain x) ∙ sym (later_end (chain_end s chain) x xs)
+
+-- the chain ends at an offset or before it, and no closing brace is between
+pub record Reaches (text : List ℕ) (s : ℕ) (chain : List Item) (at : ℕ) : Type 0 where
+  pub order : chain_end s chain ≤ at
+  pub none : HasNoBrace text (chain_end s chain) at
+
+pub reach_further : (text : List ℕ) (s at to : ℕ) (chain : List Item) → at ≤ to → HasNoBrace text at to → Reaches text s chain at → Reaches text s chain to
+reach_further text s at to chain order none h = record { order = (let o = h.order in omega arith); none = both_none text (chain_end s chain) at to h.none none }
+
+token_reaches : (text : List ℕ) (s to : ℕ) (chain : List Item) (y : Item) → y.«end» ≤ to → HasNoBrace text y.«end» to → Reaches text s (add_token chain y) to
+token_reaches text s to chain y order none =
+    let e = token_end s chain y in record { order = omega (arith, e); none = subst (λ n. HasNoBrace text n to) (sym e) none }
+
+-- a text up to an offset, in a line that has only white space or a backslash after `stop`
+text_by : (t : Bool) (text : List ℕ) (s at from m to : ℕ) (escaped : Bool) (chain : List Item) → nat_lt from m ≡ t → at ≤ to → m ≤ to
+    → HasNoBrace text m to → (m ≤ from → HasNoBrace text at to) → Reaches text s chain at
+    → Reaches text s (if t then add_token chain (text_token from m escaped) else chain) to
+text_by true text s at from m to escaped chain e order within none short h = token_reaches text s to chain (text_token from m escaped) within none
+text_by false text s at from m to escaped chain e order within none short h = reach_further text s at to chain order (short (ltb-false from m e)) h
+
+text_reaches : (text : List ℕ) (s at from m to : ℕ) (escaped : Bool) (chain : List Item) → at ≤ to → m ≤ to
+    → HasNoBrace text m to → (m ≤ from → HasNoBrace text at to) → Reaches text s chain at → Reaches text s (add_text from m escaped chain) to
+text_reaches text s at from m to escaped chain order within none short h =
+    text_by (nat_lt from m) text s at from m to escaped chain refl order within none short h
+
+-- the tokens of a run
+run_reaches : (text : List ℕ) (s at n : ℕ) (opens closes : Bool) (chain : List Item) → Reaches text s chain at
+    → Reaches text s (add_tokens chain (run_tokens at n opens closes)) (at + n)
+run_reaches text s at zero opens closes chain h = (let same : at ≡ at + 0 = omega arith in subst (Reaches text s chain) same h)
+run_reaches text s at (suc n) opens closes chain h =
+    let one : Item = token at 1 (MaybeEmphasis (suc n) opens closes) in
+    let same : at + 1 + n ≡ at + suc n = omega arith in
+    subst (Reaches text s (add_tokens (add_token chain one) (run_tokens (at + 1) n opens closes))) same
+    (run_reaches text s (at + 1) n opens closes (add_token chain one)
+    (token_reaches text s (at + 1) chain one (omega arith) (nothing_none text (at + 1) (at + 1) (omega arith))))
+
+-- a piece of a content that ends at `last`
+piece_reaches : (text : List ℕ) (s stop last at : ℕ) (p : Piece) (chain : List Item) → HasNoBrace text stop last → at + size p ≤ last
+    → IsPieceAt text at p → Reaches text s chain at → Reaches text s (add_piece stop at p chain) (at + size p)
+piece_reaches text s stop last at (Left n) chain tail within facts h =
+    let m : ℕ = min (at + n) stop in
+    text_reaches text s at at m (at + n) false chain (omega arith) (omega arith)
+    (λ k low high. tail k (omega arith) (omega arith))
+    (λ short k low high. tail k (omega arith) (omega arith)) h
+piece_reaches text s stop last at (Begins dropped escaped) chain tail within facts h =
+    let m : ℕ = min (at + (dropped + 1)) stop in
+    text_reaches text s at (at + dropped) m (at + (dropped + 1)) escaped chain (omega arith) (omega arith)
+    (λ k low high. tail k (omega arith) (omega arith))
+    (λ short k low high. elim (cases_lt k (at + dropped)) as (λ _. (slice_index text k == right_brace) ≡ false) [
+      | inl less ↦ byte_none text k 92 (facts.backslashes k low less) refl
+      | inr more ↦ tail k (omega arith) (omega arith)
+    ]) h
+piece_reaches text s stop last at (Token dropped n body) chain tail within facts h =
+    token_reaches text s (at + (dropped + n)) chain (token (at + dropped) n body) (omega arith)
+    (nothing_none text (at + dropped + n) (at + (dropped + n)) (omega arith))
+piece_reaches text s stop last at (Run n opens closes) chain tail within facts h = run_reaches text s at n opens closes chain h
+
+pieces_order : (texts : List CowStr) (s : Inline) (at : ℕ) (b : MathBraces) (ps : List Piece) (to : Spot) → ArePieces texts s at b ps to → at ≤ to.at
+pieces_order texts s at b [] to are = (let e : at ≡ to.at = ap (λ (p : Spot). p.at) are in omega arith)
+pieces_order texts s at b (p ∷ ps) to are =
+    let more = pieces_order texts s (at + size p) (braces_after (found_at s at) b) ps to are.2 in omega arith
+
+pieces_reach : (texts : List CowStr) (s : Inline) (e stop last at : ℕ) (b : MathBraces) (ps : List Piece) (to : Spot) (chain : List Item)
+    → to.at ≤ last → HasNoBrace s.text stop last → ArePieces texts s at b ps to → Reaches s.text e chain at
+    → Reaches s.text e (add_pieces stop at ps chain) to.at
+pieces_reach texts s e stop last at b [] to chain within tail are h = subst (Reaches s.text e chain) (ap (λ (p : Spot). p.at) are) h
+pieces_reach texts s e stop last at b (p ∷ ps) to chain within tail are h =
+    let next : ℕ = at + size p in
+    let more = pieces_order texts s next (braces_after (found_at s at) b) ps to are.2 in
+    pieces_reach texts s e stop last next (braces_after (found_at s at) b) ps to (add_piece stop at p chain) within tail are.2
+    (piece_reaches s.text e stop last at p chain tail (omega arith) (piece_of texts b s at p are.0 are.1) h)
+
+-- the bytes at the end of a part that pass a test
+passes_at : (p : ℕ → Bool) (text : List ℕ) (start end k : ℕ) → start ≤ end → k < length text → end - suffix_len p (slice_range text start end) ≤ k → k < end
+    → p (slice_index text k) ≡ true
+passes_at p text start end k order inside low high =
+    let xs : List ℕ = slice_range text start end in
+    let cut = length-take (end - start) (drop start text) in
+    let rest = length-drop start text in
+    let short = suffix_len-le-length p xs in
+    let j : ℕ = length xs - 1 - (k - start) in
+    let ahead : start ≤ k = omega arith in
+    let few : k - start < length xs = omega arith in
+    let back : length xs - 1 - j ≡ k - start = omega arith in
+    let on : start + (k - start) ≡ k = omega arith in
+    let there : get_or (reverse xs) j 0 ≡ slice_index text k =
+    get_or-reverse xs j 0 (omega arith) ∙ ap (slice_index xs) back ∙ get_or-take (end - start) (drop start text) (k - start) 0 (omega arith)
+    ∙ get_or-drop start text (k - start) 0 ∙ ap (slice_index text) on in
+    ap p (sym there) ∙ prefix_len_passes p (reverse xs) j 0 (omega arith)
+
+white_none : (b : ℕ) → is_white b ≡ true → (b == right_brace) ≡ false
+white_none b h = grind (arith, nat_tests, h)
+
+backslash_none : (b : ℕ) → (b == 92) ≡ true → (b == right_brace) ≡ false
+backslash_none b h = grind (arith, nat_tests, h)
+
+line_end_none : (b : ℕ) → is_line_end b ≡ true → (b == right_brace) ≡ false
+line_end_none b h = grind (arith, nat_tests, h)
+
+unless_past : (text : List ℕ) (k : ℕ) → (k < length text → (slice_index text k == right_brace) ≡ false) → (slice_index text k == right_brace) ≡ false
+unless_past text k h = elim (cases_lt k (length text)) as (λ _. (slice_index text k == right_brace) ≡ false) [
+  | inl inside ↦ h inside
+  | inr past ↦ byte_none text k 0 (get_or_past text k 0 past) refl
+]
+
+-- after the last text of a line
+tail_by : (t : Bool) (s : Inline) (end : ℕ) → s.start ≤ end → breaks_by_backslash s end ≡ t
+    → HasNoBrace s.text (if t then end - 1 else end - blanks_at_end s end) end
+unfolding breaks_by_backslash backslashes_at_end blanks_at_end
+tail_by true s end order is k low high =
+    let odd = (and_parts (backslashes_at_end s end % 2 == 1) (nat_lt (end + line_end_len s end) (length s.text)) is).0 in
+    let one : backslashes_at_end s end % 2 ≡ 1 = eqb-true (backslashes_at_end s end % 2) 1 odd in
+    unless_past s.text k (λ inside. backslash_none (slice_index s.text k) (passes_at (λ b. b == 92) s.text s.start end k order inside (omega arith) high))
+tail_by false s end order is k low high =
+    unless_past s.text k (λ inside. white_none (slice_index s.text k) (passes_at is_white s.text s.start end k order inside low high))
+
+line_tail : (s : Inline) (end : ℕ) → s.start ≤ end → HasNoBrace s.text (text_end s end) end
+unfolding text_end
+line_tail s end order = tail_by (breaks_by_backslash s end) s end order refl
+
+-- the line ending
+or_false : (a b : Bool) → b ≡ false → (a || b) ≡ true → a ≡ true
+or_false true b h e = refl
+or_false false b h e = absurd (true≢false (sym e ∙ h))
+
+two_by : (t : Bool) (text : List ℕ) (end : ℕ) → is_line_end (slice_index text end) ≡ true
+    → ((slice_index text end == 13) && (slice_index text (end + 1) == 10)) ≡ t → HasNoBrace text end (end + (if t then 2 else 1))
+two_by true text end ends two k low high = elim (cases_lt k (end + 1)) as (λ _. (slice_index text k == right_brace) ≡ false) [
+  | inl first ↦ (let same : end ≡ k = omega arith in ap (λ n. slice_index text n == right_brace) (sym same) ∙ line_end_none (slice_index text end) ends)
+  | inr second ↦ (
+      let same : end + 1 ≡ k = omega arith in
+      let feed = (and_parts (slice_index text end == 13) (slice_index text (end + 1) == 10) two).1 in
+      ap (λ n. slice_index text n == right_brace) (sym same) ∙ byte_none text (end + 1) 10 (eqb-true (slice_index text (end + 1)) 10 feed) refl)
+]
+two_by false text end ends two k low high =
+    let same : end ≡ k = omega arith in ap (λ n. slice_index text n == right_brace) (sym same) ∙ line_end_none (slice_index text end) ends
+
+ending_by : (t : Bool) (s : Inline) (end : ℕ) → nat_le (length s.text) end ≡ t → s.row ≡ false
+    → (t || (is_line_end (slice_index s.text end) || ends_cell s (slice_index s.text end))) ≡ true
+    → HasNoBrace s.text end (end + (if t then 0 else (if (slice_index s.text end == 13) && (slice_index s.text (end + 1) == 10) then 2 else 1)))
+ending_by true s end is row ended = nothing_none s.text end (end + 0) (omega arith)
+ending_by false s end is row ended =
+    let no_cell : ends_cell s (slice_index s.text end) ≡ false = rw row refl in
+    two_by ((slice_index s.text end == 13) && (slice_index s.text (end + 1) == 10)) s.text end
+    (or_false (is_line_end (slice_index s.text end)) (ends_cell s (slice_index s.text end)) no_cell ended) refl
+
+ending_none : (s : Inline) (end : ℕ) → s.row ≡ false → content_ends_at s end ≡ true → HasNoBrace s.text end (end + line_end_len s end)
+unfolding content_ends_at line_end_len
+ending_none s end row ended = ending_by (nat_le (length s.text) end) s end refl row ended
+
+-- after the last token of a line no closing brace is in the line
+pub line_reaches : (texts : List CowStr) (s : Inline) (tokens : List Item) (answer : ℕ × Option Item) (after : MathBraces) (e : ℕ)
+    → AreLineTokens texts s tokens answer after → e ≤ s.start → HasNoBrace s.text e s.start → Reaches s.text e tokens answer.0
+line_reaches texts s tokens answer after e line order none =
+    let end : ℕ = line.content_end in
+    let stop : ℕ = text_end s end in
+    let to : Spot = spot end after in
+    let forward = pieces_order texts s s.start s.braces line.pieces to line.division.divided in
+    let whole : Reaches s.text e (add_pieces stop s.start line.pieces []) end =
+    pieces_reach texts s e stop end s.start s.braces line.pieces to [] (omega arith) (line_tail s end forward) line.division.divided
+    (record { order = order; none = none }) in
+    let past : answer.0 ≡ end + line_end_len s end = ap (λ (a : ℕ × Option Item). a.0) line.answer_is in
+    let all = reach_further s.text e end (end + line_end_len s end) (add_pieces stop s.start line.pieces []) (omega arith)
+    (ending_none s end line.no_cell line.division.ended) whole in
+    subst (λ n. Reaches s.text e tokens n) (sym past)
+    (subst (λ (l : List Item). Reaches s.text e l (end + line_end_len s end)) (sym line.tokens_are) all)

@@ -1,0 +1,76 @@
+-- The ranges of words, one after the other.
+use Rattle.std.proofs.Common.{◌≡◌, ℕ, ◌+◌, ◌-◌, ◌<◌, ◌≤◌, not, Bool, true, false, List, [], ◌∷◌, ◌++◌, length, filter, take, drop, get_or, refl, sym, ap, ◌∙◌, arith, inl, inr}
+use Rattle.std.specs.List.{All, slice_range, slice_split, prefix_len}
+use Rattle.std.specs.declared.ops.Range.{Range}
+use Rattle.std.proofs.lemmas.Bool.{cases_lt}
+use Rattle.std.proofs.lemmas.Bool.Decides.{nat_tests}
+use Rattle.std.proofs.lemmas.List.{append-nil, get_or-take, drop-drop, drop-take, drop_more, take-append-drop, take_all, length-take, length-drop}
+use Rattle.std.proofs.lemmas.List.Elements.{filter-append}
+use Rattle.std.proofs.lemmas.List.Splits.{slice_split_none, slice_split_at}
+use Rattle.std.proofs.lemmas.List.Sums.{prefix_len_passes, prefix_len_stops, prefix_len-le-length}
+use Rattle.first_pass_attributes.specs.Attributes.{is_between_words}
+use Rattle.first_pass_places.specs.AttributePlaces.{range_of, is_told, told, ranges_from, word_ranges}
+
+-- no words are in no bytes
+none_told : (at : ℕ) → told at (at + 0) ≡ []
+none_told at = grind (arith, nat_tests)
+
+pub no_words : (text : List ℕ) (from end : ℕ) → end ≤ from → word_ranges text from end ≡ []
+unfolding word_ranges
+no_words text from end h =
+    let zero_is : end - from ≡ 0 = omega arith in
+    ap (λ n. filter is_told (ranges_from from (slice_split is_between_words (take n (drop from text))))) zero_is ∙ none_told from
+
+opposite : (t : Bool) → not t ≡ true → t ≡ false
+opposite true e = sym e
+opposite false e = refl
+
+opposite_no : (t : Bool) → not t ≡ false → t ≡ true
+opposite_no true e = refl
+opposite_no false e = sym e
+
+filter_first : (x : Range ℕ) (xs : List (Range ℕ)) → filter is_told (x ∷ xs) ≡ filter is_told (x ∷ []) ++ filter is_told xs
+filter_first x xs = filter-append is_told (x ∷ []) xs
+
+-- the first word, and those after it
+pub next_word : (text : List ℕ) (from end : ℕ) → from < end → end ≤ length text
+    → let n : ℕ = prefix_len (λ b. not (is_between_words b)) (slice_range text from end) in
+    word_ranges text from end ≡ told from (from + n) ++ word_ranges text (from + n + 1) end
+unfolding word_ranges
+next_word text from end order within =
+    let bs : List ℕ = slice_range text from end in
+    let inside : ℕ → Bool = λ b. not (is_between_words b) in
+    let n : ℕ = prefix_len inside bs in
+    let fits = prefix_len-le-length inside bs in
+    let word : List ℕ = take n bs in
+    let rest = length-drop from text in
+    let whole : length bs ≡ end - from = (let cut = length-take (end - from) (drop from text) in omega (arith, cut, rest)) in
+    let size : length word ≡ n = (let cut = length-take n bs in omega (arith, cut, fits)) in
+    let plain : All (λ b. is_between_words b ≡ false) word =
+    (λ k d l.
+    let low : k < n = omega (arith, size) in
+    opposite (is_between_words (get_or word k d)) (ap inside (get_or-take n bs k d low) ∙ prefix_len_passes inside bs k d low)) in
+    elim (cases_lt n (length bs)) [
+      | inl less ↦ (
+          let b : ℕ = get_or bs n 0 in
+          let later : List ℕ = drop (n + 1) bs in
+          let parts : bs ≡ word ++ b ∷ later = sym (take-append-drop n bs) ∙ ap (λ l. word ++ l) (drop_more bs n 0 less) in
+          let stops : is_between_words b ≡ true = opposite_no (is_between_words b) (prefix_len_stops inside bs 0 less) in
+          let split = ap (slice_split is_between_words) parts ∙ slice_split_at is_between_words word b later plain stops in
+          let ahead : n + 1 + (end - (from + n + 1)) ≡ end - from = omega (arith, whole) in
+          let on : from + (n + 1) ≡ from + n + 1 = omega arith in
+          let following : later ≡ slice_range text (from + n + 1) end =
+          ap (λ m. drop (n + 1) (take m (drop from text))) (sym ahead) ∙ drop-take (n + 1) (end - (from + n + 1)) (drop from text)
+          ∙ ap (take (end - (from + n + 1))) (drop-drop (n + 1) from text ∙ ap (λ m. drop m text) on) in
+          ap (λ l. filter is_told (ranges_from from l)) split
+          ∙ ap (λ m. filter is_told (range_of from (from + m) ∷ ranges_from (from + m + 1) (slice_split is_between_words later))) size
+          ∙ filter_first (range_of from (from + n)) (ranges_from (from + n + 1) (slice_split is_between_words later))
+          ∙ ap (λ l. told from (from + n) ++ filter is_told (ranges_from (from + n + 1) (slice_split is_between_words l))) following)
+      | inr all ↦ (
+          let same : word ≡ bs = take_all n bs all in
+          let split = ap (slice_split is_between_words) (sym same) ∙ slice_split_none is_between_words word plain in
+          ap (λ l. filter is_told (ranges_from from l)) split
+          ∙ ap (λ m. filter is_told (range_of from (from + m) ∷ [])) size
+          ∙ sym (append-nil (told from (from + n)))
+          ∙ ap (λ l. told from (from + n) ++ l) (sym (no_words text (from + n + 1) end (omega (arith, whole)))))
+    ]

@@ -1,0 +1,31 @@
+use Rattle.std.proofs.Common.{◌≡◌, ℕ, ◌+◌, List, ◌++◌, map, sym, ap, ◌∙◌, append_assoc}
+use Rattle.std.specs.declared.ops.Range.{Range}
+use Rattle.std.proofs.lemmas.List.{append-nil, map-append}
+use Rattle.first_pass_places.specs.declared.attributes.AttributePlace.{AttributePlace}
+use Rattle.first_pass_places.specs.AttributePlaces.{attribute_place, told, word_ranges}
+use Rattle.first_pass_places.proofs.WordPlaces.{next_word, no_words}
+use Rattle.first_pass_places.proofs.attributes.add_words.Goals as goal
+
+pub loop-from-preserved : goal.loop-from-preserved
+loop-from-preserved c =
+    let text : List ℕ = c.args.text.now in
+    let end : ℕ = c.args.end in
+    let from : ℕ = c.loop-from.from in
+    let next : ℕ = from + c.scan_word.result in
+    let items : List AttributePlace = c.loop-from.places.items in
+    let first : List (Range ℕ) = told from next in
+    let rest : List (Range ℕ) = word_ranges text (next + 1) end in
+    let words : word_ranges text from end ≡ first ++ rest =
+    next_word text from end c.loop-from-test.true c.requires
+    ∙ ap (λ n. told from (from + n) ++ word_ranges text (from + n + 1) end) (sym c.scan_word.ensures.value) in
+    ap (λ l. l ++ map (attribute_place text) rest) c.in_ok-add_word.ensures
+    ∙ append_assoc items (map (attribute_place text) first) (map (attribute_place text) rest)
+    ∙ ap (λ l. items ++ l) (sym (map-append (attribute_place text) first rest) ∙ ap (map (attribute_place text)) (sym words))
+    ∙ c.loop-from.invariant
+
+pub returns : goal.returns
+returns c =
+    let text : List ℕ = c.args.text.now in
+    let items : List AttributePlace = c.loop-from.places.items in
+    let none = no_words text c.loop-from.from c.args.end c.loop-from-test.false in
+    sym (append-nil items) ∙ ap (λ l. items ++ map (attribute_place text) l) (sym none) ∙ c.loop-from.invariant

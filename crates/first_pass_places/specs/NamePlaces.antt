@@ -1,0 +1,56 @@
+-- Where the text has what a node names by an index (this project).
+use Rattle.std.specs.Prelude.{◌≡◌, ℕ, ◌+◌, ◌-◌, false, List, [], ◌∷◌, drop, slice_get, Option, Some, None}
+use Rattle.std.specs.declared.ops.Range.{Range}
+use Rattle.first_pass_items.specs.declared.item.CowIndex.{CowIndex}
+use Rattle.first_pass_items.specs.declared.item.HeadingIndex.{HeadingIndex}
+use Rattle.first_pass_items.specs.declared.item.Item.{Item}
+use Rattle.first_pass_items.specs.declared.item.ItemBody.{ItemBody}
+use Rattle.first_pass_items.specs.declared.item.ItemBody.TheVariants.{Heading, FencedCodeBlock, FootnoteDefinition}
+use Rattle.first_pass_attributes.specs.Attributes.{attributes_of}
+use Rattle.first_pass_links.specs.Labels.{label_at}
+use Rattle.first_pass_grammar.specs.CodeBlocks.{NamesInfo}
+use Rattle.first_pass_grammar.specs.Leaves.{Document}
+use Rattle.first_pass_grammar.specs.Names.{Names, NamesText}
+use Rattle.first_pass_places.specs.AttributeBlockPlaces.{attribute_range, block_range}
+use Rattle.first_pass_places.specs.FootnoteLabels.{label_range}
+use Rattle.first_pass_places.specs.InfoStrings.{bytes_in, info_range}
+
+-- the same for a node with this body
+abbrev pub name_range_by : ItemBody → List ℕ → Item → Option (Range ℕ)
+name_range_by (FencedCodeBlock ix) text x = Some (info_range text x.start)
+name_range_by (FootnoteDefinition ix) text x = Some (label_range text x.start)
+name_range_by _ text x = attribute_range text x
+
+-- the range in which the text has what a node names: an info string, the label of a footnote, or attributes (this
+-- project)
+abbrev pub name_range : List ℕ → Item → Option (Range ℕ)
+name_range text x = name_range_by x.body text x
+
+-- The index names the label that is read after an offset, up to the `]` after these bytes. The prefixes that begin
+-- further lines of the label are left out (CommonMark 6.3, and this project).
+pub record NamesLabelAt (names : Names) (ix : CowIndex) (text : List ℕ) (range : Range ℕ) : Type 0 where
+  pub prefix : List ℕ → Option ℕ
+  pub label : List ℕ
+  pub reads : label_at prefix false (drop range.start text) ≡ Some (range.«end» + 1 - range.start, label)
+  pub named : NamesText names ix label
+
+-- the index, if there is one, names the attributes that are read from these bytes (this project)
+abbrev pub NamesAttributesIn : Names → Option HeadingIndex → List ℕ → Type 0
+NamesAttributesIn names None bs = Unit {0}
+NamesAttributesIn names (Some ix) bs = slice_get names.headings ix.0 ≡ Some (attributes_of bs)
+
+-- What a node names is what is read from its range in the text: an info string (CommonMark 4.5), the label of a
+-- footnote, or attributes (this project).
+abbrev pub IsNamedBy : Names → List ℕ → Item → ItemBody → Type 0
+IsNamedBy names text x (FencedCodeBlock ix) = NamesInfo names ix (bytes_in text (info_range text x.start))
+IsNamedBy names text x (FootnoteDefinition ix) = NamesLabelAt names ix text (label_range text x.start)
+IsNamedBy names text x (Heading level index) = NamesAttributesIn names index (bytes_in text (block_range text x.start x.«end»))
+IsNamedBy names text x _ = Unit {0}
+
+abbrev pub IsReadFromText : Names → List ℕ → Item → Type 0
+IsReadFromText names text x = IsNamedBy names text x x.body
+
+-- what the first of these nodes names is what is read from its range in the text (this project)
+abbrev pub FirstIsReadFromText : Document → List (ℕ × Item) → Type 0
+FirstIsReadFromText d [] = Unit {0}
+FirstIsReadFromText d (x ∷ items) = IsReadFromText d.names d.text x.1

@@ -1,0 +1,55 @@
+//! Where the attribute block of a heading is written (this project).
+
+ghost use Rattle.std.specs.Prelude.{◌≡◌, ◌≤◌, ◌==◌, not, length, IfSome};
+ghost use Rattle.std.specs.List.{suffix_len};
+ghost use Rattle.first_pass_places.specs.AttributeBlockPlaces.{attribute_range, upto_last};
+
+use first_pass_items::item::{Item, ItemBody};
+use std::ops::Range;
+
+/// Returns the range of the bytes between the braces of a heading's attribute block, as byte offsets into the text.
+/// Returns `None` if the node is no heading, or a heading without an attribute block. The block is at the end of the
+/// heading's line; of a setext heading, at the end of the last line before the underline (this project).
+pub fn attribute_block_range(text: &str, heading: &Item) -> Option<Range<usize>>
+    requires order { heading.now.start ≤ heading.now.«end» }
+    requires within { heading.now.«end» ≤ length text.now }
+    ensures value { result ≡ attribute_range text.now heading.now }
+    ensures within { IfSome result (λ range.
+        (range.start ≤ range.«end») × (range.«end» ≤ length text.now)) }
+{
+    attribute_range(text.as_bytes(), heading)
+}
+
+/// Returns the range between the braces of a heading's attribute block, if the node is a heading with attributes.
+#[tactic(auto, unfolding(crate::specs::AttributeBlockPlaces::block_range))]
+pub(crate) fn attribute_range(text: &[u8], heading: &Item) -> Option<Range<usize>>
+    requires order { heading.now.start ≤ heading.now.«end» }
+    requires within { heading.now.«end» ≤ length text.now }
+    ensures value { result ≡ attribute_range text.now heading.now }
+    ensures within { IfSome result (λ range.
+        (range.start ≤ range.«end») × (range.«end» ≤ length text.now)) }
+{
+    let ItemBody::Heading(_, Some(_)) = heading.body else {
+        return None;
+    };
+    let bytes = &text[heading.start..heading.end];
+    let closing = upto_last(bytes, b'}').saturating_sub(1);
+    let opening = upto_last(&bytes[..closing], b'{');
+    Some(heading.start + opening..heading.start + closing)
+}
+
+// The number of bytes up to the last one of this value, that one included; 0 if there is none.
+fn upto_last(bytes: &[u8], byte: u8) -> usize
+    ensures value { result ≡ upto_last byte bytes.now }
+    ensures within { result ≤ length bytes.now }
+{
+    bytes.len() - scan_after_last(bytes, byte)
+}
+
+// The number of bytes after the last one of this value, or the length of `bytes`.
+fn scan_after_last(bytes: &[u8], byte: u8) -> usize
+    ensures value { result ≡ suffix_len (λ b. not (b == byte)) bytes.now }
+    ensures within { result ≤ length bytes.now }
+{
+    bytes.iter().rev().take_while(|b| **b != byte).count()
+}

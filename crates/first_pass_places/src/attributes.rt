@@ -1,0 +1,153 @@
+//! Where the attributes in the attribute block of a heading are written (this project).
+
+ghost use Rattle.std.specs.Prelude.{◌≡◌, ◌<◌, ◌≤◌, ◌++◌, ◌==◌, not, length, map, IfOk, IfSome, OnOk};
+ghost use Rattle.std.specs.List.{position, prefix_len};
+ghost use Rattle.first_pass_items.specs.Bytes.{equals_sign};
+ghost use Rattle.first_pass_attributes.specs.Attributes.{is_between_words};
+ghost use Rattle.first_pass_places.specs.AttributePlaces.{attribute_place, attribute_places, key_place, range_of, told, word_ranges};
+
+use crate::attribute_block::attribute_block_range;
+use first_pass_items::item::Item;
+use std::alloc::{AllocError, Global};
+use std::ops::Range;
+
+/// What an attribute of a heading is (this project).
+#[derive(Clone, Copy, PartialEq, Eq)]
+pub enum AttributeKind {
+    /// `#install`.
+    Id,
+    /// `.wide`.
+    Class,
+    /// `draft` or `lang=en`.
+    Key,
+}
+
+/// Where an attribute of a heading is written, as byte offsets into the text (this project).
+#[derive(Drop)]
+pub struct AttributePlace {
+    pub kind: AttributeKind,
+    /// The range of the id or the class without its mark, or of the key.
+    pub name: Range<usize>,
+    /// The range of the key's value, if there is a `=`.
+    pub value: Option<Range<usize>>,
+}
+
+/// Returns where each attribute in the attribute block of a heading is written, in the order of the text. Words of one
+/// byte are left out, and an id that a later one replaces is not. There are none if the node is no heading, or a
+/// heading without an attribute block. Fails only if an allocation fails (this project).
+pub fn attribute_ranges(
+    alloc: Global,
+    text: &str,
+    heading: &Item,
+) -> Result<Vec<AttributePlace>, AllocError>
+    requires order { heading.now.start ≤ heading.now.«end» }
+    requires within { heading.now.«end» ≤ length text.now }
+    ensures { IfOk result (λ places. places.items ≡ attribute_places text.now heading.now) }
+{
+    let mut places = Vec::new(alloc);
+    if let Some(block) = attribute_block_range(text, heading) {
+        add_words(&mut places, text.as_bytes(), block.start, block.end)?;
+    }
+    Ok(places)
+}
+
+// Adds where the attributes between two offsets are written.
+fn add_words(
+    places: &mut Vec<AttributePlace>,
+    text: &[u8],
+    start: usize,
+    end: usize,
+) -> Result<(), AllocError>
+    requires { end ≤ length text.now }
+    ensures { OnOk result (places.new.items
+        ≡ places.old.items ++ map (attribute_place text.now) (word_ranges text.now start end)) }
+{
+    let mut from = start;
+    while from < end {
+        let next = from + scan_word(&text[from..end]);
+        add_word(places, text, from, next)?;
+        from = next + 1;
+    }
+    Ok(())
+}
+
+// Adds where the attribute of a word is written, if the word has two bytes or more.
+fn add_word(
+    places: &mut Vec<AttributePlace>,
+    text: &[u8],
+    start: usize,
+    end: usize,
+) -> Result<(), AllocError>
+    requires order { start ≤ end }
+    requires within { end ≤ length text.now }
+    ensures { OnOk result (places.new.items
+        ≡ places.old.items ++ map (attribute_place text.now) (told start end)) }
+{
+    if 2 <= end - start {
+        places.push(attribute_place(text, start, end))?;
+    }
+    Ok(())
+}
+
+// The number of bytes before the first one that separates words.
+fn scan_word(bytes: &[u8]) -> usize
+    ensures value { result ≡ prefix_len (λ b. not (is_between_words b)) bytes.now }
+    ensures within { result ≤ length bytes.now }
+{
+    bytes.iter().take_while(|b| !is_between_words(**b)).count()
+}
+
+fn is_between_words(byte: u8) -> bool
+    ensures { result ≡ is_between_words byte }
+{
+    matches!(byte, b'\t' | b'\x0c' | b' ' | b'\n' | b'\r')
+}
+
+// Where the attribute of a word is written.
+fn attribute_place(text: &[u8], start: usize, end: usize) -> AttributePlace
+    requires order { start < end }
+    requires within { end ≤ length text.now }
+    ensures { result ≡ attribute_place text.now (range_of start end) }
+{
+    match text[start] {
+        b'#' => AttributePlace {
+            kind: AttributeKind::Id,
+            name: start + 1..end,
+            value: None,
+        },
+        b'.' => AttributePlace {
+            kind: AttributeKind::Class,
+            name: start + 1..end,
+            value: None,
+        },
+        _ => key_place(text, start, end),
+    }
+}
+
+// Where a key and its value are written.
+fn key_place(text: &[u8], start: usize, end: usize) -> AttributePlace
+    requires order { start < end }
+    requires within { end ≤ length text.now }
+    ensures { result ≡ key_place text.now (range_of start end) }
+{
+    match scan_key(&text[start..end]) {
+        None => AttributePlace {
+            kind: AttributeKind::Key,
+            name: start..end,
+            value: None,
+        },
+        Some(at) => AttributePlace {
+            kind: AttributeKind::Key,
+            name: start..start + at,
+            value: Some(start + at + 1..end),
+        },
+    }
+}
+
+// The number of bytes before the first `=`, if there is one.
+fn scan_key(bytes: &[u8]) -> Option<usize>
+    ensures value { result ≡ position (λ b. b == equals_sign) bytes.now }
+    ensures within { IfSome result (λ at. at < length bytes.now) }
+{
+    bytes.iter().position(|b| *b == b'=')
+}

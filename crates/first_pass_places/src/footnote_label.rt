@@ -1,0 +1,51 @@
+//! Where the label of a footnote definition is written (this project).
+
+ghost use Rattle.std.specs.Prelude.{◌≡◌, ◌≤◌, length};
+ghost use Rattle.first_pass_links.specs.Labels.{is_bracket, label_len};
+ghost use Rattle.first_pass_places.specs.FootnoteLabels.{label_range};
+
+use first_pass_items::item::Item;
+use first_pass_lines::places::rest_of;
+use first_pass_links::destination::unit_len;
+use std::ops::Range;
+
+/// Returns the range of the label of a footnote definition, as byte offsets into the text: the bytes between its `[^`
+/// and its `]`. In the old form of footnotes a label may cross lines. Then the range includes the prefixes of
+/// containers that begin its further lines (this project).
+pub fn footnote_label_range(text: &str, definition: &Item) -> Range<usize>
+    requires { definition.now.start ≤ length text.now }
+    ensures { result ≡ label_range text.now definition.now.start }
+{
+    label_range(text.as_bytes(), definition.start)
+}
+
+/// Returns the range of the label of the footnote definition that begins at an offset.
+#[tactic(auto, unfolding(crate::specs::FootnoteLabels::label_range))]
+pub(crate) fn label_range(text: &[u8], start: usize) -> Range<usize>
+    requires { start ≤ length text.now }
+    ensures { result ≡ label_range text.now start }
+{
+    let from = start + 2;
+    if text.len() < from {
+        return from..from;
+    }
+    from..from + scan_label(rest_of(text, from))
+}
+
+// The number of bytes before the first bracket that no backslash escapes, or the length of `bytes`.
+fn scan_label(bytes: &[u8]) -> usize
+    ensures value { result ≡ label_len bytes.now }
+    ensures within { result ≤ length bytes.now }
+{
+    let mut at = 0;
+    while at < bytes.len() && !is_bracket(bytes[at]) {
+        at += unit_len(rest_of(bytes, at));
+    }
+    at
+}
+
+fn is_bracket(byte: u8) -> bool
+    ensures { result ≡ is_bracket byte }
+{
+    matches!(byte, b'[' | b']')
+}

@@ -1,0 +1,57 @@
+//! Where the info string of a fenced code block is written (CommonMark 4.5).
+
+ghost use Rattle.std.specs.Prelude.{◌≡◌, ◌≤◌, length, slice_index};
+ghost use Rattle.std.specs.List.{suffix_len};
+ghost use Rattle.first_pass_lines.specs.Lines.{is_ascii_white};
+ghost use Rattle.first_pass_scan.specs.LeafLines.{run_len};
+ghost use Rattle.first_pass_places.specs.InfoStrings.{info_range};
+
+use first_pass_items::item::Item;
+use first_pass_lines::lines::{is_ascii_white, scan_whitespace_no_nl};
+use first_pass_lines::places::{next_line, rest_of};
+use first_pass_scan::leaf_scan::scan_run;
+use std::ops::Range;
+
+/// Returns the range of the info string of a fenced code block, as byte offsets into the text. White space at both ends
+/// is left out. If the fence has no info string, the range is empty, after the fence and the white space there
+/// (CommonMark 4.5).
+pub fn info_string_range(text: &str, block: &Item) -> Range<usize>
+    requires { block.now.start ≤ length text.now }
+    ensures { result ≡ info_range text.now block.now.start }
+{
+    info_range(text.as_bytes(), block.start)
+}
+
+/// Returns the range of the info string of the code fence that begins at an offset.
+pub(crate) fn info_range(text: &[u8], start: usize) -> Range<usize>
+    requires { start ≤ length text.now }
+    ensures { result ≡ info_range text.now start }
+{
+    let fence = start + scan_fence(rest_of(text, start));
+    let from = fence + scan_whitespace_no_nl(rest_of(text, fence));
+    let next = next_line(text, from);
+    from..next - trailing_white(&text[from..next])
+}
+
+// The length of the run of the first byte, or 0 if there is no byte.
+fn scan_fence(bytes: &[u8]) -> usize
+    ensures value { result ≡ run_len (slice_index bytes.now 0) bytes.now }
+    ensures within { result ≤ length bytes.now }
+{
+    match bytes.first() {
+        None => 0,
+        Some(byte) => scan_run(bytes, *byte),
+    }
+}
+
+// The number of bytes of ASCII white space at the end.
+fn trailing_white(bytes: &[u8]) -> usize
+    ensures value { result ≡ suffix_len is_ascii_white bytes.now }
+    ensures within { result ≤ length bytes.now }
+{
+    bytes
+        .iter()
+        .rev()
+        .take_while(|b| is_ascii_white(**b))
+        .count()
+}

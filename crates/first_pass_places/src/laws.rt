@@ -1,0 +1,56 @@
+//! Laws of the ranges: what a node names is what is read from its range in the text.
+
+ghost use Rattle.std.specs.Prelude.{◌≡◌, ◌+◌, ◌≤◌, ℕ, List, Option, Some, IfSome, drop, length};
+ghost use Rattle.first_pass_items.specs.declared.item.CowIndex.{CowIndex};
+ghost use Rattle.first_pass_items.specs.declared.item.HeadingIndex.{HeadingIndex};
+ghost use Rattle.first_pass_items.specs.declared.item.HeadingLevel.{HeadingLevel};
+ghost use Rattle.first_pass_items.specs.declared.item.Item.{Item};
+ghost use Rattle.first_pass_lines.specs.Lines.{level_number, line_len};
+ghost use Rattle.first_pass_lines.specs.Places.{Place, offset};
+ghost use Rattle.first_pass_scan.specs.LeafLines.{code_fence};
+ghost use Rattle.first_pass_grammar.specs.declared.kind.Container.{Container};
+ghost use Rattle.first_pass_grammar.specs.CodeBlocks.{IsFencedCode};
+ghost use Rattle.first_pass_grammar.specs.Completion.{lines_from};
+ghost use Rattle.first_pass_grammar.specs.Footnotes.{NamesLabel, footnote_head_at, label_bytes};
+ghost use Rattle.first_pass_grammar.specs.Kinds.{unindented};
+ghost use Rattle.first_pass_grammar.specs.Leaves.{Document, IsHeading, around, heading_block, heading_text_at};
+ghost use Rattle.first_pass_grammar.specs.Tables.{Taken};
+ghost use Rattle.first_pass_grammar.specs.Texts.{IsPlainText};
+ghost use Rattle.first_pass_places.specs.FootnoteLabels.{label_range};
+ghost use Rattle.first_pass_places.specs.NamePlaces.{FirstIsReadFromText, NamesLabelAt};
+
+/// The info string that a fenced code block names is read from its range. The block begins at an offset with a fence of
+/// this length and byte (CommonMark 4.5).
+pub fn info_strings_are_read()
+    ensures { (d : Document) (start count byte : ℕ) (places : List Place) (stop : ℕ) (items : List (ℕ × Item))
+        → code_fence (drop start d.text) ≡ Some (count, byte) → IsFencedCode d start count places stop items
+        → FirstIsReadFromText d items }
+{}
+
+/// The label that a footnote definition names is read from its range, with the prefixes of containers left out. The
+/// head of the definition begins at a place in the text, after the indentation (this project).
+pub fn footnote_labels_are_read()
+    ensures { (d : Document) (path : List Container) (p : Place) (index : CowIndex) (head : ℕ × List ℕ)
+        → (unindented p).rest.left ≡ drop (offset (unindented p)) d.text
+        → footnote_head_at (around d path) p ≡ Some head
+        → NamesLabel d.names index (label_bytes head.0 (unindented p).rest.left) head.1
+        → NamesLabelAt d.names index d.text (label_range d.text (offset (unindented p))) }
+{}
+
+/// The attributes that an ATX heading names are read from the range of its block. The heading begins at an offset with
+/// the number signs of its level (CommonMark 4.2, and this project).
+pub fn heading_attributes_are_read()
+    ensures { (d : Document) (start : ℕ) (level : HeadingLevel) (index : Option HeadingIndex) (chain : List Item)
+        (stop : ℕ) → IsHeading d (heading_text_at d.text start (level_number level)) index chain stop
+        → FirstIsReadFromText d (heading_block start stop level index chain) }
+{}
+
+/// The attributes that a setext heading names are read from the range of its block. The text of the heading begins at an
+/// offset, and the lines after its first line follow. A task list item marker may be before it (CommonMark 4.3, GFM
+/// 5.3, and this project).
+pub fn setext_attributes_are_read()
+    ensures { (d : Document) (path : List Container) (start : ℕ) (marker : Option Item) (lines : List Place) (t : Taken)
+        → IfSome marker (λ x. x.«end» ≤ start) → start ≤ length d.text
+        → lines ≡ lines_from d.text (start + line_len (drop start d.text)) → IsPlainText d path start marker lines t
+        → FirstIsReadFromText d t.items }
+{}

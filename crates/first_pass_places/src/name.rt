@@ -1,0 +1,34 @@
+//! Where the text is written that a node names (this project).
+
+ghost use Rattle.std.specs.Prelude.{◌≡◌, ◌≤◌, length};
+ghost use Rattle.first_pass_places.specs.NamePlaces.{name_range};
+
+use crate::attribute_block::attribute_range;
+use crate::footnote_label::label_range;
+use crate::info_string::info_range;
+use first_pass_items::item::{Item, ItemBody};
+use std::ops::Range;
+
+/// Returns the range in which the text has what a node names: the info string of a fenced code block, the label of a
+/// footnote definition, or the attributes of a heading, between the braces. Returns `None` for any other node, and for
+/// a heading without an attribute block (this project).
+pub fn name_range(text: &str, node: &Item) -> Option<Range<usize>>
+    requires order { node.now.start ≤ node.now.«end» }
+    requires within { node.now.«end» ≤ length text.now }
+    ensures { result ≡ name_range text.now node.now }
+{
+    name_range_in(text.as_bytes(), node)
+}
+
+/// Returns the same for a text that is given as bytes.
+pub fn name_range_in(text: &[u8], node: &Item) -> Option<Range<usize>>
+    requires order { node.now.start ≤ node.now.«end» }
+    requires within { node.now.«end» ≤ length text.now }
+    ensures { result ≡ name_range text.now node.now }
+{
+    match node.body {
+        ItemBody::FencedCodeBlock(_) => Some(info_range(text, node.start)),
+        ItemBody::FootnoteDefinition(_) => Some(label_range(text, node.start)),
+        _ => attribute_range(text, node),
+    }
+}
