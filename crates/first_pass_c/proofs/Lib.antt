@@ -1,3 +1,4 @@
 mod Bits
 mod Counts
+mod Ranges
 mod Readings

@@ -1,4 +1,5 @@
 pub mod Memory
+pub mod Naming
 pub mod Statuses
 pub mod Parsed
 pub mod Reading

@@ -1,20 +1,25 @@
-//! The block pass for other languages: two calls that write into memory of their caller.
+//! The block pass for other languages: three calls that write into memory of their caller.
 #![tactic(auto)]
 
-ghost use Rattle.std.specs.Prelude.{◌≡◌, ◌≢◌, ◌≤◌, IsUtf8};
+ghost use Rattle.std.specs.Prelude.{◌≡◌, ◌≢◌, ◌≤◌, IsUtf8, None, Some, ℕ};
+ghost use Rattle.std.specs.declared.ops.Range.{Range};
 ghost use Rattle.first_pass_c.specs.Folding.{HasNoRoomFor, IsFolded};
+ghost use Rattle.first_pass_c.specs.Naming.{flat_range, range_named};
 ghost use Rattle.first_pass_c.specs.Reading.{AreKnown, IsNotUtf8, IsRead, IsReadable, IsTooLong, IsTooSmall};
 ghost use Rattle.first_pass_c.specs.Memory.{memory};
 
 pub mod copying;
 pub mod fault;
 pub mod folding;
+pub mod laws;
+pub mod naming;
 pub mod reading;
 #[cfg(test)]
 mod tests;
 
 use crate::fault::{Fault, status_of};
 use crate::folding::fold_into;
+use crate::naming::{FlatRange, range_named};
 use crate::reading::{FlatCounts, read_text, write_into};
 use first_pass_flat::records::{FlatAttribute, FlatDefinition, FlatNode};
 use std::alloc::Global;
@@ -88,5 +93,27 @@ pub extern "C" fn first_pass_fold(
     match fold_into(alloc, label, folded, folded_length) {
         Ok(()) => 0,
         Err(fault) => status_of(fault),
+    }
+}
+
+/// Finds where a text has what a node names: the info string of a fenced code block, the label of a footnote definition,
+/// or the attributes of a heading, between the braces. Returns 1 and writes the range to `range`. Returns 0 and leaves
+/// `range` unchanged if the node names nothing that the text has, or if the range of the node is not in the text.
+///
+/// `node` is the record of a node of the text. Nothing is allocated.
+#[unsafe(no_mangle)]
+pub extern "C" fn first_pass_name_range(text: &[u8], node: &FlatNode, range: &mut FlatRange) -> u32
+    ensures some { result ≡ 1 → (found : Range ℕ) × (range_named text.now node.now ≡ Some found)
+        × (range.new ≡ flat_range found) }
+    ensures none { result ≡ 0 → range_named text.now node.now ≡ None }
+    ensures unchanged { result ≡ 0 → range.new ≡ range.old }
+    ensures answer { result ≤ 1 }
+{
+    match range_named(text, node) {
+        None => 0,
+        Some(found) => {
+            *range = found;
+            1
+        }
     }
 }
