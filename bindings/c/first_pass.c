@@ -51,6 +51,9 @@ IS_AT(counts, definitions, 16);
 IS_AT(counts, links, 24);
 IS_AT(counts, names, 32);
 HAS_SIZE(counts, 40);
+IS_AT(range, start, 0);
+IS_AT(range, end, 8);
+HAS_SIZE(range, 16);
 _Static_assert(sizeof(size_t) == 8, "the proved calls are compiled for 64 bits");
 
 /* How deep a tree is that first_pass_walk walks without memory. */

@@ -14,7 +14,8 @@
  * A text is bytes of UTF-8. A tree holds no pointer into its text: a range is two offsets, counted in bytes. The text
  * may be freed as soon as the call returns.
  *
- * first_pass_read() and first_pass_fold() are proved. The other calls are C over these two, and are tested.
+ * first_pass_read(), first_pass_fold() and first_pass_name_range() are proved. The other calls are C over these, and
+ * are tested.
  *
  * No call prints, ends the process or keeps state. Any number of calls may run at the same time, and a tree may be
  * read in any number of threads. A call may not be made from a signal handler.
@@ -241,6 +242,28 @@ FIRST_PASS_API uint32_t first_pass_read(const uint8_t *text, size_t length, uint
  */
 FIRST_PASS_API uint32_t first_pass_fold(const uint8_t *label, size_t length, uint8_t *folded, size_t room,
                                         size_t *folded_length);
+
+/** A range of a text: 16 bytes. */
+struct first_pass_range {
+    uint64_t start; /**< its first byte */
+    uint64_t end;   /**< and the byte after its last one */
+};
+
+/**
+ * @brief Finds where a text has what a node names. This call is proved.
+ *
+ * Of a fenced code block it is the info string, of a footnote definition the label, and of a heading what is between
+ * the braces of its attribute block. The range has the bytes as they are written, with escapes and references. A label
+ * that crosses lines includes the prefixes of containers. Nothing is allocated.
+ *
+ * @param[in] text the text that the node is of; not NULL, also if `length` is 0
+ * @param[in] length how many bytes it has
+ * @param[in] node a node of its tree
+ * @param[out] range the range, which may be empty; unchanged if 0 is returned
+ * @return 1; or 0 if the node names nothing that the text has, or if the node's own range is not in the text
+ */
+FIRST_PASS_API uint32_t first_pass_name_range(const char *text, size_t length, const struct first_pass_node *node,
+                                              struct first_pass_range *range);
 
 /**
  * @brief Where memory comes from.

@@ -402,6 +402,39 @@ static void test_allocator(void) {
     first_pass_tree_free(tree);
 }
 
+/* Where texts have what their second nodes name. */
+static void test_name_ranges(void) {
+    static const struct {
+        const char *text;
+        const char *named;
+    } cases[] = {
+        {"~~~  a&amp;b\\* \n~~~\n", "a&amp;b\\*"},
+        {"```\n", ""},
+        {"> [^a\\]b]: c\n", NULL},
+        {"[^a\\]b]: c\n", "a\\]b"},
+        {"# a {#b .c}\n", "#b .c"},
+        {"a {x}\nb {y} \\\n===\n", "y"},
+        {"# a {}\n", ""},
+        {"# a {b} c\n", NULL},
+        {"a\n", NULL},
+    };
+    for (size_t i = 0; i < sizeof cases / sizeof *cases; i++) {
+        const char *text = cases[i].text;
+        struct first_pass_tree *tree = parsed(text, strlen(text));
+        struct first_pass_range range = {77, 78};
+        uint32_t found = first_pass_name_range(text, strlen(text), &tree->nodes[1], &range);
+        if (cases[i].named == NULL) {
+            CHECK(found == 0 && range.start == 77 && range.end == 78);
+        } else {
+            size_t length = strlen(cases[i].named);
+            CHECK(found == 1 && range.end - range.start == length);
+            CHECK(memcmp(text + range.start, cases[i].named, length) == 0);
+        }
+        CHECK(first_pass_name_range(text, 1, &tree->nodes[1], &range) == 0);
+        first_pass_tree_free(tree);
+    }
+}
+
 static void test_versions(void) {
     char version[40];
     snprintf(version, sizeof version, "%d.%d.%d", FIRST_PASS_VERSION_MAJOR, FIRST_PASS_VERSION_MINOR,
@@ -423,6 +456,7 @@ int main(void) {
     test_children();
     test_named();
     test_allocator();
+    test_name_ranges();
     test_versions();
     return report("calls");
 }

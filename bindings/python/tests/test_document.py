@@ -200,6 +200,16 @@ class TreeTest(unittest.TestCase):
         heading = parse("# \u00e9\n").outline()[0]
         self.assertEqual(parse("# \u00e9\n").slice(heading), "# \u00e9\n")
 
+    def test_name_range(self):
+        text = "ä\n\n~~~ a&amp;b \n~~~\n\na {x}\nb {#y} \\\n---\n\n[^c\\]d]: e\n"
+        document = parse(text)
+        ranges = [document.name_range(index) for index in range(len(document))]
+        self.assertEqual([document.slice(found) for found in ranges if found], ["a&amp;b", "#y", "c\\]d"])
+        self.assertIsNone(document.name_range(0))
+        self.assertEqual(document.name_range(-len(document)), document.name_range(0))
+        with self.assertRaises(IndexError):
+            document.name_range(len(document))
+
     def test_an_unknown_kind_is_a_plain_node(self):
         source = parse("a", 0)
         record = struct.pack("=7I4B", 0, 1, 1, 2, 0, 0, 7, 200, 1, 2, 3)

@@ -1,7 +1,8 @@
-//! The two calls of the archive, with Rust's types.
+//! The three calls of the archive, with Rust's types.
 
-use crate::records::{AttributeRecord, Counts, DefinitionRecord, NodeRecord, Records};
+use crate::records::{AttributeRecord, Counts, DefinitionRecord, NodeRecord, RangeRecord, Records};
 use crate::{Error, Options};
+use std::ops::Range;
 
 unsafe extern "C" {
     fn first_pass_read(
@@ -25,6 +26,13 @@ unsafe extern "C" {
         folded: *mut u8,
         room: usize,
         folded_length: *mut usize,
+    ) -> u32;
+
+    fn first_pass_name_range(
+        text: *const u8,
+        length: usize,
+        node: *const NodeRecord,
+        range: *mut RangeRecord,
     ) -> u32;
 }
 
@@ -60,6 +68,14 @@ pub(crate) fn fold(label: &str, key: &mut Vec<u8>) -> Result<(), Error> {
         }
     }
     panic!("{WRONG_ARCHIVE}: it asks twice for room")
+}
+
+/// Where a text has what a node names, if it does.
+pub(crate) fn name_range(text: &str, node: &NodeRecord) -> Option<Range<usize>> {
+    let mut range = RangeRecord::default();
+    // SAFETY: the call reads the text and the record, and writes no more than a range.
+    let found = unsafe { first_pass_name_range(text.as_ptr(), text.len(), node, &mut range) };
+    (found == 1).then_some(range.start..range.end)
 }
 
 const WRONG_ARCHIVE: &str = "the linked libfirst_pass.a doesn't fit this crate";

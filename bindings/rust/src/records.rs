@@ -9,6 +9,7 @@ const _: () = {
     assert!(size_of::<NodeRecord>() == 32 && offset_of!(NodeRecord, third) == 31);
     assert!(size_of::<AttributeRecord>() == 40 && offset_of!(AttributeRecord, kind) == 36);
     assert!(size_of::<DefinitionRecord>() == 104 && size_of::<Counts>() == 40);
+    assert!(size_of::<RangeRecord>() == 16);
 };
 
 /// A node.
@@ -65,6 +66,14 @@ pub(crate) struct DefinitionRecord {
     pub destination_end: usize,
     /// The offset of what begins the title, or without one the end of the definition.
     pub title_start: usize,
+}
+
+/// A range of the text.
+#[repr(C)]
+#[derive(Clone, Copy, Default)]
+pub(crate) struct RangeRecord {
+    pub start: usize,
+    pub end: usize,
 }
 
 /// How many records there are of each sort, and how many bytes of names. Of the definitions the first `links` are link

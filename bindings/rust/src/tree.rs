@@ -1,7 +1,7 @@
 //! The tree and its nodes.
 
 use crate::records::{NodeRecord, Records};
-use crate::{Body, Definitions, Heading, OffsetIter};
+use crate::{Body, Definitions, Heading, OffsetIter, archive};
 use std::fmt;
 use std::ops::Range;
 
@@ -127,6 +127,22 @@ impl<'d> Node<'d> {
     /// The text of its range. It has the prefixes of containers, as `> `, of each line but the first.
     pub fn slice(self) -> &'d str {
         &self.tree.text[self.range()]
+    }
+
+    /// Where the text has what the node names: the info string of a fenced code block, the label of a footnote
+    /// definition, or the attributes of a heading, between the braces. `None` if it names nothing that the text has.
+    ///
+    /// The range has the bytes as they are written, with escapes and references.
+    ///
+    /// ```
+    /// # use first_pass::Options;
+    /// let document = first_pass::parse("~~~ a&amp;b\n", Options::empty())?;
+    /// let block = document.tree().root().children().next().unwrap();
+    /// assert_eq!(block.name_range(), Some(4..11));
+    /// # Ok::<(), first_pass::Error>(())
+    /// ```
+    pub fn name_range(self) -> Option<Range<usize>> {
+        archive::name_range(self.tree.text, self.record())
     }
 
     /// Its children in reading order.

@@ -79,6 +79,16 @@ fn nodes() -> Result<(), Error> {
 }
 
 #[test]
+fn ranges_of_names() -> Result<(), Error> {
+    let text = "~~~ a&amp;b \n~~~\n\na {x}\nb {#y} \\\n---\n\n[^c\\]d]: e\n";
+    let document = parse(text, Options::all())?;
+    let names: Vec<_> = document.tree().nodes().filter_map(Node::name_range).collect();
+    let written: Vec<_> = names.into_iter().map(|range| &text[range]).collect();
+    assert_eq!(written, ["a&amp;b", "#y", "c\\]d"]);
+    Ok(())
+}
+
+#[test]
 fn empty_text() -> Result<(), Error> {
     let document = parse("", Options::all())?;
     let tree = document.tree();

@@ -6,7 +6,7 @@ import builtins
 from collections.abc import Iterator, Mapping, Sequence
 from typing import TYPE_CHECKING, Any, Union, overload
 
-from ._library import COMPATIBLE, fold_label
+from ._library import COMPATIBLE, fold_label, name_range
 from ._records import ATTRIBUTE, BYTE_COLUMNS, DEFINITION, KIND_NAMES, NODE, WORD_BYTES, WORD_COLUMNS, Kind
 from ._values import Attribute, Definition, Heading, Node, Span, id_of
 
@@ -157,6 +157,17 @@ class Document(Sequence[Node]):
     def slice(self, node: Ranged) -> str:
         """The text of a range: that of a node, a heading or a definition."""
         return self._source[node.start : node.end].decode()
+
+    def name_range(self, index: int) -> Span | None:
+        """Where the text has what the node at an index names: the info string of a fenced code block, the label of a
+        footnote definition, or the attributes of a heading, between the braces. None if it names nothing that the text
+        has.
+
+        The range has the bytes as they are written, with escapes and references.
+        """
+        place = range(len(self))[index] * NODE.size
+        found = name_range(self._source, self._nodes[place : place + NODE.size])
+        return None if found is None else Span(*found)
 
     def _records(self) -> tuple[bytes, bytes, bytes, bytes, bytes]:
         return self._source, self._nodes, self._names, self._attributes, self._definitions

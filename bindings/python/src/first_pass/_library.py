@@ -44,6 +44,10 @@ _fold = _library.first_pass_fold
 _fold.restype = ctypes.c_uint32
 _fold.argtypes = [ctypes.c_char_p, ctypes.c_size_t, ctypes.c_char_p, ctypes.c_size_t, ctypes.POINTER(ctypes.c_size_t)]
 
+_name_range = _library.first_pass_name_range
+_name_range.restype = ctypes.c_uint32
+_name_range.argtypes = [ctypes.c_char_p, ctypes.c_size_t, ctypes.c_char_p, ctypes.c_size_t * 2]
+
 _WHITE = re.compile(rb"[\t\n\x0b\x0c\r ]+")
 
 
@@ -55,6 +59,13 @@ def fold_label(label: str) -> bytes | None:
     except UnicodeEncodeError:
         return None
     return _folded(spelled, 3 * len(spelled) + 1)
+
+
+def name_range(source: bytes, record: bytes) -> tuple[int, int] | None:
+    """Where a text has what the node with a record names: its start and its end, or None if it doesn't have it."""
+    memory = (ctypes.c_size_t * 2)()
+    found = _name_range(source, len(source), record, memory)
+    return (memory[0], memory[1]) if found else None
 
 
 def _folded(label: bytes, room: int) -> bytes:
