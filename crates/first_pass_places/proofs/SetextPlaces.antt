@@ -55,9 +55,6 @@ prefix_content b h = grind (arith, nat_tests, h)
 prefix_none : (b : ℕ) → is_prefix_byte b ≡ true → (b == right_brace) ≡ false
 prefix_none b h = grind (arith, nat_tests, h)
 
-white_content : (b : ℕ) → is_white b ≡ true → is_content b ≡ true
-white_content b h = grind (arith, nat_tests, h)
-
 white_none : (b : ℕ) → is_white b ≡ true → (b == right_brace) ≡ false
 white_none b h = grind (arith, nat_tests, h)
 

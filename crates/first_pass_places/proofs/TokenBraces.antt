@@ -19,7 +19,7 @@ use Rattle.first_pass_tokens.specs.Chains.{text_token, token, run_tokens, touche
 use Rattle.first_pass_tokens.specs.LineTokens.{Spot, spot, content_ends_at, ends_cell, ArePieces, add_piece, add_pieces, text_end, line_end_len, breaks_by_backslash}
 use Rattle.first_pass_tokens.specs.LineTokens.{backslashes_at_end, blanks_at_end, AreLineTokens}
 use Rattle.first_pass_tokens.specs.Pieces.{Inline, found_at, size}
-use Rattle.first_pass_tokens.proofs.LineLemmas.{piece_of}
+use Rattle.first_pass_tokens.proofs.LineLemmas.{piece_of, pieces_reach as pieces_order}
 use Rattle.first_pass_tokens.proofs.PieceFacts.{IsPieceAt}
 use Rattle.first_pass_grammar.specs.Headings.{chain_end}
 
@@ -117,11 +117,6 @@ piece_reaches text s stop last at (Token dropped n body) chain tail within facts
     token_reaches text s (at + (dropped + n)) chain (token (at + dropped) n body) (omega arith)
     (nothing_none text (at + dropped + n) (at + (dropped + n)) (omega arith))
 piece_reaches text s stop last at (Run n opens closes) chain tail within facts h = run_reaches text s at n opens closes chain h
-
-pieces_order : (texts : List CowStr) (s : Inline) (at : ℕ) (b : MathBraces) (ps : List Piece) (to : Spot) → ArePieces texts s at b ps to → at ≤ to.at
-pieces_order texts s at b [] to are = (let e : at ≡ to.at = ap (λ (p : Spot). p.at) are in omega arith)
-pieces_order texts s at b (p ∷ ps) to are =
-    let more = pieces_order texts s (at + size p) (braces_after (found_at s at) b) ps to are.2 in omega arith
 
 pieces_reach : (texts : List CowStr) (s : Inline) (e stop last at : ℕ) (b : MathBraces) (ps : List Piece) (to : Spot) (chain : List Item)
     → to.at ≤ last → HasNoBrace s.text stop last → ArePieces texts s at b ps to → Reaches s.text e chain at
