@@ -70,7 +70,7 @@ impl<'a> LabelKey<'a> {
         self.folding.text_of(self.label.deref())
     }
 
-    // The byte order of the foldings. Most keys differ in their first bytes, so it is kept out of the search in a table.
+    // The byte order of the foldings. Most keys differ in their first bytes, so no search in a table inlines it.
     #[inline(never)]
     fn cmp_foldings(&self, other: &LabelKey<'a>) -> Ordering
         ensures { result ≡ label_cmp self.now other.now }
