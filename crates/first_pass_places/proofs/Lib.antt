@@ -1,4 +1,5 @@
 pub mod BlockPlaces
+pub mod FootnoteEntries
 pub mod FootnotePlaces
 pub mod HeadingPlaces
 pub mod InfoFacts

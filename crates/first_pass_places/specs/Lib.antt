@@ -1,5 +1,6 @@
 pub mod AttributeBlockPlaces
 pub mod AttributePlaces
 pub mod FootnoteLabels
+pub mod FootnoteNodes
 pub mod InfoStrings
 pub mod NamePlaces

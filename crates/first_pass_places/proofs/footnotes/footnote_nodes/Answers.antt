@@ -1,0 +1,19 @@
+use Rattle.std.proofs.Common.{take, sym, subst}
+use Rattle.std.proofs.lemmas.List.{take_all}
+use Rattle.first_pass_names.specs.TableEntries.{names_of}
+use Rattle.first_pass_places.specs.FootnoteNodes.{AreFirstNodes}
+use Rattle.first_pass_places.proofs.FootnoteEntries.{none_first, next_node}
+use Rattle.first_pass_places.proofs.footnotes.footnote_nodes.Goals as goal
+
+pub loop-index-init : goal.loop-index-init
+loop-index-init c = subst (AreFirstNodes (names_of c.args.allocs.now) (take 0 c.args.nodes.now)) (sym c.new-table.ensures) (none_first (names_of c.args.allocs.now))
+
+pub loop-index-preserved : goal.loop-index-preserved
+loop-index-preserved c =
+    next_node (names_of c.args.allocs.now) c.args.nodes.now c.loop-index.index _ c.loop-index.table c.add_footnote.new.table c.loop-index-test.true
+    c.loop-index.invariant c.in_ok-add_footnote.ensures
+
+pub returns : goal.returns
+returns c =
+    subst (λ l. AreFirstNodes (names_of c.args.allocs.now) l c.loop-index.table) (take_all c.loop-index.index c.args.nodes.now c.loop-index-test.false)
+    c.loop-index.invariant

@@ -1,0 +1,47 @@
+//! The node of each footnote's first definition (this project).
+
+ghost use Rattle.std.specs.Prelude.{IfOk, OnOk};
+ghost use Rattle.first_pass_names.specs.TableEntries.{names_of};
+ghost use Rattle.first_pass_places.specs.FootnoteNodes.{AreFirstNodes, AddsNode};
+
+use first_pass_items::cow_str::CowStr;
+use first_pass_items::item::{Item, ItemBody};
+use first_pass_labels::label_key::LabelKey;
+use first_pass_labels::label_table::LabelTable;
+use first_pass_names::items::Allocations;
+use std::alloc::{AllocError, Global};
+
+/// Returns the labels of the footnote definitions among a tree's nodes, each with the index of its first definition's
+/// node. Labels match by their foldings, as in the table of footnotes. Fails only if an allocation fails (this
+/// project).
+pub fn footnote_nodes<'d>(
+    alloc: Global,
+    nodes: &[(usize, Item)],
+    allocs: &'d Allocations<'_>,
+) -> Result<LabelTable<'d, usize>, AllocError>
+    ensures { IfOk result (λ table. AreFirstNodes (names_of allocs.now) nodes.now table) }
+{
+    let mut table = LabelTable::new(alloc);
+    for (index, node) in nodes.iter().enumerate() {
+        add_footnote(alloc, &mut table, index, &node.1, allocs)?;
+    }
+    Ok(table)
+}
+
+// Adds the label of a node with this index, if the node is a footnote definition, unless the table has the label.
+fn add_footnote<'d>(
+    alloc: Global,
+    table: &mut LabelTable<'d, usize>,
+    index: usize,
+    item: &Item,
+    allocs: &'d Allocations<'_>,
+) -> Result<(), AllocError>
+    ensures { OnOk result (AddsNode (names_of allocs.now) index item.now table.old table.new) }
+{
+    let ItemBody::FootnoteDefinition(label) = item.body else {
+        return Ok(());
+    };
+    let key = LabelKey::new(alloc, CowStr::Borrowed(allocs.text_at(label)))?;
+    table.insert_first(key, index)?;
+    Ok(())
+}
