@@ -96,9 +96,10 @@ pub extern "C" fn first_pass_fold(
     }
 }
 
-/// Finds where a text has what a node names: the info string of a fenced code block, the label of a footnote definition,
-/// or the attributes of a heading, between the braces. Returns 1 and writes the range to `range`. Returns 0 and leaves
-/// `range` unchanged if the node names nothing that the text has, or if the range of the node is not in the text.
+/// Finds where a text has what a node names: the info string of a fenced code block, the label of a footnote
+/// definition, or the attributes of a heading, between the braces. Returns 1 and writes the range to `range`. Returns 0
+/// and leaves `range` unchanged if the node names nothing that the text has, or if the range of the node is not in the
+/// text.
 ///
 /// `node` is the record of a node of the text. Nothing is allocated.
 #[unsafe(no_mangle)]

@@ -45,8 +45,8 @@ pub fn heading_attributes_are_read()
         → FirstIsReadFromText d (heading_block start stop level index chain) }
 {}
 
-/// The attributes that a setext heading names are read from the range of its block. The text of the heading begins at an
-/// offset, and the lines after its first line follow. A task list item marker may be before it (CommonMark 4.3, GFM
+/// The attributes that a setext heading names are read from the range of its block. The text of the heading begins at
+/// an offset, and the lines after its first line follow. A task list item marker may be before it (CommonMark 4.3, GFM
 /// 5.3, and this project).
 pub fn setext_attributes_are_read()
     ensures { (d : Document) (path : List Container) (start : ℕ) (marker : Option Item) (lines : List Place) (t : Taken)
