@@ -149,7 +149,8 @@ found_between text start e s m block from to found none =
     (λ k low high.
     let j : ℕ = k - ahead in
     let back : ahead + j ≡ k = omega arith in
-    ap (λ i. slice_index text (start + i) == left_brace) (sym back) ∙ ap (λ b. b == left_brace) (at j (omega arith)) ∙ are.inside j (omega arith) (omega arith)) in
+    ap (λ i. slice_index text (start + i) == left_brace) (sym back) ∙ ap (λ b. b == left_brace) (at j (omega arith))
+    ∙ are.inside j (omega arith) (omega arith)) in
     let later : (k : ℕ) → ahead + block.closing < k → start + k < e → (slice_index text (start + k) == right_brace) ≡ false =
     (λ k low high.
     let j : ℕ = k - ahead in

@@ -293,7 +293,8 @@ underline_none text path at (line ∷ lines) found h within is =
     (omega (arith, end), subst (HasNoBrace text at) (sym end) (both_none text at next (next + size) past.none bytes))
 
 -- the end of a chain with a marker before it
-marked_end : (start : ℕ) (marker : Option Item) (chain : List Item) → IfSome marker (λ x. x.«end» ≤ start) → start < chain_end start (marker_items marker ++ chain)
+marked_end : (start : ℕ) (marker : Option Item) (chain : List Item) → IfSome marker (λ x. x.«end» ≤ start)
+    → start < chain_end start (marker_items marker ++ chain)
     → chain_end start (marker_items marker ++ chain) ≡ chain_end start chain
 marked_end start None chain before h = refl
 marked_end start (Some x) [] before h = absurd (omega arith)

@@ -16,6 +16,7 @@ pub returns : goal.returns
 unfolding with_all
 returns c = record {
   definitions = (Borrowed c.text_at.result, c.args.index) ∷ [];
-  labels = ap (λ (t : List ℕ). (t, c.args.index) ∷ []) c.text_at.ensures ∙ ap (label_in (names_of c.args.allocs.now) c.args.index) (sym c.in-FootnoteDefinition.is);
+  labels = ap (λ (t : List ℕ). (t, c.args.index) ∷ []) c.text_at.ensures
+      ∙ ap (label_in (names_of c.args.allocs.now) c.args.index) (sym c.in-FootnoteDefinition.is);
   added = c.in_ok-insert_first.ensures.first ∙ ap (λ (l : CowStr). with_first c.args.table.now l c.args.index) c.in_ok-key.ensures;
 }

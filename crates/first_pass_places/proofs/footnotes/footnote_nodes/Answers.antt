@@ -6,7 +6,8 @@ use Rattle.first_pass_places.proofs.FootnoteEntries.{none_first, next_node}
 use Rattle.first_pass_places.proofs.footnotes.footnote_nodes.Goals as goal
 
 pub loop-index-init : goal.loop-index-init
-loop-index-init c = subst (AreFirstNodes (names_of c.args.allocs.now) (take 0 c.args.nodes.now)) (sym c.new-table.ensures) (none_first (names_of c.args.allocs.now))
+loop-index-init c =
+    subst (AreFirstNodes (names_of c.args.allocs.now) (take 0 c.args.nodes.now)) (sym c.new-table.ensures) (none_first (names_of c.args.allocs.now))
 
 pub loop-index-preserved : goal.loop-index-preserved
 loop-index-preserved c =
