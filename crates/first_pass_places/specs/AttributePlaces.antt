@@ -37,7 +37,8 @@ word_ranges text start «end» = filter is_told (ranges_from start (slice_split 
 abbrev pub place_of : AttributeKind → Range ℕ → AttributePlace
 place_of kind range = record { kind = kind; name = range; value = None }
 
--- the place of a key, up to the first `=` in a range, and of its value, after that `=` (this project)
+-- the place of a key in a range that has a `=` after this number of bytes, and of the value after that `=` (this
+-- project)
 abbrev pub key_with : Range ℕ → ℕ → AttributePlace
 key_with range at = record {
   kind = Key;
@@ -45,6 +46,7 @@ key_with range at = record {
   value = Some (range_of (range.start + at + 1) range.«end»);
 }
 
+-- the place of a key, up to the first `=` in a range, and of its value, if there is a `=` (this project)
 abbrev pub key_place : List ℕ → Range ℕ → AttributePlace
 key_place text range = option_map_or (key_with range) (position (λ b. b == equals_sign) (bytes_in text range)) (place_of Key range)
 

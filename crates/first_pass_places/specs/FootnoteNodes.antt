@@ -19,7 +19,7 @@ unfoldable pub labels_from : Names → ℕ → List (ℕ × Item) → List (List
 labels_from names index [] = []
 labels_from names index (n ∷ nodes) = label_in names index n.1.body ++ labels_from names (index + 1) nodes
 
--- entries of a table as bytes (this project)
+-- an entry of a table, with its label as bytes (this project)
 abbrev pub entry_bytes : CowStr × ℕ → List ℕ × ℕ
 entry_bytes entry = (text_of entry.0, entry.1)
 

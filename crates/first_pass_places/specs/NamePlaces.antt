@@ -1,4 +1,4 @@
--- Where the text has what a node names by an index (this project).
+-- The range in the text of what a node names by an index (this project).
 use Rattle.std.specs.Prelude.{◌≡◌, ℕ, ◌+◌, ◌-◌, false, List, [], ◌∷◌, drop, slice_get, Option, Some, None}
 use Rattle.std.specs.declared.ops.Range.{Range}
 use Rattle.first_pass_items.specs.declared.item.CowIndex.{CowIndex}
@@ -15,19 +15,20 @@ use Rattle.first_pass_places.specs.AttributeBlockPlaces.{attribute_range, block_
 use Rattle.first_pass_places.specs.FootnoteLabels.{label_range}
 use Rattle.first_pass_places.specs.InfoStrings.{bytes_in, info_range}
 
--- the same for a node with this body
+-- the range in the text of what a node names, if the node has this body (this project)
 abbrev pub name_range_by : ItemBody → List ℕ → Item → Option (Range ℕ)
 name_range_by (FencedCodeBlock ix) text x = Some (info_range text x.start)
 name_range_by (FootnoteDefinition ix) text x = Some (label_range text x.start)
 name_range_by _ text x = attribute_range text x
 
--- the range in which the text has what a node names: an info string, the label of a footnote, or attributes (this
+-- the range in the text of what a node names: of an info string, of the label of a footnote, or of attributes (this
 -- project)
 abbrev pub name_range : List ℕ → Item → Option (Range ℕ)
 name_range text x = name_range_by x.body text x
 
--- The index names the label that is read after an offset, up to the `]` after these bytes. The prefixes that begin
--- further lines of the label are left out (CommonMark 6.3, and this project).
+-- The index names the label that is read from the start of a range, up to the `]` directly after it. Some prefixes of
+-- the label's further lines are left out; they are not stated to be those of the containers (CommonMark 6.3, and this
+-- project).
 pub record NamesLabelAt (names : Names) (ix : CowIndex) (text : List ℕ) (range : Range ℕ) : Type 0 where
   pub prefix : List ℕ → Option ℕ
   pub label : List ℕ
@@ -47,6 +48,7 @@ IsNamedBy names text x (FootnoteDefinition ix) = NamesLabelAt names ix text (lab
 IsNamedBy names text x (Heading level index) = NamesAttributesIn names index (bytes_in text (block_range text x.start x.«end»))
 IsNamedBy names text x _ = Unit {0}
 
+-- what a node names is what is read from its range in the text (this project)
 abbrev pub IsReadFromText : Names → List ℕ → Item → Type 0
 IsReadFromText names text x = IsNamedBy names text x x.body
 

@@ -8,7 +8,7 @@ use first_pass_items::item::{Item, ItemBody};
 use std::ops::Range;
 
 /// Returns the range of the bytes between the braces of a heading's attribute block, as byte offsets into the text.
-/// Returns `None` if the node is no heading, or a heading without an attribute block. The block is at the end of the
+/// Returns `None` if the node is not a heading, or has no attribute block. The block is at the end of the
 /// heading's line; of a setext heading, at the end of the last line before the underline (this project).
 pub fn attribute_block_range(text: &str, heading: &Item) -> Option<Range<usize>>
     requires order { heading.now.start ≤ heading.now.«end» }

@@ -32,9 +32,9 @@ pub struct AttributePlace {
     pub value: Option<Range<usize>>,
 }
 
-/// Returns where each attribute in the attribute block of a heading is written, in the order of the text. Words of one
-/// byte are left out, and an id that a later one replaces is not. There are none if the node is no heading, or a
-/// heading without an attribute block. Fails only if an allocation fails (this project).
+/// Returns the ranges of each attribute in the attribute block of a heading, in the order of the text. Words of one
+/// byte are left out. An id that a later one replaces is not left out. The result is empty if the node is not a
+/// heading, or has no attribute block. Fails only if an allocation fails (this project).
 pub fn attribute_ranges(
     alloc: Global,
     text: &str,

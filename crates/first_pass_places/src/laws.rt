@@ -27,8 +27,8 @@ pub fn info_strings_are_read()
         → FirstIsReadFromText d items }
 {}
 
-/// The label that a footnote definition names is read from its range, with the prefixes of containers left out. The
-/// head of the definition begins at a place in the text, after the indentation (this project).
+/// The label that a footnote definition names is read from its range, with some prefixes of its further lines left out.
+/// The head of the definition begins at a place in the text, after the indentation (this project).
 pub fn footnote_labels_are_read()
     ensures { (d : Document) (path : List Container) (p : Place) (index : CowIndex) (head : ℕ × List ℕ)
         → (unindented p).rest.left ≡ drop (offset (unindented p)) d.text

@@ -1,5 +1,5 @@
-//! Where in the text it is written what a node names by an index: an info string, the label of a footnote, or the
-//! attributes of a heading. Also the node of each footnote's first definition.
+//! The range in the text of what a node names by an index: an info string, the label of a footnote, or the attributes
+//! of a heading. Also the node of each footnote's first definition.
 #![tactic(auto)]
 
 pub mod attribute_block;

@@ -1,4 +1,4 @@
-//! Where the text is written that a node names (this project).
+//! The range in the text of what a node names (this project).
 
 ghost use Rattle.std.specs.Prelude.{◌≡◌, ◌≤◌, length};
 ghost use Rattle.first_pass_places.specs.NamePlaces.{name_range};
@@ -9,9 +9,9 @@ use crate::info_string::info_range;
 use first_pass_items::item::{Item, ItemBody};
 use std::ops::Range;
 
-/// Returns the range in which the text has what a node names: the info string of a fenced code block, the label of a
-/// footnote definition, or the attributes of a heading, between the braces. Returns `None` for any other node, and for
-/// a heading without an attribute block (this project).
+/// Returns the range in the text of what a node names: of the info string of a fenced code block, of the label of a
+/// footnote definition, or of all that is between the braces of a heading's attribute block. Returns `None` for any
+/// other node, and for a heading without an attribute block (this project).
 pub fn name_range(text: &str, node: &Item) -> Option<Range<usize>>
     requires order { node.now.start ≤ node.now.«end» }
     requires within { node.now.«end» ≤ length text.now }
