@@ -1,9 +1,13 @@
 -- The label that a footnote definition names is read from its range.
-use Rattle.std.proofs.Common.{◌≡◌, ℕ, ◌+◌, ◌-◌, ◌&&◌, Bool, true, false, nat_lt, List, drop, Option, Some, None, refl, sym, ap, ◌∙◌, drop-drop, arith}
-use Rattle.std.proofs.Common.{if◌then◌else◌}
+use Rattle.std.proofs.Common.{◌≡◌, ℕ, ◌+◌, ◌-◌, ◌≤◌, ◌&&◌, Bool, true, false, nat_lt, List, [], ◌∷◌, length, drop, min, Option, Some, None, refl, sym, ap}
+use Rattle.std.proofs.Common.{subst, ◌∙◌, drop-drop, arith, if◌then◌else◌}
 use Rattle.std.specs.Option.{option_and_then}
+use Rattle.std.specs.declared.ops.Range.{Range}
+use Rattle.std.proofs.Math.Nat.{min-eq_right}
+use Rattle.std.proofs.lemmas.Bool.{and_parts, true≢false}
+use Rattle.std.proofs.lemmas.List.{length-drop}
 use Rattle.std.proofs.lemmas.Option.{none-some, same_Some}
-use Rattle.first_pass_items.specs.Bytes.{colon}
+use Rattle.first_pass_items.specs.Bytes.{left_bracket, circumflex, colon}
 use Rattle.first_pass_items.specs.OptionWords.{has, footnotes, gfm_footnotes}
 use Rattle.first_pass_items.specs.declared.item.CowIndex.{CowIndex}
 use Rattle.first_pass_lines.specs.Lines.{begins}
@@ -45,10 +49,27 @@ head_label : (prefix : List ℕ → Option ℕ) (bs : List ℕ) (head : ℕ × L
 unfolding footnote_head
 head_label prefix bs head e = label_of_head (drop 2 bs) (label_at prefix false (drop 2 bs)) head (some_if (begins_footnote bs) _ head e)
 
+-- a head has two bytes or more
+test_if : (t : Bool) (o : Option (ℕ × List ℕ)) (head : ℕ × List ℕ) → (if t then o else None) ≡ Some head → t ≡ true
+test_if true o head e = refl
+test_if false o head e = absurd (none-some head e)
+
+two_bytes : (bs : List ℕ) → begins_footnote bs ≡ true → 2 ≤ length bs
+two_bytes [] h = absurd (true≢false (sym h))
+two_bytes (b ∷ []) h = absurd (true≢false (sym (and_parts (begins left_bracket (b ∷ [])) (begins circumflex []) h).1))
+two_bytes (b ∷ c ∷ bs) h = omega arith
+
+head_long : (prefix : List ℕ → Option ℕ) (bs : List ℕ) (head : ℕ × List ℕ) → footnote_head prefix false bs ≡ Some head → 2 ≤ length bs
+unfolding footnote_head
+head_long prefix bs head e = two_bytes bs (test_if (begins_footnote bs) _ head e)
+
 head_here : (around : Context) (p : Place) (head : ℕ × List ℕ) → footnote_head_at around p ≡ Some head
     → footnote_head (footnote_prefix around) false (unindented p).rest.left ≡ Some head
 unfolding footnote_head_at
 head_here around p head e = some_if (has around.options footnotes && nat_lt (indent p.rest) 4) (footnote_at false around (unindented p).rest.left) head e
+
+abbrev range_of : ℕ → ℕ → Range ℕ
+range_of start «end» = record { start = start; «end» = «end» }
 
 pub footnote_is_read : (d : Document) (path : List Container) (p : Place) (index : CowIndex) (head : ℕ × List ℕ)
     → (unindented p).rest.left ≡ drop (offset (unindented p)) d.text → footnote_head_at (around d path) p ≡ Some head
@@ -59,14 +80,20 @@ footnote_is_read d path p index head at is named =
     let start : ℕ = offset (unindented p) in
     let prefix : List ℕ → Option ℕ = footnote_prefix (around d path) in
     let rest : List ℕ = drop (start + 2) d.text in
-    let found = head_label prefix (unindented p).rest.left head (head_here (around d path) p head is) in
+    let begins_here : footnote_head prefix false (unindented p).rest.left ≡ Some head = head_here (around d path) p head is in
+    let found = head_label prefix (unindented p).rest.left head begins_here in
+    let long = head_long prefix (unindented p).rest.left head begins_here in
+    let fits : start + 2 ≤ length d.text = (let left = length-drop start d.text in omega (arith, long, ap length at, left)) in
+    let from : min (length d.text) (start + 2) ≡ start + 2 = min-eq_right fits in
     let there : drop 2 (unindented p).rest.left ≡ rest = ap (drop 2) at ∙ drop-drop 2 start d.text in
     let reads : label_at prefix false rest ≡ Some found.0 = ap (label_at prefix false) (sym there) ∙ found.1 in
     let size : found.0.0 ≡ label_len rest + 1 = label_ends prefix (footnote_plain (around d path)) false rest found.0 reads in
     let whole : found.0.0 ≡ start + 2 + label_len rest + 1 - (start + 2) = omega (arith, size) in
+    let read : NamesLabelAt d.names index d.text (range_of (start + 2) (start + 2 + label_len rest)) =
     record {
       prefix = prefix;
       label = head.1;
       reads = reads ∙ ap (λ n. Some (n, found.0.1)) whole ∙ ap (λ l. Some (start + 2 + label_len rest + 1 - (start + 2), l)) found.2;
       named = (named.named, named.at, named.text);
-    }
+    } in
+    subst (λ (n : ℕ). NamesLabelAt d.names index d.text (range_of n (n + label_len (drop n d.text)))) (sym from) read

@@ -14,8 +14,8 @@ pub fn attribute_block_range(text: &str, heading: &Item) -> Option<Range<usize>>
     requires order { heading.now.start ≤ heading.now.«end» }
     requires within { heading.now.«end» ≤ length text.now }
     ensures value { result ≡ attribute_range text.now heading.now }
-    ensures within { IfSome result (λ range.
-        (range.start ≤ range.«end») × (range.«end» ≤ length text.now)) }
+    ensures order { IfSome result (λ range. range.start ≤ range.«end») }
+    ensures within { IfSome result (λ range. range.«end» ≤ length text.now) }
 {
     attribute_range(text.as_bytes(), heading)
 }
@@ -26,8 +26,8 @@ pub(crate) fn attribute_range(text: &[u8], heading: &Item) -> Option<Range<usize
     requires order { heading.now.start ≤ heading.now.«end» }
     requires within { heading.now.«end» ≤ length text.now }
     ensures value { result ≡ attribute_range text.now heading.now }
-    ensures within { IfSome result (λ range.
-        (range.start ≤ range.«end») × (range.«end» ≤ length text.now)) }
+    ensures order { IfSome result (λ range. range.start ≤ range.«end») }
+    ensures within { IfSome result (λ range. range.«end» ≤ length text.now) }
 {
     let ItemBody::Heading(_, Some(_)) = heading.body else {
         return None;

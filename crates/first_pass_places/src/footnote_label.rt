@@ -11,10 +11,13 @@ use std::ops::Range;
 
 /// Returns the range of the label of a footnote definition, as byte offsets into the text: the bytes between its `[^`
 /// and its `]`. In the old form of footnotes a label may cross lines. Then the range includes the prefixes of
-/// containers that begin its further lines (this project).
+/// containers that begin its further lines. If the text ends before the label, the range is empty, at the end of the
+/// text (this project).
 pub fn footnote_label_range(text: &str, definition: &Item) -> Range<usize>
     requires { definition.now.start ≤ length text.now }
-    ensures { result ≡ label_range text.now definition.now.start }
+    ensures value { result ≡ label_range text.now definition.now.start }
+    ensures order { result.start ≤ result.«end» }
+    ensures within { result.«end» ≤ length text.now }
 {
     label_range(text.as_bytes(), definition.start)
 }
@@ -23,12 +26,11 @@ pub fn footnote_label_range(text: &str, definition: &Item) -> Range<usize>
 #[tactic(auto, unfolding(crate::specs::FootnoteLabels::label_range))]
 pub(crate) fn label_range(text: &[u8], start: usize) -> Range<usize>
     requires { start ≤ length text.now }
-    ensures { result ≡ label_range text.now start }
+    ensures value { result ≡ label_range text.now start }
+    ensures order { result.start ≤ result.«end» }
+    ensures within { result.«end» ≤ length text.now }
 {
-    let from = start + 2;
-    if text.len() < from {
-        return from..from;
-    }
+    let from = text.len().min(start + 2);
     from..from + scan_label(rest_of(text, from))
 }
 

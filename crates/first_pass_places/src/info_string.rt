@@ -17,7 +17,9 @@ use std::ops::Range;
 /// (CommonMark 4.5).
 pub fn info_string_range(text: &str, block: &Item) -> Range<usize>
     requires { block.now.start ≤ length text.now }
-    ensures { result ≡ info_range text.now block.now.start }
+    ensures value { result ≡ info_range text.now block.now.start }
+    ensures order { result.start ≤ result.«end» }
+    ensures within { result.«end» ≤ length text.now }
 {
     info_range(text.as_bytes(), block.start)
 }
@@ -25,7 +27,9 @@ pub fn info_string_range(text: &str, block: &Item) -> Range<usize>
 /// Returns the range of the info string of the code fence that begins at an offset.
 pub(crate) fn info_range(text: &[u8], start: usize) -> Range<usize>
     requires { start ≤ length text.now }
-    ensures { result ≡ info_range text.now start }
+    ensures value { result ≡ info_range text.now start }
+    ensures order { result.start ≤ result.«end» }
+    ensures within { result.«end» ≤ length text.now }
 {
     let fence = start + scan_fence(rest_of(text, start));
     let from = fence + scan_whitespace_no_nl(rest_of(text, fence));

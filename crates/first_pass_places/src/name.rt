@@ -1,6 +1,6 @@
 //! The range in the text of what a node names (this project).
 
-ghost use Rattle.std.specs.Prelude.{◌≡◌, ◌≤◌, length};
+ghost use Rattle.std.specs.Prelude.{◌≡◌, ◌≤◌, length, IfSome};
 ghost use Rattle.first_pass_places.specs.NamePlaces.{name_range};
 
 use crate::attribute_block::attribute_range;
@@ -15,7 +15,9 @@ use std::ops::Range;
 pub fn name_range(text: &str, node: &Item) -> Option<Range<usize>>
     requires order { node.now.start ≤ node.now.«end» }
     requires within { node.now.«end» ≤ length text.now }
-    ensures { result ≡ name_range text.now node.now }
+    ensures value { result ≡ name_range text.now node.now }
+    ensures order { IfSome result (λ range. range.start ≤ range.«end») }
+    ensures within { IfSome result (λ range. range.«end» ≤ length text.now) }
 {
     name_range_in(text.as_bytes(), node)
 }
@@ -24,7 +26,9 @@ pub fn name_range(text: &str, node: &Item) -> Option<Range<usize>>
 pub fn name_range_in(text: &[u8], node: &Item) -> Option<Range<usize>>
     requires order { node.now.start ≤ node.now.«end» }
     requires within { node.now.«end» ≤ length text.now }
-    ensures { result ≡ name_range text.now node.now }
+    ensures value { result ≡ name_range text.now node.now }
+    ensures order { IfSome result (λ range. range.start ≤ range.«end») }
+    ensures within { IfSome result (λ range. range.«end» ≤ length text.now) }
 {
     match node.body {
         ItemBody::FencedCodeBlock(_) => Some(info_range(text, node.start)),
