@@ -74,7 +74,7 @@ range_of start «end» = record { start = start; «end» = «end» }
 pub footnote_is_read : (d : Document) (path : List Container) (p : Place) (index : CowIndex) (head : ℕ × List ℕ)
     → (unindented p).rest.left ≡ drop (offset (unindented p)) d.text → footnote_head_at (around d path) p ≡ Some head
     → NamesLabel d.names index (label_bytes head.0 (unindented p).rest.left) head.1
-    → NamesLabelAt d.names index d.text (label_range d.text (offset (unindented p)))
+    → NamesLabelAt d.names (footnote_prefix (around d path)) index d.text (label_range d.text (offset (unindented p)))
 unfolding label_range
 footnote_is_read d path p index head at is named =
     let start : ℕ = offset (unindented p) in
@@ -89,11 +89,10 @@ footnote_is_read d path p index head at is named =
     let reads : label_at prefix false rest ≡ Some found.0 = ap (label_at prefix false) (sym there) ∙ found.1 in
     let size : found.0.0 ≡ label_len rest + 1 = label_ends prefix (footnote_plain (around d path)) false rest found.0 reads in
     let whole : found.0.0 ≡ start + 2 + label_len rest + 1 - (start + 2) = omega (arith, size) in
-    let read : NamesLabelAt d.names index d.text (range_of (start + 2) (start + 2 + label_len rest)) =
+    let read : NamesLabelAt d.names prefix index d.text (range_of (start + 2) (start + 2 + label_len rest)) =
     record {
-      prefix = prefix;
       label = head.1;
       reads = reads ∙ ap (λ n. Some (n, found.0.1)) whole ∙ ap (λ l. Some (start + 2 + label_len rest + 1 - (start + 2), l)) found.2;
       named = (named.named, named.at, named.text);
     } in
-    subst (λ (n : ℕ). NamesLabelAt d.names index d.text (range_of n (n + label_len (drop n d.text)))) (sym from) read
+    subst (λ (n : ℕ). NamesLabelAt d.names prefix index d.text (range_of n (n + label_len (drop n d.text)))) (sym from) read

@@ -26,11 +26,9 @@ name_range_by _ text x = attribute_range text x
 abbrev pub name_range : List ℕ → Item → Option (Range ℕ)
 name_range text x = name_range_by x.body text x
 
--- The index names the label that is read from the start of a range, up to the `]` directly after it. Some prefixes of
--- the label's further lines are left out; they are not stated to be those of the containers (CommonMark 6.3, and this
--- project).
-pub record NamesLabelAt (names : Names) (ix : CowIndex) (text : List ℕ) (range : Range ℕ) : Type 0 where
-  pub prefix : List ℕ → Option ℕ
+-- The index names the label that is read from the start of a range, up to the `]` directly after it. The prefix that
+-- this function finds is left out of each further line (CommonMark 6.3, and this project).
+pub record NamesLabelAt (names : Names) (prefix : List ℕ → Option ℕ) (ix : CowIndex) (text : List ℕ) (range : Range ℕ) : Type 0 where
   pub label : List ℕ
   pub reads : label_at prefix false (drop range.start text) ≡ Some (range.«end» + 1 - range.start, label)
   pub named : NamesText names ix label
@@ -41,10 +39,10 @@ NamesAttributesIn names None bs = Unit {0}
 NamesAttributesIn names (Some ix) bs = slice_get names.headings ix.0 ≡ Some (attributes_of bs)
 
 -- What a node names is what is read from its range in the text: an info string (CommonMark 4.5), the label of a
--- footnote, or attributes (this project).
+-- footnote without some prefixes of its further lines, or attributes (this project).
 abbrev pub IsNamedBy : Names → List ℕ → Item → ItemBody → Type 0
 IsNamedBy names text x (FencedCodeBlock ix) = NamesInfo names ix (bytes_in text (info_range text x.start))
-IsNamedBy names text x (FootnoteDefinition ix) = NamesLabelAt names ix text (label_range text x.start)
+IsNamedBy names text x (FootnoteDefinition ix) = (prefix : List ℕ → Option ℕ) × NamesLabelAt names prefix ix text (label_range text x.start)
 IsNamedBy names text x (Heading level index) = NamesAttributesIn names index (bytes_in text (block_range text x.start x.«end»))
 IsNamedBy names text x _ = Unit {0}
 

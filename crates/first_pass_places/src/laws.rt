@@ -11,7 +11,7 @@ ghost use Rattle.first_pass_scan.specs.LeafLines.{code_fence};
 ghost use Rattle.first_pass_grammar.specs.declared.kind.Container.{Container};
 ghost use Rattle.first_pass_grammar.specs.CodeBlocks.{IsFencedCode};
 ghost use Rattle.first_pass_grammar.specs.Completion.{lines_from};
-ghost use Rattle.first_pass_grammar.specs.Footnotes.{NamesLabel, footnote_head_at, label_bytes};
+ghost use Rattle.first_pass_grammar.specs.Footnotes.{NamesLabel, footnote_head_at, footnote_prefix, label_bytes};
 ghost use Rattle.first_pass_grammar.specs.Kinds.{unindented};
 ghost use Rattle.first_pass_grammar.specs.Leaves.{Document, IsHeading, around, heading_block, heading_text_at};
 ghost use Rattle.first_pass_grammar.specs.Tables.{Taken};
@@ -27,14 +27,15 @@ pub fn info_strings_are_read()
         → FirstIsReadFromText d items }
 {}
 
-/// The label that a footnote definition names is read from its range, with some prefixes of its further lines left out.
-/// The head of the definition begins at a place in the text, after the indentation (this project).
+/// The label that a footnote definition names is read from its range, without the prefixes of containers that begin its
+/// further lines. The head of the definition begins at a place in the text, after the indentation (this project).
 pub fn footnote_labels_are_read()
     ensures { (d : Document) (path : List Container) (p : Place) (index : CowIndex) (head : ℕ × List ℕ)
         → (unindented p).rest.left ≡ drop (offset (unindented p)) d.text
         → footnote_head_at (around d path) p ≡ Some head
         → NamesLabel d.names index (label_bytes head.0 (unindented p).rest.left) head.1
-        → NamesLabelAt d.names index d.text (label_range d.text (offset (unindented p))) }
+        → NamesLabelAt d.names (footnote_prefix (around d path)) index d.text
+        (label_range d.text (offset (unindented p))) }
 {}
 
 /// The attributes that an ATX heading names are read from the range of its block. The heading begins at an offset with
