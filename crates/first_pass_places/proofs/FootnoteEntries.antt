@@ -1,5 +1,6 @@
 -- The labels of footnote definitions among nodes, one node after the other.
-use Rattle.std.proofs.Common.{◌≡◌, ℕ, ◌+◌, ◌<◌, List, [], ◌∷◌, ◌++◌, length, map, take, get_or, refl, sym, ap, subst, ◌∙◌, append_assoc, arith}
+use Rattle.std.proofs.Common.{◌≡◌, ℕ, ◌+◌, ◌<◌, List, [], ◌∷◌, ◌++◌, length, map, take, get_or, refl, sym, ap, subst, ◌∙◌}
+use Rattle.std.proofs.Common.{zero, suc, append_assoc, length-append, arith}
 use Rattle.std.proofs.lemmas.List.{append-nil, map-append, length-take-le, take_more}
 use Rattle.first_pass_items.specs.declared.cow_str.CowStr.{CowStr}
 use Rattle.first_pass_items.specs.declared.item.CowIndex.{CowIndex}
@@ -49,3 +50,24 @@ next_node names nodes i d old new within h more =
 pub no_footnote : (names : Names) (index : ℕ) (body : ItemBody) → ((ix : CowIndex) → body ≡ FootnoteDefinition ix → ⊥) → label_in names index body ≡ []
 no_footnote names index (FootnoteDefinition ix) h = absurd (h ix refl)
 no_footnote names index _ h = refl
+
+-- a label among those of the nodes; its index is any
+same_count : (names : Names) (i j : ℕ) (body : ItemBody) → length (label_in names i body) ≡ length (label_in names j body)
+same_count names i j (FootnoteDefinition ix) = refl
+same_count names i j _ = refl
+
+pub label_among : (names : Names) (index j i : ℕ) (nodes : List (ℕ × Item)) (d : ℕ × Item) → i < length nodes
+    → 0 < length (label_in names j (get_or nodes i d).1.body) → 0 < length (labels_from names index nodes)
+unfolding labels_from
+label_among names index j i [] d within some = absurd (omega (arith, within))
+label_among names index j zero (n ∷ nodes) d within some =
+    let size = length-append (label_in names index n.1.body) (labels_from names (index + 1) nodes) in
+    let same = same_count names j index n.1.body in
+    omega (arith, size, same, some)
+label_among names index j (suc i) (n ∷ nodes) d within some =
+    let size = length-append (label_in names index n.1.body) (labels_from names (index + 1) nodes) in
+    let later = label_among names (index + 1) j i nodes d (omega (arith, within)) some in
+    omega (arith, size, later)
+
+pub one_label : (names : Names) (index : ℕ) (ix : CowIndex) (body : ItemBody) → body ≡ FootnoteDefinition ix → 0 < length (label_in names index body)
+one_label names index ix body e = subst (λ (b : ItemBody). 0 < length (label_in names index b)) (sym e) (omega arith)

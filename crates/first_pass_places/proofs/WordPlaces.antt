@@ -1,16 +1,19 @@
 -- The ranges of words, one after the other.
 use Rattle.std.proofs.Common.{◌≡◌, ℕ, ◌+◌, ◌-◌, ◌<◌, ◌≤◌, not, Bool, true, false, List, [], ◌∷◌, ◌++◌, length, filter, take, drop, get_or, refl, sym}
-use Rattle.std.proofs.Common.{ap, ◌∙◌, arith, inl, inr}
+use Rattle.std.proofs.Common.{map, Option, Some, ap, ◌∙◌, arith, inl, inr}
 use Rattle.std.specs.List.{All, slice_range, slice_split, prefix_len}
+use Rattle.std.specs.Option.{option_map_or}
 use Rattle.std.specs.declared.ops.Range.{Range}
 use Rattle.std.proofs.lemmas.Bool.{cases_lt}
 use Rattle.std.proofs.lemmas.Bool.Decides.{nat_tests}
-use Rattle.std.proofs.lemmas.List.{append-nil, get_or-take, drop-drop, drop-take, drop_more, take-append-drop, take_all, length-take, length-drop}
+use Rattle.std.proofs.lemmas.List.{append-nil, get_or-take, drop-drop, drop-take, drop_more, take-append-drop, take_all, length-take, length-drop, length-map}
 use Rattle.std.proofs.lemmas.List.Elements.{filter-append}
 use Rattle.std.proofs.lemmas.List.Splits.{slice_split_none, slice_split_at}
 use Rattle.std.proofs.lemmas.List.Sums.{prefix_len_passes, prefix_len_stops, prefix_len-le-length}
+use Rattle.first_pass_items.specs.declared.item.Item.{Item}
 use Rattle.first_pass_attributes.specs.Attributes.{is_between_words}
-use Rattle.first_pass_places.specs.AttributePlaces.{range_of, is_told, told, ranges_from, word_ranges}
+use Rattle.first_pass_places.specs.AttributeBlockPlaces.{attribute_range}
+use Rattle.first_pass_places.specs.AttributePlaces.{range_of, is_told, told, ranges_from, word_ranges, attribute_place, places_in, attribute_places}
 
 -- no words are in no bytes
 none_told : (at : ℕ) → told at (at + 0) ≡ []
@@ -75,3 +78,16 @@ next_word text from end order within =
           ∙ sym (append-nil (told from (from + n)))
           ∙ ap (λ l. told from (from + n) ++ l) (sym (no_words text (from + n + 1) end (omega (arith, whole)))))
     ]
+
+-- a word that has an attribute is among the words
+pub first_told : (from next : ℕ) → from + 1 < next → length (told from next) ≡ 1
+first_told from next h = grind (arith, nat_tests, h)
+
+-- the words of a heading's block have its attributes
+pub words_are_places : (text : List ℕ) (x : Item) (block : Range ℕ) → attribute_range text x ≡ Some block
+    → 0 < length (word_ranges text block.start block.«end») → 0 < length (attribute_places text x)
+words_are_places text x block e some =
+    let words : List (Range ℕ) = word_ranges text block.start block.«end» in
+    let same : length (attribute_places text x) ≡ length (map (attribute_place text) words) =
+    ap (λ (o : Option (Range ℕ)). length (option_map_or (places_in text) o [])) e in
+    omega (arith, same, length-map words (attribute_place text), some)

@@ -1,6 +1,6 @@
 //! Where the attributes in the attribute block of a heading are written (this project).
 
-ghost use Rattle.std.specs.Prelude.{◌≡◌, ◌<◌, ◌≤◌, ◌++◌, ◌==◌, not, length, map, IfOk, IfSome, OnOk};
+ghost use Rattle.std.specs.Prelude.{◌≡◌, ◌<◌, ◌≤◌, ◌++◌, ◌==◌, ◌+◌, not, length, map, IfOk, IfSome, OnOk, OnErr};
 ghost use Rattle.std.specs.List.{position, prefix_len};
 ghost use Rattle.first_pass_items.specs.Bytes.{equals_sign};
 ghost use Rattle.first_pass_attributes.specs.Attributes.{is_between_words};
@@ -34,7 +34,8 @@ pub struct AttributePlace {
 
 /// Returns the ranges of each attribute in the attribute block of a heading, in the order of the text. Words of one
 /// byte are left out. An id that a later one replaces is not left out. The result is empty if the node is not a
-/// heading, or has no attribute block. Fails only if an allocation fails (this project).
+/// heading, or has no attribute block. Fails only if an allocation fails. Without an attribute it doesn't fail (this
+/// project).
 pub fn attribute_ranges(
     alloc: Global,
     text: &str,
@@ -42,7 +43,8 @@ pub fn attribute_ranges(
 ) -> Result<Vec<AttributePlace>, AllocError>
     requires order { heading.now.start ≤ heading.now.«end» }
     requires within { heading.now.«end» ≤ length text.now }
-    ensures { IfOk result (λ places. places.items ≡ attribute_places text.now heading.now) }
+    ensures value { IfOk result (λ places. places.items ≡ attribute_places text.now heading.now) }
+    ensures err { OnErr result (0 < length (attribute_places text.now heading.now)) }
 {
     let mut places = Vec::new(alloc);
     if let Some(block) = attribute_block_range(text, heading) {
@@ -59,8 +61,9 @@ fn add_words(
     end: usize,
 ) -> Result<(), AllocError>
     requires { end ≤ length text.now }
-    ensures { OnOk result (places.new.items
+    ensures value { OnOk result (places.new.items
         ≡ places.old.items ++ map (attribute_place text.now) (word_ranges text.now start end)) }
+    ensures err { OnErr result (0 < length (word_ranges text.now start end)) }
 {
     let mut from = start;
     while from < end {
@@ -80,8 +83,9 @@ fn add_word(
 ) -> Result<(), AllocError>
     requires order { start ≤ end }
     requires within { end ≤ length text.now }
-    ensures { OnOk result (places.new.items
+    ensures value { OnOk result (places.new.items
         ≡ places.old.items ++ map (attribute_place text.now) (told start end)) }
+    ensures err { OnErr result (start + 1 < end) }
 {
     if 2 <= end - start {
         places.push(attribute_place(text, start, end))?;

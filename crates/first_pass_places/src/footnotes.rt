@@ -1,8 +1,8 @@
 //! The node of each footnote's first definition (this project).
 
-ghost use Rattle.std.specs.Prelude.{IfOk, OnOk};
+ghost use Rattle.std.specs.Prelude.{◌<◌, length, IfOk, OnOk, OnErr};
 ghost use Rattle.first_pass_names.specs.TableEntries.{names_of};
-ghost use Rattle.first_pass_places.specs.FootnoteNodes.{AreFirstNodes, AddsNode};
+ghost use Rattle.first_pass_places.specs.FootnoteNodes.{AreFirstNodes, AddsNode, label_in, labels_from};
 
 use first_pass_items::cow_str::CowStr;
 use first_pass_items::item::{Item, ItemBody};
@@ -12,14 +12,15 @@ use first_pass_names::items::Allocations;
 use std::alloc::{AllocError, Global};
 
 /// Returns the labels of the footnote definitions among a tree's nodes, each with the index of its first definition's
-/// node. Labels match by their foldings, as in the table of footnotes. Fails only if an allocation fails (this
-/// project).
+/// node. Labels match by their foldings, as in the table of footnotes. Fails only if an allocation fails. Without a
+/// footnote definition it doesn't fail (this project).
 pub fn footnote_nodes<'d>(
     alloc: Global,
     nodes: &[(usize, Item)],
     allocs: &'d Allocations<'_>,
 ) -> Result<LabelTable<'d, usize>, AllocError>
-    ensures { IfOk result (λ table. AreFirstNodes (names_of allocs.now) nodes.now table) }
+    ensures value { IfOk result (λ table. AreFirstNodes (names_of allocs.now) nodes.now table) }
+    ensures err { OnErr result (0 < length (labels_from (names_of allocs.now) 0 nodes.now)) }
 {
     let mut table = LabelTable::new(alloc);
     for (index, node) in nodes.iter().enumerate() {
@@ -36,7 +37,8 @@ fn add_footnote<'d>(
     item: &Item,
     allocs: &'d Allocations<'_>,
 ) -> Result<(), AllocError>
-    ensures { OnOk result (AddsNode (names_of allocs.now) index item.now table.old table.new) }
+    ensures value { OnOk result (AddsNode (names_of allocs.now) index item.now table.old table.new) }
+    ensures err { OnErr result (0 < length (label_in (names_of allocs.now) index item.now.body)) }
 {
     let ItemBody::FootnoteDefinition(label) = item.body else {
         return Ok(());

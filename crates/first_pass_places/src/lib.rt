@@ -9,3 +9,5 @@ pub mod footnotes;
 pub mod info_string;
 pub mod laws;
 pub mod name;
+#[cfg(test)]
+mod tests;

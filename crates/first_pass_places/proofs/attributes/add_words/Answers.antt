@@ -1,9 +1,10 @@
-use Rattle.std.proofs.Common.{◌≡◌, ℕ, ◌+◌, List, ◌++◌, map, sym, ap, ◌∙◌, append_assoc}
+use Rattle.std.proofs.Common.{◌≡◌, ℕ, ◌+◌, List, ◌++◌, map, length, sym, ap, ◌∙◌, append_assoc, length-append, arith}
 use Rattle.std.specs.declared.ops.Range.{Range}
 use Rattle.std.proofs.lemmas.List.{append-nil, map-append}
+use Rattle.first_pass_links.proofs.Rewritten.{on_err}
 use Rattle.first_pass_places.specs.declared.attributes.AttributePlace.{AttributePlace}
 use Rattle.first_pass_places.specs.AttributePlaces.{attribute_place, told, word_ranges}
-use Rattle.first_pass_places.proofs.WordPlaces.{next_word, no_words}
+use Rattle.first_pass_places.proofs.WordPlaces.{first_told, next_word, no_words}
 use Rattle.first_pass_places.proofs.attributes.add_words.Goals as goal
 
 pub loop-from-preserved : goal.loop-from-preserved
@@ -18,14 +19,34 @@ loop-from-preserved c =
     let words : word_ranges text from end ≡ first ++ rest =
     next_word text from end c.loop-from-test.true c.requires
     ∙ ap (λ n. told from (from + n) ++ word_ranges text (from + n + 1) end) (sym c.scan_word.ensures.value) in
-    ap (λ l. l ++ map (attribute_place text) rest) c.in_ok-add_word.ensures
-    ∙ append_assoc items (map (attribute_place text) first) (map (attribute_place text) rest)
-    ∙ ap (λ l. items ++ l) (sym (map-append (attribute_place text) first rest) ∙ ap (map (attribute_place text)) (sym words))
-    ∙ c.loop-from.invariant
+    let size = ap length words ∙ length-append first rest in
+    let fewer = c.loop-from.invariant.fewer in
+    record {
+      added = ap (λ l. l ++ map (attribute_place text) rest) c.in_ok-add_word.ensures.value
+          ∙ append_assoc items (map (attribute_place text) first) (map (attribute_place text) rest)
+          ∙ ap (λ l. items ++ l) (sym (map-append (attribute_place text) first rest) ∙ ap (map (attribute_place text)) (sym words))
+          ∙ c.loop-from.invariant.added;
+      fewer = omega (arith, size, fewer);
+    }
 
-pub returns : goal.returns
-returns c =
+pub returns-in_err-add_word-clause-err : goal.returns-in_err-add_word-clause-err
+returns-in_err-add_word-clause-err c =
+    let text : List ℕ = c.args.text.now in
+    let end : ℕ = c.args.end in
+    let from : ℕ = c.loop-from.from in
+    let next : ℕ = from + c.scan_word.result in
+    let rest : List (Range ℕ) = word_ranges text (next + 1) end in
+    let words : word_ranges text from end ≡ told from next ++ rest =
+    next_word text from end c.loop-from-test.true c.requires
+    ∙ ap (λ n. told from (from + n) ++ word_ranges text (from + n + 1) end) (sym c.scan_word.ensures.value) in
+    let size = ap length words ∙ length-append (told from next) rest in
+    let one = first_told from next c.in_err-add_word.ensures.err in
+    let fewer = c.loop-from.invariant.fewer in
+    on_err c.from_residual.result (omega (arith, size, one, fewer))
+
+pub returns-clause-value : goal.returns-clause-value
+returns-clause-value c =
     let text : List ℕ = c.args.text.now in
     let items : List AttributePlace = c.loop-from.places.items in
     let none = no_words text c.loop-from.from c.args.end c.loop-from-test.false in
-    sym (append-nil items) ∙ ap (λ l. items ++ map (attribute_place text) l) (sym none) ∙ c.loop-from.invariant
+    sym (append-nil items) ∙ ap (λ l. items ++ map (attribute_place text) l) (sym none) ∙ c.loop-from.invariant.added

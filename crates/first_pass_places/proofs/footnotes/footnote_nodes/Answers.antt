@@ -1,8 +1,9 @@
 use Rattle.std.proofs.Common.{take, sym, subst}
 use Rattle.std.proofs.lemmas.List.{take_all}
+use Rattle.first_pass_links.proofs.Rewritten.{on_err}
 use Rattle.first_pass_names.specs.TableEntries.{names_of}
 use Rattle.first_pass_places.specs.FootnoteNodes.{AreFirstNodes}
-use Rattle.first_pass_places.proofs.FootnoteEntries.{none_first, next_node}
+use Rattle.first_pass_places.proofs.FootnoteEntries.{label_among, none_first, next_node}
 use Rattle.first_pass_places.proofs.footnotes.footnote_nodes.Goals as goal
 
 pub loop-index-init : goal.loop-index-init
@@ -12,9 +13,15 @@ loop-index-init c =
 pub loop-index-preserved : goal.loop-index-preserved
 loop-index-preserved c =
     next_node (names_of c.args.allocs.now) c.args.nodes.now c.loop-index.index _ c.loop-index.table c.add_footnote.new.table c.loop-index-test.true
-    c.loop-index.invariant c.in_ok-add_footnote.ensures
+    c.loop-index.invariant c.in_ok-add_footnote.ensures.value
 
-pub returns : goal.returns
-returns c =
+pub returns-in_err-add_footnote-clause-err : goal.returns-in_err-add_footnote-clause-err
+returns-in_err-add_footnote-clause-err c =
+    on_err c.from_residual.result
+    (label_among (names_of c.args.allocs.now) 0 c.loop-index.index c.loop-index.index c.args.nodes.now _ c.loop-index-test.true
+    c.in_err-add_footnote.ensures.err)
+
+pub returns-clause-value : goal.returns-clause-value
+returns-clause-value c =
     subst (λ l. AreFirstNodes (names_of c.args.allocs.now) l c.loop-index.table) (take_all c.loop-index.index c.args.nodes.now c.loop-index-test.false)
     c.loop-index.invariant

@@ -1,0 +1,11 @@
+use Rattle.std.proofs.Common.{ℕ, ◌<◌, List, length, sym, subst, ◌∙◌}
+use Rattle.first_pass_links.proofs.Rewritten.{on_err}
+use Rattle.first_pass_places.specs.AttributePlaces.{word_ranges}
+use Rattle.first_pass_places.proofs.WordPlaces.{words_are_places}
+use Rattle.first_pass_places.proofs.attributes.attribute_ranges.Goals as goal
+
+pub returns-in_err-add_words-clause-err : goal.returns-in_err-add_words-clause-err
+returns-in_err-add_words-clause-err c =
+    on_err c.from_residual.result
+    (words_are_places c.args.text.now c.args.heading.now c.in-Some.block (sym c.attribute_block_range.ensures.value ∙ c.in-Some.is)
+    (subst (λ (bs : List ℕ). 0 < length (word_ranges bs c.in-Some.block.start c.in-Some.block.«end»)) c.as_bytes.ensures.value c.in_err-add_words.ensures.err))
