@@ -13,17 +13,17 @@ use Rattle.std.proofs.lemmas.List.Sums.{prefix_len_passes, prefix_len_stops, pre
 use Rattle.first_pass_items.specs.declared.item.Item.{Item}
 use Rattle.first_pass_attributes.specs.Attributes.{is_between_words}
 use Rattle.first_pass_places.specs.AttributeBlockPlaces.{attribute_range}
-use Rattle.first_pass_places.specs.AttributePlaces.{range_of, is_told, told, ranges_from, word_ranges, attribute_place, places_in, attribute_places}
+use Rattle.first_pass_places.specs.AttributePlaces.{range_of, is_word_range, word_range, ranges_from, word_ranges, attribute_place, places_in, attribute_places}
 
 -- no words are in no bytes
-none_told : (at : ℕ) → told at (at + 0) ≡ []
-none_told at = grind (arith, nat_tests)
+no_word_range : (at : ℕ) → word_range at (at + 0) ≡ []
+no_word_range at = grind (arith, nat_tests)
 
 pub no_words : (text : List ℕ) (from end : ℕ) → end ≤ from → word_ranges text from end ≡ []
 unfolding word_ranges
 no_words text from end h =
     let zero_is : end - from ≡ 0 = omega arith in
-    ap (λ n. filter is_told (ranges_from from (slice_split is_between_words (take n (drop from text))))) zero_is ∙ none_told from
+    ap (λ n. filter is_word_range (ranges_from from (slice_split is_between_words (take n (drop from text))))) zero_is ∙ no_word_range from
 
 opposite : (t : Bool) → not t ≡ true → t ≡ false
 opposite true e = sym e
@@ -33,13 +33,13 @@ opposite_no : (t : Bool) → not t ≡ false → t ≡ true
 opposite_no true e = refl
 opposite_no false e = sym e
 
-filter_first : (x : Range ℕ) (xs : List (Range ℕ)) → filter is_told (x ∷ xs) ≡ filter is_told (x ∷ []) ++ filter is_told xs
-filter_first x xs = filter-append is_told (x ∷ []) xs
+filter_first : (x : Range ℕ) (xs : List (Range ℕ)) → filter is_word_range (x ∷ xs) ≡ filter is_word_range (x ∷ []) ++ filter is_word_range xs
+filter_first x xs = filter-append is_word_range (x ∷ []) xs
 
 -- the first word, and those after it
 pub next_word : (text : List ℕ) (from end : ℕ) → from < end → end ≤ length text
     → let n : ℕ = prefix_len (λ b. not (is_between_words b)) (slice_range text from end) in
-    word_ranges text from end ≡ told from (from + n) ++ word_ranges text (from + n + 1) end
+    word_ranges text from end ≡ word_range from (from + n) ++ word_ranges text (from + n + 1) end
 unfolding word_ranges
 next_word text from end order within =
     let bs : List ℕ = slice_range text from end in
@@ -66,22 +66,22 @@ next_word text from end order within =
           let following : later ≡ slice_range text (from + n + 1) end =
           ap (λ m. drop (n + 1) (take m (drop from text))) (sym ahead) ∙ drop-take (n + 1) (end - (from + n + 1)) (drop from text)
           ∙ ap (take (end - (from + n + 1))) (drop-drop (n + 1) from text ∙ ap (λ m. drop m text) on) in
-          ap (λ l. filter is_told (ranges_from from l)) split
-          ∙ ap (λ m. filter is_told (range_of from (from + m) ∷ ranges_from (from + m + 1) (slice_split is_between_words later))) size
+          ap (λ l. filter is_word_range (ranges_from from l)) split
+          ∙ ap (λ m. filter is_word_range (range_of from (from + m) ∷ ranges_from (from + m + 1) (slice_split is_between_words later))) size
           ∙ filter_first (range_of from (from + n)) (ranges_from (from + n + 1) (slice_split is_between_words later))
-          ∙ ap (λ l. told from (from + n) ++ filter is_told (ranges_from (from + n + 1) (slice_split is_between_words l))) following)
+          ∙ ap (λ l. word_range from (from + n) ++ filter is_word_range (ranges_from (from + n + 1) (slice_split is_between_words l))) following)
       | inr all ↦ (
           let same : word ≡ bs = take_all n bs all in
           let split = ap (slice_split is_between_words) (sym same) ∙ slice_split_none is_between_words word plain in
-          ap (λ l. filter is_told (ranges_from from l)) split
-          ∙ ap (λ m. filter is_told (range_of from (from + m) ∷ [])) size
-          ∙ sym (append-nil (told from (from + n)))
-          ∙ ap (λ l. told from (from + n) ++ l) (sym (no_words text (from + n + 1) end (omega (arith, whole)))))
+          ap (λ l. filter is_word_range (ranges_from from l)) split
+          ∙ ap (λ m. filter is_word_range (range_of from (from + m) ∷ [])) size
+          ∙ sym (append-nil (word_range from (from + n)))
+          ∙ ap (λ l. word_range from (from + n) ++ l) (sym (no_words text (from + n + 1) end (omega (arith, whole)))))
     ]
 
 -- a word that has an attribute is among the words
-pub first_told : (from next : ℕ) → from + 1 < next → length (told from next) ≡ 1
-first_told from next h = grind (arith, nat_tests, h)
+pub one_word_range : (from next : ℕ) → from + 1 < next → length (word_range from next) ≡ 1
+one_word_range from next h = grind (arith, nat_tests, h)
 
 -- the words of a heading's block have its attributes
 pub words_are_places : (text : List ℕ) (x : Item) (block : Range ℕ) → attribute_range text x ≡ Some block

@@ -17,12 +17,12 @@ abbrev pub range_of : ℕ → ℕ → Range ℕ
 range_of start «end» = record { start = start; «end» = «end» }
 
 -- a range has two bytes or more: a word with an attribute (this project)
-abbrev pub is_told : Range ℕ → Bool
-is_told range = nat_lt (range.start + 1) range.«end»
+abbrev pub is_word_range : Range ℕ → Bool
+is_word_range range = nat_lt (range.start + 1) range.«end»
 
 -- the range between two offsets, if it has two bytes or more (this project)
-abbrev pub told : ℕ → ℕ → List (Range ℕ)
-told start «end» = filter is_told (range_of start «end» ∷ [])
+abbrev pub word_range : ℕ → ℕ → List (Range ℕ)
+word_range start «end» = filter is_word_range (range_of start «end» ∷ [])
 
 -- the ranges of parts that follow one another from an offset on, with a byte between two parts (this project)
 abbrev pub ranges_from : ℕ → List (List ℕ) → List (Range ℕ)
@@ -31,7 +31,7 @@ ranges_from at (part ∷ parts) = range_of at (at + length part) ∷ ranges_from
 
 -- the ranges of the words of two bytes or more between two offsets (this project)
 unfoldable pub word_ranges : List ℕ → ℕ → ℕ → List (Range ℕ)
-word_ranges text start «end» = filter is_told (ranges_from start (slice_split is_between_words (slice_range text start «end»)))
+word_ranges text start «end» = filter is_word_range (ranges_from start (slice_split is_between_words (slice_range text start «end»)))
 
 -- an attribute of a kind without a value, in a range (this project)
 abbrev pub place_of : AttributeKind → Range ℕ → AttributePlace

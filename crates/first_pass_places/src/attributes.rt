@@ -4,7 +4,7 @@ ghost use Rattle.std.specs.Prelude.{◌≡◌, ◌<◌, ◌≤◌, ◌++◌, ◌
 ghost use Rattle.std.specs.List.{position, prefix_len};
 ghost use Rattle.first_pass_items.specs.Bytes.{equals_sign};
 ghost use Rattle.first_pass_attributes.specs.Attributes.{is_between_words};
-ghost use Rattle.first_pass_places.specs.AttributePlaces.{attribute_place, attribute_places, key_place, range_of, told, word_ranges};
+ghost use Rattle.first_pass_places.specs.AttributePlaces.{attribute_place, attribute_places, key_place, range_of, word_range, word_ranges};
 
 use crate::attribute_block::attribute_block_range;
 use first_pass_items::item::Item;
@@ -84,7 +84,7 @@ fn add_word(
     requires order { start ≤ end }
     requires within { end ≤ length text.now }
     ensures value { OnOk result (places.new.items
-        ≡ places.old.items ++ map (attribute_place text.now) (told start end)) }
+        ≡ places.old.items ++ map (attribute_place text.now) (word_range start end)) }
     ensures err { OnErr result (start + 1 < end) }
 {
     if 2 <= end - start {

@@ -3,8 +3,8 @@ use Rattle.std.specs.declared.ops.Range.{Range}
 use Rattle.std.proofs.lemmas.List.{append-nil, map-append}
 use Rattle.first_pass_links.proofs.Rewritten.{on_err}
 use Rattle.first_pass_places.specs.declared.attributes.AttributePlace.{AttributePlace}
-use Rattle.first_pass_places.specs.AttributePlaces.{attribute_place, told, word_ranges}
-use Rattle.first_pass_places.proofs.WordPlaces.{first_told, next_word, no_words}
+use Rattle.first_pass_places.specs.AttributePlaces.{attribute_place, word_range, word_ranges}
+use Rattle.first_pass_places.proofs.WordPlaces.{one_word_range, next_word, no_words}
 use Rattle.first_pass_places.proofs.attributes.add_words.Goals as goal
 
 pub loop-from-preserved : goal.loop-from-preserved
@@ -14,11 +14,11 @@ loop-from-preserved c =
     let from : ℕ = c.loop-from.from in
     let next : ℕ = from + c.scan_word.result in
     let items : List AttributePlace = c.loop-from.places.items in
-    let first : List (Range ℕ) = told from next in
+    let first : List (Range ℕ) = word_range from next in
     let rest : List (Range ℕ) = word_ranges text (next + 1) end in
     let words : word_ranges text from end ≡ first ++ rest =
     next_word text from end c.loop-from-test.true c.requires
-    ∙ ap (λ n. told from (from + n) ++ word_ranges text (from + n + 1) end) (sym c.scan_word.ensures.value) in
+    ∙ ap (λ n. word_range from (from + n) ++ word_ranges text (from + n + 1) end) (sym c.scan_word.ensures.value) in
     let size = ap length words ∙ length-append first rest in
     let fewer = c.loop-from.invariant.fewer in
     record {
@@ -36,11 +36,11 @@ returns-in_err-add_word-clause-err c =
     let from : ℕ = c.loop-from.from in
     let next : ℕ = from + c.scan_word.result in
     let rest : List (Range ℕ) = word_ranges text (next + 1) end in
-    let words : word_ranges text from end ≡ told from next ++ rest =
+    let words : word_ranges text from end ≡ word_range from next ++ rest =
     next_word text from end c.loop-from-test.true c.requires
-    ∙ ap (λ n. told from (from + n) ++ word_ranges text (from + n + 1) end) (sym c.scan_word.ensures.value) in
-    let size = ap length words ∙ length-append (told from next) rest in
-    let one = first_told from next c.in_err-add_word.ensures.err in
+    ∙ ap (λ n. word_range from (from + n) ++ word_ranges text (from + n + 1) end) (sym c.scan_word.ensures.value) in
+    let size = ap length words ∙ length-append (word_range from next) rest in
+    let one = one_word_range from next c.in_err-add_word.ensures.err in
     let fewer = c.loop-from.invariant.fewer in
     on_err c.from_residual.result (omega (arith, size, one, fewer))
 
