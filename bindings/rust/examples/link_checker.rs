@@ -22,7 +22,7 @@ fn main() -> ExitCode {
     }
 }
 
-/// Checks each file, and tells whether anything was reported.
+/// Checks each file, and returns whether anything was reported.
 fn run() -> Result<bool, Box<dyn Error>> {
     let mut output = io::stdout().lock();
     let mut any = false;

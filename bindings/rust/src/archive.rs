@@ -114,7 +114,7 @@ fn reserve_room<T>(items: &mut Vec<T>, room: usize) -> Result<(), Error> {
     items.try_reserve_exact(room).map_err(|_| Error::OutOfMemory)
 }
 
-/// Fills empty records, and tells whether there was room. If not, the counts say how much it takes.
+/// Fills empty records, and returns whether there was room. If not, the counts say how much it takes.
 fn try_read(
     text: &str,
     options: Options,
@@ -163,7 +163,7 @@ fn has_room(records: &Records, counts: &Counts) -> bool {
         && counts.names <= records.names.capacity()
 }
 
-/// Fills an empty key, and tells whether there was room. If not, the length says how much it takes.
+/// Fills an empty key, and returns whether there was room. If not, the length says how much it takes.
 fn try_fold(label: &str, key: &mut Vec<u8>, length: &mut usize) -> Result<bool, Error> {
     // SAFETY: as in `try_read`.
     unsafe {

@@ -3,13 +3,13 @@
 
 use first_pass_bench::bench::bench_run;
 use first_pass_host::exit::exit_code;
-use first_pass_host::fault::BlocksFault;
+use first_pass_host::fault::RunFault;
 use first_pass_host::words::words_of;
 use first_pass_timing::clock::HostClock;
 use std::alloc::Global;
 use std::process::ExitCode;
 
-fn bench(rt: &HostRuntime) -> Result<(), BlocksFault> {
+fn bench(rt: &HostRuntime) -> Result<(), RunFault> {
     let words = words_of(rt)?;
     let mut clock = HostClock(rt);
     let mut input = rt.stdin();

@@ -2,7 +2,7 @@
 
 use first_pass_cases::pictures::{append_shown, read_shown};
 use first_pass_cases::texts::read_text;
-use first_pass_host::fault::BlocksFault;
+use first_pass_host::fault::RunFault;
 use first_pass_program::run::blocks_run;
 use std::alloc::{AllocError, Global};
 
@@ -47,13 +47,13 @@ fn read_options(group: &str) -> (Option<&str>, &str) {
 }
 
 /// Returns what `blocks` prints for the case, or `None` if its word does not represent options.
-pub fn printed(alloc: Global, case: &Case<'_>) -> Result<Option<String>, BlocksFault> {
+pub fn printed(alloc: Global, case: &Case<'_>) -> Result<Option<String>, RunFault> {
     let words = words_of(alloc, case)?;
     let mut input = case.text.as_bytes();
     let mut output = Vec::new(alloc);
     match blocks_run(alloc, words.as_slice(), &mut input, &mut output) {
         Ok(()) => Ok(Some(String::from_utf8_lossy(alloc, output.as_slice())?)),
-        Err(BlocksFault::BadOptions) => Ok(None),
+        Err(RunFault::BadOptions) => Ok(None),
         Err(fault) => Err(fault),
     }
 }

@@ -5,21 +5,21 @@ use Rattle.first_pass_tree.specs.Forest.{added}
 use Rattle.first_pass_grammar.specs.Names.{AreNamed}
 use Rattle.first_pass_names.specs.TableEntries.{names_of, NamesMore}
 use Rattle.first_pass_open.specs.Between.{line_end_at, AddsBetween}
-use Rattle.first_pass_lists.specs.Closing.{reading_with}
-use Rattle.first_pass_lists.specs.declared.reading.Reading.{Reading}
+use Rattle.first_pass_lists.specs.Closing.{state_with}
+use Rattle.first_pass_lists.specs.declared.state.PassState.{PassState}
 use Rattle.first_pass_order.proofs.NamedLemmas.{block_added}
-use Rattle.first_pass_blocks.proofs.OrderSteps.{block_ordered}
+use Rattle.first_pass_blocks.proofs.Order.OrderSteps.{block_ordered}
 use Rattle.first_pass.specs.declared.state.FirstPass.{FirstPass}
 use Rattle.first_pass.specs.Calls.{AddsLeafBlock, AddsLineBlock}
 use Rattle.first_pass.specs.Kept.{StayNamed, KeepsNames}
-use Rattle.first_pass.specs.Views.{allocs_of, braces_of, reading_of, source_of, source_text, tree_of}
+use Rattle.first_pass.specs.Views.{allocs_of, braces_of, state_of, source_of, source_text, tree_of}
 
 -- these items were added; otherwise only the tables of entries, the mark of an empty item, and the mark of a counting
 -- blank line before may have changed
 pub record Adds (old new : FirstPass) (blank : Bool) (items : List (ℕ × Item)) : Type 0 where
   pub source : source_of new ≡ source_of old
   pub braces : braces_of new ≡ braces_of old
-  pub reading : reading_of new ≡ reading_with (tree_of new) None blank
+  pub state : state_of new ≡ state_with (tree_of new) None blank
   pub more : NamesMore (allocs_of old) (allocs_of new)
   pub tree_is : tree_of new ≡ added (tree_of old) items
   pub own : AreNamed (names_of (allocs_of new)) items
@@ -39,11 +39,11 @@ pub adds_leaf : (old new : FirstPass) (start next : ℕ) (blank : Bool) (items :
     → next ≤ length (source_text old) → AddsLeafBlock old new start next blank
 adds_leaf old new start next blank items a fits within = record {
   kept = adds_kept old new blank items a;
-  reading = a.reading;
+  state = a.state;
   fits = fits;
   order = λ at low begins o.
-      block_ordered (source_text old) (reading_of old) (reading_of new) at start next o low (λ from before. fits from before begins) within
-      (ap (λ (r : Reading). r.begin_list_item) a.reading);
+      block_ordered (source_text old) (state_of old) (state_of new) at start next o low (λ from before. fits from before begins) within
+      (ap (λ (r : PassState). r.begin_list_item) a.state);
 }
 
 pub adds_lines : (old new : FirstPass) (start next : ℕ) (blank : Bool) (items : List (ℕ × Item)) → Adds old new blank items

@@ -24,13 +24,13 @@ use Rattle.first_pass_grammar.specs.Leaves.{Document, heading_block, rule_block}
 use Rattle.first_pass_grammar.specs.Names.{Names, Extends, AreNamed, index_of}
 use Rattle.first_pass_grammar.specs.RawLines.{AreColumns, range_text, range_html, IsRawLine}
 use Rattle.first_pass_grammar.specs.Tables.{AreCells, row_block, table_so_far, filled, most_filled, taking}
-use Rattle.first_pass_grammar.proofs.EachToken.{AreEach, both_each, cell_each, heading_each, line_each, raw_each, range_text_each}
-use Rattle.first_pass_grammar.proofs.MoreNames.{extends_none, extends_named}
-use Rattle.first_pass_grammar.proofs.NamedItems.{HasEntry, IsNamed, block_named, each_named, html_is_free, lines_named, named_both, named_deeper}
-use Rattle.first_pass_grammar.proofs.NamedItems.{named_modified}
-use Rattle.first_pass_grammar.proofs.NamedItems.{named_more, text_is_free, tokens_entered}
-use Rattle.first_pass_grammar.proofs.TableItems.{both_nodes, cells_nodes, nodes_named, row_nodes, rows_nodes}
-use Rattle.first_pass_grammar.proofs.TextsNamed.{given_entry, text_named}
+use Rattle.first_pass_grammar.proofs.Each.EachToken.{AreEach, both_each, cell_each, heading_each, line_each, raw_each, range_text_each}
+use Rattle.first_pass_grammar.proofs.Names.MoreNames.{extends_none, extends_named}
+use Rattle.first_pass_grammar.proofs.Names.NamedItems.{HasEntry, IsNamed, block_named, each_named, html_is_free, lines_named, named_both, named_deeper}
+use Rattle.first_pass_grammar.proofs.Names.NamedItems.{named_modified}
+use Rattle.first_pass_grammar.proofs.Names.NamedItems.{named_more, text_is_free, tokens_entered}
+use Rattle.first_pass_grammar.proofs.Each.EachCell.{both_nodes, cells_nodes, nodes_named, row_nodes, rows_nodes}
+use Rattle.first_pass_grammar.proofs.Names.TextsNamed.{given_entry, text_named}
 use Rattle.first_pass_names.specs.TableEntries.{names_of}
 use Rattle.first_pass_open.specs.OpenBlock.{closed_by}
 use Rattle.first_pass_open.specs.Path.{path_of}
@@ -241,14 +241,14 @@ heading_named d level broken block old new before more heads h =
 
 -- a footnote definition is opened, or none begins
 module _ (old new : BlockPass) (start : ℕ) (h : AreNamed (names_of (Block.allocs_of old)) (Block.tree_of old).nodes) where
-  note_opened : (head : ℕ × List ℕ) → OpenedFootnote start head old new → AreNamed (names_of (Block.allocs_of new)) (Block.tree_of new).nodes
-  note_opened head opened =
+  footnote_opened : (head : ℕ × List ℕ) → OpenedFootnote start head old new → AreNamed (names_of (Block.allocs_of new)) (Block.tree_of new).nodes
+  footnote_opened head opened =
       let names : Names = names_of (Block.allocs_of new) in
       let before : Names = names_of (Block.allocs_of old) in
       let size = ap (λ (n : Names). length n.texts) opened.names ∙ length-append before.texts (opened.text ∷ []) in
       let last = opened.last in
       subst (λ r. AreNamed names r.tree.nodes) (sym opened.opened)
-      (note_named names start opened.index (Block.reading_of old) (omega arith)
+      (note_named names start opened.index (Block.state_of old) (omega arith)
       (named_more names before (Block.tree_of old).nodes (extends_named before names opened.text opened.names) h))
 
   note_by : (o : Option (ℕ × List ℕ)) (size : Option ℕ) (Len : ℕ → ℕ × List ℕ → Type 0)
@@ -258,7 +258,7 @@ module _ (old new : BlockPass) (start : ℕ) (h : AreNamed (names_of (Block.allo
       subst (λ z. AreNamed (names_of z) (Block.tree_of new).nodes) (sym same.2)
       (subst (λ r. AreNamed (names_of (Block.allocs_of old)) r.tree.nodes) (sym same.1) h)
   note_by (Some head) None Len opened = absurd opened
-  note_by (Some head) (Some size) Len opened = note_opened head opened.1
+  note_by (Some head) (Some size) Len opened = footnote_opened head opened.1
 
   pub footnote_named : (size : Option ℕ) → ReadsFootnote old new start size → AreNamed (names_of (Block.allocs_of new)) (Block.tree_of new).nodes
   footnote_named size reads = note_by _ size _ reads

@@ -18,9 +18,9 @@ use Rattle.first_pass_tokens.specs.Pieces.{text_upto}
 use Rattle.first_pass_text.proofs.TextFronts.{front_utf8, place_in_front, place_in_text, order_in_text}
 use Rattle.first_pass_grammar.specs.Order.{Ranged, extent_of, is_task_marker, Empty, Node, laid, IsBetween}
 use Rattle.first_pass_grammar.specs.OpenOrder.{laid_open, FitsOpen, IsOrderedTo}
-use Rattle.first_pass_grammar.proofs.Orders.{beside, ended_at, laid_open-beside, length-places, extents-ended}
+use Rattle.first_pass_grammar.proofs.Order.Orders.{beside, ended_at, laid_open-beside, length-places, extents-ended}
 use Rattle.first_pass_order.proofs.RowSplits.{last_child, fits_open_last}
-use Rattle.first_pass_lists.specs.declared.reading.Reading.{Reading}
+use Rattle.first_pass_lists.specs.declared.state.PassState.{PassState}
 use Rattle.first_pass_order.specs.Ordered.{reached, IsOrderedAt}
 use Rattle.first_pass_order.proofs.OrderLemmas.{ordered_later, ordered_appended, ordered_none}
 use Rattle.first_pass_items.specs.declared.option_set.Options.{Options}
@@ -113,7 +113,7 @@ ordered_line d braces start (Some e) old new next line_break from u ends boundar
     (order_from d.text from start next h.tokens tokens low) (place_in_text d.text e u ends.1 next l.ends).0 o)
 
 -- tokens are added to a state in order: the item to which they are added is no longer empty
-pub tokens_ordered : (text : List ℕ) (old new : Reading) (at start to : ℕ) (tokens : List Item)
+pub tokens_ordered : (text : List ℕ) (old new : PassState) (at start to : ℕ) (tokens : List Item)
     → IsForest old.tree → IsOrderedAt text old at → at ≤ start → AreInOrder text start to tokens → to ≤ length text → new.tree ≡ with_tokens old.tree tokens
     → new.begin_list_item ≡ None → IsOrderedAt text new to
 tokens_ordered text old new at start to tokens forest o low order within is none =

@@ -3,10 +3,10 @@ use Rattle.std.proofs.Common.{◌≡◌, ℕ, ◌+◌, ◌<◌, ◌≤◌, List,
 use Rattle.first_pass_items.specs.declared.item.Item.{Item}
 use Rattle.first_pass_tree.specs.declared.tree_index.TreeIndex.{TreeIndex}
 use Rattle.first_pass_tree.specs.Forest.{Forest, added, at_depth}
-use Rattle.first_pass_grammar.specs.Counting.{own_nodes}
+use Rattle.first_pass_grammar.specs.Counting.{counted_nodes}
 use Rattle.first_pass_grammar.specs.OpenOrder.{IsOrderedTo}
 use Rattle.first_pass_grammar.specs.Order.{GrowsBy}
-use Rattle.first_pass_grammar.proofs.OwnNodes.{own_ended, own_added}
+use Rattle.first_pass_grammar.proofs.Count.CountedNodes.{own_ended, own_added}
 use Rattle.first_pass_open.specs.OpenBlock.{IsJustPushed, closed_by}
 use Rattle.first_pass_open.specs.Between.{AddsBetween}
 use Rattle.first_pass_tables.specs.Appends.{with_below, ClosesBetween}
@@ -26,7 +26,7 @@ row_ordered text old new at ix (Some (stop, place)) low within same ends adds o 
 pub row_count : (text : List ℕ) (old new : Forest Item) (from ix : ℕ) (row : Option (ℕ × TreeIndex)) → (row ≡ None → new ≡ old)
     → IfSome row (λ r. AddsBetween text from r.0 old new) → from < after_row row ix → GrowsBy from (after_row row ix) old.nodes new.nodes
 row_count text old new from ix None same adds apart =
-    let is = ap (λ (f : Forest Item). own_nodes f.nodes) (same refl) in
+    let is = ap (λ (f : Forest Item). counted_nodes f.nodes) (same refl) in
     omega arith
 row_count text old new from ix (Some (stop, place)) same adds apart = block_count text from stop old new adds apart
 
@@ -50,7 +50,7 @@ pub rows_count : (text : List ℕ) (old new : Forest Item) (from next : ℕ) (ix
     → GrowsBy from next old.nodes new.nodes
 rows_count text old new from next ix pushed c apart =
     let node_bound = c.fits.3 apart in
-    let tree = ap (λ (f : Forest Item). own_nodes f.nodes) (closed_is text old new from next ix pushed c) in
+    let tree = ap (λ (f : Forest Item). counted_nodes f.nodes) (closed_is text old new from next ix pushed c) in
     let same = own_ended (old.nodes ++ at_depth (length old.spine + 1) c.items) ix.0 next in
     let more = own_added old.nodes c.items (length old.spine + 1) in
     omega arith

@@ -21,8 +21,8 @@ use Rattle.first_pass_grammar.specs.WholeTables.{HasWholeTables}
 use Rattle.first_pass_names.specs.TableEntries.{names_of, tables_of, NamesMore, AddsTexts}
 use Rattle.first_pass_tokens.specs.Braces.{no_braces}
 use Rattle.first_pass_open.specs.Between.{line_end_at, AddsBetween, IsInItem, StandsBefore}
-use Rattle.first_pass_lists.specs.Closing.{reading_with, with_block, item_finished}
-use Rattle.first_pass_lists.specs.declared.reading.Reading.{Reading}
+use Rattle.first_pass_lists.specs.Closing.{state_with, with_block, item_finished}
+use Rattle.first_pass_lists.specs.declared.state.PassState.{PassState}
 use Rattle.first_pass_raw.specs.RawBlocks.{IsPlaceAt, range_of, AppendsRaw, AddsIndented, AddsRaw, fenced_after, metadata_after, html_to_end, html_to_blank}
 use Rattle.first_pass_raw.specs.declared.fenced_code.Fence.{Fence}
 use Rattle.first_pass_raw.specs.declared.raw_line.RawKind.{RawKind}
@@ -39,19 +39,19 @@ use Rattle.first_pass.specs.declared.state.FirstPass.{FirstPass}
 use Rattle.first_pass.specs.Holds.{after_row}
 use Rattle.first_pass.specs.Lines.{ReadsInMode}
 use Rattle.first_pass.specs.Kept.{StayNamed, KeepsEntries, KeepsNames, KeepsTables}
-use Rattle.first_pass.specs.Views.{allocs_of, braces_of, context_in, document_named, pass_of, reading_of, source_of, source_options, source_text, tree_of, with_tree}
+use Rattle.first_pass.specs.Views.{allocs_of, braces_of, context_in, document_named, pass_of, state_of, source_of, source_options, source_text, tree_of, with_tree}
 
 -- The state of a pass over this text under these options before it reads anything: the root is its only node, nothing
 -- is defined, no brace context is open, and the derivation of the text begins here (this project).
 pub record StartsPass (text : List ℕ) (options : Options) (pass : FirstPass) : Type 0 where
   pub text_is : source_text pass ≡ text
   pub options_are : source_options pass ≡ options
-  pub tables : tables_of (allocs_of pass) ≡ no_tables
-  pub ready : (names : Names) → Ready (document text options names) no_tables (reading_of pass) (lines_from text 0)
-  pub order : IsReadTo text (reading_of pass) 0
+  pub empty : tables_of (allocs_of pass) ≡ no_tables
+  pub ready : (names : Names) → Ready (document text options names) no_tables (state_of pass) (lines_from text 0)
+  pub order : IsReadTo text (state_of pass) 0
   pub root : length (tree_of pass).nodes ≡ 1
   pub named : AreNamed (names_of (allocs_of pass)) (tree_of pass).nodes
-  pub whole : HasWholeTables (names_of (allocs_of pass)) (tree_of pass)
+  pub tables : HasWholeTables (names_of (allocs_of pass)) (tree_of pass)
   pub braces : braces_of pass ≡ no_braces
 
 -- the block that begins in the line at the first offset is read; reading continues at the second; the brace contexts
@@ -62,28 +62,28 @@ pub record ReadsBlockAt (old new : FirstPass) (start next : ℕ) : Type 0 where
 
 -- Open nodes are closed or opened at an offset, which gives this state. If the old state was in order and its nodes
 -- could be closed, the same holds for the new one up to the offset (CommonMark 5.2, 5.3, and this project).
-pub record RemembersAt (old new : FirstPass) (ix : ℕ) (r : Reading) : Type 0 where
+pub record RemembersAt (old new : FirstPass) (ix : ℕ) (r : PassState) : Type 0 where
   pub kept : KeepsTables old new
-  pub reading : reading_of new ≡ r
-  pub order : (at : ℕ) → at ≤ ix → ix ≤ length (source_text old) → IsCharBoundary (source_text old) ix → IsReadTo (source_text old) (reading_of old) at
-      → IsReadTo (source_text old) (reading_of new) ix
+  pub state : state_of new ≡ r
+  pub order : (at : ℕ) → at ≤ ix → ix ≤ length (source_text old) → IsCharBoundary (source_text old) ix → IsReadTo (source_text old) (state_of old) at
+      → IsReadTo (source_text old) (state_of new) ix
 
 -- an empty item, if there is one, is finished; what was in order and could be closed remains so (CommonMark 5.2,
 -- and this project)
 pub record FinishesItem (old new : FirstPass) : Type 0 where
   pub kept : KeepsTables old new
-  pub reading : reading_of new ≡ item_finished (reading_of old)
-  pub order : (at : ℕ) → IsReadTo (source_text old) (reading_of old) at → IsReadTo (source_text old) (reading_of new) at
+  pub state : state_of new ≡ item_finished (state_of old)
+  pub order : (at : ℕ) → IsReadTo (source_text old) (state_of old) at → IsReadTo (source_text old) (state_of new) at
 
 -- A leaf block that begins at an offset is added, and reading continues at another. No item is empty after it, and
 -- `blank` is true if a counting blank line is directly before the next line. The new nodes lie between the two
 -- offsets. The state is in order up to the second offset if the first is a character boundary (this project).
 pub record AddsLeafBlock (old new : FirstPass) (start next : ℕ) (blank : Bool) : Type 0 where
   pub kept : KeepsNames old new
-  pub reading : reading_of new ≡ reading_with (tree_of new) None blank
+  pub state : state_of new ≡ state_with (tree_of new) None blank
   pub fits : (from : ℕ) → from ≤ start → IsCharBoundary (source_text old) start → AddsBetween (source_text old) from next (tree_of old) (tree_of new)
-  pub order : (at : ℕ) → at ≤ start → IsCharBoundary (source_text old) start → IsOrderedAt (source_text old) (reading_of old) at
-      → IsOrderedAt (source_text old) (reading_of new) next
+  pub order : (at : ℕ) → at ≤ start → IsCharBoundary (source_text old) start → IsOrderedAt (source_text old) (state_of old) at
+      → IsOrderedAt (source_text old) (state_of new) next
 
 -- the same for a block of whole lines, counted from its first character: reading continues at a character boundary,
 -- after the block's first line or later (CommonMark 4.4 to 4.6, and this project)
@@ -95,31 +95,31 @@ pub record AddsLineBlock (old new : FirstPass) (start next : ℕ) (blank : Bool)
 -- the ATX heading of a level that begins at an offset is added, and reading continues at another (CommonMark 4.2)
 pub record AddsAtxHeading (old new : FirstPass) (start : ℕ) (level : HeadingLevel) (next : ℕ) : Type 0 where
   pub block : AddsHeading (document_named old new) start level (tree_of old) (tree_of new) next
-  pub leaf : AddsLeafBlock old new start next (reading_of old).blank
+  pub leaf : AddsLeafBlock old new start next (state_of old).blank
 
 -- Indented code is added. The content of its first line begins at an offset, with columns owed there (CommonMark 4.4).
 pub record AddsIndentedCode (old new : FirstPass) (start owed next : ℕ) : Type 0 where
   pub block : (p : Place) → IsPlaceAt (source_text old) start p → p.rest.owed ≡ owed
-      → AddsIndented (document_named old new) p (tree_of old) (tree_of new) next (reading_of new).blank
-  pub leaf : AddsLineBlock old new start next (reading_of new).blank
+      → AddsIndented (document_named old new) p (tree_of old) (tree_of new) next (state_of new).blank
+  pub leaf : AddsLineBlock old new start next (state_of new).blank
 
 -- the fenced code block is added whose opening fence begins at an offset (CommonMark 4.5)
 pub record AddsFencedCode (old new : FirstPass) (start : ℕ) (fence : Fence) (next : ℕ) : Type 0 where
   pub block : let e = fenced_after (source_text old) (context_in old).path fence.indent fence.byte fence.count start in
       AddsRaw (document_named old new) (λ d. IsFencedCode d start fence.count e.places e.«end») e.left (tree_of old) (tree_of new) next
-  pub leaf : AddsLineBlock old new start next (reading_of old).blank
+  pub leaf : AddsLineBlock old new start next (state_of old).blank
 
 -- the metadata block is added that begins at an offset with three of a byte (this project)
 pub record AddsMetadata (old new : FirstPass) (start byte next : ℕ) : Type 0 where
   pub block : let e = metadata_after (source_text old) (context_in old).path byte start in
       AddsRaw (document_named old new) (λ d. IsMetadata d start byte e.places e.«end») e.left (tree_of old) (tree_of new) next
-  pub leaf : AddsLineBlock old new start next (reading_of old).blank
+  pub leaf : AddsLineBlock old new start next (state_of old).blank
 
 -- An HTML block after these columns is added that ends with the first line that has its end condition (CommonMark 4.6).
 pub record AddsHtmlToEnd (old new : FirstPass) (start : ℕ) (until : BlockEnd) (columns next : ℕ) : Type 0 where
   pub block : (p : Place) → IsPlaceAt (source_text old) start p → let e = html_to_end (source_text old) (context_in old).path until p in
       AddsRaw (document_named old new) (λ d. IsHtml d start columns e.places e.«end») e.left (tree_of old) (tree_of new) next
-  pub leaf : AddsLineBlock old new start next (reading_of old).blank
+  pub leaf : AddsLineBlock old new start next (state_of old).blank
 
 -- An HTML block after these columns is added that ends before a blank line. Its nodes lie between an offset and the
 -- block's end, which may be after the container prefixes of the blank line. Reading continues at the start of that
@@ -129,25 +129,25 @@ pub record AddsHtmlToBlank (old new : FirstPass) (start columns next : ℕ) : Ty
   pub block : (p : Place) → IsPlaceAt (source_text old) start p → let e = html_to_blank (source_text old) (context_in old).path p in
       AddsRaw (document_named old new) (λ d. IsHtml d start columns e.places e.«end») e.left (tree_of old) (tree_of new) next
   pub kept : KeepsNames old new
-  pub reading : reading_of new ≡ with_block (reading_of old) (tree_of new)
+  pub state : state_of new ≡ with_block (state_of old) (tree_of new)
   pub later : line_end_at (source_text old) start ≤ next
   pub boundary : IsCharBoundary (source_text old) next
   pub fits : (p : Place) → IsPlaceAt (source_text old) start p → (from : ℕ) → from ≤ start
       → AddsBetween (source_text old) from (html_to_blank (source_text old) (context_in old).path p).«end» (tree_of old) (tree_of new)
-  pub order : (at : ℕ) → at ≤ start → IsOrderedAt (source_text old) (reading_of old) at
-      → IsOrderedFrom (source_options old) (source_text old) (reading_of new) next
+  pub order : (at : ℕ) → at ≤ start → IsOrderedAt (source_text old) (state_of old) at
+      → IsOrderedFrom (source_options old) (source_text old) (state_of new) next
   pub node_bound : (from : ℕ) → from ≤ start → from < next → GrowsBy from next (tree_of old).nodes (tree_of new).nodes
 
 -- A thematic break of `size` bytes that begins at an offset is added, and reading continues after it. It is in order
 -- if both of its ends are character boundaries (CommonMark 4.1, and this project).
 pub record AddsRule (old new : FirstPass) (ix size next : ℕ) : Type 0 where
   pub kept : KeepsTables old new
-  pub reading : reading_of new ≡ with_block (reading_of old) (tree_of new)
+  pub state : state_of new ≡ with_block (state_of old) (tree_of new)
   pub block : tree_of new ≡ added (tree_of old) (rule_block ix size)
   pub fits : (from : ℕ) → from ≤ ix → IsCharBoundary (source_text old) ix → IsCharBoundary (source_text old) (ix + size)
       → AddsBetween (source_text old) from (ix + size) (tree_of old) (tree_of new)
   pub order : (at : ℕ) → at ≤ ix → IsCharBoundary (source_text old) ix → IsCharBoundary (source_text old) (ix + size)
-      → IsOrderedAt (source_text old) (reading_of old) at → IsOrderedAt (source_text old) (reading_of new) next
+      → IsOrderedAt (source_text old) (state_of old) at → IsOrderedAt (source_text old) (state_of new) next
   pub following : next ≡ ix + size
 
 -- The paragraph, setext heading or table at an offset is added, after the marker of its task list item if it has one.
@@ -159,29 +159,29 @@ pub record AddsParagraph (old new : FirstPass) (start : ℕ) (marker : Option It
   pub more : NamesMore (allocs_of old) (allocs_of new)
   pub braces : braces_of new ≡ braces_of old
   pub named : IfSome marker (λ x. index_of x.body ≡ None) → StayNamed old new
-  pub reading : reading_of new ≡ with_block (reading_of old) (tree_of new)
+  pub state : state_of new ≡ with_block (state_of old) (tree_of new)
   pub fits : IsInItem (tree_of old) marker → (from : ℕ) → StandsBefore (source_text old) from start marker
       → AddsBetween (source_text old) from next (tree_of old) (tree_of new)
   pub order : IsInItem (tree_of old) marker → (at : ℕ) → StandsBefore (source_text old) at start marker
-      → IsOrderedAt (source_text old) (reading_of old) at → IsOrderedAt (source_text old) (reading_of new) next
+      → IsOrderedAt (source_text old) (state_of old) at → IsOrderedAt (source_text old) (state_of new) next
 
 -- A raw line between two offsets is appended, after the columns owed before it. The state is in order up to the line's
 -- end if both offsets are character boundaries (this project).
 pub record AppendsRawLine (kind : RawKind) (old new : FirstPass) (owed start «end» : ℕ) : Type 0 where
   pub line : AppendsRaw (range_of kind) (source_text old) (names_of (allocs_of new)) owed start «end» (tree_of old) (tree_of new)
   pub kept : KeepsNames old new
-  pub reading : reading_of new ≡ with_block (reading_of old) (tree_of new)
+  pub state : state_of new ≡ with_block (state_of old) (tree_of new)
   pub order : (at : ℕ) → at ≤ start → IsCharBoundary (source_text old) start → IsCharBoundary (source_text old) «end»
-      → IsOrderedAt (source_text old) (reading_of old) at → IsOrderedAt (source_text old) (reading_of new) «end»
+      → IsOrderedAt (source_text old) (state_of old) at → IsOrderedAt (source_text old) (state_of new) «end»
 
 -- The tokens between two offsets of a text, which may be cut at `end`, are appended: at most one for each byte, and in
 -- order. The item to which they are added is no longer empty (CommonMark 2.4, GFM 4.10, and this project).
 pub record AppendsTokens (old new : FirstPass) (start : ℕ) (end : Option ℕ) (stop : ℕ) : Type 0 where
   pub kept : KeepsEntries old new
-  pub reading : reading_of new ≡ with_block (reading_of old) (tree_of new)
+  pub state : state_of new ≡ with_block (state_of old) (tree_of new)
   pub boundary : end ≡ None → IsCharBoundary (source_text old) start → IsCharBoundary (source_text old) stop
   pub order : IfSome end (λ e. IsCharBoundary (source_text old) e) → IsCharBoundary (source_text old) start → (at : ℕ) → at ≤ start
-      → IsOrderedAt (source_text old) (reading_of old) at → IsOrderedAt (source_text old) (reading_of new) stop
+      → IsOrderedAt (source_text old) (state_of old) at → IsOrderedAt (source_text old) (state_of new) stop
   pub node_bound : length (tree_of new).nodes ≤ length (tree_of old).nodes + (stop - start)
 
 -- A line, a cell of a row, or a possible header row is read, depending on the mode. Reading continues at the returned
@@ -196,14 +196,14 @@ pub record ReadsContent (mode : TableParseMode) (old new : FirstPass) (start : �
 pub record ClosesTable (old new : FirstPass) (columns head_start body_start next : ℕ) : Type 0 where
   pub kept : KeepsNames old new
   pub texts : AddsTexts (names_of (allocs_of new)) (names_of (allocs_of old))
-  pub reading : reading_of new ≡ with_tree (reading_of old) (tree_of new)
+  pub state : state_of new ≡ with_tree (state_of old) (tree_of new)
   pub rows : AppendsRows (document (source_text old) (source_options old) (names_of (allocs_of new))) columns head_start body_start (tree_of old) (tree_of new)
       next
   pub order : (at : ℕ) → at ≤ head_start → line_end_at (source_text old) head_start ≤ body_start → IsOrderedTo (source_text old) (tree_of old) at
       → IsOrderedTo (source_text old) (tree_of new) next
   pub node_bound : (from : ℕ) → from ≤ head_start → line_end_at (source_text old) head_start ≤ body_start → from < next
       → GrowsBy from next (tree_of old).nodes (tree_of new).nodes
-  pub whole : AddsWholeRows (document (source_text old) (source_options old) (names_of (allocs_of new))) columns head_start (tree_of old) (tree_of new) next
+  pub tables : AddsWholeRows (document (source_text old) (source_options old) (names_of (allocs_of new))) columns head_start (tree_of old) (tree_of new) next
 
 -- A row of a table that begins at an offset is read, or there is none. It is in order and has at most four nodes for
 -- each byte, if the offset is a character boundary. Its texts are appended to the named texts (GFM 4.10,
@@ -211,7 +211,7 @@ pub record ClosesTable (old new : FirstPass) (columns head_start body_start next
 pub record ReadsRowFrom (old new : FirstPass) (ix next : ℕ) : Type 0 where
   pub kept : KeepsEntries old new
   pub texts : AddsTexts (names_of (allocs_of new)) (names_of (allocs_of old))
-  pub reading : reading_of new ≡ with_tree (reading_of old) (tree_of new)
+  pub state : state_of new ≡ with_tree (state_of old) (tree_of new)
   pub order : IsCharBoundary (source_text old) ix → (at : ℕ) → at ≤ ix → IsOrderedTo (source_text old) (tree_of old) at
       → IsOrderedTo (source_text old) (tree_of new) next
   pub node_bound : IsCharBoundary (source_text old) ix → (from : ℕ) → from ≤ ix → from < next → GrowsBy from next (tree_of old).nodes (tree_of new).nodes
@@ -238,7 +238,7 @@ pub record OpensFootnote (old new : FirstPass) (start : ℕ) (size : Option ℕ)
   pub named : StayNamed old new
   pub head : ReadsFootnote (pass_of old) (pass_of new) start size
   pub within : IfSome size (λ n. (3 < n) × IsCharBoundary (source_text old) (start + n))
-  pub order : IfSome size (λ n. (at : ℕ) → at ≤ start → IsReadTo (source_text old) (reading_of old) at → IsReadTo (source_text old) (reading_of new) start)
+  pub order : IfSome size (λ n. (at : ℕ) → at ≤ start → IsReadTo (source_text old) (state_of old) at → IsReadTo (source_text old) (state_of new) start)
 
 -- The head of a footnote definition is sought at an offset, and opened if one begins there. The text and the options
 -- are the same, also after an error (this project).

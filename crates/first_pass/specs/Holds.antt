@@ -23,7 +23,7 @@ use Rattle.first_pass_open.specs.Path.{path_of}
 use Rattle.first_pass_text.specs.CutTexts.{BecomesHeading}
 use Rattle.first_pass.specs.declared.state.FirstPass.{FirstPass}
 use Rattle.first_pass.specs.Kept.{KeepsNames}
-use Rattle.first_pass.specs.Views.{allocs_of, reading_of, source_options, source_text, tree_of, with_tree}
+use Rattle.first_pass.specs.Views.{allocs_of, state_of, source_options, source_text, tree_of, with_tree}
 
 -- where reading continues after a row of a table: at its end, or at the given offset if there is no row (this project)
 abbrev pub after_row : Option (ℕ × TreeIndex) → ℕ → ℕ
@@ -68,7 +68,7 @@ pub record HoldsText (d : Document) (f : Forest Item) (block : TreeIndex) (l : T
 -- No node is added. If the block contains tokens, a tree in order stays in order (CommonMark 4.3, and this project).
 pub record MakesHeading (old new : FirstPass) (ix : ℕ) (block : TreeIndex) (broken : Bool) (next : Option ℕ) : Type 0 where
   pub kept : KeepsNames old new
-  pub reading : reading_of new ≡ with_tree (reading_of old) (tree_of new)
+  pub state : state_of new ≡ with_tree (state_of old) (tree_of new)
   pub value : next ≡ option_map (λ underline. ix + underline.0) (setext_underline (drop ix (source_text old)))
   pub heading : MatchOption (setext_underline (drop ix (source_text old))) (tree_of new ≡ tree_of old)
       (λ underline. BecomesHeading (document (source_text old) (source_options old) (names_of (allocs_of new))) underline.1 broken block (tree_of old)

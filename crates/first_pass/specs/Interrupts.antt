@@ -8,7 +8,7 @@ use Rattle.first_pass_items.specs.declared.option_set.Options.{Options}
 use Rattle.first_pass_tree.specs.Forest.{Forest}
 use Rattle.first_pass_lines.specs.Lines.{begins}
 use Rattle.first_pass_lists.specs.Closing.{top_body}
-use Rattle.first_pass_open.specs.Path.{definition_after}
+use Rattle.first_pass_open.specs.Path.{definition_at_depth}
 
 -- the innermost open node holds text: it is a paragraph, tight or not, or a possible title (this project)
 abbrev pub is_open_text : Option ItemBody → Bool
@@ -20,4 +20,4 @@ is_open_text _ = false
 -- A `:` interrupts in two cases: the line continues all open nodes and the innermost holds text; or the first open
 -- node that the line doesn't continue, the one after the outermost `kept`, is a definition (this project).
 abbrev pub colon_interrupts : Options → Bool → Forest Item → ℕ → List ℕ → Bool
-colon_interrupts options whole f kept bs = begins colon bs && ((whole && is_open_text (top_body f)) || definition_after options f kept)
+colon_interrupts options whole f kept bs = begins colon bs && ((whole && is_open_text (top_body f)) || definition_at_depth options f kept)

@@ -40,7 +40,7 @@ pub record ReadsLine (old new : FirstPass) (start : ℕ) (end : Option ℕ) (ans
   pub names : AddsTexts (names_of (allocs_of new)) (names_of (allocs_of old))
 
 -- the text is UTF-8, and content from `start` to `stop` is within it, also if it is cut at `end` (this project)
-pub record IsReadTo (text : List ℕ) (start : ℕ) (end : Option ℕ) (stop : ℕ) : Type 0 where
+pub record ContentReachesTo (text : List ℕ) (start : ℕ) (end : Option ℕ) (stop : ℕ) : Type 0 where
   pub utf8 : IsUtf8 text
   pub later : start ≤ stop
   pub within : stop ≤ length (text_upto text end)

@@ -16,9 +16,9 @@ use Rattle.first_pass_entities.specs.Texts.{Borrows}
 use Rattle.first_pass_labels.specs.declared.label_table.LinkDef.{LinkDef}
 use Rattle.first_pass_links.specs.Labels.{label_at}
 use Rattle.first_pass_grammar.specs.Containers.{front}
-use Rattle.first_pass_grammar.specs.Definitions.{prefix_crossed, space_at, title_at, target_at, reference_at}
+use Rattle.first_pass_grammar.specs.Definitions.{prefix_crossed, space_at, title_at, target_at, reference_definition_at}
 use Rattle.first_pass_grammar.specs.Headings.{before_attributes, heading_attributes_of}
-use Rattle.first_pass_grammar.specs.Kinds.{all_taken, ends_tag, footnote_interrupts, interrupts_with, is_blank_rest}
+use Rattle.first_pass_grammar.specs.Kinds.{all_taken, is_ordinary_after_tag, footnote_interrupts, interrupts_with, is_blank_rest}
 use Rattle.first_pass_grammar.specs.TableHeads.{table_interrupts}
 use Rattle.first_pass_kinds.specs.Memory.{may_head, line_may_head}
 use Rattle.first_pass_definitions.specs.Found.{AreInOrder, HasParts, IsTarget, IsReference, BorrowsLabel}
@@ -37,7 +37,7 @@ pub record FindsAttributes (pass : FirstPass) (start «end» : ℕ) (answer : �
 -- and this project).
 pub record FindsDefinition (old new : FirstPass) (start : ℕ) (result : Result (Option (ℕ × CowStr × LinkDef)) AllocError) : Type 0 where
   pub unchanged : new ≡ old
-  pub value : IfOk result (λ answer. MatchOption (reference_at (is_nested old) (context_in old) (drop start (source_text old)))
+  pub value : IfOk result (λ answer. MatchOption (reference_definition_at (is_nested old) (context_in old) (drop start (source_text old)))
       (answer ≡ None) (λ reference. IsSomeAnd answer (IsReference (is_nested old) start reference)))
   pub fits : IfOk result (λ answer. IfSome answer (λ found. (0 < found.0) × IsCharBoundary (source_text old) (start + found.0)))
   pub borrowed : IfOk result (λ answer. IfSome answer (λ found.
@@ -95,5 +95,5 @@ pub record FindsInterrupt (pass : FirstPass) (bs : List ℕ) (whole : Bool) (kep
 pub record FindsNextLine (old new : FirstPass) (bs : List ℕ) (result : Result (Option Rest) AllocError) : Type 0 where
   pub unchanged : new ≡ old
   pub value : IfOk result (λ rest. let line = front (context_in old).path (line_rest bs) in
-      rest ≡ (if ends_tag (context_in old) (line_rest bs) || is_blank_rest (all_taken line) then None else Some (all_taken line)))
+      rest ≡ (if is_ordinary_after_tag (context_in old) (line_rest bs) || is_blank_rest (all_taken line) then None else Some (all_taken line)))
   pub err : OnErr result (line_may_head (context_in old) (line_rest bs) ≡ true)

@@ -7,7 +7,7 @@ use Rattle.first_pass_names.specs.declared.items.Allocations.{Allocations}
 use Rattle.first_pass_names.specs.TableEntries.{names_of}
 use Rattle.first_pass_tokens.specs.Braces.{MathBraces}
 use Rattle.first_pass_open.specs.declared.source.Source.{Source}
-use Rattle.first_pass_lists.specs.declared.reading.Reading.{Reading}
+use Rattle.first_pass_lists.specs.declared.state.PassState.{PassState}
 use Rattle.first_pass_grammar.specs.Containers.{Context}
 use Rattle.first_pass_grammar.specs.Leaves.{Document, document}
 use Rattle.first_pass_open.specs.Path.{context_of}
@@ -27,11 +27,11 @@ source_text pass = pass.pass.source.text.now
 abbrev pub source_options : FirstPass → Options
 source_options pass = pass.pass.source.options
 
-abbrev pub reading_of : FirstPass → Reading
-reading_of pass = pass.pass.reading
+abbrev pub state_of : FirstPass → PassState
+state_of pass = pass.pass.state
 
 abbrev pub tree_of : FirstPass → Forest Item
-tree_of pass = pass.pass.reading.tree
+tree_of pass = pass.pass.state.tree
 
 abbrev pub allocs_of : FirstPass → Allocations
 allocs_of pass = pass.pass.allocs
@@ -42,16 +42,16 @@ braces_of pass = pass.braces
 
 -- the context in which the pass reads a line
 abbrev pub context_in : FirstPass → Context
-context_in pass = context_of pass.pass.source.options pass.pass.reading.tree
+context_in pass = context_of pass.pass.source.options pass.pass.state.tree
 
 -- the innermost open node is in a table (this project)
 abbrev pub is_nested : FirstPass → Bool
-is_nested pass = in_table pass.pass.reading.tree.nodes pass.pass.reading.tree.spine
+is_nested pass = in_table pass.pass.state.tree.nodes pass.pass.state.tree.spine
 
 -- the text and the options of the first pass, with the names of the second
 abbrev pub document_named : FirstPass → FirstPass → Document
 document_named old new = document old.pass.source.text.now old.pass.source.options (names_of new.pass.allocs)
 
 -- the state with another tree
-abbrev pub with_tree : Reading → Forest Item → Reading
+abbrev pub with_tree : PassState → Forest Item → PassState
 with_tree r tree = record r { tree = tree }

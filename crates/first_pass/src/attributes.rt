@@ -69,7 +69,7 @@ impl<'a> FirstPass<'a> {
         };
         attributes::make_heading(
             &pass.source,
-            &mut pass.reading.tree,
+            &mut pass.state.tree,
             &mut pass.allocs,
             node_ix,
             underlined,

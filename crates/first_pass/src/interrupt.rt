@@ -17,14 +17,14 @@ use first_pass_items::option_set::Options;
 use first_pass_kinds::interrupt::{interrupts_as_footnote, interrupts_without_table};
 use first_pass_kinds::table_start::interrupts_as_table;
 use first_pass_lines::lines::begins;
-use first_pass_open::front::is_definition_after;
+use first_pass_open::front::is_definition_at_depth;
 use first_pass_scan::line_start::LineStart;
 use first_pass_tree::forest::Tree;
 use std::alloc::{AllocError, Global};
 
 /// Returns whether `text`, the rest of a line after an indentation under four columns, interrupts a paragraph. It does
 /// at the end of its line, or if one of these begins: a thematic break, an ATX heading, a code fence, a block quote, a
-/// list item, or an HTML block of the kinds 1 to 6. Any item interrupts in a table, or if the line doesn't continue
+/// list item, or an HTML block of types 1 to 6. Any item interrupts in a table, or if the line doesn't continue
 /// all containers. Otherwise only a bullet or the number 1 does, and only if the rest after it isn't blank
 /// (CommonMark 4.8, 4.1, 4.2, 4.5, 5.1, 5.2, 4.6; GFM 4.10).
 ///
@@ -63,7 +63,7 @@ pub fn scan_paragraph_interrupt_no_table(
 fn interrupts_as_colon(bytes: &[u8], whole: bool, tree: &Tree<Item>, kept: usize) -> bool
     ensures { (options : Options) → result ≡ colon_interrupts options whole tree.now kept bytes.now }
 {
-    begins(b':', bytes) && (whole && is_in_text(tree) || is_definition_after(tree, kept))
+    begins(b':', bytes) && (whole && is_in_text(tree) || is_definition_at_depth(tree, kept))
 }
 
 // Whether the innermost open node is a paragraph, tight or not, or a possible title.
@@ -103,20 +103,20 @@ impl<'a> FirstPass<'a> {
                 .source
                 .options
                 .contains(Options::ENABLE_DEFINITION_LIST),
-            &self.pass.reading.tree,
+            &self.pass.state.tree,
             tree_position,
         )? {
             return Ok(true);
         }
-        interrupts_as_table(&self.pass.source, &self.pass.reading.tree, text.as_bytes())
+        interrupts_as_table(&self.pass.source, &self.pass.state.tree, text.as_bytes())
     }
 
     /// Returns the rest of the first line of `bytes` after its container prefixes and its indentation, if that line
     /// continues a run of link reference definitions. `bytes` is the rest of the text from the start of a line, which
     /// may continue any number of open containers. Returns `None` if the line ends the run: if it would be read like
     /// any other line after the tag of a block quote, or if the rest is blank (as at the end of the text). Changes
-    /// nothing. Fails only if an allocation fails. That can happen only if the line may be the header row of a table
-    /// (CommonMark 4.7, 4.8, 5.1).
+    /// nothing. Fails only if an allocation fails. That can happen only if the line may head a table (CommonMark 4.7,
+    /// 4.8, 5.1).
     pub fn scan_next_line_or_lazy_continuation<'input>(
         &mut self,
         bytes: &'input [u8],
@@ -124,6 +124,6 @@ impl<'a> FirstPass<'a> {
         ensures { FindsNextLine self.old self.new bytes.now result }
     {
         let pass = &self.pass;
-        scan_next_line_or_lazy_continuation(&pass.source, bytes, &pass.reading.tree)
+        scan_next_line_or_lazy_continuation(&pass.source, bytes, &pass.state.tree)
     }
 }

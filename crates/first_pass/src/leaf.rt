@@ -27,14 +27,14 @@ impl<'a> FirstPass<'a> {
         ensures { IfOk result (λ next. AddsParagraph self.old self.new start_ix tasklist_marker next) }
     {
         let pass = &mut self.pass;
-        let next = text::parse_paragraph(
+        let next = text::parse_text(
             &pass.source,
-            &mut pass.reading.tree,
+            &mut pass.state.tree,
             &mut pass.allocs,
             start_ix,
             tasklist_marker,
         )?;
-        pass.reading.begin_list_item = None;
+        pass.state.begin_list_item = None;
         Ok(next)
     }
 
@@ -52,12 +52,12 @@ impl<'a> FirstPass<'a> {
         let pass = &mut self.pass;
         let next = heading::parse_atx_heading(
             &pass.source,
-            &mut pass.reading.tree,
+            &mut pass.state.tree,
             &mut pass.allocs,
             start,
             atx_level,
         )?;
-        pass.reading.begin_list_item = None;
+        pass.state.begin_list_item = None;
         Ok(next)
     }
 
@@ -69,8 +69,8 @@ impl<'a> FirstPass<'a> {
     {
         let pass = &mut self.pass;
         pass.source.recall_length();
-        let next = rule::parse_hrule(&mut pass.reading.tree, hrule_size, ix)?;
-        pass.reading.begin_list_item = None;
+        let next = rule::parse_hrule(&mut pass.state.tree, hrule_size, ix)?;
+        pass.state.begin_list_item = None;
         Ok(next)
     }
 }

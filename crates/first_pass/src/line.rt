@@ -3,7 +3,7 @@
 ghost use Rattle.std.specs.Prelude.{IfOk, None};
 ghost use Rattle.first_pass_flank.specs.declared.flank.TableParseMode.TheVariants.{Active, Disabled};
 ghost use Rattle.first_pass.specs.Calls.{AppendsTokens, ReadsContent};
-ghost use Rattle.first_pass.specs.Lines.{CanBeRead, IsReadTo, ReadsPossibleHead};
+ghost use Rattle.first_pass.specs.Lines.{CanBeRead, ContentReachesTo, ReadsPossibleHead};
 ghost use Rattle.first_pass.specs.Views.{source_text};
 
 use crate::state::FirstPass;
@@ -62,10 +62,10 @@ impl<'a> FirstPass<'a> {
     ) -> Result<(usize, Option<Item>), AllocError>
         requires { CanBeRead (source_text self.old) start end }
         ensures line { IfOk result (λ answer. ReadsContent Disabled self.old self.new start end answer) }
-        ensures place { IfOk result (λ answer. IsReadTo (source_text self.old) start end answer.0) }
+        ensures place { IfOk result (λ answer. ContentReachesTo (source_text self.old) start end answer.0) }
     {
         let pass = &mut self.pass;
-        pass.reading.tree.recall_forest();
+        pass.state.tree.recall_forest();
         let source = &pass.source;
         let content = Content {
             options: source.options,
@@ -75,10 +75,10 @@ impl<'a> FirstPass<'a> {
             end,
             row: false,
         };
-        let tree = &mut pass.reading.tree;
+        let tree = &mut pass.state.tree;
         let braces = &mut self.braces;
         let line = pass.allocs.append_line(content, tree, braces)?;
-        pass.reading.begin_list_item = None;
+        pass.state.begin_list_item = None;
         Ok(line)
     }
 
@@ -88,7 +88,7 @@ impl<'a> FirstPass<'a> {
         ensures { IfOk result (λ stop. ReadsContent Active self.old self.new start end (stop, None)) }
     {
         let pass = &mut self.pass;
-        pass.reading.tree.recall_forest();
+        pass.state.tree.recall_forest();
         let source = &pass.source;
         let content = Content {
             options: source.options,
@@ -98,10 +98,10 @@ impl<'a> FirstPass<'a> {
             end,
             row: true,
         };
-        let tree = &mut pass.reading.tree;
+        let tree = &mut pass.state.tree;
         let braces = &mut self.braces;
         let stop = pass.allocs.append_cell(content, tree, braces)?;
-        pass.reading.begin_list_item = None;
+        pass.state.begin_list_item = None;
         Ok(stop)
     }
 
@@ -120,7 +120,7 @@ impl<'a> FirstPass<'a> {
         let bytes = text_upto(self.pass.source.text, end);
         let line = rest_of(bytes, start);
         let pass = &self.pass;
-        let found = scan_headed_line(&pass.source, &pass.reading.tree, line)?;
+        let found = scan_headed_line(&pass.source, &pass.state.tree, line)?;
         let (next, line_break) = self.append_content(start, end)?;
         let Some(head) = found else {
             return Ok((next, line_break));

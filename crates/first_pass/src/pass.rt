@@ -10,7 +10,7 @@ pub use first_pass_below::below::{HtmlEnd, count_header_cols, get_html_end_tag};
 pub use first_pass_blocks::pass::run_first_pass;
 pub use first_pass_blocks::state::BlockPass;
 use first_pass_items::option_set::Options;
-pub use first_pass_lists::reading::Reading;
+pub use first_pass_lists::state::PassState;
 pub use first_pass_lists::titles::fixup_end_of_definition_list;
 pub use first_pass_open::source::Source;
 pub use first_pass_tokens::braces::BraceContexts;

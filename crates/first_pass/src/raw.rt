@@ -61,7 +61,7 @@ impl<'a> FirstPass<'a> {
         ensures { OnOk result (AppendsRawLine kind self.old self.new remaining_space start end) }
     {
         let pass = &mut self.pass;
-        pass.reading.tree.recall_forest();
+        pass.state.tree.recall_forest();
         pass.source.recall_length();
         let line = RawLine {
             kind,
@@ -70,12 +70,12 @@ impl<'a> FirstPass<'a> {
             end,
         };
         append_raw_line(
-            &mut pass.reading.tree,
+            &mut pass.state.tree,
             &mut pass.allocs,
             pass.source.text,
             line,
         )?;
-        pass.reading.begin_list_item = None;
+        pass.state.begin_list_item = None;
         Ok(())
     }
 
@@ -95,13 +95,13 @@ impl<'a> FirstPass<'a> {
         let pass = &mut self.pass;
         let (next, blank) = indented_code::parse_indented_code_block(
             &pass.source,
-            &mut pass.reading.tree,
+            &mut pass.state.tree,
             &mut pass.allocs,
             start_ix,
             remaining_space,
         )?;
-        pass.reading.begin_list_item = None;
-        pass.reading.blank = blank;
+        pass.state.begin_list_item = None;
+        pass.state.blank = blank;
         Ok(next)
     }
 
@@ -128,12 +128,12 @@ impl<'a> FirstPass<'a> {
         };
         let next = fenced_code::parse_fenced_code_block(
             &pass.source,
-            &mut pass.reading.tree,
+            &mut pass.state.tree,
             &mut pass.allocs,
             start_ix,
             fence,
         )?;
-        pass.reading.begin_list_item = None;
+        pass.state.begin_list_item = None;
         Ok(next)
     }
 
@@ -151,16 +151,16 @@ impl<'a> FirstPass<'a> {
         let pass = &mut self.pass;
         let next = metadata_block::parse_metadata_block(
             &pass.source,
-            &mut pass.reading.tree,
+            &mut pass.state.tree,
             &mut pass.allocs,
             start_ix,
             metadata_block_ch,
         )?;
-        pass.reading.begin_list_item = None;
+        pass.state.begin_list_item = None;
         Ok(next)
     }
 
-    /// Appends the HTML block of the kinds 1 to 5 that begins at the offset `start_ix`, after `indent` columns or
+    /// Appends the HTML block of types 1 to 5 that begins at the offset `start_ix`, after `indent` columns or
     /// `remaining_space` owed columns, whichever is more. It ends with the first line that has its end condition.
     /// Returns the start of the next unread line, or the end of the text (CommonMark 4.6).
     pub fn parse_html_block_type_1_to_5(
@@ -182,16 +182,16 @@ impl<'a> FirstPass<'a> {
         };
         let next = html_block::parse_html_block_type_1_to_5(
             &pass.source,
-            &mut pass.reading.tree,
+            &mut pass.state.tree,
             &mut pass.allocs,
             start,
             html_end,
         )?;
-        pass.reading.begin_list_item = None;
+        pass.state.begin_list_item = None;
         Ok(next)
     }
 
-    /// Appends the HTML block of the kinds 6 and 7 that begins at the offset `start_ix`, after `indent` columns or
+    /// Appends the HTML block of types 6 and 7 that begins at the offset `start_ix`, after `indent` columns or
     /// `remaining_space` owed columns, whichever is more. It ends before a blank line. Returns the start of the next
     /// unread line, or the end of the text (CommonMark 4.6).
     pub fn parse_html_block_type_6_or_7(
@@ -206,18 +206,18 @@ impl<'a> FirstPass<'a> {
             AddsHtmlToBlank self.old self.new start_ix (max remaining_space indent) next) }
     {
         let pass = &mut self.pass;
-        pass.reading.tree.recall_forest();
+        pass.state.tree.recall_forest();
         let start = HtmlStart {
             at: start_ix,
             columns: remaining_space.max(indent),
         };
         let next = html_block::parse_html_block_type_6_or_7(
             &pass.source,
-            &mut pass.reading.tree,
+            &mut pass.state.tree,
             &mut pass.allocs,
             start,
         )?;
-        pass.reading.begin_list_item = None;
+        pass.state.begin_list_item = None;
         Ok(next)
     }
 }

@@ -42,7 +42,7 @@ impl<'a> FirstPass<'a> {
             head_start,
             body_start,
         };
-        let next = rows::parse_table(&pass.source, &mut pass.reading.tree, &mut pass.allocs, rows)?;
+        let next = rows::parse_table(&pass.source, &mut pass.state.tree, &mut pass.allocs, rows)?;
         Ok(Some(next))
     }
 
@@ -72,7 +72,7 @@ impl<'a> FirstPass<'a> {
         let pass = &mut self.pass;
         let row = rows::parse_table_row(
             &pass.source,
-            &mut pass.reading.tree,
+            &mut pass.state.tree,
             &mut pass.allocs,
             &mut table,
             wanted,
@@ -110,7 +110,7 @@ impl<'a> FirstPass<'a> {
         let pass = &mut self.pass;
         let row = row::parse_table_row_inner(
             &pass.source,
-            &mut pass.reading.tree,
+            &mut pass.state.tree,
             &mut pass.allocs,
             &mut table,
             wanted,

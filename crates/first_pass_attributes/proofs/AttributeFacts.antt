@@ -3,7 +3,7 @@ use Rattle.std.proofs.Common.{◌≡◌, ℕ, Bool, true, false, cond, List, [],
 use Rattle.std.proofs.Common.{append-nil, ne_eqb}
 use Rattle.first_pass_items.specs.Bytes.{number_sign, full_stop}
 use Rattle.first_pass_lines.specs.Lines.{begins}
-use Rattle.first_pass_attributes.specs.Attributes.{Attributes, is_telling, gives_key, key_and_value, last_or, with_words}
+use Rattle.first_pass_attributes.specs.Attributes.{Attributes, is_attribute_word, gives_key, key_and_value, last_or, with_words}
 
 -- attributes are equal if their three parts are
 pub same_parts : {i j : Option (List ℕ)} {c d : List (List ℕ)} {e f : List (List ℕ × Option (List ℕ))}
@@ -54,30 +54,30 @@ with-told a false w ws = ap (λ b. with_words b ws) (sym (with-none a))
 
 -- the same for a word that may have no attribute
 pub with-next : (a : Attributes) (w : List ℕ) (ws : List (List ℕ))
-    → with_words a (filter is_telling (w ∷ ws)) ≡ with_words (with_words a (filter is_telling (w ∷ []))) (filter is_telling ws)
-with-next a w ws = with-told a (is_telling w) w (filter is_telling ws)
+    → with_words a (filter is_attribute_word (w ∷ ws)) ≡ with_words (with_words a (filter is_attribute_word (w ∷ []))) (filter is_attribute_word ws)
+with-next a w ws = with-told a (is_attribute_word w) w (filter is_attribute_word ws)
 
 -- a word without an attribute
-pub told-none : (a : Attributes) (w : List ℕ) → is_telling w ≡ false → with_words a (filter is_telling (w ∷ [])) ≡ a
+pub told-none : (a : Attributes) (w : List ℕ) → is_attribute_word w ≡ false → with_words a (filter is_attribute_word (w ∷ [])) ≡ a
 told-none a w h = ap (λ t. with_words a (cond t (w ∷ []) [])) h ∙ with-none a
 
 -- a word with an attribute
-telling : (a : Attributes) (w : List ℕ) → is_telling w ≡ true → with_words a (filter is_telling (w ∷ [])) ≡ with_words a (w ∷ [])
+telling : (a : Attributes) (w : List ℕ) → is_attribute_word w ≡ true → with_words a (filter is_attribute_word (w ∷ [])) ≡ with_words a (w ∷ [])
 telling a w h = ap (λ t. with_words a (cond t (w ∷ []) [])) h
 
-pub told-id : (a : Attributes) (w x : List ℕ) → is_telling w ≡ true → w ≡ number_sign ∷ x
-    → with_words a (filter is_telling (w ∷ [])) ≡ record { id = Some x; classes = a.classes; attrs = a.attrs }
+pub told-id : (a : Attributes) (w x : List ℕ) → is_attribute_word w ≡ true → w ≡ number_sign ∷ x
+    → with_words a (filter is_attribute_word (w ∷ [])) ≡ record { id = Some x; classes = a.classes; attrs = a.attrs }
 told-id a w x h e = telling a w h ∙ ap (λ v. with_words a (v ∷ [])) e ∙ with-id a x
 
-pub told-class : (a : Attributes) (w x : List ℕ) → is_telling w ≡ true → w ≡ full_stop ∷ x
-    → with_words a (filter is_telling (w ∷ [])) ≡ record { id = a.id; classes = a.classes ++ x ∷ []; attrs = a.attrs }
+pub told-class : (a : Attributes) (w x : List ℕ) → is_attribute_word w ≡ true → w ≡ full_stop ∷ x
+    → with_words a (filter is_attribute_word (w ∷ [])) ≡ record { id = a.id; classes = a.classes ++ x ∷ []; attrs = a.attrs }
 told-class a w x h e = telling a w h ∙ ap (λ v. with_words a (v ∷ [])) e ∙ with-class a x
 
 begins-none : (c : ℕ) (w : List ℕ) → ((rest : List ℕ) → ¬ (w ≡ c ∷ rest)) → begins c w ≡ false
 begins-none c [] h = refl
 begins-none c (b ∷ bs) h = ne_eqb b c (λ e. h bs (ap (λ x. x ∷ bs) e))
 
-pub told-key : (a : Attributes) (w : List ℕ) → is_telling w ≡ true → ((rest : List ℕ) → ¬ (w ≡ number_sign ∷ rest))
+pub told-key : (a : Attributes) (w : List ℕ) → is_attribute_word w ≡ true → ((rest : List ℕ) → ¬ (w ≡ number_sign ∷ rest))
     → ((rest : List ℕ) → ¬ (w ≡ full_stop ∷ rest))
-    → with_words a (filter is_telling (w ∷ [])) ≡ record { id = a.id; classes = a.classes; attrs = a.attrs ++ key_and_value w ∷ [] }
+    → with_words a (filter is_attribute_word (w ∷ [])) ≡ record { id = a.id; classes = a.classes; attrs = a.attrs ++ key_and_value w ∷ [] }
 told-key a w h e f = telling a w h ∙ with-key a w (begins-none number_sign w e) (begins-none full_stop w f)

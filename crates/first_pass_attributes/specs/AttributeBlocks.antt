@@ -4,7 +4,7 @@ use Rattle.std.specs.Prelude.{◌≡◌, true, ◌∷◌, ◌++◌, ℕ, ◌+◌
 use Rattle.std.specs.Option.{option_map, option_map_or}
 use Rattle.std.specs.List.{list_all, suffix_len}
 use Rattle.first_pass_items.specs.Bytes.{less_than, greater_than, backslash, left_brace, right_brace}
-use Rattle.first_pass_lines.specs.Lines.{is_line_end, is_blank}
+use Rattle.first_pass_lines.specs.Lines.{is_line_end, is_space_or_tab}
 
 -- the last byte is c, which is not 0 (this project)
 abbrev pub ends : ℕ → List ℕ → Bool
@@ -12,7 +12,7 @@ ends c bs = slice_index bs (length bs - 1) == c
 
 -- a byte that may follow an attribute block: a space, a tab or a line ending (this project)
 abbrev pub is_after_block : ℕ → Bool
-is_after_block b = is_blank b || is_line_end b
+is_after_block b = is_space_or_tab b || is_line_end b
 
 -- a byte that can't be between the braces of an attribute block: `{`, `}`, `<`, `>`, `\` or a line ending
 -- (this project)

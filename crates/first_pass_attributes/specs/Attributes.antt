@@ -17,8 +17,8 @@ unfoldable pub words : List ℕ → List (List ℕ)
 words bs = filter (λ part. nat_lt 0 (length part)) (slice_split is_between_words bs)
 
 -- a word with an attribute: it has two bytes or more (this project)
-abbrev pub is_telling : List ℕ → Bool
-is_telling word = nat_lt 1 (length word)
+abbrev pub is_attribute_word : List ℕ → Bool
+is_attribute_word word = nat_lt 1 (length word)
 
 -- the words that begin with this byte, without it (this project)
 abbrev pub marked : ℕ → List (List ℕ) → List (List ℕ)
@@ -61,7 +61,7 @@ no_attributes = record { id = None; classes = []; attrs = [] }
 -- the attributes in the bytes between the braces of an attribute block: those of the words of two bytes or more
 -- (this project)
 unfoldable pub attributes_of : List ℕ → Attributes
-attributes_of bs = with_words no_attributes (filter is_telling (words bs))
+attributes_of bs = with_words no_attributes (filter is_attribute_word (words bs))
 
 -- a key and its value as bytes (this project)
 abbrev pub pair_in : Bor (List ℕ) × Option (Bor (List ℕ)) → List ℕ × Option (List ℕ)

@@ -5,9 +5,9 @@ ghost use Rattle.std.specs.Option.{option_map};
 ghost use Rattle.std.specs.Prelude.{◌≡◌, ◌≤◌, ◌<◌, ◌+◌, ◌-◌, length, true, take, slice_index, IfSome, IfOk, OnOk, IsSomeAnd, Some, None, IsUtf8, IsCharBoundary, filter, [], ◌∷◌, ◌++◌};
 ghost use Rattle.first_pass_items.specs.Bytes.{left_brace, right_brace};
 ghost use Rattle.first_pass_attributes.specs.AttributeBlocks.{ends as ends_with, is_after_block, is_inside_block, opening_brace as opening_of, length_before_block, inside_block};
-ghost use Rattle.first_pass_attributes.specs.Attributes.{is_telling, key_and_value as key_and_value_of, with_words, attributes_of, pair_in, attributes_in};
+ghost use Rattle.first_pass_attributes.specs.Attributes.{is_attribute_word, key_and_value as key_and_value_of, with_words, attributes_of, pair_in, attributes_in};
 
-use first_pass_lines::lines::{is_blank, is_line_end};
+use first_pass_lines::lines::{is_line_end, is_space_or_tab};
 use std::alloc::{AllocError, Global};
 use std::ops::Range;
 
@@ -49,7 +49,7 @@ fn scan_after_block(bytes: &[u8]) -> usize
     bytes
         .iter()
         .rev()
-        .take_while(|b| is_blank(**b) || is_line_end(**b))
+        .take_while(|b| is_space_or_tab(**b) || is_line_end(**b))
         .count()
 }
 
@@ -143,9 +143,9 @@ pub fn parse_inside_attribute_block<'a>(
 // Adds the attribute of a word.
 fn add_word<'a>(attributes: &mut HeadingAttributes<'a>, word: &'a str) -> Result<(), AllocError>
     ensures { OnOk result (attributes_in attributes.new
-        ≡ with_words (attributes_in attributes.old) (filter is_telling (word.now ∷ []))) }
+        ≡ with_words (attributes_in attributes.old) (filter is_attribute_word (word.now ∷ []))) }
 {
-    if !is_telling(word) {
+    if !is_attribute_word(word) {
         return Ok(());
     }
     if let Some(id) = word.strip_prefix('#') {
@@ -172,8 +172,8 @@ fn append<T: Copy>(list: &mut Vec<T>, item: T) -> Result<(), AllocError>
 }
 
 // Whether a word has an attribute.
-fn is_telling(word: &str) -> bool
-    ensures { result ≡ is_telling word.now }
+fn is_attribute_word(word: &str) -> bool
+    ensures { result ≡ is_attribute_word word.now }
 {
     2 <= word.len()
 }

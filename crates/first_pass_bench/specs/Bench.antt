@@ -6,8 +6,8 @@ use Rattle.first_pass_items.specs.declared.item.Item.{Item}
 use Rattle.first_pass_grammar.specs.Names.{Names}
 use Rattle.first_pass_grammar.specs.Leaves.{document}
 use Rattle.first_pass_grammar.specs.Derivation.{Derives, Tables}
-use Rattle.first_pass_host.specs.declared.fault.BlocksFault.{BlocksFault}
-use Rattle.first_pass_host.specs.declared.fault.BlocksFault.TheVariants.{OutOfMemory, NotUtf8, BadOptions, ReadFailed, WriteFailed}
+use Rattle.first_pass_host.specs.declared.fault.RunFault.{RunFault}
+use Rattle.first_pass_host.specs.declared.fault.RunFault.TheVariants.{OutOfMemory, NotUtf8, BadOptions, ReadFailed, WriteFailed}
 use Rattle.first_pass_host.specs.Streams.{Stream, IsUntouched, AppendsFront, ReadsWhole}
 use Rattle.first_pass_timing.specs.declared.task.Task.{Task}
 use Rattle.first_pass_timing.specs.Task.{AskFor}
@@ -35,7 +35,7 @@ pub record IsReported (task : Task) (text : List ℕ) (before after : Option (Li
 
 -- The state of a text, a clock and a writer after a fault: nothing is written until the runs are done; after that, a
 -- beginning of the line.
-abbrev pub LeavesText : BlocksFault → Task → List ℕ → Stream → Stream → Type 0
+abbrev pub LeavesText : RunFault → Task → List ℕ → Stream → Stream → Type 0
 LeavesText NotUtf8 task text clock output = (IsUtf8 text → ⊥) × IsUntouched clock × IsUntouched output
 LeavesText ReadFailed task text clock output = IsUtf8 text × IsUntouched output
 LeavesText OutOfMemory task text clock output = IsUtf8 text × IsUntouched output
@@ -54,7 +54,7 @@ pub record WritesReport {A : Type 0} (words : List (String A)) (input clock outp
   pub appended : Appends output.old output.new line
 
 -- the state after a fault if the text was read to its end, with the task that the words request
-pub record LeavesRead {A : Type 0} (fault : BlocksFault) (words : List (String A)) (input clock output : Stream) : Type 0 where
+pub record LeavesRead {A : Type 0} (fault : RunFault) (words : List (String A)) (input clock output : Stream) : Type 0 where
   pub task : Task
   pub asked : AskFor words task
   pub text : List ℕ
@@ -70,10 +70,10 @@ pub record LeavesUnread {A : Type 0} (words : List (String A)) (clock output : S
 
 -- The state of a reader, a clock and a writer after a fault: nothing is read if the words request no task, and nothing
 -- is timed or written before the whole text is read.
-abbrev pub Leaves : {A : Type 0} → BlocksFault → List (String A) → Stream → Stream → Stream → Type 0
-Leaves BadOptions words input clock output =
+abbrev pub FaultLeaves : {A : Type 0} → RunFault → List (String A) → Stream → Stream → Stream → Type 0
+FaultLeaves BadOptions words input clock output =
     ((task : Task) → AskFor words task → ⊥) × IsUntouched input × IsUntouched clock × IsUntouched output
-Leaves ReadFailed words input clock output = LeavesUnread words clock output ⊎ LeavesRead ReadFailed words input clock output
-Leaves OutOfMemory words input clock output = LeavesUnread words clock output ⊎ LeavesRead OutOfMemory words input clock output
-Leaves NotUtf8 words input clock output = LeavesRead NotUtf8 words input clock output
-Leaves WriteFailed words input clock output = LeavesRead WriteFailed words input clock output
+FaultLeaves ReadFailed words input clock output = LeavesUnread words clock output ⊎ LeavesRead ReadFailed words input clock output
+FaultLeaves OutOfMemory words input clock output = LeavesUnread words clock output ⊎ LeavesRead OutOfMemory words input clock output
+FaultLeaves NotUtf8 words input clock output = LeavesRead NotUtf8 words input clock output
+FaultLeaves WriteFailed words input clock output = LeavesRead WriteFailed words input clock output

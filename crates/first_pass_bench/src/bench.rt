@@ -3,10 +3,10 @@
 ghost use Rattle.std.specs.Prelude.{ℕ, List, OnOk, IfErr};
 ghost use Rattle.std.specs.Io.KnownBytes.{Appends};
 ghost use Rattle.first_pass_host.specs.Streams.{stream_between};
-ghost use Rattle.first_pass_bench.specs.Bench.{IsReported, Leaves, LeavesText, WritesReport};
+ghost use Rattle.first_pass_bench.specs.Bench.{IsReported, FaultLeaves, LeavesText, WritesReport};
 
 use crate::timed::time_runs;
-use first_pass_host::fault::BlocksFault;
+use first_pass_host::fault::RunFault;
 use first_pass_host::input::read_whole;
 use first_pass_host::output::write_whole;
 use first_pass_timing::clock::TimeSource;
@@ -28,18 +28,18 @@ pub fn bench_run<T: TimeSource, R: Read, W: Write>(
     words: &[String],
     input: &mut R,
     output: &mut W,
-) -> Result<(), BlocksFault>
+) -> Result<(), RunFault>
     ensures ok { OnOk result (WritesReport words.now (stream_between (R.remaining input.old) (R.remaining input.new))
         (stream_between (T.readings clock.old) (T.readings clock.new))
         (stream_between (W.contents output.old) (W.contents output.new))) }
-    ensures fault { IfErr result (λ fault. Leaves fault words.now
+    ensures fault { IfErr result (λ fault. FaultLeaves fault words.now
         (stream_between (R.remaining input.old) (R.remaining input.new))
         (stream_between (T.readings clock.old) (T.readings clock.new))
         (stream_between (W.contents output.old) (W.contents output.new))) }
 {
     let task = match parse_task(words) {
         Some(task) => task,
-        None => return Err(BlocksFault::BadOptions),
+        None => return Err(RunFault::BadOptions),
     };
     let bytes = read_whole(alloc, input)?;
     report_text(clock, alloc, bytes.as_slice(), task, output)
@@ -52,7 +52,7 @@ fn report_text<T: TimeSource, W: Write>(
     bytes: &[u8],
     task: Task,
     output: &mut W,
-) -> Result<(), BlocksFault>
+) -> Result<(), RunFault>
     ensures ok { OnOk result ((line : List ℕ)
         × IsReported task bytes.now (T.readings clock.old) (T.readings clock.new) line
         × Appends (W.contents output.old) (W.contents output.new) line) }
@@ -62,7 +62,7 @@ fn report_text<T: TimeSource, W: Write>(
 {
     let text = match str::from_utf8(bytes) {
         Ok(text) => text,
-        Err(_) => return Err(BlocksFault::NotUtf8),
+        Err(_) => return Err(RunFault::NotUtf8),
     };
     let timing = time_runs(clock, alloc, text, task.options, task.runs)?;
     let mut line = Vec::new(alloc);

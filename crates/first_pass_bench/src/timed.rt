@@ -7,7 +7,7 @@ ghost use Rattle.first_pass_host.specs.Streams.{IsReadFault};
 ghost use Rattle.first_pass_timing.specs.Timing.{IsTimed};
 
 use first_pass_blocks::pass::run_first_pass;
-use first_pass_host::fault::BlocksFault;
+use first_pass_host::fault::RunFault;
 use first_pass_items::option_set::Options;
 use first_pass_timing::clock::TimeSource;
 use first_pass_timing::timing::{Run, Timing, is_enough, read_clock};
@@ -24,7 +24,7 @@ pub fn time_runs<T: TimeSource>(
     text: &str,
     options: Options,
     asked: Option<u32>,
-) -> Result<Timing, BlocksFault>
+) -> Result<Timing, RunFault>
     ensures nodes { IfOk result (λ timing. CountsNodes options text.now timing.nodes) }
     ensures timed { IfOk result (λ timing.
         IsTimed asked (T.readings clock.old) (T.readings clock.new) timing.runs timing.nanos timing.first) }
@@ -53,7 +53,7 @@ fn run_once<T: TimeSource>(
     alloc: Global,
     text: &str,
     options: Options,
-) -> Result<Run, BlocksFault>
+) -> Result<Run, RunFault>
     ensures nodes { IfOk result (λ run. CountsNodes options text.now run.nodes) }
     ensures read { IfOk result (λ run.
         Consumes (T.readings clock.old) (T.readings clock.new) (run.began ∷ run.ended ∷ [])) }

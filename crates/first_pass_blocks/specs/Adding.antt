@@ -9,7 +9,7 @@ use Rattle.first_pass_kinds.specs.declared.kinds.BlockStart.TheVariants.{Marked}
 use Rattle.first_pass_kinds.specs.declared.kinds.MarkedLeaf.{MarkedLeaf}
 use Rattle.first_pass_names.specs.TableEntries.{names_of, NamesMore}
 use Rattle.first_pass_blocks.specs.declared.state.BlockPass.{BlockPass}
-use Rattle.first_pass_blocks.specs.Views.{allocs_of, reading_of, source_of, source_options, source_text, tree_of}
+use Rattle.first_pass_blocks.specs.Views.{allocs_of, state_of, source_of, source_options, source_text, tree_of}
 use Rattle.first_pass_order.specs.LeafBlocks.{AddsKind}
 
 -- A pass added a leaf block. It reads the same text, earlier names are kept, no table entry changed, and no item is
@@ -18,8 +18,8 @@ use Rattle.first_pass_order.specs.LeafBlocks.{AddsKind}
 pub record AddsLeaf (old new : BlockPass) (p : Place) (kind : Kind) (next : ℕ) : Type 0 where
   pub source : source_of new ≡ source_of old
   pub more : NamesMore (allocs_of old) (allocs_of new)
-  pub begin_list_item : (reading_of new).begin_list_item ≡ None
-  pub block : AddsKind (document (source_text old) (source_options old) (names_of (allocs_of new))) p kind (reading_of new).blank (tree_of old)
+  pub begin_list_item : (state_of new).begin_list_item ≡ None
+  pub block : AddsKind (document (source_text old) (source_options old) (names_of (allocs_of new))) p kind (state_of new).blank (tree_of old)
       (tree_of new) next
   pub later : line_end p ≤ next
   pub boundary : IsCharBoundary (source_text old) next
@@ -31,5 +31,5 @@ pub record IsFoundIn (pass : BlockPass) (p : Place) (leaf : MarkedLeaf) (columns
   pub utf8 : IsUtf8 (source_text pass)
   pub place : IsPlaceOf (source_text pass) p
   pub found : IsFoundAt (source_options pass) p (Marked leaf) columns at
-  pub not_blank : (reading_of pass).blank ≡ false
-  pub no_empty : (reading_of pass).begin_list_item ≡ None
+  pub not_blank : (state_of pass).blank ≡ false
+  pub no_empty : (state_of pass).begin_list_item ≡ None

@@ -4,16 +4,16 @@ use Rattle.first_pass_items.specs.declared.item.Item.{Item}
 use Rattle.first_pass_tree.specs.Forest.{Forest}
 use Rattle.first_pass_lines.specs.Places.{Place}
 use Rattle.first_pass_grammar.specs.Leaves.{Document, document}
-use Rattle.first_pass_grammar.specs.Skeleton.{From, Line, Blanks, next_is_blank}
+use Rattle.first_pass_grammar.specs.Skeleton.{Continues, Line, Blanks, next_is_blank}
 use Rattle.first_pass_grammar.specs.Derivation.{Tables, Derives}
 use Rattle.first_pass_grammar.specs.Completion.{NoList, Frame, last_of, Completion}
-use Rattle.first_pass_lists.specs.declared.reading.Reading.{Reading}
+use Rattle.first_pass_lists.specs.declared.state.PassState.{PassState}
 use Rattle.first_pass_open.specs.Path.{path_of}
 use Rattle.first_pass_ready.specs.State.{closed_in, emptied_top, AreOpen}
 
 -- Blocks complete the open nodes of a tree, from a place or from these lines on, and the text derives the resulting
 -- forest.
-pub record CompletedAt (d : Document) (defined : Tables) (tree : Forest Item) (run : Bool) (from : From) (lines : List Place) : Type 0 where
+pub record CompletedAt (d : Document) (defined : Tables) (tree : Forest Item) (run : Bool) (from : Continues) (lines : List Place) : Type 0 where
   pub frames : List Frame
   pub are_open : AreOpen d.options tree.nodes tree.spine frames
   pub completion : Completion d frames (map (λ ix. ix.0) tree.spine)
@@ -37,10 +37,10 @@ CompletedInItem d defined tree e lines true = CompletedAt d defined tree true (B
 CompletedInItem d defined tree e lines false = CompletedBeforeLine d defined tree e lines (next_is_blank (path_of d.options tree) lines)
 
 -- the same for a state; its innermost open node may be such an item
-abbrev pub CompletedWith : Document → Tables → Reading → List Place → Option ℕ → Type 0
+abbrev pub CompletedWith : Document → Tables → PassState → List Place → Option ℕ → Type 0
 CompletedWith d defined r lines None = CompletedAt d defined r.tree r.blank Line lines
 CompletedWith d defined r lines (Some e) = CompletedInItem d defined r.tree e lines r.blank
 
 -- blocks complete the state before these lines, and the text derives the tree
-unfoldable pub IsCompleted : Document → Tables → Reading → List Place → Type 0
+unfoldable pub IsCompleted : Document → Tables → PassState → List Place → Type 0
 IsCompleted d defined r lines = CompletedWith d defined r lines r.begin_list_item

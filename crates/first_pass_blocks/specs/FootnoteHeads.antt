@@ -17,16 +17,16 @@ use Rattle.first_pass_grammar.specs.Names.{with_named}
 use Rattle.first_pass_items.specs.declared.cow_str.CowStr.{CowStr}
 use Rattle.first_pass_items.specs.CowText.{text_of}
 use Rattle.first_pass_grammar.specs.Kinds.{unindented}
-use Rattle.first_pass_grammar.specs.Derivation.{told_label}
+use Rattle.first_pass_grammar.specs.Derivation.{with_footnote_label}
 use Rattle.first_pass_grammar.specs.Completion.{lines_from}
 use Rattle.first_pass_grammar.specs.Footnotes.{footnote_at, footnote_head_at, label_bytes, past_head}
-use Rattle.first_pass_names.specs.TableEntries.{entries, TellsFootnote, tables_of, names_of, refdefs_of}
+use Rattle.first_pass_names.specs.TableEntries.{entries, AddsFootnote, tables_of, names_of, refdefs_of}
 use Rattle.first_pass_lists.specs.Closing.{footnote_begun}
 use Rattle.first_pass_open.specs.declared.source.Source.{Source}
 use Rattle.first_pass_blocks.specs.declared.state.BlockPass.{BlockPass}
-use Rattle.first_pass_blocks.specs.Positions.{InLine, IsFrom}
+use Rattle.first_pass_blocks.specs.Positions.{InLine, IsNotBefore}
 use Rattle.first_pass_blocks.specs.Progress.{PassesTo}
-use Rattle.first_pass_blocks.specs.Views.{allocs_of, context_in, reading_of, source_of, source_text, tree_of}
+use Rattle.first_pass_blocks.specs.Views.{allocs_of, context_in, state_of, source_of, source_text, tree_of}
 
 -- the offset of `[^` at a place, if the indentation is under four columns and the options include footnotes
 -- (this project)
@@ -42,20 +42,20 @@ head_read false n bs = n
 
 -- two passes have the same source, state, names and tables
 abbrev pub StaysSame : BlockPass → BlockPass → Type 0
-StaysSame old new = (source_of new ≡ source_of old) × (reading_of new ≡ reading_of old) × (allocs_of new ≡ allocs_of old)
+StaysSame old new = (source_of new ≡ source_of old) × (state_of new ≡ state_of old) × (allocs_of new ≡ allocs_of old)
 
 -- A footnote definition with this head is open, and starts at an offset. Its label is defined, and an index names it.
 -- The label is borrowed from the text if nothing in it changes (this project).
 pub record OpenedFootnote (start : ℕ) (head : ℕ × List ℕ) (old new : BlockPass) : Type 0 where
   pub index : CowIndex
   pub text : CowStr
-  pub opened : reading_of new ≡ footnote_begun start index (reading_of old)
+  pub opened : state_of new ≡ footnote_begun start index (state_of old)
   pub last : index.0 ≡ length (names_of (allocs_of old)).texts
   pub names : names_of (allocs_of new) ≡ with_named (names_of (allocs_of old)) text
   pub label : text_of text ≡ head.1
   pub borrowed : text_of text ≡ label_bytes head.0 (drop start (source_text old)) → Borrows (label_bytes head.0 (drop start (source_text old))) text
-  pub tells : TellsFootnote (entries (allocs_of old)) (entries (allocs_of new)) text
-  pub told : tables_of (allocs_of new) ≡ told_label (tables_of (allocs_of old)) head.1
+  pub tells : AddsFootnote (entries (allocs_of old)) (entries (allocs_of new)) text
+  pub added : tables_of (allocs_of new) ≡ with_footnote_label (tables_of (allocs_of old)) head.1
   pub links : refdefs_of (allocs_of new) ≡ refdefs_of (allocs_of old)
 
 -- The search for the head of a footnote definition at an offset, with the length that it returns. If none begins
@@ -97,5 +97,5 @@ NoHead pass p = in_table (tree_of pass).nodes (tree_of pass).spine ≡ false →
 abbrev pub TriesFootnote : BlockPass → BlockPass → Place → Place → Bool → Type 0
 TriesFootnote old new p q false = StaysSame old new × (q ≡ p) × NoHead old p
 TriesFootnote old new p q true =
-    IsFrom (source_text old) p q × (length q.rest.left < length p.rest.left) × ((reading_of new).begin_list_item ≡ None)
+    IsNotBefore (source_text old) p q × (length q.rest.left < length p.rest.left) × ((state_of new).begin_list_item ≡ None)
     × ((line : ℕ) → line ≤ p.line → PassesTo (source_of old) line old new (InLine p) (InLine q))

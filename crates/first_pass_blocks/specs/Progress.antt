@@ -10,7 +10,7 @@ use Rattle.first_pass_names.specs.TableEntries.{tables_of, names_of}
 use Rattle.first_pass_blocks.specs.Written.{TablesAreWritten}
 use Rattle.first_pass_open.specs.declared.source.Source.{Source}
 use Rattle.first_pass_blocks.specs.declared.state.BlockPass.{BlockPass}
-use Rattle.first_pass_blocks.specs.Views.{allocs_of, reading_of, source_of, tree_of}
+use Rattle.first_pass_blocks.specs.Views.{allocs_of, state_of, source_of, tree_of}
 use Rattle.first_pass_ready.specs.State.{Ready}
 use Rattle.first_pass_order.specs.Ordered.{IsReadFrom}
 use Rattle.first_pass_blocks.specs.Positions.{Position, LeafAt, ReadyOn, OrderedOn, GrowsTo, GrowsFrom}
@@ -24,14 +24,14 @@ pub record PassesTo (over : Source) (line : ℕ) (old new : BlockPass) (from to 
   pub source : source_of new ≡ source_of old
   pub names : Extends (names_of (allocs_of new)) (names_of (allocs_of old))
   pub ready : (more : Names) → Extends more (names_of (allocs_of new))
-      → ReadyOn (document over.text.now over.options more) (tables_of (allocs_of old)) (reading_of old) from
-      → ReadyOn (document over.text.now over.options more) (tables_of (allocs_of new)) (reading_of new) to
-  pub order : OrderedOn over.options over.text.now (reading_of old) from → OrderedOn over.options over.text.now (reading_of new) to
+      → ReadyOn (document over.text.now over.options more) (tables_of (allocs_of old)) (state_of old) from
+      → ReadyOn (document over.text.now over.options more) (tables_of (allocs_of new)) (state_of new) to
+  pub order : OrderedOn over.options over.text.now (state_of old) from → OrderedOn over.options over.text.now (state_of new) to
   pub node_bound : (first : List (ℕ × Item)) → GrowsTo over.text.now line first (tree_of old).nodes from
       → GrowsTo over.text.now line first (tree_of new).nodes to
   pub named : AreNamed (names_of (allocs_of old)) (tree_of old).nodes → AreNamed (names_of (allocs_of new)) (tree_of new).nodes
   pub written : TablesAreWritten over.text.now (allocs_of old) → TablesAreWritten over.text.now (allocs_of new)
-  pub whole : AreNamed (names_of (allocs_of old)) (tree_of old).nodes → HasWholeTables (names_of (allocs_of old)) (tree_of old)
+  pub tables : AreNamed (names_of (allocs_of old)) (tree_of old).nodes → HasWholeTables (names_of (allocs_of old)) (tree_of old)
       → HasWholeTables (names_of (allocs_of new)) (tree_of new)
 
 -- A pass over a source read a block from a position on. Reading continues at a character boundary, not before a given
@@ -46,13 +46,13 @@ pub record ReadsBlockOf (over : Source) (old new : BlockPass) (far : ℕ) (from 
   pub later : far ≤ next
   pub boundary : IsCharBoundary over.text.now next
   pub ready : (more : Names) → Extends more (names_of (allocs_of new))
-      → ReadyOn (document over.text.now over.options more) (tables_of (allocs_of old)) (reading_of old) from
-      → Ready (document over.text.now over.options more) (tables_of (allocs_of new)) (reading_of new) (lines_from over.text.now next)
-  pub order : OrderedOn over.options over.text.now (reading_of old) from → IsReadFrom over.options over.text.now (reading_of new) next
+      → ReadyOn (document over.text.now over.options more) (tables_of (allocs_of old)) (state_of old) from
+      → Ready (document over.text.now over.options more) (tables_of (allocs_of new)) (state_of new) (lines_from over.text.now next)
+  pub order : OrderedOn over.options over.text.now (state_of old) from → IsReadFrom over.options over.text.now (state_of new) next
   pub node_bound : GrowsFrom over.text.now from next (tree_of old).nodes (tree_of new).nodes
   pub named : AreNamed (names_of (allocs_of old)) (tree_of old).nodes → AreNamed (names_of (allocs_of new)) (tree_of new).nodes
   pub written : TablesAreWritten over.text.now (allocs_of old) → TablesAreWritten over.text.now (allocs_of new)
-  pub whole : AreNamed (names_of (allocs_of old)) (tree_of old).nodes → HasWholeTables (names_of (allocs_of old)) (tree_of old)
+  pub tables : AreNamed (names_of (allocs_of old)) (tree_of old).nodes → HasWholeTables (names_of (allocs_of old)) (tree_of old)
       → HasWholeTables (names_of (allocs_of new)) (tree_of new)
 
 -- the same over the source of the old pass

@@ -2,7 +2,7 @@
 use Rattle.std.specs.Prelude.{◌≡◌, ◌⊎◌, ◌≤◌, ℕ, Bool, false, List, ◌++◌, IsCharBoundary}
 use Rattle.first_pass_lines.specs.Places.{Place, offset, line_end, IsPlaceOf}
 use Rattle.first_pass_grammar.specs.Containers.{Context}
-use Rattle.first_pass_grammar.specs.Derivation.{Tables, told}
+use Rattle.first_pass_grammar.specs.Derivation.{Tables, with_definitions}
 use Rattle.first_pass_grammar.specs.LinkTables.{LinkEntry}
 use Rattle.first_pass_grammar.specs.LinkRuns.{Beyond, Ended, FlowsOn, IsRun}
 use Rattle.first_pass_grammar.specs.Completion.{lines_from}
@@ -11,7 +11,7 @@ use Rattle.first_pass_blocks.specs.declared.definition.RunEnd.TheVariants.{NextL
 use Rattle.first_pass_names.specs.TableEntries.{names_of}
 use Rattle.first_pass_blocks.specs.Written.{TablesAreWritten}
 use Rattle.first_pass_blocks.specs.declared.state.BlockPass.{BlockPass}
-use Rattle.first_pass_blocks.specs.Views.{allocs_of, reading_of, source_of, source_text}
+use Rattle.first_pass_blocks.specs.Views.{allocs_of, state_of, source_of, source_text}
 
 -- a place is not before another in the same line, or is in a later line
 abbrev pub IsLater : List ℕ → Place → Place → Type 0
@@ -23,9 +23,9 @@ beyond_of text q (NextLine line next) = Ended q (lines_from text next)
 beyond_of text q (Paragraph at) = FlowsOn q (lines_from text (line_end q))
 
 -- the call returns the start of the last definition's line and of the next line; or the start of the paragraph text
-abbrev pub SaysEnd : List ℕ → Place → RunEnd → Type 0
-SaysEnd text q (NextLine line next) = (line ≡ q.line) × (line_end q ≤ next) × IsCharBoundary text next
-SaysEnd text q (Paragraph at) = at ≡ offset q
+abbrev pub IsRunEnd : List ℕ → Place → RunEnd → Type 0
+IsRunEnd text q (NextLine line next) = (line ≡ q.line) × (line_end q ≤ next) × IsCharBoundary text next
+IsRunEnd text q (Paragraph at) = at ≡ offset q
 
 -- All link reference definitions from a place on are read, and the tables have what they define.
 pub record ReadsRun (text : List ℕ) (around : Context) (nested : Bool) (p : Place) (before now : Tables) (following : RunEnd) : Type 0 where
@@ -33,15 +33,15 @@ pub record ReadsRun (text : List ℕ) (around : Context) (nested : Bool) (p : Pl
   pub stands : IsPlaceOf text place
   pub later : IsLater text p place
   pub ends : line_end p ≤ line_end place
-  pub says : SaysEnd text place following
+  pub says : IsRunEnd text place following
   pub definitions : List LinkEntry
-  pub defined : nested ≡ false → now ≡ told before definitions
+  pub defined : nested ≡ false → now ≡ with_definitions before definitions
   pub run : nested ≡ false → IsRun around p (lines_from text (line_end p)) definitions (beyond_of text place following)
 
 -- Link reference definitions were put into a pass's table, and nothing else changed. If the entries of the tables
 -- were written in the text, they still are.
 pub record PutsDefinitions (old new : BlockPass) : Type 0 where
   pub source : source_of new ≡ source_of old
-  pub reading : reading_of new ≡ reading_of old
+  pub state : state_of new ≡ state_of old
   pub names : names_of (allocs_of new) ≡ names_of (allocs_of old)
   pub written : TablesAreWritten (source_text old) (allocs_of old) → TablesAreWritten (source_text old) (allocs_of new)

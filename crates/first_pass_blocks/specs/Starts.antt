@@ -17,7 +17,7 @@ use Rattle.first_pass_grammar.specs.OpenOrder.{is_in_item}
 use Rattle.first_pass_grammar.specs.Kinds.{all_taken}
 use Rattle.first_pass_lists.specs.Closing.{begun, list_finished, list_continued, definition_begun}
 use Rattle.first_pass_lists.specs.declared.list.ListMarker.{ListMarker}
-use Rattle.first_pass_lists.specs.declared.reading.Reading.{Reading}
+use Rattle.first_pass_lists.specs.declared.state.PassState.{PassState}
 use Rattle.first_pass_open.specs.OpenBlock.{with_child}
 use Rattle.first_pass_blocks.specs.Positions.{Position, LineAt, InLine, LeafAt, TaskAt, TaggedAt}
 use Rattle.first_pass_blocks.specs.declared.openers.Opener.{Opener}
@@ -54,20 +54,20 @@ item_after marker is_over = if is_over then LineEnds marker else after_task mark
 
 -- the state after a container is opened, with the list that it needs; it starts at the second offset, in the line at
 -- the first
-abbrev pub container_opened : ℕ → ℕ → Opener → Reading → Reading
+abbrev pub container_opened : ℕ → ℕ → Opener → PassState → PassState
 container_opened line start (Quote kind) r = begun start (BlockQuoteBody kind) (list_finished line r)
 container_opened line start (ItemOpener m) r = begun start (ListItemBody m.indent) (list_continued start m.byte m.number r)
 container_opened line start (DefinitionOpener columns) r = definition_begun start columns r
 
 -- the state after a marker is read; if the line ends there, at an offset, the item is empty
-abbrev pub after_read : AfterMarker → ℕ → Reading → Reading
+abbrev pub after_read : AfterMarker → ℕ → PassState → PassState
 after_read OnLine e r = r
 after_read (TaskText marker) e r = r
 after_read (LineEnds marker) e r = record r { tree = with_child r.tree marker; begin_list_item = Some e }
 after_read OnlyTag e r = r
 
 -- the state after a container is opened and its marker is read, in a line that ends at an offset
-abbrev pub start_opened : ℕ → Start → ℕ → Reading → Reading
+abbrev pub start_opened : ℕ → Start → ℕ → PassState → PassState
 start_opened line s e r = after_read s.after e (container_opened line s.start s.opener r)
 
 -- the position after a marker, given the place of the rest of its line and the end of that line
@@ -83,15 +83,15 @@ last_at p e OnLine = LeafAt p
 last_at p e after = after_at p e after
 
 -- no item is empty after a marker, unless its line ends there; the marker of a task is in an item
-abbrev pub IsAfter : AfterMarker → Reading → Type 0
-IsAfter OnLine r = r.begin_list_item ≡ None
-IsAfter (TaskText marker) r = (is_task_marker marker.body ≡ true) × (r.begin_list_item ≡ None) × (is_in_item r.tree ≡ true)
-IsAfter (LineEnds marker) r = Unit {0}
-IsAfter OnlyTag r = r.begin_list_item ≡ None
+abbrev pub IsAfterMarker : AfterMarker → PassState → Type 0
+IsAfterMarker OnLine r = r.begin_list_item ≡ None
+IsAfterMarker (TaskText marker) r = (is_task_marker marker.body ≡ true) × (r.begin_list_item ≡ None) × (is_in_item r.tree ≡ true)
+IsAfterMarker (LineEnds marker) r = Unit {0}
+IsAfterMarker OnlyTag r = r.begin_list_item ≡ None
 
 -- No column is owed, and the next byte is no space or tab and begins no container: no bullet, digit or `>`, no `:` of
 -- a definition, and no `[` of a footnote definition (this project).
-pub record OpensNone (r : Rest) : Type 0 where
+pub record BeginsNoContainer (r : Rest) : Type 0 where
   pub owed : r.owed ≡ 0
   pub inert : begins_inert r.left ≡ true
   pub colon : begins colon r.left ≡ false

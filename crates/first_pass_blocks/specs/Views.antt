@@ -5,7 +5,7 @@ use Rattle.first_pass_items.specs.declared.option_set.Options.{Options}
 use Rattle.first_pass_tree.specs.Forest.{Forest}
 use Rattle.first_pass_names.specs.declared.items.Allocations.{Allocations}
 use Rattle.first_pass_open.specs.declared.source.Source.{Source}
-use Rattle.first_pass_lists.specs.declared.reading.Reading.{Reading}
+use Rattle.first_pass_lists.specs.declared.state.PassState.{PassState}
 use Rattle.first_pass_grammar.specs.Containers.{Context}
 use Rattle.first_pass_open.specs.Path.{context_of}
 use Rattle.first_pass_blocks.specs.declared.state.BlockPass.{BlockPass}
@@ -19,15 +19,15 @@ source_text pass = pass.source.text.now
 abbrev pub source_options : BlockPass → Options
 source_options pass = pass.source.options
 
-abbrev pub reading_of : BlockPass → Reading
-reading_of pass = pass.reading
+abbrev pub state_of : BlockPass → PassState
+state_of pass = pass.state
 
 abbrev pub tree_of : BlockPass → Forest Item
-tree_of pass = pass.reading.tree
+tree_of pass = pass.state.tree
 
 abbrev pub allocs_of : BlockPass → Allocations
 allocs_of pass = pass.allocs
 
 -- the context in which a pass reads a line
 abbrev pub context_in : BlockPass → Context
-context_in pass = context_of pass.source.options pass.reading.tree
+context_in pass = context_of pass.source.options pass.state.tree

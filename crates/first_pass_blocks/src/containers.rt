@@ -5,10 +5,10 @@ ghost use Rattle.first_pass_lines.specs.Places.{line_end, IsPlaceOf};
 ghost use Rattle.first_pass_open.specs.Path.{outer};
 ghost use Rattle.first_pass_blocks.specs.Entering.{ClosesAt, EntersLine};
 ghost use Rattle.first_pass_lists.specs.Closing.{footnote_ended};
-ghost use Rattle.first_pass_blocks.specs.Positions.{InLine, IsFrom, LineAt, ReadsTo, may_define};
+ghost use Rattle.first_pass_blocks.specs.Positions.{InLine, IsNotBefore, LineAt, ReadsTo, may_define};
 ghost use Rattle.first_pass_blocks.specs.Progress.{PassesTo};
-ghost use Rattle.first_pass_blocks.specs.Starts.{start_opened, last_at, IsAfter, OpensNone};
-ghost use Rattle.first_pass_blocks.specs.Views.{reading_of, source_of, source_text};
+ghost use Rattle.first_pass_blocks.specs.Starts.{start_opened, last_at, IsAfterMarker, BeginsNoContainer};
+ghost use Rattle.first_pass_blocks.specs.Views.{state_of, source_of, source_text};
 
 use crate::openers::{Opener, Start, start_at};
 use crate::state::BlockPass;
@@ -17,24 +17,24 @@ use first_pass_grammar::AfterMarker;
 use first_pass_items::option_set::Options;
 use first_pass_lines::lines::{begins, scan_blank_line};
 use first_pass_lines::places::next_line;
-use first_pass_lists::reading::Reading;
+use first_pass_lists::state::PassState;
 use first_pass_open::containers::quotes_end;
 use first_pass_open::front::{scan_continued_past, scan_front};
+use first_pass_open::open_block::append_item;
 use first_pass_open::place::Place;
 use first_pass_open::source::Source;
 use first_pass_scan::line_start::LineStart;
-use first_pass_text::paragraph::append_item;
 use std::alloc::AllocError;
 
 /// Closes the open nodes at the offset `ix`, except the outermost `kept`.
-pub(crate) fn close_containers(reading: &mut Reading, kept: usize, ix: usize)
-    requires { kept ≤ length reading.old.tree.spine }
-    ensures spine { reading.new.tree.spine ≡ outer kept reading.old.tree.spine }
-    ensures kept { ClosesAt reading.old reading.new kept ix }
+pub(crate) fn close_containers(state: &mut PassState, kept: usize, ix: usize)
+    requires { kept ≤ length state.old.tree.spine }
+    ensures spine { state.new.tree.spine ≡ outer kept state.old.tree.spine }
+    ensures kept { ClosesAt state.old state.new kept ix }
 {
-    while kept < reading.tree.spine_len() {
-        reading.tree.recall_forest();
-        reading.pop(ix);
+    while kept < state.tree.spine_len() {
+        state.tree.recall_forest();
+        state.pop(ix);
     }
 }
 
@@ -42,23 +42,23 @@ pub(crate) fn close_containers(reading: &mut Reading, kept: usize, ix: usize)
 /// before, closes an innermost footnote definition in the old form. Returns the place after the prefixes of the open
 /// containers. If the line is blank, reads it and returns `None`.
 pub(crate) fn enter_line<'a>(
-    reading: &mut Reading,
+    state: &mut PassState,
     source: &Source<'a>,
     start_ix: usize,
 ) -> Option<Place<'a>>
     requires within { start_ix < length source.now.text.now }
     requires boundary { IsCharBoundary source.now.text.now start_ix }
     ensures utf8 { IsUtf8 source.now.text.now }
-    ensures entered { EntersLine source.now reading.old reading.new start_ix result }
+    ensures entered { EntersLine source.now state.old state.new start_ix result }
 {
-    let front = scan_front(source, &reading.tree, start_ix);
-    close_containers(reading, front.kept, start_ix);
-    end_old_footnote(reading, source, start_ix);
+    let front = scan_front(source, &state.tree, start_ix);
+    close_containers(state, front.continued, start_ix);
+    end_old_footnote(state, source, start_ix);
     if scan_blank_line(front.rest.left()).is_some() {
-        reading.read_blank_line();
+        state.read_blank_line();
         return None;
     }
-    reading.finish_empty_list_item();
+    state.finish_empty_list_item();
     Some(Place {
         line: start_ix,
         rest: front.rest,
@@ -68,25 +68,25 @@ pub(crate) fn enter_line<'a>(
 /// Skips blank lines from the offset `start` as long as they leave the state unchanged: a counting blank line came
 /// before, they continue every open node, and no node ends at them. Returns the start of the next unread line, or the
 /// end of the text. It skips lines only if many containers are open, to save the walk over these.
-pub(crate) fn read_blank_lines<'a>(reading: &Reading, source: &Source<'a>, start: usize) -> usize
+pub(crate) fn read_blank_lines<'a>(state: &PassState, source: &Source<'a>, start: usize) -> usize
     requires { IsCharBoundary source.now.text.now start }
     ensures later { start ≤ result }
     ensures boundary { IsCharBoundary source.now.text.now result }
-    ensures read { ReadsTo source.now start reading.now reading.now (LineAt start) (LineAt result) }
+    ensures read { ReadsTo source.now start state.now state.now (LineAt start) (LineAt result) }
 {
-    if !reading.is_unchanged_by_blank_line() {
+    if !state.is_unchanged_by_blank_line() {
         return start;
     }
-    if reading.is_in_footnote() && !source.options.has_gfm_footnotes() {
+    if state.is_in_footnote() && !source.options.has_gfm_footnotes() {
         return start;
     }
-    let quotes_end = quotes_end(&reading.tree);
-    if quotes_end == reading.tree.spine_len() {
+    let quotes_end = quotes_end(&state.tree);
+    if quotes_end == state.tree.spine_len() {
         return start;
     }
     let mut next = start;
     while next < source.text.len() {
-        let Some(rest) = scan_continued_past(source, &reading.tree, next, quotes_end) else {
+        let Some(rest) = scan_continued_past(source, &state.tree, next, quotes_end) else {
             return next;
         };
         if scan_blank_line(rest.left()).is_none() {
@@ -99,12 +99,12 @@ pub(crate) fn read_blank_lines<'a>(reading: &Reading, source: &Source<'a>, start
 
 // Closes an innermost footnote definition in the old form at the line at `start_ix`, if a counting blank line is
 // directly before.
-fn end_old_footnote<'a>(reading: &mut Reading, source: &Source<'a>, start_ix: usize)
-    ensures { reading.new ≡ footnote_ended source.now.options start_ix reading.old }
+fn end_old_footnote<'a>(state: &mut PassState, source: &Source<'a>, start_ix: usize)
+    ensures { state.new ≡ footnote_ended source.now.options start_ix state.old }
 {
     // `finish_old_footnote` also checks for a blank line; the check here spares most lines the call.
-    if reading.blank && !source.options.has_gfm_footnotes() {
-        reading.finish_old_footnote(start_ix);
+    if state.blank && !source.options.has_gfm_footnotes() {
+        state.finish_old_footnote(start_ix);
     }
 }
 
@@ -119,45 +119,45 @@ impl<'a> BlockPass<'a> {
     ) -> Result<AfterMarker, AllocError>
         requires utf8 { IsUtf8 (source_text self.old) }
         requires place { IsPlaceOf (source_text self.old) place.old }
-        requires no_empty { (reading_of self.old).begin_list_item ≡ None }
-        ensures after { IfOk result (λ after. IsAfter after (reading_of self.new)) }
-        ensures place { OnOk result (IsFrom (source_text self.old) place.old place.new) }
+        requires no_empty { (state_of self.old).begin_list_item ≡ None }
+        ensures after { IfOk result (λ after. IsAfterMarker after (state_of self.new)) }
+        ensures place { OnOk result (IsNotBefore (source_text self.old) place.old place.new) }
         ensures opened { IfOk result (λ after. PassesTo (source_of self.old) place.old.line self.old self.new
             (InLine place.old) (last_at place.new (line_end place.new) after)) }
     {
         // A leaf block without a container before it needs no call.
-        if opens_none(&place.rest) {
+        if begins_no_container(&place.rest) {
             return Ok(AfterMarker::OnLine);
         }
         self.open_in_turn(place)
     }
 
-    // Like `open_containers`, one container in each turn. It skips the check of `opens_none` at the first place, which
-    // the caller has made.
+    // Like `open_containers`, one container in each turn. It skips the check of `begins_no_container` at the first
+    // place, which the caller has made.
     #[inline(never)]
     fn open_in_turn(&mut self, place: &mut Place<'a>) -> Result<AfterMarker, AllocError>
         requires utf8 { IsUtf8 (source_text self.old) }
         requires place { IsPlaceOf (source_text self.old) place.old }
-        requires no_empty { (reading_of self.old).begin_list_item ≡ None }
-        ensures after { IfOk result (λ after. IsAfter after (reading_of self.new)) }
-        ensures place { OnOk result (IsFrom (source_text self.old) place.old place.new) }
+        requires no_empty { (state_of self.old).begin_list_item ≡ None }
+        ensures after { IfOk result (λ after. IsAfterMarker after (state_of self.new)) }
+        ensures place { OnOk result (IsNotBefore (source_text self.old) place.old place.new) }
         ensures opened { IfOk result (λ after. PassesTo (source_of self.old) place.old.line self.old self.new
             (InLine place.old) (last_at place.new (line_end place.new) after)) }
     {
         loop {
             if !self.open_footnote(place)? {
-                self.reading.tree.recall_forest();
-                let may_define = may_define(&self.source, &self.reading);
+                self.state.tree.recall_forest();
+                let may_define = may_define(&self.source, &self.state);
                 let Some(start) = start_at(&self.source, place, may_define) else {
                     return Ok(AfterMarker::OnLine);
                 };
-                open_start(&mut self.reading, &self.source, place, start)?;
+                open_start(&mut self.state, &self.source, place, start)?;
                 match start.after {
                     AfterMarker::OnLine => {}
                     after => return Ok(after),
                 }
             }
-            if opens_none(&place.rest) {
+            if begins_no_container(&place.rest) {
                 return Ok(AfterMarker::OnLine);
             }
         }
@@ -167,45 +167,45 @@ impl<'a> BlockPass<'a> {
 // Whether no column is owed, and the next byte is no space or tab and begins no container: no list item, block quote,
 // definition or footnote definition.
 #[inline(always)]
-fn opens_none<'a>(rest: &LineStart<'a>) -> bool
-    ensures { result ≡ true → OpensNone rest.now }
+fn begins_no_container<'a>(rest: &LineStart<'a>) -> bool
+    ensures { result ≡ true → BeginsNoContainer rest.now }
 {
     rest.is_at_inert() && !begins(b':', rest.left()) && !begins(b'[', rest.left())
 }
 
 // Whether a `:` may begin a definition after the last block.
-fn may_define(source: &Source<'_>, reading: &Reading) -> bool
-    ensures { result ≡ may_define source.now.options reading.now.tree }
+fn may_define(source: &Source<'_>, state: &PassState) -> bool
+    ensures { result ≡ may_define source.now.options state.now.tree }
 {
-    source.options.contains(Options::ENABLE_DEFINITION_LIST) && reading.takes_definition()
+    source.options.contains(Options::ENABLE_DEFINITION_LIST) && state.takes_definition()
 }
 
 // Opens a container that begins in the line of a place, which is after its marker. Also opens the list that it needs,
 // and appends the marker of a task without text.
 #[inline(always)]
 fn open_start<'a>(
-    reading: &mut Reading,
+    state: &mut PassState,
     source: &Source<'a>,
     place: &Place<'a>,
     start: Start,
 ) -> Result<(), AllocError>
     requires { IsPlaceOf source.now.text.now place.now }
-    ensures { OnOk result (reading.new ≡ start_opened place.now.line start (line_end place.now) reading.old) }
+    ensures { OnOk result (state.new ≡ start_opened place.now.line start (line_end place.now) state.old) }
 {
     match start.opener {
-        Opener::Item(marker) => reading.open_item(start.start, marker)?,
-        Opener::Quote(kind) => reading.open_quote(place.line, start.start, kind)?,
-        Opener::Definition(indent) => reading.open_definition(start.start, indent)?,
+        Opener::Item(marker) => state.open_item(start.start, marker)?,
+        Opener::Quote(kind) => state.open_quote(place.line, start.start, kind)?,
+        Opener::Definition(indent) => state.open_definition(start.start, indent)?,
     }
     if let AfterMarker::LineEnds(marker) = start.after {
-        append_item(&mut reading.tree, marker)?;
-        reading.begin_list_item = Some(line_over(source, place));
+        append_item(&mut state.tree, marker)?;
+        state.begin_list_item = Some(next_line_start(source, place));
     }
     Ok(())
 }
 
 /// The end of the line of a place: the start of the next line.
-pub(crate) fn line_over<'a>(source: &Source<'a>, place: &Place<'a>) -> usize
+pub(crate) fn next_line_start<'a>(source: &Source<'a>, place: &Place<'a>) -> usize
     requires { IsPlaceOf source.now.text.now place.now }
     ensures { result ≡ line_end place.now }
 {

@@ -3,7 +3,7 @@
 ghost use Rattle.std.specs.Prelude.{◌≡◌, ◌||◌, IfOk, OnOk, OnErr, Some, None, IsUtf8, IsCharBoundary, true, if◌then◌else◌};
 ghost use Rattle.first_pass_lines.specs.Places.{Place, line_rest, offset, IsPlaceOf};
 ghost use Rattle.first_pass_grammar.specs.Containers.{front};
-ghost use Rattle.first_pass_grammar.specs.Kinds.{all_taken, ends_tag, is_blank_rest};
+ghost use Rattle.first_pass_grammar.specs.Kinds.{all_taken, is_ordinary_after_tag, is_blank_rest};
 ghost use Rattle.first_pass_open.specs.Path.{context_of};
 ghost use Rattle.first_pass_tree.specs.Forest.{in_table};
 ghost use Rattle.first_pass_names.specs.TableEntries.{tables_of};
@@ -34,8 +34,8 @@ pub(crate) enum RunEnd {
 /// Returns the rest of the first line of `bytes` (the rest of the text), after the prefixes of the containers that it
 /// continues and after its indentation. The line may continue a run of link reference definitions, and any number of
 /// open containers. Returns `None` if it ends the run: if its rest is blank, as at the end of the text, or if it would
-/// interrupt a paragraph at fewer than four columns (as in `ends_tag`). Fails only if an allocation fails, which can
-/// happen only if the line may head a table (CommonMark 4.7, 4.8, 5.1).
+/// interrupt a paragraph at fewer than four columns (as in `is_ordinary_after_tag`). Fails only if an allocation fails,
+/// which can happen only if the line may head a table (CommonMark 4.7, 4.8, 5.1).
 pub fn scan_next_line_or_lazy_continuation<'input>(
     source: &Source<'_>,
     bytes: &'input [u8],
@@ -43,7 +43,7 @@ pub fn scan_next_line_or_lazy_continuation<'input>(
 ) -> Result<Option<LineStart<'input>>, AllocError>
     ensures value { IfOk result (λ rest. let around = context_of source.now.options tree.now in
         let line = front around.path (line_rest bytes.now) in
-        rest ≡ (if ends_tag around (line_rest bytes.now) || is_blank_rest (all_taken line)
+        rest ≡ (if is_ordinary_after_tag around (line_rest bytes.now) || is_blank_rest (all_taken line)
         then None
         else Some (all_taken line))) }
     ensures err { OnErr result (line_may_head (context_of source.now.options tree.now)
@@ -77,7 +77,7 @@ impl<'a> BlockPass<'a> {
         let mut at = at;
         while let Some((size, label, definition)) = parse_refdef_total(
             &self.source,
-            &self.reading.tree,
+            &self.state.tree,
             at,
         )? {
             self.allocs.define_link(label, definition)?;
@@ -86,7 +86,7 @@ impl<'a> BlockPass<'a> {
             let rest = scan_next_line_or_lazy_continuation(
                 &self.source,
                 rest_of(bytes, next),
-                &self.reading.tree,
+                &self.state.tree,
             )?;
             let Some(rest) = rest else {
                 return Ok(RunEnd::NextLine(line, next));

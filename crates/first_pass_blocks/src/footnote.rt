@@ -4,7 +4,7 @@ ghost use Rattle.std.specs.Prelude.{◌≡◌, ◌≤◌, ◌+◌, ◌<◌, leng
 ghost use Rattle.first_pass_items.specs.OptionWords.{gfm_footnotes};
 ghost use Rattle.first_pass_lines.specs.Places.{IsPlaceOf};
 ghost use Rattle.first_pass_blocks.specs.FootnoteHeads.{footnote_mark_at, ReadsFootnote, blank_before_more, IsAfterHead, TriesFootnote};
-ghost use Rattle.first_pass_blocks.specs.Views.{reading_of, source_of, source_text};
+ghost use Rattle.first_pass_blocks.specs.Views.{state_of, source_of, source_text};
 
 use crate::state::BlockPass;
 use bitflags::Flags;
@@ -26,11 +26,11 @@ impl<'a> BlockPass<'a> {
     pub(crate) fn open_footnote(&mut self, place: &mut Place<'a>) -> Result<bool, AllocError>
         requires utf8 { IsUtf8 (source_text self.old) }
         requires place { IsPlaceOf (source_text self.old) place.old }
-        requires no_empty { (reading_of self.old).begin_list_item ≡ None }
+        requires no_empty { (state_of self.old).begin_list_item ≡ None }
         ensures { IfOk result (λ opens. TriesFootnote self.old self.new place.old place.new opens) }
     {
         self.source.recall_length();
-        self.reading.tree.recall_forest();
+        self.state.tree.recall_forest();
         let Some(start) = footnote_mark(&self.source, place) else {
             return Ok(false);
         };
@@ -57,12 +57,12 @@ impl<'a> BlockPass<'a> {
         ensures within { IfOk result (λ size. IfSome size (λ n.
             (3 < n) × IsCharBoundary (source_text self.old) (start + n))) }
     {
-        let Some((size, label)) = scan_footnote(&self.source, &self.reading.tree, start)? else {
+        let Some((size, label)) = scan_footnote(&self.source, &self.state.tree, start)? else {
             return Ok(None);
         };
         self.allocs.define_footnote(self.source.alloc, &label)?;
         let index = self.allocs.allocate_cow(label)?;
-        self.reading.open_footnote(start, index)?;
+        self.state.open_footnote(start, index)?;
         if !self.source.options.has_gfm_footnotes() {
             return Ok(Some(size));
         }

@@ -7,7 +7,7 @@ ghost use Rattle.first_pass_grammar.specs.Derivation.{Tables};
 ghost use Rattle.first_pass_grammar.specs.Completion.{lines_from};
 ghost use Rattle.first_pass_grammar.specs.WholeTables.{AreWholeTables};
 ghost use Rattle.first_pass_grammar.specs.Names.{AreNamed};
-ghost use Rattle.first_pass_lists.specs.declared.reading.Reading.{Reading};
+ghost use Rattle.first_pass_lists.specs.declared.state.PassState.{PassState};
 ghost use Rattle.first_pass_ready.specs.State.{StaysReady};
 ghost use Rattle.first_pass_blocks.specs.Completed.{IsCompleted};
 
@@ -15,7 +15,7 @@ ghost use Rattle.first_pass_blocks.specs.Completed.{IsCompleted};
 /// lines and has these definitions so far, under the present names and all that extend them. Then some blocks complete
 /// its open containers, and its nodes become a tree that the text derives.
 pub fn ready_is_completed()
-    ensures { (d : Document) (defined : Tables) (r : Reading) (lines : List Place)
+    ensures { (d : Document) (defined : Tables) (r : PassState) (lines : List Place)
         → StaysReady d defined r lines → IsCompleted d defined r lines }
 {}
 
@@ -24,7 +24,7 @@ pub fn ready_is_completed()
 /// names an entry. Then rows and cells are only in tables, each row has as many cells as its table has columns, and at
 /// most 262,144 cells of a table are filled in.
 pub fn ready_is_whole()
-    ensures { (d : Document) (defined : Tables) (r : Reading) (start : ℕ)
+    ensures { (d : Document) (defined : Tables) (r : PassState) (start : ℕ)
         → StaysReady d defined r (lines_from d.text start) → AreNamed d.names r.tree.nodes
         → AreWholeTables d.names r.tree.nodes }
 {}

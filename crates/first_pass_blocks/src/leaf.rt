@@ -78,12 +78,12 @@ impl<'a> BlockPass<'a> {
         let owed = place.rest.remaining_space();
         let (next, blank) = parse_indented_code_block(
             &self.source,
-            &mut self.reading.tree,
+            &mut self.state.tree,
             &mut self.allocs,
             place.offset(),
             owed,
         )?;
-        self.reading.blank = blank;
+        self.state.blank = blank;
         Ok(next)
     }
 
@@ -95,7 +95,7 @@ impl<'a> BlockPass<'a> {
     {
         let next = parse_metadata_block(
             &self.source,
-            &mut self.reading.tree,
+            &mut self.state.tree,
             &mut self.allocs,
             at,
             byte,
@@ -111,7 +111,7 @@ impl<'a> BlockPass<'a> {
     {
         let next = parse_html_block_type_1_to_5(
             &self.source,
-            &mut self.reading.tree,
+            &mut self.state.tree,
             &mut self.allocs,
             HtmlStart { at, columns },
             end,
@@ -126,7 +126,7 @@ impl<'a> BlockPass<'a> {
             → AddsLeaf self.old self.new p (marked_kind (ThematicBreak size)) next) }
     {
         self.source.recall_length();
-        let next = parse_hrule(&mut self.reading.tree, size, at)?;
+        let next = parse_hrule(&mut self.state.tree, size, at)?;
         Ok(next)
     }
 
@@ -138,7 +138,7 @@ impl<'a> BlockPass<'a> {
     {
         let next = parse_atx_heading(
             &self.source,
-            &mut self.reading.tree,
+            &mut self.state.tree,
             &mut self.allocs,
             at,
             level,
@@ -155,7 +155,7 @@ impl<'a> BlockPass<'a> {
     {
         let next = parse_fenced_code_block(
             &self.source,
-            &mut self.reading.tree,
+            &mut self.state.tree,
             &mut self.allocs,
             at,
             fence,

@@ -6,7 +6,7 @@ ghost use Rattle.first_pass_grammar.specs.Leaves.{document};
 ghost use Rattle.first_pass_grammar.specs.Derivation.{no_tables, Derives, IsOnlyDerived};
 ghost use Rattle.first_pass_grammar.specs.Completion.{lines_from};
 ghost use Rattle.first_pass_grammar.specs.Kinds.{Paragraph, unindented, IsKind};
-ghost use Rattle.first_pass_grammar.specs.Counting.{filled_cells, own_nodes};
+ghost use Rattle.first_pass_grammar.specs.Counting.{filled_cells, counted_nodes};
 ghost use Rattle.first_pass_grammar.specs.WholeTables.{AreWholeTables, HasWholeTables};
 ghost use Rattle.first_pass_grammar.specs.Order.{IsOrdered};
 ghost use Rattle.first_pass_grammar.specs.Names.{Names, AreNamed};
@@ -19,21 +19,21 @@ ghost use Rattle.first_pass_order.specs.Ordered.{IsReadTo};
 ghost use Rattle.first_pass_blocks.specs.Positions.{LineAt, TaskAt, TaggedAt};
 ghost use Rattle.first_pass_blocks.specs.Progress.{ReadsBlock, ReadsLeaf};
 ghost use Rattle.first_pass_order.specs.Settled.{AreSettled};
-ghost use Rattle.first_pass_blocks.specs.Starts.{IsAfter};
+ghost use Rattle.first_pass_blocks.specs.Starts.{IsAfterMarker};
 ghost use Rattle.first_pass_blocks.specs.Written.{AreFootnotesWritten};
-ghost use Rattle.first_pass_blocks.specs.Views.{allocs_of, reading_of, source_options, source_text, tree_of};
+ghost use Rattle.first_pass_blocks.specs.Views.{allocs_of, state_of, source_options, source_text, tree_of};
 
-use crate::containers::{close_containers, enter_line, line_over, read_blank_lines};
+use crate::containers::{close_containers, enter_line, next_line_start, read_blank_lines};
 use crate::definition::RunEnd;
 use crate::state::BlockPass;
-use crate::text::parse_paragraph;
+use crate::text::parse_text;
 use first_pass_grammar::AfterMarker;
 use first_pass_items::item::Item;
 use first_pass_items::option_set::Options;
 use first_pass_kinds::interrupt::scan_line_after_tag;
 use first_pass_kinds::kinds::{BlockStart, kind_at};
 use first_pass_lines::places::{next_line, rest_of};
-use first_pass_lists::reading::Reading;
+use first_pass_lists::state::PassState;
 use first_pass_metadata::metadata_search::MetadataEnds;
 use first_pass_names::items::Allocations;
 use first_pass_open::indentation::scan_indentation;
@@ -49,13 +49,13 @@ impl<'a> BlockPass<'a> {
     pub fn new(alloc: Global, text: &'a str, options: Options) -> Result<BlockPass<'a>, AllocError>
         ensures text { IfOk result (λ pass. (source_text pass) ≡ text.now) }
         ensures options { IfOk result (λ pass. (source_options pass) ≡ options) }
-        ensures tables { IfOk result (λ pass. tables_of (allocs_of pass) ≡ no_tables) }
+        ensures empty { IfOk result (λ pass. tables_of (allocs_of pass) ≡ no_tables) }
         ensures ready { IfOk result (λ pass. (names : Names)
-            → Ready (document text.now options names) no_tables (reading_of pass) (lines_from text.now 0)) }
-        ensures order { IfOk result (λ pass. IsReadTo text.now (reading_of pass) 0) }
+            → Ready (document text.now options names) no_tables (state_of pass) (lines_from text.now 0)) }
+        ensures order { IfOk result (λ pass. IsReadTo text.now (state_of pass) 0) }
         ensures root { IfOk result (λ pass. length (tree_of pass).nodes ≡ 1) }
         ensures named { IfOk result (λ pass. AreNamed (names_of (allocs_of pass)) (tree_of pass).nodes) }
-        ensures whole { IfOk result (λ pass. HasWholeTables (names_of (allocs_of pass)) (tree_of pass)) }
+        ensures tables { IfOk result (λ pass. HasWholeTables (names_of (allocs_of pass)) (tree_of pass)) }
     {
         // An estimate of the number of nodes: pages of memory that are never reached cost nothing. It stays under 32
         // MiB, since the C library maps a larger block anew in each pass.
@@ -65,7 +65,7 @@ impl<'a> BlockPass<'a> {
         tree.set_end(root, text.len());
         Ok(BlockPass {
             source: Source::new(alloc, text, options),
-            reading: Reading {
+            state: PassState {
                 tree,
                 begin_list_item: None,
                 blank: false,
@@ -95,7 +95,7 @@ impl<'a> BlockPass<'a> {
         requires boundary { IsCharBoundary (source_text self.old) start_ix }
         ensures { IfOk result (λ next. ReadsBlock self.old self.new (1 + start_ix) (LineAt start_ix) next) }
     {
-        let Some(mut place) = enter_line(&mut self.reading, &self.source, start_ix) else {
+        let Some(mut place) = enter_line(&mut self.state, &self.source, start_ix) else {
             return Ok(next_line(self.source.text.as_bytes(), start_ix));
         };
         match self.open_containers(&mut place)? {
@@ -107,9 +107,9 @@ impl<'a> BlockPass<'a> {
                 let next = self.parse_task_text(place, marker)?;
                 Ok(next)
             }
-            AfterMarker::LineEnds(_) => Ok(line_over(&self.source, &place)),
+            AfterMarker::LineEnds(_) => Ok(next_line_start(&self.source, &place)),
             AfterMarker::OnlyTag => {
-                let following = line_over(&self.source, &place);
+                let following = next_line_start(&self.source, &place);
                 let next = self.parse_tagged(following)?;
                 Ok(next)
             }
@@ -120,11 +120,11 @@ impl<'a> BlockPass<'a> {
     // start of the next unread line, like `parse_block`; `start` if the line is read like any other.
     fn parse_tagged(&mut self, start: usize) -> Result<usize, AllocError>
         requires boundary { IsCharBoundary (source_text self.old) start }
-        requires no_empty { (reading_of self.old).begin_list_item ≡ None }
+        requires no_empty { (state_of self.old).begin_list_item ≡ None }
         ensures { IfOk result (λ next. ReadsBlock self.old self.new start (TaggedAt start) next) }
     {
         let bytes = rest_of(self.source.text.as_bytes(), start);
-        match scan_line_after_tag(&self.source, bytes, &self.reading.tree)? {
+        match scan_line_after_tag(&self.source, bytes, &self.state.tree)? {
             None => Ok(start),
             Some(rest) => {
                 let next = self.parse_leaf(Place { line: start, rest })?;
@@ -137,16 +137,16 @@ impl<'a> BlockPass<'a> {
     fn parse_task_text(&mut self, place: Place<'a>, marker: Item) -> Result<usize, AllocError>
         requires utf8 { IsUtf8 (source_text self.old) }
         requires place { IsPlaceOf (source_text self.old) place }
-        requires after { IsAfter (TaskText marker) (reading_of self.old) }
+        requires after { IsAfterMarker (TaskText marker) (state_of self.old) }
         ensures { IfOk result (λ next.
             ReadsBlock self.old self.new (line_end place.entry) (TaskAt place.entry marker) next) }
     {
         self.source.recall_length();
         let mut place = place;
         scan_indentation(&mut place.rest);
-        let next = parse_paragraph(
+        let next = parse_text(
             &self.source,
-            &mut self.reading.tree,
+            &mut self.state.tree,
             &mut self.allocs,
             place.offset(),
             Some(marker),
@@ -159,7 +159,7 @@ impl<'a> BlockPass<'a> {
     fn parse_leaf(&mut self, place: Place<'a>) -> Result<usize, AllocError>
         requires utf8 { IsUtf8 (source_text self.old) }
         requires place { IsPlaceOf (source_text self.old) place }
-        requires no_empty { (reading_of self.old).begin_list_item ≡ None }
+        requires no_empty { (state_of self.old).begin_list_item ≡ None }
         ensures { IfOk result (λ next. ReadsLeaf self.old self.new place.entry next) }
     {
         self.source.recall_length();
@@ -181,33 +181,33 @@ impl<'a> BlockPass<'a> {
     ) -> Result<usize, AllocError>
         requires utf8 { IsUtf8 (source_text self.old) }
         requires place { IsPlaceOf (source_text self.old) place }
-        requires no_empty { (reading_of self.old).begin_list_item ≡ None }
+        requires no_empty { (state_of self.old).begin_list_item ≡ None }
         requires found { IsFoundAt (source_options self.old) place found columns at }
         ensures { IfOk result (λ next. ReadsLeaf self.old self.new place.entry next) }
     {
-        self.reading.tree.recall_forest();
+        self.state.tree.recall_forest();
         match found {
             BlockStart::Blank => {
-                self.reading.read_blank_line();
+                self.state.read_blank_line();
                 Ok(next_line(self.source.text.as_bytes(), at))
             }
             BlockStart::Paragraph => {
-                let next = self.parse_text(place, at)?;
+                let next = self.parse_definitions_or_text(place, at)?;
                 Ok(next)
             }
             BlockStart::HtmlToBlank => {
-                self.reading.finish_list(place.line);
-                self.reading.tree.recall_forest();
+                self.state.finish_list(place.line);
+                self.state.tree.recall_forest();
                 let next = parse_html_block_type_6_or_7(
                     &self.source,
-                    &mut self.reading.tree,
+                    &mut self.state.tree,
                     &mut self.allocs,
                     HtmlStart { at, columns },
                 )?;
                 Ok(next)
             }
             BlockStart::Marked(leaf) => {
-                self.reading.finish_list(place.line);
+                self.state.finish_list(place.line);
                 let next = self.append_marked(place, leaf, columns, at)?;
                 Ok(next)
             }
@@ -216,29 +216,33 @@ impl<'a> BlockPass<'a> {
 
     // Reads the link reference definitions at a place, whose text begins at the offset `at`, and the paragraph that
     // follows them; or the paragraph that begins there. Returns the same as `parse_block`.
-    fn parse_text(&mut self, place: Place<'a>, at: usize) -> Result<usize, AllocError>
+    fn parse_definitions_or_text(
+        &mut self,
+        place: Place<'a>,
+        at: usize,
+    ) -> Result<usize, AllocError>
         requires utf8 { IsUtf8 (source_text self.old) }
         requires place { IsPlaceOf (source_text self.old) place }
-        requires no_empty { (reading_of self.old).begin_list_item ≡ None }
+        requires no_empty { (state_of self.old).begin_list_item ≡ None }
         requires kind { IsKind (source_options self.old) place.rest Paragraph }
         requires at { at ≡ offset (unindented place) }
         ensures { IfOk result (λ next. ReadsLeaf self.old self.new place.entry next) }
     {
-        self.reading.tree.recall_forest();
+        self.state.tree.recall_forest();
         match self.parse_definitions(place.line, at)? {
             RunEnd::NextLine(line, next) => {
-                self.reading.finish_list(line);
+                self.state.finish_list(line);
                 Ok(next)
             }
             RunEnd::Paragraph(text) => {
-                if self.reading.is_after_definition() {
+                if self.state.is_after_definition() {
                     let next = self.parse_possible_title(text)?;
                     return Ok(next);
                 }
-                self.reading.finish_list(text);
-                let next = parse_paragraph(
+                self.state.finish_list(text);
+                let next = parse_text(
                     &self.source,
-                    &mut self.reading.tree,
+                    &mut self.state.tree,
                     &mut self.allocs,
                     text,
                     None,
@@ -272,25 +276,25 @@ pub fn run_first_pass<'a>(
     ensures order { IfOk result (λ answer. IsOrdered text.now answer.0.nodes) }
     ensures node_bound { IfOk result (λ answer.
         length answer.0.nodes ≤ 1 + 4 * length text.now + filled_cells answer.0.nodes) }
-    ensures own { IfOk result (λ answer. own_nodes answer.0.nodes ≤ 1 + 4 * length text.now) }
+    ensures counted { IfOk result (λ answer. counted_nodes answer.0.nodes ≤ 1 + 4 * length text.now) }
     ensures named { IfOk result (λ answer. AreNamed (names_of answer.1) answer.0.nodes) }
-    ensures written { IfOk result (λ answer. AreWritten text.now (refdefs_of answer.1)) }
+    ensures links { IfOk result (λ answer. AreWritten text.now (refdefs_of answer.1)) }
     ensures footnotes { IfOk result (λ answer. AreFootnotesWritten text.now (footdefs_of answer.1)) }
-    ensures whole { IfOk result (λ answer. AreWholeTables (names_of answer.1) answer.0.nodes) }
+    ensures tables { IfOk result (λ answer. AreWholeTables (names_of answer.1) answer.0.nodes) }
 {
     let mut pass = BlockPass::new(alloc, text, options)?;
     let mut ix = 0;
     while ix < text.len() {
         ix = pass.parse_block(ix)?;
-        ix = read_blank_lines(&pass.reading, &pass.source, ix);
+        ix = read_blank_lines(&pass.state, &pass.source, ix);
     }
-    close_containers(&mut pass.reading, 0, text.len());
+    close_containers(&mut pass.state, 0, text.len());
     let BlockPass {
         source: _,
-        reading,
+        state,
         allocs,
         metadata_ends: _,
     } = pass;
-    let Reading { tree, .. } = reading;
+    let PassState { tree, .. } = state;
     Ok((tree, allocs))
 }

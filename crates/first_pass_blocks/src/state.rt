@@ -3,7 +3,7 @@
 ghost use Rattle.first_pass_metadata.specs.MetadataSearch.{IsKnownOf};
 ghost use Rattle.first_pass_metadata.proofs.KnownFacts.{known_prop};
 
-use first_pass_lists::reading::Reading;
+use first_pass_lists::state::PassState;
 use first_pass_metadata::metadata_search::MetadataEnds;
 use first_pass_names::items::Allocations;
 use first_pass_open::source::Source;
@@ -12,7 +12,7 @@ use first_pass_open::source::Source;
 #[derive(Drop)]
 pub struct BlockPass<'a> {
     pub source: Source<'a>,
-    pub reading: Reading,
+    pub state: PassState,
     pub allocs: Allocations<'a>,
     /// The results of earlier searches for lines that close metadata.
     pub metadata_ends: MetadataEnds,

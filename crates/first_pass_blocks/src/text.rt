@@ -61,7 +61,7 @@ fn append_table(
 /// heading; the marker of its task list item, if it has one, is its first child. Returns the start of the next unread
 /// line, or the end of the text. Adds the alignments of a table or the attributes of a heading, and the texts that
 /// tokens name, to `allocs`. Fails only if an allocation fails (CommonMark 4.3, 4.8, GFM 4.10).
-pub fn parse_paragraph<'a>(
+pub fn parse_text<'a>(
     source: &Source<'a>,
     tree: &mut Tree<Item>,
     allocs: &mut Allocations<'a>,

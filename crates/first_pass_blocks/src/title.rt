@@ -6,7 +6,7 @@ ghost use Rattle.first_pass_blocks.specs.Titles.{current_end, is_paragraph_last,
 ghost use Rattle.first_pass_blocks.specs.Views.{source_text, tree_of};
 
 use crate::state::BlockPass;
-use crate::text::parse_paragraph;
+use crate::text::parse_text;
 use first_pass_items::item::{Item, ItemBody};
 use first_pass_tree::forest::Tree;
 use std::alloc::AllocError;
@@ -42,19 +42,19 @@ impl<'a> BlockPass<'a> {
         requires after { is_after_definition (tree_of self.old) ≡ true }
         ensures { IfOk result (λ next. ReadsTitle self.old self.new text next) }
     {
-        let end = current_end(&self.reading.tree);
-        let next = parse_paragraph(
+        let end = current_end(&self.state.tree);
+        let next = parse_text(
             &self.source,
-            &mut self.reading.tree,
+            &mut self.state.tree,
             &mut self.allocs,
             text,
             None,
         )?;
-        self.reading.tree.recall_forest();
-        if is_paragraph_last(&self.reading.tree) {
-            self.reading.keep_possible_title(end);
+        self.state.tree.recall_forest();
+        if is_paragraph_last(&self.state.tree) {
+            self.state.keep_possible_title(end);
         } else {
-            self.reading.leave_definitions(end);
+            self.state.leave_definitions(end);
         }
         Ok(next)
     }

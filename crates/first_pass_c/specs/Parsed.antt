@@ -37,7 +37,7 @@ pub record IsTreeOf (text : List ℕ) (bits : ℕ) (names : Names) (nodes : List
   pub order : IsOrdered text nodes
   pub node_bound : length nodes ≤ 1 + 4 * length text + filled_cells nodes
   pub named : AreNamed names nodes
-  pub whole : AreWholeTables names nodes
+  pub whole_tables : AreWholeTables names nodes
 
 -- the flat form of a tree that was read (this project)
 abbrev pub form_of : Parsed → FlatForm

@@ -1,13 +1,13 @@
 //! The fault that ends a run over a table of cases before the table's end.
 
-use first_pass_host::fault::BlocksFault;
+use first_pass_host::fault::RunFault;
 use std::alloc::{AllocError, Global};
 
 /// The fault that ended a run over a table of cases before the table's end.
 #[derive(Clone, Copy, Debug, PartialEq, Eq)]
 pub enum CasesFault {
     /// The table couldn't be read, the report couldn't be written, or an allocation failed.
-    Run(BlocksFault),
+    Run(RunFault),
     /// This line of the table is not part of a case: what it has or lacks.
     Malformed(usize, &'static str),
 }
@@ -26,12 +26,12 @@ impl CasesFault {
 
 impl From<AllocError> for CasesFault {
     fn from(_error: AllocError) -> CasesFault {
-        CasesFault::Run(BlocksFault::OutOfMemory)
+        CasesFault::Run(RunFault::OutOfMemory)
     }
 }
 
-impl From<BlocksFault> for CasesFault {
-    fn from(fault: BlocksFault) -> CasesFault {
+impl From<RunFault> for CasesFault {
+    fn from(fault: RunFault) -> CasesFault {
         CasesFault::Run(fault)
     }
 }

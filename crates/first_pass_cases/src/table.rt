@@ -2,7 +2,7 @@
 
 use crate::fault::CasesFault;
 use crate::tally::Tally;
-use first_pass_host::fault::BlocksFault;
+use first_pass_host::fault::RunFault;
 use first_pass_host::input::read_whole;
 use first_pass_host::output::write_whole;
 use std::str;
@@ -12,7 +12,7 @@ pub fn read_table(rt: &HostRuntime) -> Result<String, CasesFault> {
     let bytes = read_whole(rt.alloc(), &mut rt.stdin())?;
     match str::from_utf8(bytes.as_slice()) {
         Ok(text) => Ok(String::from_str(rt.alloc(), text)?),
-        Err(_) => Err(CasesFault::Run(BlocksFault::NotUtf8)),
+        Err(_) => Err(CasesFault::Run(RunFault::NotUtf8)),
     }
 }
 

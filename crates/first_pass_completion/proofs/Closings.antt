@@ -13,7 +13,7 @@ use Rattle.first_pass_grammar.specs.Blocks.{LeafBlock, BlankLine, Block, Head, O
 use Rattle.first_pass_grammar.specs.Blocks.{Nil, Then, Node}
 use Rattle.first_pass_grammar.specs.Before.{LastOther, LastParagraph, LastDefinition, Before, begins_paragraph}
 use Rattle.first_pass_grammar.specs.Before.{after_block}
-use Rattle.first_pass_grammar.specs.Skeleton.{From, Inside, Opening, OpensLeaf, OpensNode, Opens, level}
+use Rattle.first_pass_grammar.specs.Skeleton.{Continues, Inside, Opening, OpensLeaf, OpensNode, Opens, level}
 use Rattle.first_pass_grammar.specs.Kinds.{Kind}
 use Rattle.first_pass_grammar.specs.Rows.{ALeaf, Joins, ItemsOf, DefinitionsTo, Rows, End, OneOf, Definitions, any_gap, is_loose, is_paragraph}
 use Rattle.first_pass_grammar.specs.Rows.{closing_place, list_until, items_after, list_after, what_of, row_of, row_of_leaf, titled, gap_before}
@@ -22,17 +22,17 @@ use Rattle.first_pass_grammar.specs.Derivation.{Tables, items_of}
 use Rattle.first_pass_grammar.specs.Completion.{title_left, list_closed, OtherClosed, ParagraphAt, DefinitionClosed, TitleAt, Pending, NoList, OneList}
 use Rattle.first_pass_grammar.specs.Completion.{OneTitle, rows_beyond, rendered, Frame, InList, InDefinitions, containers_of}
 use Rattle.first_pass_grammar.specs.Completion.{IsPlain}
-use Rattle.first_pass_grammar.proofs.Alike.{only_opener, only_head, AlikeOpening}
+use Rattle.first_pass_grammar.proofs.Uniqueness.Alike.{only_opener, only_head, AlikeOpening}
 use Rattle.first_pass_completion.proofs.Extending.{tail, lvl, finish_moved, loosened_in-false, stands_after, plain_before}
 use Rattle.first_pass_completion.proofs.Extending.{extend, StaysAt}
-use Rattle.first_pass_grammar.proofs.Finishes.{Finish, Tail, CompletesAt, FinishesAt, finish_derives, whole_by}
+use Rattle.first_pass_grammar.proofs.Sequences.Finishes.{Finish, Tail, CompletesAt, FinishesAt, finish_derives, whole_by}
 use Rattle.first_pass_completion.proofs.FlatBlocks.{OwnParagraph}
 use Rattle.first_pass_completion.proofs.Moved.{is_definition, opens_definition, OpensAlike, takes_alike, other_alike, SameAfter, seq_moved, SameFirst}
 use Rattle.first_pass_completion.proofs.Moved.{same_after}
 use Rattle.first_pass_completion.proofs.Moved.{same_back}
 use Rattle.first_pass_completion.proofs.Moved.{rows_moved, counts_moved, Known, FirstHas, known_first, OpensBlock, FirstIsOther, first_is_other}
 use Rattle.first_pass_completion.proofs.PoppedLists.{last_in, closed_below, title_below}
-use Rattle.first_pass_grammar.proofs.RowsAlike.{begins_alike}
+use Rattle.first_pass_grammar.proofs.Uniqueness.RowsAlike.{begins_alike}
 use Rattle.first_pass_completion.proofs.Titles.{BeginsOther, title_stays, titled_by}
 
 -- where a list of items ends before a leaf block; the next definition: before a container (this project)
@@ -101,7 +101,7 @@ only_joins (DefinitionsTo e) (ItemMarker other number columns) = refl
 only_joins (DefinitionsTo e) (FootnoteMarker columns index label) = refl
 only_joins (DefinitionsTo e) (DefinitionMarker columns) = refl
 
-leaf_away : (d : Document) (list : Joins) (at : ℕ) (b b' : LeafBlock) (there there' : From) (left left' : List Place)
+leaf_away : (d : Document) (list : Joins) (at : ℕ) (b b' : LeafBlock) (there there' : Continues) (left left' : List Place)
     → AlikeOpening d.names d.names (OpensLeaf (Block b) there left) (OpensLeaf (Block b') there' left') → LeafAway list at b → LeafAway list at b'
 leaf_away d (ItemsOf byte) at b b' there there' left left' a away =
     sym (ap (λ (z : Kind × ℕ × ℕ). if is_paragraph z.0 then z.2 else z.1) a.0.0) ∙ away

@@ -14,21 +14,21 @@ use Rattle.first_pass_grammar.specs.Leaves.{Document, around}
 use Rattle.first_pass_grammar.specs.Blocks.{LeafBlock, BlankLine, Block, block_at, Nil, Then}
 use Rattle.first_pass_grammar.specs.Before.{LastOther, LastParagraph, Before, last_container, list_is_open, after_blank, after_block}
 use Rattle.first_pass_grammar.specs.Before.{is_paragraph_body, begins_paragraph, is_run, last_after_run, last_block, before_end}
-use Rattle.first_pass_grammar.specs.Skeleton.{From, Line, Inside, Blanks, At, TextOf, OnlyMark, after_marker, Opening, OpensLeaf, OpensText, Opens}
-use Rattle.first_pass_grammar.specs.Skeleton.{level, Left, InLine, Ends, ends_old_footnote, next_block, onward, after_first, end_of_left, end_before, IsFirst}
+use Rattle.first_pass_grammar.specs.Skeleton.{Continues, Line, Inside, Blanks, AtPlace, TextOf, OnlyMark, after_marker, Opening, OpensLeaf, OpensText, Opens}
+use Rattle.first_pass_grammar.specs.Skeleton.{level, Remaining, InLine, Ends, ends_old_footnote, next_block, onward, after_first, end_of_left, end_before, IsFirst}
 use Rattle.first_pass_grammar.specs.Skeleton.{IsSequence}
 use Rattle.first_pass_grammar.specs.Kinds.{Paragraph, unindented, is_blank_rest}
 use Rattle.first_pass_grammar.specs.Rows.{ItemsOf, Rows, any_gap, rows_of}
 use Rattle.first_pass_grammar.specs.Rows.{End, definitions_first}
 use Rattle.first_pass_grammar.specs.LinkTables.{with_links, with_labels}
-use Rattle.first_pass_grammar.specs.Derivation.{Tables, Derives, no_tables, told, definitions_of, footnotes_of, root_of}
+use Rattle.first_pass_grammar.specs.Derivation.{Tables, Derives, no_tables, with_definitions, definitions_of, footnotes_of, root_of}
 use Rattle.first_pass_grammar.specs.Derivation.{block_items, items_of}
 use Rattle.first_pass_grammar.specs.Completion.{ended, Closed, OtherClosed, ParagraphAt, DefinitionClosed, TitleAt, Pending, NoList, OneList}
 use Rattle.first_pass_grammar.specs.Completion.{rows_beyond, rendered, Frame, InContainer, InList, InDefinitions, closed_as, definitions_open, containers_of}
 use Rattle.first_pass_grammar.specs.Completion.{loosened}
 use Rattle.first_pass_grammar.specs.Completion.{IsPlain, last_plain, StandsIn, last_of, IsShaped}
-use Rattle.first_pass_grammar.proofs.Finishes.{Finish, Tail, before_of, CompletesAt, FinishesAt, finish_derives, whole_by}
-use Rattle.first_pass_grammar.proofs.Goings.{ends_inside, begins_blank}
+use Rattle.first_pass_grammar.proofs.Sequences.Finishes.{Finish, Tail, before_of, CompletesAt, FinishesAt, finish_derives, whole_by}
+use Rattle.first_pass_grammar.proofs.Sequences.Goings.{ends_inside, begins_blank}
 use Rattle.first_pass_completion.proofs.FlatBlocks.{OwnFrom, FlatBlock, OwnParagraph, opened_own}
 use Rattle.first_pass_completion.proofs.Titles.{closed_after, leaf_nodes, leaf_gaps}
 use Rattle.first_pass_completion.proofs.Extending.{tail, lvl, finish_moved, AreBelow-more, length-ended, loosened-false, loosened_in-false, plain_last}
@@ -65,11 +65,12 @@ leaf_last place closed frames b plain =
     ∙ ap (last_block b) (sym (plain_last closed frames plain))
 
 -- a leaf block before which no gap is noted
-block_step : (d : Document) (defined : Tables) (closed : Closed) (frames : List Frame) (nodes : List (ℕ × Item)) (os : List ℕ) (from : From)
+block_step : (d : Document) (defined : Tables) (closed : Closed) (frames : List Frame) (nodes : List (ℕ × Item)) (os : List ℕ) (from : Continues)
     (lines left : List Place) (b : LeafBlock) (forest : List (ℕ × Item)) (tables : Tables)
     → IsPlain frames → EndsAlike (length d.text) from (after_first from Line) → FlatBlock b × OwnParagraph b
     → IsFirst d (lvl frames (tail closed false)) from lines (OpensLeaf (Block b) Line left)
-    → FinishesAt d (told defined b.definitions) (tail (closed_after (length nodes) b closed) b.gap) frames (nodes ++ block_items (suc (length os)) false b) os
+    → FinishesAt d (with_definitions defined b.definitions) (tail (closed_after (length nodes) b closed) b.gap) frames
+    (nodes ++ block_items (suc (length os)) false b) os
     (after_first from Line) left forest tables
     → FinishesAt d defined (tail closed false) frames nodes os from lines forest tables
 unfolding IsSequence rows_of before_end definitions_of footnotes_of
@@ -79,7 +80,7 @@ block_step d defined closed frames nodes os from lines left b forest tables plai
     let q : Bool = in_quote (containers_of frames) in
     let before : Before = before_of frames (tail closed false) in
     let now : Closed = closed_after (length nodes) b closed in
-    extend d defined (told defined b.definitions) frames (NoList closed) (NoList now) before (after_block before b) false nodes (nodes ++ added) os
+    extend d defined (with_definitions defined b.definitions) frames (NoList closed) (NoList now) before (after_block before b) false nodes (nodes ++ added) os
     from (after_first from Line) lines left forest tables (λ s. Then (Block b) s) plain alike
     (λ s mid seq. record {
       seq = (Line, left, first, seq);
@@ -92,7 +93,8 @@ block_step d defined closed frames nodes os from lines left b forest tables plai
     (ap (λ z. stands_after z b.gap) (leaf_last (length nodes) closed frames b plain)) (sym (loosened_in-false frames)) refl fin)
 
 -- a blank line in a state with a list that may continue
-blank_step : (d : Document) (defined : Tables) (frames : List Frame) (list : Pending) (before : Before) (nodes : List (ℕ × Item)) (os : List ℕ) (from : From)
+blank_step : (d : Document) (defined : Tables) (frames : List Frame) (list : Pending) (before : Before) (nodes : List (ℕ × Item)) (os : List ℕ)
+    (from : Continues)
     (lines left : List Place) (forest : List (ℕ × Item)) (tables : Tables)
     → IsPlain frames → EndsAlike (length d.text) from (after_first from Line)
     → IsFirst d (level (containers_of frames) before) from lines (OpensLeaf BlankLine Line left)
@@ -142,12 +144,13 @@ completes-enter d defined t frames nodes os line q lines is old c = record {
 }
 
 -- after a leaf block, wherever it begins
-pub completes-leaf : (d : Document) (defined : Tables) (closed : Closed) (frames : List Frame) (nodes : List (ℕ × Item)) (os : List ℕ) (from : From)
+pub completes-leaf : (d : Document) (defined : Tables) (closed : Closed) (frames : List Frame) (nodes : List (ℕ × Item)) (os : List ℕ) (from : Continues)
     (lines left : List Place) (b : LeafBlock)
     → IsPlain frames → EndsAlike (length d.text) from (after_first from Line) → OwnFrom from
     → IsFirst d (lvl frames (tail closed false)) from lines (OpensLeaf (Block b) Line left)
     → CompletesAt d defined (tail closed false) frames nodes os from lines
-    → CompletesAt d (told defined b.definitions) (tail (closed_after (length nodes) b closed) b.gap) frames (nodes ++ block_items (suc (length os)) false b) os
+    → CompletesAt d (with_definitions defined b.definitions) (tail (closed_after (length nodes) b closed) b.gap) frames
+    (nodes ++ block_items (suc (length os)) false b) os
     (after_first from Line) left
 completes-leaf d defined closed frames nodes os from lines left b plain alike flat first c = record {
   below = AreBelow-more _ _ os (let k = length-append nodes (block_items (suc (length os)) false b) in omega arith) c.below;
@@ -162,7 +165,8 @@ pub completes-block : (d : Document) (defined : Tables) (closed : Closed) (frame
     (lines left : List Place) (b : LeafBlock)
     → IsPlain frames → Opens d (lvl frames (tail closed false)) p lines (OpensLeaf (Block b) Line left)
     → CompletesAt d defined (tail closed false) frames nodes os (Inside p) lines
-    → CompletesAt d (told defined b.definitions) (tail (closed_after (length nodes) b closed) b.gap) frames (nodes ++ block_items (suc (length os)) false b) os
+    → CompletesAt d (with_definitions defined b.definitions) (tail (closed_after (length nodes) b closed) b.gap) frames
+    (nodes ++ block_items (suc (length os)) false b) os
     Line left
 completes-block d defined closed frames nodes os p lines left b plain opens c =
     let l = lvl frames (tail closed false) in
@@ -174,15 +178,16 @@ completes-block d defined closed frames nodes os p lines left b plain opens c =
 pub completes-text : (d : Document) (defined : Tables) (closed : Closed) (frames : List Frame) (nodes : List (ℕ × Item)) (os : List ℕ) (marker : Item)
     (p : Place) (lines left : List Place) (b : LeafBlock)
     → IsPlain frames → is_paragraph_body marker.body ≡ false → OpensText d (containers_of frames) p lines (Some marker) (OpensLeaf (Block b) Line left)
-    → CompletesAt d defined (tail closed false) frames nodes os (At p (TextOf marker)) lines
-    → CompletesAt d (told defined b.definitions) (tail (closed_after (length nodes) b closed) b.gap) frames (nodes ++ block_items (suc (length os)) false b) os
+    → CompletesAt d defined (tail closed false) frames nodes os (AtPlace p (TextOf marker)) lines
+    → CompletesAt d (with_definitions defined b.definitions) (tail (closed_after (length nodes) b closed) b.gap) frames
+    (nodes ++ block_items (suc (length os)) false b) os
     Line left
 unfolding next_block
 completes-text d defined closed frames nodes os marker p lines left b plain other opens c =
-    completes-leaf d defined closed frames nodes os (At p (TextOf marker)) lines left b plain (λ path mid. refl) other
+    completes-leaf d defined closed frames nodes os (AtPlace p (TextOf marker)) lines left b plain (λ path mid. refl) other
     (record { place = p; following = lines; begins = refl; opens = opens }) c
 
-mark_alike : (n : ℕ) (blanks : Option ℕ) (path : List Container) (mid : Left) → end_of_left n path blanks mid ≡ end_before n path (after_marker blanks) mid
+mark_alike : (n : ℕ) (blanks : Option ℕ) (path : List Container) (mid : Remaining) → end_of_left n path blanks mid ≡ end_before n path (after_marker blanks) mid
 mark_alike n None path mid = refl
 mark_alike n (Some e) path mid = refl
 
@@ -190,7 +195,7 @@ mark_alike n (Some e) path mid = refl
 pub completes-mark : (d : Document) (defined : Tables) (closed : Closed) (frames : List Frame) (nodes : List (ℕ × Item)) (os : List ℕ) (marker : Item)
     (p : Place) (blanks : Option ℕ) (lines : List Place)
     → IsPlain frames → is_paragraph_body marker.body ≡ false
-    → CompletesAt d defined (tail closed false) frames nodes os (At p (OnlyMark marker blanks)) lines
+    → CompletesAt d defined (tail closed false) frames nodes os (AtPlace p (OnlyMark marker blanks)) lines
     → CompletesAt d defined fresh frames (nodes ++ (suc (length os), marker) ∷ []) os (after_marker blanks) lines
 unfolding with_links next_block
 completes-mark d defined closed frames nodes os marker p blanks lines plain other c =
@@ -200,7 +205,7 @@ completes-mark d defined closed frames nodes os marker p blanks lines plain othe
     subst (λ z. CompletesAt d defined (tail z false) frames (nodes ++ (suc (length os), marker) ∷ []) os (after_marker blanks) lines) last
     (subst (λ depth. CompletesAt d defined (tail (closed_after (length nodes) b closed) false) frames (nodes ++ (depth, marker) ∷ []) os
     (after_marker blanks) lines) deep
-    (completes-leaf d defined closed frames nodes os (At p (OnlyMark marker blanks)) lines lines b plain (mark_alike (length d.text) blanks) other
+    (completes-leaf d defined closed frames nodes os (AtPlace p (OnlyMark marker blanks)) lines lines b plain (mark_alike (length d.text) blanks) other
     (record { place = p; following = lines; begins = refl; opens = refl }) c))
 
 -- whether the blank lines after open nodes include a counting one, after one more blank line
@@ -211,7 +216,7 @@ counted_after frames t = t.run || (not (in_quote (containers_of frames)) || list
 abbrev pub after_blank_line : List Frame → Tail → Tail
 after_blank_line frames t = tail t.closed (counted_after frames t)
 
-blank_any : (d : Document) (defined : Tables) (frames : List Frame) (t : Tail) (nodes : List (ℕ × Item)) (os : List ℕ) (from : From)
+blank_any : (d : Document) (defined : Tables) (frames : List Frame) (t : Tail) (nodes : List (ℕ × Item)) (os : List ℕ) (from : Continues)
     (lines left : List Place) (forest : List (ℕ × Item)) (tables : Tables)
     → IsShaped frames → EndsAlike (length d.text) from (after_first from Line)
     → IsFirst d (lvl frames t) from lines (OpensLeaf BlankLine Line left)
@@ -233,7 +238,7 @@ blank_any d defined (InDefinitions loose ∷ frames) t nodes (o ∷ os) from lin
     forest tables shape.0 alike first fin
 
 -- after a blank line, wherever it begins
-pub completes-blank : (d : Document) (defined : Tables) (t : Tail) (frames : List Frame) (nodes : List (ℕ × Item)) (os : List ℕ) (from : From)
+pub completes-blank : (d : Document) (defined : Tables) (t : Tail) (frames : List Frame) (nodes : List (ℕ × Item)) (os : List ℕ) (from : Continues)
     (lines left : List Place)
     → EndsAlike (length d.text) from (after_first from Line) → IsFirst d (lvl frames t) from lines (OpensLeaf BlankLine Line left)
     → CompletesAt d defined t frames nodes os from lines → CompletesAt d defined (after_blank_line frames t) frames nodes os (after_first from Line) left
@@ -291,8 +296,8 @@ closed_last (Definition columns) (InList byte loose ∷ frames) e stands = absur
 closed_last (Definition columns) (InDefinitions loose ∷ frames) e stands = refl
 
 -- the innermost container, after it is closed
-pop_step : (d : Document) (defined : Tables) (c : Container) (frames : List Frame) (t : Tail) (nodes : List (ℕ × Item)) (o : ℕ) (os : List ℕ) (from : From)
-    (lines : List Place) (left : Left) (forest : List (ℕ × Item)) (tables : Tables)
+pop_step : (d : Document) (defined : Tables) (c : Container) (frames : List Frame) (t : Tail) (nodes : List (ℕ × Item)) (o : ℕ) (os : List ℕ) (from : Continues)
+    (lines : List Place) (left : Remaining) (forest : List (ℕ × Item)) (tables : Tables)
     → StandsIn c frames → next_block d.options (lvl (InContainer c ∷ frames) t) from lines ≡ Ends left
     → (let e : ℕ = end_before (length d.text) (containers_of frames) from left in
     FinishesAt d defined (tail (closed_as c e) t.run) frames (ended nodes o e) os (onward left).0 (onward left).1 forest tables)
@@ -312,7 +317,7 @@ pop_step d defined c frames t nodes o os from lines left forest tables stands en
 
 -- the innermost container is closed
 pub completes-pop : (d : Document) (defined : Tables) (t : Tail) (c : Container) (frames : List Frame) (nodes : List (ℕ × Item)) (o : ℕ) (os : List ℕ)
-    (from : From) (lines : List Place) (left : Left)
+    (from : Continues) (lines : List Place) (left : Remaining)
     → next_block d.options (lvl (InContainer c ∷ frames) t) from lines ≡ Ends left
     → CompletesAt d defined t (InContainer c ∷ frames) nodes (o ∷ os) from lines
     → (let e : ℕ = end_before (length d.text) (containers_of frames) from left in

@@ -16,18 +16,18 @@ use Rattle.first_pass_grammar.specs.Leaves.{Document}
 use Rattle.first_pass_grammar.specs.Blocks.{Head, QuoteMarker, ItemMarker, FootnoteMarker, Skeleton, Node}
 use Rattle.first_pass_grammar.specs.Before.{LastItem, Before, nothing}
 use Rattle.first_pass_grammar.specs.Before.{after_container, before_end}
-use Rattle.first_pass_grammar.specs.Skeleton.{From, Inside, OpensNode, Opens}
+use Rattle.first_pass_grammar.specs.Skeleton.{Continues, Inside, OpensNode, Opens}
 use Rattle.first_pass_grammar.specs.Skeleton.{level, onward, end_before, IsSequence}
 use Rattle.first_pass_grammar.specs.Rows.{AList, ItemsOf, Rows, OneOf, any_gap, is_loose, list_until, items_after, list_after, row_of, rows_of}
 use Rattle.first_pass_grammar.specs.Rows.{definitions_first}
 use Rattle.first_pass_grammar.specs.LinkTables.{with_labels}
-use Rattle.first_pass_grammar.specs.Derivation.{Tables, told_label, definitions_of, footnotes_of, told_by, node_of, list_flags}
+use Rattle.first_pass_grammar.specs.Derivation.{Tables, with_footnote_label, definitions_of, footnotes_of, with_all_of, node_of, list_flags}
 use Rattle.first_pass_grammar.specs.Derivation.{items_of}
 use Rattle.first_pass_grammar.specs.Completion.{ended, Closed, OtherClosed, Pending, NoList, OneList}
 use Rattle.first_pass_grammar.specs.Completion.{rendered, Frame, InContainer, InList, containers_of}
 use Rattle.first_pass_grammar.specs.Completion.{IsPlain}
-use Rattle.first_pass_grammar.proofs.Tightening.{eqb-same, list_closed-mid, closed_item}
-use Rattle.first_pass_grammar.proofs.Finishes.{Finish, before_of, CompletesAt, FinishesAt, finish_derives, whole_by}
+use Rattle.first_pass_grammar.proofs.Sequences.Tightening.{eqb-same, list_closed-mid, closed_item}
+use Rattle.first_pass_grammar.proofs.Sequences.Finishes.{Finish, before_of, CompletesAt, FinishesAt, finish_derives, whole_by}
 use Rattle.first_pass_completion.proofs.Completions.{fresh, beside_all}
 use Rattle.first_pass_completion.proofs.JoinedNodes.{joined}
 use Rattle.first_pass_completion.proofs.Extending.{tail, lvl, finish_moved, loosened_in-false, plain_loosened}
@@ -41,7 +41,7 @@ ended-mid nodes more k e x = modify-at nodes more (k, x) (length nodes) (λ y. r
 
 -- a block quote that is opened, before which no gap is noted
 quote_step : (d : Document) (defined : Tables) (closed : Closed) (frames : List Frame) (nodes : List (ℕ × Item)) (os : List ℕ) (p : Place)
-    (lines following : List Place) (kind : Option BlockQuoteKind) (start line some_end : ℕ) (inside : From)
+    (lines following : List Place) (kind : Option BlockQuoteKind) (start line some_end : ℕ) (inside : Continues)
     (forest : List (ℕ × Item)) (tables : Tables)
     → IsPlain frames → StaysAt d (containers_of frames) p
     → Opens d (lvl frames (tail closed false)) p lines
@@ -67,7 +67,7 @@ quote_step d defined closed frames nodes os p lines following kind start line so
     ap (λ z. ended z (length nodes) e) (append_assoc nodes (x ∷ []) items) ∙ ended-mid nodes items k e (node_of start some_end (BlockQuoteBody kind)) in
     let now : Before = after_container (BlockQuote kind) (before_end true nothing kids) in
     let all : ℕ → Skeleton → Rows = λ last s. rows_of (in_quote path) before last (Node head e kids s) in
-    extend d defined (told_by defined kids) frames (NoList closed) (NoList OtherClosed) before now false nodes later os
+    extend d defined (with_all_of defined kids) frames (NoList closed) (NoList OtherClosed) before now false nodes later os
     (Inside p) (onward mid).0 lines (onward mid).1 forest tables (λ s. Node head e kids s) plain (alike_onward n p mid)
     (λ s left seq. record {
       seq = (inside, following, mid, first_here d (level path before) p lines (OpensNode head inside following) stays opens, inner, refl, seq);
@@ -113,7 +113,7 @@ list_items quoted d last e start some_end byte number columns line flags before 
 
 -- a list that is opened with its first item, before which no gap is noted
 list_step : (d : Document) (defined : Tables) (closed : Closed) (frames : List Frame) (nodes : List (ℕ × Item)) (os : List ℕ) (p : Place)
-    (lines following : List Place) (byte number columns start line some_end other_end : ℕ) (flags : ListFlags) (inside : From)
+    (lines following : List Place) (byte number columns start line some_end other_end : ℕ) (flags : ListFlags) (inside : Continues)
     (forest : List (ℕ × Item)) (tables : Tables)
     → IsPlain frames → StaysAt d (containers_of frames) p
     → Opens d (lvl frames (tail closed false)) p lines
@@ -142,7 +142,7 @@ list_step d defined closed frames nodes os p lines following byte number columns
     let now : Before = after_container (ListItem columns) (before_end false nothing kids) in
     let list : Pending = OneList (length nodes) (ItemsOf byte) (any_gap rows) in
     let all : ℕ → Skeleton → Rows = λ last s. rows_of (in_quote path) before last (Node head e kids s) in
-    extend d defined (told_by defined kids) frames (NoList closed) list before now false nodes later os
+    extend d defined (with_all_of defined kids) frames (NoList closed) list before now false nodes later os
     (Inside p) (onward mid).0 lines (onward mid).1 forest tables (λ s. Node head e kids s) plain (alike_onward n p mid)
     (λ s left seq. record {
       seq = (inside, following, mid, first_here d (level path before) p lines (OpensNode head inside following) stays opens, inner, refl, seq);
@@ -152,8 +152,8 @@ list_step d defined closed frames nodes os p lines following byte number columns
       gaps = λ last. ap any_gap (beside_all k last nodes closed (all last s) refl).1;
     })
     (λ s. told_kids defined kids s)
-    (subst (λ z. Finish d (told_by defined kids) list now z later os (onward mid).0 (onward mid).1 forest tables) (sym (loosened_in-false frames))
-    (subst (λ z. Finish d (told_by defined kids) list now frames z os (onward mid).0 (onward mid).1 forest tables) same fin))
+    (subst (λ z. Finish d (with_all_of defined kids) list now z later os (onward mid).0 (onward mid).1 forest tables) (sym (loosened_in-false frames))
+    (subst (λ z. Finish d (with_all_of defined kids) list now frames z os (onward mid).0 (onward mid).1 forest tables) same fin))
 
 -- rows that begin with a list of this byte
 list_first : (byte number until line start : ℕ) (gap : Bool) (items past : Rows)
@@ -183,7 +183,7 @@ joined_item quoted k last e start byte number columns line o before loose nodes 
 
 -- an item that is opened in a list that continues
 item_step : (d : Document) (defined : Tables) (closed : Closed) (frames : List Frame) (run loose : Bool) (nodes : List (ℕ × Item)) (o : ℕ) (os : List ℕ)
-    (p : Place) (lines following : List Place) (byte number columns start line some_end : ℕ) (inside : From) (forest : List (ℕ × Item)) (tables : Tables)
+    (p : Place) (lines following : List Place) (byte number columns start line some_end : ℕ) (inside : Continues) (forest : List (ℕ × Item)) (tables : Tables)
     → IsPlain frames → o < length nodes → StaysAt d (containers_of frames) p
     → Opens d (level (containers_of frames) (stands_after LastItem run)) p lines
     (OpensNode (record { opener = ItemMarker byte number columns; start = start; line = line }) inside following)
@@ -208,7 +208,7 @@ item_step d defined closed frames run loose nodes o os p lines following byte nu
     let before : Before = stands_after LastItem run in
     let now : Before = after_container (ListItem columns) (before_end false nothing kids) in
     let list : Pending = OneList o (ItemsOf byte) ((loose || run) || any_gap rows) in
-    extend d defined (told_by defined kids) frames (OneList o (ItemsOf byte) loose) list before now false nodes later os
+    extend d defined (with_all_of defined kids) frames (OneList o (ItemsOf byte) loose) list before now false nodes later os
     (Inside p) (onward mid).0 lines (onward mid).1 forest tables (λ s. Node head e kids s) plain (alike_onward n p mid)
     (λ s left seq. record {
       seq = (inside, following, mid, first_here d (level path before) p lines (OpensNode head inside following) stays opens, inner, refl, seq);
@@ -217,12 +217,12 @@ item_step d defined closed frames run loose nodes o os p lines following byte nu
       gaps = λ last. (joined_item q k last e start byte number columns line o before loose nodes kids s below).1;
     })
     (λ s. told_kids defined kids s)
-    (subst (λ z. Finish d (told_by defined kids) list now z later os (onward mid).0 (onward mid).1 forest tables) (sym (loosened_in-false frames))
-    (subst (λ z. Finish d (told_by defined kids) list now frames z os (onward mid).0 (onward mid).1 forest tables) same fin))
+    (subst (λ z. Finish d (with_all_of defined kids) list now z later os (onward mid).0 (onward mid).1 forest tables) (sym (loosened_in-false frames))
+    (subst (λ z. Finish d (with_all_of defined kids) list now frames z os (onward mid).0 (onward mid).1 forest tables) same fin))
 
 -- a block quote is opened
 pub completes-quote : (d : Document) (defined : Tables) (closed : Closed) (frames : List Frame) (nodes : List (ℕ × Item)) (os : List ℕ) (p : Place)
-    (lines following : List Place) (kind : Option BlockQuoteKind) (start line some_end : ℕ) (inside : From)
+    (lines following : List Place) (kind : Option BlockQuoteKind) (start line some_end : ℕ) (inside : Continues)
     → IsPlain frames
     → Opens d (lvl frames (tail closed false)) p lines
     (OpensNode (record { opener = QuoteMarker kind; start = start; line = line }) inside following)
@@ -242,7 +242,7 @@ completes-quote d defined closed frames nodes os p lines following kind start li
 
 -- a list is opened, with its first item
 pub completes-list : (d : Document) (defined : Tables) (closed : Closed) (frames : List Frame) (nodes : List (ℕ × Item)) (os : List ℕ) (p : Place)
-    (lines following : List Place) (byte number columns start line some_end other_end : ℕ) (flags : ListFlags) (inside : From)
+    (lines following : List Place) (byte number columns start line some_end other_end : ℕ) (flags : ListFlags) (inside : Continues)
     → IsPlain frames
     → Opens d (lvl frames (tail closed false)) p lines
     (OpensNode (record { opener = ItemMarker byte number columns; start = start; line = line }) inside following)
@@ -264,7 +264,7 @@ completes-list d defined closed frames nodes os p lines following byte number co
 
 -- an item is opened in a list that continues
 pub completes-item : (d : Document) (defined : Tables) (closed : Closed) (run loose : Bool) (frames : List Frame) (nodes : List (ℕ × Item)) (o : ℕ)
-    (os : List ℕ) (p : Place) (lines following : List Place) (byte number columns start line some_end : ℕ) (inside : From)
+    (os : List ℕ) (p : Place) (lines following : List Place) (byte number columns start line some_end : ℕ) (inside : Continues)
     → Opens d (lvl (InList byte loose ∷ frames) (tail closed run)) p lines
     (OpensNode (record { opener = ItemMarker byte number columns; start = start; line = line }) inside following)
     → CompletesAt d defined (tail closed run) (InList byte loose ∷ frames) nodes (o ∷ os) (Inside p) lines
@@ -283,12 +283,12 @@ completes-item d defined closed run loose frames nodes o os p lines following by
 
 -- a footnote definition that is opened, before which no gap is noted
 footnote_step : (d : Document) (defined : Tables) (closed : Closed) (frames : List Frame) (nodes : List (ℕ × Item)) (os : List ℕ) (p : Place)
-    (lines following : List Place) (columns : ℕ) (index : CowIndex) (label : List ℕ) (start line some_end : ℕ) (inside : From)
+    (lines following : List Place) (columns : ℕ) (index : CowIndex) (label : List ℕ) (start line some_end : ℕ) (inside : Continues)
     (forest : List (ℕ × Item)) (tables : Tables)
     → IsPlain frames → StaysAt d (containers_of frames) p
     → Opens d (lvl frames (tail closed false)) p lines
     (OpensNode (record { opener = FootnoteMarker columns index label; start = start; line = line }) inside following)
-    → FinishesAt d (told_label defined label) fresh (InContainer (FootnoteDefinition columns) ∷ frames)
+    → FinishesAt d (with_footnote_label defined label) fresh (InContainer (FootnoteDefinition columns) ∷ frames)
     (nodes ++ (suc (length os), node_of start some_end (FootnoteDefinitionBody index)) ∷ []) (length nodes ∷ os) inside following forest tables
     → FinishesAt d defined (tail closed false) frames nodes os (Inside p) lines forest tables
 unfolding Finish IsSequence rows_of before_end items_of any_gap rendered definitions_first definitions_of footnotes_of with_labels
@@ -310,7 +310,7 @@ footnote_step d defined closed frames nodes os p lines following columns index l
     ∙ ended-mid nodes items k e (node_of start some_end (FootnoteDefinitionBody index)) in
     let now : Before = after_container (FootnoteDefinition columns) (before_end false nothing kids) in
     let all : ℕ → Skeleton → Rows = λ last s. rows_of (in_quote path) before last (Node head e kids s) in
-    extend d defined (told_by (told_label defined label) kids) frames (NoList closed) (NoList OtherClosed) before now false nodes later os
+    extend d defined (with_all_of (with_footnote_label defined label) kids) frames (NoList closed) (NoList OtherClosed) before now false nodes later os
     (Inside p) (onward mid).0 lines (onward mid).1 forest tables (λ s. Node head e kids s) plain (alike_onward n p mid)
     (λ s left seq. record {
       seq = (inside, following, mid, first_here d (level path before) p lines (OpensNode head inside following) stays opens, inner, refl, seq);
@@ -318,18 +318,18 @@ footnote_step d defined closed frames nodes os p lines following columns index l
       counts = refl;
       gaps = λ last. ap any_gap (beside_all k last nodes closed (all last s) refl).1;
     })
-    (λ s. told_kids (told_label defined label) kids s)
+    (λ s. told_kids (with_footnote_label defined label) kids s)
     (finish_moved d _ _ _ _ now _ _ _ later os (onward mid).0 (onward mid).1 forest tables refl refl
     (plain_loosened (any_gap rows) frames plain ∙ sym (loosened_in-false frames)) same fin)
 
 -- a footnote definition is opened where no other one ends
 pub completes-footnote : (d : Document) (defined : Tables) (closed : Closed) (frames : List Frame) (nodes : List (ℕ × Item)) (os : List ℕ) (p : Place)
-    (lines following : List Place) (columns : ℕ) (index : CowIndex) (label : List ℕ) (start line some_end : ℕ) (inside : From)
+    (lines following : List Place) (columns : ℕ) (index : CowIndex) (label : List ℕ) (start line some_end : ℕ) (inside : Continues)
     → IsPlain frames → StaysAt d (containers_of frames) p
     → Opens d (lvl frames (tail closed false)) p lines
     (OpensNode (record { opener = FootnoteMarker columns index label; start = start; line = line }) inside following)
     → CompletesAt d defined (tail closed false) frames nodes os (Inside p) lines
-    → CompletesAt d (told_label defined label) fresh (InContainer (FootnoteDefinition columns) ∷ frames)
+    → CompletesAt d (with_footnote_label defined label) fresh (InContainer (FootnoteDefinition columns) ∷ frames)
     (nodes ++ (suc (length os), node_of start some_end (FootnoteDefinitionBody index)) ∷ []) (length nodes ∷ os) inside following
 completes-footnote d defined closed frames nodes os p lines following columns index label start line some_end inside plain stays opens k =
     let l : length (nodes ++ (suc (length os), node_of start some_end (FootnoteDefinitionBody index)) ∷ []) ≡ length nodes + 1 =

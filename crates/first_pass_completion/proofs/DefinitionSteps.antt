@@ -12,16 +12,16 @@ use Rattle.first_pass_grammar.specs.Leaves.{Document}
 use Rattle.first_pass_grammar.specs.Blocks.{LeafBlock, Block, Head, DefinitionMarker, Skeleton, Then, Node}
 use Rattle.first_pass_grammar.specs.Before.{LastParagraph, LastDefinition, Before, nothing, begins_paragraph, after_block, after_container}
 use Rattle.first_pass_grammar.specs.Before.{before_end}
-use Rattle.first_pass_grammar.specs.Skeleton.{From, Line, Inside, OpensLeaf, OpensNode, Opens, level, onward, end_before, IsSequence}
+use Rattle.first_pass_grammar.specs.Skeleton.{Continues, Line, Inside, OpensLeaf, OpensNode, Opens, level, onward, end_before, IsSequence}
 use Rattle.first_pass_grammar.specs.Rows.{DefinitionsTo, Rows, any_gap, list_after, leaf_row, gap_before, rows_of}
-use Rattle.first_pass_grammar.specs.Derivation.{Tables, told, told_by, node_of, items_of, definitions_of, footnotes_of}
+use Rattle.first_pass_grammar.specs.Derivation.{Tables, with_definitions, with_all_of, node_of, items_of, definitions_of, footnotes_of}
 use Rattle.first_pass_grammar.specs.Completion.{ended, with_title, title_taken, ParagraphAt, DefinitionClosed, TitleAt, Pending, NoList, OneList}
 use Rattle.first_pass_grammar.specs.Completion.{OneTitle, rows_beyond, rendered, Frame, InContainer, InDefinitions, containers_of, AreBelow, IsPlain}
 use Rattle.first_pass_completion.proofs.Completions.{fresh}
 use Rattle.first_pass_completion.proofs.ContainerSteps.{ended-mid}
 use Rattle.first_pass_completion.proofs.Extending.{tail, lvl, AreBelow-more, loosened_in-false, stands_after, alike_onward, extend, StaysAt, opens_stays}
 use Rattle.first_pass_completion.proofs.Extending.{first_here, told_kids, told_leaf}
-use Rattle.first_pass_grammar.proofs.Finishes.{Finish, before_of, CompletesAt, FinishesAt, finish_derives, whole_by}
+use Rattle.first_pass_grammar.proofs.Sequences.Finishes.{Finish, before_of, CompletesAt, FinishesAt, finish_derives, whole_by}
 use Rattle.first_pass_completion.proofs.FlatBlocks.{opened_own}
 use Rattle.first_pass_completion.proofs.TitleNodes.{as_possible, length-with_title, length-taken}
 use Rattle.first_pass_completion.proofs.JoinedNodes.{first_definition, title_definition, joined_definition}
@@ -52,7 +52,7 @@ Joined quoted k list before nodes later o loose columns start line = (e last : �
 
 -- a definition that is opened
 definition_step : (d : Document) (defined : Tables) (frames : List Frame) (list : Pending) (before : Before) (loose : Bool) (nodes later : List (ℕ × Item))
-    (o : ℕ) (os : List ℕ) (p : Place) (lines following : List Place) (columns start line some_end : ℕ) (inside : From) (forest : List (ℕ × Item))
+    (o : ℕ) (os : List ℕ) (p : Place) (lines following : List Place) (columns start line some_end : ℕ) (inside : Continues) (forest : List (ℕ × Item))
     (tables : Tables)
     → IsPlain frames → StaysAt d (containers_of frames) p
     → Opens d (level (containers_of frames) before) p lines (OpensNode (definition_head_at columns start line) inside following)
@@ -76,7 +76,7 @@ definition_step d defined frames list before loose nodes later o os p lines foll
     ap (λ z. ended z (length later) e) (append_assoc later (x ∷ []) items) ∙ ended-mid later items (suc k) e (definition_node start some_end columns) in
     let now : Before = after_definition columns kids in
     let list' : Pending = OneList o (DefinitionsTo e) (loose || any_gap rows) in
-    extend d defined (told_by defined kids) frames list list' before now false nodes whole os
+    extend d defined (with_all_of defined kids) frames list list' before now false nodes whole os
     (Inside p) (onward mid).0 lines (onward mid).1 forest tables (λ s. Node head e kids s) plain (alike_onward n p mid)
     (λ s left seq. record {
       seq = (inside, following, mid, first_here d (level path before) p lines (OpensNode head inside following) stays opens, inner, refl, seq);
@@ -85,11 +85,11 @@ definition_step d defined frames list before loose nodes later o os p lines foll
       gaps = λ last. (joined e last kids s).1;
     })
     (λ s. told_kids defined kids s)
-    (subst (λ z. Finish d (told_by defined kids) list' now z whole os (onward mid).0 (onward mid).1 forest tables) (sym (loosened_in-false frames))
-    (subst (λ z. Finish d (told_by defined kids) list' now frames z os (onward mid).0 (onward mid).1 forest tables) same fin))
+    (subst (λ z. Finish d (with_all_of defined kids) list' now z whole os (onward mid).0 (onward mid).1 forest tables) (sym (loosened_in-false frames))
+    (subst (λ z. Finish d (with_all_of defined kids) list' now frames z os (onward mid).0 (onward mid).1 forest tables) same fin))
 
 first_step : (d : Document) (defined : Tables) (run : Bool) (frames : List Frame) (nodes : List (ℕ × Item)) (at : ℕ) (os : List ℕ) (p : Place)
-    (lines following : List Place) (columns start line some_end : ℕ) (inside : From) (forest : List (ℕ × Item)) (tables : Tables)
+    (lines following : List Place) (columns start line some_end : ℕ) (inside : Continues) (forest : List (ℕ × Item)) (tables : Tables)
     → IsPlain frames → at < length nodes → StaysAt d (containers_of frames) p
     → Opens d (lvl frames (tail (ParagraphAt at) run)) p lines (OpensNode (definition_head_at columns start line) inside following)
     → FinishesAt d defined fresh (InContainer (Definition columns) ∷ InDefinitions run ∷ frames)
@@ -105,7 +105,7 @@ first_step d defined run frames nodes at os p lines following columns start line
 -- The first definition after a paragraph is opened. The paragraph becomes a title, and both are in a definition list
 -- at the paragraph's place.
 pub completes-first_definition : (d : Document) (defined : Tables) (run : Bool) (frames : List Frame) (nodes : List (ℕ × Item)) (at : ℕ) (os : List ℕ)
-    (p : Place) (lines following : List Place) (columns start line some_end : ℕ) (inside : From)
+    (p : Place) (lines following : List Place) (columns start line some_end : ℕ) (inside : Continues)
     → IsPlain frames → at < length nodes → AreBelow at os
     → Opens d (lvl frames (tail (ParagraphAt at) run)) p lines (OpensNode (definition_head_at columns start line) inside following)
     → CompletesAt d defined (tail (ParagraphAt at) run) frames nodes os (Inside p) lines
@@ -125,7 +125,7 @@ completes-first_definition d defined run frames nodes at os p lines following co
 
 -- a definition is opened after a possible title, which becomes a title
 pub completes-title_definition : (d : Document) (defined : Tables) (e at : ℕ) (run loose : Bool) (frames : List Frame) (nodes : List (ℕ × Item)) (o : ℕ)
-    (os : List ℕ) (p : Place) (lines following : List Place) (columns start line some_end : ℕ) (inside : From)
+    (os : List ℕ) (p : Place) (lines following : List Place) (columns start line some_end : ℕ) (inside : Continues)
     → Opens d (lvl (InDefinitions loose ∷ frames) (tail (TitleAt e at) run)) p lines (OpensNode (definition_head_at columns start line) inside following)
     → CompletesAt d defined (tail (TitleAt e at) run) (InDefinitions loose ∷ frames) nodes (o ∷ os) (Inside p) lines
     → CompletesAt d defined fresh (InContainer (Definition columns) ∷ InDefinitions (loose || run) ∷ frames)
@@ -149,7 +149,7 @@ completes-title_definition d defined e at run loose frames nodes o os p lines fo
 
 -- a definition is opened after a definition
 pub completes-definition : (d : Document) (defined : Tables) (e : ℕ) (blanks run loose : Bool) (frames : List Frame) (nodes : List (ℕ × Item)) (o : ℕ)
-    (os : List ℕ) (p : Place) (lines following : List Place) (columns start line some_end : ℕ) (inside : From)
+    (os : List ℕ) (p : Place) (lines following : List Place) (columns start line some_end : ℕ) (inside : Continues)
     → Opens d (lvl (InDefinitions loose ∷ frames) (tail (DefinitionClosed e blanks) run)) p lines
     (OpensNode (definition_head_at columns start line) inside following)
     → CompletesAt d defined (tail (DefinitionClosed e blanks) run) (InDefinitions loose ∷ frames) nodes (o ∷ os) (Inside p) lines
@@ -183,7 +183,7 @@ possible_step : (d : Document) (defined : Tables) (e : ℕ) (blanks run loose : 
     (p : Place) (lines left : List Place) (b : LeafBlock) (forest : List (ℕ × Item)) (tables : Tables)
     → IsPlain frames → o < length nodes → begins_paragraph b.items ≡ true → StaysAt d (containers_of frames) p
     → Opens d (level (containers_of frames) (stands_after (LastDefinition blanks) run)) p lines (OpensLeaf (Block b) Line left)
-    → Finish d (told defined b.definitions) (OneTitle o (length nodes) e loose) (stands_after (LastParagraph true) b.gap) frames
+    → Finish d (with_definitions defined b.definitions) (OneTitle o (length nodes) e loose) (stands_after (LastParagraph true) b.gap) frames
     (nodes ++ at_depth (suc (suc (length os))) (as_possible b.items)) os Line left forest tables
     → Finish d defined (OneList o (DefinitionsTo e) loose) (stands_after (LastDefinition blanks) run) frames nodes os (Inside p) lines forest tables
 unfolding IsSequence rows_of before_end definitions_of footnotes_of
@@ -202,7 +202,7 @@ possible_step d defined e blanks run loose frames nodes o os p lines left b fore
     let row : (last : ℕ) (s : Skeleton)
     → leaf_row b (gap_before before b) (rows_of q (after_block before b) last s) ≡ leaf_row b false (rows_of q now last s) =
     λ last s. ap (λ z. leaf_row b z (rows_of q (after_block before b) last s)) no_gap ∙ ap (λ z. leaf_row b false (rows_of q z last s)) stands in
-    extend d defined (told defined b.definitions) frames list list' before now false nodes later os
+    extend d defined (with_definitions defined b.definitions) frames list list' before now false nodes later os
     (Inside p) Line lines left forest tables (λ s. Then (Block b) s) plain (λ path mid. refl)
     (λ s mid seq. record {
       seq = (Line, left, first, subst (λ z. IsSequence d s (level path z) Line left mid) (sym stands) seq);
@@ -213,7 +213,7 @@ possible_step d defined e blanks run loose frames nodes o os p lines left b fore
           ∙ possible_gaps o (length nodes) e loose b (rows_of q now last s) begins;
     })
     (λ s. told_leaf defined b s)
-    (subst (λ z. Finish d (told defined b.definitions) list' now z later os Line left forest tables) (sym (loosened_in-false frames)) fin)
+    (subst (λ z. Finish d (with_definitions defined b.definitions) list' now z later os Line left forest tables) (sym (loosened_in-false frames)) fin)
 
 -- after a paragraph directly after a definition, which may be the next title of its list
 pub completes-possible_title : (d : Document) (defined : Tables) (e : ℕ) (blanks run loose : Bool) (frames : List Frame) (nodes : List (ℕ × Item)) (o : ℕ)
@@ -221,7 +221,7 @@ pub completes-possible_title : (d : Document) (defined : Tables) (e : ℕ) (blan
     → begins_paragraph b.items ≡ true
     → Opens d (lvl (InDefinitions loose ∷ frames) (tail (DefinitionClosed e blanks) run)) p lines (OpensLeaf (Block b) Line left)
     → CompletesAt d defined (tail (DefinitionClosed e blanks) run) (InDefinitions loose ∷ frames) nodes (o ∷ os) (Inside p) lines
-    → CompletesAt d (told defined b.definitions) (tail (TitleAt e (length nodes)) b.gap) (InDefinitions loose ∷ frames)
+    → CompletesAt d (with_definitions defined b.definitions) (tail (TitleAt e (length nodes)) b.gap) (InDefinitions loose ∷ frames)
     (nodes ++ at_depth (suc (suc (length os))) (as_possible b.items)) (o ∷ os) Line left
 unfolding Finish
 completes-possible_title d defined e blanks run loose frames nodes o os p lines left b begins opens k =

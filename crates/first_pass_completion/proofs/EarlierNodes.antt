@@ -7,7 +7,7 @@ use Rattle.first_pass_grammar.specs.Rows.{Rows, Definitions, definitions_first, 
 use Rattle.first_pass_grammar.specs.Derivation.{items_of}
 use Rattle.first_pass_grammar.specs.Completion.{flagged, with_title, list_closed, Closed, OtherClosed, ParagraphAt, DefinitionClosed, TitleAt, NoList}
 use Rattle.first_pass_grammar.specs.Completion.{after_paragraph, rendered}
-use Rattle.first_pass_grammar.proofs.Tightening.{modify-append, length-closed}
+use Rattle.first_pass_grammar.proofs.Sequences.Tightening.{modify-append, length-closed}
 use Rattle.first_pass_completion.proofs.TitleNodes.{reflagged, length-with_title}
 
 -- a place before that of a paragraph that is the last child

@@ -11,16 +11,16 @@ use Rattle.first_pass_grammar.specs.Openers.{start_at}
 use Rattle.first_pass_grammar.specs.Leaves.{Document, around}
 use Rattle.first_pass_grammar.specs.Blocks.{LeafBlock, Block, label_of, Skeleton, Nil, Then, Node}
 use Rattle.first_pass_grammar.specs.Before.{Last, Before, last_container, after_container, before_end}
-use Rattle.first_pass_grammar.specs.Skeleton.{From, Line, Inside, Opening, OpensLeaf, OpensNode, OpensBy, OpensFootnote, Opens, Level, level, Left, Lines}
+use Rattle.first_pass_grammar.specs.Skeleton.{Continues, Line, Inside, Opening, OpensLeaf, OpensNode, OpensBy, OpensFootnote, Opens, Level, level, Remaining, Lines}
 use Rattle.first_pass_grammar.specs.Skeleton.{InLine}
 use Rattle.first_pass_grammar.specs.Skeleton.{may_define, ends_old_footnote, onward, only_blanks, end_of_left, end_before, IsFirst, IsSequence}
 use Rattle.first_pass_grammar.specs.Rows.{ItemsOf, Rows, any_gap, rows_of}
 use Rattle.first_pass_grammar.specs.LinkTables.{LinkEntry, with_link, with_links, with_label, with_labels}
-use Rattle.first_pass_grammar.specs.Derivation.{Tables, told, definitions_of, footnotes_of, told_by}
+use Rattle.first_pass_grammar.specs.Derivation.{Tables, with_definitions, definitions_of, footnotes_of, with_all_of}
 use Rattle.first_pass_grammar.specs.Completion.{ended, Closed, Pending, NoList, OneList, rows_beyond, rendered, Frame, InContainer, InList, InDefinitions}
 use Rattle.first_pass_grammar.specs.Completion.{closed_as, definitions_open, containers_of, loosened, AreBelow, IsPlain, last_plain, last_of}
-use Rattle.first_pass_grammar.proofs.Finishes.{Finish, containers-loosened, Tail, before_of}
-use Rattle.first_pass_grammar.proofs.Goings.{begins_inside, enters}
+use Rattle.first_pass_grammar.proofs.Sequences.Finishes.{Finish, containers-loosened, Tail, before_of}
+use Rattle.first_pass_grammar.proofs.Sequences.Goings.{begins_inside, enters}
 use Rattle.first_pass_tokens.proofs.BytesLemmas.{length-modify}
 
 -- blank lines that include a counting one or not, after the last child
@@ -33,7 +33,7 @@ lvl frames t = level (containers_of frames) (before_of frames t)
 
 -- completions of equal states are the same
 pub finish_moved : (d : Document) (defined : Tables) (list list' : Pending) (before before' : Before) (frames frames' : List Frame)
-    (nodes nodes' : List (ℕ × Item)) (os : List ℕ) (from : From) (lines : List Place) (forest : List (ℕ × Item)) (tables : Tables)
+    (nodes nodes' : List (ℕ × Item)) (os : List ℕ) (from : Continues) (lines : List Place) (forest : List (ℕ × Item)) (tables : Tables)
     → list ≡ list' → before ≡ before' → frames ≡ frames' → nodes ≡ nodes'
     → Finish d defined list before frames nodes os from lines forest tables → Finish d defined list' before' frames' nodes' os from lines forest tables
 finish_moved d defined list list' before before' frames frames' nodes nodes' os from lines forest tables opened stand same alike fin =
@@ -96,17 +96,17 @@ pub plain_before : (t : Tail) (frames : List Frame) → IsPlain frames → befor
 plain_before t frames plain = ap (λ z. stands_after z t.run) (plain_last t.closed frames plain)
 
 -- if more than blank lines may follow, the container of these blocks ends where they leave the lines
-abbrev pub EndsAt : ℕ → From → Left → ℕ → Type 0
+abbrev pub EndsAt : ℕ → Continues → Remaining → ℕ → Type 0
 EndsAt n from mid last = only_blanks from ≡ None → last ≡ end_of_left n [] None mid
 
-end_anywhere : (n : ℕ) (path : List Container) (left : Left) → end_of_left n path None left ≡ end_of_left n [] None left
+end_anywhere : (n : ℕ) (path : List Container) (left : Remaining) → end_of_left n path None left ≡ end_of_left n [] None left
 end_anywhere n path (Lines lines) = refl
 end_anywhere n path (InLine p lines) = refl
 
 -- What a block, or the end of a list, adds: the same items, the same count for blank lines at the end, and the same
 -- gaps together with one that is noted.
 pub record Adds (d : Document) (depth : ℕ) (path : List Container) (list list' : Pending) (before before' : Before) (gap : Bool)
-    (nodes nodes' : List (ℕ × Item)) (from : From) (lines : List Place) (s t : Skeleton) (mid : Left) : Type 0 where
+    (nodes nodes' : List (ℕ × Item)) (from : Continues) (lines : List Place) (s t : Skeleton) (mid : Remaining) : Type 0 where
   pub seq : IsSequence d t (level path before) from lines mid
   pub items : (last : ℕ) → EndsAt (length d.text) from mid last
       → rendered depth last nodes list (rows_of (in_quote path) before last t) ≡ rendered depth last nodes' list' (rows_of (in_quote path) before' last s)
@@ -115,8 +115,8 @@ pub record Adds (d : Document) (depth : ℕ) (path : List Container) (list list'
       ≡ (gap || any_gap (rows_beyond list' (rows_of (in_quote path) before' last s)))
 
 -- a container ends at the same place, wherever the blocks in it continue
-abbrev pub EndsAlike : ℕ → From → From → Type 0
-EndsAlike n from there = (path : List Container) (mid : Left) → end_before n path from mid ≡ end_before n path there mid
+abbrev pub EndsAlike : ℕ → Continues → Continues → Type 0
+EndsAlike n from there = (path : List Container) (mid : Remaining) → end_before n path from mid ≡ end_before n path there mid
 
 -- tables with more definitions added, one list after the other
 told_links : (links a b : List LinkEntry) → with_links links (a ++ b) ≡ with_links (with_links links a) b
@@ -132,11 +132,12 @@ told_labels labels (x ∷ a) b = told_labels (with_label x labels) a b
 abbrev tables_with : List (List ℕ) → List LinkEntry → Tables
 tables_with footnotes links = record { links = links; footnotes = footnotes }
 
-pub told-append : (defined : Tables) (a b : List LinkEntry) → told (told defined a) b ≡ told defined (a ++ b)
+pub told-append : (defined : Tables) (a b : List LinkEntry) → with_definitions (with_definitions defined a) b ≡ with_definitions defined (a ++ b)
 told-append defined a b = ap (tables_with defined.footnotes) (sym (told_links defined.links a b))
 
 -- what a leaf block before a sequence defines; the next lemma: what the blocks of a container define
-pub told_leaf : (defined : Tables) (b : LeafBlock) (s : Skeleton) → told_by (told defined b.definitions) s ≡ told_by defined (Then (Block b) s)
+pub told_leaf : (defined : Tables) (b : LeafBlock) (s : Skeleton)
+    → with_all_of (with_definitions defined b.definitions) s ≡ with_all_of defined (Then (Block b) s)
 unfolding definitions_of footnotes_of
 told_leaf defined b s =
     ap (tables_with (with_labels defined.footnotes (footnotes_of s))) (sym (told_links defined.links b.definitions (definitions_of s)))
@@ -147,7 +148,7 @@ told_both defined kids s = record {
   footnotes = with_labels defined.footnotes (footnotes_of kids ++ footnotes_of s);
 }
 
-pub told_kids : (defined : Tables) (kids s : Skeleton) → told_by (told_by defined kids) s ≡ told_both defined kids s
+pub told_kids : (defined : Tables) (kids s : Skeleton) → with_all_of (with_all_of defined kids) s ≡ told_both defined kids s
 told_kids defined kids s =
     ap (tables_with (with_labels (with_labels defined.footnotes (footnotes_of kids)) (footnotes_of s)))
     (sym (told_links defined.links (definitions_of kids) (definitions_of s)))
@@ -155,18 +156,18 @@ told_kids defined kids s =
     (sym (told_labels defined.footnotes (footnotes_of kids) (footnotes_of s)))
 
 finish_told : (d : Document) (defined defined' : Tables) (list : Pending) (before : Before) (frames : List Frame) (nodes : List (ℕ × Item)) (os : List ℕ)
-    (from : From) (lines : List Place) (forest : List (ℕ × Item)) (tables : Tables) → defined ≡ defined'
+    (from : Continues) (lines : List Place) (forest : List (ℕ × Item)) (tables : Tables) → defined ≡ defined'
     → Finish d defined list before frames nodes os from lines forest tables → Finish d defined' list before frames nodes os from lines forest tables
 finish_told d defined defined' list before frames nodes os from lines forest tables is fin =
     subst (λ z. Finish d z list before frames nodes os from lines forest tables) is fin
 
 pub extend : (d : Document) (defined defined' : Tables) (frames : List Frame) (list list' : Pending) (before before' : Before) (gap : Bool)
-    (nodes nodes' : List (ℕ × Item)) (os : List ℕ) (from there : From) (lines left : List Place) (forest : List (ℕ × Item)) (tables : Tables)
+    (nodes nodes' : List (ℕ × Item)) (os : List ℕ) (from there : Continues) (lines left : List Place) (forest : List (ℕ × Item)) (tables : Tables)
     (f : Skeleton → Skeleton)
     → IsPlain frames → EndsAlike (length d.text) from there
-    → ((s : Skeleton) (mid : Left) → IsSequence d s (level (containers_of frames) before') there left mid
+    → ((s : Skeleton) (mid : Remaining) → IsSequence d s (level (containers_of frames) before') there left mid
     → Adds d (suc (length os)) (containers_of frames) list list' before before' gap nodes nodes' from lines s (f s) mid)
-    → ((s : Skeleton) → told_by defined' s ≡ told_by defined (f s))
+    → ((s : Skeleton) → with_all_of defined' s ≡ with_all_of defined (f s))
     → Finish d defined' list' before' (loosened_in gap frames) nodes' os there left forest tables
     → Finish d defined list before frames nodes os from lines forest tables
 unfolding Finish
@@ -200,7 +201,8 @@ extend d defined defined' (InContainer c ∷ frames) list list' before before' g
       finish_moved d _ _ _ _ _ _ _ _ _ os (onward mid).0 (onward mid).1 forest tables refl
           (ap (λ z. record { last = last_container c; counted = z }) (sym a.counts)) g (ap (λ z. ended z o e) (sym (a.items e at)))
           (finish_told d _ _ _ _ _ _ os (onward mid).0 (onward mid).1 forest tables (tells s)
-          (subst (λ z. Finish d (told_by defined' s) (NoList (closed_as c z)) now (loosened (any_gap (rows_beyond list' (rows z))) (loosened gap frames))
+          (subst (λ z. Finish d (with_all_of defined' s) (NoList (closed_as c z)) now
+          (loosened (any_gap (rows_beyond list' (rows z))) (loosened gap frames))
           (ended (rendered depth z nodes' list' (rows z)) o z) os (onward mid).0 (onward mid).1 forest tables) same fin)),
     )
 
@@ -210,7 +212,7 @@ enter_first : (d : Document) (l : Level) (line q : Place) (lines : List Place) (
 enter_first d l line q lines opening is old first =
     record { place = first.place; following = first.following; begins = enters d.options l line q lines is old ∙ first.begins; opens = first.opens }
 
-enter_seq : (d : Document) (s : Skeleton) (l : Level) (line q : Place) (lines : List Place) (left : Left) → taken l.path line ≡ Some q
+enter_seq : (d : Document) (s : Skeleton) (l : Level) (line q : Place) (lines : List Place) (left : Remaining) → taken l.path line ≡ Some q
     → ends_old_footnote l ≡ false → IsSequence d s l (Inside q) lines left → IsSequence d s l Line (line ∷ lines) left
 unfolding IsSequence
 enter_seq d Nil l line q lines left is old seq = enters d.options l line q lines is old ∙ seq
@@ -272,6 +274,6 @@ pub first_here : (d : Document) (l : Level) (p : Place) (lines : List Place) (op
 first_here d l p lines opening stays opens =
     record { place = p; following = lines; begins = begins_inside d.options l p lines stays; opens = opens }
 
-pub alike_onward : (n : ℕ) (p : Place) (left : Left) → EndsAlike n (Inside p) (onward left).0
+pub alike_onward : (n : ℕ) (p : Place) (left : Remaining) → EndsAlike n (Inside p) (onward left).0
 alike_onward n p (Lines lines) path mid = refl
 alike_onward n p (InLine q lines) path mid = refl

@@ -8,14 +8,14 @@ use Rattle.first_pass_grammar.specs.declared.kind.Container.TheVariants.{Definit
 use Rattle.first_pass_grammar.specs.Containers.{is_quote}
 use Rattle.first_pass_grammar.specs.Leaves.{Document}
 use Rattle.first_pass_grammar.specs.Before.{Before, after_container, before_end}
-use Rattle.first_pass_grammar.specs.Skeleton.{From, onward, end_before}
+use Rattle.first_pass_grammar.specs.Skeleton.{Continues, onward, end_before}
 use Rattle.first_pass_grammar.specs.Rows.{ItemsOf, DefinitionsTo, Rows, any_gap, rows_of}
-use Rattle.first_pass_grammar.specs.Derivation.{Tables, told_by}
+use Rattle.first_pass_grammar.specs.Derivation.{Tables, with_all_of}
 use Rattle.first_pass_grammar.specs.Completion.{ended, Closed, OtherClosed, ParagraphAt, DefinitionClosed, TitleAt, Pending}
 use Rattle.first_pass_grammar.specs.Completion.{NoList, OneList, rows_beyond, rendered, Frame, InContainer, InList, InDefinitions}
 use Rattle.first_pass_grammar.specs.Completion.{definitions_open, containers_of, IsPlain}
 use Rattle.first_pass_completion.proofs.Extending.{AreBelow-more, length-ended, loosened_in-false, extend}
-use Rattle.first_pass_grammar.proofs.Finishes.{Finish, Tail, before_of, CompletesAt, finish_derives, whole_by}
+use Rattle.first_pass_grammar.proofs.Sequences.Finishes.{Finish, Tail, before_of, CompletesAt, finish_derives, whole_by}
 use Rattle.first_pass_completion.proofs.TitleNodes.{reflagged, swapped}
 use Rattle.first_pass_completion.proofs.EarlierNodes.{IsBefore, reflagged-rendered}
 use Rattle.first_pass_completion.proofs.JoinedNodes.{list-ended, title-ended, list-reflagged}
@@ -27,7 +27,7 @@ length-reflagged nodes o l = length-modify nodes o _
 
 -- nodes that render alike, whatever rows follow
 renode_step : (d : Document) (defined : Tables) (frames : List Frame) (list : Pending) (before : Before) (nodes nodes' : List (ℕ × Item)) (os : List ℕ)
-    (from : From) (lines : List Place) (forest : List (ℕ × Item)) (tables : Tables)
+    (from : Continues) (lines : List Place) (forest : List (ℕ × Item)) (tables : Tables)
     → IsPlain frames → ((k last : ℕ) (r : Rows) → rendered k last nodes' list r ≡ rendered k last nodes list r)
     → Finish d defined list before frames nodes' os from lines forest tables → Finish d defined list before frames nodes os from lines forest tables
 renode_step d defined frames list before nodes nodes' os from lines forest tables plain same fin =
@@ -53,7 +53,7 @@ open_ended o x loose (TitleAt e at) nodes h k last r = title-ended k last nodes 
 
 -- the flags of a list that may continue
 pub completes-reflag_list : (d : Document) (defined : Tables) (t : Tail) (byte : ℕ) (loose l : Bool) (frames : List Frame) (nodes : List (ℕ × Item)) (o : ℕ)
-    (os : List ℕ) (from : From) (lines : List Place)
+    (os : List ℕ) (from : Continues) (lines : List Place)
     → CompletesAt d defined t (InList byte loose ∷ frames) nodes (o ∷ os) from lines
     → CompletesAt d defined t (InList byte loose ∷ frames) (reflagged nodes o l) (o ∷ os) from lines
 unfolding Finish
@@ -67,7 +67,7 @@ completes-reflag_list d defined t byte loose l frames nodes o os from lines k = 
 
 -- the end in a definition list's node while the list may continue
 pub completes-reended : (d : Document) (defined : Tables) (t : Tail) (loose : Bool) (frames : List Frame) (nodes : List (ℕ × Item)) (o x : ℕ)
-    (os : List ℕ) (from : From) (lines : List Place)
+    (os : List ℕ) (from : Continues) (lines : List Place)
     → IsDefined t.closed → CompletesAt d defined t (InDefinitions loose ∷ frames) nodes (o ∷ os) from lines
     → CompletesAt d defined t (InDefinitions loose ∷ frames) (ended nodes o x) (o ∷ os) from lines
 unfolding Finish
@@ -85,7 +85,7 @@ ended-reflagged nodes o x e l = swapped nodes o x _ _ (λ y. refl)
 
 -- the flags of the list whose item blocks continue in
 reflag_outer : (d : Document) (defined : Tables) (c : Container) (frames : List Frame) (byte : ℕ) (loose : Bool) (closed : Closed) (before : Before) (l : Bool)
-    (nodes : List (ℕ × Item)) (x o : ℕ) (os : List ℕ) (from : From) (lines : List Place) (forest : List (ℕ × Item)) (tables : Tables)
+    (nodes : List (ℕ × Item)) (x o : ℕ) (os : List ℕ) (from : Continues) (lines : List Place) (forest : List (ℕ × Item)) (tables : Tables)
     → IsPlain frames → o < length nodes → IsBefore o closed
     → Finish d defined (NoList closed) before (InContainer c ∷ InList byte loose ∷ frames) (reflagged nodes o l) (x ∷ o ∷ os) from lines forest tables
     → Finish d defined (NoList closed) before (InContainer c ∷ InList byte loose ∷ frames) nodes (x ∷ o ∷ os) from lines forest tables
@@ -102,13 +102,14 @@ reflag_outer d defined c frames byte loose closed before l nodes x o os from lin
       s,
       mid,
       seq,
-      renode_step d (told_by defined s) frames list now (ended all x e) (reflagged (ended all x e) o l) os (onward mid).0 (onward mid).1 forest tables plain
+      renode_step d (with_all_of defined s) frames list now (ended all x e) (reflagged (ended all x e) o l) os (onward mid).0
+          (onward mid).1 forest tables plain
           (λ k last r. list-reflagged k last (ended all x e) o l (ItemsOf byte) (loose || any_gap (rows_beyond (NoList closed) rows)) r)
-          (subst (λ z. Finish d (told_by defined s) list now frames z os (onward mid).0 (onward mid).1 forest tables) same fin),
+          (subst (λ z. Finish d (with_all_of defined s) list now frames z os (onward mid).0 (onward mid).1 forest tables) same fin),
     )
 
 pub completes-reflag : (d : Document) (defined : Tables) (t : Tail) (c : Container) (byte : ℕ) (loose l : Bool) (frames : List Frame)
-    (nodes : List (ℕ × Item)) (x o : ℕ) (os : List ℕ) (from : From) (lines : List Place)
+    (nodes : List (ℕ × Item)) (x o : ℕ) (os : List ℕ) (from : Continues) (lines : List Place)
     → IsBefore o t.closed → CompletesAt d defined t (InContainer c ∷ InList byte loose ∷ frames) nodes (x ∷ o ∷ os) from lines
     → CompletesAt d defined t (InContainer c ∷ InList byte loose ∷ frames) (reflagged nodes o l) (x ∷ o ∷ os) from lines
 completes-reflag d defined t c byte loose l frames nodes x o os from lines before_it k = record {
@@ -121,7 +122,7 @@ completes-reflag d defined t c byte loose l frames nodes x o os from lines befor
 
 -- the flags of the definition list whose definition blocks continue in
 reflag_around : (d : Document) (defined : Tables) (columns : ℕ) (frames : List Frame) (loose : Bool) (closed : Closed) (before : Before) (l : Bool)
-    (nodes : List (ℕ × Item)) (x o : ℕ) (os : List ℕ) (from : From) (lines : List Place) (forest : List (ℕ × Item)) (tables : Tables)
+    (nodes : List (ℕ × Item)) (x o : ℕ) (os : List ℕ) (from : Continues) (lines : List Place) (forest : List (ℕ × Item)) (tables : Tables)
     → IsPlain frames → o < length nodes → IsBefore o closed
     → Finish d defined (NoList closed) before (InContainer (Definition columns) ∷ InDefinitions loose ∷ frames) (reflagged nodes o l) (x ∷ o ∷ os) from lines
     forest tables
@@ -140,13 +141,14 @@ reflag_around d defined columns frames loose closed before l nodes x o os from l
       s,
       mid,
       seq,
-      renode_step d (told_by defined s) frames list now (ended all x e) (reflagged (ended all x e) o l) os (onward mid).0 (onward mid).1 forest tables plain
+      renode_step d (with_all_of defined s) frames list now (ended all x e) (reflagged (ended all x e) o l) os (onward mid).0
+          (onward mid).1 forest tables plain
           (λ k last r. list-reflagged k last (ended all x e) o l (DefinitionsTo e) (loose || any_gap (rows_beyond (NoList closed) rows)) r)
-          (subst (λ z. Finish d (told_by defined s) list now frames z os (onward mid).0 (onward mid).1 forest tables) same fin),
+          (subst (λ z. Finish d (with_all_of defined s) list now frames z os (onward mid).0 (onward mid).1 forest tables) same fin),
     )
 
 pub completes-reflag_definition : (d : Document) (defined : Tables) (t : Tail) (columns : ℕ) (loose l : Bool) (frames : List Frame)
-    (nodes : List (ℕ × Item)) (x o : ℕ) (os : List ℕ) (from : From) (lines : List Place)
+    (nodes : List (ℕ × Item)) (x o : ℕ) (os : List ℕ) (from : Continues) (lines : List Place)
     → IsBefore o t.closed
     → CompletesAt d defined t (InContainer (Definition columns) ∷ InDefinitions loose ∷ frames) nodes (x ∷ o ∷ os) from lines
     → CompletesAt d defined t (InContainer (Definition columns) ∷ InDefinitions loose ∷ frames) (reflagged nodes o l) (x ∷ o ∷ os) from lines

@@ -28,15 +28,15 @@ use Rattle.first_pass_grammar.specs.Rows.{is_paragraph}
 use Rattle.first_pass_grammar.specs.Openers.{Start, start_at}
 use Rattle.first_pass_grammar.specs.declared.kind.AfterMarker.{AfterMarker}
 use Rattle.first_pass_grammar.specs.declared.kind.AfterMarker.TheVariants.{OnLine, TaskText, LineEnds, OnlyTag}
-use Rattle.first_pass_grammar.specs.Skeleton.{From, Line, Blanks, At, Anything, OnlyALeaf, TextOf, OnlyMark, Opening, OpensLeaf, OpensNode, OpensText}
+use Rattle.first_pass_grammar.specs.Skeleton.{Continues, Line, Blanks, AtPlace, Anything, OnlyALeaf, TextOf, OnlyMark, Opening, OpensLeaf, OpensNode, OpensText}
 use Rattle.first_pass_grammar.specs.Skeleton.{OpensRun, OpensAs, OpensBlockAt, OpensBy, OpensFootnote, Opens, OpensAt, opening_by}
 use Rattle.first_pass_grammar.specs.Skeleton.{next_is_blank, Level, may_define, IsFirst}
 use Rattle.first_pass_grammar.specs.TableHeads.{headed_table}
 use Rattle.first_pass_grammar.specs.Tables.{Taken, IsTable}
 use Rattle.first_pass_grammar.specs.Texts.{IsPlainText, IsText, IsUnderlined, text_children, plain_text, underline_first}
-use Rattle.first_pass_grammar.proofs.EachToken.{AreEach, HoldsOfTokens, children_each, lines_each}
-use Rattle.first_pass_grammar.proofs.TableItems.{deeper_nodes, leaves_nodes}
-use Rattle.first_pass_grammar.proofs.TokensNamed.{NamesWithin}
+use Rattle.first_pass_grammar.proofs.Each.EachToken.{AreEach, HoldsOfTokens, children_each, lines_each}
+use Rattle.first_pass_grammar.proofs.Each.EachCell.{deeper_nodes, leaves_nodes}
+use Rattle.first_pass_grammar.proofs.Names.TokensNamed.{NamesWithin}
 use Rattle.first_pass_grammar.specs.WholeTables.{AreEachNode}
 
 abbrev pub IsNoParagraph : ItemBody → Type 0
@@ -67,16 +67,16 @@ pub record OwnParagraph (b : LeafBlock) : Type 0 where
 
 -- where blocks continue, the task list item marker before a text has a property; a marker without a text is no
 -- paragraph
-abbrev pub HoldsOfMarker : (ItemBody → Type 0) → From → Type 0
+abbrev pub HoldsOfMarker : (ItemBody → Type 0) → Continues → Type 0
 HoldsOfMarker P Line = Unit {0}
 HoldsOfMarker P (Blanks e) = Unit {0}
-HoldsOfMarker P (At p Anything) = Unit {0}
-HoldsOfMarker P (At p OnlyALeaf) = Unit {0}
-HoldsOfMarker P (At p (TextOf marker)) = P marker.body
-HoldsOfMarker P (At p (OnlyMark marker blanks)) = IsNoParagraph marker.body
+HoldsOfMarker P (AtPlace p Anything) = Unit {0}
+HoldsOfMarker P (AtPlace p OnlyALeaf) = Unit {0}
+HoldsOfMarker P (AtPlace p (TextOf marker)) = P marker.body
+HoldsOfMarker P (AtPlace p (OnlyMark marker blanks)) = IsNoParagraph marker.body
 
 -- neither is a paragraph
-abbrev pub OwnFrom : From → Type 0
+abbrev pub OwnFrom : Continues → Type 0
 OwnFrom from = HoldsOfMarker IsNoParagraph from
 
 -- no token of a line is a paragraph
@@ -214,21 +214,21 @@ module _ (P : ItemBody → Type 0) (d : Document) (holds : HoldsOfTokens d.names
   opens_any l p lines o opens = opens_head l p lines (footnote_head_at (around d l.path) p) o opens
 
   -- what opens where blocks continue
-  opens_at : (l : Level) (from : From) (p : Place) (lines : List Place) (o : Opening) → HoldsOfMarker P from → OpensAt d l from p lines o
+  opens_at : (l : Level) (from : Continues) (p : Place) (lines : List Place) (o : Opening) → HoldsOfMarker P from → OpensAt d l from p lines o
       → HoldsInOpening P o
   opens_at l Line p lines o mark opens = opens_any l p lines o opens
   opens_at l (Blanks e) p lines o mark opens = opens_any l p lines o opens
-  opens_at l (At q Anything) p lines o mark opens = opens_any l p lines o opens
-  opens_at l (At q OnlyALeaf) p lines o mark opens = opens_block l.path p lines o opens
-  opens_at l (At q (TextOf marker)) p lines o mark opens = opens_text l.path p lines (Some marker) o mark opens
-  opens_at l (At q (OnlyMark marker blanks)) p lines o mark e = subst (HoldsInOpening P) (sym e) (other_block P _ _ _ refl refl mark)
+  opens_at l (AtPlace q Anything) p lines o mark opens = opens_any l p lines o opens
+  opens_at l (AtPlace q OnlyALeaf) p lines o mark opens = opens_block l.path p lines o opens
+  opens_at l (AtPlace q (TextOf marker)) p lines o mark opens = opens_text l.path p lines (Some marker) o mark opens
+  opens_at l (AtPlace q (OnlyMark marker blanks)) p lines o mark e = subst (HoldsInOpening P) (sym e) (other_block P _ _ _ refl refl mark)
 
   -- a property of each token of a text holds for each item after the first of a paragraph that opens
-  pub opened_holds : (l : Level) (from : From) (lines : List Place) (b : LeafBlock) (there : From) (left : List Place) → HoldsOfMarker P from
+  pub opened_holds : (l : Level) (from : Continues) (lines : List Place) (b : LeafBlock) (there : Continues) (left : List Place) → HoldsOfMarker P from
       → IsFirst d l from lines (OpensLeaf (Block b) there left) → HoldsInBlock P b × OwnParagraph b
   opened_holds l from lines b there left mark first = opens_at l from first.place first.following (OpensLeaf (Block b) there left) mark first.opens
 
 -- The first block of a sequence is flat, and its paragraph starts where it does.
-pub opened_own : (d : Document) (l : Level) (from : From) (lines : List Place) (b : LeafBlock) (there : From) (left : List Place) → OwnFrom from
+pub opened_own : (d : Document) (l : Level) (from : Continues) (lines : List Place) (b : LeafBlock) (there : Continues) (left : List Place) → OwnFrom from
     → IsFirst d l from lines (OpensLeaf (Block b) there left) → FlatBlock b × OwnParagraph b
 opened_own d l from lines b there left mark first = opened_holds IsNoParagraph d (tokens_flat d.names.texts) l from lines b there left mark first

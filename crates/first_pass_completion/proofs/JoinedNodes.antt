@@ -12,7 +12,7 @@ use Rattle.first_pass_grammar.specs.Rows.{items_after, list_after, rows_of}
 use Rattle.first_pass_grammar.specs.Derivation.{node_of, items_of}
 use Rattle.first_pass_grammar.specs.Completion.{ended, with_title, title_taken, title_left, list_closed, ParagraphAt, NoList, OneList}
 use Rattle.first_pass_grammar.specs.Completion.{OneTitle, rows_beyond, after_paragraph, after_title, rendered}
-use Rattle.first_pass_grammar.proofs.Tightening.{list_closed-append, closed_item}
+use Rattle.first_pass_grammar.proofs.Sequences.Tightening.{list_closed-append, closed_item}
 use Rattle.first_pass_completion.proofs.TitleNodes.{reflagged}
 use Rattle.first_pass_completion.proofs.TitleNodes.{length-with_title, length-taken, closed-ended, closed-reflagged, taken-ended}
 

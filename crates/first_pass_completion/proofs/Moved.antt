@@ -17,15 +17,15 @@ use Rattle.first_pass_grammar.specs.Blocks.{Skeleton, Nil, Then, Node}
 use Rattle.first_pass_grammar.specs.Before.{Before, nothing, definition_may_follow, after_block, after_container, before_end}
 use Rattle.first_pass_grammar.specs.Rows.{leaf_row, gap_before, row_of, container_row, rows_of}
 use Rattle.first_pass_grammar.specs.Openers.{Start, definition_head, definition_start, after_item, start_at}
-use Rattle.first_pass_grammar.specs.Skeleton.{From, Inside, Opening, OpensLeaf, OpensNode, OpensBy, OpensFootnote, Opens, level, may_define, opening_by}
+use Rattle.first_pass_grammar.specs.Skeleton.{Continues, Inside, Opening, OpensLeaf, OpensNode, OpensBy, OpensFootnote, Opens, level, may_define, opening_by}
 use Rattle.first_pass_grammar.specs.Skeleton.{opening_of}
-use Rattle.first_pass_grammar.specs.Skeleton.{next_is_blank, Level, Left, Begins, Ends, next_block, IsFirst, IsSequence}
-use Rattle.first_pass_grammar.proofs.Alike.{only_opener, only_head, AlikeOpening}
+use Rattle.first_pass_grammar.specs.Skeleton.{next_is_blank, Level, Remaining, Begins, Ends, next_block, IsFirst, IsSequence}
+use Rattle.first_pass_grammar.proofs.Uniqueness.Alike.{only_opener, only_head, AlikeOpening}
 use Rattle.first_pass_completion.proofs.Extending.{StaysAt}
 use Rattle.first_pass_completion.proofs.FlatBlocks.{FlatBlock, OwnParagraph, opened_own}
-use Rattle.first_pass_grammar.proofs.Goings.{begins_at, begins_inside, going_inside}
-use Rattle.first_pass_grammar.proofs.OpenerFacts.{marker_where, item_as, quote_as}
-use Rattle.first_pass_grammar.proofs.Unique.{one_opening}
+use Rattle.first_pass_grammar.proofs.Sequences.Goings.{begins_at, begins_inside, going_inside}
+use Rattle.first_pass_grammar.proofs.Sequences.OpenerFacts.{marker_where, item_as, quote_as}
+use Rattle.first_pass_grammar.proofs.Uniqueness.Unique.{one_opening}
 
 -- a definition is opened
 abbrev pub is_definition : Opener → Bool
@@ -150,7 +150,7 @@ SameAfter before before' (Then (Block b) next) = after_block before b ≡ after_
 SameAfter before before' (Node head e kids next) = Unit {0}
 
 -- such a sequence inside a line is the same, whichever of two states precedes it
-pub seq_moved : (d : Document) (s : Skeleton) (path : List Container) (before before' : Before) (p : Place) (lines : List Place) (mid : Left)
+pub seq_moved : (d : Document) (s : Skeleton) (path : List Container) (before before' : Before) (p : Place) (lines : List Place) (mid : Remaining)
     → OpensAlike d path before before' p → SameAfter before before' s
     → IsSequence d s (level path before) (Inside p) lines mid → IsSequence d s (level path before') (Inside p) lines mid
 unfolding IsSequence
@@ -218,14 +218,14 @@ Known d o o' = AlikeOpening d.names d.names o o' × FlatOpened o'
 -- a sequence has a first block, whose opening has a property
 abbrev pub FirstHas : (Opening → Type 0) → Skeleton → Type 0
 FirstHas P Nil = ⊥
-FirstHas P (Then leaf next) = (there : From) × (left : List Place) × P (OpensLeaf leaf there left)
-FirstHas P (Node head e kids next) = (inside : From) × (following : List Place) × P (OpensNode head inside following)
+FirstHas P (Then leaf next) = (there : Continues) × (left : List Place) × P (OpensLeaf leaf there left)
+FirstHas P (Node head e kids next) = (inside : Continues) × (following : List Place) × P (OpensNode head inside following)
 
-some_block : (d : Document) (l : Level) (p : Place) (lines : List Place) (left : Left) → StaysAt d l.path p
+some_block : (d : Document) (l : Level) (p : Place) (lines : List Place) (left : Remaining) → StaysAt d l.path p
     → next_block d.options l (Inside p) lines ≡ Ends left → ⊥
 some_block d l p lines left stays ends = let both : Begins p lines ≡ Ends left = sym (begins_inside d.options l p lines stays) ∙ ends in cc
 
-flat_leaf : (d : Document) (l : Level) (p : Place) (lines : List Place) (leaf : Leaf) (there : From) (left : List Place)
+flat_leaf : (d : Document) (l : Level) (p : Place) (lines : List Place) (leaf : Leaf) (there : Continues) (left : List Place)
     → IsFirst d l (Inside p) lines (OpensLeaf leaf there left) → FlatOpened (OpensLeaf leaf there left)
 flat_leaf d l p lines BlankLine there left first = tt
 flat_leaf d l p lines (Block b) there left first = opened_own d l (Inside p) lines b there left tt first
@@ -236,7 +236,7 @@ alike_first d path before p lines o o' opens first =
     one_opening d d.names (level path before) p lines o o' opens (opens_first d path before p lines o' first)
 
 -- the first block of a sequence is the one that opens at its place
-pub known_first : (d : Document) (path : List Container) (before : Before) (p : Place) (lines : List Place) (mid : Left) (o : Opening) (s : Skeleton)
+pub known_first : (d : Document) (path : List Container) (before : Before) (p : Place) (lines : List Place) (mid : Remaining) (o : Opening) (s : Skeleton)
     → StaysAt d path p → Opens d (level path before) p lines o → IsSequence d s (level path before) (Inside p) lines mid → FirstHas (Known d o) s
 unfolding IsSequence
 known_first d path before p lines mid o Nil stays opens seq = absurd (some_block d (level path before) p lines mid stays seq)

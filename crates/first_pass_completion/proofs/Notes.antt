@@ -19,7 +19,7 @@ use Rattle.first_pass_grammar.specs.Completion.{InContainer}
 use Rattle.first_pass_grammar.specs.Completion.{InList, InDefinitions, containers_of, loosened, IsPlain, last_plain, StandsIn, IsShaped}
 use Rattle.first_pass_completion.proofs.Completions.{beside_all}
 use Rattle.first_pass_completion.proofs.Extending.{tail, lvl, loosened_in, stands_after, plain_before, extend, StaysAt}
-use Rattle.first_pass_grammar.proofs.Finishes.{Finish, Tail, before_of, CompletesAt, FinishesAt, finish_derives, whole_by}
+use Rattle.first_pass_grammar.proofs.Sequences.Finishes.{Finish, Tail, before_of, CompletesAt, FinishesAt, finish_derives, whole_by}
 use Rattle.first_pass_completion.proofs.FlatBlocks.{FlatBlock, OwnParagraph}
 use Rattle.first_pass_completion.proofs.Moved.{is_definition, opens_definition, OpensAlike, takes_alike, SameAfter, seq_moved, counts_moved, known_first}
 use Rattle.first_pass_completion.proofs.Moved.{OpensBlock, FirstIsOther, first_is_other}

@@ -10,7 +10,7 @@ use Rattle.first_pass_grammar.specs.Footnotes.{ends_footnote}
 use Rattle.first_pass_grammar.specs.Leaves.{Document, around}
 use Rattle.first_pass_grammar.specs.Before.{Last, LastParagraph, LastItem, LastDefinition, Before}
 use Rattle.first_pass_grammar.specs.Before.{before_end}
-use Rattle.first_pass_grammar.specs.Skeleton.{From, Line, Inside, level, Left, Lines, InLine, Ends, next_block, only_blanks}
+use Rattle.first_pass_grammar.specs.Skeleton.{Continues, Line, Inside, level, Remaining, Lines, InLine, Ends, next_block, only_blanks}
 use Rattle.first_pass_grammar.specs.Skeleton.{end_of_left, IsSequence}
 use Rattle.first_pass_grammar.specs.Kinds.{unindented}
 use Rattle.first_pass_grammar.specs.Rows.{Joins, ItemsOf, DefinitionsTo, End, any_gap, is_loose}
@@ -21,11 +21,11 @@ use Rattle.first_pass_grammar.specs.Completion.{OneTitle, rows_beyond, rendered,
 use Rattle.first_pass_grammar.specs.Completion.{AreBelow, IsPlain}
 use Rattle.first_pass_completion.proofs.Extending.{tail, AreBelow-more, loosened_in-false, stands_after}
 use Rattle.first_pass_completion.proofs.Extending.{Adds, extend}
-use Rattle.first_pass_grammar.proofs.Finishes.{Finish, Tail, before_of, CompletesAt, FinishesAt, finish_derives, whole_by}
-use Rattle.first_pass_grammar.proofs.Goings.{ends_inside, stops}
-use Rattle.first_pass_grammar.proofs.Tightening.{length-closed}
+use Rattle.first_pass_grammar.proofs.Sequences.Finishes.{Finish, Tail, before_of, CompletesAt, FinishesAt, finish_derives, whole_by}
+use Rattle.first_pass_grammar.proofs.Sequences.Goings.{ends_inside, stops}
+use Rattle.first_pass_grammar.proofs.Sequences.Tightening.{length-closed}
 use Rattle.first_pass_completion.proofs.TitleNodes.{length-left}
-use Rattle.first_pass_grammar.proofs.Unique.{ends_at_once}
+use Rattle.first_pass_grammar.proofs.Uniqueness.Unique.{ends_at_once}
 
 -- the last block in a list that may continue
 abbrev pub last_in : Joins → Bool → Last
@@ -34,7 +34,7 @@ last_in (DefinitionsTo e) blanks = LastDefinition blanks
 
 -- A list that may continue is closed before the end of the container around it.
 shut_step : (d : Document) (defined : Tables) (frames : List Frame) (list : Pending) (t : Tail) (last : Last) (run : Bool) (nodes nodes' : List (ℕ × Item))
-    (os : List ℕ) (from : From) (lines : List Place) (left : Left) (forest : List (ℕ × Item)) (tables : Tables)
+    (os : List ℕ) (from : Continues) (lines : List Place) (left : Remaining) (forest : List (ℕ × Item)) (tables : Tables)
     → IsPlain frames → t.run ≡ run → ((before : Before) → next_block d.options (level (containers_of frames) before) from lines ≡ Ends left)
     → ((e : ℕ) → (only_blanks from ≡ None → e ≡ end_of_left (length d.text) [] None left)
     → rendered (suc (length os)) e nodes list End ≡ rendered (suc (length os)) e nodes' (NoList t.closed) End)
@@ -52,7 +52,7 @@ shut_step d defined frames list t last run nodes nodes' os from lines left fores
     (λ path mid. refl)
     (λ s mid seq. let over = ends_at_once d s (level path closed) from lines left mid (ends closed) seq in
     subst (λ z. Adds d k path list (NoList t.closed) here closed false nodes nodes' from lines z z mid) (sym over.0) (record {
-      seq = ends here ∙ ap (λ (z : Left). Ends z) (sym over.1);
+      seq = ends here ∙ ap (λ (z : Remaining). Ends z) (sym over.1);
       items = λ e is. same e (λ none. is none ∙ ap (end_of_left n [] None) over.1);
       counts = sym counted;
       gaps = λ e. gaps;
@@ -61,7 +61,7 @@ shut_step d defined frames list t last run nodes nodes' os from lines left fores
     (subst (λ z. Finish d defined (NoList t.closed) closed z nodes' os from lines forest tables) (sym (loosened_in-false frames)) fin)
 
 pop_list_step : (d : Document) (defined : Tables) (frames : List Frame) (list : Joins) (loose run blanks : Bool) (nodes : List (ℕ × Item)) (o : ℕ)
-    (os : List ℕ) (from : From) (lines : List Place) (left : Left) (forest : List (ℕ × Item)) (tables : Tables)
+    (os : List ℕ) (from : Continues) (lines : List Place) (left : Remaining) (forest : List (ℕ × Item)) (tables : Tables)
     → IsPlain frames → only_blanks from ≡ None → ((before : Before) → next_block d.options (level (containers_of frames) before) from lines ≡ Ends left)
     → FinishesAt d defined (tail OtherClosed run) frames
     (list_closed nodes o (suc (suc (suc (length os)))) loose (end_of_left (length d.text) [] None left)) os from lines forest tables
@@ -74,7 +74,7 @@ pop_list_step d defined frames list loose run blanks nodes o os from lines left 
     refl fin
 
 pop_title_step : (d : Document) (defined : Tables) (frames : List Frame) (loose run : Bool) (nodes : List (ℕ × Item)) (o at e : ℕ)
-    (os : List ℕ) (from : From) (lines : List Place) (left : Left) (forest : List (ℕ × Item)) (tables : Tables)
+    (os : List ℕ) (from : Continues) (lines : List Place) (left : Remaining) (forest : List (ℕ × Item)) (tables : Tables)
     → IsPlain frames → ((before : Before) → next_block d.options (level (containers_of frames) before) from lines ≡ Ends left)
     → FinishesAt d defined (tail (ParagraphAt at) run) frames (title_left (list_closed nodes o (suc (suc (suc (length os)))) loose e) at) os from lines
     forest tables
@@ -97,7 +97,7 @@ title_below nodes o os depth loose e at below =
 
 -- a list is closed with the container around it, wherever that ends
 completes-pop_any : (d : Document) (defined : Tables) (t : Tail) (byte : ℕ) (loose : Bool) (frames : List Frame) (nodes : List (ℕ × Item)) (o : ℕ)
-    (os : List ℕ) (from : From) (lines : List Place) (left : Left)
+    (os : List ℕ) (from : Continues) (lines : List Place) (left : Remaining)
     → only_blanks from ≡ None → ((before : Before) → next_block d.options (level (containers_of frames) before) from lines ≡ Ends left)
     → CompletesAt d defined t (InList byte loose ∷ frames) nodes (o ∷ os) from lines
     → CompletesAt d defined (tail OtherClosed t.run) frames
@@ -111,7 +111,7 @@ completes-pop_any d defined t byte loose frames nodes o os from lines left none 
 }
 
 completes-pop_definitions_any : (d : Document) (defined : Tables) (e : ℕ) (blanks run loose : Bool) (frames : List Frame) (nodes : List (ℕ × Item)) (o : ℕ)
-    (os : List ℕ) (from : From) (lines : List Place) (left : Left)
+    (os : List ℕ) (from : Continues) (lines : List Place) (left : Remaining)
     → only_blanks from ≡ None → ((before : Before) → next_block d.options (level (containers_of frames) before) from lines ≡ Ends left)
     → CompletesAt d defined (tail (DefinitionClosed e blanks) run) (InDefinitions loose ∷ frames) nodes (o ∷ os) from lines
     → CompletesAt d defined (tail OtherClosed run) frames
@@ -125,7 +125,7 @@ completes-pop_definitions_any d defined e blanks run loose frames nodes o os fro
 }
 
 completes-pop_title_any : (d : Document) (defined : Tables) (e at : ℕ) (run loose : Bool) (frames : List Frame) (nodes : List (ℕ × Item)) (o : ℕ)
-    (os : List ℕ) (from : From) (lines : List Place) (left : Left)
+    (os : List ℕ) (from : Continues) (lines : List Place) (left : Remaining)
     → ((before : Before) → next_block d.options (level (containers_of frames) before) from lines ≡ Ends left)
     → CompletesAt d defined (tail (TitleAt e at) run) (InDefinitions loose ∷ frames) nodes (o ∷ os) from lines
     → CompletesAt d defined (tail (ParagraphAt at) run) frames (title_left (list_closed nodes o (suc (suc (suc (length os)))) loose e) at) os from lines

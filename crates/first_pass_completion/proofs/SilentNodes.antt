@@ -16,9 +16,9 @@ use Rattle.first_pass_grammar.specs.Completion.{ended, flagged, with_title, titl
 use Rattle.first_pass_grammar.specs.Completion.{DefinitionClosed, TitleAt, Pending, NoList, OneList, OneTitle, not_apart, closed_with, after_paragraph}
 use Rattle.first_pass_grammar.specs.Completion.{after_closed, after_title, rendered, closed_as, definitions_open}
 use Rattle.first_pass_grammar.specs.WholeTables.{Mark, shown, marks, TableRows, table_marks, AreWholeTables}
-use Rattle.first_pass_grammar.proofs.EachRow.{HoldsOfFirst, first_rows, items_rows, list_rows}
-use Rattle.first_pass_grammar.proofs.TableMarks.{marks-append}
-use Rattle.first_pass_grammar.proofs.WholeForests.{table_marks-append, whole_both, tight_shows, marks-tightened, WholeRows, forest_whole}
+use Rattle.first_pass_grammar.proofs.Each.EachRow.{HoldsOfFirst, first_rows, items_rows, list_rows}
+use Rattle.first_pass_grammar.proofs.WholeTables.TableMarks.{marks-append}
+use Rattle.first_pass_grammar.proofs.WholeTables.WholeForests.{table_marks-append, whole_both, tight_shows, marks-tightened, WholeRows, forest_whole}
 use Rattle.first_pass_grammar.specs.WholeTables.{AreEachNode, ShowsNothing, SilentClosed, SilentFrom}
 
 -- there is a node at a place, and it is no part of a table

@@ -8,10 +8,10 @@ use Rattle.first_pass_lines.specs.Places.{Place}
 use Rattle.first_pass_grammar.specs.Before.{is_paragraph_body, begins_paragraph}
 use Rattle.first_pass_grammar.specs.Blocks.{LeafBlock, Block}
 use Rattle.first_pass_grammar.specs.Leaves.{Document}
-use Rattle.first_pass_grammar.specs.Skeleton.{From, Level, OpensLeaf, IsFirst}
+use Rattle.first_pass_grammar.specs.Skeleton.{Continues, Level, OpensLeaf, IsFirst}
 use Rattle.first_pass_completion.proofs.FlatBlocks.{HoldsOfMarker, opened_holds}
-use Rattle.first_pass_grammar.proofs.TableItems.{deeper_nodes}
-use Rattle.first_pass_grammar.proofs.TableMarks.{tokens_show}
+use Rattle.first_pass_grammar.proofs.Each.EachCell.{deeper_nodes}
+use Rattle.first_pass_grammar.proofs.WholeTables.TableMarks.{tokens_show}
 use Rattle.first_pass_grammar.specs.WholeTables.{AreEachNode, ShowsNothing, SilentFrom}
 
 paragraph_silent : (b : ItemBody) → is_paragraph_body b ≡ true → ShowsNothing b
@@ -25,7 +25,7 @@ text_silent [] begins h = cc
 text_silent (x ∷ items) begins h = (paragraph_silent x.1.body begins, h begins)
 
 -- the items of a first block that begins with a paragraph
-pub opened_silent : (d : Document) (l : Level) (from : From) (lines : List Place) (b : LeafBlock) (there : From) (left : List Place)
+pub opened_silent : (d : Document) (l : Level) (from : Continues) (lines : List Place) (b : LeafBlock) (there : Continues) (left : List Place)
     → HoldsOfMarker ShowsNothing from → IsFirst d l from lines (OpensLeaf (Block b) there left) → begins_paragraph b.items ≡ true
     → AreEachNode ShowsNothing b.items
 opened_silent d l from lines b there left mark first begins =

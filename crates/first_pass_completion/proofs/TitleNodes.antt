@@ -13,7 +13,7 @@ use Rattle.first_pass_grammar.specs.Before.{is_paragraph_body, begins_paragraph}
 use Rattle.first_pass_grammar.specs.Derivation.{node_of, list_flags, as_title}
 use Rattle.first_pass_grammar.specs.Completion.{ended, flagged, with_title, title_taken, title_left, list_closed}
 use Rattle.first_pass_completion.proofs.FlatBlocks.{NoParagraph, BeginsAt}
-use Rattle.first_pass_grammar.proofs.Tightening.{list_closed-append, length-closed}
+use Rattle.first_pass_grammar.proofs.Sequences.Tightening.{list_closed-append, length-closed}
 use Rattle.first_pass_tokens.proofs.BytesLemmas.{length-modify}
 
 -- the items of a paragraph that may become the next title of a definition list

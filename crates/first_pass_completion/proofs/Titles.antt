@@ -18,7 +18,7 @@ use Rattle.first_pass_grammar.specs.Completion.{with_title, title_taken, title_l
 use Rattle.first_pass_grammar.specs.Completion.{NoList, OneList, OneTitle, beside_or, rows_beyond, not_apart, closed_with}
 use Rattle.first_pass_grammar.specs.Completion.{after_paragraph, after_title, rendered}
 use Rattle.first_pass_completion.proofs.FlatBlocks.{FlatBlock, OwnParagraph}
-use Rattle.first_pass_grammar.proofs.Tightening.{length-closed}
+use Rattle.first_pass_grammar.proofs.Sequences.Tightening.{length-closed}
 use Rattle.first_pass_completion.proofs.TitleNodes.{as_possible, titled_closed, closed-kept, title-flat, taken-mid, left-closed}
 
 -- the last child after a leaf block whose node is at a place

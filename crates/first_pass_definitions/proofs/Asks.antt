@@ -15,11 +15,11 @@ use Rattle.first_pass_items.specs.OptionWords.{gfm_footnotes}
 use Rattle.first_pass_links.specs.Footnotes.{begins_footnote}
 use Rattle.first_pass_grammar.specs.Containers.{Context}
 use Rattle.first_pass_grammar.specs.Definitions.{title_prefix, title_at, title_after, title_beyond, alone_after, space_at, target_at}
-use Rattle.first_pass_grammar.specs.Definitions.{deepest_nesting, prefix_crossed, LinkReference, reference_at}
+use Rattle.first_pass_grammar.specs.Definitions.{deepest_nesting, prefix_crossed, LinkReference, reference_definition_at}
 use Rattle.first_pass_kinds.specs.Memory.{line_may_head}
 use Rattle.first_pass_labels.specs.declared.label_table.LinkDef.{LinkDef}
 use Rattle.first_pass_labels.specs.declared.label_table.LinkPlaces.{LinkPlaces}
-use Rattle.first_pass_definitions.specs.Reading.{stops_title, goes_on_at}
+use Rattle.first_pass_definitions.specs.Reading.{stops_title_line, goes_on_at}
 use Rattle.first_pass_items.specs.declared.cow_str.CowStr.{CowStr}
 use Rattle.first_pass_definitions.proofs.Targets.{shifted, IsLabelAnswer, IsReferenceAnswer, label_found, IsTitleRead, read_to, IsDest, space_found}
 use Rattle.first_pass_definitions.proofs.Targets.{dest_found}
@@ -52,21 +52,21 @@ table_asks : (around : Context) (bs : List ℕ) (n : ℕ) (o : Option ℕ) → o
 table_asks around bs n None h = h
 table_asks around bs n (Some e) h = ap (λ b. is_some (title_prefix around (drop (n + e) bs)) || b) h ∙ or_true (is_some (title_prefix around (drop (n + e) bs)))
 
-text_asks_at : (around : Context) (close n : ℕ) (bs : List ℕ) → n ≡ unescaped_upto (stops_title close) 0 bs
+text_asks_at : (around : Context) (close n : ℕ) (bs : List ℕ) → n ≡ unescaped_upto (stops_title_line close) 0 bs
     → option_map_or (λ e. line_asks around (drop (n + e) bs)) (eol_len (drop n bs)) false ≡ true → text_asks around close bs ≡ true
 unfolding text_asks
 text_asks_at around close n bs e h = subst (λ (m : ℕ). option_map_or (λ k. line_asks around (drop (m + k) bs)) (eol_len (drop m bs)) false ≡ true) e h
 
 first_stop : (close from stop : ℕ) (bs : List ℕ)
-    → from ≡ 0 → stop ≡ from + unescaped_upto (stops_title close) 0 (drop from bs) → stop ≡ unescaped_upto (stops_title close) 0 bs
+    → from ≡ 0 → stop ≡ from + unescaped_upto (stops_title_line close) 0 (drop from bs) → stop ≡ unescaped_upto (stops_title_line close) 0 bs
 first_stop close from stop bs z e =
-    let k : from + unescaped_upto (stops_title close) 0 (drop from bs) ≡ 0 + unescaped_upto (stops_title close) 0 (drop 0 bs) =
-    ap (λ n. n + unescaped_upto (stops_title close) 0 (drop n bs)) z in
+    let k : from + unescaped_upto (stops_title_line close) 0 (drop from bs) ≡ 0 + unescaped_upto (stops_title_line close) 0 (drop 0 bs) =
+    ap (λ n. n + unescaped_upto (stops_title_line close) 0 (drop n bs)) z in
     omega arith
 
 -- the title continues after its first line
 pub goes_asks : (around : Context) (close from stop next : ℕ) (bs : List ℕ)
-    → (0 < from → text_asks around close bs ≡ true) → stop ≡ from + unescaped_upto (stops_title close) 0 (drop from bs)
+    → (0 < from → text_asks around close bs ≡ true) → stop ≡ from + unescaped_upto (stops_title_line close) 0 (drop from bs)
     → goes_on_at (title_prefix around) bs stop ≡ Some next → (from ≡ 0) ⊎ (0 < from) → text_asks around close bs ≡ true
 goes_asks around close from stop next bs f e h (inl z) =
     text_asks_at around close stop bs (first_stop close from stop bs z e) (further_asks around bs stop next (eol_len (drop stop bs)) h)
@@ -74,7 +74,7 @@ goes_asks around close from stop next bs f e h (inr l) = f l
 
 -- or a line follows that may head a table
 pub meets_asks : (around : Context) (close from stop : ℕ) (bs : List ℕ)
-    → (0 < from → text_asks around close bs ≡ true) → stop ≡ from + unescaped_upto (stops_title close) 0 (drop from bs)
+    → (0 < from → text_asks around close bs ≡ true) → stop ≡ from + unescaped_upto (stops_title_line close) 0 (drop from bs)
     → option_map_or (λ e. line_may_head around (line_rest (drop (stop + e) bs))) (eol_len (drop stop bs)) false ≡ true → (from ≡ 0) ⊎ (0 < from)
     → text_asks around close bs ≡ true
 meets_asks around close from stop bs f e h (inl z) =
@@ -185,5 +185,5 @@ reference_some t start None found h = cc
 reference_some t start (Some r) found h = refl
 
 pub ask_key : (t : Bool) (around : Context) (text : List ℕ) (start : ℕ) (found : ℕ × CowStr × LinkDef) → begins 91 (drop start text) ≡ true
-    → IsReferenceAnswer t start (reference_at t around (drop start text)) (Some found) → ReferenceAsks t around (drop start text)
-ask_key t around text start found b h = (b, inr (inr (reference_some t start (reference_at t around (drop start text)) found h)))
+    → IsReferenceAnswer t start (reference_definition_at t around (drop start text)) (Some found) → ReferenceAsks t around (drop start text)
+ask_key t around text start found b h = (b, inr (inr (reference_some t start (reference_definition_at t around (drop start text)) found h)))

@@ -20,7 +20,7 @@ use Rattle.first_pass_grammar.specs.Containers.{Context}
 use Rattle.first_pass_grammar.specs.Definitions.{prefix_crossed, space_at, with_line_feeds, ends_title, title_end, title_text, title_prefix, title_at}
 use Rattle.first_pass_grammar.specs.Definitions.{alone_after, title_beyond, title_after, after_destination, deepest_nesting, Target, target_of}
 use Rattle.first_pass_grammar.specs.Definitions.{target_from}
-use Rattle.first_pass_grammar.specs.Definitions.{target_beyond, target_at, LinkReference, reference_of, reference_after, reference_at}
+use Rattle.first_pass_grammar.specs.Definitions.{target_beyond, target_at, LinkReference, reference_definition_of, reference_definition_after, reference_definition_at}
 
 -- the parts of a result
 and_some : {A B : Type 0} (k : A → Option B) (o : Option A) (r : B) → option_and_then k o ≡ Some r → (a : A) × (o ≡ Some a) × (k a ≡ Some r)
@@ -74,11 +74,11 @@ target_blank around bs t h =
     ∙ ap (λ xs. is_some (blank_len xs)) (sym (drop-drop f.0.0 (s.0.0 + d.0.0) bs) ∙ ap (drop f.0.0) (sym (drop-drop d.0.0 s.0.0 bs))) ∙ b
 
 following_by : (t : Bool) (around : Context) (bs : List ℕ) (l : ℕ × List ℕ) (r : LinkReference)
-    → (if t then option_map (reference_of l) (target_at around (drop (l.0 + 1) bs)) else None) ≡ Some r → (cs : List ℕ) → bs ≡ drop 1 cs
+    → (if t then option_map (reference_definition_of l) (target_at around (drop (l.0 + 1) bs)) else None) ≡ Some r → (cs : List ℕ) → bs ≡ drop 1 cs
     → BlankAt cs r.size
 following_by false around bs l r h cs e = cc
 following_by true around bs l r h cs e =
-    let t = map_some (reference_of l) (target_at around (drop (l.0 + 1) bs)) r h in
+    let t = map_some (reference_definition_of l) (target_at around (drop (l.0 + 1) bs)) r h in
     let b = target_blank around (drop (l.0 + 1) bs) t.0 t.1 in
     let i : 1 + (l.0 + 1 + t.0.0) ≡ l.0 + 2 + t.0.0 = omega arith in
     let d : drop t.0.0 (drop (l.0 + 1) bs) ≡ drop (l.0 + 2 + t.0.0) cs = drop-drop t.0.0 (l.0 + 1) bs ∙ ap (drop (l.0 + 1 + t.0.0)) e ∙ drop-drop
@@ -86,17 +86,18 @@ following_by true around bs l r h cs e =
     ap (λ (q : LinkReference). is_some (blank_len (drop q.size cs))) (sym t.2) ∙ ap (λ xs. is_some (blank_len xs)) (sym d) ∙ b
 
 reference_by : (t : Bool) (in_table : Bool) (around : Context) (bs : List ℕ) (r : LinkReference)
-    → (if t then option_and_then (reference_after around (drop 1 bs)) (label_at (prefix_crossed true around) in_table (drop 1 bs)) else None) ≡ Some r
+    → (if t then option_and_then (reference_definition_after around (drop 1 bs)) (label_at (prefix_crossed true around) in_table (drop 1 bs)) else None)
+    ≡ Some r
     → BlankAt bs r.size
 reference_by false in_table around bs r h = cc
 reference_by true in_table around bs r h =
-    let l = and_some (reference_after around (drop 1 bs)) (label_at (prefix_crossed true around) in_table (drop 1 bs)) r h in
+    let l = and_some (reference_definition_after around (drop 1 bs)) (label_at (prefix_crossed true around) in_table (drop 1 bs)) r h in
     following_by (begins 58 (drop l.0.0 (drop 1 bs))) around (drop 1 bs) l.0 r l.2 bs refl
 
 -- After a definition the rest of its line is blank (CommonMark 4.7).
-pub reference_blank : (in_table : Bool) (around : Context) (bs : List ℕ) (r : LinkReference) → reference_at in_table around bs ≡ Some r
+pub reference_blank : (in_table : Bool) (around : Context) (bs : List ℕ) (r : LinkReference) → reference_definition_at in_table around bs ≡ Some r
     → is_some (blank_len (drop r.size bs)) ≡ true
-unfolding reference_at
+unfolding reference_definition_at
 reference_blank in_table around bs r h = reference_by (begins 91 bs) in_table around bs r h
 
 -- the last byte of a destination
@@ -352,11 +353,11 @@ target_last around bs t h =
     )
 
 after_last_by : (t : Bool) (around : Context) (bs : List ℕ) (l : ℕ × List ℕ) (r : LinkReference)
-    → (if t then option_map (reference_of l) (target_at around (drop (l.0 + 1) bs)) else None) ≡ Some r → (cs : List ℕ)
+    → (if t then option_map (reference_definition_of l) (target_at around (drop (l.0 + 1) bs)) else None) ≡ Some r → (cs : List ℕ)
     → bs ≡ drop 1 cs → (0 < r.size) × Plain cs (r.size - 1)
 after_last_by false around bs l r h cs e = cc
 after_last_by true around bs l r h cs e =
-    let t = map_some (reference_of l) (target_at around (drop (l.0 + 1) bs)) r h in
+    let t = map_some (reference_definition_of l) (target_at around (drop (l.0 + 1) bs)) r h in
     let s : l.0 + 2 + t.0.0 ≡ r.size = ap (λ (q : LinkReference). q.size) t.2 in
     let i : 1 + (l.0 + 1) ≡ l.0 + 2 = omega arith in
     let d : drop (l.0 + 1) bs ≡ drop (l.0 + 2) cs = ap (drop (l.0 + 1)) e ∙ drop-drop (l.0 + 1) 1 cs ∙ ap (λ n. drop n cs) i in
@@ -364,17 +365,18 @@ after_last_by true around bs l r h cs e =
     (omega arith, part_plain cs (l.0 + 2) t.0.0 r.size (sym s) (b.0, ap (λ xs. is_line_end (slice_index xs (t.0.0 - 1))) (sym d) ∙ b.1))
 
 reference_last_by : (t : Bool) (in_table : Bool) (around : Context) (bs : List ℕ) (r : LinkReference)
-    → (if t then option_and_then (reference_after around (drop 1 bs)) (label_at (prefix_crossed true around) in_table (drop 1 bs)) else None) ≡ Some r
+    → (if t then option_and_then (reference_definition_after around (drop 1 bs)) (label_at (prefix_crossed true around) in_table (drop 1 bs)) else None)
+    ≡ Some r
     → (0 < r.size) × Plain bs (r.size - 1)
 reference_last_by false in_table around bs r h = cc
 reference_last_by true in_table around bs r h =
-    let l = and_some (reference_after around (drop 1 bs)) (label_at (prefix_crossed true around) in_table (drop 1 bs)) r h in
+    let l = and_some (reference_definition_after around (drop 1 bs)) (label_at (prefix_crossed true around) in_table (drop 1 bs)) r h in
     after_last_by (begins 58 (drop l.0.0 (drop 1 bs))) around (drop 1 bs) l.0 r l.2 bs refl
 
 -- A definition has a byte, and its last one is no line ending (CommonMark 4.7).
-pub reference_last : (in_table : Bool) (around : Context) (bs : List ℕ) (r : LinkReference) → reference_at in_table around bs ≡ Some r
+pub reference_last : (in_table : Bool) (around : Context) (bs : List ℕ) (r : LinkReference) → reference_definition_at in_table around bs ≡ Some r
     → (0 < r.size) × (is_line_end (slice_index bs (r.size - 1)) ≡ false)
-unfolding reference_at
+unfolding reference_definition_at
 reference_last in_table around bs r h = reference_last_by (begins 91 bs) in_table around bs r h
 
 -- the byte that ends a label

@@ -18,8 +18,8 @@ use Rattle.first_pass_entities.specs.Texts.{Borrows}
 use Rattle.first_pass_links.proofs.Destinations.{first_byte}
 use Rattle.first_pass_grammar.specs.Containers.{Context}
 use Rattle.first_pass_grammar.specs.Definitions.{prefix_crossed, space_at, title_at, alone_after, title_beyond, title_after, after_destination}
-use Rattle.first_pass_grammar.specs.Definitions.{deepest_nesting, Target, target_of, target_from, target_at, LinkReference, reference_of, reference_after}
-use Rattle.first_pass_grammar.specs.Definitions.{reference_at, title_distance}
+use Rattle.first_pass_grammar.specs.Definitions.{deepest_nesting, Target, target_of, target_from, target_at, LinkReference, reference_definition_of, reference_definition_after}
+use Rattle.first_pass_grammar.specs.Definitions.{reference_definition_at, title_distance}
 use Rattle.first_pass_grammar.specs.LinkRuns.{places_of}
 use Rattle.first_pass_definitions.specs.Reading.{IsReadText, IsReadTitle}
 use Rattle.first_pass_definitions.specs.Found.{IsUnescaped, HasTitle, IsDefinition, IsTarget, IsReference}
@@ -273,16 +273,16 @@ is_target around text start from to b title in_table found t dest read h k l =
     })
 
 -- the definition step by step
-pub no_bracket : (in_table : Bool) (around : Context) (bs : List ℕ) → begins 91 bs ≡ false → reference_at in_table around bs ≡ None
-unfolding reference_at
+pub no_bracket : (in_table : Bool) (around : Context) (bs : List ℕ) → begins 91 bs ≡ false → reference_definition_at in_table around bs ≡ None
+unfolding reference_definition_at
 no_bracket in_table around bs h = rw h refl
 
 at_label : (in_table : Bool) (around : Context) (text : List ℕ) (start : ℕ) → begins 91 (drop start text) ≡ true
-    → reference_at in_table around (drop start text) ≡ option_and_then (reference_after around (drop (start + 1) text))
+    → reference_definition_at in_table around (drop start text) ≡ option_and_then (reference_definition_after around (drop (start + 1) text))
     (label_at (prefix_crossed true around) in_table (drop (start + 1) text))
-unfolding reference_at
+unfolding reference_definition_at
 at_label in_table around text start h =
-    rw h (ap (λ xs. option_and_then (reference_after around xs) (label_at (prefix_crossed true around) in_table xs)) (drop-drop 1 start text))
+    rw h (ap (λ xs. option_and_then (reference_definition_after around xs) (label_at (prefix_crossed true around) in_table xs)) (drop-drop 1 start text))
 
 -- results for labels
 abbrev pub IsLabelAnswer : Option (ℕ × List ℕ) → Option (ℕ × CowStr) → Type 0
@@ -299,26 +299,27 @@ label_none (Some l) h = absurd h
 
 pub no_label : (in_table : Bool) (around : Context) (text : List ℕ) (start : ℕ) → begins 91 (drop start text) ≡ true
     → IsLabelAnswer (label_at (prefix_crossed true around) in_table (drop (start + 1) text)) None
-    → reference_at in_table around (drop start text) ≡ None
+    → reference_definition_at in_table around (drop start text) ≡ None
 no_label in_table around text start h k =
-    at_label in_table around text start h ∙ ap (option_and_then (reference_after around (drop (start + 1) text)))
+    at_label in_table around text start h ∙ ap (option_and_then (reference_definition_after around (drop (start + 1) text)))
     (label_none (label_at (prefix_crossed true around) in_table (drop (start + 1) text)) k)
 
 colon_by : (t : Bool) (in_table : Bool) (around : Context) (text : List ℕ) (start n : ℕ) (l : ℕ × List ℕ) → begins 91 (drop start text) ≡ true
     → label_at (prefix_crossed true around) in_table (drop (start + 1) text) ≡ Some l → n ≡ l.0
     → begins 58 (drop (start + 1 + n) text) ≡ t
-    → reference_at in_table around (drop start text) ≡ (if t then option_map (reference_of l) (target_at around (drop (start + 1 + n + 1) text))
+    → reference_definition_at in_table around (drop start text)
+    ≡ (if t then option_map (reference_definition_of l) (target_at around (drop (start + 1 + n + 1) text))
     else None)
 colon_by t in_table around text start n l h k e f =
     let a : drop l.0 (drop (start + 1) text) ≡ drop (start + 1 + n) text = drop-drop l.0 (start + 1) text ∙ ap (λ m. drop (start + 1 + m) text) (sym e) in
     let i : start + 1 + (l.0 + 1) ≡ start + 1 + n + 1 = omega arith in
     let b : drop (l.0 + 1) (drop (start + 1) text) ≡ drop (start + 1 + n + 1) text = drop-drop (l.0 + 1) (start + 1) text ∙ ap (λ m. drop m text) i in
-    at_label in_table around text start h ∙ ap (option_and_then (reference_after around (drop (start + 1) text))) k
+    at_label in_table around text start h ∙ ap (option_and_then (reference_definition_after around (drop (start + 1) text))) k
     ∙ rw (ap (begins 58) a ∙ f) (rw b refl)
 
 pub no_colon : (in_table : Bool) (around : Context) (text : List ℕ) (start n : ℕ) (label : CowStr) → begins 91 (drop start text) ≡ true
     → IsLabelAnswer (label_at (prefix_crossed true around) in_table (drop (start + 1) text)) (Some (n, label))
-    → begins 58 (drop (start + 1 + n) text) ≡ false → reference_at in_table around (drop start text) ≡ None
+    → begins 58 (drop (start + 1 + n) text) ≡ false → reference_definition_at in_table around (drop start text) ≡ None
 no_colon in_table around text start n label h k f =
     let l = label_found (label_at (prefix_crossed true around) in_table (drop (start + 1) text)) n label k in
     colon_by false in_table around text start n l.0 h l.1 l.2 f
@@ -330,18 +331,18 @@ target_none in_table from start (Some t) h = absurd h
 pub no_target : (in_table : Bool) (around : Context) (text : List ℕ) (start n : ℕ) (label : CowStr) → begins 91 (drop start text) ≡ true
     → IsLabelAnswer (label_at (prefix_crossed true around) in_table (drop (start + 1) text)) (Some (n, label))
     → begins 58 (drop (start + 1 + n) text) ≡ true → IsTargetAnswer in_table start (start + 1 + n + 1) (target_at around (drop (start + 1 + n + 1) text)) None
-    → reference_at in_table around (drop start text) ≡ None
+    → reference_definition_at in_table around (drop start text) ≡ None
 no_target in_table around text start n label h k f t =
     let l = label_found (label_at (prefix_crossed true around) in_table (drop (start + 1) text)) n label k in
     colon_by true in_table around text start n l.0 h l.1 l.2 f
-    ∙ ap (option_map (reference_of l.0)) (target_none in_table start (start + 1 + n + 1) (target_at around (drop (start + 1 + n + 1) text)) t)
+    ∙ ap (option_map (reference_definition_of l.0)) (target_none in_table start (start + 1 + n + 1) (target_at around (drop (start + 1 + n + 1) text)) t)
 
 abbrev pub IsReferenceAnswer : Bool → ℕ → Option LinkReference → Option (ℕ × CowStr × LinkDef) → Type 0
 IsReferenceAnswer in_table start o answer = MatchOption o (answer ≡ None) (λ reference. IsSomeAnd answer (IsReference in_table start reference))
 
 reference_by : (in_table : Bool) (start n m : ℕ) (l : ℕ × List ℕ) (label : CowStr) (definition : LinkDef) (o : Option (ℕ × Target)) → n ≡ l.0
     → text_of label ≡ l.1 → IsTargetAnswer in_table start (start + 1 + n + 1) o (Some (m, definition))
-    → IsReferenceAnswer in_table start (option_map (reference_of l) o) (Some (n + 2 + m, label, definition))
+    → IsReferenceAnswer in_table start (option_map (reference_definition_of l) o) (Some (n + 2 + m, label, definition))
 reference_by in_table start n m l label definition None e h t = cc
 reference_by in_table start n m l label definition (Some t) e h found =
     let s = found.size in
@@ -360,7 +361,7 @@ pub is_reference : (in_table : Bool) (around : Context) (text : List ℕ) (start
     → begins 91 (drop start text) ≡ true
     → IsLabelAnswer (label_at (prefix_crossed true around) in_table (drop (start + 1) text)) (Some (n, label)) → begins 58 (drop (start + 1 + n) text) ≡ true
     → IsTargetAnswer in_table start (start + 1 + n + 1) (target_at around (drop (start + 1 + n + 1) text)) (Some (m, definition))
-    → IsReferenceAnswer in_table start (reference_at in_table around (drop start text)) (Some (n + 2 + m, label, definition))
+    → IsReferenceAnswer in_table start (reference_definition_at in_table around (drop start text)) (Some (n + 2 + m, label, definition))
 is_reference in_table around text start n m label definition h k f t =
     let l = label_found (label_at (prefix_crossed true around) in_table (drop (start + 1) text)) n label k in
     let e = colon_by true in_table around text start n l.0 h l.1 l.2 f in

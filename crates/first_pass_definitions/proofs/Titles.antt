@@ -20,7 +20,7 @@ use Rattle.first_pass_links.proofs.Destinations.{upto-nil, upto-stop, upto-byte,
 use Rattle.std.proofs.lemmas.Str.{IsCharBoundary-after_ascii}
 use Rattle.first_pass_grammar.specs.Containers.{Context}
 use Rattle.first_pass_grammar.specs.Definitions.{with_line_feeds, ends_title, title_end, title_text, title_prefix, title_at}
-use Rattle.first_pass_definitions.specs.Reading.{ClosesTitle, stops_title, goes_on_at}
+use Rattle.first_pass_definitions.specs.Reading.{ClosesTitle, stops_title_line, goes_on_at}
 use Rattle.first_pass_links.proofs.Labels.{joined_after}
 
 -- the bytes of a title from an offset on, each after its offset
@@ -89,19 +89,19 @@ closes-plain close (inl h) = rw h refl
 closes-plain close (inr (inl h)) = rw h refl
 closes-plain close (inr (inr h)) = rw h refl
 
-stop_39 : (b : ℕ) → stops_title 39 b ≡ true → (b == 92) ≡ false
+stop_39 : (b : ℕ) → stops_title_line 39 b ≡ true → (b == 92) ≡ false
 stop_39 b h = grind (arith, nat_tests, h)
 
-stop_34 : (b : ℕ) → stops_title 34 b ≡ true → (b == 92) ≡ false
+stop_34 : (b : ℕ) → stops_title_line 34 b ≡ true → (b == 92) ≡ false
 stop_34 b h = grind (arith, nat_tests, h)
 
-stop_41 : (b : ℕ) → stops_title 41 b ≡ true → (b == 92) ≡ false
+stop_41 : (b : ℕ) → stops_title_line 41 b ≡ true → (b == 92) ≡ false
 stop_41 b h = grind (arith, nat_tests, h)
 
-pub stop-plain : (close b : ℕ) → ClosesTitle close → stops_title close b ≡ true → (b == 92) ≡ false
-stop-plain close b (inl h) s = stop_39 b (ap (λ c. stops_title c b) (sym h) ∙ s)
-stop-plain close b (inr (inl h)) s = stop_34 b (ap (λ c. stops_title c b) (sym h) ∙ s)
-stop-plain close b (inr (inr h)) s = stop_41 b (ap (λ c. stops_title c b) (sym h) ∙ s)
+pub stop-plain : (close b : ℕ) → ClosesTitle close → stops_title_line close b ≡ true → (b == 92) ≡ false
+stop-plain close b (inl h) s = stop_39 b (ap (λ c. stops_title_line c b) (sym h) ∙ s)
+stop-plain close b (inr (inl h)) s = stop_34 b (ap (λ c. stops_title_line c b) (sym h) ∙ s)
+stop-plain close b (inr (inr h)) s = stop_41 b (ap (λ c. stops_title_line c b) (sym h) ∙ s)
 
 feed-plain : (close : ℕ) → ClosesTitle close → ends_title close 10 ≡ false
 feed-plain close (inl h) = rw h refl
@@ -175,7 +175,7 @@ last_by false = refl
 
 -- Up to the byte that stops it, or the end of its line, a title is unchanged.
 abbrev line_upto : ℕ → List ℕ → ℕ
-line_upto close bs = unescaped_upto (stops_title close) 0 bs
+line_upto close bs = unescaped_upto (stops_title_line close) 0 bs
 
 abbrev AsItStands : (List ℕ → Option ℕ) → ℕ → ℕ → List ℕ → Type 0
 AsItStands prefix close at bs =
@@ -185,15 +185,15 @@ AsItStands prefix close at bs =
 stands_stopped : (prefix : List ℕ → Option ℕ) (close at : ℕ) (bs : List ℕ) → line_upto close bs ≡ 0 → AsItStands prefix close at bs
 stands_stopped prefix close at bs h = let e : at + 0 ≡ at = omega arith in rw h (rw e (sym (after_nothing (title_of close (left_of prefix at bs)))))
 
-not_stopped : (close b : ℕ) → stops_title close b ≡ false → (is_line_end b ≡ false) × (ends_title close b ≡ false)
+not_stopped : (close b : ℕ) → stops_title_line close b ≡ false → (is_line_end b ≡ false) × (ends_title close b ≡ false)
 not_stopped close b h = or_parts (is_line_end b) (ends_title close b) h
 
-stands_byte : (prefix : List ℕ → Option ℕ) (close at b : ℕ) (bs : List ℕ) → begins_escape (b ∷ bs) ≡ false → stops_title close b ≡ false
+stands_byte : (prefix : List ℕ → Option ℕ) (close at b : ℕ) (bs : List ℕ) → begins_escape (b ∷ bs) ≡ false → stops_title_line close b ≡ false
     → AsItStands prefix close (at + 1) bs → AsItStands prefix close at (b ∷ bs)
 stands_byte prefix close at b bs e s f =
     let p = not_stopped close b s in
     let n : ℕ = line_upto close bs in
-    let k : line_upto close (b ∷ bs) ≡ suc n = (let v = upto-byte (stops_title close) b bs e s in omega arith) in
+    let k : line_upto close (b ∷ bs) ≡ suc n = (let v = upto-byte (stops_title_line close) b bs e s in omega arith) in
     let o : at + suc n ≡ at + 1 + n = omega arith in
     rw k (rw o (
     ap (title_of close) (left-byte prefix at b bs p.0)
@@ -209,7 +209,7 @@ stands_escape : (prefix : List ℕ → Option ℕ) (close at b p : ℕ) (bs : Li
 stands_escape prefix close at b p bs e f =
     let q = escape_parts b p bs e in
     let n : ℕ = line_upto close bs in
-    let k : line_upto close (b ∷ p ∷ bs) ≡ suc (suc n) = (let v = upto-escape (stops_title close) b p bs e in omega arith) in
+    let k : line_upto close (b ∷ p ∷ bs) ≡ suc (suc n) = (let v = upto-escape (stops_title_line close) b p bs e in omega arith) in
     let o : at + suc (suc n) ≡ at + 1 + 1 + n = omega arith in
     rw k (rw o (
     ap (title_of close) (left-byte prefix at b (p ∷ bs) q.0 ∙ ap (λ cs. (at, b) ∷ cs) (left-byte prefix (at + 1) p bs q.1))
@@ -217,26 +217,26 @@ stands_escape prefix close at b p bs e f =
     ∙ ap (after_text (b ∷ p ∷ [])) f
     ∙ after_following (b ∷ p ∷ []) (take n bs) (title_of close (left_of prefix (at + 1 + 1 + n) (drop n bs)))))
 
-stands_by : (s e : Bool) (prefix : List ℕ → Option ℕ) (close at b p : ℕ) (bs : List ℕ) → ClosesTitle close → stops_title close b ≡ s
+stands_by : (s e : Bool) (prefix : List ℕ → Option ℕ) (close at b p : ℕ) (bs : List ℕ) → ClosesTitle close → stops_title_line close b ≡ s
     → begins_escape (b ∷ p ∷ bs) ≡ e → AsItStands prefix close (at + 1) (p ∷ bs) → AsItStands prefix close (at + 1 + 1) bs
     → AsItStands prefix close at (b ∷ p ∷ bs)
 stands_by s true prefix close at b p bs c h k f g = stands_escape prefix close at b p bs k g
 stands_by false false prefix close at b p bs c h k f g = stands_byte prefix close at b (p ∷ bs) k h f
-stands_by true false prefix close at b p bs c h k f g = stands_stopped prefix close at (b ∷ p ∷ bs) (upto-stop (stops_title close) b (p ∷ bs) k h)
+stands_by true false prefix close at b p bs c h k f g = stands_stopped prefix close at (b ∷ p ∷ bs) (upto-stop (stops_title_line close) b (p ∷ bs) k h)
 
 alone : (b : ℕ) → begins_escape (b ∷ []) ≡ false
 alone b = last_by (b == 92)
 
-stands_last : (s : Bool) (prefix : List ℕ → Option ℕ) (close at b : ℕ) → stops_title close b ≡ s → AsItStands prefix close (at + 1) []
+stands_last : (s : Bool) (prefix : List ℕ → Option ℕ) (close at b : ℕ) → stops_title_line close b ≡ s → AsItStands prefix close (at + 1) []
     → AsItStands prefix close at (b ∷ [])
 stands_last false prefix close at b h f = stands_byte prefix close at b [] (alone b) h f
-stands_last true prefix close at b h f = stands_stopped prefix close at (b ∷ []) (upto-stop (stops_title close) b [] (alone b) h)
+stands_last true prefix close at b h f = stands_stopped prefix close at (b ∷ []) (upto-stop (stops_title_line close) b [] (alone b) h)
 
 pub as_it_stands : (prefix : List ℕ → Option ℕ) (close at : ℕ) (bs : List ℕ) → ClosesTitle close → AsItStands prefix close at bs
-as_it_stands prefix close at [] c = stands_stopped prefix close at [] (upto-nil (stops_title close))
-as_it_stands prefix close at (b ∷ []) c = stands_last (stops_title close b) prefix close at b refl (as_it_stands prefix close (at + 1) [] c)
+as_it_stands prefix close at [] c = stands_stopped prefix close at [] (upto-nil (stops_title_line close))
+as_it_stands prefix close at (b ∷ []) c = stands_last (stops_title_line close b) prefix close at b refl (as_it_stands prefix close (at + 1) [] c)
 as_it_stands prefix close at (b ∷ p ∷ bs) c =
-    stands_by (stops_title close b) (begins_escape (b ∷ p ∷ bs)) prefix close at b p bs c refl refl (as_it_stands prefix close (at + 1) (p ∷ bs) c)
+    stands_by (stops_title_line close b) (begins_escape (b ∷ p ∷ bs)) prefix close at b p bs c refl refl (as_it_stands prefix close (at + 1) (p ∷ bs) c)
     (as_it_stands prefix close (at + 1 + 1) bs c)
 
 -- no line feed comes first if none is first in the bytes
@@ -348,31 +348,32 @@ stops_there prefix close at e (b ∷ bs) c h = stops_by (b == 10) (b == 13) (beg
 -- the first byte where a line of a title stops, if there is one
 abbrev FirstStops : ℕ → List ℕ → Type 0
 FirstStops close [] = ⊤
-FirstStops close (b ∷ bs) = stops_title close b ≡ true
+FirstStops close (b ∷ bs) = stops_title_line close b ≡ true
 
-first_last : (s : Bool) (close b : ℕ) → stops_title close b ≡ s → FirstStops close (drop (line_upto close (b ∷ [])) (b ∷ []))
-first_last true close b h = let k = upto-stop (stops_title close) b [] (alone b) h in subst (λ n. FirstStops close (drop n (b ∷ []))) (sym k) h
+first_last : (s : Bool) (close b : ℕ) → stops_title_line close b ≡ s → FirstStops close (drop (line_upto close (b ∷ [])) (b ∷ []))
+first_last true close b h = let k = upto-stop (stops_title_line close) b [] (alone b) h in subst (λ n. FirstStops close (drop n (b ∷ []))) (sym k) h
 first_last false close b h =
-    let k : line_upto close (b ∷ []) ≡ 1 = (let v = upto-byte (stops_title close) b [] (alone b) h in let z = upto-nil (stops_title close) in omega arith) in
+    let k : line_upto close (b ∷ []) ≡ 1 =
+    (let v = upto-byte (stops_title_line close) b [] (alone b) h in let z = upto-nil (stops_title_line close) in omega arith) in
     subst (λ n. FirstStops close (drop n (b ∷ []))) (sym k) tt
 
-first_by : (s e : Bool) (close b p : ℕ) (bs : List ℕ) → stops_title close b ≡ s → begins_escape (b ∷ p ∷ bs) ≡ e
+first_by : (s e : Bool) (close b p : ℕ) (bs : List ℕ) → stops_title_line close b ≡ s → begins_escape (b ∷ p ∷ bs) ≡ e
     → FirstStops close (drop (line_upto close (p ∷ bs)) (p ∷ bs)) → FirstStops close (drop (line_upto close bs) bs)
     → FirstStops close (drop (line_upto close (b ∷ p ∷ bs)) (b ∷ p ∷ bs))
 first_by s true close b p bs h k f g =
-    let u : line_upto close (b ∷ p ∷ bs) ≡ suc (suc (line_upto close bs)) = (let v = upto-escape (stops_title close) b p bs k in omega arith) in
+    let u : line_upto close (b ∷ p ∷ bs) ≡ suc (suc (line_upto close bs)) = (let v = upto-escape (stops_title_line close) b p bs k in omega arith) in
     subst (λ n. FirstStops close (drop n (b ∷ p ∷ bs))) (sym u) g
 first_by false false close b p bs h k f g =
-    let u : line_upto close (b ∷ p ∷ bs) ≡ suc (line_upto close (p ∷ bs)) = (let v = upto-byte (stops_title close) b (p ∷ bs) k h in omega arith) in
+    let u : line_upto close (b ∷ p ∷ bs) ≡ suc (line_upto close (p ∷ bs)) = (let v = upto-byte (stops_title_line close) b (p ∷ bs) k h in omega arith) in
     subst (λ n. FirstStops close (drop n (b ∷ p ∷ bs))) (sym u) f
 first_by true false close b p bs h k f g =
-    let u = upto-stop (stops_title close) b (p ∷ bs) k h in subst (λ n. FirstStops close (drop n (b ∷ p ∷ bs))) (sym u) h
+    let u = upto-stop (stops_title_line close) b (p ∷ bs) k h in subst (λ n. FirstStops close (drop n (b ∷ p ∷ bs))) (sym u) h
 
 first_stops : (close : ℕ) (bs : List ℕ) → FirstStops close (drop (line_upto close bs) bs)
-first_stops close [] = subst (λ (n : ℕ). FirstStops close (drop n [])) (sym (upto-nil (stops_title close))) tt
-first_stops close (b ∷ []) = first_last (stops_title close b) close b refl
+first_stops close [] = subst (λ (n : ℕ). FirstStops close (drop n [])) (sym (upto-nil (stops_title_line close))) tt
+first_stops close (b ∷ []) = first_last (stops_title_line close b) close b refl
 first_stops close (b ∷ p ∷ bs) =
-    first_by (stops_title close b) (begins_escape (b ∷ p ∷ bs)) close b p bs refl refl (first_stops close (p ∷ bs)) (first_stops close bs)
+    first_by (stops_title_line close b) (begins_escape (b ∷ p ∷ bs)) close b p bs refl refl (first_stops close (p ∷ bs)) (first_stops close bs)
 
 abbrev some_end : ℕ → Option ℕ
 some_end n = Some n
@@ -394,7 +395,7 @@ or_true : (t u : Bool) → u ≡ true → (t || u) ≡ true
 or_true true u h = refl
 or_true false u h = h
 
-stops_by_end : (close b : ℕ) → ends_title close b ≡ true → stops_title close b ≡ true
+stops_by_end : (close b : ℕ) → ends_title close b ≡ true → stops_title_line close b ≡ true
 stops_by_end close b h = or_true (is_line_end b) (ends_title close b) h
 
 none_mapped : (o : Option ℕ) (k : ℕ) → option_map (λ n. k + n) o ≡ None → o ≡ None
@@ -432,7 +433,7 @@ break_by (Some e) prefix close at text c f g h k =
     stops_there prefix close at e (drop at text) c h (ap prefix (drop-drop e at text) ∙ none_mapped (prefix (drop (at + e) text)) (at + e) k)
 
 pub no_break : (prefix : List ℕ → Option ℕ) (close from at : ℕ) (text : List ℕ) → ClosesTitle close
-    → at ≡ from + unescaped_upto (stops_title close) 0 (drop from text) → begins close (drop at text) ≡ false → None ≡ goes_on_at prefix text at
+    → at ≡ from + unescaped_upto (stops_title_line close) 0 (drop from text) → begins close (drop at text) ≡ false → None ≡ goes_on_at prefix text at
     → title_of close (left_of prefix at (drop at text)) ≡ None
 no_break prefix close from at text c is g k =
     let s : FirstStops close (drop at text) = subst (FirstStops close) (drop-drop (line_upto close (drop from text)) from text ∙ ap (λ n. drop n text)
@@ -467,7 +468,7 @@ some_break prefix close at next text c l k g =
 
 -- the line from one offset up to another
 pub line_is : (prefix : List ℕ → Option ℕ) (close from at : ℕ) (text : List ℕ) → ClosesTitle close
-    → at ≡ from + unescaped_upto (stops_title close) 0 (drop from text)
+    → at ≡ from + unescaped_upto (stops_title_line close) 0 (drop from text)
     → title_of close (left_of prefix from (drop from text)) ≡ after_text (part text from at) (title_of close (left_of prefix at (drop at text)))
 line_is prefix close from at text c is =
     let k : ℕ = line_upto close (drop from text) in
@@ -478,28 +479,28 @@ line_is prefix close from at text c is =
     ∙ ap (λ m. after_text (take m (drop from text)) (title_of close (left_of prefix at (drop at text)))) (sym n)
 
 -- A line of a title stops at a character boundary.
-low_39 : (b : ℕ) → stops_title 39 b ≡ true → b < 128
+low_39 : (b : ℕ) → stops_title_line 39 b ≡ true → b < 128
 low_39 b h = grind (arith, nat_tests, h)
 
-low_34 : (b : ℕ) → stops_title 34 b ≡ true → b < 128
+low_34 : (b : ℕ) → stops_title_line 34 b ≡ true → b < 128
 low_34 b h = grind (arith, nat_tests, h)
 
-low_41 : (b : ℕ) → stops_title 41 b ≡ true → b < 128
+low_41 : (b : ℕ) → stops_title_line 41 b ≡ true → b < 128
 low_41 b h = grind (arith, nat_tests, h)
 
-stop-low : (close b : ℕ) → ClosesTitle close → stops_title close b ≡ true → b < 128
-stop-low close b (inl h) s = low_39 b (ap (λ c. stops_title c b) (sym h) ∙ s)
-stop-low close b (inr (inl h)) s = low_34 b (ap (λ c. stops_title c b) (sym h) ∙ s)
-stop-low close b (inr (inr h)) s = low_41 b (ap (λ c. stops_title c b) (sym h) ∙ s)
+stop-low : (close b : ℕ) → ClosesTitle close → stops_title_line close b ≡ true → b < 128
+stop-low close b (inl h) s = low_39 b (ap (λ c. stops_title_line c b) (sym h) ∙ s)
+stop-low close b (inr (inl h)) s = low_34 b (ap (λ c. stops_title_line c b) (sym h) ∙ s)
+stop-low close b (inr (inr h)) s = low_41 b (ap (λ c. stops_title_line c b) (sym h) ∙ s)
 
-pub stop_place : (close from at : ℕ) (text : List ℕ) → ClosesTitle close → at ≡ from + unescaped_upto (stops_title close) 0 (drop from text)
+pub stop_place : (close from at : ℕ) (text : List ℕ) → ClosesTitle close → at ≡ from + unescaped_upto (stops_title_line close) 0 (drop from text)
     → at ≤ length text → IsCharBoundary text at
 stop_place close from at text c is l =
     let s : FirstStops close (drop at text) = subst (FirstStops close) (drop-drop (line_upto close (drop from text)) from text ∙ ap (λ n. drop n text)
     (sym is)) (first_stops close (drop from text)) in (
       l,
       λ h k. (
-          let f : stops_title close (slice_index text at) ≡ true = subst (FirstStops close) (drop_more text at 0 h) s in
+          let f : stops_title_line close (slice_index text at) ≡ true = subst (FirstStops close) (drop_more text at 0 h) s in
           let b = stop-low close (slice_index text at) c f in
           omega arith),
     )
@@ -507,7 +508,7 @@ stop_place close from at text c is l =
 -- the title that a line ends
 pub title_found : (prefix : List ℕ → Option ℕ) (close from at : ℕ) (w text : List ℕ) → ClosesTitle close
     → after_text w (title_of close (left_of prefix from (drop from text))) ≡ title_text prefix close text
-    → at ≡ from + unescaped_upto (stops_title close) 0 (drop from text) → begins close (drop at text) ≡ true
+    → at ≡ from + unescaped_upto (stops_title_line close) 0 (drop from text) → begins close (drop at text) ≡ true
     → title_text prefix close text ≡ Some (at + 1, w ++ part text from at)
 title_found prefix close from at w text c so is g =
     sym so ∙ ap (after_text w) (line_is prefix close from at text c is ∙ ap (after_text (part text from at)) (ends_there prefix close at (drop at text) c g))
@@ -515,7 +516,7 @@ title_found prefix close from at w text c so is g =
 
 pub no_title : (prefix : List ℕ → Option ℕ) (close from at : ℕ) (w text : List ℕ) → ClosesTitle close
     → after_text w (title_of close (left_of prefix from (drop from text))) ≡ title_text prefix close text
-    → at ≡ from + unescaped_upto (stops_title close) 0 (drop from text) → begins close (drop at text) ≡ false → None ≡ goes_on_at prefix text at
+    → at ≡ from + unescaped_upto (stops_title_line close) 0 (drop from text) → begins close (drop at text) ≡ false → None ≡ goes_on_at prefix text at
     → title_text prefix close text ≡ None
 no_title prefix close from at w text c so is g k =
     sym so ∙ ap (after_text w) (line_is prefix close from at text c is ∙ ap (after_text (part text from at)) (no_break prefix close from at text c is g k))
@@ -523,7 +524,7 @@ no_title prefix close from at w text c so is g k =
 -- one more line
 pub title_further : (prefix : List ℕ → Option ℕ) (close from at next : ℕ) (v w text : List ℕ) → ClosesTitle close
     → after_text w (title_of close (left_of prefix from (drop from text))) ≡ title_text prefix close text
-    → at ≡ from + unescaped_upto (stops_title close) 0 (drop from text) → at < length text → Some next ≡ goes_on_at prefix text at
+    → at ≡ from + unescaped_upto (stops_title_line close) 0 (drop from text) → at < length text → Some next ≡ goes_on_at prefix text at
     → begins 10 (drop next text) ≡ false → v ≡ (w ++ part text from at) ++ 10 ∷ []
     → after_text v (title_of close (left_of prefix next (drop next text))) ≡ title_text prefix close text
 title_further prefix close from at next v w text c so is l k g e =

@@ -11,7 +11,7 @@ use Rattle.first_pass_links.specs.Escapes.{unescaped}
 use Rattle.first_pass_entities.specs.Texts.{Borrows}
 use Rattle.first_pass_links.specs.Labels.{label_at}
 use Rattle.first_pass_grammar.specs.Containers.{Context}
-use Rattle.first_pass_grammar.specs.Definitions.{Target, LinkReference, prefix_crossed, reference_at}
+use Rattle.first_pass_grammar.specs.Definitions.{Target, LinkReference, prefix_crossed, reference_definition_at}
 use Rattle.first_pass_grammar.specs.LinkRuns.{places_of, reference_places}
 
 -- The string is this text, unescaped. It is borrowed if nothing in the text changes (CommonMark 2.4, 2.5).
@@ -19,7 +19,7 @@ pub record IsUnescaped (in_table : Bool) (text : List ℕ) (found : CowStr) : Ty
   pub value : text_of found ≡ unescaped in_table text
   pub borrowed : unescaped in_table text ≡ text → Borrows text found
 
--- the same for a title, which is borrowed only if it also has no line ending (CommonMark 4.7)
+-- the same for a title, which is borrowed if nothing in it changes and it has no line ending (CommonMark 4.7)
 pub record IsTitle (in_table : Bool) (text : List ℕ) (found : CowStr) : Type 0 where
   pub value : text_of found ≡ unescaped in_table text
   pub borrowed : list_any is_line_end text ≡ false → unescaped in_table text ≡ text → Borrows text found
@@ -51,8 +51,8 @@ pub record IsReference (in_table : Bool) (at : ℕ) (reference : LinkReference) 
   pub label : text_of found.1 ≡ reference.label
   pub definition : IsDefinition in_table reference.target (reference_places at reference) at (at + reference.size) found.2
 
--- The destination and then the title of a definition are after an offset. They begin and end between two characters
--- (CommonMark 4.7).
+-- The destination and then the title of a definition are after an offset. Both begin at character boundaries, and the
+-- destination also ends at one (CommonMark 4.7).
 pub record AreInOrder (text : List ℕ) (from : ℕ) (found : LinkDef) : Type 0 where
   pub dest : from ≤ found.places.dest_start
   pub following : found.places.dest_start ≤ found.places.dest_end
@@ -76,16 +76,16 @@ IsLabelLen around in_table bs n = (label : List ℕ) × (label_at (prefix_crosse
 abbrev pub BorrowsLabel : Context → Bool → List ℕ → CowStr → Type 0
 BorrowsLabel around in_table bs label = (n : ℕ) → IsLabelLen around in_table bs n → text_of label ≡ take n bs → Borrows (take n bs) label
 
--- An entry is the definition at its range in the text, read in lines of some containers, in a table or not. Its label,
--- its destination and a title of one line are borrowed from the text if nothing in them changes. Its parts have their
--- places in the text (CommonMark 4.7, and this project).
+-- For some containers, and either inside or outside a table, the entry is what the definition at its range in the text
+-- gives. Its label, its destination and a title of one line are borrowed from the text if nothing in them changes. Its
+-- parts have their places in the text (CommonMark 4.7, and this project).
 pub record IsWritten (text : List ℕ) (entry : CowStr × LinkDef) : Type 0 where
   pub around : Context
-  pub nested : Bool
+  pub in_table : Bool
   pub reference : LinkReference
-  pub here : reference_at nested around (drop entry.1.span.start text) ≡ Some reference
-  pub says : IsReference nested entry.1.span.start reference (reference.size, entry.0, entry.1)
-  pub borrowed : BorrowsLabel around nested (drop (entry.1.span.start + 1) text) entry.0
+  pub here : reference_definition_at in_table around (drop entry.1.span.start text) ≡ Some reference
+  pub says : IsReference in_table entry.1.span.start reference (reference.size, entry.0, entry.1)
+  pub borrowed : BorrowsLabel around in_table (drop (entry.1.span.start + 1) text) entry.0
   pub parts : HasParts text entry.1
 
 -- the same for each entry

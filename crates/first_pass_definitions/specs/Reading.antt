@@ -1,4 +1,4 @@
--- How a title is read line by line. Only contracts of private functions cite this.
+-- How a title is read line by line. Contracts of public functions cite only `stops_title_line`, through `text_asks`.
 use Rattle.std.specs.Prelude.{ℕ, ◌+◌, ◌||◌, Bool, List, drop, Option, Some, None, false, ⊤, ◌≡◌, ◌⊎◌}
 use Rattle.std.specs.List.{list_any}
 use Rattle.std.specs.Option.{option_map, option_and_then}
@@ -13,9 +13,10 @@ use Rattle.first_pass_grammar.specs.Definitions.{ends_title}
 abbrev pub ClosesTitle : ℕ → Type 0
 ClosesTitle close = (close ≡ apostrophe) ⊎ (close ≡ quotation_mark) ⊎ (close ≡ right_parenthesis)
 
--- a byte that must be escaped in a line of a title with this end (CommonMark 6.3)
-abbrev pub stops_title : ℕ → ℕ → Bool
-stops_title close b = is_line_end b || ends_title close b
+-- an unescaped byte at which reading of a title's line stops: a byte of a line ending, the closing byte, or in
+-- parentheses `(` (CommonMark 6.3)
+abbrev pub stops_title_line : ℕ → ℕ → Bool
+stops_title_line close b = is_line_end b || ends_title close b
 
 -- the offset at which a title continues after the line ending at an offset, if it does (CommonMark 4.7)
 abbrev pub goes_on_at : (List ℕ → Option ℕ) → List ℕ → ℕ → Option ℕ

@@ -54,8 +54,8 @@ pub fn scan_footnote<'a>(
     )
 }
 
-// The number of bytes in the first line of `bytes` (the rest of the text) before the label of a footnote continues;
-// `None` if it does not continue.
+// How many bytes of the first line of `bytes` (the rest of the text) precede the place where the label of a footnote
+// continues. `None` if it does not continue in that line.
 fn scan_footnote_prefix(
     source: &Source<'_>,
     tree: &Tree<Item>,

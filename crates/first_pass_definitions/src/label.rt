@@ -20,14 +20,15 @@ use first_pass_tree::forest::Tree;
 use std::alloc::AllocError;
 
 /// The label after the `[` that is before the offset `start` into the text: its length in bytes from there on, with
-/// its `]`, and its text. In the text each run of white space is one space, and backslashes stay; in a table one
-/// directly before a pipe is dropped. It is borrowed if nothing changes. The label continues over the lines that a
-/// definition crosses, without their prefixes of the open containers, and without up to four columns after these.
+/// its `]`, and the label as read. Each run of white space is read as one space. Backslashes stay, except that in a
+/// table a backslash directly before a pipe is dropped. The label is borrowed if this changes nothing. It continues
+/// over the lines that a definition crosses, without their prefixes of the open containers, and without up to four
+/// columns after these.
 ///
 /// Returns `None` if there is no label: if an unescaped `[`, a line that ends the definition or the end of the text
 /// comes first, if all is white space, or if there are more than 999 characters. Fails only if an allocation fails.
-/// That can happen only in two cases: the label has to be copied, since reading changes it; or no bracket ends it and
-/// some later line of the text may head a table (CommonMark 4.7).
+/// That can happen only in two cases: reading changes the label; or no bracket ends it and some later line of the text
+/// may head a table (CommonMark 4.7).
 pub fn parse_refdef_label<'a>(
     source: &Source<'a>,
     tree: &Tree<Item>,
@@ -56,8 +57,8 @@ pub fn parse_refdef_label<'a>(
     )
 }
 
-// The number of bytes in the first line of `bytes` (the rest of the text) before a label continues; `None` if it does
-// not continue.
+// How many bytes of the first line of `bytes` (the rest of the text) precede the place where a label continues. `None`
+// if it does not continue in that line.
 pub(crate) fn scan_label_prefix(
     source: &Source<'_>,
     tree: &Tree<Item>,

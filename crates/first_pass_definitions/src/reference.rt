@@ -4,7 +4,7 @@ ghost use Rattle.std.specs.Prelude.{◌≡◌, ◌+◌, ◌<◌, drop, None, IfO
 ghost use Rattle.first_pass_items.specs.Bytes.{left_bracket};
 ghost use Rattle.first_pass_lines.specs.Lines.{begins};
 ghost use Rattle.first_pass_tree.specs.Forest.{in_table};
-ghost use Rattle.first_pass_grammar.specs.Definitions.{reference_at};
+ghost use Rattle.first_pass_grammar.specs.Definitions.{reference_definition_at};
 ghost use Rattle.first_pass_open.specs.Path.{context_of};
 ghost use Rattle.first_pass_definitions.specs.Found.{BorrowsLabel, HasParts, IsReference};
 ghost use Rattle.first_pass_definitions.specs.Memory.{ReferenceAsks};
@@ -26,7 +26,7 @@ use std::alloc::AllocError;
 /// pipes are dropped.
 ///
 /// Returns `None` if none begins there. Fails only if an allocation fails. That can happen only as in
-/// `parse_refdef_label` and `scan_refdef`, or if there is a definition, whose label is folded (CommonMark 4.7).
+/// `parse_refdef_label` and `scan_refdef`, or, if there is a definition, when its label is folded (CommonMark 4.7).
 #[inline(always)]
 pub fn parse_refdef_total<'a>(
     source: &Source<'a>,
@@ -35,8 +35,8 @@ pub fn parse_refdef_total<'a>(
 ) -> Result<Option<(usize, LabelKey<'a>, LinkDef<'a>)>, AllocError>
     requires { IsCharBoundary source.now.text.now start }
     ensures value { IfOk result (λ answer. let nested = in_table tree.now.nodes tree.now.spine in
-        MatchOption (reference_at nested (context_of source.now.options tree.now) (drop start source.now.text.now))
-        (answer ≡ None)
+        MatchOption (reference_definition_at nested (context_of source.now.options tree.now)
+        (drop start source.now.text.now)) (answer ≡ None)
         (λ reference. IsSomeAnd answer (IsReference nested start reference))) }
     ensures fits { IfOk result (λ answer. IfSome answer (λ found.
         (0 < found.0) × IsCharBoundary source.now.text.now (start + found.0))) }
@@ -62,8 +62,8 @@ fn parse_after_bracket<'a>(
     requires place { IsCharBoundary source.now.text.now start }
     requires bracket { begins left_bracket (drop start source.now.text.now) ≡ true }
     ensures value { IfOk result (λ answer. let nested = in_table tree.now.nodes tree.now.spine in
-        MatchOption (reference_at nested (context_of source.now.options tree.now) (drop start source.now.text.now))
-        (answer ≡ None)
+        MatchOption (reference_definition_at nested (context_of source.now.options tree.now)
+        (drop start source.now.text.now)) (answer ≡ None)
         (λ reference. IsSomeAnd answer (IsReference nested start reference))) }
     ensures fits { IfOk result (λ answer. IfSome answer (λ found.
         (0 < found.0) × IsCharBoundary source.now.text.now (start + found.0))) }

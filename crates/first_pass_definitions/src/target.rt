@@ -35,10 +35,10 @@ const DEEPEST_NESTING: usize = 32;
 /// definition, whose destination and title are unescaped. Its span begins at `span_start`, and its label ends two bytes
 /// before `start`.
 ///
-/// Returns `None` if there is no destination, if something touches it, or if neither a title nor a blank rest of its
-/// line follows it. Fails only if an allocation fails. That can happen only in three cases: the unescaped destination
-/// or title differs from its bytes; a title has a line ending; or a line after a line ending may be the header row of a
-/// table (CommonMark 4.7).
+/// Returns `None` if there is no destination. Also returns `None` if something other than white space or a line ending
+/// directly follows it, or if neither a title nor a blank rest of its line follows it. Fails only if an allocation
+/// fails. That can happen only in three cases: unescaping changes the destination or the title; what begins like a
+/// title continues after a line ending; or a line after a line ending may head a table (CommonMark 4.7).
 pub fn scan_refdef<'a>(
     source: &Source<'a>,
     tree: &Tree<Item>,
@@ -84,8 +84,8 @@ pub fn scan_refdef<'a>(
     Ok(Some((end - start, definition)))
 }
 
-// Reads the end of a definition after its destination, which ends at the offset `at`. Returns the start of the title,
-// or of the end if there is none, the end of the definition, and the title.
+// Reads the end of a definition after its destination, which ends at the offset `at`. Returns three things: the start
+// of the title (the end of the definition if there is no title), the end of the definition, and the title, if any.
 fn scan_after_destination<'a>(
     source: &Source<'a>,
     tree: &Tree<Item>,

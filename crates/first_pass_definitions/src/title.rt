@@ -10,7 +10,7 @@ ghost use Rattle.first_pass_links.specs.Destinations.{unescaped_upto};
 ghost use Rattle.first_pass_entities.specs.Texts.{Borrows};
 ghost use Rattle.first_pass_links.specs.Units.{part};
 ghost use Rattle.first_pass_items.specs.Bytes.{line_feed};
-ghost use Rattle.first_pass_definitions.specs.Reading.{ClosesTitle, stops_title, goes_on_at};
+ghost use Rattle.first_pass_definitions.specs.Reading.{ClosesTitle, stops_title_line, goes_on_at};
 ghost use Rattle.first_pass_grammar.specs.Definitions.{title_at, title_end, title_text, title_prefix};
 ghost use Rattle.first_pass_open.specs.Path.{context_of};
 ghost use Rattle.first_pass_kinds.specs.Rests.{IsRestOf};
@@ -30,12 +30,13 @@ use std::alloc::AllocError;
 
 /// The title at the start of `text`, which is the rest of the whole text from a place on: its length in bytes, with
 /// its delimiters (`'..'`, `".."` or `(..)`), and the text between these, not yet unescaped. It continues over the
-/// lines that a definition crosses, each without what precedes its text, and each line ending is one `\n`. If it
-/// crosses no line, it is borrowed and needs no memory.
+/// lines that a definition crosses, each without the prefixes and the indentation before its text. Each line ending is
+/// one `\n`. If there is no line ending, the text is borrowed and needs no memory.
 ///
 /// Returns `None` if there is no title: if a blank line, a line that ends the definition or the end of the text comes
-/// before its end, or in parentheses an unescaped `(`. Fails only if an allocation fails, which can happen only if
-/// after the first line the title continues, or a line begins that may head a table (CommonMark 4.7, 6.3).
+/// before its end, or in parentheses an unescaped `(`. Fails only if an allocation fails. That can happen only if the
+/// title has a line ending, and the line after the first one either continues the title or may head a table
+/// (CommonMark 4.7, 6.3).
 pub fn scan_refdef_title<'t>(
     source: &Source<'_>,
     tree: &Tree<Item>,
@@ -112,22 +113,23 @@ fn scan_title_text<'t>(
 // The number of bytes before the end of the title or of the line.
 fn scan_title_line(bytes: &[u8], close: u8) -> usize
     requires { ClosesTitle close }
-    ensures value { result ≡ unescaped_upto (stops_title close) 0 bytes.now }
+    ensures value { result ≡ unescaped_upto (stops_title_line close) 0 bytes.now }
     ensures within { result ≤ length bytes.now }
 {
     let mut at = 0;
-    while at < bytes.len() && !stops_title(bytes[at], close) {
+    while at < bytes.len() && !stops_title_line(bytes[at], close) {
         at += unit_len(rest_of(bytes, at));
     }
     at
 }
 
-// Whether a byte must be escaped in a line of a title with this end.
-fn stops_title(byte: u8, close: u8) -> bool
+// Whether reading a line of a title stops at this byte if it is unescaped: a byte of a line ending, the closing byte,
+// or in parentheses `(`.
+fn stops_title_line(byte: u8, close: u8) -> bool
     requires { ClosesTitle close }
-    ensures { result ≡ stops_title close byte }
+    ensures { result ≡ stops_title_line close byte }
 {
-    // No byte after `)` does, and most bytes of a title are letters.
+    // Reading stops at no byte greater than `)`. Most bytes of a title are letters, and need only this test.
     if byte > b')' {
         return false;
     }
@@ -162,7 +164,8 @@ fn scan_title_break(
     }
 }
 
-// The number of bytes in the first line of `bytes` (the rest of the text) before its text, if a title continues in it.
+// How many bytes of the first line of `bytes` (the rest of the text) precede the place where a title continues. `None`
+// if it does not continue in that line.
 fn scan_title_prefix(
     source: &Source<'_>,
     tree: &Tree<Item>,

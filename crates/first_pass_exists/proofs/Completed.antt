@@ -7,29 +7,29 @@ use Rattle.first_pass_grammar.specs.declared.kind.Container.{Container}
 use Rattle.first_pass_grammar.specs.Names.{Names, Extends}
 use Rattle.first_pass_grammar.specs.Containers.{is_quote}
 use Rattle.first_pass_grammar.specs.Leaves.{Document, document}
-use Rattle.first_pass_grammar.specs.Skeleton.{From, Line, level, Left, Lines, InLine, onward, end_before, IsSequence}
+use Rattle.first_pass_grammar.specs.Skeleton.{Continues, Line, level, Remaining, Lines, InLine, onward, end_before, IsSequence}
 use Rattle.first_pass_grammar.specs.Before.{Before, nothing, after_container, before_end}
 use Rattle.first_pass_grammar.specs.Rows.{ItemsOf, Rows, any_gap, rows_of}
-use Rattle.first_pass_grammar.specs.Derivation.{Tables, Derives, no_tables, told_by, root_of, items_of}
-use Rattle.first_pass_grammar.specs.Completion.{OneList, Standing, Further, AreFurther, rows_on, rows_beyond, rendered, Frame, InContainer, InList}
+use Rattle.first_pass_grammar.specs.Derivation.{Tables, Derives, no_tables, with_all_of, root_of, items_of}
+use Rattle.first_pass_grammar.specs.Completion.{OneList, Unfinished, Further, AreFurther, rows_on, rows_beyond, rendered, Frame, InContainer, InList}
 use Rattle.first_pass_grammar.specs.Completion.{InDefinitions, definitions_open}
 use Rattle.first_pass_grammar.specs.Completion.{containers_of, loosened, container_closed, Becomes, Completes, CanGoOn, Completion}
 use Rattle.first_pass_exists.proofs.Found.{Found}
-use Rattle.first_pass_grammar.proofs.MoreNames.{extends_none, extends_both}
-use Rattle.first_pass_grammar.proofs.Finishes.{containers-loosened}
+use Rattle.first_pass_grammar.proofs.Names.MoreNames.{extends_none, extends_both}
+use Rattle.first_pass_grammar.proofs.Sequences.Finishes.{containers-loosened}
 use Rattle.first_pass_exists.proofs.SequencesFound.{sequence_found}
 
 pub line_goes_on : (path : List Container) → CanGoOn path Line
 line_goes_on [] = refl
 line_goes_on (c ∷ path) = tt
 
-onward_goes_on : (path : List Container) (left : Left) → CanGoOn path (onward left).0
+onward_goes_on : (path : List Container) (left : Remaining) → CanGoOn path (onward left).0
 onward_goes_on [] (Lines lines) = refl
 onward_goes_on [] (InLine p lines) = refl
 onward_goes_on (c ∷ path) left = tt
 
 -- the remaining parts of the containers of a path
-further_found : (text : List ℕ) (options : Options) (names : Names) (path : List Container) (before : Before) (from : From) (lines : List Place)
+further_found : (text : List ℕ) (options : Options) (names : Names) (path : List Container) (before : Before) (from : Continues) (lines : List Place)
     → CanGoOn path from → Found names (List Further) (λ later further. AreFurther (document text options later) path before from lines further)
 unfolding AreFurther
 further_found text options names [] before from lines can =
@@ -59,31 +59,31 @@ length-loosened gap (InContainer c ∷ frames) = refl
 length-loosened gap (InList byte loose ∷ frames) = refl
 length-loosened gap (InDefinitions loose ∷ frames) = refl
 
-becomes_some : (d : Document) (frames : List Frame) (places : List ℕ) (w : Standing) (further : List Further) (from : From) (lines : List Place)
+becomes_some : (d : Document) (frames : List Frame) (places : List ℕ) (w : Unfinished) (further : List Further) (from : Continues) (lines : List Place)
     → length frames ≡ length places → AreFurther d (containers_of frames) w.before from lines further
     → (forest : List (ℕ × Item)) × (tables : Tables) × Becomes frames places w further forest tables
 unfolding AreFurther Becomes
 becomes_some d [] [] w [] from lines size are = absurd are
 becomes_some d [] [] w (f ∷ []) from lines size are =
-    (rendered 1 f.«end» w.nodes w.list (rows_on false w f), told_by w.defined f.blocks, (refl, refl))
+    (rendered 1 f.«end» w.nodes w.list (rows_on false w f), with_all_of w.defined f.blocks, (refl, refl))
 becomes_some d [] [] w (f ∷ g ∷ more) from lines size are = absurd are
 becomes_some d [] (place ∷ places) w further from lines size are = absurd (omega arith)
 becomes_some d (frame ∷ frames) [] w further from lines size are = absurd (omega arith)
 becomes_some d (InList byte loose ∷ frames) (place ∷ places) w further from lines size are =
-    let inside : Standing = record { nodes = w.nodes; list = OneList place (ItemsOf byte) loose; before = w.before; defined = w.defined } in
+    let inside : Unfinished = record { nodes = w.nodes; list = OneList place (ItemsOf byte) loose; before = w.before; defined = w.defined } in
     becomes_some d frames places inside further from lines (omega arith) are
 becomes_some d (InDefinitions loose ∷ frames) (place ∷ places) w further from lines size are =
-    let inside : Standing = record { nodes = w.nodes; list = definitions_open place loose w.list; before = w.before; defined = w.defined } in
+    let inside : Unfinished = record { nodes = w.nodes; list = definitions_open place loose w.list; before = w.before; defined = w.defined } in
     becomes_some d frames places inside further from lines (omega arith) are
 becomes_some d (InContainer c ∷ frames) (place ∷ places) w [] from lines size are = absurd are
 becomes_some d (InContainer c ∷ frames) (place ∷ places) w (f ∷ further) from lines size (left, sequence, ends, are) =
     let rows : Rows = rows_on (is_quote c) w f in
     let gap : Bool = any_gap (rows_beyond w.list rows) in
-    let now : Standing = container_closed c (suc (length (place ∷ places))) place w f rows in
+    let now : Unfinished = container_closed c (suc (length (place ∷ places))) place w f rows in
     becomes_some d (loosened gap frames) places now further (onward left).0 (onward left).1 (omega (arith, length-loosened gap frames))
     (subst (λ (path : List Container). AreFurther d path now.before (onward left).0 (onward left).1 further) (sym (containers-loosened gap frames)) are)
 
-pub completion_found : (d : Document) (frames : List Frame) (places : List ℕ) (w : Standing) (from : From) (lines : List Place)
+pub completion_found : (d : Document) (frames : List Frame) (places : List ℕ) (w : Unfinished) (from : Continues) (lines : List Place)
     → length frames ≡ length places → CanGoOn (containers_of frames) from → Completion d frames places w from lines
 completion_found d frames places w from lines size can =
     let further = further_found d.text d.options d.names (containers_of frames) w.before from lines can in
@@ -99,7 +99,7 @@ completion_found d frames places w from lines size can =
       becomes = becomes.2;
     }
 
-pub completion_derives : (d : Document) (frames : List Frame) (places : List ℕ) (w : Standing) (from : From) (lines : List Place)
+pub completion_derives : (d : Document) (frames : List Frame) (places : List ℕ) (w : Unfinished) (from : Continues) (lines : List Place)
     → length frames ≡ length places → CanGoOn (containers_of frames) from
     → ((more : Names) → Extends more d.names → Completes (document d.text d.options more) frames places w from lines)
     → (c : Completion d frames places w from lines) × Derives (document d.text d.options c.names) c.forest c.tables
@@ -116,7 +116,7 @@ text_derives text options names =
     let all : s.left ≡ Lines [] = s.ends refl refl in (
       s.more,
       root_of (length text) ∷ items_of 1 false (rows_of false nothing (length text) s.blocks),
-      told_by no_tables s.blocks,
+      with_all_of no_tables s.blocks,
       s.extends,
       record {
         skeleton = s.blocks;

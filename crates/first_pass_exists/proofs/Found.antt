@@ -17,8 +17,8 @@ use Rattle.first_pass_attributes.specs.Attributes.{Attributes}
 use Rattle.first_pass_grammar.specs.Leaves.{document}
 use Rattle.first_pass_grammar.specs.CodeBlocks.{NamesInfo}
 use Rattle.first_pass_grammar.specs.Footnotes.{NamesLabel}
-use Rattle.first_pass_grammar.proofs.MoreNames.{extends_none, extends_both, extends_named, extends_alignments, extends_heading, text_last, alignments_last}
-use Rattle.first_pass_grammar.proofs.MoreNames.{heading_last}
+use Rattle.first_pass_grammar.proofs.Names.MoreNames.{extends_none, extends_both, extends_named, extends_alignments, extends_heading, text_last, alignments_last}
+use Rattle.first_pass_grammar.proofs.Names.MoreNames.{heading_last}
 use Rattle.first_pass_grammar.specs.RawLines.{spaces, AreColumns, Ranges, raw_items, AreRawLines}
 
 -- A value, with names that extend these; the value has a property under all names that extend those.

@@ -22,7 +22,7 @@ use Rattle.first_pass_grammar.specs.Names.{Names, Extends}
 use Rattle.first_pass_grammar.specs.Kinds.{Kind, Blank, IndentedCode, Metadata, HtmlToEnd, HtmlToBlank, ThematicBreak, AtxHeading, FencedCode}
 use Rattle.first_pass_grammar.specs.Kinds.{LinkDefinitions}
 use Rattle.first_pass_grammar.specs.Kinds.{Paragraph, all_taken, unindented, is_blank_rest, heading_or, rule_or, fence_or, metadata_or, metadata_at}
-use Rattle.first_pass_grammar.specs.Kinds.{begins_html_to_end, begins_html_to_blank, html_kind, first_kind, last_kind, IsKindBy, IsKind}
+use Rattle.first_pass_grammar.specs.Kinds.{begins_html_to_end, begins_html_to_blank, html_kind, first_kind, later_kind, IsKindBy, IsKind}
 use Rattle.first_pass_grammar.specs.Leaves.{document, block_with, heading_text_at, heading_block, rule_block}
 use Rattle.first_pass_grammar.specs.RawLines.{range_text, range_html}
 use Rattle.first_pass_grammar.specs.CodeBlocks.{code_place, code_by, code_lines, without_blanks, last_is_blank, last_end, IsIndentedCode, metadata_lines}
@@ -33,14 +33,14 @@ use Rattle.first_pass_grammar.specs.LinkRuns.{link_definition_at, kind_in, Beyon
 use Rattle.first_pass_exists.proofs.RunsFound.{left_beyond, run_found}
 use Rattle.first_pass_grammar.specs.Extents.{Extent, Verdict, GoesOn, IsLast, Closes, Stops, extent_by, extent}
 use Rattle.first_pass_grammar.specs.Blocks.{Leaf, Block, leaf_block, run_block, flowing_block, BlankLine}
-use Rattle.first_pass_grammar.specs.Skeleton.{OpensBeyond, OpensRun, From, Line, Blanks, At, only_blanks, Opening, OpensLeaf, OpensNode, OpensText}
+use Rattle.first_pass_grammar.specs.Skeleton.{OpensBeyond, OpensRun, Continues, Line, Blanks, AtPlace, only_blanks, Opening, OpensLeaf, OpensNode, OpensText}
 use Rattle.first_pass_grammar.specs.Skeleton.{OpensExtent, OpensAs, OpensBlockAt}
 use Rattle.first_pass_exists.proofs.Found.{Found, named_info, raw_lines_found}
-use Rattle.first_pass_grammar.proofs.MoreNames.{extends_none, extends_both}
+use Rattle.first_pass_grammar.proofs.Names.MoreNames.{extends_none, extends_both}
 use Rattle.first_pass_exists.proofs.LinesFound.{heading_found}
 use Rattle.first_pass_exists.proofs.TablesFound.{text_found}
 
--- an HTML block of kinds 1 to 5 has an end condition
+-- an HTML block of types 1 to 5 has an end condition
 abbrev HasEnd : List ℕ → Kind → Type 0
 HasEnd bs HtmlToEnd = (until : BlockEnd) × (html_end (drop 1 bs) ≡ Some until)
 HasEnd bs _ = Unit {0}
@@ -84,14 +84,14 @@ rule_ends : (bs : List ℕ) (o : Option ℕ) (k : Kind) → HasEnd bs k → HasE
 rule_ends bs None k h = h
 rule_ends bs (Some size) k h = tt
 
-last_ends : (bs : List ℕ) → HasEnd bs (last_kind bs)
+last_ends : (bs : List ℕ) → HasEnd bs (later_kind bs)
 last_ends bs = rule_ends bs (hrule_len bs) _ (heading_ends bs (atx_level bs) _ (fence_ends bs (code_fence bs)))
 
 -- the kind of a place
 last_found : (r : Rest) → ((n : ℕ) × BeginsTagLine (all_taken r).left n) ⊎ ((n : ℕ) → BeginsTagLine (all_taken r).left n → ⊥)
     → (k : Kind) × IsKindBy r None k × HasEnd (all_taken r).left k
 last_found r (inl (n, tag)) = (HtmlToBlank, inl (n, tag, refl), tt)
-last_found r (inr none) = (last_kind (all_taken r).left, inr (none, refl), last_ends (all_taken r).left)
+last_found r (inr none) = (later_kind (all_taken r).left, inr (none, refl), last_ends (all_taken r).left)
 
 kind_by : (r : Rest) (o : Option Kind) → ((k : Kind) → o ≡ Some k → HasEnd (all_taken r).left k) → (k : Kind) × IsKindBy r o k × HasEnd (all_taken r).left k
 kind_by r (Some k) ends = (k, refl, ends k refl)
@@ -129,13 +129,13 @@ code_left path [] = omega arith
 code_left path (line ∷ lines) = code_left_by (code_place path line) line lines (code_lines path lines) (code_left path lines)
 
 -- the length of the remaining line at a place inside a line, plus one; 0 at the start of a line
-abbrev pub reach : From → ℕ
+abbrev pub reach : Continues → ℕ
 reach Line = 0
 reach (Blanks e) = 0
-reach (At p may) = suc (length p.rest.left)
+reach (AtPlace p may) = suc (length p.rest.left)
 
 -- Where blocks continue, less of the line or fewer lines are left.
-abbrev pub IsShorter : ℕ → List Place → From → List Place → Type 0
+abbrev pub IsShorter : ℕ → List Place → Continues → List Place → Type 0
 IsShorter most lines there left = (length left ≤ length lines) × ((reach there ≤ most) ⊎ (length left < length lines))
 
 -- After a leaf, and inside a container, less of the text is left. After a leaf, more than blank lines may follow.

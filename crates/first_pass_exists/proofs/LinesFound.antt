@@ -18,8 +18,8 @@ use Rattle.first_pass_grammar.specs.Headings.{before_attributes, heading_attribu
 use Rattle.first_pass_grammar.specs.Leaves.{Document, document, add_break, line_bytes, heading_content, kept_len, heading_chain, IsHeading, TextLines}
 use Rattle.first_pass_grammar.specs.Leaves.{text_lines, AreTextLines}
 use Rattle.first_pass_exists.proofs.Found.{Found, named_attributes}
-use Rattle.first_pass_grammar.proofs.MoreNames.{extends_both, with_texts, extends_texts}
-use Rattle.first_pass_grammar.proofs.TextsMore.{line_later}
+use Rattle.first_pass_grammar.proofs.Names.MoreNames.{extends_both, with_texts, extends_texts}
+use Rattle.first_pass_grammar.proofs.Names.TextsMore.{line_later}
 
 -- the result of reading the lines of a text, with names that extend these and include the texts of the tokens
 pub record LinesFrom (names : Names) (text : List ℕ) (options : Options) (path : List Container) (p : Spot) (chain : List Item) (lines : List Place)

@@ -27,10 +27,10 @@ use Rattle.first_pass_grammar.specs.declared.kind.Container.{Container}
 use Rattle.first_pass_grammar.specs.declared.kind.Container.TheVariants.{BlockQuote}
 use Rattle.first_pass_grammar.specs.Names.{Names}
 use Rattle.first_pass_grammar.specs.Containers.{Context, context, at_rest, prefix, front, footnote_columns}
-use Rattle.first_pass_grammar.specs.Kinds.{Paragraph, all_taken, unindented, is_blank_rest, item_at, ends_tag, definition_marker_at}
+use Rattle.first_pass_grammar.specs.Kinds.{Paragraph, all_taken, unindented, is_blank_rest, item_at, is_ordinary_after_tag, definition_marker_at}
 use Rattle.first_pass_grammar.specs.Leaves.{Document, document}
 use Rattle.first_pass_grammar.specs.Blocks.{leaf_block, FootnoteMarker, Head}
-use Rattle.first_pass_grammar.specs.Skeleton.{From, Line, At, Allowed, Anything, OnlyALeaf, TextOf, OnlyMark, Inside, after_marker, Opening, OpensNode}
+use Rattle.first_pass_grammar.specs.Skeleton.{Continues, Line, AtPlace, Allowed, Anything, OnlyALeaf, TextOf, OnlyMark, Inside, after_marker, Opening, OpensNode}
 use Rattle.first_pass_grammar.specs.Skeleton.{next_is_blank, only_task}
 use Rattle.first_pass_grammar.specs.Openers.{task_by, task_after}
 use Rattle.first_pass_grammar.specs.Skeleton.{after_tag, Opens, OpensIf, Level, may_define}
@@ -40,7 +40,7 @@ use Rattle.first_pass_grammar.specs.declared.kind.AfterMarker.{AfterMarker}
 use Rattle.first_pass_grammar.specs.declared.kind.AfterMarker.TheVariants.{OnLine, TaskText, LineEnds, OnlyTag}
 use Rattle.first_pass_grammar.specs.Skeleton.{OpensBy, OpensFootnote, footnote_opening, opening_by, opening_of, without_indent}
 use Rattle.first_pass_grammar.specs.Blocks.{opened}
-use Rattle.first_pass_grammar.proofs.OpenerFacts.{start_cases}
+use Rattle.first_pass_grammar.proofs.Sequences.OpenerFacts.{start_cases}
 use Rattle.first_pass_exists.proofs.RunsFound.{beyond_shorter}
 use Rattle.first_pass_grammar.specs.Leaves.{around}
 
@@ -131,26 +131,26 @@ either_shrinks : (most : ℕ) (lines : List Place) (t : Bool) (o o' : Opening) �
 either_shrinks most lines true o o' h k = h
 either_shrinks most lines false o o' h k = k
 
-node_shrinks : (most : ℕ) (lines : List Place) (head : Head) (inside : From) → reach inside ≤ most → Shrinks most lines (OpensNode head inside lines)
+node_shrinks : (most : ℕ) (lines : List Place) (head : Head) (inside : Continues) → reach inside ≤ most → Shrinks most lines (OpensNode head inside lines)
 node_shrinks most lines head inside h = (omega arith, inl h)
 
 -- after a block quote's tag
-abbrev IsPast : ℕ → List Place → From × List Place → Type 0
+abbrev IsPast : ℕ → List Place → Continues × List Place → Type 0
 IsPast most lines (inside, following) = IsShorter most lines inside following
 
 tag_shrinks_by : (most : ℕ) (line p : Place) (lines : List Place) (t : Bool)
-    → IsPast most (line ∷ lines) (if◌then◌else◌ {A = From × List Place} t (Line, line ∷ lines) (At p OnlyALeaf, lines))
+    → IsPast most (line ∷ lines) (if◌then◌else◌ {A = Continues × List Place} t (Line, line ∷ lines) (AtPlace p OnlyALeaf, lines))
 tag_shrinks_by most line p lines true = (omega arith, inl (omega arith))
 tag_shrinks_by most line p lines false = (omega arith, inr (omega arith))
 
 tag_shrinks : (most : ℕ) (c : Context) (lines : List Place) → IsPast most lines (after_tag c lines)
 tag_shrinks most c [] = (omega arith, inl (omega arith))
-tag_shrinks most c (line ∷ lines) = tag_shrinks_by most line (unindented (at_rest line (front c.path line.rest))) lines (ends_tag c line.rest)
+tag_shrinks most c (line ∷ lines) = tag_shrinks_by most line (unindented (at_rest line (front c.path line.rest))) lines (is_ordinary_after_tag c line.rest)
 
 start_shrinks : (d : Document) (most : ℕ) (path : List Container) (head : Head) (inside : Place) (lines : List Place) (after : AfterMarker)
     → suc (length inside.rest.left) ≤ most → Shrinks most lines (opening_by d path head inside lines after)
 start_shrinks d most path head inside lines OnLine h = node_shrinks most lines head (Inside inside) h
-start_shrinks d most path head inside lines (TaskText marker) h = node_shrinks most lines head (At inside (TextOf marker)) h
+start_shrinks d most path head inside lines (TaskText marker) h = node_shrinks most lines head (AtPlace inside (TextOf marker)) h
 start_shrinks d most path head inside lines (LineEnds marker) h =
     let blanks : Option ℕ = Some (start_of (length d.text) lines) in
     let alone = alone_reach marker inside blanks in
@@ -213,15 +213,15 @@ head_shorter c p head h =
 after_if : (most : ℕ) (t : Bool) (q line : Place) (following lines : List Place) → suc (length q.rest.left) ≤ most → length (line ∷ following) ≤ length lines
     → (let there : Place × List Place = if◌then◌else◌ {A = Place × List Place} t (line, following) (q, line ∷ following) in
     IsShorter most lines (Inside there.0) there.1)
-after_if most true q line following lines less node_bound = (omega arith, inr (omega arith))
-after_if most false q line following lines less node_bound = (node_bound, inl less)
+after_if most true q line following lines less bound = (omega arith, inr (omega arith))
+after_if most false q line following lines less bound = (bound, inl less)
 
 after_shorter : (most : ℕ) (gfm : Bool) (q : Place) (following lines : List Place) → suc (length q.rest.left) ≤ most → length following ≤ length lines
     → IsShorter most lines (Inside (past_head gfm q following).0) (past_head gfm q following).1
-after_shorter most true q following lines less node_bound =
-    let n = length-drop (prefix_len is_white q.rest.left) q.rest.left in (node_bound, inl (omega arith))
-after_shorter most false q [] lines less node_bound = (node_bound, inl less)
-after_shorter most false q (line ∷ following) lines less node_bound = after_if most (is_blank_rest q.rest) q line following lines less node_bound
+after_shorter most true q following lines less bound =
+    let n = length-drop (prefix_len is_white q.rest.left) q.rest.left in (bound, inl (omega arith))
+after_shorter most false q [] lines less bound = (bound, inl less)
+after_shorter most false q (line ∷ following) lines less bound = after_if most (is_blank_rest q.rest) q line following lines less bound
 
 leads_footnote : (text : List ℕ) (options : Options) (names : Names) (most : ℕ) (p : Place) (lines : List Place) (head : ℕ × List ℕ)
     → length (drop head.0 (unindented p).rest.left) < most

@@ -58,8 +58,8 @@ found_by around p lines (Some x) is further =
     further_by around p lines (lines_beyond x.«end» lines) x (ends_run around (lines_beyond x.«end» lines)) is refl refl (beyond_shorter x.«end» lines) further
 
 run_within : (fuel : ℕ) (around : Context) (p : Place) (lines : List Place) → length lines ≤ fuel → RunFound around p lines
-run_within zero around p lines node_bound = found_by around p lines (link_definition_at around p) refl (λ q left less. absurd (omega arith))
-run_within (suc fuel) around p lines node_bound =
+run_within zero around p lines bound = found_by around p lines (link_definition_at around p) refl (λ q left less. absurd (omega arith))
+run_within (suc fuel) around p lines bound =
     found_by around p lines (link_definition_at around p) refl (λ q left less. run_within fuel around q left (omega arith))
 
 pub run_found : (around : Context) (p : Place) (lines : List Place) → RunFound around p lines

@@ -6,24 +6,24 @@ use Rattle.first_pass_grammar.specs.declared.kind.Container.{Container}
 use Rattle.first_pass_grammar.specs.Names.{Names, Extends}
 use Rattle.first_pass_grammar.specs.Leaves.{document}
 use Rattle.first_pass_grammar.specs.Blocks.{Leaf, Head, opened, Skeleton, Nil, Then, Node}
-use Rattle.first_pass_grammar.specs.Skeleton.{From, Line, Blanks, At, Anything, OnlyALeaf, TextOf, OnlyMark, Opening, OpensLeaf, OpensNode, OpensAt}
-use Rattle.first_pass_grammar.specs.Skeleton.{Level, level, level_in, level_after_leaf, level_after, Left, Lines, InLine, NextBlock, Begins, Ends}
+use Rattle.first_pass_grammar.specs.Skeleton.{Continues, Line, Blanks, AtPlace, Anything, OnlyALeaf, TextOf, OnlyMark, Opening, OpensLeaf, OpensNode, OpensAt}
+use Rattle.first_pass_grammar.specs.Skeleton.{Level, level, level_in, level_after_leaf, level_after, Remaining, Lines, InLine, NextBlock, Begins, Ends}
 use Rattle.first_pass_grammar.specs.Skeleton.{next_block, onward}
 use Rattle.first_pass_grammar.specs.Skeleton.{after_first, only_blanks, end_before, IsFirst, IsSequence}
-use Rattle.first_pass_grammar.proofs.Goings.{BeginsAt, LeavesAt, begins_at, leaves_at, all_taken_at}
-use Rattle.first_pass_grammar.proofs.MoreNames.{extends_none, extends_both}
+use Rattle.first_pass_grammar.proofs.Sequences.Goings.{BeginsAt, LeavesAt, begins_at, leaves_at, all_taken_at}
+use Rattle.first_pass_grammar.proofs.Names.MoreNames.{extends_none, extends_both}
 use Rattle.first_pass_exists.proofs.KindsFound.{reach, IsShorter, Shrinks, Leads, leads_also}
 use Rattle.first_pass_exists.proofs.OpeningsFound.{leads_any, leads_if}
 
 -- Where blocks continue around a container that leaves this, no more of the text is left than before.
-abbrev IsNoMore : From → List Place → Left → Type 0
+abbrev IsNoMore : Continues → List Place → Remaining → Type 0
 IsNoMore from lines left = IsShorter (reach from) lines (onward left).0 (onward left).1
 
 -- Blocks from a place on, under names that extend these and under all names that extend those. At the top they take
 -- all lines, unless only blank lines are taken.
-pub record SequenceFrom (text : List ℕ) (options : Options) (names : Names) (l : Level) (from : From) (lines : List Place) : Type 0 where
+pub record SequenceFrom (text : List ℕ) (options : Options) (names : Names) (l : Level) (from : Continues) (lines : List Place) : Type 0 where
   pub blocks : Skeleton
-  pub left : Left
+  pub left : Remaining
   pub more : Names
   pub extends : Extends more names
   pub is : (later : Names) → Extends later more → IsSequence (document text options later) blocks l from lines left
@@ -31,61 +31,62 @@ pub record SequenceFrom (text : List ℕ) (options : Options) (names : Names) (l
   pub ends : l.path ≡ [] → only_blanks from ≡ None → left ≡ Lines []
 
 -- where blocks continue after a first block
-reach_after : (from there : From) → reach (after_first from there) ≤ reach there
+reach_after : (from there : Continues) → reach (after_first from there) ≤ reach there
 reach_after Line there = omega arith
 reach_after (Blanks e) there = omega arith
-reach_after (At p Anything) there = omega arith
-reach_after (At p OnlyALeaf) there = omega arith
-reach_after (At p (TextOf marker)) there = omega arith
-reach_after (At p (OnlyMark marker None)) there = omega arith
-reach_after (At p (OnlyMark marker (Some e))) there = omega arith
+reach_after (AtPlace p Anything) there = omega arith
+reach_after (AtPlace p OnlyALeaf) there = omega arith
+reach_after (AtPlace p (TextOf marker)) there = omega arith
+reach_after (AtPlace p (OnlyMark marker None)) there = omega arith
+reach_after (AtPlace p (OnlyMark marker (Some e))) there = omega arith
 
-alone_after : (from there : From) → only_blanks from ≡ None → only_blanks there ≡ None → only_blanks (after_first from there) ≡ None
+alone_after : (from there : Continues) → only_blanks from ≡ None → only_blanks there ≡ None → only_blanks (after_first from there) ≡ None
 alone_after Line there h k = k
 alone_after (Blanks e) there h k = h
-alone_after (At p Anything) there h k = k
-alone_after (At p OnlyALeaf) there h k = k
-alone_after (At p (TextOf marker)) there h k = k
-alone_after (At p (OnlyMark marker None)) there h k = refl
-alone_after (At p (OnlyMark marker (Some e))) there h k = h
+alone_after (AtPlace p Anything) there h k = k
+alone_after (AtPlace p OnlyALeaf) there h k = k
+alone_after (AtPlace p (TextOf marker)) there h k = k
+alone_after (AtPlace p (OnlyMark marker None)) there h k = refl
+alone_after (AtPlace p (OnlyMark marker (Some e))) there h k = h
 
-alone_onward : (left : Left) → only_blanks (onward left).0 ≡ None
+alone_onward : (left : Remaining) → only_blanks (onward left).0 ≡ None
 alone_onward (Lines lines) = refl
 alone_onward (InLine p lines) = refl
 
-shorter_after : (most : ℕ) (lines left : List Place) (from there : From) → IsShorter most lines there left
+shorter_after : (most : ℕ) (lines left : List Place) (from there : Continues) → IsShorter most lines there left
     → IsShorter most lines (after_first from there) left
 shorter_after most lines left from there (less, inl near) = let reaches = reach_after from there in (less, inl (omega arith))
 shorter_after most lines left from there (less, inr fewer) = (less, inr fewer)
 
-shorter_both : (most : ℕ) (lines left further : List Place) (there then : From) → IsShorter most lines there left → IsShorter (reach there) left then further
+shorter_both : (most : ℕ) (lines left further : List Place) (there then : Continues) → IsShorter most lines there left
+    → IsShorter (reach there) left then further
     → IsShorter most lines then further
 shorter_both most lines left further there then (less, inl near) (less', inl near') = (omega arith, inl (omega arith))
 shorter_both most lines left further there then (less, inl near) (less', inr fewer) = (omega arith, inr (omega arith))
 shorter_both most lines left further there then (less, inr fewer) (less', near) = (omega arith, inr (omega arith))
 
 -- if less is left than where a block begins, then less is left than where the block was looked for
-shorter_from : (path : List Container) (from there : From) (lines following left : List Place) (p : Place) → BeginsAt path from lines p following
+shorter_from : (path : List Container) (from there : Continues) (lines following left : List Place) (p : Place) → BeginsAt path from lines p following
     → IsShorter (length p.rest.left) following there left → IsShorter (reach from) lines there left
 shorter_from path Line there [] following left p begins s = absurd begins
 shorter_from path Line there (line ∷ lines) following left p (is, same) (less, near) = let n = ap length same in (omega arith, inr (omega arith))
 shorter_from path (Blanks e) there [] following left p begins s = absurd begins
 shorter_from path (Blanks e) there (line ∷ lines) following left p (is, same) (less, near) = let n = ap length same in (omega arith, inr (omega arith))
-shorter_from path (At q may) there lines following left p (is, same) (less, inl near) =
+shorter_from path (AtPlace q may) there lines following left p (is, same) (less, inl near) =
     let n = ap length same in let m = ap (λ (z : Place). length z.rest.left) is in (omega arith, inl (omega arith))
-shorter_from path (At q may) there lines following left p (is, same) (less, inr fewer) = let n = ap length same in (omega arith, inr (omega arith))
+shorter_from path (AtPlace q may) there lines following left p (is, same) (less, inr fewer) = let n = ap length same in (omega arith, inr (omega arith))
 
 -- a sequence without blocks
-no_more_at : (path : List Container) (from : From) (lines following : List Place) (p : Place) → BeginsAt path from lines p following
+no_more_at : (path : List Container) (from : Continues) (lines following : List Place) (p : Place) → BeginsAt path from lines p following
     → IsNoMore from lines (InLine p following)
 no_more_at path Line [] following p begins = absurd begins
 no_more_at path Line (line ∷ lines) following p (is, same) = let n = ap length same in (omega arith, inr (omega arith))
 no_more_at path (Blanks e) [] following p begins = absurd begins
 no_more_at path (Blanks e) (line ∷ lines) following p (is, same) = let n = ap length same in (omega arith, inr (omega arith))
-no_more_at path (At q may) lines following p (is, same) =
+no_more_at path (AtPlace q may) lines following p (is, same) =
     let n = ap length same in let m = ap (λ (z : Place). length z.rest.left) is in (omega arith, inl (omega arith))
 
-no_more : (path : List Container) (from : From) (lines : List Place) (left : Left) → LeavesAt path from lines left → IsNoMore from lines left
+no_more : (path : List Container) (from : Continues) (lines : List Place) (left : Remaining) → LeavesAt path from lines left → IsNoMore from lines left
 no_more path from lines (Lines left) same = let n = ap length same in (omega arith, inl (omega arith))
 no_more path from lines (InLine p following) at = no_more_at path from lines following p at.0
 
@@ -94,29 +95,29 @@ module _ (text : List ℕ) (options : Options) where
   -- blocks from each place on if fewer lines than this are left; the next definition: or as many, at a place inside a
   -- line that reaches less far
   abbrev Fewer : ℕ → Type 0
-  Fewer n = (names : Names) (l : Level) (from : From) (lines : List Place) → length lines < n → SequenceFrom text options names l from lines
+  Fewer n = (names : Names) (l : Level) (from : Continues) (lines : List Place) → length lines < n → SequenceFrom text options names l from lines
 
   abbrev Nearer : ℕ → ℕ → Type 0
   Nearer n k =
-      (names : Names) (l : Level) (from : From) (lines : List Place) → length lines ≤ n → reach from < k → SequenceFrom text options names l from lines
+      (names : Names) (l : Level) (from : Continues) (lines : List Place) → length lines ≤ n → reach from < k → SequenceFrom text options names l from lines
 
   -- the blocks from each place on where less is left than these lines and this much of a line before them
   abbrev Others : ℕ → List Place → Type 0
   Others most lines =
-      (names : Names) (l : Level) (from : From) (left : List Place) → IsShorter most lines from left → SequenceFrom text options names l from left
+      (names : Names) (l : Level) (from : Continues) (left : List Place) → IsShorter most lines from left → SequenceFrom text options names l from left
 
   -- the first block from here on, under all names that extend these
-  abbrev AreFirst : Names → Level → From → List Place → Opening → Type 0
+  abbrev AreFirst : Names → Level → Continues → List Place → Opening → Type 0
   AreFirst names l from lines o = (later : Names) → Extends later names → IsFirst (document text options later) l from lines o
 
-  leaf_first : (names more : Names) (l : Level) (from there : From) (lines following left : List Place) (p : Place) (leaf : Leaf)
+  leaf_first : (names more : Names) (l : Level) (from there : Continues) (lines following left : List Place) (p : Place) (leaf : Leaf)
       → Extends more names → BeginsAt l.path from lines p following → AreFirst more l from lines (OpensLeaf leaf there left)
       → Shrinks (length p.rest.left) following (OpensLeaf leaf there left) → Others (length p.rest.left) following
       → SequenceFrom text options names l from lines
   unfolding IsSequence
   leaf_first names more l from there lines following left p leaf extends begins first (less, alone) others =
       let most : ℕ = length p.rest.left in
-      let next : From = after_first from there in
+      let next : Continues = after_first from there in
       let now = shorter_after most following left from there less in
       let rest = others more (level_after_leaf l leaf) next left now in
       record {
@@ -130,7 +131,7 @@ module _ (text : List ℕ) (options : Options) where
         ends = λ top h. rest.ends top (alone_after from there h alone);
       }
 
-  node_first : (names more : Names) (l : Level) (from inside : From) (lines following kids : List Place) (p : Place) (head : Head)
+  node_first : (names more : Names) (l : Level) (from inside : Continues) (lines following kids : List Place) (p : Place) (head : Head)
       → Extends more names → BeginsAt l.path from lines p following → AreFirst more l from lines (OpensNode head inside kids)
       → Shrinks (length p.rest.left) following (OpensNode head inside kids) → Others (length p.rest.left) following
       → SequenceFrom text options names l from lines
@@ -138,9 +139,9 @@ module _ (text : List ℕ) (options : Options) where
   node_first names more l from inside lines following kids p head extends begins first shrinks others =
       let most : ℕ = length p.rest.left in
       let inner = others more (level_in (opened head.opener) l) inside kids shrinks in
-      let there : From = (onward inner.left).0 in
+      let there : Continues = (onward inner.left).0 in
       let left : List Place = (onward inner.left).1 in
-      let next : From = after_first from there in
+      let next : Continues = after_first from there in
       let now = shorter_after most following left from there (shorter_both most following kids left inside there shrinks inner.shorter) in
       let rest = others inner.more (level_after l head inner.blocks) next left now in
       let extends_more = extends_both _ _ _ rest.extends inner.extends in
@@ -157,7 +158,7 @@ module _ (text : List ℕ) (options : Options) where
         ends = λ top h. rest.ends top (alone_after from there h (alone_onward inner.left));
       }
 
-  opening_first : (names more : Names) (l : Level) (from : From) (lines following : List Place) (p : Place) (o : Opening)
+  opening_first : (names more : Names) (l : Level) (from : Continues) (lines following : List Place) (p : Place) (o : Opening)
       → Extends more names → BeginsAt l.path from lines p following → AreFirst more l from lines o → Shrinks (length p.rest.left) following o
       → Others (length p.rest.left) following → SequenceFrom text options names l from lines
   opening_first names more l from lines following p (OpensLeaf leaf there left) extends begins first shrinks others =
@@ -165,13 +166,13 @@ module _ (text : List ℕ) (options : Options) where
   opening_first names more l from lines following p (OpensNode head inside kids) extends begins first shrinks others =
       node_first names more l from inside lines following kids p head extends begins first shrinks others
 
-  leads_at : (names : Names) (l : Level) (from : From) (p : Place) (lines : List Place)
+  leads_at : (names : Names) (l : Level) (from : Continues) (p : Place) (lines : List Place)
       → Leads names (length p.rest.left) lines (λ later o. OpensAt (document text options later) l from p lines o)
   leads_at names l Line p lines = leads_any text options names l p lines
   leads_at names l (Blanks e) p lines = leads_any text options names l p lines
-  leads_at names l (At q may) p lines = leads_if text options names l may p lines
+  leads_at names l (AtPlace q may) p lines = leads_if text options names l may p lines
 
-  first_block : (names : Names) (l : Level) (from : From) (lines following : List Place) (p : Place) → next_block options l from lines ≡ Begins p following
+  first_block : (names : Names) (l : Level) (from : Continues) (lines following : List Place) (p : Place) → next_block options l from lines ≡ Begins p following
       → Others (length p.rest.left) following → SequenceFrom text options names l from lines
   first_block names l from lines following p is others =
       let leads : Leads names (length p.rest.left) following (λ later o. IsFirst (document text options later) l from lines o) =
@@ -180,7 +181,7 @@ module _ (text : List ℕ) (options : Options) where
       leads.opens leads.shrinks others
 
   -- a sequence without blocks
-  no_block : (names : Names) (l : Level) (from : From) (lines : List Place) (left : Left) → next_block options l from lines ≡ Ends left
+  no_block : (names : Names) (l : Level) (from : Continues) (lines : List Place) (left : Remaining) → next_block options l from lines ≡ Ends left
       → SequenceFrom text options names l from lines
   unfolding IsSequence
   no_block names l from lines left is = record {
@@ -194,22 +195,22 @@ module _ (text : List ℕ) (options : Options) where
   }
 
   -- blocks, by how much of the text is left
-  others_at : (n k : ℕ) (path : List Container) (from : From) (lines following : List Place) (p : Place) → BeginsAt path from lines p following
+  others_at : (n k : ℕ) (path : List Container) (from : Continues) (lines following : List Place) (p : Place) → BeginsAt path from lines p following
       → length lines ≤ n → reach from ≤ k → Fewer n → Nearer n k → Others (length p.rest.left) following
   others_at n k path Line [] following p begins within near fewer nearer names l there left less = absurd begins
-  others_at n k path Line (line ∷ lines) following p (is, same) within near fewer nearer names l there left (node_bound, less) =
+  others_at n k path Line (line ∷ lines) following p (is, same) within near fewer nearer names l there left (bound, less) =
       let m = ap length same in fewer names l there left (omega arith)
   others_at n k path (Blanks e) [] following p begins within near fewer nearer names l there left less = absurd begins
-  others_at n k path (Blanks e) (line ∷ lines) following p (is, same) within near fewer nearer names l there left (node_bound, less) =
+  others_at n k path (Blanks e) (line ∷ lines) following p (is, same) within near fewer nearer names l there left (bound, less) =
       let m = ap length same in fewer names l there left (omega arith)
-  others_at n k path (At q may) lines following p (is, same) within near fewer nearer names l there left (node_bound, inl less) =
+  others_at n k path (AtPlace q may) lines following p (is, same) within near fewer nearer names l there left (bound, inl less) =
       let m = ap length same in
       let r = ap (λ (z : Place). length z.rest.left) is in
       nearer names l there left (omega arith) (omega arith)
-  others_at n k path (At q may) lines following p (is, same) within near fewer nearer names l there left (node_bound, inr fewest) =
+  others_at n k path (AtPlace q may) lines following p (is, same) within near fewer nearer names l there left (bound, inr fewest) =
       let m = ap length same in fewer names l there left (omega arith)
 
-  goes : (n k : ℕ) (names : Names) (l : Level) (from : From) (lines : List Place) (g : NextBlock) → next_block options l from lines ≡ g
+  goes : (n k : ℕ) (names : Names) (l : Level) (from : Continues) (lines : List Place) (g : NextBlock) → next_block options l from lines ≡ g
       → length lines ≤ n → reach from ≤ k → Fewer n → Nearer n k → SequenceFrom text options names l from lines
   goes n k names l from lines (Ends left) is within near fewer nearer = no_block names l from lines left is
   goes n k names l from lines (Begins p following) is within near fewer nearer =
@@ -228,5 +229,5 @@ module _ (text : List ℕ) (options : Options) where
   fewer_than zero names l from lines less = absurd (omega arith)
   fewer_than (suc n) names l from lines less = nearer_to n (suc (reach from)) (fewer_than n) names l from lines (omega arith) (omega arith)
 
-  pub sequence_found : (names : Names) (l : Level) (from : From) (lines : List Place) → SequenceFrom text options names l from lines
+  pub sequence_found : (names : Names) (l : Level) (from : Continues) (lines : List Place) → SequenceFrom text options names l from lines
   sequence_found names l from lines = fewer_than (suc (length lines)) names l from lines (omega arith)

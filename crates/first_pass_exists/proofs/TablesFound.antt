@@ -28,13 +28,13 @@ use Rattle.first_pass_grammar.specs.Tables.{cell_start, cell_text, cell_block, A
 use Rattle.first_pass_grammar.specs.Tables.{TableSoFar, table_so_far, most_filled, IsTable}
 use Rattle.first_pass_grammar.specs.Headings.{heading_attributes_of}
 use Rattle.first_pass_grammar.specs.Texts.{IsPlainText, IsText, IsUnderlined, heading_bytes, heading_children, plain_text, underlined_text, underline_first}
-use Rattle.first_pass_grammar.proofs.CountedRows.{is_row, with_row, CountedRows, are_rows}
+use Rattle.first_pass_grammar.proofs.Count.RowsWithRoom.{is_row, with_row, RowsWithRoom, are_rows}
 use Rattle.first_pass_exists.proofs.Found.{named_alignments, named_attributes}
-use Rattle.first_pass_grammar.proofs.MoreNames.{extends_none, extends_both, with_texts, extends_texts}
-use Rattle.first_pass_grammar.proofs.TextsMore.{cell_later, text_lines_more, cells_more, row_more, rows_more}
+use Rattle.first_pass_grammar.proofs.Names.MoreNames.{extends_none, extends_both, with_texts, extends_texts}
+use Rattle.first_pass_grammar.proofs.Names.TextsMore.{cell_later, text_lines_more, cells_more, row_more, rows_more}
 use Rattle.first_pass_exists.proofs.LinesFound.{lines_found}
 use Rattle.first_pass_items.specs.declared.item.HeadingLevel.{HeadingLevel}
-use Rattle.first_pass_grammar.proofs.RowEnds.{text_after}
+use Rattle.first_pass_grammar.proofs.Order.RowEnds.{text_after}
 
 -- a byte at which no line ends
 no_end_byte : (t u : Bool) (n : ℕ) → (if t then Some 1 else (if u then Some n else None)) ≡ None → (t || u) ≡ false
@@ -149,7 +149,7 @@ pub record RowsFrom (names : Names) (text : List ℕ) (options : Options) (path 
   pub rows : Taken
   pub more : Names
   pub extends : Extends more names
-  pub are : CountedRows (document text options more) path table lines rows
+  pub are : RowsWithRoom (document text options more) path table lines rows
   pub shorter : length rows.left ≤ length lines
 
 -- the row with the cells that were found
@@ -160,7 +160,7 @@ row_with names text options start braces found = record { start = start; cells =
 row_by : (names mid : Names) (text : List ℕ) (options : Options) (path : List Container) (table : TableSoFar) (line : Place) (lines : List Place)
     (row : FoundRow) (t : Bool) → Extends mid names → HasCells (document text options mid) path line table.braces row → is_row table row.cells ≡ t
     → RowsFrom mid text options path (with_row table row) lines → RowsFrom names text options path table (line ∷ lines)
-unfolding CountedRows
+unfolding RowsWithRoom
 row_by names mid text options path table line lines row true e has h more =
     let still = row_more text options mid more.more path line table.braces row more.extends has in
     record {
@@ -176,7 +176,7 @@ row_by names mid text options path table line lines row false e has h more =
 rows_by : (names : Names) (text : List ℕ) (options : Options) (path : List Container) (table : TableSoFar) (line : Place) (lines : List Place)
     (o : Option ℕ) → row_text (context options path) line ≡ o → ((mid : Names) (further : TableSoFar) → RowsFrom mid text options path further lines)
     → RowsFrom names text options path table (line ∷ lines)
-unfolding CountedRows
+unfolding RowsWithRoom
 rows_by names text options path table line lines None e f =
     record { rows = taking [] (line ∷ lines); more = names; extends = extends_none names; are = inl (e, refl); shorter = omega arith }
 rows_by names text options path table line lines (Some start) e f =
@@ -187,7 +187,7 @@ rows_by names text options path table line lines (Some start) e f =
 
 pub rows_found : (names : Names) (text : List ℕ) (options : Options) (path : List Container) (lines : List Place) (table : TableSoFar)
     → RowsFrom names text options path table lines
-unfolding CountedRows
+unfolding RowsWithRoom
 rows_found names text options path [] table =
     record { rows = taking [] []; more = names; extends = extends_none names; are = refl; shorter = omega arith }
 rows_found names text options path (line ∷ lines) table =

@@ -6,9 +6,9 @@ ghost use Rattle.first_pass_items.specs.declared.option_set.Options.{Options};
 ghost use Rattle.first_pass_lines.specs.Places.{Place};
 ghost use Rattle.first_pass_grammar.specs.Names.{Names, Extends};
 ghost use Rattle.first_pass_grammar.specs.Leaves.{Document, document};
-ghost use Rattle.first_pass_grammar.specs.Skeleton.{From};
+ghost use Rattle.first_pass_grammar.specs.Skeleton.{Continues};
 ghost use Rattle.first_pass_grammar.specs.Derivation.{Derives, Tables};
-ghost use Rattle.first_pass_grammar.specs.Completion.{Standing, Frame, containers_of, Completes, CanGoOn, Completion};
+ghost use Rattle.first_pass_grammar.specs.Completion.{Unfinished, Frame, containers_of, Completes, CanGoOn, Completion};
 
 /// Every text has a derived tree under each set of options, since any sequence of characters is a document (CommonMark
 /// 2.1). The tree's indices have names that extend any given names.
@@ -23,7 +23,7 @@ pub fn every_text_derives()
 /// blocks up to its end. With these blocks the state becomes a forest. `frames` are the open containers and lists, and
 /// `places` those of their nodes, both innermost first. Only in a container may `from` require blank lines.
 pub fn always_a_completion()
-    ensures { (d : Document) (frames : List Frame) (places : List ℕ) (w : Standing) (from : From)
+    ensures { (d : Document) (frames : List Frame) (places : List ℕ) (w : Unfinished) (from : Continues)
         (lines : List Place) → length frames ≡ length places → CanGoOn (containers_of frames) from
         → Completion d frames places w from lines }
 {}
@@ -31,7 +31,7 @@ pub fn always_a_completion()
 /// If the text derives the forest of every completion of the open nodes, then there is a completion whose forest the
 /// text derives. The condition is for the present names and all that extend them.
 pub fn some_completion_derives()
-    ensures { (d : Document) (frames : List Frame) (places : List ℕ) (w : Standing) (from : From)
+    ensures { (d : Document) (frames : List Frame) (places : List ℕ) (w : Unfinished) (from : Continues)
         (lines : List Place) → length frames ≡ length places → CanGoOn (containers_of frames) from
         → ((more : Names) → Extends more d.names
         → Completes (document d.text d.options more) frames places w from lines)

@@ -26,7 +26,7 @@ use Rattle.first_pass_lines.specs.Lines.{level_number}
 use Rattle.first_pass_attributes.specs.Attributes.{Attributes, no_attributes}
 use Rattle.first_pass_grammar.specs.Names.{Names, Named, AText, Alignments, OfHeading, NamesEntry, index_of, only_kind, named}
 use Rattle.first_pass_flat.specs.Kinds.{kind_number, values_of, flag, quote_number, metadata_number, alignment_byte}
-use Rattle.first_pass_flat.specs.FlatAttributes.{OneAttribute, class_attribute, key_attribute, listed, attributes_of}
+use Rattle.first_pass_flat.specs.FlatAttributes.{OneAttribute, class_attribute, key_attribute, listed, attributes_of_body}
 use Rattle.first_pass_flat.specs.FlatNodes.{name_of, named_length}
 use Rattle.first_pass_flat.specs.declared.kinds.FlatValues.{FlatValues}
 
@@ -210,7 +210,7 @@ heading_kept None h = cc (h.1)
 heading_kept (Some x) h = ap (λ a. Some (OfHeading a)) (listed_kept x.id x.classes x.attrs)
 
 pub named_kept : (names : Names) (body : ItemBody) → NamesEntry names (index_of body)
-    → named_from (kind_number body) (values_of body).second (name_of names body) (attributes_of names body) ≡ option_and_then (named names) (index_of body)
+    → named_from (kind_number body) (values_of body).second (name_of names body) (attributes_of_body names body) ≡ option_and_then (named names) (index_of body)
 unfolding named_from
 named_kept names (FencedCodeBlock ix) h = text_kept (slice_get names.texts ix.0) (entry_at names.texts ix.0 h)
 named_kept names (FootnoteDefinition ix) h = text_kept (slice_get names.texts ix.0) (entry_at names.texts ix.0 h)
@@ -233,7 +233,7 @@ bytes_counted names (Heading level ix) = refl
 bytes_counted names _ = refl
 
 pub attributes_kept : (names : Names) (body : ItemBody)
-    → attributes_counted (kind_number body) (named_length names body) ≡ length (attributes_of names body)
+    → attributes_counted (kind_number body) (named_length names body) ≡ length (attributes_of_body names body)
 unfolding attributes_counted
 attributes_kept names (Heading level ix) = refl
 attributes_kept names _ = refl

@@ -11,7 +11,7 @@ use Rattle.first_pass_labels.specs.declared.label_table.LinkPlaces.{LinkPlaces}
 use Rattle.first_pass_grammar.specs.LinkTables.{LinkEntry}
 use Rattle.first_pass_grammar.specs.Derivation.{Tables}
 use Rattle.first_pass_flat.specs.Kinds.{flag}
-use Rattle.first_pass_flat.specs.FlatAttributes.{OneAttribute, attribute_bytes, attributes_by, attributes_of, flat_attributes}
+use Rattle.first_pass_flat.specs.FlatAttributes.{OneAttribute, attribute_bytes, attributes_by, attributes_of_body, flat_attributes}
 use Rattle.first_pass_flat.specs.FlatDefinitions.{definition_bytes, entries_of, flat_definitions, label_entry}
 use Rattle.first_pass_flat.specs.FlatNodes.{flat_nodes, first_place, name_by, name_of, place_after}
 use Rattle.first_pass_flat.specs.FlatForm.{FlatForm, flat_form, node_names, tree_names}
@@ -86,8 +86,8 @@ nodes_kept names at (n ∷ nodes) bytes xs h =
     cons_by _ _ _ _
     (pair_by _ _ _ _ refl
     (pair_by _ _ _ _ (item_by _ _ _ _ (body_kept n.1.body))
-    (named_by _ _ _ _ _ _ (front _ (name_of names n.1.body) b bytes c) (front _ (attributes_of names n.1.body) a xs d) ∙ named_kept names n.1.body h.0)))
-    (from_by _ _ _ _ _ (after_front _ (name_of names n.1.body) b bytes c) (after_front _ (attributes_of names n.1.body) a xs d)
+    (named_by _ _ _ _ _ _ (front _ (name_of names n.1.body) b bytes c) (front _ (attributes_of_body names n.1.body) a xs d) ∙ named_kept names n.1.body h.0)))
+    (from_by _ _ _ _ _ (after_front _ (name_of names n.1.body) b bytes c) (after_front _ (attributes_of_body names n.1.body) a xs d)
     ∙ nodes_kept names more nodes bytes xs h.1)
 
 pub bytes_kept : (names : Names) (at : FlatPlace) (nodes : List (ℕ × Item)) (bytes : List ℕ)

@@ -53,11 +53,11 @@ attributes_at names None = []
 attributes_at names (Some ix) = listed (attributes_named names ix)
 
 -- the attributes that a node names: those of a heading that has an attribute block (this project)
-abbrev pub attributes_of : Names → ItemBody → List OneAttribute
-attributes_of names body = attributes_at names (heading_index body)
+abbrev pub attributes_of_body : Names → ItemBody → List OneAttribute
+attributes_of_body names body = attributes_at names (heading_index body)
 
 abbrev pub attributes_by : Names → ℕ × Item → List OneAttribute
-attributes_by names node = attributes_of names node.1.body
+attributes_by names node = attributes_of_body names node.1.body
 
 -- the bytes of an attribute: its name, then its value (this project)
 abbrev pub attribute_bytes : OneAttribute → List ℕ

@@ -6,7 +6,7 @@ use Rattle.first_pass_items.specs.declared.item.ItemBody.{ItemBody}
 use Rattle.first_pass_items.specs.declared.item.ItemBody.TheVariants.{Heading, FencedCodeBlock, FootnoteDefinition, SynthesizeText, Table}
 use Rattle.first_pass_grammar.specs.Names.{Names, text_named, alignments_named}
 use Rattle.first_pass_flat.specs.Kinds.{alignment_byte, kind_number, values_of}
-use Rattle.first_pass_flat.specs.FlatAttributes.{attributes_of}
+use Rattle.first_pass_flat.specs.FlatAttributes.{attributes_of_body}
 use Rattle.first_pass_flat.specs.declared.nodes.FlatPlace.{FlatPlace}
 use Rattle.first_pass_flat.specs.declared.records.FlatNode.{FlatNode}
 
@@ -30,7 +30,7 @@ named_at at _ = at.name
 -- the length of the name of a node: for a heading its number of attributes, for any other node its number of bytes
 -- (this project)
 abbrev pub named_length : Names → ItemBody → ℕ
-named_length names (Heading level ix) = length (attributes_of names (Heading level ix))
+named_length names (Heading level ix) = length (attributes_of_body names (Heading level ix))
 named_length names body = length (name_of names body)
 
 -- the number of nodes at the start of a list that are deeper than this depth (this project)
@@ -59,7 +59,7 @@ abbrev pub place_after : Names → ItemBody → FlatPlace → FlatPlace
 place_after names body at = record {
   node = at.node + 1;
   name = at.name + length (name_of names body);
-  attribute = at.attribute + length (attributes_of names body);
+  attribute = at.attribute + length (attributes_of_body names body);
 }
 
 -- the records of consecutive nodes from a place on (this project)

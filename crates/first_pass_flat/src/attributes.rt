@@ -5,7 +5,7 @@ ghost use Rattle.std.specs.List.{flat_map};
 ghost use Rattle.std.specs.Option.{option_map};
 ghost use Rattle.first_pass_attributes.specs.Attributes.{attributes_in, no_attributes, pair_in};
 ghost use Rattle.first_pass_names.specs.TableEntries.{names_of};
-ghost use Rattle.first_pass_flat.specs.FlatAttributes.{attributes_by, attributes_of, class_attribute, heading_index, id_attributes, key_attribute, kind_of, listed};
+ghost use Rattle.first_pass_flat.specs.FlatAttributes.{attributes_by, attributes_of_body, class_attribute, heading_index, id_attributes, key_attribute, kind_of, listed};
 ghost use Rattle.first_pass_flat.specs.Kinds.{flag};
 ghost use Rattle.first_pass_flat.specs.Appended.{AppendsAttributes};
 
@@ -64,7 +64,7 @@ impl NamedAttributes {
 
     // Appends the attributes that a node names: those of a heading that has an attribute block.
     fn append_heading(&mut self, body: ItemBody, allocs: &Allocations<'_>) -> Result<(), AllocError>
-        ensures { OnOk result (AppendsAttributes self.old self.new (attributes_of (names_of allocs.now) body)) }
+        ensures { OnOk result (AppendsAttributes self.old self.new (attributes_of_body (names_of allocs.now) body)) }
     {
         match heading_index(body) {
             None => Ok(()),
@@ -144,7 +144,7 @@ impl NamedAttributes {
                 name_length: spelled.length,
                 value: value_range.start,
                 value_length: value_range.length,
-                has_value: number_given(value),
+                has_value: presence(value),
                 kind: number_of(kind),
             },
         )?;
@@ -153,7 +153,7 @@ impl NamedAttributes {
 }
 
 // 1 if there is a text, otherwise 0.
-fn number_given(text: Option<&str>) -> u32
+fn presence(text: Option<&str>) -> u32
     ensures { result ≡ flag (is_some (option_map (λ text. text.now) text.entry)) }
 {
     match text {
@@ -185,8 +185,8 @@ fn heading_index(body: ItemBody) -> Option<HeadingIndex>
 /// Returns the number of attributes that a heading names; 0 for any other node.
 #[inline(never)]
 pub(crate) fn attribute_count(body: &ItemBody, allocs: &Allocations<'_>) -> usize
-    requires { length (attributes_of (names_of allocs.now) body.now) < 2 ^ 64 }
-    ensures { result ≡ length (attributes_of (names_of allocs.now) body.now) }
+    requires { length (attributes_of_body (names_of allocs.now) body.now) < 2 ^ 64 }
+    ensures { result ≡ length (attributes_of_body (names_of allocs.now) body.now) }
 {
     match heading_index(*body) {
         None => 0,

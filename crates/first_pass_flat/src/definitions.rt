@@ -69,7 +69,7 @@ impl NamedDefinitions {
                 destination_length: destination.length,
                 title: title.start,
                 title_length: title.length,
-                has_title: number_given(&definition.title),
+                has_title: presence(&definition.title),
                 label_end: definition.places.label_end,
                 destination_start: definition.places.dest_start,
                 destination_end: definition.places.dest_end,
@@ -108,7 +108,7 @@ impl NamedDefinitions {
 }
 
 // 1 if there is a title, otherwise 0.
-fn number_given(title: &Option<CowStr<'_>>) -> usize
+fn presence(title: &Option<CowStr<'_>>) -> usize
     ensures { result ≡ flag (is_some (option_map text_of title.now)) }
 {
     match title {

@@ -10,7 +10,7 @@ pub struct TooLong;
 
 /// Returns a number that is at least as large as both numbers, and that fits into 32 bits if both do.
 #[inline(always)]
-pub(crate) fn as_long_as_both(one: usize, other: usize) -> usize
+pub(crate) fn bound_of_both(one: usize, other: usize) -> usize
     ensures one { one ≤ result }
     ensures other { other ≤ result }
     ensures short { one < 2 ^ 32 → other < 2 ^ 32 → result < 2 ^ 32 }

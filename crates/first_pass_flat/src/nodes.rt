@@ -4,13 +4,13 @@ ghost use Rattle.std.specs.Prelude.{◌≡◌, ◌≤◌, ◌<◌, ◌+◌, ℕ,
 ghost use Rattle.std.specs.List.{flat_map};
 ghost use Rattle.first_pass_items.specs.declared.item.Item.{Item};
 ghost use Rattle.first_pass_names.specs.TableEntries.{names_of};
-ghost use Rattle.first_pass_flat.specs.FlatAttributes.{attributes_by, attributes_of};
+ghost use Rattle.first_pass_flat.specs.FlatAttributes.{attributes_by, attributes_of_body};
 ghost use Rattle.first_pass_flat.specs.FlatForm.{node_names};
 ghost use Rattle.first_pass_flat.specs.FlatNodes.{IsShort, deeper_before, first_place, flat_node, flat_nodes, name_of, named_at, named_length, place_after};
 ghost use Rattle.first_pass_flat.specs.Linked.{AreLinked};
 
 use crate::attributes::attribute_count;
-use crate::fault::{TooLong, as_long_as_both};
+use crate::fault::{TooLong, bound_of_both};
 use crate::kinds::{kind_number, values_of};
 use crate::names::name_length;
 use crate::records::FlatNode;
@@ -50,7 +50,7 @@ pub fn fill_nodes(
     };
     while 0 < place.node {
         let node = &nodes[place.node - 1];
-        let next = next_place(nodes, flat, node.0, place.node);
+        let next = next_index(nodes, flat, node.0, place.node);
         let after = place;
         place = place_before(after, &node.1.body, allocs);
         flat[place.node] = flat_node((place, after), node, next, allocs)?;
@@ -60,7 +60,7 @@ pub fn fill_nodes(
 
 // The index of the first node, from `from` on, that is not deeper than `depth`; the number of nodes if there is none.
 // The records from `from` on must already have their next nodes.
-fn next_place(nodes: &[(usize, Item)], flat: &[FlatNode], depth: usize, from: usize) -> usize
+fn next_index(nodes: &[(usize, Item)], flat: &[FlatNode], depth: usize, from: usize) -> usize
     requires within { from ≤ length nodes.now }
     requires same { length flat.now ≡ length nodes.now }
     requires linked { AreLinked nodes.now flat.now from }
@@ -79,7 +79,7 @@ fn next_place(nodes: &[(usize, Item)], flat: &[FlatNode], depth: usize, from: us
 fn place_before(after: FlatPlace, body: &ItemBody, allocs: &Allocations<'_>) -> FlatPlace
     requires node { 0 < after.node }
     requires name { length (name_of (names_of allocs.now) body.now) ≤ after.name }
-    requires attribute { length (attributes_of (names_of allocs.now) body.now) ≤ after.attribute }
+    requires attribute { length (attributes_of_body (names_of allocs.now) body.now) ≤ after.attribute }
     ensures { after ≡ place_after (names_of allocs.now) body.now result }
 {
     match *body {
@@ -121,10 +121,10 @@ fn flat_node(
     let values = values_of(&item.body);
     let named = named_range(places, &item.body, allocs);
     let number = values.number as usize;
-    let range = as_long_as_both(item.start, item.end);
-    let links = as_long_as_both(depth, next);
-    let names = as_long_as_both(as_long_as_both(named.0, named.1), number);
-    if as_long_as_both(as_long_as_both(range, links), names) > 0xffff_ffff {
+    let range = bound_of_both(item.start, item.end);
+    let links = bound_of_both(depth, next);
+    let names = bound_of_both(bound_of_both(named.0, named.1), number);
+    if bound_of_both(bound_of_both(range, links), names) > 0xffff_ffff {
         return Err(TooLong);
     }
     Ok(FlatNode {

@@ -12,12 +12,12 @@ use Rattle.first_pass_grammar.specs.declared.kind.Container.TheVariants.{BlockQu
 use Rattle.first_pass_grammar.specs.Leaves.{Document, document}
 use Rattle.first_pass_grammar.specs.Names.{Names, Extends}
 use Rattle.first_pass_grammar.specs.Blocks.{Skeleton}
-use Rattle.first_pass_grammar.specs.Skeleton.{From, level, Left, Lines, onward, only_blanks, end_before, IsSequence}
+use Rattle.first_pass_grammar.specs.Skeleton.{Continues, level, Remaining, Lines, onward, only_blanks, end_before, IsSequence}
 use Rattle.first_pass_grammar.specs.Before.{Before, Last, LastOther, LastItem, LastDefinition, LastParagraph, after_container, before_end}
 use Rattle.first_pass_grammar.specs.Containers.{is_quote}
 use Rattle.first_pass_grammar.specs.Rows.{Joins, ItemsOf, DefinitionsTo, Definitions, definitions_first, Rows, any_gap, is_loose, list_until, items_after}
 use Rattle.first_pass_grammar.specs.Rows.{list_after, rows_of}
-use Rattle.first_pass_grammar.specs.Derivation.{Tables, Derives, told_by, list_flags, items_of}
+use Rattle.first_pass_grammar.specs.Derivation.{Tables, Derives, with_all_of, list_flags, items_of}
 
 -- the lines of a text from an offset that is the start of a line
 abbrev pub lines_from : List ℕ → ℕ → List Place
@@ -78,28 +78,28 @@ pub data Pending : Type 0 where
 
 -- the state of an unfinished tree: its nodes, a list that may continue, what precedes the next block, and what is
 -- defined
-pub record Standing : Type 0 where
+pub record Unfinished : Type 0 where
   pub nodes : List (ℕ × Item)
   pub list : Pending
   pub before : Before
   pub defined : Tables
 
--- the remaining part of a container: its further blocks, and its end
+-- the further part of a container: its further blocks, and its end
 pub record Further : Type 0 where
   pub blocks : Skeleton
   pub «end» : ℕ
 
--- The remaining parts of the containers of a path, innermost first, and at last that of the text itself; each is a
+-- The further parts of the containers of a path, innermost first, and at last that of the text itself; each is a
 -- sequence of the grammar. `before` is what precedes the first block of the innermost one.
-unfoldable pub AreFurther : Document → List Container → Before → From → List Place → List Further → Type 0
+unfoldable pub AreFurther : Document → List Container → Before → Continues → List Place → List Further → Type 0
 AreFurther d [] before from lines (f ∷ []) = IsSequence d f.blocks (level [] before) from lines (Lines []) × (f.«end» ≡ length d.text)
 AreFurther d (c ∷ path) before from lines (f ∷ more) =
-    (left : Left) × IsSequence d f.blocks (level (c ∷ path) before) from lines left × (f.«end» ≡ end_before (length d.text) path from left)
+    (left : Remaining) × IsSequence d f.blocks (level (c ∷ path) before) from lines left × (f.«end» ≡ end_before (length d.text) path from left)
     × AreFurther d path (after_container c (before_end (is_quote c) before f.blocks)) (onward left).0 (onward left).1 more
 AreFurther d _ before from lines _ = ⊥
 
 -- the rows of the remaining blocks of a container, a block quote or not, in this state
-abbrev pub rows_on : Bool → Standing → Further → Rows
+abbrev pub rows_on : Bool → Unfinished → Further → Rows
 rows_on quoted w f = rows_of quoted w.before f.«end» f.blocks
 
 -- the definitions that the last child takes in as its own: those at the start of the rows, after a paragraph
@@ -201,19 +201,19 @@ definitions_open place loose (OneList at joins l) = NoList OtherClosed
 definitions_open place loose (OneTitle at title e l) = NoList OtherClosed
 
 -- the state after a container, whose node is at a place, is closed, given the rows of its remaining blocks
-abbrev pub container_closed : Container → ℕ → ℕ → Standing → Further → Rows → Standing
+abbrev pub container_closed : Container → ℕ → ℕ → Unfinished → Further → Rows → Unfinished
 container_closed c depth place w f rows = record {
   nodes = ended (rendered depth f.«end» w.nodes w.list rows) place f.«end»;
   list = NoList (closed_as c f.«end»);
   before = after_container c (before_end (is_quote c) w.before f.blocks);
-  defined = told_by w.defined f.blocks;
+  defined = with_all_of w.defined f.blocks;
 }
 
 -- The state becomes this forest and these tables after all open nodes are closed. The frames and places list the open
 -- nodes, innermost first. Each container ends after its remaining blocks, from the innermost on; a list ends with what
 -- continues it.
-unfoldable pub Becomes : List Frame → List ℕ → Standing → List Further → List (ℕ × Item) → Tables → Type 0
-Becomes [] [] w (f ∷ []) forest tables = (forest ≡ rendered 1 f.«end» w.nodes w.list (rows_on false w f)) × (tables ≡ told_by w.defined f.blocks)
+unfoldable pub Becomes : List Frame → List ℕ → Unfinished → List Further → List (ℕ × Item) → Tables → Type 0
+Becomes [] [] w (f ∷ []) forest tables = (forest ≡ rendered 1 f.«end» w.nodes w.list (rows_on false w f)) × (tables ≡ with_all_of w.defined f.blocks)
 Becomes (InList byte loose ∷ frames) (place ∷ places) w further forest tables =
     Becomes frames places (record { nodes = w.nodes; list = OneList place (ItemsOf byte) loose; before = w.before; defined = w.defined }) further forest tables
 Becomes (InDefinitions loose ∷ frames) (place ∷ places) w further forest tables =
@@ -275,7 +275,7 @@ IsShaped (InDefinitions loose ∷ frames) = IsPlain frames × IsShaped frames
 
 -- The open nodes are at these places, as the frames list them, and every completion of the state from here on is
 -- derived by the text.
-pub record Completes (d : Document) (frames : List Frame) (places : List ℕ) (w : Standing) (from : From) (lines : List Place) : Type 0 where
+pub record Completes (d : Document) (frames : List Frame) (places : List ℕ) (w : Unfinished) (from : Continues) (lines : List Place) : Type 0 where
   pub below : AreBelow (length w.nodes) places
   pub shape : IsShaped frames
   pub whole : (further : List Further) (forest : List (ℕ × Item)) (tables : Tables)
@@ -283,13 +283,13 @@ pub record Completes (d : Document) (frames : List Frame) (places : List ℕ) (w
 
 -- Blocks can continue in these containers: only in a container, an item, may the next line have to be blank
 -- (CommonMark 5.2, and this project).
-abbrev pub CanGoOn : List Container → From → Type 0
+abbrev pub CanGoOn : List Container → Continues → Type 0
 CanGoOn [] from = only_blanks from ≡ None
 CanGoOn (c ∷ path) from = Unit {0}
 
--- A completion of the open nodes from here on: names that extend the present ones, the remaining parts of the
+-- A completion of the open nodes from here on: names that extend the present ones, the further parts of the
 -- containers, and the resulting forest and tables.
-pub record Completion (d : Document) (frames : List Frame) (places : List ℕ) (w : Standing) (from : From) (lines : List Place) : Type 0 where
+pub record Completion (d : Document) (frames : List Frame) (places : List ℕ) (w : Unfinished) (from : Continues) (lines : List Place) : Type 0 where
   pub names : Names
   pub extends : Extends names d.names
   pub further : List Further

@@ -32,10 +32,10 @@ unfoldable pub own : Option ℕ → List (ℕ × Item) → ℕ
 own cell [] = 0
 own cell (n ∷ nodes) = (if is_filled_after cell n.1 then 0 else 1) + own (last_cell cell n.1) nodes
 
--- the number of nodes that a tree or a block has of its own: of the cells that a row is filled with, only the first
+-- the number of counted nodes of a tree or a block: of the cells that a row is filled with, only the first
 -- counts (this project)
-abbrev pub own_nodes : List (ℕ × Item) → ℕ
-own_nodes nodes = own None nodes
+abbrev pub counted_nodes : List (ℕ × Item) → ℕ
+counted_nodes nodes = own None nodes
 
 -- the end of the row that the next nodes belong to, if this node or an earlier one begins a row (GFM 4.10)
 abbrev pub row_end : Option ℕ → Item → Option ℕ

@@ -149,20 +149,20 @@ pub record LinkReference : Type 0 where
   pub label_end : ℕ
   pub target : Target
 
-abbrev pub reference_of : ℕ × List ℕ → ℕ × Target → LinkReference
-reference_of label target = record { size = label.0 + 2 + target.0; label = label.1; label_end = label.0; target = target.1 }
+abbrev pub reference_definition_of : ℕ × List ℕ → ℕ × Target → LinkReference
+reference_definition_of label target = record { size = label.0 + 2 + target.0; label = label.1; label_end = label.0; target = target.1 }
 
 -- the definition with this label after its `[`: a colon is directly after the label (CommonMark 4.7)
-abbrev pub reference_after : Context → List ℕ → ℕ × List ℕ → Option LinkReference
-reference_after around bs label =
+abbrev pub reference_definition_after : Context → List ℕ → ℕ × List ℕ → Option LinkReference
+reference_definition_after around bs label =
     if begins colon (drop label.0 bs)
-    then option_map (reference_of label) (target_at around (drop (label.0 + 1) bs))
+    then option_map (reference_definition_of label) (target_at around (drop (label.0 + 1) bs))
     else None
 
 -- The definition that begins here: a label in square brackets, a colon, and a target (CommonMark 4.7). In a table,
 -- backslashes before pipes are no part of the label (GFM 4.10).
-unfoldable pub reference_at : Bool → Context → List ℕ → Option LinkReference
-reference_at in_table around bs =
+unfoldable pub reference_definition_at : Bool → Context → List ℕ → Option LinkReference
+reference_definition_at in_table around bs =
     if begins left_bracket bs
-    then option_and_then (reference_after around (drop 1 bs)) (label_at (prefix_crossed true around) in_table (drop 1 bs))
+    then option_and_then (reference_definition_after around (drop 1 bs)) (label_at (prefix_crossed true around) in_table (drop 1 bs))
     else None

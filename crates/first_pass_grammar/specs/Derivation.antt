@@ -77,12 +77,12 @@ abbrev pub no_tables : Tables
 no_tables = record { links = []; footnotes = [] }
 
 -- the tables with these link reference definitions added, in the order of the text
-abbrev pub told : Tables → List LinkEntry → Tables
-told tables definitions = record { links = with_links tables.links definitions; footnotes = tables.footnotes }
+abbrev pub with_definitions : Tables → List LinkEntry → Tables
+with_definitions tables definitions = record { links = with_links tables.links definitions; footnotes = tables.footnotes }
 
 -- the tables with the label of a footnote definition added (this project)
-abbrev pub told_label : Tables → List ℕ → Tables
-told_label tables label = record { links = tables.links; footnotes = with_label label tables.footnotes }
+abbrev pub with_footnote_label : Tables → List ℕ → Tables
+with_footnote_label tables label = record { links = tables.links; footnotes = with_label label tables.footnotes }
 
 -- the link reference definitions in a sequence of blocks, in the order of the text (CommonMark 4.7)
 unfoldable pub definitions_of : Skeleton → List LinkEntry
@@ -99,8 +99,8 @@ footnotes_of (Then leaf next) = footnotes_of next
 footnotes_of (Node head e kids next) = label_of head.opener ++ (footnotes_of kids ++ footnotes_of next)
 
 -- the tables with all that a sequence of blocks defines added
-abbrev pub told_by : Tables → Skeleton → Tables
-told_by tables s = record { links = with_links tables.links (definitions_of s); footnotes = with_labels tables.footnotes (footnotes_of s) }
+abbrev pub with_all_of : Tables → Skeleton → Tables
+with_all_of tables s = record { links = with_links tables.links (definitions_of s); footnotes = with_labels tables.footnotes (footnotes_of s) }
 
 -- the root node of a text of n bytes
 abbrev pub root_of : ℕ → ℕ × Item
@@ -111,7 +111,7 @@ pub record Derives (d : Document) (forest : List (ℕ × Item)) (tables : Tables
   pub skeleton : Skeleton
   pub sequence : IsSequence d skeleton (level [] nothing) Line (lines_at 0 d.text) (Lines [])
   pub forest_is : forest ≡ root_of (length d.text) ∷ items_of 1 false (rows_of false nothing (length d.text) skeleton)
-  pub tables_are : tables ≡ told_by no_tables skeleton
+  pub tables_are : tables ≡ with_all_of no_tables skeleton
 
 -- The grammar derives nothing else from the text: every derived forest, read through its indices, equals this one, and
 -- its tables are these.

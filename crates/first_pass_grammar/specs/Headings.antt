@@ -10,21 +10,21 @@ use Rattle.first_pass_attributes.specs.AttributeBlocks.{Braces, attribute_block}
 use Rattle.first_pass_attributes.specs.Attributes.{Attributes, attributes_of}
 
 -- the attribute block of a heading with this text, if the option for heading attributes is on (this project)
-unfoldable pub heading_braces : Options → List ℕ → Option Braces
-heading_braces options bs = if has options heading_attributes then attribute_block bs else None
+unfoldable pub heading_attribute_block : Options → List ℕ → Option Braces
+heading_attribute_block options bs = if has options heading_attributes then attribute_block bs else None
 
 -- the attributes that the block gives the heading (this project)
 abbrev pub heading_attributes_of : Options → List ℕ → Option Attributes
-heading_attributes_of options bs = option_map (λ block. attributes_of (slice_range bs (block.opening + 1) block.closing)) (heading_braces options bs)
+heading_attributes_of options bs = option_map (λ block. attributes_of (slice_range bs (block.opening + 1) block.closing)) (heading_attribute_block options bs)
 
 -- the bytes before the attribute block, or all of them if there is none (this project)
 abbrev pub before_attributes : Options → List ℕ → List ℕ
-before_attributes options bs = option_map_or (λ block. take block.opening bs) (heading_braces options bs) bs
+before_attributes options bs = option_map_or (λ block. take block.opening bs) (heading_attribute_block options bs) bs
 
 -- the text up to the attribute block of a heading that begins at an offset and has these bytes; all of it if there is
 -- no block (this project)
 abbrev pub text_before_attributes : Options → List ℕ → ℕ → List ℕ → List ℕ
-text_before_attributes options text start bs = option_map_or (λ block. take (start + block.opening) text) (heading_braces options bs) text
+text_before_attributes options text start bs = option_map_or (λ block. take (start + block.opening) text) (heading_attribute_block options bs) text
 
 -- the end of a chain that begins at an offset
 abbrev pub chain_end : ℕ → List Item → ℕ

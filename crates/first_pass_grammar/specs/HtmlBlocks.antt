@@ -22,12 +22,12 @@ abbrev pub is_empty : List ℕ → Bool
 is_empty [] = true
 is_empty (b ∷ bs) = false
 
--- the bytes meet the end condition of an HTML block of kinds 1 to 5 (CommonMark 4.6, end conditions 1 to 5)
+-- the bytes meet the end condition of an HTML block of types 1 to 5 (CommonMark 4.6, end conditions 1 to 5)
 unfoldable pub holds_end : BlockEnd → List ℕ → Bool
 holds_end AtRawEndTag bs = holds_raw_end_tag bs
 holds_end (AtText text) bs = holds text bs
 
--- What a line from a place on means for an HTML block of kinds 1 to 5: a line that meets the end condition is the last
+-- What a line from a place on means for an HTML block of types 1 to 5: a line that meets the end condition is the last
 -- (CommonMark 4.6, end conditions 1 to 5).
 abbrev pub tag_verdict : BlockEnd → Place → Verdict
 tag_verdict until q = if holds_end until (line_of q) then IsLast q else GoesOn q
@@ -37,18 +37,18 @@ tag_verdict until q = if holds_end until (line_of q) then IsLast q else GoesOn q
 abbrev pub tag_judge : BlockEnd → Place → Place → Verdict
 tag_judge until line q = if is_empty q.rest.left then Closes (offset q) else tag_verdict until q
 
--- The lines of an HTML block of kinds 1 to 5: the one at a place, and those among the lines after it, in a text of n
+-- The lines of an HTML block of types 1 to 5: the one at a place, and those among the lines after it, in a text of n
 -- bytes.
 abbrev pub until_end : ℕ → List Container → BlockEnd → Place → List Place → Extent
 until_end n path until p lines = extent_by (tag_verdict until p) p lines (extent (in_containers path (tag_judge until)) n lines)
 
--- What a line after the first means for an HTML block of kinds 6 and 7: a blank line stops it (CommonMark 4.6, end
+-- What a line after the first means for an HTML block of types 6 and 7: a blank line stops it (CommonMark 4.6, end
 -- conditions 6 and 7). The block stops after the container prefixes, or at the start of the line if the line ends
 -- there (this project).
 abbrev pub blank_judge : Place → Place → Verdict
 blank_judge line q = if at_line_end q.rest.left then Stops line.line else (if is_blank_rest q.rest then Stops (offset q) else GoesOn q)
 
--- the lines of an HTML block of kinds 6 and 7: the one at a place, and those among the lines after it, in a text of n
+-- the lines of an HTML block of types 6 and 7: the one at a place, and those among the lines after it, in a text of n
 -- bytes
 abbrev pub until_blank : ℕ → List Container → Place → List Place → Extent
 until_blank n path p lines = with_line p (extent (in_containers path blank_judge) n lines)

@@ -25,9 +25,9 @@ pub data Kind : Type 0 where
   IndentedCode : Kind
   -- a metadata block, with the byte of its marks: `-` or `+` (this project)
   Metadata : ℕ → Kind
-  -- an HTML block of kinds 1 to 5: it ends with the line that meets its end condition (CommonMark 4.6)
+  -- an HTML block of types 1 to 5: it ends with the line that meets its end condition (CommonMark 4.6)
   HtmlToEnd : Kind
-  -- an HTML block of kinds 6 and 7: it ends before a blank line (CommonMark 4.6)
+  -- an HTML block of types 6 and 7: it ends before a blank line (CommonMark 4.6)
   HtmlToBlank : Kind
   -- a thematic break, with its length in bytes including the line ending (CommonMark 4.1)
   ThematicBreak : ℕ → Kind
@@ -68,7 +68,7 @@ abbrev pub metadata_or : Option ℕ → Option Kind → Option Kind
 metadata_or (Some byte) other = Some (Metadata byte)
 metadata_or None other = other
 
--- an HTML block of kinds 1 to 5 begins here; the next definition is for kind 6 (CommonMark 4.6)
+-- an HTML block of types 1 to 5 begins here; the next definition is for type 6 (CommonMark 4.6)
 abbrev pub begins_html_to_end : List ℕ → Bool
 begins_html_to_end bs = begins less_than bs && is_some (html_end (drop 1 bs))
 
@@ -84,7 +84,7 @@ metadata_at columns options bs =
     if columns == 0 then metadata_byte (has options yaml_style_metadata_blocks) (has options pluses_delimited_metadata_blocks) bs else None
 
 -- The first of these that fits: a blank line (CommonMark 4.9); indented code, at four columns or more (4.4); a
--- metadata block, at column 0 (this project); an HTML block of kinds 1 to 6 (4.6).
+-- metadata block, at column 0 (this project); an HTML block of types 1 to 6 (4.6).
 unfoldable pub first_kind : Options → Rest → Option Kind
 first_kind options r =
     if is_blank_rest r then Some Blank
@@ -94,16 +94,16 @@ first_kind options r =
 
 -- The first of these that fits: a thematic break (CommonMark 4.1), an ATX heading (4.2), a fenced code block (4.5), a
 -- text (4.8).
-abbrev pub last_kind : List ℕ → Kind
-last_kind bs = rule_or (hrule_len bs) (heading_or (atx_level bs) (fence_or (code_fence bs) Paragraph))
+abbrev pub later_kind : List ℕ → Kind
+later_kind bs = rule_or (hrule_len bs) (heading_or (atx_level bs) (fence_or (code_fence bs) Paragraph))
 
--- The kind is the first one that fits. If none does, it is an HTML block of kind 7 if a tag line begins here,
+-- The kind is the first one that fits. If none does, it is an HTML block of type 7 if a tag line begins here,
 -- otherwise the last kind (CommonMark 4.6).
 abbrev pub IsKindBy : Rest → Option Kind → Kind → Type 0
 IsKindBy r (Some first) kind = kind ≡ first
 IsKindBy r None kind =
     ((n : ℕ) × BeginsTagLine (all_taken r).left n × (kind ≡ HtmlToBlank))
-    ⊎ (((n : ℕ) → BeginsTagLine (all_taken r).left n → ⊥) × (kind ≡ last_kind (all_taken r).left))
+    ⊎ (((n : ℕ) → BeginsTagLine (all_taken r).left n → ⊥) × (kind ≡ later_kind (all_taken r).left))
 
 -- the kind of block that begins at this rest of a line, given that no container begins there
 abbrev pub IsKind : Options → Rest → Kind → Type 0
@@ -129,7 +129,7 @@ item_interrupts whole bs None = false
 item_interrupts whole bs (Some m) = not whole || ((is_bullet m.1 || (m.2 == 1)) && not (is_some (blank_len (drop m.0 bs))))
 
 -- What interrupts a paragraph at fewer than four columns; `whole`: the line continues all containers. It is the end of
--- the line, a thematic break, an ATX heading, a code fence, a block quote, a list item or an HTML block of kinds 1 to
+-- the line, a thematic break, an ATX heading, a code fence, a block quote, a list item or an HTML block of types 1 to
 -- 6 (CommonMark 4.8, 4.1, 4.2, 4.5, 5.1, 5.2, 4.6).
 abbrev pub interrupts_with : Bool → List ℕ → Bool
 interrupts_with whole bs =
@@ -194,5 +194,5 @@ ends_text around r = is_some (underline_of around.path r) || (ends_paragraph aro
 
 -- The line after the tag of a block quote is read like any other line if it has fewer than four columns and would end
 -- a paragraph. Otherwise it belongs to the quote, whichever containers of the path it continues (this project).
-abbrev pub ends_tag : Context → Rest → Bool
-ends_tag around r = nat_lt (indent (front around.path r)) 4 && ends_paragraph around r
+abbrev pub is_ordinary_after_tag : Context → Rest → Bool
+is_ordinary_after_tag around r = nat_lt (indent (front around.path r)) 4 && ends_paragraph around r

@@ -74,8 +74,8 @@ AreTextLines d path p chain (line ∷ lines) t =
     × AreTextLines d path (spot (offset (unindented (at_rest line (front path line.rest)))) after) (add_break answer.1 (add_tokens chain tokens)) lines t))
 
 -- a space, or a byte of a line ending
-abbrev pub is_put_aside : ℕ → Bool
-is_put_aside b = (b == space) || ((b == line_feed) || (b == carriage_return))
+abbrev pub is_space_or_line_end : ℕ → Bool
+is_space_or_line_end b = (b == space) || ((b == line_feed) || (b == carriage_return))
 
 -- a text without the bytes at its end that pass a test (this project)
 abbrev pub without_end : (ℕ → Bool) → List ℕ → List ℕ
@@ -101,7 +101,7 @@ without_closing text = if ends_closing text then without_end (λ b. b == space) 
 -- the closing sequence before those (CommonMark 4.2, which drops tabs there too; that a tab after number signs keeps
 -- them: this project).
 unfoldable pub kept_len : List ℕ → ℕ
-kept_len text = length (without_closing (without_end is_put_aside text))
+kept_len text = length (without_closing (without_end is_space_or_line_end text))
 
 -- the chain of a heading, cut after the kept bytes of its text; empty if no bytes are kept
 unfoldable pub heading_chain : ℕ → ℕ → List Item → List Item

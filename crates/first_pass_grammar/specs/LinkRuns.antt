@@ -5,8 +5,8 @@ use Rattle.first_pass_lines.specs.Places.{Place, offset}
 use Rattle.first_pass_links.specs.Escapes.{unescaped}
 use Rattle.first_pass_labels.specs.declared.label_table.LinkPlaces.{LinkPlaces}
 use Rattle.first_pass_grammar.specs.Containers.{Context, at_rest, front}
-use Rattle.first_pass_grammar.specs.Kinds.{Kind, LinkDefinitions, Paragraph, all_taken, unindented, is_blank_rest, ends_tag}
-use Rattle.first_pass_grammar.specs.Definitions.{Target, LinkReference, reference_at}
+use Rattle.first_pass_grammar.specs.Kinds.{Kind, LinkDefinitions, Paragraph, all_taken, unindented, is_blank_rest, is_ordinary_after_tag}
+use Rattle.first_pass_grammar.specs.Definitions.{Target, LinkReference, reference_definition_at}
 use Rattle.first_pass_grammar.specs.LinkTables.{LinkEntry}
 
 -- the places of the parts of a definition, from the end of its label and the start of its target (CommonMark 4.7)
@@ -36,7 +36,7 @@ entry_of at x = record {
 
 -- the definition that begins at a place
 abbrev pub link_definition_at : Context → Place → Option LinkEntry
-link_definition_at around p = option_map (entry_of (offset p)) (reference_at false around p.rest.left)
+link_definition_at around p = option_map (entry_of (offset p)) (reference_definition_at false around p.rest.left)
 
 -- Link reference definitions begin where a text would, if there is one there (CommonMark 4.7).
 abbrev pub kind_in : Context → Place → Kind → Kind
@@ -52,7 +52,7 @@ lines_beyond e (line ∷ lines) = if nat_lt line.line e then lines_beyond e line
 -- paragraph, whichever containers it continues (CommonMark 4.7, 5.1).
 abbrev pub ends_run : Context → List Place → Bool
 ends_run around [] = true
-ends_run around (line ∷ lines) = ends_tag around line.rest || is_blank_rest (all_taken (front around.path line.rest))
+ends_run around (line ∷ lines) = is_ordinary_after_tag around line.rest || is_blank_rest (all_taken (front around.path line.rest))
 
 -- what follows a run: no text, with the place of its last definition and the lines after it; or a text, with its place
 -- and the lines after that

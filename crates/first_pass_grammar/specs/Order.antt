@@ -6,7 +6,7 @@ use Rattle.first_pass_items.specs.declared.item.ItemBody.{ItemBody}
 use Rattle.first_pass_items.specs.declared.item.ItemBody.TheVariants.{Paragraph, TightParagraph, Heading, TaskListMarker, ListItem, DefinitionList}
 use Rattle.first_pass_items.specs.declared.item.ItemBody.TheVariants.{DefinitionListTitle}
 use Rattle.first_pass_items.specs.declared.item.ItemBody.TheVariants.{MaybeDefinitionListTitle}
-use Rattle.first_pass_grammar.specs.Counting.{own_nodes}
+use Rattle.first_pass_grammar.specs.Counting.{counted_nodes}
 
 -- the range of a node, and whether it is a text block (a paragraph, heading or title), a task list item marker, a list
 -- item, or a definition list
@@ -113,14 +113,14 @@ Fits text within from to (Node x kids next) =
     ⊎ (IsLead text within from x × Fits text Elsewhere x.start x.«end» kids × Fits text Elsewhere from to next)
 
 -- The items of a block, with depths relative to it, lie between two offsets in order. If the offsets differ, the block
--- has at most four items of its own for each byte between them.
+-- has at most four counted items for each byte between them.
 abbrev pub FitsBetween : List ℕ → Within → ℕ → ℕ → List (ℕ × Item) → Type 0
 FitsBetween text within from to items =
-    (row : Siblings) × (extents items ≡ laid 0 row) × Fits text within from to row × (from < to → own_nodes items ≤ 4 * (to - from))
+    (row : Siblings) × (extents items ≡ laid 0 row) × Fits text within from to row × (from < to → counted_nodes items ≤ 4 * (to - from))
 
--- The new nodes have at most four more of their own than the old ones for each byte between two offsets.
+-- The new nodes have at most four more counted ones than the old for each byte between two offsets.
 abbrev pub GrowsBy : ℕ → ℕ → List (ℕ × Item) → List (ℕ × Item) → Type 0
-GrowsBy from to old new = own_nodes new ≤ own_nodes old + 4 * (to - from)
+GrowsBy from to old new = counted_nodes new ≤ counted_nodes old + 4 * (to - from)
 
 -- The nodes of a finished tree, including the root, lie in order between 0 and the length of the text.
 abbrev pub IsOrdered : List ℕ → List (ℕ × Item) → Type 0

@@ -11,7 +11,7 @@ use Rattle.first_pass_grammar.specs.Before.{before_end}
 use Rattle.first_pass_grammar.specs.Containers.{is_quote}
 
 -- A definition list so far: without a title; with one; or with one that link reference definitions separate from the
--- first definition. The last one begins a new list, whatever precedes its title (this project).
+-- first definition. The last one begins a new list, no matter what precedes its title (this project).
 pub data Titled : Type 0 where
   Untitled : Titled
   WithTitle : Titled

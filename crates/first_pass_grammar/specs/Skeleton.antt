@@ -20,7 +20,7 @@ use Rattle.first_pass_grammar.specs.Containers.{footnote_columns}
 use Rattle.first_pass_grammar.specs.Footnotes.{footnote_head_at, label_bytes, NamesLabel, place_past, past_head, ends_footnote}
 use Rattle.first_pass_grammar.specs.Kinds.{Kind, Blank, IndentedCode, Metadata, HtmlToEnd, HtmlToBlank, ThematicBreak, AtxHeading, FencedCode}
 use Rattle.first_pass_grammar.specs.Kinds.{LinkDefinitions}
-use Rattle.first_pass_grammar.specs.Kinds.{Paragraph, all_taken, unindented, is_blank_rest, IsKind, ends_tag}
+use Rattle.first_pass_grammar.specs.Kinds.{Paragraph, all_taken, unindented, is_blank_rest, IsKind, is_ordinary_after_tag}
 use Rattle.first_pass_html.specs.Ends.{BlockEnd}
 use Rattle.first_pass_html.specs.Starts.{html_end}
 use Rattle.first_pass_grammar.specs.CodeBlocks.{code_lines, last_is_blank, IsIndentedCode, metadata_lines, IsMetadata, fenced_lines, IsFencedCode}
@@ -49,16 +49,16 @@ pub data Allowed : Type 0 where
 -- At the next line if it is blank, in an item that takes only blank lines: the offset after the line of the item's
 -- marker.
 -- At a place inside a line: the place, and what may begin there.
-pub data From : Type 0 where
-  Line : From
-  Blanks : ℕ → From
-  At : Place → Allowed → From
+pub data Continues : Type 0 where
+  Line : Continues
+  Blanks : ℕ → Continues
+  AtPlace : Place → Allowed → Continues
 
-abbrev pub Inside : Place → From
-Inside p = At p Anything
+abbrev pub Inside : Place → Continues
+Inside p = AtPlace p Anything
 
 -- at the line after an item's marker; with an offset, in an item that takes only blank lines
-abbrev pub after_marker : Option ℕ → From
+abbrev pub after_marker : Option ℕ → Continues
 after_marker None = Line
 after_marker (Some e) = Blanks e
 
@@ -66,8 +66,8 @@ after_marker (Some e) = Blanks e
 -- A leaf: where the blocks after it continue, and the lines after that.
 -- A container: its head, where the blocks in it continue, and the lines after that.
 pub data Opening : Type 0 where
-  OpensLeaf : Leaf → From → List Place → Opening
-  OpensNode : Head → From → List Place → Opening
+  OpensLeaf : Leaf → Continues → List Place → Opening
+  OpensNode : Head → Continues → List Place → Opening
 
 -- The text that begins at a place, with or without a task list item marker before it: a paragraph, a setext heading or
 -- a table (CommonMark 4.8, 4.3, GFM 4.10, 5.3).
@@ -136,9 +136,9 @@ next_is_blank path (line ∷ lines) = is_blank_after (after path line.rest)
 
 -- where blocks continue if a container's marker is the last of its line, except perhaps for a task list item marker:
 -- at the next line; with an offset, in an item that takes only blank lines
-abbrev pub only_task : Option Item → Place → Option ℕ → From
+abbrev pub only_task : Option Item → Place → Option ℕ → Continues
 only_task None p blanks = after_marker blanks
-only_task (Some marker) p blanks = At p (OnlyMark marker blanks)
+only_task (Some marker) p blanks = AtPlace p (OnlyMark marker blanks)
 
 -- the opener of a container that takes only blank lines: the indent of an item or a definition is 0
 abbrev pub without_indent : Opener → Opener
@@ -158,17 +158,18 @@ empty_opening d path head inside lines marker =
 -- Where blocks continue in a block quote after the line of its tag, and the lines after that; `c.path` begins with the
 -- quote. The next line is read like any other, or it belongs to the quote and a leaf begins after its indentation
 -- (this project).
-abbrev pub after_tag : Context → List Place → From × List Place
+abbrev pub after_tag : Context → List Place → Continues × List Place
 after_tag c [] = (Line, [])
-after_tag c (line ∷ lines) = if ends_tag c line.rest then (Line, line ∷ lines) else (At (unindented (at_rest line (front c.path line.rest))) OnlyALeaf, lines)
+after_tag c (line ∷ lines) = if is_ordinary_after_tag c line.rest then (Line, line ∷ lines)
+    else (AtPlace (unindented (at_rest line (front c.path line.rest))) OnlyALeaf, lines)
 
 -- the container with this head, by what follows its marker; `inside` is the place after the marker
 abbrev pub opening_by : Document → List Container → Head → Place → List Place → AfterMarker → Opening
 opening_by d path head inside lines OnLine = OpensNode head (Inside inside) lines
-opening_by d path head inside lines (TaskText marker) = OpensNode head (At inside (TextOf marker)) lines
+opening_by d path head inside lines (TaskText marker) = OpensNode head (AtPlace inside (TextOf marker)) lines
 opening_by d path head inside lines (LineEnds marker) = empty_opening d path head inside lines marker
 opening_by d path head inside lines OnlyTag =
-    let from : From × List Place = after_tag (around d (opened head.opener ∷ path)) lines in OpensNode head from.0 from.1
+    let from : Continues × List Place = after_tag (around d (opened head.opener ∷ path)) lines in OpensNode head from.0 from.1
 
 -- the container that begins at a place
 abbrev pub opening_of : Document → List Container → Place → List Place → Start → Opening
@@ -232,22 +233,22 @@ OpensIf d l OnlyALeaf p lines opening = OpensBlockAt d l.path p lines opening
 OpensIf d l (TextOf marker) p lines opening = OpensText d l.path p lines (Some marker) opening
 OpensIf d l (OnlyMark marker blanks) p lines opening = opening ≡ OpensLeaf (leaf_block Paragraph p ((0, marker) ∷ []) false) Line lines
 
-abbrev pub OpensAt : Document → Level → From → Place → List Place → Opening → Type 0
+abbrev pub OpensAt : Document → Level → Continues → Place → List Place → Opening → Type 0
 OpensAt d l Line p lines opening = Opens d l p lines opening
 OpensAt d l (Blanks e) p lines opening = Opens d l p lines opening
-OpensAt d l (At q may) p lines opening = OpensIf d l may p lines opening
+OpensAt d l (AtPlace q may) p lines opening = OpensIf d l may p lines opening
 
 -- What a sequence of blocks leaves: the lines after it; or, if another footnote definition ends it, the place of that
 -- one in its line, and the lines after that (this project).
-pub data Left : Type 0 where
-  Lines : List Place → Left
-  InLine : Place → List Place → Left
+pub data Remaining : Type 0 where
+  Lines : List Place → Remaining
+  InLine : Place → List Place → Remaining
 
 -- The next block of a sequence begins at a place, with the lines after it; or the sequence ends, with what it leaves
 -- (this project).
 pub data NextBlock : Type 0 where
   Begins : Place → List Place → NextBlock
-  Ends : Left → NextBlock
+  Ends : Remaining → NextBlock
 
 -- A footnote definition in the old form ends at the first line after a counting blank line if no list is open in it,
 -- so that it is innermost (this project).
@@ -274,38 +275,38 @@ next_block_blank (Some q) lines = if is_blank_rest q.rest then Begins q (drop 1 
 -- of the path. It ends with the text, or before a line that does not continue its path. In an item that takes only
 -- blank lines it also ends before a line that is not blank; in a footnote definition it also ends where that
 -- definition does (CommonMark 5, and this project).
-unfoldable pub next_block : Options → Level → From → List Place → NextBlock
-next_block options l (At p Anything) lines = next_block_at (context options l.path) p lines
-next_block options l (At p OnlyALeaf) lines = Begins p lines
-next_block options l (At p (TextOf marker)) lines = Begins p lines
-next_block options l (At p (OnlyMark marker blanks)) lines = Begins p lines
+unfoldable pub next_block : Options → Level → Continues → List Place → NextBlock
+next_block options l (AtPlace p Anything) lines = next_block_at (context options l.path) p lines
+next_block options l (AtPlace p OnlyALeaf) lines = Begins p lines
+next_block options l (AtPlace p (TextOf marker)) lines = Begins p lines
+next_block options l (AtPlace p (OnlyMark marker blanks)) lines = Begins p lines
 next_block options l Line [] = Ends (Lines [])
 next_block options l Line (line ∷ lines) = next_block_in options l (taken l.path line) (line ∷ lines)
 next_block options l (Blanks e) [] = Ends (Lines [])
 next_block options l (Blanks e) (line ∷ lines) = next_block_blank (taken l.path line) (line ∷ lines)
 
 -- where blocks continue around a container that leaves this, and the lines after that (this project)
-abbrev pub onward : Left → From × List Place
+abbrev pub onward : Remaining → Continues × List Place
 onward (Lines lines) = (Line, lines)
 onward (InLine p lines) = (Inside p, lines)
 
 -- where blocks continue after the first block of a sequence
-abbrev pub after_first : From → From → From
+abbrev pub after_first : Continues → Continues → Continues
 after_first (Blanks e) there = Blanks e
 after_first Line there = there
-after_first (At p Anything) there = there
-after_first (At p OnlyALeaf) there = there
-after_first (At p (TextOf marker)) there = there
-after_first (At p (OnlyMark marker blanks)) there = after_marker blanks
+after_first (AtPlace p Anything) there = there
+after_first (AtPlace p OnlyALeaf) there = there
+after_first (AtPlace p (TextOf marker)) there = there
+after_first (AtPlace p (OnlyMark marker blanks)) there = after_marker blanks
 
 -- the offset after the line of an item's marker, if the item takes only blank lines
-abbrev pub only_blanks : From → Option ℕ
+abbrev pub only_blanks : Continues → Option ℕ
 only_blanks Line = None
 only_blanks (Blanks e) = Some e
-only_blanks (At p Anything) = None
-only_blanks (At p OnlyALeaf) = None
-only_blanks (At p (TextOf marker)) = None
-only_blanks (At p (OnlyMark marker blanks)) = blanks
+only_blanks (AtPlace p Anything) = None
+only_blanks (AtPlace p OnlyALeaf) = None
+only_blanks (AtPlace p (TextOf marker)) = None
+only_blanks (AtPlace p (OnlyMark marker blanks)) = blanks
 
 -- The end of a container before these lines, given the path around it: the start of the next line. An item that takes
 -- only blank lines ends after the line of its marker if the next line continues that path (this project).
@@ -315,27 +316,27 @@ end_after n path (Some e) lines = if next_goes_on path lines then e else start_o
 
 -- the same, given what the container leaves: a footnote definition that another one ends stops at the `[` of that one
 -- (this project)
-abbrev pub end_of_left : ℕ → List Container → Option ℕ → Left → ℕ
+abbrev pub end_of_left : ℕ → List Container → Option ℕ → Remaining → ℕ
 end_of_left n path blanks (Lines lines) = end_after n path blanks lines
 end_of_left n path blanks (InLine p lines) = offset (unindented p)
 
-abbrev pub end_before : ℕ → List Container → From → Left → ℕ
+abbrev pub end_before : ℕ → List Container → Continues → Remaining → ℕ
 end_before n path from left = end_of_left n path (only_blanks from) left
 
 -- the first block of a sequence: its place, the lines after that, and what it opens
-pub record IsFirst (d : Document) (l : Level) (from : From) (lines : List Place) (opening : Opening) : Type 0 where
+pub record IsFirst (d : Document) (l : Level) (from : Continues) (lines : List Place) (opening : Opening) : Type 0 where
   pub place : Place
   pub following : List Place
   pub begins : next_block d.options l from lines ≡ Begins place following
   pub opens : OpensAt d l from place following opening
 
 -- These blocks are a sequence at this level, from here up to what they leave.
-unfoldable pub IsSequence : Document → Skeleton → Level → From → List Place → Left → Type 0
+unfoldable pub IsSequence : Document → Skeleton → Level → Continues → List Place → Remaining → Type 0
 IsSequence d Nil l from lines left = next_block d.options l from lines ≡ Ends left
 IsSequence d (Then leaf next) l from lines left =
-    (there : From) × (mid : List Place) × IsFirst d l from lines (OpensLeaf leaf there mid)
+    (there : Continues) × (mid : List Place) × IsFirst d l from lines (OpensLeaf leaf there mid)
     × IsSequence d next (level_after_leaf l leaf) (after_first from there) mid left
 IsSequence d (Node head e kids next) l from lines left =
-    (inside : From) × (following : List Place) × (mid : Left) × IsFirst d l from lines (OpensNode head inside following)
+    (inside : Continues) × (following : List Place) × (mid : Remaining) × IsFirst d l from lines (OpensNode head inside following)
     × IsSequence d kids (level_in (opened head.opener) l) inside following mid × (e ≡ end_before (length d.text) l.path inside mid)
     × IsSequence d next (level_after l head kids) (after_first from (onward mid).0) (onward mid).1 left

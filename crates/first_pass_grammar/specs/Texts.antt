@@ -11,7 +11,7 @@ use Rattle.first_pass_tokens.specs.Chains.{is_backslash_break, close_break, cut}
 use Rattle.first_pass_tokens.specs.LineTokens.{spot}
 use Rattle.first_pass_attributes.specs.AttributeBlocks.{Braces}
 use Rattle.first_pass_grammar.specs.declared.kind.Container.{Container}
-use Rattle.first_pass_grammar.specs.Headings.{heading_braces, heading_attributes_of, chain_bytes, kept_before}
+use Rattle.first_pass_grammar.specs.Headings.{heading_attribute_block, heading_attributes_of, chain_bytes, kept_before}
 use Rattle.first_pass_grammar.specs.Kinds.{underline_of}
 use Rattle.first_pass_grammar.specs.Leaves.{Document, around, TextLines, AreTextLines, paragraph_block, heading_block, marker_items}
 use Rattle.first_pass_grammar.specs.Names.{NamesAttributes}
@@ -55,7 +55,7 @@ children_without d start marker l (Some block) = close_break l.break (before_blo
 
 -- the children of a setext heading, without its attribute block (CommonMark 4.3, and this project)
 unfoldable pub heading_children : Document → ℕ → Option Item → TextLines → List Item
-heading_children d start marker l = children_without d start marker l (heading_braces d.options (heading_bytes d start marker l))
+heading_children d start marker l = children_without d start marker l (heading_attribute_block d.options (heading_bytes d start marker l))
 
 -- The setext heading of a level that begins at an offset and has these lines, with the index of its attributes. It
 -- also takes the first line after them, its underline (CommonMark 4.3).

@@ -3,7 +3,7 @@ use Rattle.std.proofs.Common.{◌≡◌, ℕ, List, [], ◌++◌, Option, Result
 use Rattle.std.proofs.Common.{append_assoc, append-nil}
 use Rattle.std.proofs.KnownBytes.{Appends-nil, Appends-trans}
 use Rattle.std.specs.Io.KnownBytes.{Appends}
-use Rattle.first_pass_host.specs.declared.fault.BlocksFault.{BlocksFault}
+use Rattle.first_pass_host.specs.declared.fault.RunFault.{RunFault}
 use Rattle.first_pass_host.specs.Held.{IsPartlyWritten}
 use Rattle.first_pass_host.specs.Streams.{Stream, stream_between, AppendsFront, WritesText}
 
@@ -84,19 +84,19 @@ on_any (Ok x) p = tt
 on_any (Err e) p = p
 
 -- a text that equals the written one is written
-pub written_as : (lines same : List ℕ) (output : Stream) (result : Result (Unit {0}) BlocksFault) → lines ≡ same → WritesText lines output result
+pub written_as : (lines same : List ℕ) (output : Stream) (result : Result (Unit {0}) RunFault) → lines ≡ same → WritesText lines output result
     → WritesText same output result
 written_as lines same output result is writes = subst (λ l. WritesText l output result) is writes
 
 -- a fault in the first of two texts
-pub first_failed : (lines others : List ℕ) (old new : Option (List ℕ)) (fault : BlocksFault) (result : Result (Unit {0}) BlocksFault)
+pub first_failed : (lines others : List ℕ) (old new : Option (List ℕ)) (fault : RunFault) (result : Result (Unit {0}) RunFault)
     → result ≡ Err fault → WritesText lines (stream_between old new) (Err fault) → WritesText (lines ++ others) (stream_between old new) result
 first_failed lines others old new fault result is writes =
     subst (WritesText (lines ++ others) (stream_between old new)) (sym is)
     record { ok = tt; front = front_first lines others old new writes.front; fault = writes.fault }
 
 -- the second of two texts, after the first
-pub then_written : (lines others : List ℕ) (old mid new : Option (List ℕ)) (result : Result (Unit {0}) BlocksFault)
+pub then_written : (lines others : List ℕ) (old mid new : Option (List ℕ)) (result : Result (Unit {0}) RunFault)
     → WritesText lines (stream_between old mid) (Ok tt) → WritesText others (stream_between mid new) result
     → WritesText (lines ++ others) (stream_between old new) result
 then_written lines others old mid new (Ok x) first writes =

@@ -1,8 +1,8 @@
 -- The bytes read from a reader and written to a writer, and the faults of both (this project).
 use Rattle.std.specs.Prelude.{◌≡◌, ◌⊎◌, ℕ, List, ◌++◌, Option, Result, OnOk, OnErr, IfErr}
 use Rattle.std.specs.Io.KnownBytes.{Appends, Consumes, IsAtEnd, Keeps}
-use Rattle.first_pass_host.specs.declared.fault.BlocksFault.{BlocksFault}
-use Rattle.first_pass_host.specs.declared.fault.BlocksFault.TheVariants.{OutOfMemory, ReadFailed, WriteFailed}
+use Rattle.first_pass_host.specs.declared.fault.RunFault.{RunFault}
+use Rattle.first_pass_host.specs.declared.fault.RunFault.TheVariants.{OutOfMemory, ReadFailed, WriteFailed}
 
 -- what is known of a stream at two moments: the remaining bytes of a reader, the contents of a writer, or the
 -- remaining readings of a clock
@@ -30,15 +30,15 @@ abbrev pub ReadsWhole : Option (List ℕ) → Option (List ℕ) → List ℕ →
 ReadsWhole old new text = Consumes old new text × IsAtEnd new
 
 -- a fault of the reads
-abbrev pub IsReadFault : BlocksFault → Type 0
+abbrev pub IsReadFault : RunFault → Type 0
 IsReadFault fault = (fault ≡ ReadFailed) ⊎ (fault ≡ OutOfMemory)
 
 -- a fault of the writes
-abbrev pub IsWriteFault : BlocksFault → Type 0
+abbrev pub IsWriteFault : RunFault → Type 0
 IsWriteFault fault = (fault ≡ WriteFailed) ⊎ (fault ≡ OutOfMemory)
 
 -- a text is written to an output; or a fault ends the writes, and a beginning of the text is written
-pub record WritesText (text : List ℕ) (output : Stream) (result : Result (Unit {0}) BlocksFault) : Type 0 where
+pub record WritesText (text : List ℕ) (output : Stream) (result : Result (Unit {0}) RunFault) : Type 0 where
   pub ok : OnOk result (Appends output.old output.new text)
   pub front : OnErr result (AppendsFront output.old output.new text)
   pub fault : IfErr result IsWriteFault

@@ -1,14 +1,14 @@
 //! The faults that end a run before its whole output.
 
 ghost use Rattle.std.specs.Prelude.{◌≡◌};
-ghost use Rattle.first_pass_host.specs.declared.fault.BlocksFault.TheVariants.{OutOfMemory};
+ghost use Rattle.first_pass_host.specs.declared.fault.RunFault.TheVariants.{OutOfMemory};
 ghost use Rattle.first_pass_host.specs.Faults.{message_of, status_of};
 
 use std::alloc::AllocError;
 
-/// A fault that ends a run of the program `blocks` before its whole output.
+/// A fault that ends a run of a program before its whole output.
 #[derive(Clone, Copy, Debug, PartialEq, Eq)]
-pub enum BlocksFault {
+pub enum RunFault {
     /// An allocation failed.
     OutOfMemory,
     /// The input is not UTF-8.
@@ -21,17 +21,17 @@ pub enum BlocksFault {
     WriteFailed,
 }
 
-impl BlocksFault {
+impl RunFault {
     /// Returns the message of the program on standard error.
     pub fn message(self) -> &'static str
         ensures { result.now ≡ message_of self }
     {
         match self {
-            BlocksFault::OutOfMemory => "out of memory",
-            BlocksFault::NotUtf8 => "not UTF-8",
-            BlocksFault::BadOptions => "bad options",
-            BlocksFault::ReadFailed => "read failed",
-            BlocksFault::WriteFailed => "write failed",
+            RunFault::OutOfMemory => "out of memory",
+            RunFault::NotUtf8 => "not UTF-8",
+            RunFault::BadOptions => "bad options",
+            RunFault::ReadFailed => "read failed",
+            RunFault::WriteFailed => "write failed",
         }
     }
 
@@ -40,16 +40,16 @@ impl BlocksFault {
         ensures { result ≡ status_of self }
     {
         match self {
-            BlocksFault::OutOfMemory => 1,
+            RunFault::OutOfMemory => 1,
             _ => 2,
         }
     }
 }
 
-impl From<AllocError> for BlocksFault {
+impl From<AllocError> for RunFault {
     ghost from_gives = { λ _ fault. fault ≡ OutOfMemory };
 
-    fn from(_error: AllocError) -> BlocksFault {
-        BlocksFault::OutOfMemory
+    fn from(_error: AllocError) -> RunFault {
+        RunFault::OutOfMemory
     }
 }

@@ -3,11 +3,11 @@
 ghost use Rattle.std.specs.Iterator.{IsFinite};
 ghost use Rattle.std.specs.Prelude.{◌≡◌, ◌<◌, ℕ, List, [], length, IfErr, OnErr, OnOk};
 ghost use Rattle.std.specs.Io.KnownBytes.{Appends};
-ghost use Rattle.first_pass_host.specs.declared.fault.BlocksFault.TheVariants.{WriteFailed};
+ghost use Rattle.first_pass_host.specs.declared.fault.RunFault.TheVariants.{WriteFailed};
 ghost use Rattle.first_pass_host.specs.Held.{AreLines, IsPartlyWritten};
 ghost use Rattle.first_pass_host.specs.Streams.{AppendsFront, WritesText, stream_between};
 
-use crate::fault::BlocksFault;
+use crate::fault::RunFault;
 use std::alloc::{AllocError, Global};
 use std::io::Write;
 
@@ -16,7 +16,7 @@ const PIECE: usize = 8192;
 
 /// Writes all of `bytes`, in as many writes as necessary. Returns `WriteFailed` if a write fails or writes no byte; a
 /// beginning of the bytes was written then.
-pub fn write_whole<W: Write>(output: &mut W, bytes: &[u8]) -> Result<(), BlocksFault>
+pub fn write_whole<W: Write>(output: &mut W, bytes: &[u8]) -> Result<(), RunFault>
     ensures ok { OnOk result (Appends (W.contents output.old) (W.contents output.new) bytes.now) }
     ensures front { OnErr result (AppendsFront (W.contents output.old) (W.contents output.new) bytes.now) }
     ensures fault { IfErr result (λ fault. fault ≡ WriteFailed) }
@@ -24,9 +24,9 @@ pub fn write_whole<W: Write>(output: &mut W, bytes: &[u8]) -> Result<(), BlocksF
     let mut rest = bytes;
     while !rest.is_empty() {
         match output.write(rest) {
-            Ok(0) => return Err(BlocksFault::WriteFailed),
+            Ok(0) => return Err(RunFault::WriteFailed),
             Ok(count) => rest = &rest[count..],
-            Err(_) => return Err(BlocksFault::WriteFailed),
+            Err(_) => return Err(RunFault::WriteFailed),
         }
     }
     Ok(())
@@ -35,7 +35,7 @@ pub fn write_whole<W: Write>(output: &mut W, bytes: &[u8]) -> Result<(), BlocksF
 /// Writes the bytes in `held` and clears it, if it has at least 8,192 bytes. On a fault, the fault and the written
 /// bytes are those of `write_whole`. To write lines in pieces, append each to `held` and then call this function;
 /// after the last line, write the rest with `write_whole`.
-pub fn write_piece<W: Write>(output: &mut W, held: &mut Vec<u8>) -> Result<(), BlocksFault>
+pub fn write_piece<W: Write>(output: &mut W, held: &mut Vec<u8>) -> Result<(), RunFault>
     ensures ok { OnOk result (IsPartlyWritten held.old.items held.new.items []
         (stream_between (W.contents output.old) (W.contents output.new))) }
     ensures less { OnOk result (length held.new.items < 8192) }
@@ -57,7 +57,7 @@ pub fn write_each<I, F, W>(
     items: I,
     append: F,
     output: &mut W,
-) -> Result<(), BlocksFault>
+) -> Result<(), RunFault>
 where
     I: Iterator + Drop,
     F: Fn(&mut Vec<u8>, I::Item) -> Result<(), AllocError>,

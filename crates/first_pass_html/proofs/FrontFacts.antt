@@ -7,7 +7,7 @@ use Rattle.std.proofs.lemmas.Bool.{and_from, eqb-true}
 use Rattle.std.proofs.lemmas.Bool.Decides.{nat_tests}
 use Rattle.std.proofs.lemmas.List.Folds.{length-prefix_len, concat-append}
 use Rattle.std.proofs.Math.Seq.{take-add}
-use Rattle.first_pass_lines.specs.Lines.{begins, is_blank}
+use Rattle.first_pass_lines.specs.Lines.{begins, is_space_or_tab}
 use Rattle.first_pass_html.specs.Tags.{starts_attribute, is_attribute_byte, is_unquoted, is_quoted, is_word, is_attribute_name, IsQuotedValue, IsValue}
 use Rattle.first_pass_html.specs.Tags.{IsValueSpecification, IsAttribute, AreAttributes, IsOpenTagEnd}
 use Rattle.first_pass_html.specs.TagLengths.{word_len, unquoted_len, quoted_len, value_len, blanks_value_len, specification_len, attribute_name_len}
@@ -84,26 +84,27 @@ record IsBlanksValue (bs : List ℕ) : Type 0 where
   blanks : List ℕ
   value : List ℕ
   parts : bs ≡ blanks ++ value
-  is_blanks : list_all is_blank blanks ≡ true
+  is_blanks : list_all is_space_or_tab blanks ≡ true
   is_value : IsValue value
 
 blanks_value_front : (bs : List ℕ) (n : ℕ) → blanks_value_len bs ≡ Some n → IsBlanksValue (take n bs)
 unfolding blanks_value_len
 blanks_value_front bs n h =
-    let k : ℕ = prefix_len is_blank bs in
+    let k : ℕ = prefix_len is_space_or_tab bs in
     let m = some_map (λ j. k + j) (value_len (drop k bs)) n h in
     record {
       blanks = take k bs;
       value = take m.0 (drop k bs);
       parts = ap (λ j. take j bs) (sym m.2) ∙ take-add k m.0 bs;
-      is_blanks = prefix_passes is_blank bs;
+      is_blanks = prefix_passes is_space_or_tab bs;
       is_value = value_front (drop k bs) m.0 m.1;
     }
 
-equals_front : (bs : List ℕ) (n : ℕ) → begins 61 (drop (prefix_len is_blank bs) bs) ≡ true → blanks_value_len (drop (prefix_len is_blank bs + 1) bs) ≡ Some n
-    → IsValueSpecification (take (prefix_len is_blank bs + 1 + n) bs)
+equals_front : (bs : List ℕ) (n : ℕ) → begins 61 (drop (prefix_len is_space_or_tab bs) bs) ≡ true
+    → blanks_value_len (drop (prefix_len is_space_or_tab bs + 1) bs) ≡ Some n
+    → IsValueSpecification (take (prefix_len is_space_or_tab bs + 1 + n) bs)
 equals_front bs n h e =
-    let k : ℕ = prefix_len is_blank bs in
+    let k : ℕ = prefix_len is_space_or_tab bs in
     let equals = begins_front 61 (drop k bs) h in
     let v = blanks_value_front (drop (k + 1) bs) n e in
     let front : take (k + 1) bs ≡ take k bs ++ 61 ∷ [] = take-add k 1 bs ∙ ap (λ xs. take k bs ++ take 1 xs) equals.1 in
@@ -114,14 +115,14 @@ equals_front bs n h e =
       following = v.blanks;
       value = v.value;
       parts = whole ∙ ap (λ xs. take k bs ++ 61 ∷ xs) v.parts;
-      before_blank = prefix_passes is_blank bs;
+      before_blank = prefix_passes is_space_or_tab bs;
       past_blank = v.is_blanks;
       is_value = v.is_value;
     }
 
 specification_front_by : (bs : List ℕ) (t : Bool) (o : Option ℕ)
-    → begins 61 (drop (prefix_len is_blank bs) bs) ≡ t → blanks_value_len (drop (prefix_len is_blank bs + 1) bs) ≡ o
-    → let n : ℕ = cond t (unwrap_or (option_map (λ k. prefix_len is_blank bs + 1 + k) o) 0) 0 in (take n bs ≡ []) ⊎ IsValueSpecification (take n bs)
+    → begins 61 (drop (prefix_len is_space_or_tab bs) bs) ≡ t → blanks_value_len (drop (prefix_len is_space_or_tab bs + 1) bs) ≡ o
+    → let n : ℕ = cond t (unwrap_or (option_map (λ k. prefix_len is_space_or_tab bs + 1 + k) o) 0) 0 in (take n bs ≡ []) ⊎ IsValueSpecification (take n bs)
 specification_front_by bs true None h e = inl refl
 specification_front_by bs true (Some n) h e = inr (equals_front bs n h e)
 specification_front_by bs false o h e = inl refl
@@ -129,7 +130,7 @@ specification_front_by bs false o h e = inl refl
 specification_front : (bs : List ℕ) → (take (specification_len bs) bs ≡ []) ⊎ IsValueSpecification (take (specification_len bs) bs)
 unfolding specification_len
 specification_front bs =
-    specification_front_by bs (begins 61 (drop (prefix_len is_blank bs) bs)) (blanks_value_len (drop (prefix_len is_blank bs + 1) bs)) refl refl
+    specification_front_by bs (begins 61 (drop (prefix_len is_space_or_tab bs) bs)) (blanks_value_len (drop (prefix_len is_space_or_tab bs + 1) bs)) refl refl
 
 -- attributes
 record IsNamed (bs : List ℕ) : Type 0 where
@@ -154,7 +155,7 @@ named_front bs n h =
 pub attribute_front : (bs : List ℕ) (n : ℕ) → attribute_len bs ≡ Some n → IsAttribute (take n bs)
 unfolding attribute_len
 attribute_front bs n h =
-    let k : ℕ = prefix_len is_blank bs in
+    let k : ℕ = prefix_len is_space_or_tab bs in
     let both = some_unless (k == 0) (option_map (λ j. k + j) (named_len (drop k bs))) n h in
     let m = some_map (λ j. k + j) (named_len (drop k bs)) n both.1 in
     let named = named_front (drop k bs) m.0 m.1 in
@@ -163,7 +164,7 @@ attribute_front bs n h =
       name = named.name;
       specification = named.specification;
       parts = ap (λ j. take j bs) (sym m.2) ∙ take-add k m.0 bs ∙ ap (λ xs. take k bs ++ xs) named.parts;
-      is_blanks = word_front is_blank bs both.0;
+      is_blanks = word_front is_space_or_tab bs both.0;
       is_name = named.is_name;
       specified = named.specified;
     }
@@ -193,14 +194,14 @@ close_front (b ∷ bs) n h = close_front_by (b == 62) (b == 47) b bs n refl refl
 pub end_front : (bs : List ℕ) (n : ℕ) → open_end_len bs ≡ Some n → IsOpenTagEnd (take n bs)
 unfolding open_end_len
 end_front bs n h =
-    let k : ℕ = prefix_len is_blank bs in
+    let k : ℕ = prefix_len is_space_or_tab bs in
     let m = some_map (λ j. k + j) (close_len (drop k bs)) n h in
     let close = close_front (drop k bs) m.0 m.1 in
     record {
       blanks = take k bs;
       slash = close.slash;
       parts = ap (λ j. take j bs) (sym m.2) ∙ take-add k m.0 bs ∙ ap (λ xs. take k bs ++ xs) close.parts;
-      is_blanks = prefix_passes is_blank bs;
+      is_blanks = prefix_passes is_space_or_tab bs;
       is_slash = close.is_slash;
     }
 

@@ -1,4 +1,4 @@
--- Facts on the end conditions of HTML blocks of the kinds 1 to 5, by the first byte of the start condition.
+-- Facts on the end conditions of HTML blocks of types 1 to 5, by the first byte of the start condition.
 use Rattle.std.proofs.Common.{◌≡◌, ℕ, ◌<◌, ◌≤◌, Bool, true, false, ◌==◌, ◌&&◌, ◌||◌, List, [], ◌∷◌, length, take, drop, get_or, bytes_eq, if◌then◌else◌}
 use Rattle.std.proofs.Common.{codes, Some, None, refl, sym, ap, ◌∙◌, subst, arith}
 use Rattle.std.specs.List.{list_all, list_any, prefix_len}
@@ -69,7 +69,7 @@ raw_begins bs =
     rw (raw_here (codes "pre") bs refl, raw_here (codes "script") bs refl, raw_here (codes "style") bs refl, raw_here (codes "textarea") bs refl)
     (one_by_one (ends_raw_name (drop n bs)) (take n bs))
 
--- the end conditions of the kinds 1 to 5, by the first byte
+-- the end conditions of types 1 to 5, by the first byte
 pub question_end : (bs : List ℕ) → 1 ≤ length bs → get_or bs 0 0 ≡ 63 → html_end bs ≡ Some (AtText (codes "?>"))
 unfolding html_end
 question_end [] some first = absurd (omega arith)

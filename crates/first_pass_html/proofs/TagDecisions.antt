@@ -9,7 +9,7 @@ use Rattle.std.proofs.lemmas.List.{drop-drop, length-drop, take_all}
 use Rattle.std.proofs.lemmas.List.Sums.{prefix_len-le-length}
 use Rattle.std.proofs.Math.ListN.{drop_of_length-le}
 use Rattle.std.proofs.Math.Seq.{take-add}
-use Rattle.first_pass_lines.specs.Lines.{begins, blank_len, is_blank}
+use Rattle.first_pass_lines.specs.Lines.{begins, blank_len, is_space_or_tab}
 use Rattle.first_pass_html.specs.Starts.{is_raw_name}
 use Rattle.first_pass_html.specs.Tags.{is_tag_byte, IsAfterOpening, IsAfterClosing, IsBlockTag, BeginsTagLine}
 use Rattle.std.specs.Char.{is_ascii_alphabetic}
@@ -48,16 +48,16 @@ close_within (b ∷ bs) n h = close_within_by (b == 62) (begins 62 bs) bs n refl
 end_within : (bs : List ℕ) (n : ℕ) → open_end_len bs ≡ Some n → n ≤ length bs
 unfolding open_end_len
 end_within bs n h =
-    let k : ℕ = prefix_len is_blank bs in
+    let k : ℕ = prefix_len is_space_or_tab bs in
     let m = some_map (λ j. k + j) (close_len (drop k bs)) n h in
-    let fits = prefix_len-le-length is_blank bs in
+    let fits = prefix_len-le-length is_space_or_tab bs in
     let rest = close_within (drop k bs) m.0 m.1 in
     omega (arith, m.2, length-drop k bs)
 
 closing_end_within : (bs : List ℕ) (n : ℕ) → closing_end_len bs ≡ Some n → n ≤ length bs
 unfolding closing_end_len
 closing_end_within bs n h =
-    let k : ℕ = prefix_len is_blank bs in
+    let k : ℕ = prefix_len is_space_or_tab bs in
     let both = some_if (begins 62 (drop k bs)) (k + 1) n h in
     let len = ap length (begins_front 62 (drop k bs) both.0).1 in
     omega (arith, both.1, length-drop k bs)
@@ -66,10 +66,10 @@ closing_end_within bs n h =
 attribute_some : (bs : List ℕ) (n : ℕ) → attribute_len bs ≡ Some n → (0 < n) × (0 < length bs)
 unfolding attribute_len
 attribute_some bs n h =
-    let k : ℕ = prefix_len is_blank bs in
+    let k : ℕ = prefix_len is_space_or_tab bs in
     let both = some_unless (k == 0) (option_map (λ j. k + j) (named_len (drop k bs))) n h in
     let m = some_map (λ j. k + j) (named_len (drop k bs)) n both.1 in
-    let fits = prefix_len-le-length is_blank bs in
+    let fits = prefix_len-le-length is_space_or_tab bs in
     let some : 0 < k = grind (arith, nat_tests, both.0) in
     (omega (arith, m.2), omega arith)
 

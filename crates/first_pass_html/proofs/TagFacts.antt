@@ -5,7 +5,7 @@ use Rattle.std.specs.List.{prefix_len, list_all, concat}
 use Rattle.std.proofs.lemmas.Bool.{and_parts}
 use Rattle.std.proofs.lemmas.Bool.Decides.{nat_tests}
 use Rattle.std.proofs.Math.Seq.{drop-append_seam, drop-append-add}
-use Rattle.first_pass_lines.specs.Lines.{is_blank}
+use Rattle.first_pass_lines.specs.Lines.{is_space_or_tab}
 use Rattle.first_pass_html.specs.Tags.{starts_attribute, is_attribute_byte, is_unquoted, is_quoted, is_word, is_attribute_name, IsQuotedValue, IsValue}
 use Rattle.first_pass_html.specs.Tags.{IsValueSpecification, IsAttribute, AreAttributes, IsOpenTagEnd}
 use Rattle.first_pass_html.specs.TagLengths.{word_len, quoted_len, value_len, blanks_value_len, specification_len, attribute_name_len, named_len}
@@ -28,13 +28,13 @@ same_byte b = grind (arith, nat_tests)
 unquoted_no_quote : (b : ℕ) → is_unquoted b ≡ true → is_quote b ≡ false
 unquoted_no_quote b h = grind (arith, nat_tests, h)
 
-unquoted_no_blank : (b : ℕ) → is_unquoted b ≡ true → is_blank b ≡ false
+unquoted_no_blank : (b : ℕ) → is_unquoted b ≡ true → is_space_or_tab b ≡ false
 unquoted_no_blank b h = grind (arith, nat_tests, h)
 
-attribute_no_blank : (b : ℕ) → starts_attribute b ≡ true → is_blank b ≡ false
+attribute_no_blank : (b : ℕ) → starts_attribute b ≡ true → is_space_or_tab b ≡ false
 attribute_no_blank b h = grind (arith, nat_tests, h)
 
-blank_no_attribute : (b : ℕ) → is_blank b ≡ true → is_attribute_byte b ≡ false
+blank_no_attribute : (b : ℕ) → is_space_or_tab b ≡ true → is_attribute_byte b ≡ false
 blank_no_attribute b h = grind (arith, nat_tests, h)
 
 -- values
@@ -69,32 +69,32 @@ value_is v bs following (inl h) r = (prefix_len is_unquoted bs, value_unquoted v
 value_is v bs following (inr (inl h)) r = (0, value_quoted 39 v bs refl h, r)
 value_is v bs following (inr (inr h)) r = (0, value_quoted 34 v bs refl h, r)
 
-value_no_blank_by : (v bs : List ℕ) → is_word is_unquoted is_unquoted v ≡ true → prefix_len is_blank (v ++ bs) ≡ 0
+value_no_blank_by : (v bs : List ℕ) → is_word is_unquoted is_unquoted v ≡ true → prefix_len is_space_or_tab (v ++ bs) ≡ 0
 value_no_blank_by [] bs h = absurd (true≢false (sym h))
-value_no_blank_by (b ∷ v) bs h = prefix_none is_blank b (v ++ bs) (unquoted_no_blank b (and_parts _ _ h).0)
+value_no_blank_by (b ∷ v) bs h = prefix_none is_space_or_tab b (v ++ bs) (unquoted_no_blank b (and_parts _ _ h).0)
 
-value_no_blank : (v bs : List ℕ) → IsValue v → prefix_len is_blank (v ++ bs) ≡ 0
+value_no_blank : (v bs : List ℕ) → IsValue v → prefix_len is_space_or_tab (v ++ bs) ≡ 0
 value_no_blank v bs (inl h) = value_no_blank_by v bs h
-value_no_blank v bs (inr (inl (inside, parts, all))) = rw parts (prefix_none is_blank 39 ((inside ++ 39 ∷ []) ++ bs) refl)
-value_no_blank v bs (inr (inr (inside, parts, all))) = rw parts (prefix_none is_blank 34 ((inside ++ 34 ∷ []) ++ bs) refl)
+value_no_blank v bs (inr (inl (inside, parts, all))) = rw parts (prefix_none is_space_or_tab 39 ((inside ++ 39 ∷ []) ++ bs) refl)
+value_no_blank v bs (inr (inr (inside, parts, all))) = rw parts (prefix_none is_space_or_tab 34 ((inside ++ 34 ∷ []) ++ bs) refl)
 
 -- value specifications
 blanks_value_is : (blanks v bs : List ℕ) (k : ℕ)
-    → list_all is_blank blanks ≡ true → IsValue v → value_len (v ++ bs) ≡ Some k → blanks_value_len (blanks ++ (v ++ bs)) ≡ Some (length blanks + k)
+    → list_all is_space_or_tab blanks ≡ true → IsValue v → value_len (v ++ bs) ≡ Some k → blanks_value_len (blanks ++ (v ++ bs)) ≡ Some (length blanks + k)
 unfolding blanks_value_len
 blanks_value_is blanks v bs k h is e =
-    let more = prefix_all is_blank blanks (v ++ bs) h in
+    let more = prefix_all is_space_or_tab blanks (v ++ bs) h in
     let none = value_no_blank v bs is in
-    let size : prefix_len is_blank (blanks ++ (v ++ bs)) ≡ length blanks = omega arith in
+    let size : prefix_len is_space_or_tab (blanks ++ (v ++ bs)) ≡ length blanks = omega arith in
     rw (size, drop-append_seam, e)
 
 equals_is : (blanks bs : List ℕ) (k : ℕ)
-    → list_all is_blank blanks ≡ true → blanks_value_len bs ≡ Some k → specification_len (blanks ++ 61 ∷ bs) ≡ length blanks + 1 + k
+    → list_all is_space_or_tab blanks ≡ true → blanks_value_len bs ≡ Some k → specification_len (blanks ++ 61 ∷ bs) ≡ length blanks + 1 + k
 unfolding specification_len
 equals_is blanks bs k h e =
-    let more = prefix_all is_blank blanks (61 ∷ bs) h in
-    let none : prefix_len is_blank (61 ∷ bs) ≡ 0 = prefix_none is_blank 61 bs refl in
-    let size : prefix_len is_blank (blanks ++ 61 ∷ bs) ≡ length blanks = omega arith in
+    let more = prefix_all is_space_or_tab blanks (61 ∷ bs) h in
+    let none : prefix_len is_space_or_tab (61 ∷ bs) ≡ 0 = prefix_none is_space_or_tab 61 bs refl in
+    let size : prefix_len is_space_or_tab (blanks ++ 61 ∷ bs) ≡ length blanks = omega arith in
     let following : drop (length blanks + 1) (blanks ++ 61 ∷ bs) ≡ bs = drop-append-add blanks (61 ∷ bs) 1 in
     rw (size, drop-append_seam, following, e)
 
@@ -119,7 +119,7 @@ specification_is s bs following (inr i) r =
     (v.0, rw (specification_whole s bs i) (len ∙ omega arith), v.2)
 
 -- names of attributes
-specification_no_name_by : (blanks bs : List ℕ) → list_all is_blank blanks ≡ true → prefix_len is_attribute_byte (blanks ++ 61 ∷ bs) ≡ 0
+specification_no_name_by : (blanks bs : List ℕ) → list_all is_space_or_tab blanks ≡ true → prefix_len is_attribute_byte (blanks ++ 61 ∷ bs) ≡ 0
 specification_no_name_by [] bs h = prefix_none is_attribute_byte 61 bs refl
 specification_no_name_by (b ∷ blanks) bs h = prefix_none is_attribute_byte b (blanks ++ 61 ∷ bs) (blank_no_attribute b (and_parts _ _ h).0)
 
@@ -144,22 +144,23 @@ named_is name s bs following k h none e =
     let first : attribute_name_len (name ++ (s ++ bs)) ≡ Some (length name) = name_is starts_attribute is_attribute_byte name (s ++ bs) h none in
     rw (first, drop-append_seam, e)
 
-name_no_blank : (name bs : List ℕ) → is_attribute_name name ≡ true → prefix_len is_blank (name ++ bs) ≡ 0
+name_no_blank : (name bs : List ℕ) → is_attribute_name name ≡ true → prefix_len is_space_or_tab (name ++ bs) ≡ 0
 name_no_blank [] bs h = absurd (true≢false (sym h))
-name_no_blank (b ∷ name) bs h = prefix_none is_blank b (name ++ bs) (attribute_no_blank b (and_parts _ _ h).0)
+name_no_blank (b ∷ name) bs h = prefix_none is_space_or_tab b (name ++ bs) (attribute_no_blank b (and_parts _ _ h).0)
 
 -- attributes
-some_blank : (blanks : List ℕ) → is_word is_blank is_blank blanks ≡ true → (length blanks == 0) ≡ false
+some_blank : (blanks : List ℕ) → is_word is_space_or_tab is_space_or_tab blanks ≡ true → (length blanks == 0) ≡ false
 some_blank [] h = absurd (true≢false (sym h))
 some_blank (b ∷ blanks) h = grind (arith, nat_tests)
 
-blanks_named_is : (blanks name bs : List ℕ) (k : ℕ) → is_word is_blank is_blank blanks ≡ true → is_attribute_name name ≡ true → named_len (name ++ bs) ≡ Some k
+blanks_named_is : (blanks name bs : List ℕ) (k : ℕ) → is_word is_space_or_tab is_space_or_tab blanks ≡ true → is_attribute_name name ≡ true
+    → named_len (name ++ bs) ≡ Some k
     → attribute_len (blanks ++ (name ++ bs)) ≡ Some (length blanks + k)
 unfolding attribute_len
 blanks_named_is blanks name bs k h named e =
-    let more = prefix_all is_blank blanks (name ++ bs) (word_all is_blank blanks h) in
+    let more = prefix_all is_space_or_tab blanks (name ++ bs) (word_all is_space_or_tab blanks h) in
     let none = name_no_blank name bs named in
-    let size : prefix_len is_blank (blanks ++ (name ++ bs)) ≡ length blanks = omega arith in
+    let size : prefix_len is_space_or_tab (blanks ++ (name ++ bs)) ≡ length blanks = omega arith in
     rw (size, some_blank blanks h, drop-append_seam, e)
 
 attribute_is : (a bs following : List ℕ)
@@ -178,16 +179,16 @@ attribute_is a bs following i r =
 
 -- The end of an open tag: no attribute begins there.
 no_attribute_at : (blanks : List ℕ) (c : ℕ) (others : List ℕ)
-    → list_all is_blank blanks ≡ true → is_blank c ≡ false → starts_attribute c ≡ false → attribute_len (blanks ++ c ∷ others) ≡ None
+    → list_all is_space_or_tab blanks ≡ true → is_space_or_tab c ≡ false → starts_attribute c ≡ false → attribute_len (blanks ++ c ∷ others) ≡ None
 unfolding attribute_len named_len
 no_attribute_at blanks c others h solid none =
-    let more = prefix_all is_blank blanks (c ∷ others) h in
-    let stop = prefix_none is_blank c others solid in
-    let size : prefix_len is_blank (blanks ++ c ∷ others) ≡ length blanks = omega arith in
+    let more = prefix_all is_space_or_tab blanks (c ∷ others) h in
+    let stop = prefix_none is_space_or_tab c others solid in
+    let size : prefix_len is_space_or_tab (blanks ++ c ∷ others) ≡ length blanks = omega arith in
     rw (size, drop-append_seam, none) (elim (length blanks == 0) as (λ t. cond {A = Option ℕ} t None None ≡ None) [ true ↦ refl | false ↦ refl ])
 
 end_no_attribute_by : (blanks slash following : List ℕ)
-    → list_all is_blank blanks ≡ true → (slash ≡ []) ⊎ (slash ≡ 47 ∷ []) → attribute_len ((blanks ++ (slash ++ 62 ∷ [])) ++ following) ≡ None
+    → list_all is_space_or_tab blanks ≡ true → (slash ≡ []) ⊎ (slash ≡ 47 ∷ []) → attribute_len ((blanks ++ (slash ++ 62 ∷ [])) ++ following) ≡ None
 end_no_attribute_by blanks slash following h (inl none) = rw (none, append_assoc blanks (62 ∷ []) following) (no_attribute_at blanks 62 following h refl refl)
 end_no_attribute_by blanks slash following h (inr one) =
     rw (one, append_assoc blanks (47 ∷ 62 ∷ []) following) (no_attribute_at blanks 47 (62 ∷ following) h refl refl)
@@ -197,15 +198,16 @@ end_no_attribute ending following e = rw e.parts (end_no_attribute_by e.blanks e
 
 -- the end of an open tag has the counted length
 end_len_at : (blanks others : List ℕ) (c k : ℕ)
-    → list_all is_blank blanks ≡ true → is_blank c ≡ false → close_len (c ∷ others) ≡ Some k → open_end_len (blanks ++ c ∷ others) ≡ Some (length blanks + k)
+    → list_all is_space_or_tab blanks ≡ true → is_space_or_tab c ≡ false → close_len (c ∷ others) ≡ Some k
+    → open_end_len (blanks ++ c ∷ others) ≡ Some (length blanks + k)
 unfolding open_end_len
 end_len_at blanks others c k h solid e =
-    let more = prefix_all is_blank blanks (c ∷ others) h in
-    let stop = prefix_none is_blank c others solid in
-    let size : prefix_len is_blank (blanks ++ c ∷ others) ≡ length blanks = omega arith in
+    let more = prefix_all is_space_or_tab blanks (c ∷ others) h in
+    let stop = prefix_none is_space_or_tab c others solid in
+    let size : prefix_len is_space_or_tab (blanks ++ c ∷ others) ≡ length blanks = omega arith in
     rw (size, drop-append_seam, e)
 
-end_is_by : (blanks slash following : List ℕ) → list_all is_blank blanks ≡ true → (slash ≡ []) ⊎ (slash ≡ 47 ∷ [])
+end_is_by : (blanks slash following : List ℕ) → list_all is_space_or_tab blanks ≡ true → (slash ≡ []) ⊎ (slash ≡ 47 ∷ [])
     → open_end_len ((blanks ++ (slash ++ 62 ∷ [])) ++ following) ≡ Some (length (blanks ++ (slash ++ 62 ∷ [])))
 end_is_by blanks slash following h (inl none) =
     rw (none, append_assoc blanks (62 ∷ []) following) (end_len_at blanks following 62 1 h refl refl ∙ ap Some (omega (arith, length-append blanks (62 ∷ []))))

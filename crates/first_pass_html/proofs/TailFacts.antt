@@ -4,7 +4,7 @@ use Rattle.std.proofs.Common.{append_assoc}
 use Rattle.std.specs.List.{prefix_len, list_all, concat}
 use Rattle.std.proofs.lemmas.Bool.{and_parts}
 use Rattle.std.proofs.lemmas.Bool.Decides.{nat_tests}
-use Rattle.first_pass_lines.specs.Lines.{begins, is_blank}
+use Rattle.first_pass_lines.specs.Lines.{begins, is_space_or_tab}
 use Rattle.first_pass_html.specs.Tags.{is_tag_byte, starts_attribute, is_attribute_byte, is_unquoted, is_word, is_attribute_name, IsAttribute, AreAttributes}
 use Rattle.first_pass_html.specs.Tags.{IsOpenTagEnd}
 use Rattle.first_pass_html.specs.Fronts.{IsTagRest}
@@ -14,7 +14,7 @@ use Rattle.first_pass_html.proofs.ListFacts.{prefix_all, prefix_none, rest_after
 abbrev pub is_stop : ℕ → Bool
 is_stop c = starts_attribute c || (c == 47 || c == 62)
 
-stop_solid : (c : ℕ) → is_stop c ≡ true → is_blank c ≡ false
+stop_solid : (c : ℕ) → is_stop c ≡ true → is_space_or_tab c ≡ false
 stop_solid c h = grind (arith, nat_tests, h)
 
 stop_equals : (c : ℕ) → is_stop c ≡ true → (c == 61) ≡ false
@@ -23,14 +23,14 @@ stop_equals c h = grind (arith, nat_tests, h)
 name_stop : (c : ℕ) → starts_attribute c ≡ true → is_stop c ≡ true
 name_stop c h = grind (arith, nat_tests, h)
 
-blank_unquoted : (b : ℕ) → is_blank b ≡ true → is_unquoted b ≡ false
+blank_unquoted : (b : ℕ) → is_space_or_tab b ≡ true → is_unquoted b ≡ false
 blank_unquoted b h = grind (arith, nat_tests, h)
 
 -- the first byte of the rest of a tag
 abbrev pub is_tail : ℕ → Bool
-is_tail b = is_blank b || (b == 47 || b == 62)
+is_tail b = is_space_or_tab b || (b == 47 || b == 62)
 
-blank_tail : (b : ℕ) → is_blank b ≡ true → is_tail b ≡ true
+blank_tail : (b : ℕ) → is_space_or_tab b ≡ true → is_tail b ≡ true
 blank_tail b h = grind (arith, nat_tests, h)
 
 tail_attribute : (b : ℕ) → is_tail b ≡ true → is_attribute_byte b ≡ false
@@ -52,7 +52,7 @@ pub record StopsAt (bs : List ℕ) : Type 0 where
   pub stop : ℕ
   pub others : List ℕ
   pub parts : bs ≡ blanks ++ stop ∷ others
-  pub is_blanks : list_all is_blank blanks ≡ true
+  pub is_blanks : list_all is_space_or_tab blanks ≡ true
   pub stops : is_stop stop ≡ true
 
 pub word_all : (p : ℕ → Bool) (bs : List ℕ) → is_word p p bs ≡ true → list_all p bs ≡ true
@@ -65,7 +65,7 @@ none_first p q bs apart s = rw s.parts (prefix_none p s.first s.others (apart s.
 
 -- the end of an open tag
 end_stops_by : (blanks slash following : List ℕ)
-    → list_all is_blank blanks ≡ true → (slash ≡ []) ⊎ (slash ≡ 47 ∷ []) → StopsAt ((blanks ++ (slash ++ 62 ∷ [])) ++ following)
+    → list_all is_space_or_tab blanks ≡ true → (slash ≡ []) ⊎ (slash ≡ 47 ∷ []) → StopsAt ((blanks ++ (slash ++ 62 ∷ [])) ++ following)
 end_stops_by blanks slash following h (inl none) = record {
   blanks = blanks;
   stop = 62;
@@ -87,7 +87,7 @@ pub end_stops : (ending following : List ℕ) → IsOpenTagEnd ending → StopsA
 end_stops ending following e = rw e.parts (end_stops_by e.blanks e.slash following e.is_blanks e.is_slash)
 
 end_starts_by : (blanks slash following : List ℕ)
-    → list_all is_blank blanks ≡ true → (slash ≡ []) ⊎ (slash ≡ 47 ∷ []) → StartsBy is_tail ((blanks ++ (slash ++ 62 ∷ [])) ++ following)
+    → list_all is_space_or_tab blanks ≡ true → (slash ≡ []) ⊎ (slash ≡ 47 ∷ []) → StartsBy is_tail ((blanks ++ (slash ++ 62 ∷ [])) ++ following)
 end_starts_by [] slash following h (inl none) = record { first = 62; others = following; parts = rw none; passes = refl }
 end_starts_by [] slash following h (inr one) = record { first = 47; others = 62 ∷ following; parts = rw one; passes = refl }
 end_starts_by (b ∷ bs) slash following h some = record {
@@ -99,7 +99,7 @@ end_starts_by (b ∷ bs) slash following h some = record {
 
 -- an attribute
 attribute_stops_by : (blanks name specification others : List ℕ)
-    → list_all is_blank blanks ≡ true → is_attribute_name name ≡ true → StopsAt ((blanks ++ (name ++ specification)) ++ others)
+    → list_all is_space_or_tab blanks ≡ true → is_attribute_name name ≡ true → StopsAt ((blanks ++ (name ++ specification)) ++ others)
 attribute_stops_by blanks [] specification others h named = absurd (true≢false (sym named))
 attribute_stops_by blanks (c ∷ name) specification others h named = record {
   blanks = blanks;
@@ -111,13 +111,13 @@ attribute_stops_by blanks (c ∷ name) specification others h named = record {
 }
 
 attribute_stops : (bs others : List ℕ) → IsAttribute bs → StopsAt (bs ++ others)
-attribute_stops bs others a = rw a.parts (attribute_stops_by a.blanks a.name a.specification others (word_all is_blank a.blanks a.is_blanks) a.is_name)
+attribute_stops bs others a = rw a.parts (attribute_stops_by a.blanks a.name a.specification others (word_all is_space_or_tab a.blanks a.is_blanks) a.is_name)
 
-attribute_starts_by : (blanks others : List ℕ) → is_word is_blank is_blank blanks ≡ true → StartsBy is_blank (blanks ++ others)
+attribute_starts_by : (blanks others : List ℕ) → is_word is_space_or_tab is_space_or_tab blanks ≡ true → StartsBy is_space_or_tab (blanks ++ others)
 attribute_starts_by [] others h = absurd (true≢false (sym h))
 attribute_starts_by (b ∷ bs) others h = record { first = b; others = bs ++ others; parts = refl; passes = (and_parts _ _ h).0 }
 
-attribute_starts : (bs others : List ℕ) → IsAttribute bs → StartsBy is_blank (bs ++ others)
+attribute_starts : (bs others : List ℕ) → IsAttribute bs → StartsBy is_space_or_tab (bs ++ others)
 attribute_starts bs others a =
     rw (a.parts, append_assoc a.blanks (a.name ++ a.specification) others) (attribute_starts_by a.blanks ((a.name ++ a.specification) ++ others) a.is_blanks)
 
@@ -131,7 +131,7 @@ rest_stops_by (a ∷ others) ending following are e =
 pub rest_stops : (bs following : List ℕ) → IsTagRest bs following → StopsAt bs
 rest_stops bs following r = rw r.parts (rest_stops_by r.attributes r.ending following r.are_attributes r.ends)
 
-starts_tail : (bs : List ℕ) → StartsBy is_blank bs → StartsBy is_tail bs
+starts_tail : (bs : List ℕ) → StartsBy is_space_or_tab bs → StartsBy is_tail bs
 starts_tail bs s = record { first = s.first; others = s.others; parts = s.parts; passes = blank_tail s.first s.passes }
 
 rest_starts_by : (attributes : List (List ℕ)) (ending following : List ℕ)
@@ -150,16 +150,16 @@ rest_no_tag bs following r = none_first is_tag_byte is_tail bs tail_tag (rest_st
 pub rest_no_attribute : (bs following : List ℕ) → IsTagRest bs following → prefix_len is_attribute_byte bs ≡ 0
 rest_no_attribute bs following r = none_first is_attribute_byte is_tail bs tail_attribute (rest_starts bs following r)
 
-pub stop_size : (bs : List ℕ) (s : StopsAt bs) → prefix_len is_blank bs ≡ length s.blanks
+pub stop_size : (bs : List ℕ) (s : StopsAt bs) → prefix_len is_space_or_tab bs ≡ length s.blanks
 stop_size bs s =
-    let all = prefix_all is_blank s.blanks (s.stop ∷ s.others) s.is_blanks in
-    let none = prefix_none is_blank s.stop s.others (stop_solid s.stop s.stops) in
+    let all = prefix_all is_space_or_tab s.blanks (s.stop ∷ s.others) s.is_blanks in
+    let none = prefix_none is_space_or_tab s.stop s.others (stop_solid s.stop s.stops) in
     rw s.parts (omega arith)
 
-pub stop_after : (bs : List ℕ) (s : StopsAt bs) → drop (prefix_len is_blank bs) bs ≡ s.stop ∷ s.others
-stop_after bs s = rest_after (prefix_len is_blank bs) bs s.blanks (s.stop ∷ s.others) s.parts (stop_size bs s)
+pub stop_after : (bs : List ℕ) (s : StopsAt bs) → drop (prefix_len is_space_or_tab bs) bs ≡ s.stop ∷ s.others
+stop_after bs s = rest_after (prefix_len is_space_or_tab bs) bs s.blanks (s.stop ∷ s.others) s.parts (stop_size bs s)
 
-pub rest_no_equals : (bs following : List ℕ) → IsTagRest bs following → begins 61 (drop (prefix_len is_blank bs) bs) ≡ false
+pub rest_no_equals : (bs following : List ℕ) → IsTagRest bs following → begins 61 (drop (prefix_len is_space_or_tab bs) bs) ≡ false
 rest_no_equals bs following r =
     let s = rest_stops bs following r in
     ap (begins 61) (stop_after bs s) ∙ stop_equals s.stop s.stops
@@ -169,8 +169,8 @@ rest_no_equals bs following r =
 kept : (bs following : List ℕ) → prefix_len is_unquoted bs ≡ 0 → IsTagRest bs following → IsTagRest (drop (prefix_len is_unquoted bs) bs) following
 kept bs following e r = rw e r
 
-blank_kept : (bs following : List ℕ) → StartsBy is_blank bs → IsTagRest bs following → IsTagRest (drop (prefix_len is_unquoted bs) bs) following
-blank_kept bs following s r = kept bs following (none_first is_unquoted is_blank bs blank_unquoted s) r
+blank_kept : (bs following : List ℕ) → StartsBy is_space_or_tab bs → IsTagRest bs following → IsTagRest (drop (prefix_len is_unquoted bs) bs) following
+blank_kept bs following s r = kept bs following (none_first is_unquoted is_space_or_tab bs blank_unquoted s) r
 
 only_end : (following : List ℕ) → IsTagRest (62 ∷ following) following
 only_end following = record {
@@ -182,7 +182,7 @@ only_end following = record {
 }
 
 end_unquoted_by : (blanks slash bs following : List ℕ)
-    → bs ≡ (blanks ++ (slash ++ 62 ∷ [])) ++ following → list_all is_blank blanks ≡ true → (slash ≡ []) ⊎ (slash ≡ 47 ∷ []) → IsTagRest bs following
+    → bs ≡ (blanks ++ (slash ++ 62 ∷ [])) ++ following → list_all is_space_or_tab blanks ≡ true → (slash ≡ []) ⊎ (slash ≡ 47 ∷ []) → IsTagRest bs following
     → IsTagRest (drop (prefix_len is_unquoted bs) bs) following
 end_unquoted_by [] slash bs following parts h (inl none) r =
     let whole : bs ≡ 62 ∷ following = parts ∙ rw none refl in

@@ -8,7 +8,7 @@ use Rattle.std.proofs.lemmas.Bool.{and_parts, eqb-true}
 use Rattle.std.proofs.lemmas.List.{drop-drop, take-append-drop, length-take-le}
 use Rattle.std.proofs.Math.Seq.{take-add, drop-append_seam}
 use Rattle.std.specs.Char.{is_ascii_alphabetic}
-use Rattle.first_pass_lines.specs.Lines.{begins, blank_len, is_blank}
+use Rattle.first_pass_lines.specs.Lines.{begins, blank_len, is_space_or_tab}
 use Rattle.first_pass_html.specs.Starts.{is_raw_name}
 use Rattle.first_pass_html.specs.Tags.{is_tag_byte, is_tag_name, IsClosingTag, IsBlockOpenTag, IsAfterOpening, IsAfterClosing, IsBlockTag, BeginsTagLine}
 use Rattle.first_pass_html.specs.TagLengths.{tag_name_len, open_end_len, closing_end_len}
@@ -139,12 +139,13 @@ closing_name bs front following parts tag = record {
 pub closing_needs_name : (bs : List ℕ) → tag_name_len bs ≡ None → HasNoFront IsAfterClosing bs
 closing_needs_name bs none front following parts tag = let some = name_counted bs following (closing_name bs front following parts tag) in cc
 
-closing_end_is : (blanks following : List ℕ) → list_all is_blank blanks ≡ true → closing_end_len ((blanks ++ 62 ∷ []) ++ following) ≡ Some (length blanks + 1)
+closing_end_is : (blanks following : List ℕ) → list_all is_space_or_tab blanks ≡ true
+    → closing_end_len ((blanks ++ 62 ∷ []) ++ following) ≡ Some (length blanks + 1)
 unfolding closing_end_len
 closing_end_is blanks following h =
-    let more = prefix_all is_blank blanks (62 ∷ following) h in
-    let none : prefix_len is_blank (62 ∷ following) ≡ 0 = prefix_none is_blank 62 following refl in
-    let size : prefix_len is_blank (blanks ++ 62 ∷ following) ≡ length blanks = omega arith in
+    let more = prefix_all is_space_or_tab blanks (62 ∷ following) h in
+    let none : prefix_len is_space_or_tab (62 ∷ following) ≡ 0 = prefix_none is_space_or_tab 62 following refl in
+    let size : prefix_len is_space_or_tab (blanks ++ 62 ∷ following) ≡ length blanks = omega arith in
     rw (append_assoc blanks (62 ∷ []) following, size, drop-append_seam)
 
 closing_end : (bs front following : List ℕ) (n : ℕ) → bs ≡ front ++ following → (tag : IsAfterClosing front) → tag_name_len bs ≡ Some n
@@ -173,7 +174,7 @@ closing_is : (bs : List ℕ) (n k : ℕ) → tag_name_len bs ≡ Some n → clos
 unfolding closing_end_len
 closing_is bs n k h some =
     let left : List ℕ = drop n bs in
-    let j : ℕ = prefix_len is_blank left in
+    let j : ℕ = prefix_len is_space_or_tab left in
     let both = some_if (begins 62 (drop j left)) (j + 1) k some in
     let end = begins_front 62 (drop j left) both.0 in
     let front : take k left ≡ take j left ++ 62 ∷ [] = ap (λ i. take i left) (sym both.1) ∙ take-add j 1 left ∙ ap (λ xs. take j left ++ take 1 xs) end.1 in
@@ -182,7 +183,7 @@ closing_is bs n k h some =
       blanks = take j left;
       parts = ap (λ xs. 60 ∷ 47 ∷ xs) (take-add n k bs ∙ ap (λ xs. take n bs ++ xs) front);
       is_name = name_front is_ascii_alphabetic is_tag_byte bs n h;
-      is_blanks = prefix_passes is_blank left;
+      is_blanks = prefix_passes is_space_or_tab left;
     }
 
 pub closing_found : (bs : List ℕ) (n k : ℕ)

@@ -1,4 +1,4 @@
--- The end conditions of HTML blocks of the kinds 1 to 5.
+-- The end conditions of HTML blocks of types 1 to 5.
 use Rattle.std.specs.Prelude.{ℕ, Bool, false, ◌||◌, List, [], ◌∷◌, codes}
 use Rattle.std.specs.List.{list_any}
 use Rattle.first_pass_html.specs.Names.{begins_with_name}
@@ -7,9 +7,9 @@ use Rattle.first_pass_html.specs.declared.ends.HtmlEnd.TheVariants.{AnyRawTag, T
 
 -- an end condition of an HTML block of these kinds (CommonMark 4.6, end conditions 1 to 5)
 pub data BlockEnd : Type 0 where
-  -- the line contains any end tag of raw text, whichever tag opened the block: kind 1
+  -- the line contains any end tag of raw text, whichever tag opened the block: type 1
   AtRawEndTag : BlockEnd
-  -- the line contains this text: kinds 2 to 5
+  -- the line contains this text: types 2 to 5
   AtText : List ℕ → BlockEnd
 
 -- the end condition that a value of the code denotes

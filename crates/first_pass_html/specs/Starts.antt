@@ -1,4 +1,4 @@
--- The start conditions of HTML blocks of the kinds 1 to 6. The bytes are those after the `<`.
+-- The start conditions of HTML blocks of types 1 to 6. The bytes are those after the `<`.
 use Rattle.std.specs.Prelude.{◌≡◌, ℕ, Bool, true, false, ◌==◌, ◌&&◌, ◌||◌, List, [], ◌∷◌, ◌++◌, length, drop, take, bytes_eq, Option, None, Some}
 use Rattle.std.specs.Prelude.{codes, if◌then◌else◌}
 use Rattle.std.specs.List.{prefix_len}
@@ -43,7 +43,7 @@ is_raw_name name =
 unfoldable pub begins_raw_text : List ℕ → Bool
 begins_raw_text bs = let n = prefix_len is_ascii_alphabetic bs in ends_raw_name (drop n bs) && is_raw_name (take n bs)
 
--- the end condition of the HTML block of the kinds 1 to 5 that begins here, if there is one (CommonMark 4.6)
+-- the end condition of the HTML block of types 1 to 5 that begins here, if there is one (CommonMark 4.6)
 unfoldable pub html_end : List ℕ → Option BlockEnd
 html_end bs =
     if begins_with (codes "!--") bs then Some (AtText (codes "-->"))

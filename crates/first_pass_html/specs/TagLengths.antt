@@ -4,7 +4,7 @@ use Rattle.std.specs.List.{prefix_len}
 use Rattle.std.specs.Option.{option_map}
 use Rattle.std.specs.Char.{is_ascii_alphabetic}
 use Rattle.first_pass_items.specs.Bytes.{quotation_mark, apostrophe, solidus, equals_sign, greater_than}
-use Rattle.first_pass_lines.specs.Lines.{begins, is_blank}
+use Rattle.first_pass_lines.specs.Lines.{begins, is_space_or_tab}
 use Rattle.first_pass_html.specs.Tags.{is_tag_byte, starts_attribute, is_attribute_byte, is_unquoted, is_quoted}
 
 -- the length of a first byte and of all bytes that continue it (this project)
@@ -35,12 +35,12 @@ value_len (b ∷ bs) = if b == quotation_mark || b == apostrophe then quoted_len
 
 -- the length of blanks and the value after them, if there is one (CommonMark 6.6, attribute value specification)
 unfoldable pub blanks_value_len : List ℕ → Option ℕ
-blanks_value_len bs = let n = prefix_len is_blank bs in option_map (λ k. n + k) (value_len (drop n bs))
+blanks_value_len bs = let n = prefix_len is_space_or_tab bs in option_map (λ k. n + k) (value_len (drop n bs))
 
 -- the length of the value specification, or 0 if there is none (CommonMark 6.6)
 unfoldable pub specification_len : List ℕ → ℕ
 specification_len bs =
-    let n = prefix_len is_blank bs in
+    let n = prefix_len is_space_or_tab bs in
     if begins equals_sign (drop n bs) then unwrap_or (option_map (λ k. n + 1 + k) (blanks_value_len (drop (n + 1) bs))) 0 else 0
 
 -- the length of an attribute name and its optional value specification (CommonMark 6.6)
@@ -49,7 +49,7 @@ named_len bs = option_map (λ k. k + specification_len (drop k bs)) (attribute_n
 
 -- the length of an attribute, with the blanks before its name (CommonMark 6.6)
 unfoldable pub attribute_len : List ℕ → Option ℕ
-attribute_len bs = let n = prefix_len is_blank bs in if n == 0 then None else option_map (λ k. n + k) (named_len (drop n bs))
+attribute_len bs = let n = prefix_len is_space_or_tab bs in if n == 0 then None else option_map (λ k. n + k) (named_len (drop n bs))
 
 -- the length of `>` or `/>` (CommonMark 6.6, open tag)
 abbrev pub close_len : List ℕ → Option ℕ
@@ -58,8 +58,8 @@ close_len (b ∷ bs) = if b == greater_than then Some 1 else (if b == solidus &&
 
 -- the length of the end of an open tag: blanks, an optional `/`, and `>` (CommonMark 6.6)
 unfoldable pub open_end_len : List ℕ → Option ℕ
-open_end_len bs = let n = prefix_len is_blank bs in option_map (λ k. n + k) (close_len (drop n bs))
+open_end_len bs = let n = prefix_len is_space_or_tab bs in option_map (λ k. n + k) (close_len (drop n bs))
 
 -- the length of the end of a closing tag: blanks, and `>` (CommonMark 6.6)
 unfoldable pub closing_end_len : List ℕ → Option ℕ
-closing_end_len bs = let n = prefix_len is_blank bs in if begins greater_than (drop n bs) then Some (n + 1) else None
+closing_end_len bs = let n = prefix_len is_space_or_tab bs in if begins greater_than (drop n bs) then Some (n + 1) else None

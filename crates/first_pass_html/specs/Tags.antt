@@ -4,7 +4,7 @@ use Rattle.std.specs.List.{list_all, concat}
 use Rattle.std.specs.Char.{is_ascii_alphabetic, is_ascii_alphanumeric}
 use Rattle.first_pass_items.specs.Bytes.{quotation_mark, apostrophe, hyphen, full_stop, solidus, colon, less_than, equals_sign, greater_than, underscore}
 use Rattle.first_pass_items.specs.Bytes.{backquote}
-use Rattle.first_pass_lines.specs.Lines.{is_line_end, is_blank, is_blank_line}
+use Rattle.first_pass_lines.specs.Lines.{is_line_end, is_space_or_tab, is_blank_line}
 use Rattle.first_pass_html.specs.Starts.{is_raw_name}
 
 -- a byte of a tag name after its first letter: a letter, a digit or a hyphen (CommonMark 6.6, tag name)
@@ -24,7 +24,7 @@ is_attribute_byte b = is_ascii_alphanumeric b || (b == underscore || (b == full_
 -- unquoted attribute value)
 abbrev pub is_unquoted : ℕ → Bool
 is_unquoted b =
-    not (is_blank b
+    not (is_space_or_tab b
     || (is_line_end b || (b == quotation_mark || (b == apostrophe || (b == equals_sign || (b == less_than || (b == greater_than || b == backquote)))))))
 
 -- a byte of a quoted value: neither its quote nor a line ending (CommonMark 6.6, quoted attribute value)
@@ -58,8 +58,8 @@ pub record IsValueSpecification (bs : List ℕ) : Type 0 where
   pub following : List ℕ
   pub value : List ℕ
   pub parts : bs ≡ before ++ equals_sign ∷ (following ++ value)
-  pub before_blank : list_all is_blank before ≡ true
-  pub past_blank : list_all is_blank following ≡ true
+  pub before_blank : list_all is_space_or_tab before ≡ true
+  pub past_blank : list_all is_space_or_tab following ≡ true
   pub is_value : IsValue value
 
 -- an attribute: one or more blanks, a name, and an optional value specification (CommonMark 6.6)
@@ -68,7 +68,7 @@ pub record IsAttribute (bs : List ℕ) : Type 0 where
   pub name : List ℕ
   pub specification : List ℕ
   pub parts : bs ≡ blanks ++ (name ++ specification)
-  pub is_blanks : is_word is_blank is_blank blanks ≡ true
+  pub is_blanks : is_word is_space_or_tab is_space_or_tab blanks ≡ true
   pub is_name : is_attribute_name name ≡ true
   pub specified : (specification ≡ []) ⊎ IsValueSpecification specification
 
@@ -82,7 +82,7 @@ pub record IsOpenTagEnd (bs : List ℕ) : Type 0 where
   pub blanks : List ℕ
   pub slash : List ℕ
   pub parts : bs ≡ blanks ++ (slash ++ greater_than ∷ [])
-  pub is_blanks : list_all is_blank blanks ≡ true
+  pub is_blanks : list_all is_space_or_tab blanks ≡ true
   pub is_slash : (slash ≡ []) ⊎ (slash ≡ solidus ∷ [])
 
 -- an open tag: `<`, a tag name, attributes, and its end (CommonMark 6.6)
@@ -101,7 +101,7 @@ pub record IsClosingTag (bs : List ℕ) : Type 0 where
   pub blanks : List ℕ
   pub parts : bs ≡ less_than ∷ (solidus ∷ (name ++ (blanks ++ greater_than ∷ [])))
   pub is_name : is_tag_name name ≡ true
-  pub is_blanks : list_all is_blank blanks ≡ true
+  pub is_blanks : list_all is_space_or_tab blanks ≡ true
 
 -- an open tag whose name is not one of raw text (CommonMark 4.6, start condition 7; that case does not matter: this
 -- project)

@@ -1,4 +1,4 @@
-//! The end conditions of HTML blocks of the kinds 1 to 5.
+//! The end conditions of HTML blocks of types 1 to 5.
 
 ghost use Rattle.std.specs.Prelude.{◌≡◌, ◌∷◌};
 ghost use Rattle.first_pass_items.specs.Bytes.{less_than};
@@ -8,13 +8,13 @@ use crate::names::begins_with_name;
 use first_pass_lines::places::rest_of;
 use memchr::memchr;
 
-/// The end condition of an HTML block of the kinds 1 to 5. The line that contains it is the last of the block
+/// The end condition of an HTML block of types 1 to 5. The line that contains it is the last of the block
 /// (CommonMark 4.6).
 #[derive(Clone, Copy)]
 pub enum HtmlEnd {
-    /// Any of `</pre>`, `</script>`, `</style>` and `</textarea>`, in any case: kind 1.
+    /// Any of `</pre>`, `</script>`, `</style>` and `</textarea>`, in any case: type 1.
     AnyRawTag,
-    /// This text, one of `-->`, `?>`, `>` and `]]>`: kinds 2 to 5.
+    /// This text, one of `-->`, `?>`, `>` and `]]>`: types 2 to 5.
     Text(&'static str),
 }
 

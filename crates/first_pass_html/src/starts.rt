@@ -1,4 +1,4 @@
-//! The start conditions of HTML blocks of the kinds 1 to 6.
+//! The start conditions of HTML blocks of types 1 to 6.
 
 ghost use Rattle.std.specs.Prelude.{◌≡◌, ◌↔◌, IsTrue, ◌∷◌, bytes_eq};
 ghost use Rattle.std.specs.Option.{option_map};
@@ -12,7 +12,7 @@ use crate::names::{begins_with_name, block_name_len};
 use first_pass_lines::lines::is_ascii_white;
 use first_pass_lines::places::rest_of;
 
-/// Returns the end condition of the HTML block of the kinds 1 to 5 whose `<` directly precedes `bytes`. For `<pre`,
+/// Returns the end condition of the HTML block of types 1 to 5 whose `<` directly precedes `bytes`. For `<pre`,
 /// `<script`, `<style` and `<textarea` it is any end tag of raw text; otherwise it is the text `-->`, `?>`, `]]>` or
 /// `>`. Returns `None` if no block of these kinds begins there. CommonMark 4.6.
 pub fn get_html_end_tag(bytes: &[u8]) -> Option<HtmlEnd>

@@ -6,7 +6,7 @@ ghost use Rattle.first_pass_json.specs.Told.{IsOutput};
 
 use crate::written::write_json;
 use first_pass_blocks::pass::run_first_pass;
-use first_pass_host::fault::BlocksFault;
+use first_pass_host::fault::RunFault;
 use first_pass_items::option_set::Options;
 use first_pass_run::report::{Report, run_report};
 use std::alloc::Global;
@@ -24,7 +24,7 @@ impl Report for JsonTree {
         text: &str,
         options: Options,
         output: &mut W,
-    ) -> Result<(), BlocksFault> {
+    ) -> Result<(), RunFault> {
         let (tree, allocs) = run_first_pass(alloc, text, options)?;
         write_json(alloc, tree.nodes(), &allocs, output)
     }
@@ -43,7 +43,7 @@ pub fn tree_run<R: Read, W: Write>(
     words: &[String],
     input: &mut R,
     output: &mut W,
-) -> Result<(), BlocksFault>
+) -> Result<(), RunFault>
     ensures { Runs IsOutput words.now (stream_between (R.remaining input.old) (R.remaining input.new))
         (stream_between (W.contents output.old) (W.contents output.new)) result }
 {

@@ -6,7 +6,7 @@ ghost use Rattle.first_pass_json.specs.JsonLines.{json_lines, tables_lines};
 
 use crate::definition::{append_definition, append_footnote};
 use crate::node::append_node;
-use first_pass_host::fault::BlocksFault;
+use first_pass_host::fault::RunFault;
 use first_pass_host::output::write_each;
 use first_pass_items::item::Item;
 use first_pass_names::items::Allocations;
@@ -21,7 +21,7 @@ pub fn write_json<W: Write>(
     nodes: &[(usize, Item)],
     allocs: &Allocations<'_>,
     output: &mut W,
-) -> Result<(), BlocksFault>
+) -> Result<(), RunFault>
     ensures { WritesText (json_lines (names_of allocs.now) nodes.now (tables_of allocs.now))
         (stream_between (W.contents output.old) (W.contents output.new)) result }
 {
@@ -39,7 +39,7 @@ fn write_tables<W: Write>(
     alloc: Global,
     allocs: &Allocations<'_>,
     output: &mut W,
-) -> Result<(), BlocksFault>
+) -> Result<(), RunFault>
     ensures { WritesText (tables_lines (tables_of allocs.now))
         (stream_between (W.contents output.old) (W.contents output.new)) result }
 {

@@ -17,13 +17,13 @@ use Rattle.first_pass_html.specs.Tags.{BeginsTagLine}
 use Rattle.first_pass_grammar.specs.Kinds.{Kind, Blank, IndentedCode, Metadata, HtmlToEnd, HtmlToBlank, ThematicBreak, AtxHeading, FencedCode}
 use Rattle.first_pass_grammar.specs.Kinds.{LinkDefinitions}
 use Rattle.first_pass_grammar.specs.Kinds.{Paragraph, all_taken, is_blank_rest, heading_or, rule_or, fence_or, metadata_or, metadata_at, begins_html_to_end}
-use Rattle.first_pass_grammar.specs.Kinds.{begins_html_to_blank, html_kind, first_kind, last_kind, IsKindBy, IsKind}
+use Rattle.first_pass_grammar.specs.Kinds.{begins_html_to_blank, html_kind, first_kind, later_kind, IsKindBy, IsKind}
 use Rattle.first_pass_kinds.specs.BlockStart.{kind_of, IsFoundWith}
 use Rattle.first_pass_kinds.specs.declared.kinds.BlockStart.{BlockStart}
 
 -- columns counted up to four
 pub few_columns : (n m : ℕ) → n ≡ min 4 m → n < 4 → (nat_lt m 4 ≡ true) × (n ≡ m)
-few_columns n m is node_bound = (grind (arith, nat_tests, is, node_bound), omega arith)
+few_columns n m is bound = (grind (arith, nat_tests, is, bound), omega arith)
 
 pub many_columns : (n m : ℕ) → n ≡ min 4 m → 4 ≤ n → nat_lt m 4 ≡ false
 many_columns n m is many = grind (arith, nat_tests, is, many)
@@ -49,7 +49,7 @@ last_by r None (Some level) fence a b e u = b
 last_by r None None (Some fence) a b e u = (e, u)
 last_by r None None None a b e u = tt
 
-last_says : (r : Rest) → nat_lt (indent r) 4 ≡ true → Says r (last_kind (all_taken r).left)
+last_says : (r : Rest) → nat_lt (indent r) 4 ≡ true → Says r (later_kind (all_taken r).left)
 last_says r u = last_by r _ _ _ refl refl refl u
 
 html_by : (t v : Bool) (r : Rest) (k : Kind)
@@ -99,7 +99,7 @@ early_is options r h u = rw h (rw u refl)
 -- metadata block, or none.
 pub record FoundEarly (options : Options) (r : Rest) (m : Option ℕ) : Type 0 where
   pub some : is_blank_rest r ≡ false
-  pub node_bound : nat_lt (indent r) 4 ≡ true
+  pub bound : nat_lt (indent r) 4 ≡ true
   pub metadata : metadata_at (indent r) options (all_taken r).left ≡ m
 
 -- the offset after the columns of a place
@@ -114,11 +114,11 @@ past_columns text start taken r new u i rest is =
 pub found_early : (text bytes : List ℕ) (start taken columns : ℕ) (options : Options) (r new : Rest) (m : Option ℕ)
     → IsUtf8 text → IsPlaceOf text (place_at start r) → is_blank_rest r ≡ false → columns ≡ min 4 (indent r) → new ≡ all_taken r → taken ≡ new.taken
     → columns < 4 → bytes ≡ text → m ≡ metadata_at columns options (drop (start + taken) bytes) → FoundEarly options r m
-found_early text bytes start taken columns options r new m u i some is rest at node_bound same m_is =
-    let f = few_columns columns (indent r) is node_bound in
+found_early text bytes start taken columns options r new m u i some is rest at bound same m_is =
+    let f = few_columns columns (indent r) is bound in
     record {
       some = some;
-      node_bound = f.0;
+      bound = f.0;
       metadata = ap (metadata_at (indent r) options) ((past_columns text start taken r new u i rest at).1 ∙ ap (drop (start + taken)) (sym same))
           ∙ ap (λ n. metadata_at n options (drop (start + taken) bytes)) (sym f.1) ∙ sym m_is;
     }
@@ -126,12 +126,13 @@ found_early text bytes start taken columns options r new m u i some is rest at n
 -- metadata
 pub metadata_here : (options : Options) (r : Rest) (byte : ℕ) → FoundEarly options r (Some byte) → IsKind options r (Metadata byte)
 metadata_here options r byte f =
-    subst (λ o. IsKindBy r o (Metadata byte)) (sym (early_is options r f.some f.node_bound ∙ ap (λ m. metadata_or m (html_kind (all_taken r).left)) f.metadata)) refl
+    subst (λ o. IsKindBy r o (Metadata byte))
+    (sym (early_is options r f.some f.bound ∙ ap (λ m. metadata_or m (html_kind (all_taken r).left)) f.metadata)) refl
 
 html_first : (options : Options) (r : Rest) → FoundEarly options r None → first_kind options r ≡ html_kind (all_taken r).left
-html_first options r f = early_is options r f.some f.node_bound ∙ ap (λ m. metadata_or m (html_kind (all_taken r).left)) f.metadata
+html_first options r f = early_is options r f.some f.bound ∙ ap (λ m. metadata_or m (html_kind (all_taken r).left)) f.metadata
 
--- an HTML block of the kinds 1 to 6
+-- an HTML block of types 1 to 6
 pub html_here : (options : Options) (r : Rest) (k : Kind) → FoundEarly options r None → html_kind (all_taken r).left ≡ Some k → IsKind options r k
 html_here options r k f is = subst (λ o. IsKindBy r o k) (sym (html_first options r f ∙ is)) refl
 
@@ -142,8 +143,8 @@ tag_here options r n f is tag = subst (λ o. IsKindBy r o HtmlToBlank) (sym (htm
 
 -- one of the other kinds
 pub last_here : (options : Options) (r : Rest) → FoundEarly options r None → html_kind (all_taken r).left ≡ None
-    → ((n : ℕ) → BeginsTagLine (all_taken r).left n → ⊥) → IsKind options r (last_kind (all_taken r).left)
-last_here options r f is no_tag = subst (λ o. IsKindBy r o (last_kind (all_taken r).left)) (sym (html_first options r f ∙ is)) (inr (no_tag, refl))
+    → ((n : ℕ) → BeginsTagLine (all_taken r).left n → ⊥) → IsKind options r (later_kind (all_taken r).left)
+last_here options r f is no_tag = subst (λ o. IsKindBy r o (later_kind (all_taken r).left)) (sym (html_first options r f ∙ is)) (inr (no_tag, refl))
 
 -- a tag that was found, or was not
 pub tag_found : (o : Option ℕ) (bs left : List ℕ) → is_some o ≡ true → left ≡ bs → IfSome o (BeginsTagLine bs) → (n : ℕ) × BeginsTagLine left n

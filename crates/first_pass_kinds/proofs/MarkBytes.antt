@@ -14,8 +14,8 @@ use Rattle.first_pass_scan.specs.LeafLines.{hrule_len, code_fence}
 use Rattle.first_pass_scan.specs.Markers.{list_marker, listitem}
 use Rattle.first_pass_metadata.specs.Metadata.{metadata_byte}
 use Rattle.first_pass_html.specs.Tags.{BeginsTagLine}
-use Rattle.first_pass_grammar.specs.Kinds.{AtxHeading, all_taken, is_blank_rest, metadata_at, html_kind, last_kind, IsKind, interrupts_with}
-use Rattle.first_pass_kinds.specs.Marks.{is_no_mark, begins_no_mark}
+use Rattle.first_pass_grammar.specs.Kinds.{AtxHeading, all_taken, is_blank_rest, metadata_at, html_kind, later_kind, IsKind, interrupts_with}
+use Rattle.first_pass_kinds.specs.Marks.{is_no_interrupt, begins_no_interrupt}
 use Rattle.first_pass_kinds.proofs.KindLemmas.{FoundEarly, last_here}
 use Rattle.first_pass_kinds.proofs.PlainKinds.{tag_begins}
 
@@ -34,26 +34,26 @@ unfolding atx_level
 unsigned b bs other = rw other (either (ends_signs (b ∷ bs)) None refl)
 
 -- a byte that is no mark differs from each mark
-isnt : (b c : ℕ) → is_no_mark b ≡ true → is_no_mark c ≡ false → b == c ≡ false
+isnt : (b c : ℕ) → is_no_interrupt b ≡ true → is_no_interrupt c ≡ false → b == c ≡ false
 isnt b c h k = elim (cases_eq b c) [
-  | inl same ↦ absurd (true≢false (sym h ∙ ap is_no_mark same ∙ k))
+  | inl same ↦ absurd (true≢false (sym h ∙ ap is_no_interrupt same ∙ k))
   | inr other ↦ ne_eqb b c other
 ]
 
-no_digit : (b : ℕ) → is_no_mark b ≡ true → is_ascii_digit b ≡ false
-unfolding is_no_mark
+no_digit : (b : ℕ) → is_no_interrupt b ≡ true → is_ascii_digit b ≡ false
+unfolding is_no_interrupt
 no_digit b h = grind (arith, nat_tests, h)
 
 -- A line that begins with no mark interrupts a paragraph only as a table, a footnote or a definition.
-unmarked_first : (whole : Bool) (b : ℕ) (bs : List ℕ) → is_no_mark b ≡ true → interrupts_with whole (b ∷ bs) ≡ false
-unfolding is_no_mark hrule_len code_fence list_marker listitem
+unmarked_first : (whole : Bool) (b : ℕ) (bs : List ℕ) → is_no_interrupt b ≡ true → interrupts_with whole (b ∷ bs) ≡ false
+unfolding is_no_interrupt hrule_len code_fence list_marker listitem
 unmarked_first whole b bs h =
     rw (unsigned b bs (isnt b 35 h refl))
     (rw (isnt b 10 h refl) (rw (isnt b 13 h refl) (rw (isnt b 45 h refl) (rw (isnt b 95 h refl) (rw (isnt b 42 h refl)
     (rw (isnt b 96 h refl) (rw (isnt b 126 h refl) (rw (isnt b 62 h refl) (rw (isnt b 43 h refl) (rw (no_digit b h)
     (rw (isnt b 60 h refl) refl)))))))))))
 
-pub unmarked_interrupts : (whole : Bool) (bs : List ℕ) → begins_no_mark bs ≡ true → interrupts_with whole bs ≡ false
+pub unmarked_interrupts : (whole : Bool) (bs : List ℕ) → begins_no_interrupt bs ≡ true → interrupts_with whole bs ≡ false
 unmarked_interrupts whole [] h = absurd (true≢false (sym h))
 unmarked_interrupts whole (b ∷ bs) h = unmarked_first whole b bs h
 
@@ -89,15 +89,15 @@ sign_html bs h = at_first (λ xs. html_kind xs ≡ None) 35 bs h (λ xs. refl)
 sign_tag : (bs : List ℕ) → begins 35 bs ≡ true → (n : ℕ) → BeginsTagLine bs n → ⊥
 sign_tag bs h n t = true≢false (sym (tag_begins bs n t) ∙ at_first (λ xs. begins 60 xs ≡ false) 35 bs h (λ xs. refl))
 
-heading_last : (bs : List ℕ) (level : HeadingLevel) → begins 35 bs ≡ true → atx_level bs ≡ Some level → last_kind bs ≡ AtxHeading level
+heading_last : (bs : List ℕ) (level : HeadingLevel) → begins 35 bs ≡ true → atx_level bs ≡ Some level → later_kind bs ≡ AtxHeading level
 heading_last bs level h e = rw (sign_hrule bs h) (rw e refl)
 
 -- so it is the block if fewer than four columns are before it.
 pub heading_kind : (options : Options) (r : Rest) (level : HeadingLevel) → is_blank_rest r ≡ false → nat_lt (indent r) 4 ≡ true
     → atx_level (all_taken r).left ≡ Some level → IsKind options r (AtxHeading level)
-heading_kind options r level some node_bound e =
+heading_kind options r level some bound e =
     let h = heading_begins (all_taken r).left level e in
     let early : FoundEarly options r None =
-    record { some = some; node_bound = node_bound; metadata = sign_metadata (indent r) options (all_taken r).left h } in
+    record { some = some; bound = bound; metadata = sign_metadata (indent r) options (all_taken r).left h } in
     subst (IsKind options r) (heading_last (all_taken r).left level h e)
     (last_here options r early (sign_html (all_taken r).left h) (sign_tag (all_taken r).left h))

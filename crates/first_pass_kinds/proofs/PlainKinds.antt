@@ -10,7 +10,7 @@ use Rattle.first_pass_metadata.proofs.MetadataFacts.{plain_metadata}
 use Rattle.first_pass_scan.proofs.PlainFacts.{plain_indent}
 use Rattle.first_pass_html.specs.Tags.{BeginsTagLine}
 use Rattle.first_pass_open.proofs.PlainLemmas.{plain_all}
-use Rattle.first_pass_grammar.specs.Kinds.{Paragraph, all_taken, html_kind, first_kind, last_kind, IsKindBy, IsKind, interrupts_with}
+use Rattle.first_pass_grammar.specs.Kinds.{Paragraph, all_taken, html_kind, first_kind, later_kind, IsKindBy, IsKind, interrupts_with}
 
 plain_60 : is_plain 60 ≡ false
 unfolding is_plain
@@ -28,7 +28,7 @@ plain_interrupts whole bs h =
 pub plain_html : (bs : List ℕ) → begins_plain bs ≡ true → html_kind bs ≡ None
 plain_html bs h = rw (plain_begins 60 bs h plain_60) refl
 
-pub plain_last : (bs : List ℕ) → begins_plain bs ≡ true → last_kind bs ≡ Paragraph
+pub plain_last : (bs : List ℕ) → begins_plain bs ≡ true → later_kind bs ≡ Paragraph
 plain_last bs h = rw (plain_hrule bs h) (rw (plain_atx bs h) (rw (plain_fence bs h) refl))
 
 begins_by : (n : ℕ) (bs xs : List ℕ) → take n bs ≡ 60 ∷ xs → begins 60 bs ≡ true
@@ -54,7 +54,7 @@ first_none options r o h =
 paragraph_by : (r s : Rest) → s ≡ r → all_taken r ≡ s → begins_plain r.left ≡ true → IsKindBy r None Paragraph
 paragraph_by r s e a h = inr (
   λ n t. plain_tag r.left n h (subst (λ (q : Rest). BeginsTagLine q.left n) (a ∙ e) t),
-  sym (ap (λ (q : Rest). last_kind q.left) (a ∙ e) ∙ plain_last r.left h),
+  sym (ap (λ (q : Rest). later_kind q.left) (a ∙ e) ∙ plain_last r.left h),
 )
 
 pub plain_kind : (options : Options) (r : Rest) → r.owed ≡ 0 → begins_plain r.left ≡ true → IsKind options r Paragraph

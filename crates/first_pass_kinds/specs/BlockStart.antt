@@ -28,7 +28,7 @@ kind_of FoundParagraph = Paragraph
 kind_of FoundHtml = HtmlToBlank
 kind_of (Marked leaf) = marked_kind leaf
 
--- the end found for an HTML block of the kinds 1 to 5 is that of the block which begins here (CommonMark 4.6)
+-- the end found for an HTML block of types 1 to 5 is that of the block which begins here (CommonMark 4.6)
 abbrev pub HasEnd : List ℕ → MarkedLeaf → Type 0
 HasEnd bs (MarkedHtml «end») = html_end (drop 1 bs) ≡ Some (condition_of «end»)
 HasEnd bs _ = Unit {0}

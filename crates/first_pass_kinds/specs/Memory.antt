@@ -1,4 +1,4 @@
--- Lines that may head a table, and so take memory (this project).
+-- Lines that may head a table, and so may need memory (this project).
 use Rattle.std.specs.Prelude.{◌&&◌, ℕ, Bool, List, nat_lt}
 use Rattle.first_pass_items.specs.Bytes.{pipe}
 use Rattle.first_pass_items.specs.OptionWords.{has, tables}
@@ -12,7 +12,7 @@ use Rattle.first_pass_grammar.specs.Kinds.{all_taken}
 abbrev pub may_head : Context → List ℕ → Bool
 may_head around bs = has around.options tables && begins pipe bs
 
--- the line may head such a table, after the prefixes of the containers that it continues and fewer than four columns
--- (GFM 4.10)
+-- A line may head a table: tables are on, and the line begins with `|` at fewer than four columns, after the prefixes
+-- of the containers that it continues (GFM 4.10).
 abbrev pub line_may_head : Context → Rest → Bool
 line_may_head around line = nat_lt (indent (front around.path line)) 4 && may_head around (all_taken (front around.path line)).left

@@ -11,10 +11,10 @@ ghost use Rattle.first_pass_scan.specs.LeafLines.{setext_underline};
 ghost use Rattle.first_pass_scan.specs.Markers.{is_bullet, bullet_marker, listitem};
 ghost use Rattle.first_pass_links.specs.Footnotes.{footnote_head};
 ghost use Rattle.first_pass_grammar.specs.Containers.{after, front};
-ghost use Rattle.first_pass_grammar.specs.Kinds.{all_taken, interrupts_with, continued, interrupts_in, interrupts, item_interrupts, ends_tag, unindented};
+ghost use Rattle.first_pass_grammar.specs.Kinds.{all_taken, interrupts_with, continued, interrupts_in, interrupts, item_interrupts, is_ordinary_after_tag, unindented};
 ghost use Rattle.first_pass_grammar.specs.Definitions.{is_underline, crossed};
 ghost use Rattle.first_pass_open.specs.Path.{path_of, context_of, continued_to};
-ghost use Rattle.first_pass_kinds.specs.Marks.{begins_no_mark};
+ghost use Rattle.first_pass_kinds.specs.Marks.{begins_no_interrupt};
 ghost use Rattle.first_pass_kinds.specs.NextLines.{next_line_of};
 ghost use Rattle.first_pass_kinds.specs.Memory.{may_head, line_may_head};
 ghost use Rattle.std.specs.Option.{option_map};
@@ -29,7 +29,7 @@ use first_pass_lines::lines::{
 };
 use first_pass_lines::places::rest_of;
 use first_pass_links::footnote::begins_footnote_in_line;
-use first_pass_open::front::{Front, front_of, is_definition_after, scan_front};
+use first_pass_open::front::{Front, front_of, is_definition_at_depth, scan_front};
 use first_pass_open::indentation::scan_indentation;
 use first_pass_open::source::Source;
 use first_pass_scan::leaf_scan::{scan_code_fence, scan_hrule, scan_setext_heading};
@@ -59,14 +59,14 @@ fn is_bullet(byte: u8) -> bool
 
 /// Returns whether `bytes` interrupts a paragraph, except as a table, a footnote or a definition. `bytes` is the rest
 /// of a line after its indentation of fewer than four columns. It interrupts if its line ends, or if a thematic
-/// break, an ATX heading, a code fence, a block quote, a list item or an HTML block of the kinds 1 to 6 begins. In a
+/// break, an ATX heading, a code fence, a block quote, a list item or an HTML block of types 1 to 6 begins. In a
 /// line that continues all containers, an item interrupts only if it has a bullet or the number 1, and a rest that is
 /// not blank (CommonMark 4.8, 4.1, 4.2, 4.5, 5.1, 5.2, 4.6).
 #[inline(always)]
 pub fn interrupts_without_table(bytes: &[u8], current_container: bool) -> bool
     ensures { result ≡ interrupts_with current_container bytes.now }
 {
-    if begins_no_mark(bytes) {
+    if begins_no_interrupt(bytes) {
         return false;
     }
     if begins_plain_item(bytes) {
@@ -78,9 +78,9 @@ pub fn interrupts_without_table(bytes: &[u8], current_container: bool) -> bool
 // Whether the first byte is no line ending, and nothing that interrupts a paragraph begins with it, except tables,
 // footnotes and definitions.
 #[inline(always)]
-#[tactic(auto, unfolding(crate::specs::Marks::is_no_mark))]
-fn begins_no_mark(bytes: &[u8]) -> bool
-    ensures { result ≡ begins_no_mark bytes.now }
+#[tactic(auto, unfolding(crate::specs::Marks::is_no_interrupt))]
+fn begins_no_interrupt(bytes: &[u8]) -> bool
+    ensures { result ≡ begins_no_interrupt bytes.now }
 {
     match bytes {
         [] => false,
@@ -164,7 +164,7 @@ pub fn scan_interruption(
     if interrupts_as_footnote(bytes, source.options.contains(Options::ENABLE_FOOTNOTES)) {
         return Ok(true);
     }
-    if begins_definition(bytes, source.options) && is_definition_after(tree, kept) {
+    if begins_definition(bytes, source.options) && is_definition_at_depth(tree, kept) {
         return Ok(true);
     }
     interrupts_as_table(source, tree, bytes)
@@ -199,12 +199,12 @@ fn scan_underline(rest: &LineStart<'_>, whole: bool, columns: usize) -> Option<H
 #[derive(Drop)]
 struct LineText<'a> {
     // How many of the open nodes the line continues, the outermost first.
-    kept: usize,
+    continued: usize,
     // Whether these are all open nodes.
-    whole: bool,
+    continues_all: bool,
     // Its columns of indentation, or 4 if there are more.
     columns: usize,
-    // The rest of the line after those.
+    // The rest of the text after those.
     rest: LineStart<'a>,
 }
 
@@ -212,9 +212,9 @@ struct LineText<'a> {
 #[inline(always)]
 fn scan_text<'a>(source: &Source<'a>, tree: &Tree<Item>, start: usize) -> LineText<'a>
     requires { IsCharBoundary source.now.text.now start }
-    ensures whole { result.whole
+    ensures whole { result.continues_all
         ≡ is_some (after (path_of source.now.options tree.now) (line_rest (drop start source.now.text.now))) }
-    ensures kept { continued_to source.now.options tree.now result.kept
+    ensures kept { continued_to source.now.options tree.now result.continued
         ≡ continued (path_of source.now.options tree.now) (line_rest (drop start source.now.text.now)) }
     ensures columns { result.columns
         ≡ min 4 (indent (front (path_of source.now.options tree.now) (line_rest (drop start source.now.text.now)))) }
@@ -229,8 +229,8 @@ fn scan_text<'a>(source: &Source<'a>, tree: &Tree<Item>, start: usize) -> LineTe
     let mut rest = front.rest;
     let columns = scan_indentation(&mut rest);
     LineText {
-        kept: front.kept,
-        whole: front.whole,
+        continued: front.continued,
+        continues_all: front.continues_all,
         columns,
         rest,
     }
@@ -272,13 +272,16 @@ pub fn scan_next_line(
     if is_plain_front(text.rest.left()) {
         return Ok(NextLine::More(start + text.rest.bytes_scanned()));
     }
-    if let Some(level) = scan_underline(&text.rest, text.whole, text.columns) {
+    if let Some(level) = scan_underline(&text.rest, text.continues_all, text.columns) {
         return Ok(NextLine::Underline(level));
     }
-    if scan_paragraph_end(source, tree, &text.rest, text.columns, text.kept)? {
+    if scan_paragraph_end(source, tree, &text.rest, text.columns, text.continued)? {
         return Ok(NextLine::Other);
     }
-    if begins_definition(text.rest.left(), source.options) && text.whole && text.columns < 4 {
+    if begins_definition(text.rest.left(), source.options)
+        && text.continues_all
+        && text.columns < 4
+    {
         return Ok(NextLine::Other);
     }
     Ok(NextLine::More(start + text.rest.bytes_scanned()))
@@ -295,7 +298,7 @@ pub fn scan_line_after_tag<'b>(
     tree: &Tree<Item>,
 ) -> Result<Option<LineStart<'b>>, AllocError>
     ensures value { IfOk result (λ rest.
-        rest ≡ (if ends_tag (context_of source.now.options tree.now) (line_rest bytes.now)
+        rest ≡ (if is_ordinary_after_tag (context_of source.now.options tree.now) (line_rest bytes.now)
         then None
         else Some (all_taken (front (path_of source.now.options tree.now) (line_rest bytes.now))))) }
     ensures err { OnErr result (line_may_head (context_of source.now.options tree.now)
@@ -306,7 +309,7 @@ pub fn scan_line_after_tag<'b>(
     if scan_indentation(&mut rest) >= 4 {
         return Ok(Some(rest));
     }
-    if scan_interruption(source, tree, rest.left(), front.kept)? {
+    if scan_interruption(source, tree, rest.left(), front.continued)? {
         return Ok(None);
     }
     Ok(Some(rest))
@@ -353,17 +356,17 @@ fn scan_definition_end(
 ) -> Result<bool, AllocError>
     ensures value { IfOk result (λ yes. yes
         ≡ (interrupts (context_of source.now.options tree.now)
-        (continued_to source.now.options tree.now front.now.kept) front.now.rest
-        || (is_underline front.now.rest && (not in_label || front.now.whole)))) }
+        (continued_to source.now.options tree.now front.now.continued) front.now.rest
+        || (is_underline front.now.rest && (not in_label || front.now.continues_all)))) }
     ensures err { OnErr result ((nat_lt (indent front.now.rest) 4
         && may_head (context_of source.now.options tree.now) (all_taken front.now.rest).left) ≡ true) }
 {
     let mut text = front.rest.copy();
     let columns = scan_indentation(&mut text);
-    if scan_paragraph_end(source, tree, &text, columns, front.kept)? {
+    if scan_paragraph_end(source, tree, &text, columns, front.continued)? {
         return Ok(true);
     }
-    let is_lazy_in_label = in_label & !front.whole;
+    let is_lazy_in_label = in_label & !front.continues_all;
     if is_lazy_in_label {
         return Ok(false);
     }

@@ -5,7 +5,7 @@ ghost use Rattle.std.specs.Option.{option_map};
 ghost use Rattle.first_pass_lines.specs.Rest.{indent};
 ghost use Rattle.first_pass_lines.specs.Places.{IsPlaceOf};
 ghost use Rattle.first_pass_metadata.specs.MetadataSearch.{IsKnownOf};
-ghost use Rattle.first_pass_grammar.specs.Kinds.{html_kind, last_kind, metadata_at, IsKind, unindented};
+ghost use Rattle.first_pass_grammar.specs.Kinds.{html_kind, later_kind, metadata_at, IsKind, unindented};
 ghost use Rattle.first_pass_kinds.specs.BlockStart.{kind_of, IsFoundWith};
 
 use bitflags::Flags;
@@ -28,7 +28,7 @@ pub enum BlockStart {
     Blank,
     /// A paragraph (CommonMark 4.8).
     Paragraph,
-    /// An HTML block that ends before a blank line: kind 6 or 7 (CommonMark 4.6).
+    /// An HTML block that ends before a blank line: type 6 or 7 (CommonMark 4.6).
     HtmlToBlank,
     /// Another leaf block.
     Marked(MarkedLeaf),
@@ -41,7 +41,7 @@ pub enum MarkedLeaf {
     IndentedCode,
     /// A metadata block, with the byte of its marks: `-` or `+`.
     Metadata(u8),
-    /// An HTML block of the kinds 1 to 5, with its end condition (CommonMark 4.6).
+    /// An HTML block of types 1 to 5, with its end condition (CommonMark 4.6).
     HtmlToEnd(HtmlEnd),
     /// A thematic break, with its length in bytes, its line ending included (CommonMark 4.1).
     ThematicBreak(usize),
@@ -51,7 +51,7 @@ pub enum MarkedLeaf {
     FencedCode(usize, u8),
 }
 
-/// Returns the HTML block of the kinds 1 to 6 that begins here, if there is one (CommonMark 4.6).
+/// Returns the HTML block of types 1 to 6 that begins here, if there is one (CommonMark 4.6).
 #[inline(always)]
 pub fn html_kind(bytes: &[u8]) -> Option<BlockStart>
     ensures kind { option_map kind_of result ≡ html_kind bytes.now }
@@ -70,8 +70,8 @@ pub fn html_kind(bytes: &[u8]) -> Option<BlockStart>
 }
 
 // The thematic break, the ATX heading, the fenced code block or the paragraph that begins here.
-fn last_kind(bytes: &[u8]) -> BlockStart
-    ensures kind { kind_of result ≡ last_kind bytes.now }
+fn later_kind(bytes: &[u8]) -> BlockStart
+    ensures kind { kind_of result ≡ later_kind bytes.now }
     ensures end { IsFoundWith bytes.now result }
 {
     if let Some(size) = scan_hrule(bytes) {
@@ -149,5 +149,5 @@ pub fn kind_at<'a>(
     if scan_html_type_7(left).is_some() {
         return (BlockStart::HtmlToBlank, columns);
     }
-    (last_kind(left), columns)
+    (later_kind(left), columns)
 }

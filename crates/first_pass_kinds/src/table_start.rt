@@ -47,7 +47,7 @@ fn scan_table_at(
     let row_len = scan_nextline(bytes);
     let after = rest_of(bytes, row_len);
     let front = front_of(after, tree, source.options);
-    if !front.whole {
+    if !front.continues_all {
         return Ok(None);
     }
     let Some(alignments) = scan_delimiter_row(source.alloc, &front.rest)? else {

@@ -23,13 +23,13 @@ splat_is [] n y e = ap (λ k. replicate k y) (sym e)
 splat_is (x ∷ xs) n y e = ap (λ k. replicate k y) (sym e) ∙ ap (λ r. y ∷ r) (splat_is xs (length xs) y refl)
 
 run_is : (p : ℕ → Bool) (v : List ℕ) (n : ℕ) → length v ≡ n → n ≤ 64 → first_set (mask_l (map p v)) n ≡ prefix_len (λ x. not (p x)) v
-run_is p v n long node_bound =
+run_is p v n long bound =
     elim (cases_eq (mask_l (map p v)) 0) [
       | inl none ↦ cond-true _ _ _ (eq-eqb _ _ none) ∙ sym (leading_from_mask_l p v none ∙ long)
       | inr some ↦ cond-false _ _ _ (ne_eqb _ _ some) ∙ trailing_mask_l p 64 v (omega arith) (omega arith)
     ]
 
-module _ (q : ℕ → Bool) (d : List ℕ) (i n r : ℕ) (z : List ℕ) (room : i + n ≤ length d) (node_bound : n ≤ 64)
+module _ (q : ℕ → Bool) (d : List ℕ) (i n r : ℕ) (z : List ℕ) (room : i + n ≤ length d) (bound : n ≤ 64)
     (fits : (k : ℕ) → Fits w8 (get_or d k 0)) (found : r ≡ first_set (mask_l (map (top 7) z) % 2 ^ 64) n)
     (f : ℕ → ℕ) (lanes : z ≡ map f (chunk i n d)) where
   abbrev stops : ℕ → Bool
@@ -43,7 +43,7 @@ module _ (q : ℕ → Bool) (d : List ℕ) (i n r : ℕ) (z : List ℕ) (room : 
       let v = chunk i n d in
       let mask =
       ap (λ l. mask_l l % 2 ^ 64) (ap (map (top 7)) lanes ∙ map-map (top 7) f v) ∙ mask_l-mod (map stops v) 64 (omega (arith, length-map v stops, long)) in
-      found ∙ ap (λ m. first_set m n) mask ∙ run_is stops v n long node_bound
+      found ∙ ap (λ m. first_set m n) mask ∙ run_is stops v n long bound
 
   continues : (k : ℕ) → i ≤ k → k < i + r → stops (get_or d k 0) ≡ false
   continues k from to =

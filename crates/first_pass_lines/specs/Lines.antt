@@ -21,8 +21,8 @@ abbrev pub is_white : ℕ → Bool
 is_white b = (b == tab) || (b == line_tabulation) || (b == form_feed) || (b == space)
 
 -- a space or a tab (CommonMark 2.1)
-abbrev pub is_blank : ℕ → Bool
-is_blank b = (b == tab) || (b == space)
+abbrev pub is_space_or_tab : ℕ → Bool
+is_space_or_tab b = (b == tab) || (b == space)
 
 -- ASCII white space, including `\n` and `\r` (this project)
 abbrev pub is_ascii_white : ℕ → Bool

@@ -1,4 +1,5 @@
--- The rest of a line, in columns: tabs behave as if they were replaced by spaces with a tab stop of 4 (CommonMark 2.2).
+-- A place in a line, and the rest of the text from there on, in columns. Tabs behave as if they were replaced by spaces
+-- with a tab stop of 4 (CommonMark 2.2).
 use Rattle.std.specs.Prelude.{ℕ, ◌+◌, ◌-◌, ◌%◌, ◌==◌, zero, suc, List, [], ◌∷◌, drop, Option, Some, None, if◌then◌else◌}
 use Rattle.std.specs.Option.{option_map_or}
 use Rattle.first_pass_items.specs.Bytes.{tab, space, greater_than}

@@ -2,7 +2,7 @@
 
 ghost use Rattle.std.specs.List.{prefix_len};
 ghost use Rattle.std.specs.Prelude.{◌≡◌, ◌<◌, ◌≤◌, length, true, IfSome};
-ghost use Rattle.first_pass_lines.specs.Lines.{is_line_end, is_white, is_blank, is_ascii_white, begins, is_content, is_number_sign, eol_len, blank_len, line_len, level_number as number_of, level_of, atx_level};
+ghost use Rattle.first_pass_lines.specs.Lines.{is_line_end, is_white, is_space_or_tab, is_ascii_white, begins, is_content, is_number_sign, eol_len, blank_len, line_len, level_number as number_of, level_of, atx_level};
 ghost use Rattle.first_pass_lines.specs.Plain.{begins_plain, begins_inert};
 
 use crate::lanes::{LANES, content_run};
@@ -24,8 +24,8 @@ pub fn is_white(byte: u8) -> bool
 }
 
 /// Whether the byte is a space or a tab. CommonMark 2.1.
-pub fn is_blank(byte: u8) -> bool
-    ensures { result ≡ is_blank byte }
+pub fn is_space_or_tab(byte: u8) -> bool
+    ensures { result ≡ is_space_or_tab byte }
 {
     byte == b'\t' || byte == b' '
 }
@@ -94,10 +94,10 @@ pub fn scan_eol(bytes: &[u8]) -> Option<usize>
 
 /// The number of spaces and tabs at the start of `bytes`. CommonMark 2.1.
 pub fn scan_blanks(bytes: &[u8]) -> usize
-    ensures value { result ≡ prefix_len is_blank bytes.now }
+    ensures value { result ≡ prefix_len is_space_or_tab bytes.now }
     ensures within { result ≤ length bytes.now }
 {
-    bytes.iter().take_while(|b| is_blank(**b)).count()
+    bytes.iter().take_while(|b| is_space_or_tab(**b)).count()
 }
 
 /// The number of bytes of white space at the start of `bytes`, without line endings: tab, 0x0B, 0x0C and space.

@@ -602,7 +602,7 @@ kept_is_unit text at n c s l w f = record {
   resumes = omega arith;
   later = l;
   within = w;
-  node_bound = f;
+  bound = f;
   change = inl refl;
   same = λ _. refl;
 }
@@ -619,7 +619,7 @@ dropped_is_unit text at n c p u l m w f e =
       resumes = omega arith;
       later = omega arith;
       within = w;
-      node_bound = f;
+      bound = f;
       change = inr (omega arith, IsCharBoundary-after_ascii text p u (omega arith) (omega arith), omega arith);
       same = λ z. refl;
     }
@@ -642,7 +642,7 @@ run_weight text at next l w s k (inr one) =
 
 space_unit_by : (x : Bool) (text : List ℕ) (at next c : ℕ) → (next == at + 1 && slice_index text at == 32) ≡ x → EndsWhiteRun text at next c
     → is_ascii_white (get_or text at 0) ≡ true → IsUnit text at (space_unit text at next c)
-space_unit_by true text at next c k e s = rw k (kept_is_unit text at next c false e.later e.within e.node_bound)
+space_unit_by true text at next c k e s = rw k (kept_is_unit text at next c false e.later e.within e.bound)
 space_unit_by false text at next c k e s =
     let later = e.later in
     let w = run_weight text at next e.later e.within s k (cases_lt (at + 1) next) in
@@ -653,7 +653,7 @@ space_unit_by false text at next c k e s =
       resumes = omega arith;
       later = later;
       within = e.within;
-      node_bound = e.node_bound;
+      bound = e.bound;
       change = inr ((white_is_ascii (get_or text at 0) s).0, e.boundary, omega arith);
       same = λ z. absurd (omega arith);
     })
@@ -769,9 +769,9 @@ shown-nil false = refl
 
 pub closed : (h : List ℕ → Option ℕ) (t : Bool) (text : List ℕ) (at : ℕ) (known : Known) → at < length text → get_or text at 0 ≡ 93 → known.characters ≤ 999
     → known.solid ≡ true → label_after t known (left_at h text at) ≡ Some (at + 1, known.bytes)
-closed h t text at known l e node_bound solid =
+closed h t text at known l e bound solid =
     let k : known.characters + 0 ≡ known.characters = omega arith in
-    let i : is_label_after known [] ≡ true = rw (k, le-leb known.characters 999 node_bound, solid) in
+    let i : is_label_after known [] ≡ true = rw (k, le-leb known.characters 999 bound, solid) in
     closes h t text at known l e
     ∙ rw i (ap (λ bs. Some (found (at + 1) (known.bytes ++ bs))) (shown-nil t) ∙ ap (λ bs. Some (found (at + 1) bs)) (append-nil known.bytes))
 

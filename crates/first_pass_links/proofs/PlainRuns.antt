@@ -48,7 +48,7 @@ no_escape bs at l h = ap begins_escape (drop_more bs at 0 l) ∙ rw h refl
 -- a run continues after plain bytes
 run_plain_byte : (deepest nesting : ℕ) (bs : List ℕ) (at : ℕ) → at < length bs → is_ordinary (get_or bs at 0) ≡ true → nesting ≤ deepest
     → longer (at + 1) (run_len deepest nesting 0 (drop (at + 1) bs)) ≡ longer at (run_len deepest nesting 0 (drop at bs))
-run_plain_byte deepest nesting bs at l plain node_bound =
+run_plain_byte deepest nesting bs at l plain bound =
     let b = get_or bs at 0 in
     let same = plain_nests b nesting plain in
     let one : suc zero ≡ (if begins_escape (drop at bs) then 2 else 1) = rw (no_escape bs at l (plain_backslash b plain)) refl in
@@ -57,14 +57,14 @@ run_plain_byte deepest nesting bs at l plain node_bound =
 
 pub run_plain : (deepest nesting : ℕ) (bs : List ℕ) (at r : ℕ) → at + r ≤ length bs → ArePlain bs at r → nesting ≤ deepest
     → longer (at + r) (run_len deepest nesting 0 (drop (at + r) bs)) ≡ longer at (run_len deepest nesting 0 (drop at bs))
-run_plain deepest nesting bs at zero within plain node_bound =
+run_plain deepest nesting bs at zero within plain bound =
     let e : at + zero ≡ at = omega arith in
     ap (λ j. longer j (run_len deepest nesting 0 (drop j bs))) e
-run_plain deepest nesting bs at (suc r) within plain node_bound =
+run_plain deepest nesting bs at (suc r) within plain bound =
     let e : at + suc r ≡ at + r + 1 = omega arith in
     ap (λ j. longer j (run_len deepest nesting 0 (drop j bs))) e
-    ∙ run_plain_byte deepest nesting bs (at + r) (omega arith) (plain r (omega arith)) node_bound
-    ∙ run_plain deepest nesting bs at r (omega arith) (λ k below. plain k (omega arith)) node_bound
+    ∙ run_plain_byte deepest nesting bs (at + r) (omega arith) (plain r (omega arith)) bound
+    ∙ run_plain deepest nesting bs at r (omega arith) (λ k below. plain k (omega arith)) bound
 
 -- two kept units, one after the other, are one
 module _ (h : List ℕ → Option ℕ) (t : Bool) (text : List ℕ) (at m n c d : ℕ) where

@@ -62,7 +62,7 @@ pub record IsUnit (text : List ℕ) (at : ℕ) (unit : Unit) : Type 0 where
   pub resumes : unit.resumed ≤ unit.next
   pub later : at < unit.next
   pub within : unit.next ≤ length text
-  pub node_bound : unit.characters ≤ unit.next - at
+  pub bound : unit.characters ≤ unit.next - at
   pub change : (unit.kept ≡ unit.resumed) ⊎ ((slice_index text unit.kept < ascii_end) × IsCharBoundary text unit.resumed
       × (weight (if unit.space then space ∷ [] else []) < weight (part text unit.kept unit.resumed)))
   pub same : unit.kept ≡ unit.resumed → unit.space ≡ false
@@ -107,7 +107,7 @@ pub record EndsWhiteRun (text : List ℕ) (at next characters : ℕ) : Type 0 wh
   pub within : next ≤ length text
   pub boundary : IsCharBoundary text next
   pub some : 0 < characters
-  pub node_bound : characters ≤ next - at
+  pub bound : characters ≤ next - at
   pub lone : characters ≡ 1 → slice_index text at ≡ space → next ≡ at + 1
 
 -- the handler fails at a line ending directly after a run of white space from an offset on (this project)

@@ -8,15 +8,15 @@ use Rattle.first_pass_tree.specs.declared.tree_index.TreeIndex.{TreeIndex}
 use Rattle.first_pass_tree.specs.Forest.{Forest, body_at}
 use Rattle.first_pass_tree.proofs.TightLemmas.{tight_same_body}
 use Rattle.first_pass_lists.specs.Closing.{top_body, emptied, emptied_definition, blank_read_by, blank_read}
-use Rattle.first_pass_lists.specs.declared.reading.Reading.{Reading}
+use Rattle.first_pass_lists.specs.declared.state.PassState.{PassState}
 
-same_blank : (r : Reading) → r.blank ≡ true → record r { blank = true } ≡ r
+same_blank : (r : PassState) → r.blank ≡ true → record r { blank = true } ≡ r
 same_blank r h = ap (λ t. record r { blank = t }) (sym h)
 
-same_tree : (r : Reading) (f : Forest Item) → f ≡ r.tree → r.blank ≡ true → record r { tree = f; blank = true } ≡ r
+same_tree : (r : PassState) (f : Forest Item) → f ≡ r.tree → r.blank ≡ true → record r { tree = f; blank = true } ≡ r
 same_tree r f e h = ap (λ (g : Forest Item). record r { tree = g; blank = true }) e ∙ same_blank r h
 
-none_by : (r : Reading) (b : Option ItemBody) → is_some r.begin_list_item ≡ false → r.blank ≡ true → blank_read_by r b ≡ r
+none_by : (r : PassState) (b : Option ItemBody) → is_some r.begin_list_item ≡ false → r.blank ≡ true → blank_read_by r b ≡ r
 none_by r None none h = same_blank r h
 none_by r (Some (BlockQuoteBody kind)) none h = refl
 none_by r (Some (ListItemBody columns)) none h =
@@ -27,12 +27,12 @@ none_by r (Some (DefinitionListDefinition columns)) none h =
 none_by r (Some b) none h = same_blank r h
 
 -- if no item is empty
-pub kept_none : (r : Reading) → is_some r.begin_list_item ≡ false → r.blank ≡ true → blank_read r ≡ r
+pub kept_none : (r : PassState) → is_some r.begin_list_item ≡ false → r.blank ≡ true → blank_read r ≡ r
 unfolding blank_read
 kept_none r none h = none_by r (top_body r.tree) none h
 
 -- if nothing is open
-pub kept_closed : (r : Reading) → slice_get r.tree.spine 0 ≡ None → r.blank ≡ true → blank_read r ≡ r
+pub kept_closed : (r : PassState) → slice_get r.tree.spine 0 ≡ None → r.blank ≡ true → blank_read r ≡ r
 unfolding blank_read
 kept_closed r none h = ap (λ o. blank_read_by r (option_and_then (λ (ix : TreeIndex). body_at r.tree.nodes ix.0) o)) none ∙ same_blank r h
 
@@ -51,21 +51,21 @@ either true x y e = e
 either false x y e = refl
 
 -- if an item or a definition takes only blank lines
-pub kept_item : (r : Reading) → top_body r.tree ≡ Some (ListItemBody 0) → r.blank ≡ true → blank_read r ≡ r
+pub kept_item : (r : PassState) → top_body r.tree ≡ Some (ListItemBody 0) → r.blank ≡ true → blank_read r ≡ r
 unfolding blank_read
 kept_item r e h =
     ap (blank_read_by r) e
     ∙ same_tree r (if is_some r.begin_list_item then emptied r.tree r.tree.spine else r.tree)
     (either (is_some r.begin_list_item) (emptied r.tree r.tree.spine) r.tree (same_item r.tree r.tree.spine e)) h
 
-pub kept_definition : (r : Reading) → top_body r.tree ≡ Some (DefinitionListDefinition 0) → r.blank ≡ true → blank_read r ≡ r
+pub kept_definition : (r : PassState) → top_body r.tree ≡ Some (DefinitionListDefinition 0) → r.blank ≡ true → blank_read r ≡ r
 unfolding blank_read
 kept_definition r e h =
     ap (blank_read_by r) e
     ∙ same_tree r (if is_some r.begin_list_item then emptied_definition r.tree r.tree.spine else r.tree)
     (either (is_some r.begin_list_item) (emptied_definition r.tree r.tree.spine) r.tree (same_definition r.tree r.tree.spine e)) h
 
-other_by : (r : Reading) (b : ItemBody) → ((n : ℕ) → b ≡ ListItemBody n → ⊥) → ((n : ℕ) → b ≡ DefinitionListDefinition n → ⊥) → r.blank ≡ true
+other_by : (r : PassState) (b : ItemBody) → ((n : ℕ) → b ≡ ListItemBody n → ⊥) → ((n : ℕ) → b ≡ DefinitionListDefinition n → ⊥) → r.blank ≡ true
     → blank_read_by r (Some b) ≡ r
 other_by r (BlockQuoteBody kind) item definition h = refl
 other_by r (ListItemBody columns) item definition h = absurd (item columns refl)
@@ -73,7 +73,7 @@ other_by r (DefinitionListDefinition columns) item definition h = absurd (defini
 other_by r b item definition h = same_blank r h
 
 -- if the innermost open node is neither
-pub kept_other : (r : Reading) (b : ItemBody) → top_body r.tree ≡ Some b → ((n : ℕ) → b ≡ ListItemBody n → ⊥) → ((n : ℕ) → b ≡ DefinitionListDefinition n → ⊥)
+pub kept_other : (r : PassState) (b : ItemBody) → top_body r.tree ≡ Some b → ((n : ℕ) → b ≡ ListItemBody n → ⊥) → ((n : ℕ) → b ≡ DefinitionListDefinition n → ⊥)
     → r.blank ≡ true → blank_read r ≡ r
 unfolding blank_read
 kept_other r b e item definition h = ap (blank_read_by r) e ∙ other_by r b item definition h

@@ -16,7 +16,7 @@ use Rattle.first_pass_tree.proofs.Keeps.{depths-modify}
 use Rattle.first_pass_tree.proofs.Moves.{IsLastBefore, last_before-is}
 use Rattle.first_pass_tree.proofs.TightLemmas.{tight_from_depths}
 use Rattle.first_pass_open.specs.OpenBlock.{closed_by}
-use Rattle.first_pass_lists.specs.declared.reading.Reading.{Reading}
+use Rattle.first_pass_lists.specs.declared.state.PassState.{PassState}
 use Rattle.first_pass_lists.specs.Closing.{popped_by, popped_at, current_moved, definitions_closed}
 
 -- two trees are alike except for their items
@@ -33,7 +33,7 @@ tight_alike f ix true = record {
 }
 tight_alike f ix false = record { depths_are = refl; spine_is = refl; current_is = refl }
 
-closed_alike : (r : Reading) (f : Forest Item) (ix : TreeIndex) (b : Option ItemBody) → IsAlike f (popped_by r f ix b).tree
+closed_alike : (r : PassState) (f : Forest Item) (ix : TreeIndex) (b : Option ItemBody) → IsAlike f (popped_by r f ix b).tree
 closed_alike r f ix None = record { depths_are = refl; spine_is = refl; current_is = refl }
 closed_alike r f ix (Some (ListBody flags byte number)) = tight_alike f ix (bit_and flags.0 1 == 1)
 closed_alike r f ix (Some (DefinitionList flags)) = tight_alike f ix (bit_and flags.0 1 == 1)
@@ -65,12 +65,12 @@ child_closed f e ix last rest forest spine current =
 
 -- the current node is the last child of the innermost open one; after that is closed, it is a child of the current
 -- node
-pub child_after : (r s : Reading) (e : ℕ) (spine : List TreeIndex) (last : TreeIndex) → IsForest r.tree → r.tree.spine ≡ spine → IsSome (slice_get spine 0)
+pub child_after : (r s : PassState) (e : ℕ) (spine : List TreeIndex) (last : TreeIndex) → IsForest r.tree → r.tree.spine ≡ spine → IsSome (slice_get spine 0)
     → r.tree.current ≡ Some last → s ≡ popped_at e r spine → IsChildOfCurrent s.tree last
 child_after r s e [] last forest is some current now = cc
 child_after r s e (ix ∷ rest) last forest is some current now =
     let f : Forest Item = closed_by r.tree e (ix ∷ rest) in
-    subst (λ (q : Reading). IsChildOfCurrent q.tree last) (sym now)
+    subst (λ (q : PassState). IsChildOfCurrent q.tree last) (sym now)
     (child_alike f _ last (closed_alike r f ix (body_at f.nodes ix.0)) (child_closed r.tree e ix last rest forest is current))
 
 -- nodes from a place on are one less deep
@@ -115,7 +115,7 @@ moved_current g last h =
     let before = last_before-is ds d last.0 n l is (λ k a b. omega (arith, deep k a b)) in
     ap (λ k. Some (at_place k)) (last_place ds n d last.0 (last_before ds d n) before l is deep)
 
-last_closed : (r : Reading) (e : ℕ) (ix last : TreeIndex) (rest : List TreeIndex) → IsForest r.tree → r.tree.spine ≡ ix ∷ rest → r.tree.current ≡ Some last
+last_closed : (r : PassState) (e : ℕ) (ix last : TreeIndex) (rest : List TreeIndex) → IsForest r.tree → r.tree.spine ≡ ix ∷ rest → r.tree.current ≡ Some last
     → (let g : Forest Item = (popped_at e r (ix ∷ rest)).tree in IsLastAt (depths g.nodes) (length g.spine + 2) last.0)
 last_closed r e ix last rest forest spine current =
     let f : Forest Item = closed_by r.tree e (ix ∷ rest) in
@@ -127,14 +127,14 @@ last_closed r e ix last rest forest spine current =
     let l = subst (λ c. IfSome c (λ c. IsLastAt (depths r.tree.nodes) (length r.tree.spine + 1) c.0)) current forest.at_current in
     subst (λ d. IsLastAt (depths g.nodes) d last.0) deep (subst (λ ds. IsLastAt ds (length r.tree.spine + 1) last.0) (sym same) l)
 
-closed_by_parts : (r : Reading) (e : ℕ) (s : List TreeIndex) (c : Option TreeIndex) → r.tree.spine ≡ s → r.tree.current ≡ c
+closed_by_parts : (r : PassState) (e : ℕ) (s : List TreeIndex) (c : Option TreeIndex) → r.tree.spine ≡ s → r.tree.current ≡ c
     → definitions_closed e r ≡ current_moved (popped_at e r s) c
 unfolding definitions_closed
 closed_by_parts r e s c spine current = ap (λ s. current_moved (popped_at e r s) r.tree.current) spine ∙ ap (current_moved (popped_at e r s)) current
 
 -- if the innermost definition list is closed, its last child is then current
-pub closed_current : (r : Reading) (e : ℕ) (ix last : TreeIndex) (rest : List TreeIndex) → IsForest r.tree → r.tree.spine ≡ ix ∷ rest
+pub closed_current : (r : PassState) (e : ℕ) (ix last : TreeIndex) (rest : List TreeIndex) → IsForest r.tree → r.tree.spine ≡ ix ∷ rest
     → r.tree.current ≡ Some last → (definitions_closed e r).tree.current ≡ Some last
 closed_current r e ix last rest forest spine current =
-    ap (λ (q : Reading). q.tree.current) (closed_by_parts r e (ix ∷ rest) (Some last) spine current)
+    ap (λ (q : PassState). q.tree.current) (closed_by_parts r e (ix ∷ rest) (Some last) spine current)
     ∙ moved_current (popped_at e r (ix ∷ rest)).tree last (last_closed r e ix last rest forest spine current)

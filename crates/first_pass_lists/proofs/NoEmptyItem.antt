@@ -10,22 +10,23 @@ use Rattle.first_pass_tree.specs.Forest.{Forest, with_body_at, body_at}
 use Rattle.first_pass_grammar.specs.Derivation.{list_flags}
 use Rattle.first_pass_open.specs.OpenBlock.{closed_by}
 use Rattle.first_pass_lists.specs.Closing.{top_end, possible_title, current_moved, definitions_closed, with_tree, popped_after}
-use Rattle.first_pass_lists.specs.Closing.{top_body, is_list, is_list_of, popped_by, popped_at, popped, item_finished_by, item_finished, list_left, gap_tree}
+use Rattle.first_pass_lists.specs.Closing.{top_body, is_list, is_list_of, popped_by, popped_at, popped, item_finished_by, item_finished, list_closed, gap_tree}
 use Rattle.first_pass_lists.specs.Closing.{list_finished, loosened_top, list_kept, begun, list_continued, is_footnote, footnote_left}
 use Rattle.first_pass_lists.specs.Closing.{footnote_begun}
 use Rattle.first_pass_items.specs.declared.item.CowIndex.{CowIndex}
-use Rattle.first_pass_lists.specs.declared.reading.Reading.{Reading}
+use Rattle.first_pass_lists.specs.declared.state.PassState.{PassState}
 
-none_by : (r : Reading) (o : Option ℕ) → r.begin_list_item ≡ o → (item_finished_by r o).begin_list_item ≡ None
+none_by : (r : PassState) (o : Option ℕ) → r.begin_list_item ≡ o → (item_finished_by r o).begin_list_item ≡ None
 none_by r None h = h
 none_by r (Some e) h = refl
 
 -- no item is empty after that
-pub finished_none : (r : Reading) → (item_finished r).begin_list_item ≡ None
+pub finished_none : (r : PassState) → (item_finished r).begin_list_item ≡ None
 unfolding item_finished
 finished_none r = none_by r r.begin_list_item refl
 
-popped_by_none : (r : Reading) (f : Forest Item) (ix : TreeIndex) (b : Option ItemBody) → r.begin_list_item ≡ None → (popped_by r f ix b).begin_list_item ≡ None
+popped_by_none : (r : PassState) (f : Forest Item) (ix : TreeIndex) (b : Option ItemBody) → r.begin_list_item ≡ None
+    → (popped_by r f ix b).begin_list_item ≡ None
 popped_by_none r f ix None none = none
 popped_by_none r f ix (Some (ListBody flags list number)) none = none
 popped_by_none r f ix (Some (DefinitionList flags)) none = none
@@ -33,59 +34,60 @@ popped_by_none r f ix (Some (ListItemBody columns)) none = refl
 popped_by_none r f ix (Some (DefinitionListDefinition columns)) none = refl
 popped_by_none r f ix (Some b) none = none
 
-pub popped_at_none : (e : ℕ) (r : Reading) (s : List TreeIndex) → r.begin_list_item ≡ None → (popped_at e r s).begin_list_item ≡ None
+pub popped_at_none : (e : ℕ) (r : PassState) (s : List TreeIndex) → r.begin_list_item ≡ None → (popped_at e r s).begin_list_item ≡ None
 popped_at_none e r [] none = none
 popped_at_none e r (ix ∷ rest) none = popped_by_none r (closed_by r.tree e (ix ∷ rest)) ix (body_at (closed_by r.tree e (ix ∷ rest)).nodes ix.0) none
 
-moved_none : (r : Reading) (c : Option TreeIndex) → r.begin_list_item ≡ None → (current_moved r c).begin_list_item ≡ None
+moved_none : (r : PassState) (c : Option TreeIndex) → r.begin_list_item ≡ None → (current_moved r c).begin_list_item ≡ None
 moved_none r None none = none
 moved_none r (Some c) none = none
 
-pub closed_none : (e : ℕ) (r : Reading) → r.begin_list_item ≡ None → (definitions_closed e r).begin_list_item ≡ None
+pub closed_none : (e : ℕ) (r : PassState) → r.begin_list_item ≡ None → (definitions_closed e r).begin_list_item ≡ None
 unfolding definitions_closed
 closed_none e r none = moved_none (popped_at e r r.tree.spine) r.tree.current (popped_at_none e r r.tree.spine none)
 
-after_none : (e : ℕ) (r : Reading) (title : Option TreeIndex) → r.begin_list_item ≡ None → (popped_after e r title).begin_list_item ≡ None
+after_none : (e : ℕ) (r : PassState) (title : Option TreeIndex) → r.begin_list_item ≡ None → (popped_after e r title).begin_list_item ≡ None
 after_none e r None none = popped_at_none e r r.tree.spine none
 after_none e r (Some title) none = closed_none (top_end r.tree) (with_tree r (with_body_at r.tree title ParagraphBody)) none
 
-popped_none : (e : ℕ) (r : Reading) → r.begin_list_item ≡ None → (popped e r).begin_list_item ≡ None
+popped_none : (e : ℕ) (r : PassState) → r.begin_list_item ≡ None → (popped e r).begin_list_item ≡ None
 unfolding popped
 popped_none e r none = after_none e r (possible_title r.tree) none
 
-left_none : (t : Bool) (e : ℕ) (r : Reading) → r.begin_list_item ≡ None → (if t then popped e r else r).begin_list_item ≡ None
+left_none : (t : Bool) (e : ℕ) (r : PassState) → r.begin_list_item ≡ None → (if t then popped e r else r).begin_list_item ≡ None
 left_none true e r none = popped_none e r none
 left_none false e r none = none
 
-noted_none : (t : Bool) (r : Reading) (f : Forest Item) → r.begin_list_item ≡ None
+noted_none : (t : Bool) (r : PassState) (f : Forest Item) → r.begin_list_item ≡ None
     → (if t then record r { tree = f; blank = false } else r).begin_list_item ≡ None
 noted_none true r f none = none
 noted_none false r f none = none
 
-pub list_finished_none : (e : ℕ) (r : Reading) → (list_finished e r).begin_list_item ≡ None
+pub list_finished_none : (e : ℕ) (r : PassState) → (list_finished e r).begin_list_item ≡ None
 unfolding list_finished
 list_finished_none e r =
-    let l : Reading = list_left e (item_finished r) in
+    let l : PassState = list_closed e (item_finished r) in
     noted_none l.blank l (gap_tree l.tree l.tree.spine) (left_none (is_list (top_body (item_finished r).tree)) e (item_finished r) (finished_none r))
 
-pub footnote_begun_none : (start : ℕ) (label : CowIndex) (r : Reading) → (footnote_begun start label r).begin_list_item ≡ None
+pub footnote_begun_none : (start : ℕ) (label : CowIndex) (r : PassState) → (footnote_begun start label r).begin_list_item ≡ None
 unfolding footnote_begun
 footnote_begun_none start label r =
-    let s : Reading = item_finished r in
-    let l : Reading = list_left start s in
-    let q : Reading = footnote_left start l in
+    let s : PassState = item_finished r in
+    let l : PassState = list_closed start s in
+    let q : PassState = footnote_left start l in
     noted_none q.blank q (gap_tree q.tree q.tree.spine)
     (left_none (is_footnote (top_body l.tree)) start l (left_none (is_list (top_body s.tree)) start s (finished_none r)))
 
-continued_by : (t : Bool) (start byte number : ℕ) (r : Reading)
-    → r.begin_list_item ≡ None → (if t then list_kept r else begun start (ListBody (list_flags true) byte number) (list_finished start r)).begin_list_item ≡ None
+continued_by : (t : Bool) (start byte number : ℕ) (r : PassState)
+    → r.begin_list_item ≡ None → (if t then list_kept r
+    else begun start (ListBody (list_flags true) byte number) (list_finished start r)).begin_list_item ≡ None
 continued_by true start byte number r none = noted_none r.blank r (loosened_top r.tree r.tree.spine) none
 continued_by false start byte number r none = list_finished_none start r
 
-pub list_continued_none : (start byte number : ℕ) (r : Reading) → (list_continued start byte number r).begin_list_item ≡ None
+pub list_continued_none : (start byte number : ℕ) (r : PassState) → (list_continued start byte number r).begin_list_item ≡ None
 unfolding list_continued
 list_continued_none start byte number r = continued_by (is_list_of byte (top_body (item_finished r).tree)) start byte number (item_finished r) (finished_none r)
 
 -- an item of this byte and number, opened in its list, which continues or begins
-abbrev pub item_opened : ℕ → ℕ → ℕ → ℕ → Reading → Reading
+abbrev pub item_opened : ℕ → ℕ → ℕ → ℕ → PassState → PassState
 item_opened start byte number columns r = begun start (ListItemBody columns) (list_continued start byte number r)

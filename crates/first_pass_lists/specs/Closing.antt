@@ -17,18 +17,18 @@ use Rattle.first_pass_tree.specs.Forest.{Forest, appended, pushed, wrapped, move
 use Rattle.first_pass_grammar.specs.Derivation.{list_flags}
 use Rattle.first_pass_tree.specs.Tight.{tight_items}
 use Rattle.first_pass_open.specs.OpenBlock.{closed_by}
-use Rattle.first_pass_lists.specs.declared.reading.Reading.{Reading}
+use Rattle.first_pass_lists.specs.declared.state.PassState.{PassState}
 
 -- a state from its parts
-abbrev pub reading_with : Forest Item → Option ℕ → Bool → Reading
-reading_with tree begin_list_item blank = record { tree = tree; begin_list_item = begin_list_item; blank = blank }
+abbrev pub state_with : Forest Item → Option ℕ → Bool → PassState
+state_with tree begin_list_item blank = record { tree = tree; begin_list_item = begin_list_item; blank = blank }
 
 -- the state with another tree
-abbrev pub with_tree : Reading → Forest Item → Reading
+abbrev pub with_tree : PassState → Forest Item → PassState
 with_tree r tree = record r { tree = tree }
 
--- the state after something is added to the innermost open node: no item is empty
-abbrev pub with_block : Reading → Forest Item → Reading
+-- the state after something is added to the innermost open node: it records no empty item
+abbrev pub with_block : PassState → Forest Item → PassState
 with_block r tree = record r { tree = tree; begin_list_item = None }
 
 -- a list becomes loose; any other node is unchanged
@@ -72,33 +72,34 @@ abbrev pub is_footnote : Option ItemBody → Bool
 is_footnote (Some (FootnoteDefinitionBody label)) = true
 is_footnote _ = false
 
--- the innermost open node is closed: the paragraphs of a tight list become tight, and after an item no item is empty
-abbrev pub popped_by : Reading → Forest Item → TreeIndex → Option ItemBody → Reading
+-- The innermost open node is closed. The paragraphs of a tight list become tight. If the node is an item or a
+-- definition, the state then records no empty item.
+abbrev pub popped_by : PassState → Forest Item → TreeIndex → Option ItemBody → PassState
 popped_by r f ix (Some (ListBody flags byte number)) = record r { tree = if bit_and flags.0 1 == 1 then tight_items f ix else f }
 popped_by r f ix (Some (DefinitionList flags)) = record r { tree = if bit_and flags.0 1 == 1 then tight_items f ix else f }
 popped_by r f ix (Some (ListItemBody columns)) = record r { tree = f; begin_list_item = None }
 popped_by r f ix (Some (DefinitionListDefinition columns)) = record r { tree = f; begin_list_item = None }
 popped_by r f ix _ = record r { tree = f }
 
-abbrev pub popped_at : ℕ → Reading → List TreeIndex → Reading
+abbrev pub popped_at : ℕ → PassState → List TreeIndex → PassState
 popped_at e r [] = r
 popped_at e r (ix ∷ rest) = popped_by r (closed_by r.tree e (ix ∷ rest)) ix (body_at (closed_by r.tree e (ix ∷ rest)).nodes ix.0)
 
 -- the current node is moved out of the list that was just closed
-abbrev pub current_moved : Reading → Option TreeIndex → Reading
+abbrev pub current_moved : PassState → Option TreeIndex → PassState
 current_moved r None = r
 current_moved r (Some ix) = with_tree r (moved_from r.tree ix.0)
 
 -- a definition list, the innermost open node, is closed at an offset, and its last child, the current node, is moved
 -- out of it (this project)
-unfoldable pub definitions_closed : ℕ → Reading → Reading
+unfoldable pub definitions_closed : ℕ → PassState → PassState
 definitions_closed e r = current_moved (popped_at e r r.tree.spine) r.tree.current
 
 -- the end that is recorded in the innermost open node; 0 at the top level
 abbrev pub top_end : Forest Item → ℕ
 top_end f = option_map_or (λ x. x.«end») (option_and_then (λ ix. item_at f ix) (slice_get f.spine 0)) 0
 
--- the current node, if it is a possible title in an innermost definition list
+-- the current node, if it is a possible title and the innermost open node is a definition list
 abbrev pub title_by : Option ItemBody → TreeIndex → Option ItemBody → Option TreeIndex
 title_by top ix (Some MaybeDefinitionListTitle) = if is_definition_list top then Some ix else None
 title_by top ix _ = None
@@ -108,37 +109,37 @@ possible_title f = option_and_then (λ ix. title_by (top_body f) ix (body_at f.n
 
 -- A possible title, the current node, becomes a paragraph after the innermost definition list. The list is closed at
 -- the end that its node has had since the title was read: the end of its last definition (this project).
-abbrev pub title_closed : Reading → TreeIndex → Reading
+abbrev pub title_closed : PassState → TreeIndex → PassState
 title_closed r title = definitions_closed (top_end r.tree) (with_tree r (with_body_at r.tree title ParagraphBody))
 
-abbrev pub popped_after : ℕ → Reading → Option TreeIndex → Reading
+abbrev pub popped_after : ℕ → PassState → Option TreeIndex → PassState
 popped_after e r None = popped_at e r r.tree.spine
 popped_after e r (Some title) = title_closed r title
 
 -- the innermost open node is closed at an offset; or, if a possible title is last in it, at the end of its last
 -- definition
-unfoldable pub popped : ℕ → Reading → Reading
+unfoldable pub popped : ℕ → PassState → PassState
 popped e r = popped_after e r (possible_title r.tree)
 
--- an item that has only blank lines, of which the last counts, is closed at the end of its marker's line; then no item
--- is empty
-abbrev pub item_finished_by : Reading → Option ℕ → Reading
+-- an item that has only blank lines, of which the last counts, is closed at the end of its marker's line; afterwards
+-- the state records no empty item
+abbrev pub item_finished_by : PassState → Option ℕ → PassState
 item_finished_by r None = r
 item_finished_by r (Some e) = record (if r.blank && is_item (top_body r.tree) then popped e r else r) { begin_list_item = None }
 
-unfoldable pub item_finished : Reading → Reading
+unfoldable pub item_finished : PassState → PassState
 item_finished r = item_finished_by r r.begin_list_item
 
 -- the innermost open node is closed, if it is a list
-abbrev pub list_left : ℕ → Reading → Reading
-list_left e r = if is_list (top_body r.tree) then popped e r else r
+abbrev pub list_closed : ℕ → PassState → PassState
+list_closed e r = if is_list (top_body r.tree) then popped e r else r
 
 -- the innermost open node is closed, if it is a footnote definition
-abbrev pub footnote_left : ℕ → Reading → Reading
+abbrev pub footnote_left : ℕ → PassState → PassState
 footnote_left e r = if is_footnote (top_body r.tree) then popped e r else r
 
 -- the same, if a counting blank line is directly before (used only for footnotes in the old form)
-abbrev pub old_footnote_finished : ℕ → Reading → Reading
+abbrev pub old_footnote_finished : ℕ → PassState → PassState
 old_footnote_finished e r = if r.blank then footnote_left e r else r
 
 -- the list whose item contains a block becomes loose if a counting blank line is before the block
@@ -147,29 +148,29 @@ gap_tree f [] = f
 gap_tree f (ix ∷ []) = f
 gap_tree f (ix ∷ outer ∷ rest) = loosened_at f outer
 
-abbrev pub gap_noted : Reading → Reading
+abbrev pub gap_noted : PassState → PassState
 gap_noted r = if r.blank then record r { tree = gap_tree r.tree r.tree.spine; blank = false } else r
 
 -- The current node, right after a definition, turned out to be a heading or a table. The definition list is closed at
 -- an offset without it. If a counting blank line is before it, the list whose item contains both becomes loose
 -- (this project).
-unfoldable pub definitions_left : ℕ → Reading → Reading
+unfoldable pub definitions_left : ℕ → PassState → PassState
 definitions_left e r = gap_noted (definitions_closed e r)
 
 -- the state before a block that ends a list at an offset
-unfoldable pub list_finished : ℕ → Reading → Reading
-list_finished e r = gap_noted (list_left e (item_finished r))
+unfoldable pub list_finished : ℕ → PassState → PassState
+list_finished e r = gap_noted (list_closed e (item_finished r))
 
 abbrev pub loosened_top : Forest Item → List TreeIndex → Forest Item
 loosened_top f [] = f
 loosened_top f (ix ∷ rest) = loosened_at f ix
 
 -- the state in which the innermost list continues
-abbrev pub list_kept : Reading → Reading
+abbrev pub list_kept : PassState → PassState
 list_kept r = if r.blank then record r { tree = loosened_top r.tree r.tree.spine; blank = false } else r
 
 -- a container or a list that starts at an offset is opened
-abbrev pub begun : ℕ → ItemBody → Reading → Reading
+abbrev pub begun : ℕ → ItemBody → PassState → PassState
 begun start body r =
     record r { tree = pushed (appended r.tree (record { start = start; «end» = 0; body = body })) (record { 0 = length r.tree.nodes }) }
 
@@ -180,12 +181,12 @@ with_current f body (Some c) = with_body_at f c body
 
 -- The current node, a paragraph right after a definition, is a possible title. The end of that definition, an offset,
 -- is recorded in the innermost definition list. A blank line before the paragraph no longer counts (this project).
-unfoldable pub title_kept : ℕ → Reading → Reading
+unfoldable pub title_kept : ℕ → PassState → PassState
 title_kept e r = record r { tree = with_end (with_current r.tree MaybeDefinitionListTitle r.tree.current) e (slice_get r.tree.spine 0); blank = false }
 
--- A `:` may begin a definition, given the bodies of the innermost open node and of the current node: after a
--- paragraph directly in a container or at the top level; and in a definition list after a possible title, or after a
--- definition that does not take only blank lines (this project).
+-- A `:` may begin a definition, given the bodies of the innermost open node and of the current node. It may after a
+-- paragraph directly in a container or at the top level. In a definition list it may after a possible title, or after a
+-- definition that takes more than blank lines (this project).
 abbrev pub precedes_definition : Option ItemBody → Option ItemBody → Bool
 precedes_definition top (Some ParagraphBody) = not (is_list top)
 precedes_definition top (Some MaybeDefinitionListTitle) = is_definition_list top
@@ -219,16 +220,16 @@ definitions_opened f (Some c) = definitions_at f c (item_at f c)
 
 -- a definition with an indent is opened at an offset, in the open definition list or in a new one; a counting blank
 -- line before it makes that list loose (this project)
-unfoldable pub definition_begun : ℕ → ℕ → Reading → Reading
+unfoldable pub definition_begun : ℕ → ℕ → PassState → PassState
 definition_begun start indent r = begun start (DefinitionListDefinition indent) (list_kept (with_tree r (definitions_opened r.tree r.tree.current)))
 
--- a footnote definition with its label is opened at an offset; an innermost list ends there, and then another
--- footnote definition
-unfoldable pub footnote_begun : ℕ → CowIndex → Reading → Reading
-footnote_begun start label r = begun start (FootnoteDefinitionBody label) (gap_noted (footnote_left start (list_left start (item_finished r))))
+-- A footnote definition with its label is opened at an offset. If the innermost open node is a list, it is closed
+-- there. If the innermost open node is then a footnote definition, that is closed too.
+unfoldable pub footnote_begun : ℕ → CowIndex → PassState → PassState
+footnote_begun start label r = begun start (FootnoteDefinitionBody label) (gap_noted (footnote_left start (list_closed start (item_finished r))))
 
 -- the state before an item with this byte and number: in the list that continues, or in a new one
-unfoldable pub list_continued : ℕ → ℕ → ℕ → Reading → Reading
+unfoldable pub list_continued : ℕ → ℕ → ℕ → PassState → PassState
 list_continued start byte number r =
     let s = item_finished r in
     if is_list_of byte (top_body s.tree) then list_kept s else begun start (ListBody (list_flags true) byte number) (list_finished start s)
@@ -244,17 +245,17 @@ emptied_definition f (ix ∷ rest) = with_body_at f ix (DefinitionListDefinition
 
 -- a blank line is read: it does not count directly in a block quote, and an empty item or definition takes only blank
 -- lines from then on
-abbrev pub blank_read_by : Reading → Option ItemBody → Reading
+abbrev pub blank_read_by : PassState → Option ItemBody → PassState
 blank_read_by r (Some (BlockQuoteBody kind)) = r
 blank_read_by r (Some (ListItemBody columns)) = record r { tree = if is_some r.begin_list_item then emptied r.tree r.tree.spine else r.tree; blank = true }
 blank_read_by r (Some (DefinitionListDefinition columns)) =
     record r { tree = if is_some r.begin_list_item then emptied_definition r.tree r.tree.spine else r.tree; blank = true }
 blank_read_by r _ = record r { blank = true }
 
-unfoldable pub blank_read : Reading → Reading
+unfoldable pub blank_read : PassState → PassState
 blank_read r = blank_read_by r (top_body r.tree)
 
 -- An innermost footnote definition in the old form is closed at the start of a line, after a counting blank line
 -- (this project).
-abbrev pub footnote_ended : Options → ℕ → Reading → Reading
+abbrev pub footnote_ended : Options → ℕ → PassState → PassState
 footnote_ended options e r = if gfm_footnotes options then r else old_footnote_finished e r

@@ -46,9 +46,10 @@ left_untitled f n = if is_possible_title (body_at f.nodes n) then with_body_at f
 abbrev pub left_with : Forest Item → TreeIndex → ℕ → ℕ → Forest Item
 left_with f list other kept = if nat_lt list.0 kept then moved_from (with_end_at f list (end_there f kept)) other else f
 
--- Everything after the leading titles and definitions of the current node, a definition list, is moved after the
--- list, which then ends with the last of them. A possible title that comes first there becomes a paragraph. Without
--- leading titles or definitions, nothing is moved (this project).
+-- The current node is a definition list. Its first child that is neither a title nor a definition, and all after that,
+-- are moved out of the list. The list then ends with the last child that is left. If that first child is a possible
+-- title, it becomes a paragraph. If there is no such child, nothing changes. If no child precedes it, nothing is moved
+-- (this project).
 unfoldable pub fixed_up : Forest Item → TreeIndex → Forest Item
 fixed_up f list =
     let other : ℕ = first_other (length f.spine + 2) (list.0 + 1) f.nodes in

@@ -2,5 +2,5 @@
 #![tactic(auto)]
 
 pub mod list;
-pub mod reading;
+pub mod state;
 pub mod titles;

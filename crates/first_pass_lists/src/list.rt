@@ -1,13 +1,13 @@
 //! Lists and definition lists, and their items: how they continue, become loose and are closed (CommonMark 5.2, 5.3).
 
 ghost use Rattle.std.specs.Prelude.{◌≡◌, ◌==◌, ◌<◌, length, None, true, IsSome, slice_get, OnOk, IfSome, bit_and, if◌then◌else◌};
-ghost use Rattle.first_pass_lists.specs.Closing.{loosened_at, top_body, is_list, is_item, is_list_of, popped_at, popped, item_finished, list_left, footnote_left, old_footnote_finished, footnote_begun, with_tree, gap_noted, list_finished, list_kept, list_continued, begun, blank_read, is_footnote};
+ghost use Rattle.first_pass_lists.specs.Closing.{loosened_at, top_body, is_list, is_item, is_list_of, popped_at, popped, item_finished, list_closed, footnote_left, old_footnote_finished, footnote_begun, with_tree, gap_noted, list_finished, list_kept, list_continued, begun, blank_read, is_footnote};
 ghost use Rattle.first_pass_lists.specs.Closing.{is_definition_list, top_end, possible_title, title_closed, title_kept, definitions_closed, definitions_left, definitions_opened, definition_begun, takes_definition, is_after_definition};
 ghost use Rattle.first_pass_tree.specs.Tight.{tight_items};
 ghost use Rattle.first_pass_open.specs.OpenBlock.{closed_by};
 ghost use Rattle.first_pass_items.specs.declared.item.ItemBody.TheVariants.{BlockQuote as BlockQuoteBody, ListItem as ListItemBody};
 
-use crate::reading::Reading;
+use crate::state::PassState;
 use bitflags::Flags;
 use first_pass_items::item::{BlockQuoteKind, CowIndex, Item, ItemBody, ListFlags};
 use first_pass_open::open_block::{close_block, open_block};
@@ -27,8 +27,8 @@ pub struct ListMarker {
     pub indent: usize,
 }
 
-/// Makes the paragraphs directly in the items of a list, the current node, tight, unless the list is loose
-/// (CommonMark 5.3). Notes where the list ends: before its last child, if that is given.
+/// Unless the list is loose, makes tight the paragraphs directly in its items (CommonMark 5.3). The list is the current
+/// node. Notes where it ends: before its last child, if that is given.
 #[inline(never)]
 fn tighten_list(
     tree: &mut Tree<Item>,
@@ -64,10 +64,10 @@ fn loosen(tree: &mut Tree<Item>, ix: TreeIndex)
     }
 }
 
-impl Reading {
-    /// Closes the innermost open node, of which there must be one, at the offset `ix`. The paragraphs of a list become
-    /// tight, unless it is loose (CommonMark 5.3). A definition list whose last child is a possible title ends where
-    /// its last definition does, and the title becomes a paragraph after it (this project).
+impl PassState {
+    /// Closes the innermost open node at the offset `ix`. A node other than the root must be open. The paragraphs of a
+    /// list become tight, unless it is loose (CommonMark 5.3). A definition list whose last child is a possible title
+    /// ends where its last definition does, and the title becomes a paragraph after it (this project).
     #[tactic(auto, unfolding(crate::specs::Closing::popped))]
     pub fn pop(&mut self, ix: usize)
         requires { IsSome (slice_get self.old.tree.spine 0) }
@@ -79,8 +79,8 @@ impl Reading {
         }
     }
 
-    // Closes the innermost open node, of which there must be one, at the offset `ix`. The paragraphs of a list become
-    // tight, unless it is loose. If the last child is given, it is about to leave the list.
+    // Closes the innermost open node at the offset `ix`. A node other than the root must be open. The paragraphs of a
+    // list become tight, unless it is loose. If the last child is given, it is about to leave the list.
     #[tactic(auto, using(crate::proofs::WithinLemmas::closed_within))]
     fn close_innermost(&mut self, ix: usize, left: Option<TreeIndex>)
         requires { IsSome (slice_get self.old.tree.spine 0) }
@@ -98,7 +98,7 @@ impl Reading {
         }
     }
 
-    // The current node, if it is a possible title in an innermost definition list.
+    // The current node, if it is a possible title and the innermost open node is a definition list.
     fn possible_title(&self) -> Option<TreeIndex>
         ensures value { result ≡ possible_title self.now.tree }
         ensures within { IfSome result (λ title. title.0 < length self.now.tree.nodes) }
@@ -151,9 +151,9 @@ impl Reading {
         }
     }
 
-    /// Closes the innermost definition list at the offset `end`, where its last definition ends. The current node,
-    /// which was read as a paragraph after that, is a heading or a table, and comes after the list. If a counting blank
-    /// line is before it, the list whose item contains both becomes loose (this project).
+    /// Closes the innermost definition list at the offset `end`, where its last definition ends. The current node
+    /// follows that definition. It began like a paragraph, but turned out to be a heading or a table, so it comes after
+    /// the list. If a counting blank line is before it, the list whose item contains both becomes loose (this project).
     #[tactic(auto, unfolding(crate::specs::Closing::definitions_left))]
     pub fn leave_definitions(&mut self, end: usize)
         requires { IsSome (slice_get self.old.tree.spine 0) }
@@ -163,8 +163,8 @@ impl Reading {
         self.mark_gap();
     }
 
-    /// Makes the current node, a paragraph right after a definition that ends at the offset `end`, a possible title: a
-    /// `:` after it makes it a title. A blank line before it no longer counts (this project).
+    /// Makes the current node a possible title: a `:` after it will make it a title. It is a paragraph right after a
+    /// definition, which ends at the offset `end`. A blank line before it no longer counts (this project).
     #[tactic(auto, using(first_pass_open::proofs::BlockLemmas::open_node_in), unfolding(crate::specs::Closing::title_kept))]
     pub fn keep_possible_title(&mut self, end: usize)
         ensures { self.new ≡ title_kept end self.old }
@@ -181,8 +181,9 @@ impl Reading {
         self.blank = false;
     }
 
-    /// Whether a `:` may begin a definition here: after a paragraph, and in a definition list after a possible title,
-    /// or after a definition that does not take only blank lines (this project).
+    /// Whether a `:` may begin a definition here. It may after a paragraph, unless the innermost open node is a list.
+    /// In a definition list it may after a possible title, or after a definition that takes more than blank lines (this
+    /// project).
     pub fn takes_definition(&self) -> bool
         ensures { result ≡ takes_definition self.now.tree }
     {
@@ -282,7 +283,8 @@ impl Reading {
     }
 
     /// Closes the innermost open node at the end of its marker's line, if it is an item or a definition that has only
-    /// blank lines, of which the last counts (CommonMark 5.2, and this project). No item is empty then.
+    /// blank lines, of which the last counts (CommonMark 5.2, and this project). Afterwards the state records no empty
+    /// item.
     #[tactic(auto, using(crate::proofs::WithinLemmas::item_is_open), unfolding(crate::specs::Closing::item_finished))]
     pub fn finish_empty_list_item(&mut self)
         ensures { self.new ≡ item_finished self.old }
@@ -310,9 +312,10 @@ impl Reading {
         )
     }
 
-    /// Closes what a new block ends: an empty item, and then an innermost list at the offset `ix`. A definition list
-    /// whose last child is a possible title ends where its last definition does. If a counting blank line is before the
-    /// block, the list whose item contains it becomes loose.
+    /// Closes what a new block ends: first an empty item, if a counting blank line is before the block. Then, if the
+    /// innermost open node is a list, closes it at the offset `ix`. A definition list whose last child is a possible
+    /// title ends where its last definition does. If a counting blank line is before the block, the list whose item
+    /// contains it becomes loose.
     #[inline(always)]
     #[tactic(auto, unfolding(crate::specs::Closing::list_finished))]
     pub fn finish_list(&mut self, ix: usize)
@@ -326,7 +329,7 @@ impl Reading {
     // Closes the innermost open node, if it is a list, at the offset `ix`.
     #[tactic(auto, using(crate::proofs::WithinLemmas::list_is_open))]
     fn leave_list(&mut self, ix: usize)
-        ensures { self.new ≡ list_left ix self.old }
+        ensures { self.new ≡ list_closed ix self.old }
     {
         if self.is_in_list() {
             self.pop(ix);
@@ -334,8 +337,8 @@ impl Reading {
     }
 
     /// Closes the innermost open node at the offset `ix`, the start of the current line, if the node is a footnote
-    /// definition and a counting blank line is directly before. A list that is open in a footnote definition is
-    /// innermost, and so keeps it open (this project, on footnotes in their old form).
+    /// definition and a counting blank line is directly before. If a list is open in a footnote definition, that
+    /// definition is not the innermost open node, and so stays open (this project, on footnotes in their old form).
     pub fn finish_old_footnote(&mut self, ix: usize)
         ensures { self.new ≡ old_footnote_finished ix self.old }
     {
@@ -357,7 +360,7 @@ impl Reading {
         }
     }
 
-    // Makes the list whose item contains the next block loose, if a counting blank line is before that block.
+    // Makes loose the list whose item contains the next block, if a counting blank line is before that block.
     #[tactic(auto, using(crate::proofs::WithinLemmas::second_within))]
     fn mark_gap(&mut self)
         ensures { self.new ≡ gap_noted self.old }
@@ -503,9 +506,11 @@ impl Reading {
         Ok(())
     }
 
-    /// Opens a footnote definition at the offset `start`, that of its `[`, with the label that an index names. An
-    /// innermost list ends there, and then another footnote definition, so that none is directly in another. If a
-    /// counting blank line is before, the list whose item contains the new one becomes loose (this project).
+    /// Opens a footnote definition at the offset `start`, that of its `[`, with the label that an index names. Before
+    /// that, closes an empty item as `finish_empty_list_item` does. If the innermost open node is then a list, it is
+    /// closed at `start`. If the innermost open node is then a footnote definition, that is closed too, so that none is
+    /// directly in another. If a counting blank line is before, the list whose item contains the new one becomes loose
+    /// (this project).
     #[tactic(auto, unfolding(crate::specs::Closing::footnote_begun))]
     pub fn open_footnote(&mut self, start: usize, label: CowIndex) -> Result<(), AllocError>
         ensures { OnOk result (self.new ≡ footnote_begun start label self.old) }

@@ -8,10 +8,10 @@ use first_pass_items::item::{Item, ItemBody};
 use first_pass_tree::forest::Tree;
 use first_pass_tree::tree_index::TreeIndex;
 
-/// Moves everything after the leading titles and definitions of the definition list `list_ix`, the current node, out
-/// of it: the first child that is neither, and all after it. The list then ends with the last child that is left. A
-/// possible title that comes first there becomes a paragraph. Without another child, nothing changes; without leading
-/// titles or definitions, nothing is moved.
+/// The current node, `list_ix`, is a definition list. Moves its first child that is neither a title nor a definition,
+/// and all after that, out of the list. The list then ends with the last child that is left. If that first child is a
+/// possible title, it becomes a paragraph. If there is no such child, nothing changes. If no child precedes it, nothing
+/// is moved.
 #[tactic(auto, unfolding(crate::specs::Titles::fixed_up))]
 pub fn fixup_end_of_definition_list(tree: &mut Tree<Item>, list_ix: TreeIndex)
     requires { tree.old.current ≡ Some list_ix }

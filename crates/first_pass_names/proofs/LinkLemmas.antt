@@ -19,7 +19,7 @@ use Rattle.first_pass_labels.specs.LabelTables.{with_first, IsInOrder}
 use Rattle.first_pass_labels.specs.declared.label_table.LinkDef.{LinkDef}
 use Rattle.first_pass_labels.specs.declared.label_table.FootnoteDef.{FootnoteDef}
 use Rattle.first_pass_grammar.specs.LinkTables.{with_link, with_links, with_label}
-use Rattle.first_pass_grammar.specs.Derivation.{told, told_label}
+use Rattle.first_pass_grammar.specs.Derivation.{with_definitions, with_footnote_label}
 use Rattle.first_pass_names.specs.TableEntries.{link_entry, footnote_label, tables_of}
 use Rattle.first_pass_names.specs.declared.items.Allocations.{Allocations}
 
@@ -68,7 +68,7 @@ put_labels label x (e ∷ es) order = put_cons footnote_label label x e es _ ord
 -- One more definition is in the tables.
 pub link_defined : (old new : Allocations) (label : CowStr) (x : LinkDef)
     → IsInOrder old.refdefs → new.refdefs ≡ with_first old.refdefs label x → new.footdefs ≡ old.footdefs
-    → tables_of new ≡ told (tables_of old) (link_entry (label, x) ∷ [])
+    → tables_of new ≡ with_definitions (tables_of old) (link_entry (label, x) ∷ [])
 unfolding with_links
 link_defined old new label x order links notes =
     let now : map link_entry new.refdefs ≡ with_link (link_entry (label, x)) (map link_entry old.refdefs) =
@@ -78,7 +78,7 @@ link_defined old new label x order links notes =
 -- The label of one more footnote is in the tables.
 pub footnote_defined : (old new : Allocations) (label : CowStr)
     → IsInOrder old.footdefs → new.footdefs ≡ with_first old.footdefs label (record { use_count = 0 }) → new.refdefs ≡ old.refdefs
-    → tables_of new ≡ told_label (tables_of old) (text_of label)
+    → tables_of new ≡ with_footnote_label (tables_of old) (text_of label)
 footnote_defined old new label order notes links =
     let now : map footnote_label new.footdefs ≡ with_label (text_of label) (map footnote_label old.footdefs) =
     ap (map footnote_label) (notes ∙ put_is label (record { use_count = 0 }) old.footdefs) ∙ put_labels label (record { use_count = 0 }) old.footdefs order in

@@ -10,7 +10,8 @@ use Rattle.first_pass_entities.specs.Texts.{Borrows}
 use Rattle.first_pass_tokens.specs.NamedTexts.{AreMore}
 use Rattle.first_pass_grammar.specs.Names.{Names, Extends}
 use Rattle.first_pass_grammar.specs.CodeBlocks.{NamesInfo}
-pub use Rattle.first_pass_grammar.proofs.MoreNames.{extends_none, extends_both, extends_named, extends_alignments, text_last, still_aligned, alignments_last}
+pub use Rattle.first_pass_grammar.proofs.Names.MoreNames.{extends_none, extends_both, extends_named, extends_alignments}
+pub use Rattle.first_pass_grammar.proofs.Names.MoreNames.{text_last, still_aligned, alignments_last}
 use Rattle.first_pass_names.specs.TableEntries.{with_named, AddsTexts}
 
 -- the same names

@@ -53,18 +53,18 @@ pub record IsCopy (text copy : CowStr) : Type 0 where
   pub borrowed : (bytes : List ℕ) → Borrows bytes text → Borrows bytes copy
 
 -- a footnote definition is added with a copy of its label (this project)
-pub record TellsFootnote (old new : Entries) (label : CowStr) : Type 0 where
+pub record AddsFootnote (old new : Entries) (label : CowStr) : Type 0 where
   pub copy : CowStr
   pub is_copy : IsCopy label copy
-  pub told : new ≡ with_footnote old copy
+  pub added : new ≡ with_footnote old copy
 
 -- the definitions of the entries, as bytes (CommonMark 4.7)
-abbrev pub told_by : Entries → Tables
-told_by es = record { links = map link_entry es.links; footnotes = map footnote_label es.footnotes }
+abbrev pub tables_in : Entries → Tables
+tables_in es = record { links = map link_entry es.links; footnotes = map footnote_label es.footnotes }
 
 -- the definitions of the tables, as bytes
 abbrev pub tables_of : Allocations → Tables
-tables_of a = told_by (entries a)
+tables_of a = tables_in (entries a)
 
 -- the entries of each table (CommonMark 4.7, and this project)
 abbrev pub refdefs_of : Allocations → List (CowStr × LinkDef)

@@ -6,9 +6,9 @@ ghost use Rattle.std.specs.Prelude.{◌≡◌, ◌<◌, ◌∷◌, ◌++◌, [],
 ghost use Rattle.first_pass_links.specs.Labels.{label_at};
 ghost use Rattle.first_pass_grammar.specs.Names.{NamesText, Extends};
 ghost use Rattle.first_pass_items.specs.CowText.{text_of};
-ghost use Rattle.first_pass_names.specs.TableEntries.{entries, with_definition, IsCopy, TellsFootnote, tables_of, names_of, no_names, with_named, with_alignments, with_heading, link_entry, link_at as link_at_of, refdefs_of, footdefs_of};
+ghost use Rattle.first_pass_names.specs.TableEntries.{entries, with_definition, IsCopy, AddsFootnote, tables_of, names_of, no_names, with_named, with_alignments, with_heading, link_entry, link_at as link_at_of, refdefs_of, footdefs_of};
 ghost use Rattle.first_pass_grammar.specs.Names.{text_named, alignments_named};
-ghost use Rattle.first_pass_grammar.specs.Derivation.{no_tables, told, told_label};
+ghost use Rattle.first_pass_grammar.specs.Derivation.{no_tables, with_definitions, with_footnote_label};
 
 pub use first_pass_attributes::attrs::HeadingAttributes;
 use first_pass_items::cow_str::{CowStr, InlineStr};
@@ -117,7 +117,8 @@ impl<'a> Allocations<'a> {
         ensures entries { OnOk result
             (entries self.new ≡ with_definition (entries self.old) label.entry definition.entry) }
         ensures tables { OnOk result
-            (tables_of self.new ≡ told (tables_of self.old) (link_entry (label.entry, definition.entry) ∷ [])) }
+            (tables_of self.new
+            ≡ with_definitions (tables_of self.old) (link_entry (label.entry, definition.entry) ∷ [])) }
         ensures names { names_of self.new ≡ names_of self.old }
         ensures refused { OnErr result (entries self.new ≡ entries self.old) }
     {
@@ -129,8 +130,9 @@ impl<'a> Allocations<'a> {
     /// first of several stays, as it is spelled. No use of the footnote is counted yet. A slice of the text stays
     /// borrowed. Fails only if an allocation fails; then nothing changes (this project).
     pub fn define_footnote(&mut self, alloc: Global, label: &CowStr<'a>) -> Result<(), AllocError>
-        ensures entries { OnOk result (TellsFootnote (entries self.old) (entries self.new) label.now) }
-        ensures tables { OnOk result (tables_of self.new ≡ told_label (tables_of self.old) (text_of label.now)) }
+        ensures entries { OnOk result (AddsFootnote (entries self.old) (entries self.new) label.now) }
+        ensures tables { OnOk result
+            (tables_of self.new ≡ with_footnote_label (tables_of self.old) (text_of label.now)) }
         ensures names { names_of self.new ≡ names_of self.old }
         ensures refused { OnErr result (entries self.new ≡ entries self.old) }
     {

@@ -15,8 +15,8 @@ use Rattle.first_pass_lines.specs.Rest.{Rest}
 use Rattle.first_pass_grammar.specs.declared.kind.Container.{Container}
 use Rattle.first_pass_grammar.specs.Containers.{after, prefix, is_definition, at_definition}
 use Rattle.first_pass_grammar.specs.Kinds.{continued}
-use Rattle.first_pass_grammar.proofs.FootnoteHeads.{whole_none}
-use Rattle.first_pass_open.specs.Path.{container_at, prefix_of, with_container, path_in, outer, is_definition_node, definition_after, continued_to}
+use Rattle.first_pass_grammar.proofs.Sequences.FootnoteHeads.{whole_none}
+use Rattle.first_pass_open.specs.Path.{container_at, prefix_of, with_container, path_in, outer, is_definition_node, definition_at_depth, continued_to}
 use Rattle.first_pass_open.proofs.FrontLemmas.{path_to, path_to-more, taken_more, outer-all, root}
 
 stop_by : (c : Container) (path : List Container) (r q : Rest) → after path r ≡ Some q → prefix c q ≡ None → at_definition (c ∷ path) r ≡ is_definition c
@@ -67,7 +67,7 @@ all_kept options f i r q k h =
     (let t : (i == length f.spine) ≡ true = grind (arith, nat_tests, all) in t ∙ sym (ap is_some some)) in
     let none : slice_get (reverse f.spine) i ≡ None =
     slice_get_past (reverse f.spine) i (subst (λ n. n ≤ i) (sym (length-reverse f.spine)) h) in
-    let stop : definition_after options f i ≡ at_definition (path_in options f.nodes f.spine) r =
+    let stop : definition_at_depth options f i ≡ at_definition (path_in options f.nodes f.spine) r =
     ap (λ o. is_definition_node (option_and_then (container_at options f.nodes) o)) none
     ∙ sym (whole_none (path_in options f.nodes f.spine) r (ap is_some some)) in
     cc
@@ -86,7 +86,7 @@ some_kept options f i r q k h =
     let next : prefix_of node q ≡ None =
     sym (taken_more options f.nodes f.spine i root r q h k.taken) ∙ k.stops (i + 1) (omega arith) (omega arith) in
     let z : i + 1 + (length f.spine - (i + 1)) ≡ length f.spine = omega arith in
-    let stop : definition_after options f i ≡ at_definition path r =
+    let stop : definition_at_depth options f i ≡ at_definition path r =
     ap (λ o. is_definition_node (option_and_then (container_at options f.nodes) o)) here
     ∙ sym (stop_at node (path_to options f.nodes f.spine i) r q k.taken next)
     ∙ ap (λ c. at_definition c r) (sym (path_to-more options f.nodes f.spine i root h))

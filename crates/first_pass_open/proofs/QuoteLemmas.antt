@@ -89,17 +89,17 @@ fewer options ns (ix ∷ spine) zero n h none = refl
 fewer options ns (ix ∷ spine) (suc k) zero h none = absurd (omega arith)
 fewer options ns (ix ∷ spine) (suc k) (suc n) h none =
     with_fewer (container_at options ns ix) (path_in options ns (take n spine)) (path_in options ns (take k spine)) none
-    (λ node_bound. fewer options ns spine k n (omega arith) node_bound)
+    (λ bound. fewer options ns spine k n (omega arith) bound)
 
 -- A line continues the outermost i open nodes and is over then, and no block quote is open inside those.
 pub rest_passed : (options : Options) (f : Forest Item) (n i : ℕ) (r s : Rest) → has_quote_after options f n ≡ false → n ≤ i
     → after (path_in options f.nodes (outer i f.spine)) r ≡ Some s → IsOver s → after (path_of options f) r ≡ Some s
 rest_passed options f n i r s none h taken o =
-    let node_bound : has_quote (path_in options f.nodes (inner i f.spine)) ≡ false =
+    let bound : has_quote (path_in options f.nodes (inner i f.spine)) ≡ false =
     fewer options f.nodes f.spine (length f.spine - i) (length f.spine - n) (omega arith) none in
     let parts : path_of options f ≡ path_in options f.nodes (inner i f.spine) ++ path_in options f.nodes (outer i f.spine) =
     ap (path_in options f.nodes) (sym (take-append-drop (length f.spine - i) f.spine)) ∙ path_in-both options f.nodes (inner i f.spine) (outer i f.spine) in
-    ap (λ p. after p r) parts ∙ path_passed (path_in options f.nodes (inner i f.spine)) (path_in options f.nodes (outer i f.spine)) r s taken o node_bound
+    ap (λ p. after p r) parts ∙ path_passed (path_in options f.nodes (inner i f.spine)) (path_in options f.nodes (outer i f.spine)) r s taken o bound
 
 one_none : (o : Option Container) → is_quote_node o ≡ false → has_quote (with_container o []) ≡ false
 one_none None h = refl

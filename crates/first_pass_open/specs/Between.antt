@@ -10,14 +10,14 @@ use Rattle.first_pass_grammar.specs.OpenOrder.{is_in_item, within_top}
 abbrev pub line_end_at : List ℕ → ℕ → ℕ
 line_end_at text at = at + line_len (drop at text)
 
--- A block is a last child of the innermost open node. Its nodes are between two offsets, in order, and it has at most
--- four nodes of its own for each byte there.
+-- A block is added as the last child of the innermost open node. Its nodes are between two offsets, in order. If the
+-- offsets differ, it has at most four counted nodes for each byte between them.
 pub record AddsBetween (text : List ℕ) (from to : ℕ) (old new : Forest Item) : Type 0 where
   pub items : List (ℕ × Item)
   pub tree_is : new ≡ added old items
   pub fits : FitsBetween text (within_top old) from to items
 
--- a task list item marker is between two offsets, if there is one
+-- the first offset is not after the second, and the task list item marker, if there is one, is between them
 abbrev pub StandsBefore : List ℕ → ℕ → ℕ → Option Item → Type 0
 StandsBefore text from to None = from ≤ to
 StandsBefore text from to (Some x) = (is_task_marker x.body ≡ true) × IsBetween text from to (extent_of x)

@@ -25,7 +25,7 @@ container_of options _ = None
 abbrev pub container_at : Options → List (ℕ × Item) → TreeIndex → Option Container
 container_at options ns ix = option_and_then (container_of options) (body_at ns ix.0)
 
--- a node that is no container continues on every line, with an empty prefix
+-- every line continues a node that is no container, with an empty prefix
 abbrev pub prefix_of : Option Container → Rest → Option Rest
 prefix_of None r = Some r
 prefix_of (Some c) r = prefix c r
@@ -64,7 +64,7 @@ abbrev pub has_quote : List Container → Bool
 has_quote [] = false
 has_quote (c ∷ path) = is_quote c || has_quote path
 
--- one of the open nodes inside the outermost m is a block quote (CommonMark 5.1)
+-- one of the open nodes after the first m, counted from the outermost, is a block quote (CommonMark 5.1)
 abbrev pub has_quote_after : Options → Forest Item → ℕ → Bool
 has_quote_after options f m = has_quote (path_in options f.nodes (inner m f.spine))
 
@@ -74,9 +74,9 @@ is_definition_node None = false
 is_definition_node (Some c) = is_definition c
 
 -- the open node directly inside the outermost n is a definition of a definition list (this project)
-abbrev pub definition_after : Options → Forest Item → ℕ → Bool
-definition_after options f n = is_definition_node (option_and_then (container_at options f.nodes) (slice_get (reverse f.spine) n))
+abbrev pub definition_at_depth : Options → Forest Item → ℕ → Bool
+definition_at_depth options f n = is_definition_node (option_and_then (container_at options f.nodes) (slice_get (reverse f.spine) n))
 
 -- how a line continues the open containers if it continues only the outermost n open nodes (this project)
 abbrev pub continued_to : Options → Forest Item → ℕ → Continued
-continued_to options f n = record { whole = n == length f.spine; at_definition = definition_after options f n }
+continued_to options f n = record { whole = n == length f.spine; at_definition = definition_at_depth options f n }

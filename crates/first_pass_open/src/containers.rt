@@ -56,7 +56,7 @@ fn takes_prefix<'a>(body: ItemBody, line_start: &mut LineStart<'a>, options: Opt
 /// Returns how many of the open nodes the line continues, counted from the outermost up to the first that it does not
 /// continue. `line_start` is then after their prefixes (CommonMark 5). A list item and a definition have the columns
 /// of their indent as prefix. A footnote definition has four columns, or fewer and then the end of the line, if the
-/// options have GitHub's footnotes; otherwise nothing. Nodes that are no containers continue on every line. The last
+/// options have GitHub's footnotes; otherwise nothing. Every line continues a node that is no container. The last
 /// argument is not used.
 #[inline(always)]
 pub fn scan_containers<'a>(
@@ -89,12 +89,12 @@ fn is_quote(body: ItemBody) -> bool
     matches!(body, ItemBody::BlockQuote(_))
 }
 
-// The least number of open nodes for which a walk over them is saved.
+// With fewer open nodes than this, `quotes_end` does not search for a block quote.
 const MANY_OPEN: usize = 16;
 
-/// Returns how many open nodes there are down to the innermost block quote, counted from the outermost. A line that
-/// is over after those continues all others. If few nodes are open, returns their number. The result is valid as long
-/// as no node is opened or closed (CommonMark 5.1, 5.2).
+/// Returns the number of open nodes from the outermost to the innermost block quote, that one included; 0 without a
+/// block quote. A line that ends after the prefixes of these nodes continues all the others too. If few nodes are open,
+/// returns their number. The result is valid as long as no node is opened or closed (CommonMark 5.1, 5.2).
 pub fn quotes_end(tree: &Tree<Item>) -> usize
     ensures { (options : OptionSet) → has_quote_after options tree.now result ≡ false }
 {
@@ -113,8 +113,9 @@ pub fn quotes_end(tree: &Tree<Item>) -> usize
     end
 }
 
-/// Returns the rest of the first line of `bytes` after the prefixes of all open nodes; `None` if the line does not
-/// continue all of them. No node inside the outermost `quotes_end` may be a block quote (CommonMark 5).
+/// Returns the rest of `bytes` after the prefixes of all open nodes on their first line; `None` if that line does not
+/// continue all of them. None of the open nodes after the first `quotes_end`, counted from the outermost, may be a
+/// block quote (CommonMark 5).
 #[inline(always)]
 pub fn continued_rest<'b>(
     bytes: &'b [u8],
@@ -147,7 +148,7 @@ pub fn scan_quote<'a>(line_start: &mut LineStart<'a>) -> Option<usize>
         × (line_start.new ≡ line_start.old))
         (λ next. (result ≡ Some (after_columns 3 line_start.old).taken) × (line_start.new ≡ next)) }
 {
-    // Most markers are right here: first look for one here, and only then after columns.
+    // Most markers have no indentation: look for one at once, and only then after up to three columns.
     let at = line_start.bytes_scanned();
     if line_start.scan_blockquote_marker() {
         return Some(at);

@@ -1,11 +1,12 @@
-//! The front of a line: the prefixes of the open containers on it, and its rest (CommonMark 5).
+//! How a line continues the open containers, and its front: what is left after the prefixes of those that it continues
+//! (CommonMark 5).
 
 ghost use Rattle.std.specs.Prelude.{◌≡◌, ◌<◌, ◌≤◌, ℕ, drop, length, is_some, Some, None, false, IfSome, IsTrue, IsUtf8, IsCharBoundary};
 ghost use Rattle.first_pass_items.specs.declared.option_set.Options.{Options};
 ghost use Rattle.first_pass_lines.specs.Places.{line_rest, place_at, IsPlaceOf};
 ghost use Rattle.first_pass_grammar.specs.Containers.{after, front};
 ghost use Rattle.first_pass_grammar.specs.Kinds.{continued};
-ghost use Rattle.first_pass_open.specs.Path.{outer, path_in, path_of, definition_after, continued_to, has_quote_after};
+ghost use Rattle.first_pass_open.specs.Path.{outer, path_in, path_of, definition_at_depth, continued_to, has_quote_after};
 
 use crate::containers::{continued_rest, scan_containers};
 use crate::source::Source;
@@ -15,59 +16,59 @@ use first_pass_lines::places::rest_of;
 use first_pass_scan::line_start::LineStart;
 use first_pass_tree::forest::Tree;
 
-/// How a line continues the open containers.
+/// How a line continues the open containers, and its front.
 #[derive(Drop)]
 pub struct Front<'a> {
     /// How many of the open nodes the line continues, the outermost first.
-    pub kept: usize,
+    pub continued: usize,
     /// Whether these are all open nodes.
-    pub whole: bool,
-    /// The rest of the line after their prefixes.
+    pub continues_all: bool,
+    /// The front of the line: the rest of the text after their prefixes.
     pub rest: LineStart<'a>,
 }
 
-/// Returns the front of the first line of `bytes`, with these nodes open.
+/// Returns how the first line of `bytes` continues the open nodes of `tree`, and its front.
 #[inline(always)]
 pub fn front_of<'b>(bytes: &'b [u8], tree: &Tree<Item>, options: Options) -> Front<'b>
-    ensures within { result.kept ≤ length tree.now.spine }
-    ensures taken { after (path_in options tree.now.nodes (outer result.kept tree.now.spine)) (line_rest bytes.now)
+    ensures within { result.continued ≤ length tree.now.spine }
+    ensures taken { after (path_in options tree.now.nodes (outer result.continued tree.now.spine)) (line_rest bytes.now)
         ≡ Some result.rest }
-    ensures stops { (m : ℕ) → result.kept < m → m ≤ length tree.now.spine
+    ensures stops { (m : ℕ) → result.continued < m → m ≤ length tree.now.spine
         → after (path_in options tree.now.nodes (outer m tree.now.spine)) (line_rest bytes.now) ≡ None }
-    ensures whole { result.whole ≡ is_some (after (path_of options tree.now) (line_rest bytes.now)) }
+    ensures whole { result.continues_all ≡ is_some (after (path_of options tree.now) (line_rest bytes.now)) }
     ensures front { result.rest ≡ front (path_of options tree.now) (line_rest bytes.now) }
-    ensures continued { IsTrue result.whole → after (path_of options tree.now) (line_rest bytes.now)
+    ensures continued { IsTrue result.continues_all → after (path_of options tree.now) (line_rest bytes.now)
         ≡ Some result.rest }
-    ensures kept { continued_to options tree.now result.kept
+    ensures kept { continued_to options tree.now result.continued
         ≡ continued (path_of options tree.now) (line_rest bytes.now) }
 {
     let mut rest = LineStart::new(bytes);
     let kept = scan_containers(tree, &mut rest, options, false);
     Front {
-        kept,
-        whole: kept == tree.spine_len(),
+        continued: kept,
+        continues_all: kept == tree.spine_len(),
         rest,
     }
 }
 
-/// Returns the front of the line at `start`, an offset into the text.
+/// Returns the same for the line at `start`, an offset into the text.
 #[inline(always)]
 pub fn scan_front<'a>(source: &Source<'a>, tree: &Tree<Item>, start: usize) -> Front<'a>
     requires { IsCharBoundary source.now.text.now start }
-    ensures within { result.kept ≤ length tree.now.spine }
-    ensures taken { after (path_in source.now.options tree.now.nodes (outer result.kept tree.now.spine))
+    ensures within { result.continued ≤ length tree.now.spine }
+    ensures taken { after (path_in source.now.options tree.now.nodes (outer result.continued tree.now.spine))
         (line_rest (drop start source.now.text.now)) ≡ Some result.rest }
-    ensures stops { (m : ℕ) → result.kept < m → m ≤ length tree.now.spine
+    ensures stops { (m : ℕ) → result.continued < m → m ≤ length tree.now.spine
         → after (path_in source.now.options tree.now.nodes (outer m tree.now.spine))
         (line_rest (drop start source.now.text.now)) ≡ None }
-    ensures whole { result.whole
+    ensures whole { result.continues_all
         ≡ is_some (after (path_of source.now.options tree.now) (line_rest (drop start source.now.text.now))) }
     ensures front { result.rest
         ≡ front (path_of source.now.options tree.now) (line_rest (drop start source.now.text.now)) }
-    ensures continued { IsTrue result.whole
+    ensures continued { IsTrue result.continues_all
         → after (path_of source.now.options tree.now) (line_rest (drop start source.now.text.now))
         ≡ Some result.rest }
-    ensures kept { continued_to source.now.options tree.now result.kept
+    ensures kept { continued_to source.now.options tree.now result.continued
         ≡ continued (path_of source.now.options tree.now) (line_rest (drop start source.now.text.now)) }
     ensures place { IsPlaceOf source.now.text.now (place_at start result.rest) }
     ensures utf8 { IsUtf8 source.now.text.now }
@@ -75,8 +76,8 @@ pub fn scan_front<'a>(source: &Source<'a>, tree: &Tree<Item>, start: usize) -> F
     front_of(rest_of(source.text.as_bytes(), start), tree, source.options)
 }
 
-/// Returns the rest of the line at `start` after the prefixes of all open containers; `None` if it does not continue
-/// all of them. `start` is an offset into the text (CommonMark 5).
+/// Returns the rest of the text after the prefixes of all open containers on the line at `start`; `None` if that line
+/// does not continue all of them. `start` is an offset into the text (CommonMark 5).
 #[inline(always)]
 pub fn scan_continued<'a>(
     source: &Source<'a>,
@@ -90,14 +91,15 @@ pub fn scan_continued<'a>(
     ensures utf8 { IsUtf8 source.now.text.now }
 {
     let front = scan_front(source, tree, start);
-    if !front.whole {
+    if !front.continues_all {
         return None;
     }
     Some(front.rest)
 }
 
-/// Returns the same as `scan_continued`, if no open node inside the outermost `quotes_end` is a block quote: the walk
-/// over those nodes is saved if the line is over (CommonMark 5).
+/// Returns the same as `scan_continued`. None of the open nodes after the first `quotes_end`, counted from the
+/// outermost, may be a block quote. The call does not walk over those nodes if the line ends before their prefixes
+/// (CommonMark 5).
 #[inline(always)]
 pub fn scan_continued_past<'a>(
     source: &Source<'a>,
@@ -123,8 +125,8 @@ pub fn scan_continued_past<'a>(
 
 /// Returns whether the open node directly inside the outermost `kept` is a definition of a definition list; `false`
 /// if no more are open.
-pub fn is_definition_after(tree: &Tree<Item>, kept: usize) -> bool
-    ensures { (options : Options) → result ≡ definition_after options tree.now kept }
+pub fn is_definition_at_depth(tree: &Tree<Item>, kept: usize) -> bool
+    ensures { (options : Options) → result ≡ definition_at_depth options tree.now kept }
 {
     tree.recall_forest();
     match tree.walk_spine().get(kept) {

@@ -2,7 +2,7 @@
 
 ghost use Rattle.std.specs.Prelude.{◌≡◌, slice_get, length, IsSome, Some, IfOk, OnOk};
 ghost use Rattle.first_pass_items.specs.declared.item.Item.{Item};
-ghost use Rattle.first_pass_open.specs.OpenBlock.{closed_by, opened_block};
+ghost use Rattle.first_pass_open.specs.OpenBlock.{closed_by, opened_block, with_child};
 
 use first_pass_items::item::{Item, ItemBody};
 use first_pass_tree::forest::Tree;
@@ -45,4 +45,18 @@ pub fn close_block(tree: &mut Tree<Item>, end: usize) -> TreeIndex
     let ix = tree.pop().unwrap();
     tree.set_end(ix, end);
     ix
+}
+
+/// Appends an item, if there is one: the break between two lines, or the marker of a task list item. Fails only if an
+/// allocation fails.
+pub fn append_item(tree: &mut Tree<Item>, item: Option<Item>) -> Result<(), AllocError>
+    ensures { OnOk result (tree.new ≡ with_child tree.old item) }
+{
+    match item {
+        Some(item) => {
+            tree.append(item)?;
+            Ok(())
+        }
+        None => Ok(()),
+    }
 }

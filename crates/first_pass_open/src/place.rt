@@ -6,12 +6,12 @@ ghost use Rattle.first_pass_lines.specs.Places.{offset};
 use first_pass_scan::line_start::LineStart;
 use std::marker::Model;
 
-/// A place in a text: the offset at which reading its line began, and the rest of the line.
+/// A place in a text: the offset at which reading of its line began, and the rest of the text from the place on.
 #[derive(Drop)]
 pub struct Place<'a> {
     /// The offset into the text at which reading the line began.
     pub line: usize,
-    /// The rest of the line.
+    /// The rest of the text from the place on.
     pub rest: LineStart<'a>,
 }
 
@@ -41,7 +41,7 @@ impl<'a> Place<'a> {
         self.rest.left()
     }
 
-    /// Returns a copy of the place, which takes no memory.
+    /// Copies the place. This allocates nothing.
     #[inline(always)]
     pub fn copy(&self) -> Place<'a>
         ensures { result ≡ self.now }

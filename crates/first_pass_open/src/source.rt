@@ -1,4 +1,5 @@
-//! The text that is read, and everything that no call changes while it is read.
+//! The text, and what else stays the same while it is read: the allocator, the options, and the bytes that may begin
+//! inline markup.
 
 ghost use Rattle.std.specs.Prelude.{◌≡◌, ◌<◌, ◌^◌, length};
 ghost use Rattle.first_pass_walk.specs.Walk.{MarksSpecial};

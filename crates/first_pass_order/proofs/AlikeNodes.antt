@@ -20,7 +20,7 @@ use Rattle.first_pass_grammar.specs.WholeTables.{Mark, shown, may_be_title}
 use Rattle.first_pass_lists.specs.Closing.{is_list, is_item, top_body, loosened_by, loosened_at, popped_by, gap_tree, gap_noted, loosened_top, list_kept}
 use Rattle.first_pass_lists.specs.Closing.{emptied}
 use Rattle.first_pass_lists.specs.Closing.{emptied_definition, blank_read_by, blank_read}
-use Rattle.first_pass_lists.specs.declared.reading.Reading.{Reading}
+use Rattle.first_pass_lists.specs.declared.state.PassState.{PassState}
 use Rattle.first_pass_order.proofs.OrderLemmas.{flags_of}
 
 -- whether a node is a list, and whether it is an item
@@ -28,12 +28,12 @@ abbrev pub class_of : ItemBody → Bool × Bool
 class_of b = (is_list (Some b), is_item (Some b))
 
 -- the properties of a body for tables, order, nesting and names
-abbrev pub told : ItemBody → Bool × Bool × (Bool × Bool × Bool × Bool) × (Bool × Bool) × Option Index × (Names → ℕ → ℕ → ℕ → List Mark)
-told b = (is_row b, is_cell b, flags_of b, class_of b, index_of b, λ names depth start end. shown names depth start end b)
+abbrev pub features : ItemBody → Bool × Bool × (Bool × Bool × Bool × Bool) × (Bool × Bool) × Option Index × (Names → ℕ → ℕ → ℕ → List Mark)
+features b = (is_row b, is_cell b, flags_of b, class_of b, index_of b, λ names depth start end. shown names depth start end b)
 
 -- another body with the same properties; it is a text that a definition list may take in only if the first one is
 abbrev pub IsBodyLike : ItemBody → ItemBody → Type 0
-IsBodyLike a b = (told b ≡ told a) × (may_be_title b ≡ true → may_be_title a ≡ true)
+IsBodyLike a b = (features b ≡ features a) × (may_be_title b ≡ true → may_be_title a ≡ true)
 
 -- a node with such a body
 pub record IsAlike (n m : ℕ × Item) : Type 0 where
@@ -133,7 +133,7 @@ like_tight : (t : Bool) (f : Forest Item) (ix : TreeIndex) → LooksAlike f (if 
 like_tight true f ix = record { nodes = alike_tight (slice_index (depths f.nodes) ix.0) (ix.0 + 1) f.nodes; spine = refl; current = refl }
 like_tight false f ix = like_itself f
 
-pub like_popped : (r : Reading) (f : Forest Item) (ix : TreeIndex) (b : Option ItemBody) → LooksAlike f (popped_by r f ix b).tree
+pub like_popped : (r : PassState) (f : Forest Item) (ix : TreeIndex) (b : Option ItemBody) → LooksAlike f (popped_by r f ix b).tree
 like_popped r f ix (Some (ListBody flags byte number)) = like_tight (bit_and flags.0 1 == 1) f ix
 like_popped r f ix (Some (DefinitionList flags)) = like_tight (bit_and flags.0 1 == 1) f ix
 like_popped r f ix (Some (ListItemBody columns)) = like_itself f
@@ -157,16 +157,16 @@ gap_like f [] = like_itself f
 gap_like f (ix ∷ []) = like_itself f
 gap_like f (ix ∷ outer ∷ rest) = like_loosened f outer
 
-pub like_noted : (r : Reading) → LooksAlike r.tree (gap_noted r).tree
-like_noted r = cond_both r.blank (record r { tree = gap_tree r.tree r.tree.spine; blank = false }) r (λ (q : Reading). LooksAlike r.tree q.tree)
+pub like_noted : (r : PassState) → LooksAlike r.tree (gap_noted r).tree
+like_noted r = cond_both r.blank (record r { tree = gap_tree r.tree r.tree.spine; blank = false }) r (λ (q : PassState). LooksAlike r.tree q.tree)
     (λ b. gap_like r.tree r.tree.spine) (λ b. like_itself r.tree)
 
 top_like : (f : Forest Item) (s : List TreeIndex) → LooksAlike f (loosened_top f s)
 top_like f [] = like_itself f
 top_like f (ix ∷ rest) = like_loosened f ix
 
-pub like_kept : (r : Reading) → LooksAlike r.tree (list_kept r).tree
-like_kept r = cond_both r.blank (record r { tree = loosened_top r.tree r.tree.spine; blank = false }) r (λ (q : Reading). LooksAlike r.tree q.tree)
+pub like_kept : (r : PassState) → LooksAlike r.tree (list_kept r).tree
+like_kept r = cond_both r.blank (record r { tree = loosened_top r.tree r.tree.spine; blank = false }) r (λ (q : PassState). LooksAlike r.tree q.tree)
     (λ b. top_like r.tree r.tree.spine) (λ b. like_itself r.tree)
 
 -- a blank line
@@ -182,7 +182,7 @@ emptied_definition_like f [] columns is = like_itself f
 emptied_definition_like f (ix ∷ rest) columns is =
     like_body f ix (DefinitionListDefinition columns) (DefinitionListDefinition 0) is (refl, λ h. h)
 
-blank_by_like : (r : Reading) (b : Option ItemBody) → top_body r.tree ≡ b → LooksAlike r.tree (blank_read_by r b).tree
+blank_by_like : (r : PassState) (b : Option ItemBody) → top_body r.tree ≡ b → LooksAlike r.tree (blank_read_by r b).tree
 blank_by_like r (Some (BlockQuoteBody kind)) is = like_itself r.tree
 blank_by_like r (Some (ListItemBody columns)) is =
     cond_both (is_some r.begin_list_item) (emptied r.tree r.tree.spine) r.tree (LooksAlike r.tree) (λ b. emptied_like r.tree r.tree.spine columns is)
@@ -193,6 +193,6 @@ blank_by_like r (Some (DefinitionListDefinition columns)) is =
 blank_by_like r None is = like_itself r.tree
 blank_by_like r (Some b) is = like_itself r.tree
 
-pub like_blank : (r : Reading) → LooksAlike r.tree (blank_read r).tree
+pub like_blank : (r : PassState) → LooksAlike r.tree (blank_read r).tree
 unfolding blank_read
 like_blank r = blank_by_like r (top_body r.tree) refl

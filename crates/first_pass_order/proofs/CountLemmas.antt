@@ -1,4 +1,4 @@
--- The number of a tree's own nodes: closing nodes and noting blank lines adds none, and opening a container adds one
+-- The number of counted nodes: closing nodes and noting blank lines adds none, and opening a container adds one
 -- or two, with a byte for each.
 use Rattle.std.proofs.Common.{◌≡◌, ℕ, zero, suc, ◌+◌, ◌<◌, ◌≤◌, Bool, true, false, if◌then◌else◌, List, [], ◌∷◌, ◌++◌, length, slice_get}
 use Rattle.std.proofs.Common.{map, take}
@@ -23,9 +23,9 @@ use Rattle.first_pass_lines.proofs.PlaceFacts.{place_length}
 use Rattle.first_pass_grammar.specs.Derivation.{list_flags}
 use Rattle.first_pass_grammar.specs.Kinds.{Kind, Blank, is_blank_rest, first_kind, IsKindBy, IsKind}
 use Rattle.first_pass_grammar.specs.Openers.{task_by, task_after}
-use Rattle.first_pass_grammar.specs.Counting.{is_cell, is_row, last_cell, is_filled_after, own, own_nodes}
+use Rattle.first_pass_grammar.specs.Counting.{is_cell, is_row, last_cell, is_filled_after, own, counted_nodes}
 use Rattle.first_pass_grammar.specs.Order.{GrowsBy}
-use Rattle.first_pass_grammar.proofs.OwnNodes.{alike_first, own_first, own_ended, own_changed, own_one, own_added}
+use Rattle.first_pass_grammar.proofs.Count.CountedNodes.{alike_first, own_first, own_ended, own_changed, own_one, own_added}
 use Rattle.first_pass_open.specs.OpenBlock.{with_child}
 use Rattle.first_pass_open.proofs.PlaceLemmas.{option_on, task_shorter}
 use Rattle.first_pass_lists.specs.Closing.{popped_at, popped, item_finished}
@@ -34,7 +34,7 @@ use Rattle.first_pass_lists.specs.Closing.{blank_read, footnote_begun, with_tree
 use Rattle.first_pass_lists.specs.Closing.{definitions_closed, definitions_left, with_current, title_kept}
 use Rattle.first_pass_lists.specs.Closing.{definitions_by, definitions_at, definitions_opened, definition_begun}
 use Rattle.first_pass_items.specs.declared.item.CowIndex.{CowIndex}
-use Rattle.first_pass_lists.specs.declared.reading.Reading.{Reading}
+use Rattle.first_pass_lists.specs.declared.state.PassState.{PassState}
 use Rattle.first_pass_open.specs.OpenBlock.{begun_item}
 use Rattle.first_pass_order.proofs.AlikeNodes.{AreAlike, NoNodes, OneMore}
 use Rattle.first_pass_order.proofs.PropertyKept.{IsLeft, Property, HoldsAt, popped_at_keeps, popped_keeps, item_finished_keeps, noted_keeps, kept_keeps}
@@ -43,9 +43,9 @@ use Rattle.first_pass_order.proofs.PropertyKept.{list_finished_keeps, quote_keep
 use Rattle.first_pass_open.specs.Between.{AddsBetween}
 use Rattle.first_pass_lists.proofs.NoEmptyItem.{item_opened}
 
--- the number of own nodes in the state
-abbrev pub count : Reading → ℕ
-count r = own_nodes r.tree.nodes
+-- the number of counted nodes in the state
+abbrev pub count : PassState → ℕ
+count r = counted_nodes r.tree.nodes
 
 -- nor does moving nodes out of a closed one
 own_shallower : (cell : Option ℕ) (nodes : List (ℕ × Item)) → own cell (map shallower nodes) ≡ own cell nodes
@@ -64,16 +64,16 @@ own_alike cell old new (OneMore n m xs ys a h) =
     alike_first cell n.0 m.0 n.1 m.1 xs ys (record { start = a.start; cell = ap (λ t. t.1) a.body.0; row = ap (λ t. t.0) a.body.0 })
     (λ after. own_alike after xs ys h)
 
-pub moved_count : (f g : Forest Item) (e : ℕ) (c : TreeIndex) → IsLeft f g e c → own_nodes g.nodes ≡ own_nodes f.nodes
-moved_count f g e c l = ap own_nodes l.nodes ∙ own_moved c.0 None l.mid ∙ own_alike None _ l.mid l.alike ∙ own_ended f.nodes l.list.0 e
+pub moved_count : (f g : Forest Item) (e : ℕ) (c : TreeIndex) → IsLeft f g e c → counted_nodes g.nodes ≡ counted_nodes f.nodes
+moved_count f g e c l = ap counted_nodes l.nodes ∙ own_moved c.0 None l.mid ∙ own_alike None _ l.mid l.alike ∙ own_ended f.nodes l.list.0 e
 
 -- at most this many, and one more for each node that is opened
 abbrev pub count_kept : Property
 count_kept = record {
-  Holds = λ a k f. own_nodes f.nodes ≤ k;
+  Holds = λ a k f. counted_nodes f.nodes ≤ k;
   Goes = λ a b. Unit {0};
   Bounds = λ e. Unit {0};
-  Leaves = λ a e f c. Unit {0};
+  MovesOut = λ a e f c. Unit {0};
   Opens = λ b. Unit {0};
   more = λ a k f h. omega arith;
   later = λ a b k f goes h. h;
@@ -83,61 +83,61 @@ count_kept = record {
   opened = λ a start k f body goes ends opens h. (let one = own_one None f.nodes (length f.spine + 1, begun_item start body) in omega arith);
 }
 
-counted : (r : Reading) → HoldsAt count_kept 0 (count r) r
+counted : (r : PassState) → HoldsAt count_kept 0 (count r) r
 counted r = record { holds = (let same : count r ≤ count r = omega arith in same); goes = tt; marked = λ e is. (tt, tt) }
 
-pub popped_count : (e most : ℕ) (r : Reading) → count r ≤ most → count (popped e r) ≤ most
+pub popped_count : (e most : ℕ) (r : PassState) → count r ≤ most → count (popped e r) ≤ most
 popped_count e most r h = popped_keeps count_kept 0 e most r (λ t is. tt) tt tt h
 
-pub item_finished_count : (r : Reading) → count (item_finished r) ≤ count r
+pub item_finished_count : (r : PassState) → count (item_finished r) ≤ count r
 item_finished_count r = item_finished_keeps count_kept 0 (count r) r (counted r)
 
-pub list_finished_count : (e : ℕ) (r : Reading) → count (list_finished e r) ≤ count r
+pub list_finished_count : (e : ℕ) (r : PassState) → count (list_finished e r) ≤ count r
 list_finished_count e r = list_finished_keeps count_kept 0 e 0 (count r) r (counted r) (λ t is. tt) (λ list. tt) tt tt tt
 
-pub blank_count : (r : Reading) → count (blank_read r) ≤ count r
+pub blank_count : (r : PassState) → count (blank_read r) ≤ count r
 blank_count r = blank_keeps count_kept 0 (count r) r (omega arith)
 
-pub item_count : (start byte number columns : ℕ) (r : Reading) → count (item_opened start byte number columns r) ≤ count r + 2
+pub item_count : (start byte number columns : ℕ) (r : PassState) → count (item_opened start byte number columns r) ≤ count r + 2
 item_count start byte number columns r =
     let two : count (item_opened start byte number columns r) ≤ suc (suc (count r)) =
     item_keeps count_kept 0 start byte number columns (count r) r (counted r) (λ t is. tt) tt tt tt tt tt tt in
     omega arith
 
-pub quote_count : (line start : ℕ) (body : ItemBody) (r : Reading) → count (begun start body (list_finished line r)) ≤ count r + 1
+pub quote_count : (line start : ℕ) (body : ItemBody) (r : PassState) → count (begun start body (list_finished line r)) ≤ count r + 1
 quote_count line start body r =
     let one : count (begun start body (list_finished line r)) ≤ suc (count r) =
     quote_keeps count_kept 0 line 0 start (count r) body r (counted r) (λ t is. tt) (λ list. tt) tt tt tt tt tt tt in
     omega arith
 
-pub note_count : (start : ℕ) (index : CowIndex) (r : Reading) → count (footnote_begun start index r) ≤ count r + 1
+pub note_count : (start : ℕ) (index : CowIndex) (r : PassState) → count (footnote_begun start index r) ≤ count r + 1
 note_count start index r =
     let one : count (footnote_begun start index r) ≤ suc (count r) =
     note_keeps count_kept 0 start (count r) index r (counted r) (λ t is. tt) tt tt tt tt in
     omega arith
 
 -- ending a definition list before a heading or a table adds none
-closed_count : (e : ℕ) (r : Reading) (o : Option TreeIndex) → count (current_moved (popped_at e r r.tree.spine) o) ≤ count r
+closed_count : (e : ℕ) (r : PassState) (o : Option TreeIndex) → count (current_moved (popped_at e r r.tree.spine) o) ≤ count r
 closed_count e r None = popped_at_keeps count_kept 0 e (count r) r r.tree.spine refl tt tt (omega arith)
 closed_count e r (Some c) =
     let same = own_moved c.0 None (popped_at e r r.tree.spine).tree.nodes in
     let h : count (popped_at e r r.tree.spine) ≤ count r = popped_at_keeps count_kept 0 e (count r) r r.tree.spine refl tt tt (omega arith) in
     omega arith
 
-pub definitions_left_count : (e : ℕ) (r : Reading) → count (definitions_left e r) ≤ count r
+pub definitions_left_count : (e : ℕ) (r : PassState) → count (definitions_left e r) ≤ count r
 unfolding definitions_left definitions_closed
 definitions_left_count e r = noted_keeps count_kept 0 (count r) (definitions_closed e r) (closed_count e r r.tree.current)
 
-end_count : (f : Forest Item) (e : ℕ) (o : Option TreeIndex) → own_nodes (with_end f e o).nodes ≡ own_nodes f.nodes
+end_count : (f : Forest Item) (e : ℕ) (o : Option TreeIndex) → counted_nodes (with_end f e o).nodes ≡ counted_nodes f.nodes
 end_count f e None = refl
 end_count f e (Some c) = own_ended f.nodes c.0 e
 
 title_count : (f : Forest Item) (o : Option TreeIndex) → option_and_then (λ ix. body_at f.nodes ix.0) o ≡ Some Paragraph
-    → own_nodes (with_current f MaybeDefinitionListTitle o).nodes ≡ own_nodes f.nodes
+    → counted_nodes (with_current f MaybeDefinitionListTitle o).nodes ≡ counted_nodes f.nodes
 title_count f None is = refl
 title_count f (Some c) is = own_changed f.nodes c.0 Paragraph MaybeDefinitionListTitle is refl refl
 
-pub title_kept_count : (e : ℕ) (r : Reading) → current_body r.tree ≡ Some Paragraph → count (title_kept e r) ≡ count r
+pub title_kept_count : (e : ℕ) (r : PassState) → current_body r.tree ≡ Some Paragraph → count (title_kept e r) ≡ count r
 unfolding title_kept
 title_kept_count e r is =
     end_count (with_current r.tree MaybeDefinitionListTitle r.tree.current) e (slice_get r.tree.spine 0) ∙ title_count r.tree r.tree.current is
@@ -164,7 +164,7 @@ own_wrapped cell [] (suc j) d x cells rows = (let most = filled_one (is_filled_a
 own_wrapped cell (n ∷ nodes) (suc j) d x cells rows = (let h = own_wrapped (last_cell cell n.1) nodes j d x cells rows in omega arith)
 
 opened_by_count : (f : Forest Item) (c : TreeIndex) (start e : ℕ) (b : ItemBody) → body_at f.nodes c.0 ≡ Some b
-    → own_nodes (definitions_by f c start e b).nodes ≤ own_nodes f.nodes + 1
+    → counted_nodes (definitions_by f c start e b).nodes ≤ counted_nodes f.nodes + 1
 opened_by_count f c start e MaybeDefinitionListTitle is =
     let same = own_changed f.nodes c.0 MaybeDefinitionListTitle DefinitionListTitle is refl refl in
     omega arith
@@ -177,25 +177,25 @@ opened_by_count f c start e Paragraph is =
 opened_by_count f c start e b is = omega arith
 
 opened_at_count : (f : Forest Item) (c : TreeIndex) (o : Option Item) → item_at f c ≡ o
-    → own_nodes (definitions_at f c o).nodes ≤ own_nodes f.nodes + 1
+    → counted_nodes (definitions_at f c o).nodes ≤ counted_nodes f.nodes + 1
 opened_at_count f c None is = omega arith
 opened_at_count f c (Some x) is = opened_by_count f c x.start x.«end» x.body (body_of f c x is)
 
-opened_count : (f : Forest Item) (o : Option TreeIndex) → own_nodes (definitions_opened f o).nodes ≤ own_nodes f.nodes + 1
+opened_count : (f : Forest Item) (o : Option TreeIndex) → counted_nodes (definitions_opened f o).nodes ≤ counted_nodes f.nodes + 1
 opened_count f None = omega arith
 opened_count f (Some c) = opened_at_count f c (item_at f c) refl
 
-pub definition_count : (start columns : ℕ) (r : Reading) → count (definition_begun start columns r) ≤ count r + 2
+pub definition_count : (start columns : ℕ) (r : PassState) → count (definition_begun start columns r) ≤ count r + 2
 unfolding definition_begun
 definition_count start columns r =
-    let q : Reading = with_tree r (definitions_opened r.tree r.tree.current) in
+    let q : PassState = with_tree r (definitions_opened r.tree r.tree.current) in
     let list = opened_count r.tree r.tree.current in
     let two : count (begun start (DefinitionListDefinition columns) (list_kept q)) ≤ suc (count q) =
     count_kept.opened 0 start (count q) (list_kept q).tree (DefinitionListDefinition columns) tt tt tt (kept_keeps count_kept 0 (count q) q (omega arith)) in
     omega arith
 
 -- and a task list item marker one
-pub child_count : (f : Forest Item) (marker : Option Item) → own_nodes (with_child f marker).nodes ≤ own_nodes f.nodes + 1
+pub child_count : (f : Forest Item) (marker : Option Item) → counted_nodes (with_child f marker).nodes ≤ counted_nodes f.nodes + 1
 child_count f None = omega arith
 child_count f (Some x) = own_one None f.nodes (length f.spine + 1, x)
 
@@ -203,7 +203,7 @@ child_count f (Some x) = own_one None f.nodes (length f.spine + 1, x)
 pub block_count : (text : List ℕ) (from to : ℕ) (old new : Forest Item) → AddsBetween text from to old new → from < to → GrowsBy from to old.nodes new.nodes
 block_count text from to old new adds apart =
     let node_bound = adds.fits.3 apart in
-    let tree = ap (λ (f : Forest Item). own_nodes f.nodes) adds.tree_is in
+    let tree = ap (λ (f : Forest Item). counted_nodes f.nodes) adds.tree_is in
     let more = own_added old.nodes adds.items (length old.spine + 1) in
     omega arith
 

@@ -17,11 +17,11 @@ use Rattle.first_pass_grammar.specs.Derivation.{list_flags}
 use Rattle.first_pass_grammar.specs.Order.{Ranged, extent_of, extents, is_task_marker, is_list_item, is_text_block, is_definition_list, Siblings, Empty}
 use Rattle.first_pass_grammar.specs.Order.{Node, laid}
 use Rattle.first_pass_grammar.specs.OpenOrder.{laid_open, AreAt, FitsOpen, IsOrderedTo}
-use Rattle.first_pass_grammar.proofs.Orders.{laid_open-beside, laid_open-level, length-places}
+use Rattle.first_pass_grammar.proofs.Order.Orders.{laid_open-beside, laid_open-level, length-places}
 use Rattle.first_pass_order.proofs.RowSplits.{last_child, fits_open_titled, as_list, open_definitions, laid-deeper, extents-deeper}
 use Rattle.first_pass_lists.specs.Closing.{with_tree, top_body, is_list, precedes_definition, takes_definition, list_kept}
 use Rattle.first_pass_lists.specs.Closing.{definitions_by, definitions_at, definitions_opened, definition_begun, is_definition_list as is_definitions}
-use Rattle.first_pass_lists.specs.declared.reading.Reading.{Reading}
+use Rattle.first_pass_lists.specs.declared.state.PassState.{PassState}
 use Rattle.first_pass_order.specs.Ordered.{top_of, AreNested}
 use Rattle.first_pass_order.proofs.AlikeNodes.{like_kept}
 use Rattle.first_pass_order.proofs.Nests.{classes_body, nested_same, nested_before, top_before, AreBefore, IsSettled, begun_settled, like_nested}
@@ -272,13 +272,13 @@ opened_with text f a (Some c) forest current may h =
     opened_at text f a c (item_at f c) forest current refl (ap (precedes_definition (top_body f)) (sym (body_item (slice_get f.nodes c.0))) ∙ may) h
 
 -- a definition is opened at an offset
-pub ordered_definition : (text : List ℕ) (r : Reading) (a start columns : ℕ) → IsForest r.tree → takes_definition r.tree ≡ true → a ≤ start
+pub ordered_definition : (text : List ℕ) (r : PassState) (a start columns : ℕ) → IsForest r.tree → takes_definition r.tree ≡ true → a ≤ start
     → start ≤ length text → IsCharBoundary text start → IsOrderedTo text r.tree a → AreNested r.tree.nodes r.tree.spine
     → IsOrderedTo text (definition_begun start columns r).tree start × IsSettled (definition_begun start columns r)
 unfolding definition_begun
 ordered_definition text r a start columns forest may later within starts h nested =
-    let q : Reading = with_tree r (definitions_opened r.tree r.tree.current) in
-    let k : Reading = list_kept q in
+    let q : PassState = with_tree r (definitions_opened r.tree r.tree.current) in
+    let k : PassState = list_kept q in
     let now = opened_with text r.tree a r.tree.current forest refl may (h, nested) in (
       ordered_begun text k a start (DefinitionListDefinition columns) later within starts (ordered_list_kept text q a now.0),
       begun_settled start (DefinitionListDefinition columns) k refl (λ list. refl) (like_nested q.tree k.tree (like_kept q) now.1),

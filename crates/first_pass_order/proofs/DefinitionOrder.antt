@@ -19,14 +19,14 @@ use Rattle.first_pass_tree.proofs.BodyLemmas.{body-kept, body-changed}
 use Rattle.first_pass_grammar.specs.Order.{Ranged, extent_of, extents, is_task_marker, Siblings, laid, IsBetween, Elsewhere}
 use Rattle.first_pass_grammar.specs.Order.{InItem, Fits, FitsBetween}
 use Rattle.first_pass_grammar.specs.OpenOrder.{laid_open, AreAt, open_within, FitsOpen, item_on_top, within_top, IsOrderedTo}
-use Rattle.first_pass_grammar.proofs.Orders.{ended_at, extents-append, length-extents, extents-at_depth, laid-at_depth, laid_open-level}
-use Rattle.first_pass_grammar.proofs.Orders.{length-places, below_ended, extents-ended, between-any}
+use Rattle.first_pass_grammar.proofs.Order.Orders.{ended_at, extents-append, length-extents, extents-at_depth, laid-at_depth, laid_open-level}
+use Rattle.first_pass_grammar.proofs.Order.Orders.{length-places, below_ended, extents-ended, between-any}
 use Rattle.first_pass_order.proofs.RowSplits.{last_child, fits_open_ends}
 use Rattle.first_pass_open.specs.Between.{AddsBetween}
 use Rattle.first_pass_lists.specs.Closing.{with_tree, gap_noted, top_body, current_body, top_end}
 use Rattle.first_pass_lists.specs.Closing.{definitions_closed, possible_title, definitions_left, title_kept, is_after_definition}
 use Rattle.first_pass_lists.specs.Closing.{is_definition_list as is_definitions}
-use Rattle.first_pass_lists.specs.declared.reading.Reading.{Reading}
+use Rattle.first_pass_lists.specs.declared.state.PassState.{PassState}
 use Rattle.first_pass_order.specs.Ordered.{top_of, AreNested, EndsBeforeLast, EndsBeforeTitle, HasDefinition, CanClose, IsReadTo}
 use Rattle.first_pass_order.proofs.Nests.{classes_body, classes_ended, nested_same}
 use Rattle.first_pass_order.proofs.Nests.{title_there, definitions_closed_outside, noted_outside, outside_closes, nested_front, top_front}
@@ -123,7 +123,7 @@ module _ (text : List ℕ) (old : Forest Item) (ix : TreeIndex) (rest : List Tre
       ∙ extents-append ended (at_depth (length old.spine + 1) items) ∙ ap (λ (z : List (ℕ × Ranged)). extents ended ++ z) block_extents
 
   -- the closed list, with the block after it
-  block_left : (q : Reading) → q.tree ≡ added old items → IsOrderedTo text (definitions_closed e q).tree next
+  block_left : (q : PassState) → q.tree ≡ added old items → IsOrderedTo text (definitions_closed e q).tree next
   block_left q is =
       let f : Forest Item = added old items in
       let block : List (ℕ × Item) = at_depth (length old.spine + 1) items in
@@ -275,7 +275,7 @@ no_item_top (Some (DefinitionList flags)) h = refl
 no_item_top (Some b) h = cc
 
 -- A paragraph, heading or table was added right after a definition, which ends at an offset.
-module _ (text : List ℕ) (r : Reading) (read : Forest Item) (at start next : ℕ) (forest : IsForest r.tree) (after : is_after_definition r.tree ≡ true)
+module _ (text : List ℕ) (r : PassState) (read : Forest Item) (at start next : ℕ) (forest : IsForest r.tree) (after : is_after_definition r.tree ≡ true)
     (none : r.begin_list_item ≡ None) (o : IsOrderedTo text r.tree at) (closes : CanClose text r.tree at) (later : at ≤ start)
     (adds : (from : ℕ) → from ≤ start → AddsBetween text from next r.tree read) (within : next ≤ length text) where
   list_top : is_definitions (top_body r.tree) ≡ true
@@ -311,8 +311,8 @@ module _ (text : List ℕ) (r : Reading) (read : Forest Item) (at start next : �
   definitions_left_read =
       let e : ℕ = the_definition.definition.«end» in
       let items : List (ℕ × Item) = the_block.items in
-      let a : Reading = with_tree r (added r.tree items) in
-      let shut : Reading = definitions_closed e a in
+      let a : PassState = with_tree r (added r.tree items) in
+      let shut : PassState = definitions_closed e a in
       let closed : IsOrderedTo text shut.tree next =
       block_left text r.tree the_definition.place the_definition.outer the_definition.spine place_within items e next ordered_before.0
       ordered_before.2 block_fits within a refl in

@@ -21,7 +21,7 @@ use Rattle.first_pass_grammar.specs.WholeTables.{HasWholeTables}
 use Rattle.first_pass_completion.proofs.SilentNodes.{marks_modified, none_shown, from_at, from_modified}
 use Rattle.first_pass_lists.specs.Closing.{with_tree, current_body, with_current, title_kept, list_kept, definitions_by, definitions_at, definitions_opened}
 use Rattle.first_pass_lists.specs.Closing.{definition_begun}
-use Rattle.first_pass_lists.specs.declared.reading.Reading.{Reading}
+use Rattle.first_pass_lists.specs.declared.state.PassState.{PassState}
 use Rattle.first_pass_order.proofs.DefinitionBegun.{take_front, here_within, list_length}
 use Rattle.first_pass_order.proofs.Nests.{AreBefore}
 use Rattle.first_pass_order.proofs.WholeKept.{may_not_open, none_kept, modified_keeps, other_keeps, silent_at, IsKept, IsReadWhole, kept_of, same_shown}
@@ -110,10 +110,10 @@ module _ (names : Names) where
   opened_kept f None forest current h = kept_of names f h
   opened_kept f (Some c) forest current h = opened_at_kept f c (item_at f c) forest current refl h
 
-  pub definition_whole : (start columns : ℕ) (r : Reading) → IsForest r.tree → IsReadWhole names r → IsReadWhole names (definition_begun start columns r)
+  pub definition_whole : (start columns : ℕ) (r : PassState) → IsForest r.tree → IsReadWhole names r → IsReadWhole names (definition_begun start columns r)
   unfolding definition_begun
   definition_whole start columns r forest h =
-      let q : Reading = with_tree r (definitions_opened r.tree r.tree.current) in
+      let q : PassState = with_tree r (definitions_opened r.tree r.tree.current) in
       opened_whole names (list_kept q).tree start (DefinitionListDefinition columns) (λ names depth start end. refl) refl
       (like_kept_whole names q.tree (list_kept q).tree (like_kept q) (opened_kept r.tree r.tree.current forest refl h))
 
@@ -136,7 +136,7 @@ module _ (names : Names) where
   ended_last g e (Some ix) c current silent =
       subst (IsSilentLast (with_end g e (Some ix)).nodes) (sym current) (λ may. end_from g e (Some ix) c.0 silent)
 
-  kept_by : (e : ℕ) (r : Reading) (o : Option TreeIndex) → r.tree.current ≡ o → option_and_then (λ ix. body_at r.tree.nodes ix.0) o ≡ Some Paragraph
+  kept_by : (e : ℕ) (r : PassState) (o : Option TreeIndex) → r.tree.current ≡ o → option_and_then (λ ix. body_at r.tree.nodes ix.0) o ≡ Some Paragraph
       → IsReadWhole names r → HasWholeTables names (with_end (with_current r.tree MaybeDefinitionListTitle o) e (slice_get r.tree.spine 0))
   kept_by e r None current is h = absurd (none-some Paragraph is)
   kept_by e r (Some c) current is h =
@@ -155,6 +155,6 @@ module _ (names : Names) where
         last = ended_last g e (slice_get f.spine 0) c current still;
       }
 
-  pub title_kept_whole : (e : ℕ) (r : Reading) → current_body r.tree ≡ Some Paragraph → IsReadWhole names r → IsReadWhole names (title_kept e r)
+  pub title_kept_whole : (e : ℕ) (r : PassState) → current_body r.tree ≡ Some Paragraph → IsReadWhole names r → IsReadWhole names (title_kept e r)
   unfolding title_kept
   title_kept_whole e r is h = kept_by e r r.tree.current refl is h

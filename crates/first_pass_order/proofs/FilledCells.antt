@@ -1,4 +1,4 @@
--- Whole tables have at most as many nodes as a tree's own nodes and its filled cells together.
+-- Whole tables have at most as many nodes as counted nodes and filled cells together.
 use Rattle.std.proofs.Common.{◌≡◌, ◌⊎◌, inl, inr, ℕ, suc, ◌+◌, ◌<◌, ◌≤◌, ◌==◌, Bool, true, false, if◌then◌else◌, List, [], ◌∷◌, ◌++◌, length, map, Option}
 use Rattle.std.proofs.Common.{Some, None}
 use Rattle.std.proofs.Common.{refl, sym, subst, arith, append_assoc}
@@ -7,7 +7,7 @@ use Rattle.first_pass_items.specs.declared.item.Item.{Item}
 use Rattle.first_pass_items.specs.declared.item.ItemBody.{ItemBody}
 use Rattle.first_pass_items.specs.declared.item.ItemBody.TheVariants.{Table, TableHead, TableRow, TableCell}
 use Rattle.first_pass_grammar.specs.Names.{Names}
-use Rattle.first_pass_grammar.specs.Counting.{is_cell, is_filled_after, own, own_nodes, is_filled, filled_in_row, filled_cells}
+use Rattle.first_pass_grammar.specs.Counting.{is_cell, is_filled_after, own, counted_nodes, is_filled, filled_in_row, filled_cells}
 use Rattle.first_pass_grammar.specs.WholeTables.{Mark, ATable, ARow, ACell, shown, marks, RowCells, row_marks, TableRows, table_marks, StartApart, HaveCells}
 use Rattle.first_pass_grammar.specs.WholeTables.{AreFull, AreWholeTables}
 
@@ -157,7 +157,7 @@ tables_few [] full = λ cell end. omega arith
 tables_few (table ∷ tables) full =
     λ cell end. (let rows = rows_few table.columns (suc table.depth) table.rows (table_marks tables) full.0 (tables_few tables full.2) cell end in omega arith)
 
-pub all_nodes : (names : Names) (nodes : List (ℕ × Item)) → AreWholeTables names nodes → length nodes ≤ own_nodes nodes + filled_cells nodes
+pub all_nodes : (names : Names) (nodes : List (ℕ × Item)) → AreWholeTables names nodes → length nodes ≤ counted_nodes nodes + filled_cells nodes
 unfolding AreWholeTables
 all_nodes names nodes (tables, are, full) =
     let sum = counted names None nodes in

@@ -14,9 +14,9 @@ use Rattle.first_pass_grammar.specs.Leaves.{Document}
 use Rattle.first_pass_grammar.specs.RawLines.{range_text, range_html}
 use Rattle.first_pass_grammar.specs.Blocks.{Block, leaf_block}
 use Rattle.first_pass_grammar.specs.Skeleton.{Line, Opening, OpensLeaf, OpensAs, OpensRun, OpensText}
-use Rattle.first_pass_grammar.proofs.EachToken.{heading_each}
-use Rattle.first_pass_grammar.proofs.NamedItems.{HasEntry, tokens_entered, each_named, named_deeper, text_is_free, html_is_free, lines_named, block_named}
-use Rattle.first_pass_grammar.proofs.TextsNamed.{given_entry, text_named}
+use Rattle.first_pass_grammar.proofs.Each.EachToken.{heading_each}
+use Rattle.first_pass_grammar.proofs.Names.NamedItems.{HasEntry, tokens_entered, each_named, named_deeper, text_is_free, html_is_free, lines_named, block_named}
+use Rattle.first_pass_grammar.proofs.Names.TextsNamed.{given_entry, text_named}
 
 -- the items that an opening at a place has
 items_of_leaf : Opening → List (ℕ × Item)

@@ -11,12 +11,12 @@ use Rattle.first_pass_tree.specs.Forest.{shallower}
 use Rattle.first_pass_grammar.specs.Order.{Ranged, extent_of, extents, Siblings, laid, Elsewhere}
 use Rattle.first_pass_grammar.specs.Order.{Fits}
 use Rattle.first_pass_grammar.specs.OpenOrder.{laid_open, AreAt, within_top, IsOrderedTo}
-use Rattle.first_pass_grammar.proofs.Orders.{ended_at, extents-append, length-extents, laid_open-level}
-use Rattle.first_pass_grammar.proofs.Orders.{fits-any, fits-later}
+use Rattle.first_pass_grammar.proofs.Order.Orders.{ended_at, extents-append, length-extents, laid_open-level}
+use Rattle.first_pass_grammar.proofs.Order.Orders.{fits-any, fits-later}
 use Rattle.first_pass_order.proofs.RowSplits.{laid-shallower, extents-moved}
 use Rattle.first_pass_open.specs.OpenBlock.{closed_by}
-use Rattle.first_pass_lists.specs.Closing.{reading_with, top_end}
-use Rattle.first_pass_lists.specs.declared.reading.Reading.{Reading}
+use Rattle.first_pass_lists.specs.Closing.{state_with, top_end}
+use Rattle.first_pass_lists.specs.declared.state.PassState.{PassState}
 use Rattle.first_pass_order.specs.Ordered.{EndsBeforeTitle}
 use Rattle.first_pass_order.proofs.OrderLemmas.{ordered_more, ordered_closed}
 use Rattle.std.proofs.Common.{Bool}
@@ -119,21 +119,21 @@ order_kept text = record {
   Holds = λ a k f. IsOrderedTo text f a;
   Goes = λ a b. (a ≤ b) × (b ≤ length text);
   Bounds = λ e. IsCharBoundary text e;
-  Leaves = λ a e f c. EndsAt text f e a c.0;
+  MovesOut = λ a e f c. EndsAt text f e a c.0;
   Opens = λ b. Unit {0};
   more = λ a k f h. h;
   later = λ a b k f goes h. ordered_later text f a b goes.0 goes.1 h;
   like = λ a k f g l h. ordered_same text f g a (extents_alike f.nodes g.nodes l.nodes) l.spine h;
   closed = λ a e k f ix rest spine goes ends h. ordered_closed text f a e ix rest spine goes.0 goes.1 ends h;
   left = λ a e k f g c l leaves h. left_ordered text f g a e c l leaves h.within;
-  opened = λ a start k f body goes ends opens h. ordered_begun text (reading_with f None false) a start body goes.0 goes.1 ends h;
+  opened = λ a start k f body goes ends opens h. ordered_begun text (state_with f None false) a start body goes.0 goes.1 ends h;
 }
 
 pub may_leave : (text : List ℕ) (f : Forest Item) (at : ℕ) → EndsBeforeTitle text f at → MayLeave (order_kept text) at f
 may_leave text f at h title is = (let l = h title is in record { before = l.before; ends = l.ends; row = l.row; last = l.last; fits = l.fits })
 
 -- so is the state
-pub ordered_at : (text : List ℕ) (r : Reading) (at : ℕ) → IsOrderedAt text r at → HoldsAt (order_kept text) at 0 r
+pub ordered_at : (text : List ℕ) (r : PassState) (at : ℕ) → IsOrderedAt text r at → HoldsAt (order_kept text) at 0 r
 ordered_at text r at h = record {
   holds = h.ordered;
   goes = (h.later, h.within);

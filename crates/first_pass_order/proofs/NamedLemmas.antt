@@ -16,7 +16,7 @@ use Rattle.first_pass_grammar.specs.Names.{Names, Extends, index_of, NamesEntry,
 use Rattle.first_pass_grammar.specs.Derivation.{list_flags}
 use Rattle.first_pass_grammar.specs.Order.{is_task_marker}
 use Rattle.first_pass_order.proofs.LeavesNamed.{opens_named}
-use Rattle.first_pass_grammar.proofs.NamedItems.{IsNamed, named_more, named_both, named_deeper, named_modified}
+use Rattle.first_pass_grammar.proofs.Names.NamedItems.{IsNamed, named_more, named_both, named_deeper, named_modified}
 use Rattle.first_pass_items.specs.declared.option_set.Options.{Options}
 use Rattle.first_pass_lines.specs.Places.{Place, line_end}
 use Rattle.first_pass_grammar.specs.Kinds.{Kind}
@@ -35,7 +35,7 @@ use Rattle.first_pass_lists.specs.Closing.{blank_read, footnote_begun, with_tree
 use Rattle.first_pass_lists.specs.Closing.{with_current, title_kept}
 use Rattle.first_pass_lists.specs.Closing.{definitions_by, definitions_at, definitions_opened, definition_begun}
 use Rattle.first_pass_items.specs.declared.item.CowIndex.{CowIndex}
-use Rattle.first_pass_lists.specs.declared.reading.Reading.{Reading}
+use Rattle.first_pass_lists.specs.declared.state.PassState.{PassState}
 use Rattle.first_pass_lists.proofs.NoEmptyItem.{item_opened}
 
 -- the marker of a task is no text and has no index
@@ -49,7 +49,7 @@ task_has_none body h = cc
 
 module _ (names : Names) where
   -- the nodes of the state
-  abbrev pub AreReadNamed : Reading → Type 0
+  abbrev pub AreReadNamed : PassState → Type 0
   AreReadNamed r = AreNamed names r.tree.nodes
 
   -- nodes that are moved out of a closed one
@@ -90,7 +90,7 @@ module _ (names : Names) where
     Holds = λ a k f. AreNamed names f.nodes;
     Goes = λ a b. Unit {0};
     Bounds = λ e. Unit {0};
-    Leaves = λ a e f c. Unit {0};
+    MovesOut = λ a e f c. Unit {0};
     Opens = λ b. NamesEntry names (index_of b);
     more = λ a k f h. h;
     later = λ a b k f goes h. h;
@@ -100,34 +100,34 @@ module _ (names : Names) where
     opened = λ a start k f body goes ends opens h. one_named f.nodes (length f.spine + 1, begun_item start body) opens h;
   }
 
-  named_at : (r : Reading) → AreReadNamed r → HoldsAt named_kept 0 0 r
+  named_at : (r : PassState) → AreReadNamed r → HoldsAt named_kept 0 0 r
   named_at r h = record { holds = h; goes = tt; marked = λ e is. (tt, tt) }
 
-  pub popped_named : (e : ℕ) (r : Reading) → AreReadNamed r → AreReadNamed (popped e r)
+  pub popped_named : (e : ℕ) (r : PassState) → AreReadNamed r → AreReadNamed (popped e r)
   popped_named e r h = popped_keeps named_kept 0 e 0 r (λ t is. tt) tt tt h
 
-  pub item_finished_named : (r : Reading) → AreReadNamed r → AreReadNamed (item_finished r)
+  pub item_finished_named : (r : PassState) → AreReadNamed r → AreReadNamed (item_finished r)
   item_finished_named r h = item_finished_keeps named_kept 0 0 r (named_at r h)
 
-  pub list_finished_named : (e : ℕ) (r : Reading) → AreReadNamed r → AreReadNamed (list_finished e r)
+  pub list_finished_named : (e : ℕ) (r : PassState) → AreReadNamed r → AreReadNamed (list_finished e r)
   list_finished_named e r h = list_finished_keeps named_kept 0 e 0 0 r (named_at r h) (λ t is. tt) (λ list. tt) tt tt tt
 
-  pub blank_named : (r : Reading) → AreReadNamed r → AreReadNamed (blank_read r)
+  pub blank_named : (r : PassState) → AreReadNamed r → AreReadNamed (blank_read r)
   blank_named r h = blank_keeps named_kept 0 0 r h
 
-  pub continued_named : (start byte number : ℕ) (r : Reading) → AreReadNamed r → AreReadNamed (list_continued start byte number r)
+  pub continued_named : (start byte number : ℕ) (r : PassState) → AreReadNamed r → AreReadNamed (list_continued start byte number r)
   continued_named start byte number r h = list_continued_keeps named_kept 0 start byte number 0 r (named_at r h) (λ t is. tt) tt tt tt tt tt
 
-  pub item_named : (start byte number columns : ℕ) (r : Reading) → AreReadNamed r → AreReadNamed (item_opened start byte number columns r)
+  pub item_named : (start byte number columns : ℕ) (r : PassState) → AreReadNamed r → AreReadNamed (item_opened start byte number columns r)
   item_named start byte number columns r h =
       item_keeps named_kept 0 start byte number columns 0 r (named_at r h) (λ t is. tt) tt tt tt tt tt tt
 
-  pub quote_named : (line start : ℕ) (body : ItemBody) (r : Reading)
+  pub quote_named : (line start : ℕ) (body : ItemBody) (r : PassState)
       → NamesEntry names (index_of body) → AreReadNamed r → AreReadNamed (begun start body (list_finished line r))
   quote_named line start body r own h =
       quote_keeps named_kept 0 line 0 start 0 body r (named_at r h) (λ t is. tt) (λ list. tt) tt tt tt tt tt own
 
-  pub note_named : (start : ℕ) (index : CowIndex) (r : Reading) → index.0 < length names.texts → AreReadNamed r → AreReadNamed (footnote_begun start index r)
+  pub note_named : (start : ℕ) (index : CowIndex) (r : PassState) → index.0 < length names.texts → AreReadNamed r → AreReadNamed (footnote_begun start index r)
   note_named start index r own h = note_keeps named_kept 0 start 0 index r (named_at r h) (λ t is. tt) tt tt tt own
 
   end_named : (f : Forest Item) (e : ℕ) (o : Option TreeIndex) → AreNamed names f.nodes → AreNamed names (with_end f e o).nodes
@@ -138,7 +138,7 @@ module _ (names : Names) where
   title_named f None h = h
   title_named f (Some c) h = body_named f c MaybeDefinitionListTitle tt h
 
-  pub title_kept_named : (e : ℕ) (r : Reading) → AreReadNamed r → AreReadNamed (title_kept e r)
+  pub title_kept_named : (e : ℕ) (r : PassState) → AreReadNamed r → AreReadNamed (title_kept e r)
   unfolding title_kept
   title_kept_named e r h =
       end_named (with_current r.tree MaybeDefinitionListTitle r.tree.current) e (slice_get r.tree.spine 0) (title_named r.tree r.tree.current h)
@@ -171,10 +171,10 @@ module _ (names : Names) where
   opened_named f None h = h
   opened_named f (Some c) h = opened_at_named f c (item_at f c) h
 
-  pub definition_named : (start columns : ℕ) (r : Reading) → AreReadNamed r → AreReadNamed (definition_begun start columns r)
+  pub definition_named : (start columns : ℕ) (r : PassState) → AreReadNamed r → AreReadNamed (definition_begun start columns r)
   unfolding definition_begun
   definition_named start columns r h =
-      let q : Reading = with_tree r (definitions_opened r.tree r.tree.current) in
+      let q : PassState = with_tree r (definitions_opened r.tree r.tree.current) in
       named_kept.opened 0 start 0 (list_kept q).tree (DefinitionListDefinition columns) tt tt tt
       (kept_keeps named_kept 0 0 q (opened_named r.tree r.tree.current h))
 

@@ -20,14 +20,14 @@ use Rattle.first_pass_grammar.specs.Derivation.{list_flags}
 use Rattle.first_pass_grammar.specs.Order.{is_task_marker}
 use Rattle.first_pass_open.specs.OpenBlock.{closed_by, with_child}
 use Rattle.first_pass_open.proofs.PathLemmas.{get_front}
-use Rattle.first_pass_lists.specs.Closing.{reading_with, with_tree, loosened_by, loosened_at, top_body, is_definition_list, is_list, is_list_of, is_item}
+use Rattle.first_pass_lists.specs.Closing.{state_with, with_tree, loosened_by, loosened_at, top_body, is_definition_list, is_list, is_list_of, is_item}
 use Rattle.first_pass_lists.specs.Closing.{is_footnote}
 use Rattle.first_pass_lists.specs.Closing.{popped_at, current_moved, definitions_closed, title_by, possible_title, title_closed, top_end}
 use Rattle.first_pass_lists.specs.Closing.{popped_after}
-use Rattle.first_pass_lists.specs.Closing.{popped, item_finished_by, item_finished, list_left, footnote_left, gap_noted, list_finished}
+use Rattle.first_pass_lists.specs.Closing.{popped, item_finished_by, item_finished, list_closed, footnote_left, gap_noted, list_finished}
 use Rattle.first_pass_lists.specs.Closing.{loosened_top, list_kept, begun, footnote_begun, list_continued, blank_read_by}
 use Rattle.first_pass_lists.specs.Closing.{blank_read}
-use Rattle.first_pass_lists.specs.declared.reading.Reading.{Reading}
+use Rattle.first_pass_lists.specs.declared.state.PassState.{PassState}
 use Rattle.first_pass_order.proofs.AlikeNodes.{class_of, AreAlike, NoNodes, OneMore, LooksAlike, like_popped, like_loosened, like_noted, like_kept}
 use Rattle.first_pass_order.proofs.AlikeNodes.{like_blank}
 use Rattle.first_pass_order.specs.Ordered.{top_of, AreNested, HasDefinition, CanClose}
@@ -179,31 +179,31 @@ last_by top ix b true is item = unless_item top ix b (item is)
 last_by top ix b false is item = untitled_by top ix b (other_list top is)
 
 -- The innermost open node is closed: the nodes keep their classes, and it is current.
-pub record PopsTo (r q : Reading) (ix : TreeIndex) (rest : List TreeIndex) : Type 0 where
+pub record PopsTo (r q : PassState) (ix : TreeIndex) (rest : List TreeIndex) : Type 0 where
   pub same : classes q.tree.nodes ≡ classes r.tree.nodes
   pub spine : q.tree.spine ≡ rest
   pub current : q.tree.current ≡ Some ix
 
-pub pops_at : (e : ℕ) (r : Reading) (ix : TreeIndex) (rest : List TreeIndex) → PopsTo r (popped_at e r (ix ∷ rest)) ix rest
+pub pops_at : (e : ℕ) (r : PassState) (ix : TreeIndex) (rest : List TreeIndex) → PopsTo r (popped_at e r (ix ∷ rest)) ix rest
 pops_at e r ix rest =
     let f : Forest Item = closed_by r.tree e (ix ∷ rest) in
     let like = like_popped r f ix (body_at f.nodes ix.0) in
     record { same = classes_alike f.nodes _ like.nodes ∙ classes_ended r.tree.nodes ix.0 e; spine = like.spine; current = like.current }
 
 -- nested; no possible title is last; and an innermost definition list has a last child
-pub record IsSettled (r : Reading) : Type 0 where
+pub record IsSettled (r : PassState) : Type 0 where
   pub nested : AreNested r.tree.nodes r.tree.spine
   pub none : possible_title r.tree ≡ None
   pub last : HasDefinition r.tree
 
 -- nested, and the innermost open node is no list
-abbrev pub IsOutside : Reading → Type 0
+abbrev pub IsOutside : PassState → Type 0
 IsOutside r = AreNested r.tree.nodes r.tree.spine × (is_list (top_body r.tree) ≡ false)
 
 no_list_last : (f : Forest Item) → is_list (top_body f) ≡ false → HasDefinition f
 no_list_last f none list = absurd (true≢false (sym (definitions_list (top_body f) list) ∙ none))
 
-pub outside_settled : (r : Reading) → IsOutside r → IsSettled r
+pub outside_settled : (r : PassState) → IsOutside r → IsSettled r
 outside_settled r h = record { nested = h.0; none = no_title r.tree r.tree.current h.1; last = no_list_last r.tree h.1 }
 
 item_unmarked : (b : Option ItemBody) → is_item b ≡ true → IsSomeAnd b (λ c. is_task_marker c ≡ false)
@@ -212,13 +212,13 @@ item_unmarked (Some (ListItemBody columns)) h = refl
 item_unmarked (Some (DefinitionListDefinition columns)) h = refl
 item_unmarked (Some b) h = cc
 
-pops_nested : (r q : Reading) (ix : TreeIndex) (rest : List TreeIndex) → AreNested r.tree.nodes (ix ∷ rest) → PopsTo r q ix rest
+pops_nested : (r q : PassState) (ix : TreeIndex) (rest : List TreeIndex) → AreNested r.tree.nodes (ix ∷ rest) → PopsTo r q ix rest
     → AreNested q.tree.nodes q.tree.spine
 pops_nested r q ix rest h p =
     subst (AreNested q.tree.nodes) (sym p.spine) (nested_same r.tree.nodes q.tree.nodes rest p.same h.2)
 
 -- a list is closed: the innermost open node is then no list
-pops_outside : (r q : Reading) (ix : TreeIndex) (rest : List TreeIndex) → AreNested r.tree.nodes (ix ∷ rest) → is_item (body_at r.tree.nodes ix.0) ≡ false
+pops_outside : (r q : PassState) (ix : TreeIndex) (rest : List TreeIndex) → AreNested r.tree.nodes (ix ∷ rest) → is_item (body_at r.tree.nodes ix.0) ≡ false
     → PopsTo r q ix rest → IsOutside q
 pops_outside r q ix rest h other p = (
   pops_nested r q ix rest h p,
@@ -228,7 +228,7 @@ pops_outside r q ix rest h other p = (
   ],
 )
 
-pops_settled : (r q : Reading) (ix : TreeIndex) (rest : List TreeIndex) → AreNested r.tree.nodes (ix ∷ rest) → PopsTo r q ix rest → IsSettled q
+pops_settled : (r q : PassState) (ix : TreeIndex) (rest : List TreeIndex) → AreNested r.tree.nodes (ix ∷ rest) → PopsTo r q ix rest → IsSettled q
 pops_settled r q ix rest h p =
     let item : is_list (top_of q.tree.nodes q.tree.spine) ≡ true → is_item (body_at q.tree.nodes ix.0) ≡ true =
     λ list. item_same r.tree.nodes q.tree.nodes ix.0 p.same
@@ -243,7 +243,7 @@ pops_settled r q ix rest h p =
 
 -- The innermost definition list is closed, and its possible title is moved out of it: the innermost open node is then
 -- no list.
-moved_outside : (q : Reading) (o : Option TreeIndex) → IsOutside q → IsOutside (current_moved q o)
+moved_outside : (q : PassState) (o : Option TreeIndex) → IsOutside q → IsOutside (current_moved q o)
 moved_outside q None h = h
 moved_outside q (Some c) h =
     let same = classes_moved c.0 q.tree.nodes in (
@@ -256,14 +256,14 @@ definitions_other None h = cc
 definitions_other (Some (DefinitionList flags)) h = refl
 definitions_other (Some b) h = cc
 
-closed_outside : (e : ℕ) (r : Reading) (spine : List TreeIndex) → r.tree.spine ≡ spine → AreNested r.tree.nodes r.tree.spine
+closed_outside : (e : ℕ) (r : PassState) (spine : List TreeIndex) → r.tree.spine ≡ spine → AreNested r.tree.nodes r.tree.spine
     → is_definition_list (top_of r.tree.nodes spine) ≡ true → IsOutside (popped_at e r spine)
 closed_outside e r [] is h list = cc
 closed_outside e r (ix ∷ rest) is h list =
     pops_outside r (popped_at e r (ix ∷ rest)) ix rest (subst (AreNested r.tree.nodes) is h) (definitions_other (body_at r.tree.nodes ix.0) list)
     (pops_at e r ix rest)
 
-pub definitions_closed_outside : (e : ℕ) (r : Reading) → AreNested r.tree.nodes r.tree.spine → is_definition_list (top_body r.tree) ≡ true
+pub definitions_closed_outside : (e : ℕ) (r : PassState) → AreNested r.tree.nodes r.tree.spine → is_definition_list (top_body r.tree) ≡ true
     → IsOutside (definitions_closed e r)
 unfolding definitions_closed
 definitions_closed_outside e r h list =
@@ -327,7 +327,8 @@ definitions_still : (nodes : List (ℕ × Item)) (spine : List TreeIndex) (title
 definitions_still nodes [] title b is list = list
 definitions_still nodes (ix ∷ spine) title b is list = definitions_top nodes ix.0 title b is list
 
-pub title_closed_outside : (r : Reading) (title : TreeIndex) → TitleThere r.tree title → AreNested r.tree.nodes r.tree.spine → IsOutside (title_closed r title)
+pub title_closed_outside : (r : PassState) (title : TreeIndex) → TitleThere r.tree title → AreNested r.tree.nodes r.tree.spine
+    → IsOutside (title_closed r title)
 title_closed_outside r title t h =
     let g : Forest Item = with_body_at r.tree title Paragraph in
     definitions_closed_outside (top_end r.tree) (with_tree r g)
@@ -335,55 +336,55 @@ title_closed_outside r title t h =
     (definitions_still r.tree.nodes r.tree.spine title.0 Paragraph t.body t.list)
 
 -- closing the innermost open node
-popped_at_settled : (e : ℕ) (r : Reading) (spine : List TreeIndex) → r.tree.spine ≡ spine → IsSettled r → IsSettled (popped_at e r spine)
+popped_at_settled : (e : ℕ) (r : PassState) (spine : List TreeIndex) → r.tree.spine ≡ spine → IsSettled r → IsSettled (popped_at e r spine)
 popped_at_settled e r [] is h = h
 popped_at_settled e r (ix ∷ rest) is h =
     pops_settled r (popped_at e r (ix ∷ rest)) ix rest (subst (AreNested r.tree.nodes) is h.nested) (pops_at e r ix rest)
 
-after_settled : (e : ℕ) (r : Reading) (o : Option TreeIndex) → possible_title r.tree ≡ o → AreNested r.tree.nodes r.tree.spine → HasDefinition r.tree
+after_settled : (e : ℕ) (r : PassState) (o : Option TreeIndex) → possible_title r.tree ≡ o → AreNested r.tree.nodes r.tree.spine → HasDefinition r.tree
     → IsSettled (popped_after e r o)
 after_settled e r None is h last = popped_at_settled e r r.tree.spine refl (record { nested = h; none = is; last = last })
 after_settled e r (Some title) is h last =
     outside_settled (title_closed r title) (title_closed_outside r title (title_there r.tree title is) h)
 
-pub popped_settled : (e : ℕ) (r : Reading) → AreNested r.tree.nodes r.tree.spine → HasDefinition r.tree → IsSettled (popped e r)
+pub popped_settled : (e : ℕ) (r : PassState) → AreNested r.tree.nodes r.tree.spine → HasDefinition r.tree → IsSettled (popped e r)
 unfolding popped
 popped_settled e r h last = after_settled e r (possible_title r.tree) refl h last
 
 -- closing an item
-pops_item : (r q : Reading) (ix : TreeIndex) (rest : List TreeIndex) → is_item (body_at r.tree.nodes ix.0) ≡ true → PopsTo r q ix rest
+pops_item : (r q : PassState) (ix : TreeIndex) (rest : List TreeIndex) → is_item (body_at r.tree.nodes ix.0) ≡ true → PopsTo r q ix rest
     → possible_title q.tree ≡ None
 pops_item r q ix rest item p =
     ap (option_and_then (λ c. title_by (top_body q.tree) c (body_at q.tree.nodes c.0))) p.current
     ∙ unless_item (top_body q.tree) ix (body_at q.tree.nodes ix.0) (item_same r.tree.nodes q.tree.nodes ix.0 p.same ∙ item)
 
-popped_at_item : (e : ℕ) (r : Reading) (spine : List TreeIndex) → is_item (top_of r.tree.nodes spine) ≡ true
+popped_at_item : (e : ℕ) (r : PassState) (spine : List TreeIndex) → is_item (top_of r.tree.nodes spine) ≡ true
     → possible_title (popped_at e r spine).tree ≡ None
 popped_at_item e r [] item = cc
 popped_at_item e r (ix ∷ rest) item = pops_item r (popped_at e r (ix ∷ rest)) ix rest item (pops_at e r ix rest)
 
-after_item : (e : ℕ) (r : Reading) (o : Option TreeIndex) → possible_title r.tree ≡ o → is_item (top_body r.tree) ≡ true
+after_item : (e : ℕ) (r : PassState) (o : Option TreeIndex) → possible_title r.tree ≡ o → is_item (top_body r.tree) ≡ true
     → possible_title (popped_after e r o).tree ≡ None
 after_item e r None is item = popped_at_item e r r.tree.spine item
 after_item e r (Some title) is item = absurd (true≢false (sym item ∙ definitions_other (top_body r.tree) (title_there r.tree title is).list))
 
-pub popped_item : (e : ℕ) (r : Reading) → is_item (top_body r.tree) ≡ true → possible_title (popped e r).tree ≡ None
+pub popped_item : (e : ℕ) (r : PassState) → is_item (top_body r.tree) ≡ true → possible_title (popped e r).tree ≡ None
 unfolding popped
 popped_item e r item = after_item e r (possible_title r.tree) refl item
 
 -- the same for a list or a footnote definition: no list is innermost then
-at_outside : (e : ℕ) (r : Reading) (spine : List TreeIndex) → r.tree.spine ≡ spine → AreNested r.tree.nodes r.tree.spine
+at_outside : (e : ℕ) (r : PassState) (spine : List TreeIndex) → r.tree.spine ≡ spine → AreNested r.tree.nodes r.tree.spine
     → is_some (top_of r.tree.nodes spine) ≡ true → is_item (top_of r.tree.nodes spine) ≡ false → IsOutside (popped_at e r spine)
 at_outside e r [] is h some other = cc
 at_outside e r (ix ∷ rest) is h some other =
     pops_outside r (popped_at e r (ix ∷ rest)) ix rest (subst (AreNested r.tree.nodes) is h) other (pops_at e r ix rest)
 
-after_outside : (e : ℕ) (r : Reading) (o : Option TreeIndex) → possible_title r.tree ≡ o → AreNested r.tree.nodes r.tree.spine
+after_outside : (e : ℕ) (r : PassState) (o : Option TreeIndex) → possible_title r.tree ≡ o → AreNested r.tree.nodes r.tree.spine
     → is_some (top_body r.tree) ≡ true → is_item (top_body r.tree) ≡ false → IsOutside (popped_after e r o)
 after_outside e r None is h some other = at_outside e r r.tree.spine refl h some other
 after_outside e r (Some title) is h some other = title_closed_outside r title (title_there r.tree title is) h
 
-pub popped_outside : (e : ℕ) (r : Reading) → AreNested r.tree.nodes r.tree.spine → is_some (top_body r.tree) ≡ true → is_item (top_body r.tree) ≡ false
+pub popped_outside : (e : ℕ) (r : PassState) → AreNested r.tree.nodes r.tree.spine → is_some (top_body r.tree) ≡ true → is_item (top_body r.tree) ≡ false
     → IsOutside (popped e r)
 unfolding popped
 popped_outside e r h some other = after_outside e r (possible_title r.tree) refl h some other
@@ -400,43 +401,43 @@ note_parts (Some (FootnoteDefinitionBody label)) h = (refl, refl)
 note_parts (Some b) h = cc
 
 -- closing an item that began with two blank lines
-popped_nested : (e : ℕ) (r : Reading) → is_item (top_body r.tree) ≡ true → AreNested r.tree.nodes r.tree.spine → IsSettled (popped e r)
+popped_nested : (e : ℕ) (r : PassState) → is_item (top_body r.tree) ≡ true → AreNested r.tree.nodes r.tree.spine → IsSettled (popped e r)
 popped_nested e r item h = popped_settled e r h (λ list. absurd (true≢false (sym item ∙ definitions_other (top_body r.tree) list)))
 
-finished_by_nested : (r : Reading) (o : Option ℕ) → AreNested r.tree.nodes r.tree.spine
+finished_by_nested : (r : PassState) (o : Option ℕ) → AreNested r.tree.nodes r.tree.spine
     → AreNested (item_finished_by r o).tree.nodes (item_finished_by r o).tree.spine
 finished_by_nested r None h = h
 finished_by_nested r (Some e) h =
-    cond_both (r.blank && is_item (top_body r.tree)) (popped e r) r (λ (q : Reading). AreNested q.tree.nodes q.tree.spine)
+    cond_both (r.blank && is_item (top_body r.tree)) (popped e r) r (λ (q : PassState). AreNested q.tree.nodes q.tree.spine)
     (λ b. (popped_nested e r (and_parts r.blank (is_item (top_body r.tree)) b).1 h).nested) (λ b. h)
 
-finished_by_last : (r : Reading) (o : Option ℕ) → AreNested r.tree.nodes r.tree.spine → HasDefinition r.tree → HasDefinition (item_finished_by r o).tree
+finished_by_last : (r : PassState) (o : Option ℕ) → AreNested r.tree.nodes r.tree.spine → HasDefinition r.tree → HasDefinition (item_finished_by r o).tree
 finished_by_last r None h last = last
 finished_by_last r (Some e) h last =
-    cond_both (r.blank && is_item (top_body r.tree)) (popped e r) r (λ (q : Reading). HasDefinition q.tree)
+    cond_both (r.blank && is_item (top_body r.tree)) (popped e r) r (λ (q : PassState). HasDefinition q.tree)
     (λ b. (popped_nested e r (and_parts r.blank (is_item (top_body r.tree)) b).1 h).last) (λ b. last)
 
-pub item_finished_last : (r : Reading) → AreNested r.tree.nodes r.tree.spine → HasDefinition r.tree → HasDefinition (item_finished r).tree
+pub item_finished_last : (r : PassState) → AreNested r.tree.nodes r.tree.spine → HasDefinition r.tree → HasDefinition (item_finished r).tree
 unfolding item_finished
 item_finished_last r h last = finished_by_last r r.begin_list_item h last
 
-pub item_finished_nested : (r : Reading) → AreNested r.tree.nodes r.tree.spine → AreNested (item_finished r).tree.nodes (item_finished r).tree.spine
+pub item_finished_nested : (r : PassState) → AreNested r.tree.nodes r.tree.spine → AreNested (item_finished r).tree.nodes (item_finished r).tree.spine
 unfolding item_finished
 item_finished_nested r h = finished_by_nested r r.begin_list_item h
 
 -- closing an innermost list
-left_by : (e : ℕ) (r : Reading) (t : Bool) → is_list (top_body r.tree) ≡ t → AreNested r.tree.nodes r.tree.spine → IsOutside (if t then popped e r else r)
+left_by : (e : ℕ) (r : PassState) (t : Bool) → is_list (top_body r.tree) ≡ t → AreNested r.tree.nodes r.tree.spine → IsOutside (if t then popped e r else r)
 left_by e r true list h = (let p = list_parts (top_body r.tree) list in popped_outside e r h p.0 p.1)
 left_by e r false none h = (h, none)
 
-pub list_left_outside : (e : ℕ) (r : Reading) → AreNested r.tree.nodes r.tree.spine → IsOutside (list_left e r)
+pub list_left_outside : (e : ℕ) (r : PassState) → AreNested r.tree.nodes r.tree.spine → IsOutside (list_closed e r)
 list_left_outside e r h = left_by e r (is_list (top_body r.tree)) refl h
 
-note_left_by : (e : ℕ) (r : Reading) (t : Bool) → is_footnote (top_body r.tree) ≡ t → IsOutside r → IsOutside (if t then popped e r else r)
+note_left_by : (e : ℕ) (r : PassState) (t : Bool) → is_footnote (top_body r.tree) ≡ t → IsOutside r → IsOutside (if t then popped e r else r)
 note_left_by e r true note h = (let p = note_parts (top_body r.tree) note in popped_outside e r h.0 p.0 p.1)
 note_left_by e r false none h = h
 
-pub footnote_left_outside : (e : ℕ) (r : Reading) → IsOutside r → IsOutside (footnote_left e r)
+pub footnote_left_outside : (e : ℕ) (r : PassState) → IsOutside r → IsOutside (footnote_left e r)
 footnote_left_outside e r h = note_left_by e r (is_footnote (top_body r.tree)) refl h
 
 -- nodes that are alike
@@ -449,20 +450,20 @@ like_list f g a = ap (λ s. is_list (top_of g.nodes s)) a.spine ∙ top_list_sam
 pub like_item : (f g : Forest Item) → LooksAlike f g → is_item (top_body g) ≡ is_item (top_body f)
 like_item f g a = ap (λ s. is_item (top_of g.nodes s)) a.spine ∙ top_item_same f.nodes g.nodes f.spine (classes_alike f.nodes g.nodes a.nodes)
 
-pub noted_outside : (r : Reading) → IsOutside r → IsOutside (gap_noted r)
+pub noted_outside : (r : PassState) → IsOutside r → IsOutside (gap_noted r)
 noted_outside r h = (like_nested r.tree (gap_noted r).tree (like_noted r) h.0, like_list r.tree (gap_noted r).tree (like_noted r) ∙ h.1)
 
 -- before a block that ends a list
-pub list_finished_outside : (e : ℕ) (r : Reading) → AreNested r.tree.nodes r.tree.spine → IsOutside (list_finished e r)
+pub list_finished_outside : (e : ℕ) (r : PassState) → AreNested r.tree.nodes r.tree.spine → IsOutside (list_finished e r)
 unfolding list_finished
-list_finished_outside e r h = noted_outside (list_left e (item_finished r)) (list_left_outside e (item_finished r) (item_finished_nested r h))
+list_finished_outside e r h = noted_outside (list_closed e (item_finished r)) (list_left_outside e (item_finished r) (item_finished_nested r h))
 
 -- opening a container
 last_there : (nodes : List (ℕ × Item)) (n : ℕ × Item) → body_at (nodes ++ n ∷ []) (length nodes) ≡ Some n.1.body
 last_there [] n = refl
 last_there (m ∷ nodes) n = last_there nodes n
 
-pub begun_nested : (start : ℕ) (body : ItemBody) (r : Reading) → (is_list (top_body r.tree) ≡ true → is_item (Some body) ≡ true)
+pub begun_nested : (start : ℕ) (body : ItemBody) (r : PassState) → (is_list (top_body r.tree) ≡ true → is_item (Some body) ≡ true)
     → AreNested r.tree.nodes r.tree.spine → AreNested (begun start body r).tree.nodes (begun start body r).tree.spine
 begun_nested start body r may h =
     let n : ℕ × Item = (length r.tree.spine + 1, record { start = start; «end» = 0; body = body }) in (
@@ -471,7 +472,7 @@ begun_nested start body r may h =
       nested_front r.tree.nodes (n ∷ []) r.tree.spine h,
     )
 
-pub begun_settled : (start : ℕ) (body : ItemBody) (r : Reading) → is_definition_list (Some body) ≡ false
+pub begun_settled : (start : ℕ) (body : ItemBody) (r : PassState) → is_definition_list (Some body) ≡ false
     → (is_list (top_body r.tree) ≡ true → is_item (Some body) ≡ true) → AreNested r.tree.nodes r.tree.spine → IsSettled (begun start body r)
 begun_settled start body r other may h =
     let n : ℕ × Item = (length r.tree.spine + 1, record { start = start; «end» = 0; body = body }) in
@@ -482,7 +483,7 @@ begun_settled start body r other may h =
     }
 
 -- the same outside lists
-pub begun_outside : (start : ℕ) (body : ItemBody) (r : Reading) → is_definition_list (Some body) ≡ false → IsOutside r → IsSettled (begun start body r)
+pub begun_outside : (start : ℕ) (body : ItemBody) (r : PassState) → is_definition_list (Some body) ≡ false → IsOutside r → IsSettled (begun start body r)
 begun_outside start body r other h = begun_settled start body r other (λ list. absurd (true≢false (sym list ∙ h.1))) h.0
 
 -- a list of items is no definition list, even if it becomes loose
@@ -512,15 +513,15 @@ top_other f (ix ∷ rest) spine other =
     sym (ap (λ (s : List TreeIndex). is_definition_list (option_and_then (λ ix. body_at f.nodes ix.0) (slice_get s 0))) spine) ∙ other in
     ap is_definition_list top ∙ loosened_other f ix (body_at f.nodes ix.0) refl here
 
-kept_other : (r : Reading) → is_definition_list (top_body r.tree) ≡ false → is_definition_list (top_body (list_kept r).tree) ≡ false
+kept_other : (r : PassState) → is_definition_list (top_body r.tree) ≡ false → is_definition_list (top_body (list_kept r).tree) ≡ false
 kept_other r other =
-    cond_both r.blank (record r { tree = loosened_top r.tree r.tree.spine; blank = false }) r (λ (q : Reading). is_definition_list (top_body q.tree) ≡ false)
+    cond_both r.blank (record r { tree = loosened_top r.tree r.tree.spine; blank = false }) r (λ (q : PassState). is_definition_list (top_body q.tree) ≡ false)
     (λ b. top_other r.tree r.tree.spine refl other) (λ b. other)
 
-pub list_continued_settled : (start byte number : ℕ) (r : Reading) → AreNested r.tree.nodes r.tree.spine → IsSettled (list_continued start byte number r)
+pub list_continued_settled : (start byte number : ℕ) (r : PassState) → AreNested r.tree.nodes r.tree.spine → IsSettled (list_continued start byte number r)
 unfolding list_continued
 list_continued_settled start byte number r h =
-    let s : Reading = item_finished r in
+    let s : PassState = item_finished r in
     let k = item_finished_nested r h in
     let body : ItemBody = ListBody (list_flags true) byte number in
     let kept : is_list_of byte (top_body s.tree) ≡ true → IsSettled (list_kept s) =
@@ -533,13 +534,13 @@ list_continued_settled start byte number r h =
     cond_both (is_list_of byte (top_body s.tree)) (list_kept s) (begun start body (list_finished start s)) IsSettled kept
     (λ b. begun_outside start body (list_finished start s) refl (list_finished_outside start s k))
 
-pub footnote_begun_settled : (start : ℕ) (index : CowIndex) (r : Reading) → AreNested r.tree.nodes r.tree.spine → IsSettled (footnote_begun start index r)
+pub footnote_begun_settled : (start : ℕ) (index : CowIndex) (r : PassState) → AreNested r.tree.nodes r.tree.spine → IsSettled (footnote_begun start index r)
 unfolding footnote_begun
 footnote_begun_settled start index r h =
-    let s : Reading = item_finished r in
-    let q : Reading = footnote_left start (list_left start s) in
+    let s : PassState = item_finished r in
+    let q : PassState = footnote_left start (list_closed start s) in
     begun_outside start (FootnoteDefinitionBody index) (gap_noted q) refl
-    (noted_outside q (footnote_left_outside start (list_left start s) (list_left_outside start s (item_finished_nested r h))))
+    (noted_outside q (footnote_left_outside start (list_closed start s) (list_left_outside start s (item_finished_nested r h))))
 
 -- the marker of a task, and a block that is added
 pub child_outside : (f : Forest Item) (marker : Option Item) → AreNested f.nodes f.spine → is_list (top_body f) ≡ false
@@ -553,18 +554,18 @@ pub added_outside : (f : Forest Item) (items : List (ℕ × Item)) → AreNested
 added_outside f items h none = (nested_front f.nodes _ f.spine h, ap is_list (top_front f.nodes _ f.spine h) ∙ none)
 
 -- the nodes can then be closed in order
-pub settled_closes : (text : List ℕ) (r : Reading) (at : ℕ) → IsSettled r → CanClose text r.tree at
+pub settled_closes : (text : List ℕ) (r : PassState) (at : ℕ) → IsSettled r → CanClose text r.tree at
 settled_closes text r at h =
     record { nested = h.nested; last = h.last; title = λ title is. (let e : None ≡ Some title = sym h.none ∙ is in cc) }
 
-pub outside_closes : (text : List ℕ) (r : Reading) (at : ℕ) → IsOutside r → CanClose text r.tree at
+pub outside_closes : (text : List ℕ) (r : PassState) (at : ℕ) → IsOutside r → CanClose text r.tree at
 outside_closes text r at h = settled_closes text r at (outside_settled r h)
 
 pub tree_closes : (text : List ℕ) (f : Forest Item) (at : ℕ) → AreNested f.nodes f.spine → is_list (top_body f) ≡ false → CanClose text f at
-tree_closes text f at nested none = outside_closes text (reading_with f None false) at (nested, none)
+tree_closes text f at nested none = outside_closes text (state_with f None false) at (nested, none)
 
 -- a blank line does not change the last child
-blank_by_last : (r : Reading) (b : Option ItemBody) → top_body r.tree ≡ b → HasDefinition r.tree
+blank_by_last : (r : PassState) (b : Option ItemBody) → top_body r.tree ≡ b → HasDefinition r.tree
     → is_item (top_body (blank_read_by r b).tree) ≡ is_item (top_body r.tree) → HasDefinition (blank_read_by r b).tree
 blank_by_last r None is h item = h
 blank_by_last r (Some (BlockQuoteBody kind)) is h item = h
@@ -575,7 +576,7 @@ blank_by_last r (Some (DefinitionListDefinition columns)) is h item =
     ∙ definitions_other (top_body (blank_read_by r (Some (DefinitionListDefinition columns))).tree) list))
 blank_by_last r (Some b) is h item = h
 
-pub blank_last : (r : Reading) → HasDefinition r.tree → HasDefinition (blank_read r).tree
+pub blank_last : (r : PassState) → HasDefinition r.tree → HasDefinition (blank_read r).tree
 unfolding blank_read
 blank_last r h = blank_by_last r (top_body r.tree) refl h (like_item r.tree (blank_read_by r (top_body r.tree)).tree (like_blank r))
 

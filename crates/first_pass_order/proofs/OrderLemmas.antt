@@ -13,13 +13,13 @@ use Rattle.first_pass_grammar.specs.Order.{Ranged, is_text_block, is_task_marker
 use Rattle.first_pass_grammar.specs.Order.{Node, laid}
 use Rattle.first_pass_grammar.specs.Order.{IsBetween, Elsewhere, InItem, Fits, FitsBetween, IsOrdered}
 use Rattle.first_pass_grammar.specs.OpenOrder.{laid_open, AreAt, open_within, FitsOpen, item_on_top, within_top, IsOrderedTo}
-use Rattle.first_pass_grammar.proofs.Orders.{beside, ended_at, extents-append, length-extents, extents-at_depth, laid-at_depth, laid-one, laid_open-beside}
-use Rattle.first_pass_grammar.proofs.Orders.{laid_open-pushed, laid_open-level, laid_open-popped, laid_open-root, length-places, fits-one, fits_open-later}
-use Rattle.first_pass_grammar.proofs.Orders.{fits_open-beside, fits_open-pushed, fits_open-popped, extents-ended, extents-kept, fits-whole}
+use Rattle.first_pass_grammar.proofs.Order.Orders.{beside, ended_at, extents-append, length-extents, extents-at_depth, laid-at_depth, laid-one, laid_open-beside}
+use Rattle.first_pass_grammar.proofs.Order.Orders.{laid_open-pushed, laid_open-level, laid_open-popped, laid_open-root, length-places, fits-one, fits_open-later}
+use Rattle.first_pass_grammar.proofs.Order.Orders.{fits_open-beside, fits_open-pushed, fits_open-popped, extents-ended, extents-kept, fits-whole}
 use Rattle.first_pass_open.specs.OpenBlock.{closed_by}
 use Rattle.first_pass_lists.specs.Closing.{is_item, popped_by}
 use Rattle.first_pass_lists.specs.Closing.{begun}
-use Rattle.first_pass_lists.specs.declared.reading.Reading.{Reading}
+use Rattle.first_pass_lists.specs.declared.state.PassState.{PassState}
 use Rattle.first_pass_order.specs.Ordered.{reached, IsOrderedAt}
 
 -- a forest with the same extents and open nodes
@@ -113,7 +113,7 @@ ordered_added text f a b items (row, is, fits, node_bound) within h =
     (extents-append f.nodes (at_depth d items) ∙ ap (λ (z : List (ℕ × Ranged)). extents f.nodes ++ z) block) refl fits within h
 
 -- a container or list begins
-pub ordered_begun : (text : List ℕ) (r : Reading) (a start : ℕ) (body : ItemBody)
+pub ordered_begun : (text : List ℕ) (r : PassState) (a start : ℕ) (body : ItemBody)
     → a ≤ start → start ≤ length text → IsCharBoundary text start → IsOrderedTo text r.tree a → IsOrderedTo text (begun start body r).tree start
 ordered_begun text r a start body later within starts h =
     let f : Forest Item = r.tree in
@@ -195,7 +195,7 @@ ordered_closed text f at e ix rest spine later within ends h =
     closed_levels text f at e ix rest h.root h.levels h.row h.nodes
     (subst (λ (s : List TreeIndex). AreAt h.root h.levels s) spine h.places) h.fits h.whole later within ends
 
-pub popped_empty : (r : Reading) (f : Forest Item) (ix : TreeIndex) (b : Option ItemBody)
+pub popped_empty : (r : PassState) (f : Forest Item) (ix : TreeIndex) (b : Option ItemBody)
     → (r.begin_list_item ≡ None) ⊎ (is_item b ≡ true) → (popped_by r f ix b).begin_list_item ≡ None
 popped_empty r f ix None (inl none) = none
 popped_empty r f ix None (inr item) = cc
@@ -212,7 +212,7 @@ no_some : (o : Option ℕ) (e : ℕ) → o ≡ None → o ≡ Some e → ⊥
 no_some o e a b = cc
 
 -- if no item is empty, the order of the state is that of the tree
-pub ordered_none : (text : List ℕ) (r : Reading) (at : ℕ) → r.begin_list_item ≡ None → at ≤ length text → IsOrderedTo text r.tree at → IsOrderedAt text r at
+pub ordered_none : (text : List ℕ) (r : PassState) (at : ℕ) → r.begin_list_item ≡ None → at ≤ length text → IsOrderedTo text r.tree at → IsOrderedAt text r at
 ordered_none text r at none within h =
     let same : reached r.begin_list_item at ≡ at = ap (λ (o : Option ℕ). reached o at) none in
     record {
@@ -222,13 +222,13 @@ ordered_none text r at none within h =
       innermost = λ e is. absurd (no_some r.begin_list_item e none is);
     }
 
-later_by : (text : List ℕ) (r : Reading) (at b : ℕ) (o : Option ℕ) → r.begin_list_item ≡ o → at ≤ b → b ≤ length text → IsOrderedTo text r.tree (reached o at)
+later_by : (text : List ℕ) (r : PassState) (at b : ℕ) (o : Option ℕ) → r.begin_list_item ≡ o → at ≤ b → b ≤ length text → IsOrderedTo text r.tree (reached o at)
     → reached o at ≤ at → IsOrderedTo text r.tree (reached o b) × (reached o b ≤ b)
 later_by text r at b None is later within h order = (let here : b ≤ b = omega arith in (ordered_later text r.tree at b later within h, here))
 later_by text r at b (Some e) is later within h order = (let here : e ≤ b = omega arith in (h, here))
 
 -- up to a later offset, whether an item is empty or not
-pub ordered_at_later : (text : List ℕ) (r : Reading) (at b : ℕ) → at ≤ b → b ≤ length text → IsOrderedAt text r at → IsOrderedAt text r b
+pub ordered_at_later : (text : List ℕ) (r : PassState) (at b : ℕ) → at ≤ b → b ≤ length text → IsOrderedAt text r at → IsOrderedAt text r b
 ordered_at_later text r at b later within h =
     let l = later_by text r at b r.begin_list_item refl later within h.ordered h.later in
     record { ordered = l.0; later = l.1; within = within; innermost = h.innermost }

@@ -16,7 +16,7 @@ use Rattle.first_pass_lists.specs.Closing.{definitions_closed, top_end, possible
 use Rattle.first_pass_lists.specs.Closing.{gap_tree, list_finished, list_kept, list_continued}
 use Rattle.first_pass_lists.specs.Closing.{blank_read_by, blank_read, gap_noted, footnote_begun}
 use Rattle.first_pass_items.specs.declared.item.CowIndex.{CowIndex}
-use Rattle.first_pass_lists.specs.declared.reading.Reading.{Reading}
+use Rattle.first_pass_lists.specs.declared.state.PassState.{PassState}
 use Rattle.first_pass_order.specs.Ordered.{reached, IsOrderedAt, EndsBeforeTitle, IsReadTo}
 use Rattle.first_pass_order.proofs.AlikeNodes.{like_blank}
 use Rattle.first_pass_order.proofs.Nests.{title_there, popped_settled, item_finished_nested, like_item, like_nested}
@@ -32,30 +32,31 @@ use Rattle.first_pass_tree.proofs.BodyLemmas.{body-kept}
 use Rattle.first_pass_order.proofs.OrderLemmas.{ordered_none, ordered_at_later}
 use Rattle.first_pass_order.proofs.OrderLemmas.{popped_empty}
 
-empty_moved : (q : Reading) (o : Option TreeIndex) → (current_moved q o).begin_list_item ≡ q.begin_list_item
+empty_moved : (q : PassState) (o : Option TreeIndex) → (current_moved q o).begin_list_item ≡ q.begin_list_item
 empty_moved q None = refl
 empty_moved q (Some c) = refl
 
-title_empty : (r : Reading) (title : TreeIndex) → r.begin_list_item ≡ None → (title_closed r title).begin_list_item ≡ None
+title_empty : (r : PassState) (title : TreeIndex) → r.begin_list_item ≡ None → (title_closed r title).begin_list_item ≡ None
 unfolding definitions_closed
 title_empty r title none =
     let g : Forest Item = with_body_at r.tree title Paragraph in
     empty_moved (popped_at (top_end r.tree) (with_tree r g) g.spine) g.current ∙ popped_at_none (top_end r.tree) (with_tree r g) g.spine none
 
-pub noted_empty : (r : Reading) → (gap_noted r).begin_list_item ≡ r.begin_list_item
+pub noted_empty : (r : PassState) → (gap_noted r).begin_list_item ≡ r.begin_list_item
 noted_empty r =
-    cond_both r.blank (record r { tree = gap_tree r.tree r.tree.spine; blank = false }) r (λ (q : Reading). q.begin_list_item ≡ r.begin_list_item) (λ b. refl) (λ b. refl)
+    cond_both r.blank (record r { tree = gap_tree r.tree r.tree.spine; blank = false }) r (λ (q : PassState). q.begin_list_item ≡ r.begin_list_item)
+    (λ b. refl) (λ b. refl)
 
 -- no possible title is last in an item
 pub untitled_item : (text : List ℕ) (f : Forest Item) (at : ℕ) → is_item (top_body f) ≡ true → EndsBeforeTitle text f at
 untitled_item text f at item title is = absurd (no_item_list (top_body f) (title_there f title is).list item)
 
-empty_by : (text : List ℕ) (r : Reading) (at : ℕ) (o : Option ℕ)
+empty_by : (text : List ℕ) (r : PassState) (at : ℕ) (o : Option ℕ)
     → r.begin_list_item ≡ o → IsOrderedAt text r at → (r.begin_list_item ≡ None) ⊎ (is_item (top_body r.tree) ≡ true)
 empty_by text r at None is h = inl is
 empty_by text r at (Some e) is h = inr (h.innermost e is).0
 
-item_closed : (e : ℕ) (r : Reading) (s : List TreeIndex) → r.tree.spine ≡ s → is_item (top_body r.tree) ≡ true → (popped_at e r s).begin_list_item ≡ None
+item_closed : (e : ℕ) (r : PassState) (s : List TreeIndex) → r.tree.spine ≡ s → is_item (top_body r.tree) ≡ true → (popped_at e r s).begin_list_item ≡ None
 item_closed e r [] spine item =
     let none : is_item (top_body r.tree) ≡ false =
     ap (λ (s : List TreeIndex). is_item (option_and_then (λ ix. body_at r.tree.nodes ix.0) (slice_get s 0))) spine in
@@ -67,19 +68,19 @@ item_closed e r (ix ∷ rest) spine item =
     ap (λ (s : List TreeIndex). is_item (option_and_then (λ ix. body_at r.tree.nodes ix.0) (slice_get s 0))) spine in
     popped_empty r f ix (body_at f.nodes ix.0) (inr (ap is_item same ∙ sym top ∙ item))
 
-after_empty : (e : ℕ) (r : Reading) (o : Option TreeIndex) → possible_title r.tree ≡ o → (r.begin_list_item ≡ None) ⊎ (is_item (top_body r.tree) ≡ true)
+after_empty : (e : ℕ) (r : PassState) (o : Option TreeIndex) → possible_title r.tree ≡ o → (r.begin_list_item ≡ None) ⊎ (is_item (top_body r.tree) ≡ true)
     → (popped_after e r o).begin_list_item ≡ None
 after_empty e r None is (inl none) = popped_at_none e r r.tree.spine none
 after_empty e r None is (inr item) = item_closed e r r.tree.spine refl item
 after_empty e r (Some title) is (inl none) = title_empty r title none
 after_empty e r (Some title) is (inr item) = absurd (no_item_list (top_body r.tree) (title_there r.tree title is).list item)
 
-closes_empty : (e : ℕ) (r : Reading) → (r.begin_list_item ≡ None) ⊎ (is_item (top_body r.tree) ≡ true) → (popped e r).begin_list_item ≡ None
+closes_empty : (e : ℕ) (r : PassState) → (r.begin_list_item ≡ None) ⊎ (is_item (top_body r.tree) ≡ true) → (popped e r).begin_list_item ≡ None
 unfolding popped
 closes_empty e r h = after_empty e r (possible_title r.tree) refl h
 
 -- the innermost open node is closed
-pub ordered_popped : (text : List ℕ) (r : Reading) (at e : ℕ) → EndsBeforeTitle text r.tree at
+pub ordered_popped : (text : List ℕ) (r : PassState) (at e : ℕ) → EndsBeforeTitle text r.tree at
     → at ≤ e → e ≤ length text → IsCharBoundary text e → IsOrderedAt text r at → IsOrderedAt text (popped e r) e
 ordered_popped text r at e closes later within ends h =
     let low : reached r.begin_list_item at ≤ at = h.later in
@@ -88,24 +89,24 @@ ordered_popped text r at e closes later within ends h =
     (omega arith, within) ends)
 
 -- an item that began with two blank lines is finished
-pub ordered_item_finished : (text : List ℕ) (r : Reading) (at : ℕ) → IsOrderedAt text r at → IsOrderedAt text (item_finished r) at
+pub ordered_item_finished : (text : List ℕ) (r : PassState) (at : ℕ) → IsOrderedAt text r at → IsOrderedAt text (item_finished r) at
 ordered_item_finished text r at h =
     ordered_none text (item_finished r) at (finished_none r) h.within (item_finished_keeps (order_kept text) at 0 r (ordered_at text r at h))
 
-item_finished_closes : (text : List ℕ) (r : Reading) (at : ℕ) → EndsBeforeTitle text r.tree at → EndsBeforeTitle text (item_finished r).tree at
+item_finished_closes : (text : List ℕ) (r : PassState) (at : ℕ) → EndsBeforeTitle text r.tree at → EndsBeforeTitle text (item_finished r).tree at
 item_finished_closes text r at h title is =
     let l = item_finished_leaves (order_kept text) at r (may_leave text r.tree at h) title is in
     record { before = l.before; ends = l.ends; row = l.row; last = l.last; fits = l.fits }
 
-pub ordered_gap_noted : (text : List ℕ) (r : Reading) (a : ℕ) → IsOrderedTo text r.tree a → IsOrderedTo text (gap_noted r).tree a
+pub ordered_gap_noted : (text : List ℕ) (r : PassState) (a : ℕ) → IsOrderedTo text r.tree a → IsOrderedTo text (gap_noted r).tree a
 ordered_gap_noted text r a h = noted_keeps (order_kept text) a 0 r h
 
 -- a list that continues
-pub ordered_list_kept : (text : List ℕ) (r : Reading) (a : ℕ) → IsOrderedTo text r.tree a → IsOrderedTo text (list_kept r).tree a
+pub ordered_list_kept : (text : List ℕ) (r : PassState) (a : ℕ) → IsOrderedTo text r.tree a → IsOrderedTo text (list_kept r).tree a
 ordered_list_kept text r a h = kept_keeps (order_kept text) a 0 r h
 
 -- a list is finished before a block
-pub ordered_list_finished : (text : List ℕ) (r : Reading) (at e b : ℕ) → EndsBeforeTitle text r.tree at → at ≤ b → e ≤ b → b ≤ length text
+pub ordered_list_finished : (text : List ℕ) (r : PassState) (at e b : ℕ) → EndsBeforeTitle text r.tree at → at ≤ b → e ≤ b → b ≤ length text
     → IsCharBoundary text e → (is_list (top_body (item_finished r).tree) ≡ true → at ≤ e) → IsOrderedAt text r at → IsOrderedAt text (list_finished e r) b
 ordered_list_finished text r at e b closes later short within ends order h =
     let e_within : e ≤ length text = omega arith in
@@ -114,14 +115,14 @@ ordered_list_finished text r at e b closes later short within ends order h =
     (later, within))
 
 -- a footnote definition is opened where the innermost open nodes end
-pub ordered_note : (text : List ℕ) (r : Reading) (at start : ℕ) (index : CowIndex) → EndsBeforeTitle text r.tree at → at ≤ start → start ≤ length text
+pub ordered_note : (text : List ℕ) (r : PassState) (at start : ℕ) (index : CowIndex) → EndsBeforeTitle text r.tree at → at ≤ start → start ≤ length text
     → IsCharBoundary text start → IsOrderedAt text r at → IsOrderedTo text (footnote_begun start index r).tree start
 ordered_note text r at start index closes later within starts h =
     let there : start ≤ start = omega arith in
     note_keeps (order_kept text) at start 0 index r (ordered_at text r at h) (may_leave text r.tree at closes) (later, within) (there, within) starts tt
 
 -- a list that continues, or a new one
-pub ordered_list_continued : (text : List ℕ) (r : Reading) (at start byte number : ℕ) → EndsBeforeTitle text r.tree at
+pub ordered_list_continued : (text : List ℕ) (r : PassState) (at start byte number : ℕ) → EndsBeforeTitle text r.tree at
     → at ≤ start → start ≤ length text → IsCharBoundary text start → IsOrderedAt text r at → IsOrderedAt text (list_continued start byte number r) start
 ordered_list_continued text r at start byte number closes later within starts h =
     let here : at ≤ at = omega arith in
@@ -131,18 +132,18 @@ ordered_list_continued text r at start byte number closes later within starts h 
     (there, within) starts tt)
 
 -- a blank line is read
-blank_by_empty : (r : Reading) (b : Option ItemBody) → (blank_read_by r b).begin_list_item ≡ r.begin_list_item
+blank_by_empty : (r : PassState) (b : Option ItemBody) → (blank_read_by r b).begin_list_item ≡ r.begin_list_item
 blank_by_empty r None = refl
 blank_by_empty r (Some (BlockQuoteBody kind)) = refl
 blank_by_empty r (Some (ListItemBody columns)) = refl
 blank_by_empty r (Some (DefinitionListDefinition columns)) = refl
 blank_by_empty r (Some b) = refl
 
-blank_empty : (r : Reading) → (blank_read r).begin_list_item ≡ r.begin_list_item
+blank_empty : (r : PassState) → (blank_read r).begin_list_item ≡ r.begin_list_item
 unfolding blank_read
 blank_empty r = blank_by_empty r (top_body r.tree)
 
-pub ordered_blank_read : (text : List ℕ) (r : Reading) (at b : ℕ) → at ≤ b → b ≤ length text → IsOrderedAt text r at → IsOrderedAt text (blank_read r) b
+pub ordered_blank_read : (text : List ℕ) (r : PassState) (at b : ℕ) → at ≤ b → b ≤ length text → IsOrderedAt text r at → IsOrderedAt text (blank_read r) b
 ordered_blank_read text r at b later within h =
     let same : (blank_read r).begin_list_item ≡ r.begin_list_item = blank_empty r in
     let reach : reached (blank_read r).begin_list_item at ≡ reached r.begin_list_item at = ap (λ o. reached o at) same in
@@ -156,13 +157,13 @@ ordered_blank_read text r at b later within h =
     })
 
 -- the same for closing in order
-pub read_popped : (text : List ℕ) (r : Reading) (at e : ℕ)
+pub read_popped : (text : List ℕ) (r : PassState) (at e : ℕ)
     → at ≤ e → e ≤ length text → IsCharBoundary text e → IsReadTo text r at → IsReadTo text (popped e r) e
 read_popped text r at e later within ends h =
     (ordered_popped text r at e h.1.title later within ends h.0, settled_closes text (popped e r) e (popped_settled e r h.1.nested h.1.last))
 
 -- the same for closing in order
-pub read_item_finished : (text : List ℕ) (r : Reading) (at : ℕ) → IsReadTo text r at → IsReadTo text (item_finished r) at
+pub read_item_finished : (text : List ℕ) (r : PassState) (at : ℕ) → IsReadTo text r at → IsReadTo text (item_finished r) at
 read_item_finished text r at h = (
   ordered_item_finished text r at h.0,
   record {
@@ -173,7 +174,7 @@ read_item_finished text r at h = (
 )
 
 -- a blank line leaves the tree unchanged, or an item is innermost in it
-blank_closes_by : (text : List ℕ) (r : Reading) (at : ℕ) (b : Option ItemBody) → top_body r.tree ≡ b
+blank_closes_by : (text : List ℕ) (r : PassState) (at : ℕ) (b : Option ItemBody) → top_body r.tree ≡ b
     → (is_item (top_body r.tree) ≡ true → is_item (top_body (blank_read_by r b).tree) ≡ true) → EndsBeforeTitle text r.tree at
     → EndsBeforeTitle text (blank_read_by r b).tree at
 blank_closes_by text r at (Some (BlockQuoteBody kind)) is item h = h
@@ -184,13 +185,13 @@ blank_closes_by text r at (Some (DefinitionListDefinition columns)) is item h =
 blank_closes_by text r at None is item h = h
 blank_closes_by text r at (Some b) is item h = h
 
-blank_closes : (text : List ℕ) (r : Reading) (at : ℕ) → EndsBeforeTitle text r.tree at → EndsBeforeTitle text (blank_read r).tree at
+blank_closes : (text : List ℕ) (r : PassState) (at : ℕ) → EndsBeforeTitle text r.tree at → EndsBeforeTitle text (blank_read r).tree at
 unfolding blank_read
 blank_closes text r at h =
     blank_closes_by text r at (top_body r.tree) refl (λ item. like_item r.tree (blank_read_by r (top_body r.tree)).tree (like_blank r) ∙ item) h
 
 -- the same for closing in order
-pub read_blank_read : (text : List ℕ) (r : Reading) (at b : ℕ) → at ≤ b → b ≤ length text → IsReadTo text r at → IsReadTo text (blank_read r) b
+pub read_blank_read : (text : List ℕ) (r : PassState) (at b : ℕ) → at ≤ b → b ≤ length text → IsReadTo text r at → IsReadTo text (blank_read r) b
 read_blank_read text r at b later within h = (
   ordered_blank_read text r at b later within h.0,
   record {
@@ -201,38 +202,38 @@ read_blank_read text r at b later within h = (
 )
 
 -- the state after a call of pop
-pub pop_keeps_order : (text : List ℕ) (r q : Reading) (at e : ℕ) → q ≡ popped e r → at ≤ e → e ≤ length text → IsCharBoundary text e → IsReadTo text r at
+pub pop_keeps_order : (text : List ℕ) (r q : PassState) (at e : ℕ) → q ≡ popped e r → at ≤ e → e ≤ length text → IsCharBoundary text e → IsReadTo text r at
     → IsReadTo text q e
-pop_keeps_order text r q at e is later within ends h = subst (λ (s : Reading). IsReadTo text s e) (sym is) (read_popped text r at e later within ends h)
+pop_keeps_order text r q at e is later within ends h = subst (λ (s : PassState). IsReadTo text s e) (sym is) (read_popped text r at e later within ends h)
 
 -- the state after a call of finish_empty_list_item
-pub finish_item_keeps_order : (text : List ℕ) (r q : Reading) (at : ℕ) → q ≡ item_finished r → IsReadTo text r at → IsReadTo text q at
-finish_item_keeps_order text r q at is h = subst (λ (s : Reading). IsReadTo text s at) (sym is) (read_item_finished text r at h)
+pub finish_item_keeps_order : (text : List ℕ) (r q : PassState) (at : ℕ) → q ≡ item_finished r → IsReadTo text r at → IsReadTo text q at
+finish_item_keeps_order text r q at is h = subst (λ (s : PassState). IsReadTo text s at) (sym is) (read_item_finished text r at h)
 
 -- the state after a call of finish_list
-pub finish_list_keeps_order : (text : List ℕ) (r q : Reading) (at e : ℕ) → q ≡ list_finished e r → at ≤ e → e ≤ length text → IsCharBoundary text e
+pub finish_list_keeps_order : (text : List ℕ) (r q : PassState) (at e : ℕ) → q ≡ list_finished e r → at ≤ e → e ≤ length text → IsCharBoundary text e
     → IsReadTo text r at → IsReadTo text q e
 finish_list_keeps_order text r q at e is later within ends (o, c) =
     let here : e ≤ e = omega arith in
-    subst (λ (s : Reading). IsReadTo text s e) (sym is) (
+    subst (λ (s : PassState). IsReadTo text s e) (sym is) (
       ordered_list_finished text r at e e c.title later here within ends (λ list. later) o,
       outside_closes text (list_finished e r) e (list_finished_outside e r c.nested),
     )
 
 -- the state after a call of continue_list
-pub continue_list_keeps_order : (text : List ℕ) (r q : Reading) (at start byte number : ℕ) → q ≡ list_continued start byte number r → at ≤ start
+pub continue_list_keeps_order : (text : List ℕ) (r q : PassState) (at start byte number : ℕ) → q ≡ list_continued start byte number r → at ≤ start
     → start ≤ length text → IsCharBoundary text start → IsReadTo text r at → IsReadTo text q start
 continue_list_keeps_order text r q at start byte number is later within starts (o, c) =
-    subst (λ (s : Reading). IsReadTo text s start) (sym is) (
+    subst (λ (s : PassState). IsReadTo text s start) (sym is) (
       ordered_list_continued text r at start byte number c.title later within starts o,
       settled_closes text (list_continued start byte number r) start (list_continued_settled start byte number r c.nested),
     )
 
 -- the state after a call that opens a footnote definition
-pub footnote_keeps_order : (text : List ℕ) (r q : Reading) (at start : ℕ) (index : CowIndex) → q ≡ footnote_begun start index r → at ≤ start
+pub footnote_keeps_order : (text : List ℕ) (r q : PassState) (at start : ℕ) (index : CowIndex) → q ≡ footnote_begun start index r → at ≤ start
     → start ≤ length text → IsCharBoundary text start → (footnote_begun start index r).begin_list_item ≡ None → IsReadTo text r at → IsReadTo text q start
 footnote_keeps_order text r q at start index is later within starts none (o, c) =
-    subst (λ (s : Reading). IsReadTo text s start) (sym is) (
+    subst (λ (s : PassState). IsReadTo text s start) (sym is) (
       ordered_none text (footnote_begun start index r) start none within (ordered_note text r at start index c.title later within starts o),
       settled_closes text (footnote_begun start index r) start (footnote_begun_settled start index r c.nested),
     )

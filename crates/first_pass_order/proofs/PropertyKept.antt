@@ -16,9 +16,9 @@ use Rattle.first_pass_grammar.specs.Derivation.{list_flags}
 use Rattle.first_pass_open.specs.OpenBlock.{closed_by, opened_block}
 use Rattle.first_pass_lists.specs.Closing.{with_tree, top_body, is_list, is_list_of, is_item, is_footnote, is_definition_list, popped_at}
 use Rattle.first_pass_lists.specs.Closing.{current_moved, definitions_closed}
-use Rattle.first_pass_lists.specs.Closing.{top_end, possible_title, title_closed, popped_after, popped, item_finished_by, item_finished, list_left, gap_noted}
+use Rattle.first_pass_lists.specs.Closing.{top_end, possible_title, title_closed, popped_after, popped, item_finished_by, item_finished, list_closed, gap_noted}
 use Rattle.first_pass_lists.specs.Closing.{list_finished, list_kept, begun, list_continued, footnote_left, footnote_begun, blank_read}
-use Rattle.first_pass_lists.specs.declared.reading.Reading.{Reading}
+use Rattle.first_pass_lists.specs.declared.state.PassState.{PassState}
 use Rattle.first_pass_lists.proofs.MovedLemmas.{closed_current}
 use Rattle.first_pass_order.specs.Ordered.{reached}
 use Rattle.first_pass_order.proofs.Nests.{TitleThere, title_there, popped_item}
@@ -40,19 +40,19 @@ pub record IsLeft (f g : Forest Item) (e : ℕ) (c : TreeIndex) : Type 0 where
 
 -- A property that trees keep as nodes are opened and closed. It holds of a tree up to an offset, after a number of
 -- nodes were opened. Reading goes on (`Goes`) from one offset to another, and a node starts or ends at an offset
--- (`Bounds`). A last child is moved out of a closed node (`Leaves`), and a body is opened (`Opens`).
+-- (`Bounds`). A last child is moved out of a closed node (`MovesOut`), and a body is opened (`Opens`).
 pub record Property : Type 1 where
   pub Holds : ℕ → ℕ → Forest Item → Type 0
   pub Goes : ℕ → ℕ → Type 0
   pub Bounds : ℕ → Type 0
-  pub Leaves : ℕ → ℕ → Forest Item → TreeIndex → Type 0
+  pub MovesOut : ℕ → ℕ → Forest Item → TreeIndex → Type 0
   pub Opens : ItemBody → Type 0
   pub more : (a k : ℕ) (f : Forest Item) → Holds a k f → Holds a (suc k) f
   pub later : (a b k : ℕ) (f : Forest Item) → Goes a b → Holds a k f → Holds b k f
   pub like : (a k : ℕ) (f g : Forest Item) → LooksAlike f g → Holds a k f → Holds a k g
   pub closed : (a e k : ℕ) (f : Forest Item) (ix : TreeIndex) (rest : List TreeIndex) → f.spine ≡ ix ∷ rest → Goes a e → Bounds e → Holds a k f
       → Holds e k (closed_by f e (ix ∷ rest))
-  pub left : (a e k : ℕ) (f g : Forest Item) (c : TreeIndex) → IsLeft f g e c → Leaves a e f c → Holds a k f → Holds a k g
+  pub left : (a e k : ℕ) (f g : Forest Item) (c : TreeIndex) → IsLeft f g e c → MovesOut a e f c → Holds a k f → Holds a k g
   pub opened : (a start k : ℕ) (f : Forest Item) (body : ItemBody) → Goes a start → Bounds start → Opens body → Holds a k f
       → Holds start (suc k) (opened_block f start body)
 
@@ -68,7 +68,7 @@ no_note_list (Some (DefinitionList flags)) a b = cc
 no_note_list (Some b) a c = cc
 
 -- a possible title becomes a paragraph, and is moved out of its list
-abbrev untitled : Reading → TreeIndex → Reading
+abbrev untitled : PassState → TreeIndex → PassState
 untitled r title = with_tree r (with_body_at r.tree title Paragraph)
 
 some_top : (f : Forest Item) (s : List TreeIndex) → f.spine ≡ s → is_definition_list (option_and_then (λ ix. body_at f.nodes ix.0) (slice_get s 0)) ≡ true
@@ -80,13 +80,13 @@ body_within : (o : Option (ℕ × Item)) (b : ItemBody) → option_map (λ n. n.
 body_within None b is = cc
 body_within (Some n) b is = (n, refl)
 
-closed_parts : (q : Reading) (e : ℕ) (s : List TreeIndex) (c : TreeIndex) → q.tree.spine ≡ s → q.tree.current ≡ Some c
+closed_parts : (q : PassState) (e : ℕ) (s : List TreeIndex) (c : TreeIndex) → q.tree.spine ≡ s → q.tree.current ≡ Some c
     → (definitions_closed e q).tree ≡ moved_from (popped_at e q s).tree c.0
 unfolding definitions_closed
 closed_parts q e s c spine current =
     ap (λ z. (current_moved (popped_at e q z) q.tree.current).tree) spine ∙ ap (λ z. (current_moved (popped_at e q s) z).tree) current
 
-pub is_left : (f : Forest Item) (r : Reading) (e : ℕ) (c ix : TreeIndex) (rest : List TreeIndex) → LooksAlike f r.tree → f.spine ≡ ix ∷ rest
+pub is_left : (f : Forest Item) (r : PassState) (e : ℕ) (c ix : TreeIndex) (rest : List TreeIndex) → LooksAlike f r.tree → f.spine ≡ ix ∷ rest
     → f.current ≡ Some c → c.0 ≤ length f.nodes → (IsForest f → IsForest r.tree) → IsLeft f (definitions_closed e r).tree e c
 is_left f r e c ix rest same spine current within forest =
     let g : Forest Item = closed_by r.tree e (ix ∷ rest) in
@@ -105,7 +105,7 @@ is_left f r e c ix rest same spine current within forest =
       last = λ h. closed_current r e ix c rest (forest h) (same.spine ∙ spine) (same.current ∙ current);
     }
 
-pub title_is_left : (r : Reading) (title : TreeIndex) → TitleThere r.tree title → IsLeft r.tree (title_closed r title).tree (top_end r.tree) title
+pub title_is_left : (r : PassState) (title : TreeIndex) → TitleThere r.tree title → IsLeft r.tree (title_closed r title).tree (top_end r.tree) title
 title_is_left r title t =
     let top = some_top r.tree r.tree.spine refl t.list in
     let there = body_within (slice_get r.tree.nodes title.0) MaybeDefinitionListTitle t.body in
@@ -116,7 +116,7 @@ title_is_left r title t =
 module _ (p : Property) where
   -- the last child, a possible title, may be moved out of its list
   abbrev pub MayLeave : ℕ → Forest Item → Type 0
-  MayLeave a f = (title : TreeIndex) → possible_title f ≡ Some title → p.Leaves a (top_end f) f title
+  MayLeave a f = (title : TreeIndex) → possible_title f ≡ Some title → p.MovesOut a (top_end f) f title
 
   item_leaves : (a : ℕ) (f : Forest Item) → is_item (top_body f) ≡ true → MayLeave a f
   item_leaves a f item title is = absurd (no_item_list (top_body f) (title_there f title is).list item)
@@ -128,93 +128,93 @@ module _ (p : Property) where
   none_leaves a f none title is = absurd (none-some title (sym none ∙ is))
 
   -- the innermost open node is closed
-  pub popped_at_keeps : (a e k : ℕ) (r : Reading) (s : List TreeIndex) → r.tree.spine ≡ s → p.Goes a e → p.Bounds e → p.Holds a k r.tree
+  pub popped_at_keeps : (a e k : ℕ) (r : PassState) (s : List TreeIndex) → r.tree.spine ≡ s → p.Goes a e → p.Bounds e → p.Holds a k r.tree
       → p.Holds e k (popped_at e r s).tree
   popped_at_keeps a e k r [] spine goes ends h = p.later a e k r.tree goes h
   popped_at_keeps a e k r (ix ∷ rest) spine goes ends h =
       let f : Forest Item = closed_by r.tree e (ix ∷ rest) in
       p.like e k f (popped_at e r (ix ∷ rest)).tree (like_popped r f ix (body_at f.nodes ix.0)) (p.closed a e k r.tree ix rest spine goes ends h)
 
-  after_keeps : (a e k : ℕ) (r : Reading) (o : Option TreeIndex) → possible_title r.tree ≡ o → MayLeave a r.tree → p.Goes a e → p.Bounds e
+  after_keeps : (a e k : ℕ) (r : PassState) (o : Option TreeIndex) → possible_title r.tree ≡ o → MayLeave a r.tree → p.Goes a e → p.Bounds e
       → p.Holds a k r.tree → p.Holds e k (popped_after e r o).tree
   after_keeps a e k r None is leaves goes ends h = popped_at_keeps a e k r r.tree.spine refl goes ends h
   after_keeps a e k r (Some title) is leaves goes ends h =
       p.later a e k (title_closed r title).tree goes
       (p.left a (top_end r.tree) k r.tree (title_closed r title).tree title (title_is_left r title (title_there r.tree title is)) (leaves title is) h)
 
-  pub popped_keeps : (a e k : ℕ) (r : Reading) → MayLeave a r.tree → p.Goes a e → p.Bounds e → p.Holds a k r.tree → p.Holds e k (popped e r).tree
+  pub popped_keeps : (a e k : ℕ) (r : PassState) → MayLeave a r.tree → p.Goes a e → p.Bounds e → p.Holds a k r.tree → p.Holds e k (popped e r).tree
   unfolding popped
   popped_keeps a e k r leaves goes ends h = after_keeps a e k r (possible_title r.tree) refl leaves goes ends h
 
   -- The property holds of the state up to the offset at which reading continues; with an empty item, up to the end of
   -- its marker's line.
-  pub record HoldsAt (a k : ℕ) (r : Reading) : Type 0 where
+  pub record HoldsAt (a k : ℕ) (r : PassState) : Type 0 where
     pub holds : p.Holds (reached r.begin_list_item a) k r.tree
     pub goes : p.Goes (reached r.begin_list_item a) a
     pub marked : (e : ℕ) → r.begin_list_item ≡ Some e → p.Goes e e × p.Bounds e
 
   -- an item that began with two blank lines is closed at the end of its marker's line
-  finished_by_keeps : (b k : ℕ) (r : Reading) (o : Option ℕ) → ((e : ℕ) → o ≡ Some e → p.Goes e e × p.Bounds e) → p.Goes (reached o b) b
+  finished_by_keeps : (b k : ℕ) (r : PassState) (o : Option ℕ) → ((e : ℕ) → o ≡ Some e → p.Goes e e × p.Bounds e) → p.Goes (reached o b) b
       → p.Holds (reached o b) k r.tree → p.Holds b k (item_finished_by r o).tree
   finished_by_keeps b k r None marked goes h = h
   finished_by_keeps b k r (Some e) marked goes h =
-      cond_both (r.blank && is_item (top_body r.tree)) (popped e r) r (λ (q : Reading). p.Holds b k q.tree)
+      cond_both (r.blank && is_item (top_body r.tree)) (popped e r) r (λ (q : PassState). p.Holds b k q.tree)
       (λ t. p.later e b k (popped e r).tree goes
       (popped_keeps e e k r (item_leaves e r.tree (and_parts r.blank (is_item (top_body r.tree)) t).1) (marked e refl).0 (marked e refl).1 h))
       (λ t. p.later e b k r.tree goes h)
 
-  pub item_finished_keeps : (a k : ℕ) (r : Reading) → HoldsAt a k r → p.Holds a k (item_finished r).tree
+  pub item_finished_keeps : (a k : ℕ) (r : PassState) → HoldsAt a k r → p.Holds a k (item_finished r).tree
   unfolding item_finished
   item_finished_keeps a k r h = finished_by_keeps a k r r.begin_list_item h.marked h.goes h.holds
 
-  finished_by_leaves : (a : ℕ) (r : Reading) (o : Option ℕ) → MayLeave a r.tree → MayLeave a (item_finished_by r o).tree
+  finished_by_leaves : (a : ℕ) (r : PassState) (o : Option ℕ) → MayLeave a r.tree → MayLeave a (item_finished_by r o).tree
   finished_by_leaves a r None h = h
   finished_by_leaves a r (Some e) h =
-      cond_both (r.blank && is_item (top_body r.tree)) (popped e r) r (λ (q : Reading). MayLeave a q.tree)
+      cond_both (r.blank && is_item (top_body r.tree)) (popped e r) r (λ (q : PassState). MayLeave a q.tree)
       (λ t. none_leaves a (popped e r).tree (popped_item e r (and_parts r.blank (is_item (top_body r.tree)) t).1)) (λ t. h)
 
-  pub item_finished_leaves : (a : ℕ) (r : Reading) → MayLeave a r.tree → MayLeave a (item_finished r).tree
+  pub item_finished_leaves : (a : ℕ) (r : PassState) → MayLeave a r.tree → MayLeave a (item_finished r).tree
   unfolding item_finished
   item_finished_leaves a r h = finished_by_leaves a r r.begin_list_item h
 
   -- the innermost open node is closed, an empty item if there is one
-  popped_with : (b e k : ℕ) (r : Reading) (o : Option ℕ) → ((x : ℕ) → o ≡ Some x → is_item (top_body r.tree) ≡ true) → MayLeave b r.tree
+  popped_with : (b e k : ℕ) (r : PassState) (o : Option ℕ) → ((x : ℕ) → o ≡ Some x → is_item (top_body r.tree) ≡ true) → MayLeave b r.tree
       → p.Goes (reached o b) e → p.Bounds e → p.Holds (reached o b) k r.tree → p.Holds e k (popped e r).tree
   popped_with b e k r None item leaves goes ends h = popped_keeps b e k r leaves goes ends h
   popped_with b e k r (Some x) item leaves goes ends h = popped_keeps x e k r (item_leaves x r.tree (item x refl)) goes ends h
 
-  pub popped_here : (b e k : ℕ) (r : Reading) → HoldsAt b k r → MayLeave b r.tree → ((x : ℕ) → r.begin_list_item ≡ Some x → is_item (top_body r.tree) ≡ true)
+  pub popped_here : (b e k : ℕ) (r : PassState) → HoldsAt b k r → MayLeave b r.tree → ((x : ℕ) → r.begin_list_item ≡ Some x → is_item (top_body r.tree) ≡ true)
       → p.Goes (reached r.begin_list_item b) e → p.Bounds e → p.Holds e k (popped e r).tree
   popped_here b e k r h leaves item goes ends = popped_with b e k r r.begin_list_item item leaves goes ends h.holds
 
   -- a blank line is noted, a list continues, or a blank line is read
-  pub noted_keeps : (a k : ℕ) (r : Reading) → p.Holds a k r.tree → p.Holds a k (gap_noted r).tree
+  pub noted_keeps : (a k : ℕ) (r : PassState) → p.Holds a k r.tree → p.Holds a k (gap_noted r).tree
   noted_keeps a k r h = p.like a k r.tree (gap_noted r).tree (like_noted r) h
 
-  pub kept_keeps : (a k : ℕ) (r : Reading) → p.Holds a k r.tree → p.Holds a k (list_kept r).tree
+  pub kept_keeps : (a k : ℕ) (r : PassState) → p.Holds a k r.tree → p.Holds a k (list_kept r).tree
   kept_keeps a k r h = p.like a k r.tree (list_kept r).tree (like_kept r) h
 
-  pub blank_keeps : (a k : ℕ) (r : Reading) → p.Holds a k r.tree → p.Holds a k (blank_read r).tree
+  pub blank_keeps : (a k : ℕ) (r : PassState) → p.Holds a k r.tree → p.Holds a k (blank_read r).tree
   blank_keeps a k r h = p.like a k r.tree (blank_read r).tree (like_blank r) h
 
   -- an innermost list or footnote definition is closed
-  left_by : (a e b k : ℕ) (r : Reading) (t : Bool) → (t ≡ true → MayLeave a r.tree × p.Goes a e) → p.Bounds e → p.Goes e b → p.Goes a b
+  left_by : (a e b k : ℕ) (r : PassState) (t : Bool) → (t ≡ true → MayLeave a r.tree × p.Goes a e) → p.Bounds e → p.Goes e b → p.Goes a b
       → p.Holds a k r.tree → p.Holds b k (if t then popped e r else r).tree
   left_by a e b k r true may ends short goes h = p.later e b k (popped e r).tree short (popped_keeps a e k r (may refl).0 (may refl).1 ends h)
   left_by a e b k r false may ends short goes h = p.later a b k r.tree goes h
 
   -- before a block that ends a list
-  pub list_finished_keeps : (a e b k : ℕ) (r : Reading) → HoldsAt a k r → MayLeave a r.tree
+  pub list_finished_keeps : (a e b k : ℕ) (r : PassState) → HoldsAt a k r → MayLeave a r.tree
       → (is_list (top_body (item_finished r).tree) ≡ true → p.Goes a e) → p.Bounds e
       → p.Goes e b → p.Goes a b → p.Holds b k (list_finished e r).tree
   unfolding list_finished
   list_finished_keeps a e b k r h leaves goes ends short later =
-      let q : Reading = item_finished r in
-      noted_keeps b k (list_left e q)
+      let q : PassState = item_finished r in
+      noted_keeps b k (list_closed e q)
       (left_by a e b k q (is_list (top_body q.tree)) (λ t. (item_finished_leaves a r leaves, goes t)) ends short later (item_finished_keeps a k r h))
 
   -- a container is opened there
-  pub quote_keeps : (a e b start k : ℕ) (body : ItemBody) (r : Reading) → HoldsAt a k r → MayLeave a r.tree
+  pub quote_keeps : (a e b start k : ℕ) (body : ItemBody) (r : PassState) → HoldsAt a k r → MayLeave a r.tree
       → (is_list (top_body (item_finished r).tree) ≡ true → p.Goes a e)
       → p.Bounds e → p.Goes e b → p.Goes a b → p.Goes b start → p.Bounds start → p.Opens body
       → p.Holds start (suc k) (begun start body (list_finished e r)).tree
@@ -222,7 +222,7 @@ module _ (p : Property) where
       p.opened b start k (list_finished e r).tree body on starts opens (list_finished_keeps a e b k r h leaves goes ends short later)
 
   -- an item is opened, in the list that continues or in a new one
-  continued_by : (a start byte number k : ℕ) (s : Reading) (t : Bool) → s.begin_list_item ≡ None → MayLeave a s.tree → p.Goes a a → p.Goes a start
+  continued_by : (a start byte number k : ℕ) (s : PassState) (t : Bool) → s.begin_list_item ≡ None → MayLeave a s.tree → p.Goes a a → p.Goes a start
       → p.Goes start start → p.Bounds start → p.Opens (ListBody (list_flags true) byte number) → p.Holds a k s.tree
       → p.Holds start (suc k) (if t then list_kept s else begun start (ListBody (list_flags true) byte number) (list_finished start s)).tree
   continued_by a start byte number k s true none leaves here goes there starts opens h =
@@ -235,15 +235,15 @@ module _ (p : Property) where
       } in
       quote_keeps a start start start k (ListBody (list_flags true) byte number) s now leaves (λ t. goes) starts there goes there starts opens
 
-  pub list_continued_keeps : (a start byte number k : ℕ) (r : Reading) → HoldsAt a k r → MayLeave a r.tree → p.Goes a a → p.Goes a start → p.Goes start start
+  pub list_continued_keeps : (a start byte number k : ℕ) (r : PassState) → HoldsAt a k r → MayLeave a r.tree → p.Goes a a → p.Goes a start → p.Goes start start
       → p.Bounds start → p.Opens (ListBody (list_flags true) byte number) → p.Holds start (suc k) (list_continued start byte number r).tree
   unfolding list_continued
   list_continued_keeps a start byte number k r h leaves here goes there starts lists =
-      let s : Reading = item_finished r in
+      let s : PassState = item_finished r in
       continued_by a start byte number k s (is_list_of byte (top_body s.tree)) (finished_none r) (item_finished_leaves a r leaves) here goes there starts lists
       (item_finished_keeps a k r h)
 
-  pub item_keeps : (a start byte number columns k : ℕ) (r : Reading) → HoldsAt a k r → MayLeave a r.tree → p.Goes a a → p.Goes a start → p.Goes start start
+  pub item_keeps : (a start byte number columns k : ℕ) (r : PassState) → HoldsAt a k r → MayLeave a r.tree → p.Goes a a → p.Goes a start → p.Goes start start
       → p.Bounds start → p.Opens (ListBody (list_flags true) byte number) → p.Opens (ListItemBody columns)
       → p.Holds start (suc (suc k)) (begun start (ListItemBody columns) (list_continued start byte number r)).tree
   item_keeps a start byte number columns k r h leaves here goes there starts lists opens =
@@ -251,13 +251,13 @@ module _ (p : Property) where
       (list_continued_keeps a start byte number k r h leaves here goes there starts lists)
 
   -- a footnote definition is opened
-  pub note_keeps : (a start k : ℕ) (index : CowIndex) (r : Reading) → HoldsAt a k r → MayLeave a r.tree → p.Goes a start → p.Goes start start → p.Bounds start
+  pub note_keeps : (a start k : ℕ) (index : CowIndex) (r : PassState) → HoldsAt a k r → MayLeave a r.tree → p.Goes a start → p.Goes start start → p.Bounds start
       → p.Opens (FootnoteDefinitionBody index) → p.Holds start (suc k) (footnote_begun start index r).tree
   unfolding footnote_begun
   note_keeps a start k index r h leaves goes there starts opens =
-      let s : Reading = item_finished r in
-      let l : Reading = list_left start s in
-      let q : Reading = footnote_left start l in
+      let s : PassState = item_finished r in
+      let l : PassState = list_closed start s in
+      let q : PassState = footnote_left start l in
       p.opened start start k (gap_noted q).tree (FootnoteDefinitionBody index) there starts opens
       (noted_keeps start k q
       (left_by start start start k l (is_footnote (top_body l.tree)) (λ note. (note_leaves start l.tree note, there)) starts there there

@@ -10,7 +10,7 @@ use Rattle.first_pass_tree.specs.Forest.{IsLastAt, depths, deeper, shallower, ma
 use Rattle.first_pass_grammar.specs.Order.{Ranged, extent_of, extents, Siblings, Empty, Node, laid, IsBetween, Within, Elsewhere, InItem, InText, InFirst}
 use Rattle.first_pass_grammar.specs.Order.{below, beyond, IsLead, Fits}
 use Rattle.first_pass_grammar.specs.OpenOrder.{laid_open, open_within, FitsOpen}
-use Rattle.first_pass_grammar.proofs.Orders.{beside, ended_at, laid_open-beside, fits-order, fits-later, below_ended}
+use Rattle.first_pass_grammar.proofs.Order.Orders.{beside, ended_at, laid_open-beside, fits-order, fits-later, below_ended}
 
 -- a row's last node with its descendants, and the nodes before it
 abbrev pub HasLast : Siblings → Type 0

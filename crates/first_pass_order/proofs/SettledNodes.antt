@@ -14,10 +14,10 @@ use Rattle.first_pass_grammar.specs.Derivation.{block_items, as_title, row_items
 use Rattle.first_pass_grammar.specs.Leaves.{Document}
 use Rattle.first_pass_grammar.specs.Rows.{What, ALeaf, AQuote, AList, AnItem, AFootnote, ADefinitionList, ATitle, ADefinition, Rows, End, OneOf, is_loose}
 use Rattle.first_pass_grammar.specs.Rows.{rows_of}
-use Rattle.first_pass_grammar.proofs.EachLeaf.{HoldsOfBlocks, HoldsInBlocks, IsBlockOf}
-use Rattle.first_pass_grammar.proofs.EachRow.{HoldsOfRow, HoldsOfEachRow, derived_rows, tight_nodes}
-use Rattle.first_pass_grammar.proofs.TableItems.{both_nodes, deeper_nodes}
-use Rattle.first_pass_grammar.proofs.TokensNamed.{NamesWithin}
+use Rattle.first_pass_grammar.proofs.Each.EachLeaf.{HoldsOfBlocks, HoldsInBlocks, IsBlockOf}
+use Rattle.first_pass_grammar.proofs.Each.EachRow.{HoldsOfRow, HoldsOfEachRow, derived_rows, tight_nodes}
+use Rattle.first_pass_grammar.proofs.Each.EachCell.{both_nodes, deeper_nodes}
+use Rattle.first_pass_grammar.proofs.Names.TokensNamed.{NamesWithin}
 use Rattle.first_pass_order.specs.Settled.{IsSettled, AreSettled}
 
 -- no token is a possible title, and no leaf block is or contains one

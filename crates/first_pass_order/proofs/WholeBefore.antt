@@ -8,23 +8,23 @@ use Rattle.first_pass_lines.specs.Places.{Place}
 use Rattle.first_pass_grammar.specs.declared.kind.Container.{Container}
 use Rattle.first_pass_grammar.specs.Names.{Names, Extends, index_of, NamesEntry, AreNamed}
 use Rattle.first_pass_grammar.specs.Leaves.{Document, document}
-use Rattle.first_pass_grammar.specs.Skeleton.{From, level, Lines, onward}
+use Rattle.first_pass_grammar.specs.Skeleton.{Continues, level, Lines, onward}
 use Rattle.first_pass_grammar.specs.Rows.{ItemsOf, Rows, any_gap}
 use Rattle.first_pass_grammar.specs.Derivation.{Tables, Derives}
-use Rattle.first_pass_grammar.specs.Completion.{ended, Pending, OneList, Standing, Further, AreFurther, rows_on, rows_beyond, rendered, Frame, InContainer}
+use Rattle.first_pass_grammar.specs.Completion.{ended, Pending, OneList, Unfinished, Further, AreFurther, rows_on, rows_beyond, rendered, Frame, InContainer}
 use Rattle.first_pass_grammar.specs.Completion.{InList, InDefinitions, definitions_open, containers_of, loosened, container_closed, Becomes, Completion}
 use Rattle.first_pass_grammar.specs.Containers.{is_quote}
 use Rattle.first_pass_grammar.specs.WholeTables.{Mark, ATable, ARow, ACell, shown, marks, RowCells, row_marks, TableRows, table_marks, AreFull}
 use Rattle.first_pass_grammar.specs.WholeTables.{AreWholeTables}
-use Rattle.first_pass_grammar.proofs.EachRow.{each_row}
-use Rattle.first_pass_grammar.proofs.Finishes.{containers-loosened}
-use Rattle.first_pass_grammar.proofs.FullHeads.{heads_are_full}
-use Rattle.first_pass_grammar.proofs.MoreNames.{alignments_kept}
-use Rattle.first_pass_grammar.proofs.PlacesKept.{AreAt}
+use Rattle.first_pass_grammar.proofs.Each.EachRow.{each_row}
+use Rattle.first_pass_grammar.proofs.Sequences.Finishes.{containers-loosened}
+use Rattle.first_pass_grammar.proofs.WholeTables.FullHeads.{heads_are_full}
+use Rattle.first_pass_grammar.proofs.Names.MoreNames.{alignments_kept}
+use Rattle.first_pass_grammar.proofs.Sequences.PlacesKept.{AreAt}
 use Rattle.first_pass_completion.proofs.SilentNodes.{IsSilent, AreSilent, SilentList, ShowsMore, more_both, marks_ended, rendered_shows, silent_rendered}
 use Rattle.first_pass_completion.proofs.SilentNodes.{silent_place, silent_as, silent_definitions}
-use Rattle.first_pass_grammar.proofs.WholeBlocks.{HeadsAreFull, PlainFrom, sequence_whole}
-use Rattle.first_pass_grammar.proofs.WholeForests.{WholeRows, derived_whole}
+use Rattle.first_pass_grammar.proofs.WholeTables.WholeBlocks.{HeadsAreFull, PlainFrom, sequence_whole}
+use Rattle.first_pass_grammar.proofs.WholeTables.WholeForests.{WholeRows, derived_whole}
 
 -- the nodes still open have no part of a table when a container is closed
 silent_places : (depth last place e : ℕ) (nodes : List (ℕ × Item)) (list : Pending) (rows : Rows) (places : List ℕ) → SilentList nodes list
@@ -33,7 +33,7 @@ silent_places depth last place e nodes list rows [] silent h = tt
 silent_places depth last place e nodes list rows (i ∷ places) silent h =
     (silent_place depth last place e nodes list rows i silent h.0, silent_places depth last place e nodes list rows places silent h.1)
 
-container_shows : (names : Names) (depth place : ℕ) (w : Standing) (f : Further) (rows : Rows) → SilentList w.nodes w.list → IsSilent w.nodes place
+container_shows : (names : Names) (depth place : ℕ) (w : Unfinished) (f : Further) (rows : Rows) → SilentList w.nodes w.list → IsSilent w.nodes place
     → WholeRows names rows → ShowsMore names w.nodes (ended (rendered depth f.«end» w.nodes w.list rows) place f.«end»)
 container_shows names depth place w f rows list silent whole =
     let (more, shows) = rendered_shows names depth f.«end» w.nodes w.list rows list whole in
@@ -43,7 +43,7 @@ container_shows names depth place w f rows list silent whole =
 -- The completion of nodes keeps their marks and adds those of tables: each container takes blocks with whole tables,
 -- or with none.
 module _ (d : Document) (full : HeadsAreFull d) where
-  becomes_shows : (frames : List Frame) (places : List ℕ) (w : Standing) (further : List Further) (from : From) (lines : List Place)
+  becomes_shows : (frames : List Frame) (places : List ℕ) (w : Unfinished) (further : List Further) (from : Continues) (lines : List Place)
       (forest : List (ℕ × Item)) (tables : Tables) → PlainFrom d.text from → AreAt d.text lines → AreSilent w.nodes places → SilentList w.nodes w.list
       → AreFurther d (containers_of frames) w.before from lines further → Becomes frames places w further forest tables → ShowsMore d.names w.nodes forest
   unfolding AreFurther Becomes
@@ -58,10 +58,10 @@ module _ (d : Document) (full : HeadsAreFull d) where
   becomes_shows (InDefinitions loose ∷ frames) [] w further from lines forest tables plain at silent list are becomes = absurd becomes
   becomes_shows (InContainer c ∷ frames) [] w further from lines forest tables plain at silent list are becomes = absurd becomes
   becomes_shows (InList byte loose ∷ frames) (place ∷ places) w further from lines forest tables plain at silent list are becomes =
-      let inside : Standing = record { nodes = w.nodes; list = OneList place (ItemsOf byte) loose; before = w.before; defined = w.defined } in
+      let inside : Unfinished = record { nodes = w.nodes; list = OneList place (ItemsOf byte) loose; before = w.before; defined = w.defined } in
       becomes_shows frames places inside further from lines forest tables plain at silent.1 silent.0 are becomes
   becomes_shows (InDefinitions loose ∷ frames) (place ∷ places) w further from lines forest tables plain at silent list are becomes =
-      let inside : Standing = record { nodes = w.nodes; list = definitions_open place loose w.list; before = w.before; defined = w.defined } in
+      let inside : Unfinished = record { nodes = w.nodes; list = definitions_open place loose w.list; before = w.before; defined = w.defined } in
       becomes_shows frames places inside further from lines forest tables plain at silent.1
       (silent_definitions w.nodes place loose w.list silent.0 list) are becomes
   becomes_shows (InContainer c ∷ frames) (place ∷ places) w [] from lines forest tables plain at silent list are becomes = absurd are
@@ -69,7 +69,7 @@ module _ (d : Document) (full : HeadsAreFull d) where
       let rows : Rows = rows_on (is_quote c) w f in
       let gap : Bool = any_gap (rows_beyond w.list rows) in
       let depth : ℕ = suc (length (place ∷ places)) in
-      let now : Standing = container_closed c depth place w f rows in
+      let now : Unfinished = container_closed c depth place w f rows in
       let blocks = sequence_whole d full f.blocks (level (c ∷ containers_of frames) w.before) from lines left plain at sequence in
       let whole = each_row (AreWholeTables d.names) (is_quote c) w.before f.«end» f.blocks blocks.0 in
       let here = container_shows d.names depth place w f rows list silent.0 whole in
@@ -147,7 +147,7 @@ unfolding AreWholeTables
 front_whole names nodes after (more, shows) (all, is, full) = front_of (marks names nodes) more all (sym shows ∙ is) full
 
 -- The completed nodes, under the names that complete them.
-pub completed_whole : (d : Document) (frames : List Frame) (places : List ℕ) (w : Standing) (from : From) (lines : List Place) → PlainFrom d.text from
+pub completed_whole : (d : Document) (frames : List Frame) (places : List ℕ) (w : Unfinished) (from : Continues) (lines : List Place) → PlainFrom d.text from
     → AreAt d.text lines → AreSilent w.nodes places → SilentList w.nodes w.list → (c : Completion d frames places w from lines)
     → Derives (document d.text d.options c.names) c.forest c.tables → AreWholeTables c.names w.nodes
 completed_whole d frames places w from lines plain at silent list c derives =

@@ -29,15 +29,15 @@ use Rattle.first_pass_grammar.specs.Texts.{IsText}
 use Rattle.first_pass_grammar.specs.Counting.{is_row}
 use Rattle.first_pass_grammar.specs.WholeTables.{Mark, shown, marks, AreWholeTables, ShowsNothing, AreEachNode, SilentFrom, may_be_title, HaveNoRows}
 use Rattle.first_pass_grammar.specs.WholeTables.{IsSilentLast, HasWholeTables}
-use Rattle.first_pass_grammar.proofs.FullHeads.{heads_are_full}
-use Rattle.first_pass_grammar.proofs.LinesLeft.{lines_from_at}
+use Rattle.first_pass_grammar.proofs.WholeTables.FullHeads.{heads_are_full}
+use Rattle.first_pass_grammar.proofs.Sequences.LinesLeft.{lines_from_at}
 use Rattle.first_pass_completion.proofs.SilentNodes.{IsSilent, from_modified, from_from, marks_moved}
-use Rattle.first_pass_grammar.proofs.TableMarks.{whole_deeper}
+use Rattle.first_pass_grammar.proofs.WholeTables.TableMarks.{whole_deeper}
 use Rattle.first_pass_order.proofs.WholeBefore.{whole_still}
 use Rattle.first_pass_completion.proofs.SilentTexts.{silent_past}
-use Rattle.first_pass_grammar.proofs.TableItems.{deeper_nodes}
-use Rattle.first_pass_grammar.proofs.WholeBlocks.{whole_none, ShownBy, text_whole, opens_as}
-use Rattle.first_pass_grammar.proofs.WholeForests.{whole_both, whole_same}
+use Rattle.first_pass_grammar.proofs.Each.EachCell.{deeper_nodes}
+use Rattle.first_pass_grammar.proofs.WholeTables.WholeBlocks.{whole_none, ShownBy, text_whole, opens_as}
+use Rattle.first_pass_grammar.proofs.WholeTables.WholeForests.{whole_both, whole_same}
 use Rattle.first_pass_names.proofs.NameLemmas.{extends_none}
 use Rattle.first_pass_open.specs.OpenBlock.{closed_by, with_child}
 use Rattle.first_pass_open.specs.Path.{path_of}
@@ -46,7 +46,7 @@ use Rattle.first_pass_lists.specs.Closing.{list_finished, begun}
 use Rattle.first_pass_lists.specs.Closing.{blank_read}
 use Rattle.first_pass_lists.specs.Closing.{footnote_begun, possible_title}
 use Rattle.first_pass_items.specs.declared.item.CowIndex.{CowIndex}
-use Rattle.first_pass_lists.specs.declared.reading.Reading.{Reading}
+use Rattle.first_pass_lists.specs.declared.state.PassState.{PassState}
 use Rattle.first_pass_order.specs.LeafBlocks.{AddsKind}
 use Rattle.std.proofs.lemmas.Bool.{cases_Bool}
 use Rattle.std.proofs.Common.{inl, inr}
@@ -231,7 +231,7 @@ module _ (names : Names) where
   marks_ended (n ∷ nodes) (suc place) e h = ap (λ (z : List Mark). shown names n.0 n.1.start n.1.«end» n.1.body ++ z) (marks_ended nodes place e h)
 
   -- the tables of the state
-  abbrev pub IsReadWhole : Reading → Type 0
+  abbrev pub IsReadWhole : PassState → Type 0
   IsReadWhole r = HasWholeTables names r.tree
 
   pub kept_of : (f : Forest Item) → HasWholeTables names f → IsKept names f
@@ -308,7 +308,7 @@ module _ (names : Names) where
     Holds = λ a k f. HasWholeTables names f;
     Goes = λ a b. Unit {0};
     Bounds = λ e. Unit {0};
-    Leaves = λ a e f c. SilentFrom f.nodes c.0 × IsForest f;
+    MovesOut = λ a e f c. SilentFrom f.nodes c.0 × IsForest f;
     Opens = λ b. ShowsNothing b × (may_not_open b ≡ false);
     more = λ a k f h. h;
     later = λ a b k f goes h. h;
@@ -324,38 +324,38 @@ module _ (names : Names) where
       let t = title_there f title is in
       (subst (IsSilentLast f.nodes) t.current h.last (ap (λ o. option_map_or may_be_title o false) t.body), forest)
 
-  whole_at : (r : Reading) → IsReadWhole r → HoldsAt whole_kept 0 0 r
+  whole_at : (r : PassState) → IsReadWhole r → HoldsAt whole_kept 0 0 r
   whole_at r h = record { holds = h; goes = tt; marked = λ e is. (tt, tt) }
 
-  pub popped_whole : (e : ℕ) (r : Reading) → IsForest r.tree → IsReadWhole r → IsReadWhole (popped e r)
+  pub popped_whole : (e : ℕ) (r : PassState) → IsForest r.tree → IsReadWhole r → IsReadWhole (popped e r)
   popped_whole e r forest h = popped_keeps whole_kept 0 e 0 r (may_leave r.tree forest h) tt tt h
 
-  pub item_finished_whole : (r : Reading) → IsReadWhole r → IsReadWhole (item_finished r)
+  pub item_finished_whole : (r : PassState) → IsReadWhole r → IsReadWhole (item_finished r)
   item_finished_whole r h = item_finished_keeps whole_kept 0 0 r (whole_at r h)
 
-  pub list_finished_whole : (e : ℕ) (r : Reading) → IsForest r.tree → IsReadWhole r → IsReadWhole (list_finished e r)
+  pub list_finished_whole : (e : ℕ) (r : PassState) → IsForest r.tree → IsReadWhole r → IsReadWhole (list_finished e r)
   list_finished_whole e r forest h = list_finished_keeps whole_kept 0 e 0 0 r (whole_at r h) (may_leave r.tree forest h) (λ list. tt) tt tt tt
 
-  pub item_whole : (start byte number columns : ℕ) (r : Reading) → IsForest r.tree → IsReadWhole r
+  pub item_whole : (start byte number columns : ℕ) (r : PassState) → IsForest r.tree → IsReadWhole r
       → IsReadWhole (item_opened start byte number columns r)
   item_whole start byte number columns r forest h =
       item_keeps whole_kept 0 start byte number columns 0 r (whole_at r h) (may_leave r.tree forest h) tt tt tt tt
       (λ names depth start end. refl, refl) (λ names depth start end. refl, refl)
 
-  pub quote_whole : (line start : ℕ) (body : ItemBody) (r : Reading) → ShowsNothing body → may_not_open body ≡ false → IsForest r.tree → IsReadWhole r
+  pub quote_whole : (line start : ℕ) (body : ItemBody) (r : PassState) → ShowsNothing body → may_not_open body ≡ false → IsForest r.tree → IsReadWhole r
       → IsReadWhole (begun start body (list_finished line r))
   quote_whole line start body r own other forest h =
       quote_keeps whole_kept 0 line 0 start 0 body r (whole_at r h) (may_leave r.tree forest h) (λ list. tt) tt tt tt tt tt (own, other)
 
-  pub note_whole : (start : ℕ) (index : CowIndex) (r : Reading) → IsForest r.tree → IsReadWhole r → IsReadWhole (footnote_begun start index r)
+  pub note_whole : (start : ℕ) (index : CowIndex) (r : PassState) → IsForest r.tree → IsReadWhole r → IsReadWhole (footnote_begun start index r)
   note_whole start index r forest h =
       note_keeps whole_kept 0 start 0 index r (whole_at r h) (may_leave r.tree forest h) tt tt tt (λ names depth start end. refl, refl)
 
-  pub blank_whole : (r : Reading) → IsReadWhole r → IsReadWhole (blank_read r)
+  pub blank_whole : (r : PassState) → IsReadWhole r → IsReadWhole (blank_read r)
   blank_whole r h = blank_keeps whole_kept 0 0 r h
 
   -- the same if the last child is no possible title
-  pub popped_plain_whole : (e : ℕ) (r : Reading) → possible_title r.tree ≡ None → IsReadWhole r → IsReadWhole (popped e r)
+  pub popped_plain_whole : (e : ℕ) (r : PassState) → possible_title r.tree ≡ None → IsReadWhole r → IsReadWhole (popped e r)
   popped_plain_whole e r none h = popped_keeps whole_kept 0 e 0 r (none_leaves whole_kept 0 r.tree none) tt tt h
 
   -- under further names

@@ -15,10 +15,10 @@ use Rattle.first_pass_grammar.specs.Leaves.{Document}
 use Rattle.first_pass_grammar.specs.Rows.{What, ALeaf, AQuote, AList, AnItem, AFootnote, ADefinitionList, ATitle, ADefinition, Rows, End, OneOf, is_loose}
 use Rattle.first_pass_grammar.specs.Rows.{rows_of}
 use Rattle.first_pass_grammar.specs.WholeTables.{AreEachNode}
-use Rattle.first_pass_grammar.proofs.EachLeaf.{HoldsOfBlocks, HoldsInBlocks, IsBlockOf}
-use Rattle.first_pass_grammar.proofs.EachRow.{HoldsOfRow, HoldsOfEachRow, derived_rows, tight_nodes}
-use Rattle.first_pass_grammar.proofs.TableItems.{deeper_nodes}
-use Rattle.first_pass_grammar.proofs.TokensNamed.{NamesWithin}
+use Rattle.first_pass_grammar.proofs.Each.EachLeaf.{HoldsOfBlocks, HoldsInBlocks, IsBlockOf}
+use Rattle.first_pass_grammar.proofs.Each.EachRow.{HoldsOfRow, HoldsOfEachRow, derived_rows, tight_nodes}
+use Rattle.first_pass_grammar.proofs.Each.EachCell.{deeper_nodes}
+use Rattle.first_pass_grammar.proofs.Names.TokensNamed.{NamesWithin}
 use Rattle.first_pass_outline.specs.Outline.{level_of}
 
 abbrev pub IsNoHeading : ItemBody → Type 0

@@ -8,7 +8,7 @@ ghost use Rattle.first_pass_outline.specs.Entries.{entry_in};
 ghost use Rattle.first_pass_outline.specs.Lines.{entry_line, id_text};
 
 use crate::outline::OutlineEntry;
-use first_pass_host::fault::BlocksFault;
+use first_pass_host::fault::RunFault;
 use first_pass_host::output::write_each;
 use first_pass_lines::lines::level_number;
 use first_pass_printed::node::append_number;
@@ -53,7 +53,7 @@ pub fn write_entries<W: Write>(
     alloc: Global,
     entries: &[OutlineEntry<'_>],
     output: &mut W,
-) -> Result<(), BlocksFault>
+) -> Result<(), RunFault>
     ensures { WritesText (flat_map entry_line (map entry_in entries.now))
         (stream_between (W.contents output.old) (W.contents output.new)) result }
 {

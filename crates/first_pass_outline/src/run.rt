@@ -6,7 +6,7 @@ ghost use Rattle.first_pass_outline.specs.Lines.{IsListed};
 
 use crate::lines::write_entries;
 use crate::outline::outline_text;
-use first_pass_host::fault::BlocksFault;
+use first_pass_host::fault::RunFault;
 use first_pass_items::option_set::Options;
 use first_pass_run::report::{Report, run_report};
 use std::alloc::Global;
@@ -24,7 +24,7 @@ impl Report for ListedOutline {
         text: &str,
         options: Options,
         output: &mut W,
-    ) -> Result<(), BlocksFault> {
+    ) -> Result<(), RunFault> {
         let entries = outline_text(alloc, text, options)?;
         write_entries(alloc, entries.as_slice(), output)
     }
@@ -42,7 +42,7 @@ pub fn outline_run<R: Read, W: Write>(
     words: &[String],
     input: &mut R,
     output: &mut W,
-) -> Result<(), BlocksFault>
+) -> Result<(), RunFault>
     ensures { Runs IsListed words.now (stream_between (R.remaining input.old) (R.remaining input.new))
         (stream_between (W.contents output.old) (W.contents output.new)) result }
 {

@@ -23,7 +23,8 @@ labels_more names index [] n =
     let same : index ≡ index + 0 = omega arith in append-nil (label_in names index n.1.body) ∙ ap (λ k. label_in names k n.1.body) same
 labels_more names index (m ∷ nodes) n =
     let same : index + 1 + length nodes ≡ index + length (m ∷ nodes) = omega arith in
-    ap (λ l. label_in names index m.1.body ++ l) (labels_more names (index + 1) nodes n ∙ ap (λ k. labels_from names (index + 1) nodes ++ label_in names k n.1.body) same)
+    ap (λ l. label_in names index m.1.body ++ l)
+    (labels_more names (index + 1) nodes n ∙ ap (λ k. labels_from names (index + 1) nodes ++ label_in names k n.1.body) same)
     ∙ sym (append_assoc (label_in names index m.1.body) (labels_from names (index + 1) nodes) (label_in names (index + length (m ∷ nodes)) n.1.body))
 
 pub none_first : (names : Names) → AreFirstNodes names [] []

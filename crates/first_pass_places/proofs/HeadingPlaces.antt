@@ -11,7 +11,7 @@ use Rattle.first_pass_items.specs.declared.option_set.Options.{Options}
 use Rattle.first_pass_lines.specs.Lines.{line_len, level_number}
 use Rattle.first_pass_attributes.specs.AttributeBlocks.{Braces, attribute_block}
 use Rattle.first_pass_attributes.specs.Attributes.{attributes_of}
-use Rattle.first_pass_grammar.specs.Headings.{heading_braces}
+use Rattle.first_pass_grammar.specs.Headings.{heading_attribute_block}
 use Rattle.first_pass_grammar.specs.Leaves.{Document, IsHeading, heading_text_at, line_bytes, heading_block}
 use Rattle.first_pass_grammar.specs.Names.{Names, NamesAttributes}
 use Rattle.first_pass_places.specs.AttributeBlockPlaces.{block_range}
@@ -23,13 +23,13 @@ braces_if : (t : Bool) (o : Option Braces) (block : Braces) → (if t then o els
 braces_if true o block e = e
 braces_if false o block e = absurd (none-some block e)
 
-braces_found : (options : Options) (bs : List ℕ) (block : Braces) → heading_braces options bs ≡ Some block → attribute_block bs ≡ Some block
-unfolding heading_braces
+braces_found : (options : Options) (bs : List ℕ) (block : Braces) → heading_attribute_block options bs ≡ Some block → attribute_block bs ≡ Some block
+unfolding heading_attribute_block
 braces_found options bs block e = braces_if (has options heading_attributes) (attribute_block bs) block e
 
 -- the attributes of the bytes that are found are those of the bytes in the range
 pub named_by : (names : Names) (options : Options) (index : Option HeadingIndex) (bs inside : List ℕ) (o : Option Braces)
-    → heading_braces options bs ≡ o
+    → heading_attribute_block options bs ≡ o
     → ((block : Braces) → attribute_block bs ≡ Some block → inside ≡ slice_range bs (block.opening + 1) block.closing)
     → NamesAttributes names index (option_map (λ block. attributes_of (slice_range bs (block.opening + 1) block.closing)) o)
     → NamesAttributesIn names index inside
@@ -45,5 +45,6 @@ heading_is_read d start level index chain e is =
     let from : ℕ = heading_text_at d.text start (level_number level) in
     let size : ℕ = line_len (drop from d.text) in
     let end_is : e ≡ from + size = is.end_is in
-    named_by d.names d.options index (line_bytes d from) (bytes_in d.text (block_range d.text start e)) (heading_braces d.options (line_bytes d from)) refl
+    named_by d.names d.options index (line_bytes d from) (bytes_in d.text (block_range d.text start e))
+    (heading_attribute_block d.options (line_bytes d from)) refl
     (λ block found. found_between d.text start e from size block (omega arith) (omega arith) found (λ k low high. absurd (omega arith))) is.named

@@ -98,7 +98,8 @@ unfolding code_fence
 fence_is text start n c h =
     let bs : List ℕ = drop start text in
     let run : n ≡ run_len (slice_index bs 0) bs =
-    fence_by (begins 96 bs) (nat_le 3 (run_len 96 bs) && not (has_backquote (drop (run_len 96 bs) bs))) (begins 126 bs) (nat_le 3 (run_len 126 bs)) bs n c refl refl h in
+    fence_by (begins 96 bs) (nat_le 3 (run_len 96 bs) && not (has_backquote (drop (run_len 96 bs) bs))) (begins 126 bs)
+    (nat_le 3 (run_len 126 bs)) bs n c refl refl h in
     ap (λ k. start + k) run
 
 -- the info string that a fenced code block names is that of its range

@@ -82,7 +82,8 @@ module _ (prefix : List ℕ → Option ℕ) (plain : IsPlainPrefix prefix) where
       let lines = escape_byte b c bs h in
       ap (λ t. if t then option_map_or (λ n. (at, b) ∷ joined prefix (at + 1) n (c ∷ bs)) (prefix (c ∷ bs)) [] else (at, b) ∷ joined prefix (at + 1) 0 (c ∷ bs))
       lines.0
-      ∙ ap (λ t. (at, b) ∷ (if t then option_map_or (λ n. (at + 1, c) ∷ joined prefix (at + 1 + 1) n bs) (prefix bs) [] else (at + 1, c) ∷ joined prefix (at + 1 + 1) 0 bs))
+      ∙ ap (λ t. (at, b) ∷ (if t then option_map_or (λ n. (at + 1, c) ∷ joined prefix (at + 1 + 1) n bs) (prefix bs) []
+      else (at + 1, c) ∷ joined prefix (at + 1 + 1) 0 bs))
       lines.1
 
   -- no escape begins in the joined text where none begins in the text
@@ -176,7 +177,8 @@ label_ends prefix plain in_table bs found e =
     let whole : List (ℕ × ℕ) = joined prefix 0 0 bs in
     let n : ℕ = label_len (bytes_of whole) in
     let label : List ℕ = take n (bytes_of whole) in
-    let is = label_if (begins right_bracket (drop n (bytes_of whole)) && is_label label) (slice_index (offsets_of whole) n + 1) (shown in_table label) found e in
+    let is = label_if (begins right_bracket (drop n (bytes_of whole)) && is_label label) (slice_index (offsets_of whole) n + 1)
+    (shown in_table label) found e in
     let place = ends_at prefix plain 0 0 bs refl (and_parts (begins right_bracket (drop n (bytes_of whole))) (is_label label) is.0).0 in
     omega (arith, is.1, place)
 

@@ -27,12 +27,12 @@ use Rattle.first_pass_attributes.specs.AttributeBlocks.{Braces, attribute_block}
 use Rattle.first_pass_grammar.specs.declared.kind.Container.{Container}
 use Rattle.first_pass_grammar.specs.Completion.{lines_from}
 use Rattle.first_pass_grammar.specs.Containers.{at_rest, after, front}
-use Rattle.first_pass_grammar.specs.Headings.{chain_end, heading_braces}
+use Rattle.first_pass_grammar.specs.Headings.{chain_end, heading_attribute_block}
 use Rattle.first_pass_grammar.specs.Kinds.{all_taken, unindented, underline_left, underline_of}
 use Rattle.first_pass_grammar.specs.Leaves.{Document, content_at, add_break, marker_items, TextLines, AreTextLines}
 use Rattle.first_pass_grammar.specs.Tables.{Taken}
 use Rattle.first_pass_grammar.specs.Texts.{IsPlainText, IsUnderlined, plain_text, underline_first, heading_bytes}
-use Rattle.first_pass_grammar.proofs.PlacesKept.{IsAt, at_front}
+use Rattle.first_pass_grammar.proofs.Sequences.PlacesKept.{IsAt, at_front}
 use Rattle.first_pass_places.specs.AttributeBlockPlaces.{block_range}
 use Rattle.first_pass_places.specs.InfoStrings.{bytes_in}
 use Rattle.first_pass_places.specs.NamePlaces.{FirstIsReadFromText}
@@ -135,7 +135,7 @@ last_end s [] x = refl
 last_end s (y ∷ ys) x = later_end s y (ys ++ x ∷ []) ∙ last_end y.«end» ys x
 
 -- a line is read
-pub record IsReadTo (d : Document) (start : ℕ) (p : Spot) (chain : List Item) (answer : ℕ × Option Item) : Type 0 where
+pub record IsLineRead (d : Document) (start : ℕ) (p : Spot) (chain : List Item) (answer : ℕ × Option Item) : Type 0 where
   pub within : answer.0 ≤ length d.text
   pub place : answer.0 ≡ p.at + line_len (drop p.at d.text)
   pub reaches : Reaches d.text start chain answer.0
@@ -149,7 +149,7 @@ broken_by d start begin chain n (Some x) broken h =
     record { order = omega (arith, e); none = nothing_none d.text (chain_end start (chain ++ x ∷ [])) n (omega (arith, e)) }
 
 line_read : (d : Document) (start : ℕ) (p : Spot) (chain tokens : List Item) (answer : ℕ × Option Item) (after : MathBraces) → p.at ≤ length d.text
-    → Reaches d.text start chain p.at → AreLineTokens d.names.texts (content_at d p) tokens answer after → IsReadTo d start p (add_tokens chain tokens) answer
+    → Reaches d.text start chain p.at → AreLineTokens d.names.texts (content_at d p) tokens answer after → IsLineRead d start p (add_tokens chain tokens) answer
 line_read d start p chain tokens answer after within h line =
     let ends = ends_line within line in
     let read = line_reaches d.names.texts (content_at d p) tokens answer after (chain_end start chain) line h.order h.none in
@@ -222,7 +222,8 @@ blank_none : (bs : List ℕ) (n k : ℕ) → blank_len bs ≡ Some n → k < n �
 blank_none bs n k h low =
     let w : ℕ = prefix_len is_white bs in
     let rest = longer_by w n (eol_len (drop w bs)) h in
-    drop_none bs w rest.0 k (λ j less. white_none (slice_index bs j) (prefix_len_passes is_white bs j 0 less)) (λ j less. eol_none (drop w bs) rest.0 j rest.1 less)
+    drop_none bs w rest.0 k (λ j less. white_none (slice_index bs j) (prefix_len_passes is_white bs j 0 less))
+    (λ j less. eol_none (drop w bs) rest.0 j rest.1 less)
     (omega (arith, rest.2))
 
 -- a line without a closing brace
@@ -329,7 +330,7 @@ setext_by d path start marker l t (Some found) before read is (index, named, e) 
     subst (λ (z : Taken). FirstIsReadFromText d z.items) (sym e)
     (named_by d.names d.options index (heading_bytes d start marker l)
     (bytes_in d.text (block_range d.text start (start_of (length d.text) (drop 1 l.left))))
-    (heading_braces d.options (heading_bytes d start marker l)) refl
+    (heading_attribute_block d.options (heading_bytes d start marker l)) refl
     (λ block h. block_is d path start marker l found block before read is h) named)
 
 -- a setext heading, or a paragraph

@@ -6,7 +6,7 @@ ghost use Rattle.first_pass_host.specs.Streams.{WritesText, stream_between};
 
 use crate::links::append_link;
 use crate::node::append_node;
-use first_pass_host::fault::BlocksFault;
+use first_pass_host::fault::RunFault;
 use first_pass_host::output::write_each;
 use first_pass_items::item::Item;
 use first_pass_names::items::Allocations;
@@ -21,7 +21,7 @@ pub fn write_lines<W: Write>(
     nodes: &[(usize, Item)],
     allocs: &Allocations<'_>,
     output: &mut W,
-) -> Result<(), BlocksFault>
+) -> Result<(), RunFault>
     ensures { WritesText (printed_lines (names_of allocs.now) nodes.now (tables_of allocs.now))
         (stream_between (W.contents output.old) (W.contents output.new)) result }
 {
@@ -45,7 +45,7 @@ pub fn write_tree<W: Write>(
     tree: Tree<Item>,
     allocs: Allocations<'_>,
     output: &mut W,
-) -> Result<(), BlocksFault>
+) -> Result<(), RunFault>
     ensures { WritesText (printed_lines (names_of allocs.entry) tree.nodes (tables_of allocs.entry))
         (stream_between (W.contents output.old) (W.contents output.new)) result }
 {

@@ -5,7 +5,7 @@ ghost use Rattle.first_pass_run.specs.Runs.{Runs};
 ghost use Rattle.first_pass_program.specs.Runs.{IsPrinted};
 
 use first_pass_blocks::pass::run_first_pass;
-use first_pass_host::fault::BlocksFault;
+use first_pass_host::fault::RunFault;
 use first_pass_items::option_set::Options;
 use first_pass_printed::written::write_tree;
 use first_pass_run::report::{Report, run_report};
@@ -25,7 +25,7 @@ impl Report for PrintedBlocks {
         text: &str,
         options: Options,
         output: &mut W,
-    ) -> Result<(), BlocksFault> {
+    ) -> Result<(), RunFault> {
         let (tree, allocs) = run_first_pass(alloc, text, options)?;
         write_tree(alloc, tree, allocs, output)
     }
@@ -44,7 +44,7 @@ pub fn blocks_run<R: Read, W: Write>(
     words: &[String],
     input: &mut R,
     output: &mut W,
-) -> Result<(), BlocksFault>
+) -> Result<(), RunFault>
     ensures { Runs IsPrinted words.now (stream_between (R.remaining input.old) (R.remaining input.new))
         (stream_between (W.contents output.old) (W.contents output.new)) result }
 {

@@ -1,7 +1,7 @@
 //! Runs with a clock that has given readings, and each fault.
 
 use crate::fakes::{FailingReader, FailingWriter, Odd, Told, time};
-use first_pass_host::fault::BlocksFault;
+use first_pass_host::fault::RunFault;
 use std::alloc::Global;
 use std::process::Abort;
 use std::test::Fail;
@@ -49,7 +49,7 @@ fn bad_options_come_first(rt: HostRuntime) -> Result<(), Fail> {
         let mut input = FailingReader::new(b"\xff", 3, 1);
         let mut output = FailingWriter::new(rt.alloc(), 20, 1);
         let answer = time(rt.alloc(), words, &mut clock, &mut input, &mut output)?;
-        assert!(rt; answer == Err(BlocksFault::BadOptions), "{words:?}");
+        assert!(rt; answer == Err(RunFault::BadOptions), "{words:?}");
         assert!(rt;
             input.reads == 0 && clock.left.len() == 2 && output.writes == 0,
             "{words:?}"
@@ -151,7 +151,7 @@ fn input_is_utf8(rt: HostRuntime) -> Result<(), Fail> {
         let mut input = FailingReader::new(bytes, 3, 0);
         let mut output = FailingWriter::new(rt.alloc(), 20, 1);
         let answer = time(rt.alloc(), &[], &mut clock, &mut input, &mut output)?;
-        assert!(rt; answer == Err(BlocksFault::NotUtf8), "{bytes:?}");
+        assert!(rt; answer == Err(RunFault::NotUtf8), "{bytes:?}");
         assert!(rt; clock.left.len() == 2 && output.writes == 0, "{bytes:?}");
     }
     Ok(())
@@ -169,7 +169,7 @@ fn each_read_fails_in_turn(rt: HostRuntime) -> Result<(), Fail> {
             assert!(rt; answer == Ok(()));
             break;
         }
-        assert!(rt; answer == Err(BlocksFault::ReadFailed), "read {fails_at}");
+        assert!(rt; answer == Err(RunFault::ReadFailed), "read {fails_at}");
         assert!(rt;
             clock.left.len() == 2 && output.writes == 0,
             "read {fails_at}"
@@ -193,7 +193,7 @@ fn each_reading_of_the_clock_fails_in_turn(rt: HostRuntime) -> Result<(), Fail> 
             assert!(rt; answer == Ok(()));
             break;
         }
-        assert!(rt; answer == Err(BlocksFault::ReadFailed), "{count} readings");
+        assert!(rt; answer == Err(RunFault::ReadFailed), "{count} readings");
         assert!(rt; output.writes == 0, "{count} readings");
     }
     Ok(())
@@ -213,7 +213,7 @@ fn odd_at_each_write(rt: &impl Abort, alloc: Global, odd: Odd) -> Result<(), Fai
         if odd_at == 6 || odd == Odd::IsShort {
             assert!(rt; answer == Ok(()) && output.bytes.as_slice() == whole);
         } else {
-            assert!(rt; answer == Err(BlocksFault::WriteFailed), "write {odd_at}");
+            assert!(rt; answer == Err(RunFault::WriteFailed), "write {odd_at}");
             assert!(rt; whole.starts_with(output.bytes.as_slice()));
         }
     }

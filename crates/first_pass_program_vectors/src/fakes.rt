@@ -1,7 +1,7 @@
 //! A clock, a reader and a writer in memory that can fail.
 
 use first_pass_bench::bench::bench_run;
-use first_pass_host::fault::BlocksFault;
+use first_pass_host::fault::RunFault;
 use first_pass_json::run::tree_run;
 use first_pass_outline::run::outline_run;
 use first_pass_program::run::blocks_run;
@@ -152,7 +152,7 @@ pub fn run(
     words: &[&str],
     reader: &mut FailingReader<'_>,
     writer: &mut FailingWriter,
-) -> Result<Result<(), BlocksFault>, AllocError> {
+) -> Result<Result<(), RunFault>, AllocError> {
     let list = words_of(alloc, words)?;
     let words = list.as_slice();
     Ok(match program {
@@ -170,7 +170,7 @@ pub fn time(
     clock: &mut Told<'_>,
     reader: &mut FailingReader<'_>,
     writer: &mut FailingWriter,
-) -> Result<Result<(), BlocksFault>, AllocError> {
+) -> Result<Result<(), RunFault>, AllocError> {
     let list = words_of(alloc, words)?;
     Ok(bench_run(clock, alloc, list.as_slice(), reader, writer))
 }

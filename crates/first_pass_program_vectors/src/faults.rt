@@ -1,7 +1,7 @@
 //! Each fault of a run, and the output before it.
 
 use crate::fakes::{FailingReader, FailingWriter, Odd, Program, run};
-use first_pass_host::fault::BlocksFault;
+use first_pass_host::fault::RunFault;
 use std::alloc::{AllocError, Global};
 use std::process::Abort;
 use std::test::Fail;
@@ -23,7 +23,7 @@ fn write(
     text: &[u8],
     step: usize,
     sink: &mut FailingWriter,
-) -> Result<Result<(), BlocksFault>, AllocError> {
+) -> Result<Result<(), RunFault>, AllocError> {
     run(
         alloc,
         Program::Blocks,
@@ -49,7 +49,7 @@ fn bad_options_come_first(rt: HostRuntime) -> Result<(), Fail> {
         let mut input = FailingReader::new(b"\xff", WHOLE, 1);
         let mut sink = FailingWriter::new(rt.alloc(), WHOLE, 1);
         let answer = run(rt.alloc(), Program::Blocks, words, &mut input, &mut sink)?;
-        assert!(rt; answer == Err(BlocksFault::BadOptions), "{words:?}");
+        assert!(rt; answer == Err(RunFault::BadOptions), "{words:?}");
         assert!(rt; input.reads == 0 && sink.writes == 0, "{words:?}");
     }
     Ok(())
@@ -68,7 +68,7 @@ fn input_is_utf8(rt: HostRuntime) -> Result<(), Fail> {
         let mut input = FailingReader::new(bytes, 1, 0);
         let mut sink = FailingWriter::new(rt.alloc(), WHOLE, 1);
         let answer = run(rt.alloc(), Program::Blocks, &[], &mut input, &mut sink)?;
-        assert!(rt; answer == Err(BlocksFault::NotUtf8), "{bytes:?}");
+        assert!(rt; answer == Err(RunFault::NotUtf8), "{bytes:?}");
         assert!(rt; sink.writes == 0, "{bytes:?}");
     }
     Ok(())
@@ -86,7 +86,7 @@ fn each_read_fails_in_turn(rt: HostRuntime) -> Result<(), Fail> {
             assert!(rt; input.reads < fails_at);
             break;
         }
-        assert!(rt; answer == Err(BlocksFault::ReadFailed), "read {fails_at}");
+        assert!(rt; answer == Err(RunFault::ReadFailed), "read {fails_at}");
         assert!(rt;
             input.reads == fails_at && sink.writes == 0,
             "read {fails_at}"
@@ -117,7 +117,7 @@ fn odd_at_each_write(
             assert!(rt; answer == Ok(()), "write {odd_at}");
             assert!(rt; sink.bytes.as_slice() == whole.bytes.as_slice());
         } else {
-            assert!(rt; answer == Err(BlocksFault::WriteFailed), "write {odd_at}");
+            assert!(rt; answer == Err(RunFault::WriteFailed), "write {odd_at}");
             assert!(rt; sink.writes == odd_at && sink.bytes.len() < whole.bytes.len());
             assert!(rt; whole.bytes.as_slice().starts_with(sink.bytes.as_slice()));
         }
@@ -212,18 +212,18 @@ fn a_writer_that_takes_nothing_fails(rt: HostRuntime) -> Result<(), Fail> {
     let text = long_text(rt.alloc())?;
     let mut full = FailingWriter::new(rt.alloc(), 0, 0);
     let answer = write(rt.alloc(), text.as_slice(), WHOLE, &mut full)?;
-    assert!(rt; answer == Err(BlocksFault::WriteFailed) && full.writes == 1);
+    assert!(rt; answer == Err(RunFault::WriteFailed) && full.writes == 1);
     Ok(())
 }
 
 #[test]
 fn faults_are_told(rt: HostRuntime) -> Result<(), Fail> {
-    let told: &[(BlocksFault, &str, u8)] = &[
-        (BlocksFault::OutOfMemory, "out of memory", 1),
-        (BlocksFault::NotUtf8, "not UTF-8", 2),
-        (BlocksFault::BadOptions, "bad options", 2),
-        (BlocksFault::ReadFailed, "read failed", 2),
-        (BlocksFault::WriteFailed, "write failed", 2),
+    let told: &[(RunFault, &str, u8)] = &[
+        (RunFault::OutOfMemory, "out of memory", 1),
+        (RunFault::NotUtf8, "not UTF-8", 2),
+        (RunFault::BadOptions, "bad options", 2),
+        (RunFault::ReadFailed, "read failed", 2),
+        (RunFault::WriteFailed, "write failed", 2),
     ];
     for (fault, message, status) in told {
         assert!(rt;

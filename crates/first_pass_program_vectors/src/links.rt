@@ -1,7 +1,7 @@
 //! The output of `links` for texts, and its faults.
 
 use crate::fakes::{FailingReader, FailingWriter, Program, run};
-use first_pass_host::fault::BlocksFault;
+use first_pass_host::fault::RunFault;
 use std::alloc::Global;
 use std::process::Abort;
 use std::test::Fail;
@@ -88,10 +88,10 @@ fn labels_are_read(rt: HostRuntime) -> Result<(), Fail> {
 
 #[test]
 fn links_have_faults(rt: HostRuntime) -> Result<(), Fail> {
-    let cases: &[(&str, &[u8], BlocksFault)] = &[
-        ("x", b"[a]: /x\n", BlocksFault::BadOptions),
-        ("0", b"\xff", BlocksFault::NotUtf8),
-        ("0", b"[a]: /x\n", BlocksFault::WriteFailed),
+    let cases: &[(&str, &[u8], RunFault)] = &[
+        ("x", b"[a]: /x\n", RunFault::BadOptions),
+        ("0", b"\xff", RunFault::NotUtf8),
+        ("0", b"[a]: /x\n", RunFault::WriteFailed),
     ];
     for (word, text, fault) in cases {
         let mut sink = FailingWriter::new(rt.alloc(), 20, 1);

@@ -1,7 +1,7 @@
 //! The lines that `outline` writes, and each fault of its run.
 
 use crate::fakes::{FailingReader, FailingWriter, Odd, Program, run};
-use first_pass_host::fault::BlocksFault;
+use first_pass_host::fault::RunFault;
 use std::alloc::Global;
 use std::process::Abort;
 use std::test::Fail;
@@ -55,7 +55,7 @@ fn bad_options_come_first(rt: HostRuntime) -> Result<(), Fail> {
         let mut input = FailingReader::new(b"\xff", WHOLE, 1);
         let mut sink = FailingWriter::new(rt.alloc(), WHOLE, 1);
         let answer = run(rt.alloc(), Program::Outline, words, &mut input, &mut sink)?;
-        assert!(rt; answer == Err(BlocksFault::BadOptions), "{words:?}");
+        assert!(rt; answer == Err(RunFault::BadOptions), "{words:?}");
         assert!(rt; input.reads == 0 && sink.writes == 0, "{words:?}");
     }
     Ok(())
@@ -68,7 +68,7 @@ fn input_is_utf8(rt: HostRuntime) -> Result<(), Fail> {
         let mut input = FailingReader::new(bytes, 1, 0);
         let mut sink = FailingWriter::new(rt.alloc(), WHOLE, 1);
         let answer = run(rt.alloc(), Program::Outline, &[], &mut input, &mut sink)?;
-        assert!(rt; answer == Err(BlocksFault::NotUtf8), "{bytes:?}");
+        assert!(rt; answer == Err(RunFault::NotUtf8), "{bytes:?}");
         assert!(rt; sink.writes == 0, "{bytes:?}");
     }
     Ok(())
@@ -84,7 +84,7 @@ fn each_read_fails_in_turn(rt: HostRuntime) -> Result<(), Fail> {
         if fails_at == 5 {
             assert!(rt; answer == Ok(()));
         } else {
-            assert!(rt; answer == Err(BlocksFault::ReadFailed), "read {fails_at}");
+            assert!(rt; answer == Err(RunFault::ReadFailed), "read {fails_at}");
             assert!(rt; sink.writes == 0, "read {fails_at}");
         }
     }
@@ -119,7 +119,7 @@ fn odd_at_each_write(rt: &impl Abort, alloc: Global, odd: Odd) -> Result<(), Fai
         if odd_at == 5 || odd == Odd::IsShort {
             assert!(rt; answer == Ok(()) && sink.bytes.as_slice() == whole.bytes.as_slice());
         } else {
-            assert!(rt; answer == Err(BlocksFault::WriteFailed), "write {odd_at}");
+            assert!(rt; answer == Err(RunFault::WriteFailed), "write {odd_at}");
             assert!(rt; sink.writes == odd_at && sink.bytes.len() < whole.bytes.len());
             assert!(rt; whole.bytes.as_slice().starts_with(sink.bytes.as_slice()));
         }

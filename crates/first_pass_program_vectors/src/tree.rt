@@ -1,7 +1,7 @@
 //! The output of `tree` for texts, and each fault of its run.
 
 use crate::fakes::{FailingReader, FailingWriter, Program, run};
-use first_pass_host::fault::BlocksFault;
+use first_pass_host::fault::RunFault;
 use std::alloc::Global;
 use std::process::Abort;
 use std::test::Fail;
@@ -70,11 +70,11 @@ fn definitions_and_footnotes_come_last(rt: HostRuntime) -> Result<(), Fail> {
 
 #[test]
 fn each_fault_of_a_run(rt: HostRuntime) -> Result<(), Fail> {
-    let faults: &[(&[&str], &[u8], usize, BlocksFault)] = &[
-        (&["1"], b"\xff", 1, BlocksFault::BadOptions),
-        (&["0"], b"\xff", 0, BlocksFault::NotUtf8),
-        (&["0"], b"a", 1, BlocksFault::ReadFailed),
-        (&["0"], b"a", 0, BlocksFault::WriteFailed),
+    let faults: &[(&[&str], &[u8], usize, RunFault)] = &[
+        (&["1"], b"\xff", 1, RunFault::BadOptions),
+        (&["0"], b"\xff", 0, RunFault::NotUtf8),
+        (&["0"], b"a", 1, RunFault::ReadFailed),
+        (&["0"], b"a", 0, RunFault::WriteFailed),
     ];
     for (words, text, fails_at, fault) in faults {
         let mut input = FailingReader::new(text, WHOLE, *fails_at);

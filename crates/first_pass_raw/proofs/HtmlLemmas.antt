@@ -94,7 +94,7 @@ some_left : (bs : List ℕ) → ¬ (length bs ≡ 0) → is_empty bs ≡ false
 some_left [] e = absurd (e refl)
 some_left (b ∷ bs) e = refl
 
--- the verdict on a line for an HTML block of the kinds 1 to 5, if there are bytes at its place
+-- the verdict on a line for an HTML block of types 1 to 5, if there are bytes at its place
 pub tag_here : (text : List ℕ) (until : BlockEnd) (line p : Place) (at next : ℕ) (found : Bool) (piece : List ℕ)
     → IsPlaceOf text p → at ≡ offset p → ¬ (at ≡ length text) → next ≡ line_end p → piece ≡ slice_range text at next
     → found ≡ holds_end until piece → {v : Bool} → found ≡ v
@@ -181,7 +181,8 @@ module _ (text : List ℕ) (options : Options) (named : Names) (start columns ne
         (sym i.offset_is) first_end
 
     -- a block with only this line
-    only_first : AppendsLines range_html (document text options named) (with_line (owing columns p) (extent_to next (lines_from text next))) opened one next next
+    only_first : AppendsLines range_html (document text options named)
+        (with_line (owing columns p) (extent_to next (lines_from text next))) opened one next next
     only_first =
         let further : Extent = extent_to next (lines_from text next) in
         lines_end range_html text options named (with_line (owing columns p) further) further opened one next next (first_read further) refl

@@ -15,7 +15,7 @@ use Rattle.first_pass_items.specs.declared.item.Item.{Item}
 use Rattle.first_pass_items.specs.declared.item.ItemBody.{ItemBody}
 use Rattle.first_pass_items.specs.declared.item.ItemBody.TheVariants.{IndentCodeBlock, FencedCodeBlock, MetadataBlock, HtmlBlock}
 use Rattle.first_pass_html.specs.Ends.{BlockEnd}
-use Rattle.first_pass_lines.specs.Lines.{begins, is_content, is_blank, line_len, at_line_end}
+use Rattle.first_pass_lines.specs.Lines.{begins, is_content, is_space_or_tab, line_len, at_line_end}
 use Rattle.first_pass_scan.specs.LeafLines.{run_len, has_backquote, code_fence, closing_fence_len}
 use Rattle.first_pass_metadata.specs.Metadata.{three_of, closing_marks, closing_metadata_len}
 use Rattle.first_pass_lines.specs.Rest.{Rest, indent}
@@ -37,10 +37,10 @@ use Rattle.first_pass_grammar.specs.CodeBlocks.{code_place, code_by, code_lines,
 use Rattle.first_pass_grammar.specs.CodeBlocks.{fence_verdict, fence_judge, IsFencedCode, metadata_verdict, metadata_judge, metadata_kind, IsMetadata}
 use Rattle.first_pass_grammar.specs.HtmlBlocks.{holds_end, is_empty, tag_verdict, tag_judge, blank_judge, first_owing, IsHtml}
 use Rattle.first_pass_grammar.specs.Completion.{lines_from}
-use Rattle.first_pass_grammar.specs.Counting.{own_nodes}
+use Rattle.first_pass_grammar.specs.Counting.{counted_nodes}
 use Rattle.first_pass_grammar.specs.Order.{Elsewhere, FitsBetween}
-use Rattle.first_pass_grammar.proofs.Orders.{block_fits, length-block}
-use Rattle.first_pass_grammar.proofs.OwnNodes.{own_at_most}
+use Rattle.first_pass_grammar.proofs.Order.Orders.{block_fits, length-block}
+use Rattle.first_pass_grammar.proofs.Count.CountedNodes.{own_at_most}
 use Rattle.first_pass_raw.specs.RawBlocks.{after_line_at, code_after, fenced_after, metadata_after, html_to_end, html_to_blank}
 use Rattle.first_pass_open.proofs.PlaceLemmas.{all_keep, after_keeps, place_end, line_start_end}
 
@@ -350,11 +350,12 @@ html_fits d start columns e items u is b placed from to following before =
 -- Up to the start of the first remaining line, an HTML block has at most four items for each byte, all of its own.
 pub html_few : (d : Document) (start columns stop : ℕ) (e : Lines) (items : List (ℕ × Item))
     → IsHtml d start columns e.places e.«end» items → ArePlaced d.text start e.places stop → AreFew start e.places
-    → (from to : ℕ) → from ≤ start → stop ≤ to → from < to → own_nodes items ≤ 4 * (to - from)
+    → (from to : ℕ) → from ≤ start → stop ≤ to → from < to → counted_nodes items ≤ 4 * (to - from)
 html_few d start columns stop e items is placed node_bound from to following before apart =
     let ps : List Place = first_owing columns e.places in
     let more =
-    few_by d.text from to start stop (length is.chain) ps (lines_few range_html html_range d ps [] is.chain is.lines) (owing_few columns start e.places node_bound)
+    few_by d.text from to start stop (length is.chain) ps (lines_few range_html html_range d ps [] is.chain is.lines)
+    (owing_few columns start e.places node_bound)
     (owing_placed d.text columns start stop e.places placed) following before apart in
     let size = length-block (record { start = start; «end» = e.«end»; body = HtmlBlock }) is.chain in
     let same = ap length is.items_are in
@@ -407,13 +408,13 @@ fence_ends : (byte count : ℕ) (bs : List ℕ) (n : ℕ) → closing_fence_len 
 unfolding closing_fence_len
 fence_ends byte count bs n h =
     let k : ℕ = run_len byte bs in
-    let m : ℕ = k + prefix_len is_blank (drop k bs) in
+    let m : ℕ = k + prefix_len is_space_or_tab (drop k bs) in
     elim (none_by (length bs == 0) (if nat_le count k && at_line_end (drop m bs) then Some m else None) n h) [
       | inl none ↦ (let z = eqb-true (length bs) 0 none.0 in (omega (arith, none.1), ap (λ j. at_line_end (drop j bs)) none.1 ∙ nothing_ends bs z))
       | inr some ↦
           let f = found_by (nat_le count k && at_line_end (drop m bs)) m n some in
           let run = prefix_len-le-length (λ b. b == byte) bs in
-          let following = prefix_len-le-length is_blank (drop k bs) in
+          let following = prefix_len-le-length is_space_or_tab (drop k bs) in
           let l = length-drop k bs in
           (omega (arith, f.1), ap (λ j. at_line_end (drop j bs)) (sym f.1) ∙ (and_parts (nat_le count k) (at_line_end (drop m bs)) f.0).1)
     ]
@@ -495,13 +496,13 @@ fence_within : (byte count : ℕ) (bs : List ℕ) (n : ℕ) → is_content byte 
 unfolding closing_fence_len
 fence_within byte count bs n plain h =
     let k : ℕ = run_len byte bs in
-    let m : ℕ = k + prefix_len is_blank (drop k bs) in
+    let m : ℕ = k + prefix_len is_space_or_tab (drop k bs) in
     elim (none_by (length bs == 0) (if nat_le count k && at_line_end (drop m bs) then Some m else None) n h) [
       | inl none ↦ omega (arith, none.1)
       | inr some ↦
           let f = found_by (nat_le count k && at_line_end (drop m bs)) m n some in
           let run = run_first (λ b. b == byte) (λ b e. ap is_content (eqb-true b byte e) ∙ plain) bs in
-          let following = run_after is_blank (λ b e. grind (arith, nat_tests, e)) k bs run in
+          let following = run_after is_space_or_tab (λ b e. grind (arith, nat_tests, e)) k bs run in
           let w = content_within bs in
           omega (arith, f.1)
     ]
@@ -763,7 +764,11 @@ module _ (text : List ℕ) (u : IsUtf8 text) (path : List Container) where
   first_placed judge stays [] p i is = (let b = place_end text p u i in let w = b.0 in only_placed p (length text) [] i w (IsCharBoundary-end text))
   first_placed judge stays (line ∷ lines) p i is =
       let f = extent_filled judge stays (line ∷ lines) (line_end p) is (place_end text p u i) in
-      record { places = (omega arith, i, f.places); boundary = f.boundary; node_bound = inr (first_some p i (first_line text (line_end p) line lines is).0, f.bytes) }
+      record {
+        places = (omega arith, i, f.places);
+        boundary = f.boundary;
+        node_bound = inr (first_some p i (first_line text (line_end p) line lines is).0, f.bytes);
+      }
 
   -- the end of the line of a place
   place_line : (p : Place) → IsPlaceOf text p → after_line_at text (offset p) ≡ line_end p

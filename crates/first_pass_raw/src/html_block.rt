@@ -38,7 +38,7 @@ pub struct HtmlStart {
     pub columns: usize,
 }
 
-/// Appends the HTML block of the kinds 1 to 5 that begins at `start`, up to the first line that meets its end
+/// Appends the HTML block of types 1 to 5 that begins at `start`, up to the first line that meets its end
 /// condition. Returns the start of the next unread line, or the end of the text (CommonMark 4.6). Fails only if an
 /// allocation fails.
 pub fn parse_html_block_type_1_to_5<'a>(
@@ -69,7 +69,7 @@ pub fn parse_html_block_type_1_to_5<'a>(
     Ok(lines.next)
 }
 
-/// Appends the HTML block of the kinds 6 and 7 that begins at `start`, up to a blank line. Returns the start of the
+/// Appends the HTML block of types 6 and 7 that begins at `start`, up to a blank line. Returns the start of the
 /// next unread line, or the end of the text. The block may end after the container prefixes on the blank line, past
 /// the returned offset (CommonMark 4.6). Fails only if an allocation fails.
 pub fn parse_html_block_type_6_or_7<'a>(
@@ -127,7 +127,7 @@ fn open_html_block<'a>(
     Ok(next)
 }
 
-// Whether the line contains the end of a block of the kinds 1 to 5.
+// Whether the line contains the end of a block of types 1 to 5.
 fn holds_end(line: &str, html_end: HtmlEnd) -> bool
     ensures { result ≡ holds_end (condition_of html_end) line.now }
 {

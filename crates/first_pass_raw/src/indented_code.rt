@@ -131,7 +131,7 @@ fn cut_after(tree: &mut Tree<Item>, kept: Kept)
 }
 
 // The rest of the line at `start`, after its container prefixes and four columns or fewer, if it continues indented
-// code. No open node inside the outermost `quotes_end` is a block quote.
+// code. None of the open nodes after the first `quotes_end`, counted from the outermost, may be a block quote.
 fn indented_line<'a>(
     source: &Source<'a>,
     tree: &Tree<Item>,

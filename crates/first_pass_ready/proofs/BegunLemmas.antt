@@ -16,14 +16,14 @@ use Rattle.first_pass_grammar.specs.declared.kind.Container.{Container}
 use Rattle.first_pass_grammar.specs.Leaves.{Document, around}
 use Rattle.first_pass_grammar.specs.Footnotes.{footnote_head_at}
 use Rattle.first_pass_grammar.specs.Openers.{Start, start_at}
-use Rattle.first_pass_grammar.specs.Skeleton.{From, Opening, Level, may_define, opening_of, OpensBy, OpensFootnote, Opens}
+use Rattle.first_pass_grammar.specs.Skeleton.{Continues, Opening, Level, may_define, opening_of, OpensBy, OpensFootnote, Opens}
 use Rattle.first_pass_grammar.specs.Derivation.{Tables}
 use Rattle.first_pass_grammar.specs.Completion.{OtherClosed, Frame, InContainer, InList, InDefinitions, containers_of, AreBelow, IsPlain}
 use Rattle.first_pass_completion.proofs.Completions.{fresh}
-use Rattle.first_pass_grammar.proofs.Finishes.{CompletesAt}
+use Rattle.first_pass_grammar.proofs.Sequences.Finishes.{CompletesAt}
 use Rattle.first_pass_open.specs.Path.{path_of}
 use Rattle.first_pass_lists.specs.Closing.{top_body, is_list}
-use Rattle.first_pass_lists.specs.declared.reading.Reading.{Reading}
+use Rattle.first_pass_lists.specs.declared.state.PassState.{PassState}
 use Rattle.first_pass_ready.specs.State.{is_footnote_in_another, frame_of, AreOpen, closed_none, closed_in, ReadyAt}
 use Rattle.first_pass_ready.proofs.ClosedIn.{definitions_no_container, list_at, definitions_at, IsTop, top_of}
 use Rattle.first_pass_ready.proofs.OpenLemmas.{open_path, open_below, frame-append, get_end}
@@ -56,18 +56,18 @@ pub top_opened : (f : Forest Item) (x : Item) → top_body (with_open f x) ≡ S
 top_opened f x = get_end f.nodes (length f.spine + 1, x) [] (length f.nodes) refl
 
 -- a container is open, and has no child yet
-pub record IsBegun (d : Document) (defined : Tables) (f : Forest Item) (c : Container) (from : From) (lines : List Place) (path : List Container)
+pub record IsBegun (d : Document) (defined : Tables) (f : Forest Item) (c : Container) (from : Continues) (lines : List Place) (path : List Container)
     : Type 0 where
   pub ready : ReadyAt d defined f false from lines
   pub path_is : path_of d.options f ≡ c ∷ path
 
 -- the state after a container is opened
-pub record HasBegun (d : Document) (defined : Tables) (old new : Reading) (c : Container) (from : From) (lines : List Place) : Type 0 where
+pub record HasBegun (d : Document) (defined : Tables) (old new : PassState) (c : Container) (from : Continues) (lines : List Place) : Type 0 where
   pub is_begun : IsBegun d defined new.tree c from lines (path_of d.options old.tree)
   pub blank : new.blank ≡ false
   pub none : new.begin_list_item ≡ None
 
-pub begun_ready : (d : Document) (defined : Tables) (f : Forest Item) (x : Item) (c : Container) (frames : List Frame) (from : From) (lines : List Place)
+pub begun_ready : (d : Document) (defined : Tables) (f : Forest Item) (x : Item) (c : Container) (frames : List Frame) (from : Continues) (lines : List Place)
     → frame_of d.options x.body ≡ Some (InContainer c) → is_footnote_in_another (InContainer c) frames ≡ false
     → AreOpen d.options f.nodes f.spine frames → AreBelow (length f.nodes) (map (λ (i : TreeIndex). i.0) f.spine)
     → (let os : List ℕ = map (λ (i : TreeIndex). i.0) f.spine in

@@ -19,22 +19,22 @@ use Rattle.first_pass_grammar.specs.declared.kind.Container.{Container}
 use Rattle.first_pass_grammar.specs.declared.kind.Container.TheVariants.{Definition}
 use Rattle.first_pass_grammar.specs.Leaves.{Document}
 use Rattle.first_pass_grammar.specs.Openers.{definition_head}
-use Rattle.first_pass_grammar.specs.Skeleton.{From, Inside, OpensNode, Opens}
+use Rattle.first_pass_grammar.specs.Skeleton.{Continues, Inside, OpensNode, Opens}
 use Rattle.first_pass_grammar.specs.Derivation.{Tables, node_of, list_flags}
 use Rattle.first_pass_grammar.specs.Completion.{flagged, with_title, title_taken, Closed, ParagraphAt, DefinitionClosed, TitleAt, Frame, InContainer, InList}
 use Rattle.first_pass_grammar.specs.Completion.{InDefinitions, containers_of, AreBelow}
 use Rattle.first_pass_completion.proofs.Completions.{fresh}
 use Rattle.first_pass_completion.proofs.DefinitionSteps.{definition_node, completes-first_definition, completes-title_definition, completes-definition}
 use Rattle.first_pass_completion.proofs.Extending.{tail, lvl}
-use Rattle.first_pass_grammar.proofs.Finishes.{CompletesAt}
+use Rattle.first_pass_grammar.proofs.Sequences.Finishes.{CompletesAt}
 use Rattle.first_pass_completion.proofs.Flags.{completes-reflag_definition}
-use Rattle.first_pass_grammar.proofs.Tightening.{modify-append}
+use Rattle.first_pass_grammar.proofs.Sequences.Tightening.{modify-append}
 use Rattle.first_pass_completion.proofs.TitleNodes.{reflagged, length-with_title}
 use Rattle.first_pass_open.specs.Path.{path_of}
 use Rattle.first_pass_lists.specs.Closing.{with_tree, loosened_by, top_body, top_end, is_definition_list, is_list, possible_title, title_by}
 use Rattle.first_pass_lists.specs.Closing.{precedes_definition, takes_definition, loosened_top, definitions_by, definitions_at}
 use Rattle.first_pass_lists.specs.Closing.{definitions_opened, definition_begun}
-use Rattle.first_pass_lists.specs.declared.reading.Reading.{Reading}
+use Rattle.first_pass_lists.specs.declared.state.PassState.{PassState}
 use Rattle.first_pass_ready.specs.State.{frame_of, frame_at, AreOpen, closed_in, ReadyAt}
 use Rattle.first_pass_ready.proofs.ClosedIn.{definitions_no_items, definitions_no_container, definitions_at as definitions_framed, level_of, open_level}
 use Rattle.first_pass_ready.proofs.ClosedIn.{closed_at_body, closed_definition, title_is, body_by, definition_list_is}
@@ -44,7 +44,7 @@ use Rattle.first_pass_tokens.proofs.BytesLemmas.{length-modify}
 
 -- A definition list is open for a definition, and every completion of the nodes with it is derived by the text. The
 -- list is loose so far or not.
-record ListIsOpen (d : Document) (defined : Tables) (run : Bool) (path : List Container) (g : Forest Item) (columns start : ℕ) (from : From)
+record ListIsOpen (d : Document) (defined : Tables) (run : Bool) (path : List Container) (g : Forest Item) (columns start : ℕ) (from : Continues)
     (lines : List Place) : Type 0 where
   ix : TreeIndex
   rest : List TreeIndex
@@ -149,7 +149,7 @@ or_true : (a : Bool) → (a || true) ≡ true
 or_true true = refl
 or_true false = refl
 
-module _ (d : Document) (defined : Tables) (f : Forest Item) (run : Bool) (p : Place) (lines following : List Place) (columns : ℕ) (from : From)
+module _ (d : Document) (defined : Tables) (f : Forest Item) (run : Bool) (p : Place) (lines following : List Place) (columns : ℕ) (from : Continues)
     (forest : IsForest f) (opens : Opens d (level_of d.options f run) p lines (OpensNode (definition_head p columns) from following))
     (ready : ReadyAt d defined f run (Inside p) lines) where
   abbrev Opened : Forest Item → Type 0
@@ -297,7 +297,7 @@ module _ (d : Document) (defined : Tables) (f : Forest Item) (run : Bool) (p : P
       opened_at c (item_at f c) current refl (ap (precedes_definition (top_body f)) (sym (body_by (slice_get f.nodes c.0))) ∙ may)
 
 -- the list becomes loose if a blank line is before the definition
-begun_in : (d : Document) (defined : Tables) (path : List Container) (h : Forest Item) (columns start : ℕ) (from : From) (lines : List Place)
+begun_in : (d : Document) (defined : Tables) (path : List Container) (h : Forest Item) (columns start : ℕ) (from : Continues) (lines : List Place)
     (ix : TreeIndex) (rest : List TreeIndex) (frames : List Frame) (loose : Bool) → h.spine ≡ ix ∷ rest
     → AreOpen d.options h.nodes (ix ∷ rest) (InDefinitions loose ∷ frames) → AreBelow (length h.nodes) (map (λ (i : TreeIndex). i.0) (ix ∷ rest))
     → containers_of frames ≡ path
@@ -314,7 +314,7 @@ begun_in d defined path h columns start from lines ix rest frames loose spine o 
     (subst (λ (s : List TreeIndex). CompletesAt d defined fresh (InContainer (Definition columns) ∷ InDefinitions loose ∷ frames)
     (h.nodes ++ (suc (length (map (λ (i : TreeIndex). i.0) s)), x) ∷ []) (length h.nodes ∷ map (λ (i : TreeIndex). i.0) s) from lines) (sym spine) k))
 
-loosened : (d : Document) (defined : Tables) (run : Bool) (path : List Container) (g : Forest Item) (columns start : ℕ) (from : From)
+loosened : (d : Document) (defined : Tables) (run : Bool) (path : List Container) (g : Forest Item) (columns start : ℕ) (from : Continues)
     (lines : List Place) → ListIsOpen d defined run path g columns start from lines
     → (let h : Forest Item = if run then loosened_top g g.spine else g in
     IsBegun d defined (with_open h (definition_node start 0 columns)) (Definition columns) from lines path)
@@ -354,13 +354,13 @@ loosened d defined false path g columns start from lines l =
     begun_in d defined path g columns start from lines l.ix l.rest l.frames (l.loose || false) l.spine
     (subst (λ t. AreOpen d.options g.nodes (l.ix ∷ l.rest) (InDefinitions t ∷ l.frames)) (sym (or_false l.loose)) l.are_open) l.below l.same l.completes
 
-kept_as : (r : Reading) (g : Forest Item) (run : Bool) → r.blank ≡ run → r.begin_list_item ≡ None
-    → (let q : Reading = if run then record (with_tree r g) { tree = loosened_top g g.spine; blank = false } else with_tree r g in
+kept_as : (r : PassState) (g : Forest Item) (run : Bool) → r.blank ≡ run → r.begin_list_item ≡ None
+    → (let q : PassState = if run then record (with_tree r g) { tree = loosened_top g g.spine; blank = false } else with_tree r g in
     (q.tree ≡ (if run then loosened_top g g.spine else g)) × (q.blank ≡ false) × (q.begin_list_item ≡ None))
 kept_as r g true is none = (refl, refl, none)
 kept_as r g false is none = (refl, is, none)
 
-pub definition_is_open : (d : Document) (defined : Tables) (r : Reading) (p : Place) (lines following : List Place) (columns : ℕ) (from : From)
+pub definition_is_open : (d : Document) (defined : Tables) (r : PassState) (p : Place) (lines following : List Place) (columns : ℕ) (from : Continues)
     → IsForest r.tree → takes_definition r.tree ≡ true
     → Opens d (level_of d.options r.tree r.blank) p lines (OpensNode (definition_head p columns) from following) → r.begin_list_item ≡ None
     → ReadyAt d defined r.tree r.blank (Inside p) lines

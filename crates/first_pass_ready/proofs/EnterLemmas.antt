@@ -28,19 +28,19 @@ use Rattle.first_pass_grammar.specs.Footnotes.{footnote_prefix, footnote_at, foo
 use Rattle.first_pass_grammar.specs.Openers.{start_at}
 use Rattle.first_pass_grammar.specs.Leaves.{Document, around}
 use Rattle.first_pass_grammar.specs.Blocks.{BlankLine}
-use Rattle.first_pass_grammar.specs.Skeleton.{From, Line, Inside, Blanks, Opening, OpensLeaf, OpensFootnote, OpensAs, Opens, is_blank_after, next_is_blank}
+use Rattle.first_pass_grammar.specs.Skeleton.{Continues, Line, Inside, Blanks, Opening, OpensLeaf, OpensFootnote, OpensAs, Opens, is_blank_after, next_is_blank}
 use Rattle.first_pass_grammar.specs.Skeleton.{Level, level, may_define, Lines, end_before}
 use Rattle.first_pass_grammar.specs.Derivation.{Tables, node_of}
 use Rattle.first_pass_grammar.specs.Completion.{Closed, Frame, InContainer, InList, InDefinitions, containers_of, AreBelow, last_plain, last_defined}
-use Rattle.first_pass_grammar.proofs.Finishes.{CompletesAt, Tail}
+use Rattle.first_pass_grammar.proofs.Sequences.Finishes.{CompletesAt, Tail}
 use Rattle.first_pass_completion.proofs.Extending.{tail, lvl}
-use Rattle.first_pass_grammar.proofs.Goings.{stops_blank}
+use Rattle.first_pass_grammar.proofs.Sequences.Goings.{stops_blank}
 use Rattle.first_pass_kinds.proofs.KindLemmas.{blank_kind}
 use Rattle.first_pass_completion.proofs.Completions.{counted_after, completes-enter, completes-blank_line, completes-only_blank}
 use Rattle.first_pass_open.specs.OpenBlock.{closed_by}
 use Rattle.first_pass_lists.specs.Closing.{top_body, is_item, popped_by, popped, item_finished_by, item_finished, emptied, emptied_definition, blank_read_by}
 use Rattle.first_pass_lists.specs.Closing.{blank_read}
-use Rattle.first_pass_lists.specs.declared.reading.Reading.{Reading}
+use Rattle.first_pass_lists.specs.declared.state.PassState.{PassState}
 use Rattle.first_pass_open.specs.Path.{container_of, container_at, with_container, path_in, path_of}
 use Rattle.first_pass_ready.specs.State.{frame_of, frame_at, item_columns, emptied_as, emptied_top, closed_in, AreOpen, ReadyAt, ReadyBeforeLine}
 use Rattle.first_pass_ready.specs.State.{ReadyInItem, ReadyEmpty, ReadyWith, Ready}
@@ -55,7 +55,7 @@ use Rattle.first_pass_ready.proofs.ItemBodies.{item_body, item_container, column
 use Rattle.first_pass_ready.proofs.ItemBodies.{item_no_list, item_no_quote, emptied_is, after_zero}
 use Rattle.first_pass_items.specs.declared.option_set.Options.{Options}
 use Rattle.first_pass_grammar.specs.Skeleton.{OpensBy}
-use Rattle.first_pass_grammar.proofs.OpenerFacts.{marker_where, start_none}
+use Rattle.first_pass_grammar.proofs.Sequences.OpenerFacts.{marker_where, start_none}
 
 -- Columns do not change whether a line is blank.
 some_mapped : (o : Option ℕ) (f : ℕ → ℕ) → is_some (option_map f o) ≡ is_some o
@@ -268,7 +268,7 @@ plain_counts run quote closed = ap (λ t. run || (not quote || t)) (plain_not_op
 open_counts : (run a : Bool) (last : Last) → list_is_open last ≡ true → (run || (a || list_is_open last)) ≡ true
 open_counts run a last h = ap (λ t. run || (a || t)) h ∙ ap (λ t. run || t) (or_true a) ∙ or_true run
 
-container_counts : (options : Options) (r : Reading) (b : Option ItemBody) (c : Container) → option_and_then (frame_of options) b ≡ Some (InContainer c)
+container_counts : (options : Options) (r : PassState) (b : Option ItemBody) (c : Container) → option_and_then (frame_of options) b ≡ Some (InContainer c)
     → (r.blank || not (is_quote c)) ≡ (blank_read_by r b).blank
 container_counts options r None c h = cc
 container_counts options r (Some (BlockQuoteBody kind)) c h =
@@ -283,7 +283,7 @@ container_counts options r (Some (ListBody flags list number)) c h = absurd (ite
 container_counts options r (Some (DefinitionList flags)) c h = absurd (definitions_no_container (flags.0 == 1) (flags.0 == 0) c h)
 container_counts options r (Some b) c h = cc
 
-counts_by : (options : Options) (r : Reading) (closed : Closed) (b : Option ItemBody) (frame : Frame) (frames : List Frame)
+counts_by : (options : Options) (r : PassState) (closed : Closed) (b : Option ItemBody) (frame : Frame) (frames : List Frame)
     → option_and_then (frame_of options) b ≡ Some frame → HasDefined (frame ∷ frames) closed
     → counted_after (frame ∷ frames) (tail closed r.blank) ≡ (blank_read_by r b).blank
 counts_by options r closed b (InContainer c) frames h has = plain_counts r.blank (is_quote c) closed ∙ container_counts options r b c h
@@ -295,7 +295,7 @@ counts_by options r closed b (InDefinitions loose) frames h has =
     open_counts r.blank (not (in_quote (containers_of frames))) (last_defined closed) (defined_open closed has)
     ∙ ap (λ z. (blank_read_by r z).blank) (sym l.1)
 
-module _ (d : Document) (defined : Tables) (r : Reading) (p : Place) (lines : List Place) (blank : is_blank_rest p.rest ≡ true) where
+module _ (d : Document) (defined : Tables) (r : PassState) (p : Place) (lines : List Place) (blank : is_blank_rest p.rest ≡ true) where
   blank_at : (closed : Closed) (frames : List Frame) (s : List TreeIndex) → AreOpen d.options r.tree.nodes s frames → HasDefined frames closed
       → counted_after frames (tail closed r.blank) ≡ (blank_read_by r (top_in r.tree.nodes s)).blank
   blank_at closed [] [] o has = plain_counts r.blank false closed ∙ or_true r.blank
@@ -397,19 +397,19 @@ and_true true = refl
 and_true false = refl
 
 -- a blank line is read in an empty item or definition
-blank_item_is : (r : Reading) (e : ℕ) (b : ItemBody) (n : ℕ) → r.begin_list_item ≡ Some e
+blank_item_is : (r : PassState) (e : ℕ) (b : ItemBody) (n : ℕ) → r.begin_list_item ≡ Some e
     → blank_read_by r (Some (item_body b n)) ≡ record r { tree = emptied_as r.tree (Some (item_body b n)); blank = true }
 blank_item_is r e (DefinitionListDefinition columns) n some =
     ap (λ o. record r { tree = if is_some o then emptied_definition r.tree r.tree.spine else r.tree; blank = true }) some
 blank_item_is r e b n some = ap (λ o. record r { tree = if is_some o then emptied r.tree r.tree.spine else r.tree; blank = true }) some
 
 -- an item or a definition is closed
-item_popped : (r : Reading) (g : Forest Item) (ix : TreeIndex) (b : ItemBody) (n : ℕ)
+item_popped : (r : PassState) (g : Forest Item) (ix : TreeIndex) (b : ItemBody) (n : ℕ)
     → popped_by r g ix (Some (item_body b n)) ≡ record r { tree = g; begin_list_item = None }
 item_popped r g ix (DefinitionListDefinition columns) n = refl
 item_popped r g ix b n = refl
 
-module _ (d : Document) (defined : Tables) (r : Reading) (line : Place) (lines : List Place) (rest : Rest)
+module _ (d : Document) (defined : Tables) (r : PassState) (line : Place) (lines : List Place) (rest : Rest)
     (goes : after (path_of d.options r.tree) line.rest ≡ Some rest) where
   module _ (e : ℕ) (empty : ReadyEmpty d defined r e (line ∷ lines)) where
     -- the empty item or definition
@@ -451,7 +451,7 @@ module _ (d : Document) (defined : Tables) (r : Reading) (line : Place) (lines :
           (λ x h. ap (λ z. node_of x.start x.«end» z) (sym h)))
 
       -- the nodes around the item are unchanged
-      outer_path : (run : Bool) (from : From) (ls : List Place) → ReadyAt d defined zero_tree run from ls
+      outer_path : (run : Bool) (from : Continues) (ls : List Place) → ReadyAt d defined zero_tree run from ls
           → path_in d.options zero_tree.nodes empty.outer ≡ path
       outer_path run from ls ready =
           let below = subst (λ s. AreBelow (length zero_tree.nodes) (map (λ (i : TreeIndex). i.0) s)) empty.spine ready.completes.below in
@@ -483,7 +483,7 @@ module _ (d : Document) (defined : Tables) (r : Reading) (line : Place) (lines :
       ready_emptied : r.begin_list_item ≡ Some e → is_blank_rest rest ≡ true → Ready d defined (blank_read r) lines
       unfolding Ready
       ready_emptied some h =
-          let now : Reading = record r { tree = zero_tree; blank = true } in
+          let now : PassState = record r { tree = zero_tree; blank = true } in
           let ready : ReadyEmpty d defined now e lines = record {
             place = empty.place;
             outer = empty.outer;
@@ -518,7 +518,8 @@ module _ (d : Document) (defined : Tables) (r : Reading) (line : Place) (lines :
     -- the item ends before a line that is not blank
     emptied_ends : (blank : Bool) → r.blank ≡ blank → is_blank_rest rest ≡ false → ReadyInItem d defined r.tree e (line ∷ lines) blank
         → (
-        let q : Reading = record (if blank then popped e r else r) { begin_list_item = None } in ReadyAt d defined q.tree q.blank (Inside (at_rest line rest)) lines)
+        let q : PassState = record (if blank then popped e r else r) { begin_list_item = None } in ReadyAt d defined q.tree q.blank
+        (Inside (at_rest line rest)) lines)
     emptied_ends true is h ready =
         let none = empty.none is in
         let o = own e empty in
@@ -543,7 +544,7 @@ module _ (d : Document) (defined : Tables) (r : Reading) (line : Place) (lines :
         let inside : ReadyAt d defined g true (Inside (at_rest line rest)) lines =
         ready_enter d defined g true line lines rest (ap (λ z. after z line.rest) same ∙ outer)
         (stays_in_list d defined g true (line ∷ lines) left.ready b 0 left.stands) left.ready in
-        subst (λ (q : Reading). ReadyAt d defined q.tree q.blank (Inside (at_rest line rest)) lines) (sym now)
+        subst (λ (q : PassState). ReadyAt d defined q.tree q.blank (Inside (at_rest line rest)) lines) (sym now)
         (subst (λ t. ReadyAt d defined g t (Inside (at_rest line rest)) lines) (sym is) inside)
     emptied_ends false is h ready =
         let test : next_is_blank (path_of d.options r.tree) (line ∷ lines) ≡ false = ap is_blank_after goes ∙ h in
@@ -552,9 +553,9 @@ module _ (d : Document) (defined : Tables) (r : Reading) (line : Place) (lines :
         (ready_enter d defined r.tree false line lines rest goes (stays_unblank d.options r.tree) now)
 
   entered_with : (o : Option ℕ) → ends_here d.options r.tree r.blank ≡ false → is_blank_rest rest ≡ false → ReadyWith d defined r (line ∷ lines) o
-      → (let q : Reading = item_finished_by r o in ReadyAt d defined q.tree q.blank (Inside (at_rest line rest)) lines)
+      → (let q : PassState = item_finished_by r o in ReadyAt d defined q.tree q.blank (Inside (at_rest line rest)) lines)
   entered_with None stays h ready = ready_enter d defined r.tree r.blank line lines rest goes stays ready
-  entered_with (Some e) stays h ready = subst (λ (q : Reading). ReadyAt d defined q.tree q.blank (Inside (at_rest line rest)) lines)
+  entered_with (Some e) stays h ready = subst (λ (q : PassState). ReadyAt d defined q.tree q.blank (Inside (at_rest line rest)) lines)
       (sym (finished_is e ready r.blank refl)) (emptied_ends e ready r.blank refl h ready.ready)
 
   -- the place in a line that is not blank and that all open containers continue

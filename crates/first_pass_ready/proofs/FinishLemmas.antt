@@ -19,7 +19,7 @@ use Rattle.first_pass_grammar.specs.Completion.{flagged, Closed, OtherClosed, Pa
 use Rattle.first_pass_grammar.specs.Completion.{InDefinitions}
 use Rattle.first_pass_grammar.specs.Completion.{IsPlain, last_defined}
 use Rattle.first_pass_grammar.specs.WholeTables.{ShowsNothing, SilentClosed}
-use Rattle.first_pass_grammar.proofs.Finishes.{CompletesAt, Tail}
+use Rattle.first_pass_grammar.proofs.Sequences.Finishes.{CompletesAt, Tail}
 use Rattle.first_pass_completion.proofs.Extending.{tail, StaysAt, loosened_in}
 use Rattle.first_pass_completion.proofs.EarlierNodes.{IsBefore}
 use Rattle.first_pass_completion.proofs.Moved.{OpensBlock, opens_definition}
@@ -28,8 +28,8 @@ use Rattle.first_pass_completion.proofs.TitleNodes.{reflagged}
 use Rattle.first_pass_completion.proofs.Flags.{completes-reflag, completes-reflag_definition}
 use Rattle.first_pass_completion.proofs.SilentNodes.{from_modified}
 use Rattle.first_pass_lists.specs.Closing.{loosened_by, loosened_at, top_body, top_end, is_definition_list, is_list, possible_title, popped}
-use Rattle.first_pass_lists.specs.Closing.{item_finished_by, item_finished, list_left, gap_tree, gap_noted, list_finished}
-use Rattle.first_pass_lists.specs.declared.reading.Reading.{Reading}
+use Rattle.first_pass_lists.specs.Closing.{item_finished_by, item_finished, list_closed, gap_tree, gap_noted, list_finished}
+use Rattle.first_pass_lists.specs.declared.state.PassState.{PassState}
 use Rattle.first_pass_open.specs.Path.{container_of, with_container, path_in, path_of}
 use Rattle.first_pass_ready.specs.State.{frame_of, frame_at, is_footnote_in_another, closed_elsewhere, closed_in, AreOpen, ReadyAt}
 use Rattle.first_pass_ready.proofs.OpenLemmas.{open_path, open_below}
@@ -72,7 +72,7 @@ plain_by options nodes (ix ∷ s) (InList byte loose ∷ frames) o n = absurd (n
 plain_by options nodes (ix ∷ s) (InDefinitions loose ∷ frames) o n = absurd (no_definitions options (body_at nodes ix.0) loose o.0 n)
 
 -- the closed node is no container
-left_path : (options : Options) (r : Reading) (at : ℕ) (ix : TreeIndex) (rest : List TreeIndex) (b : ItemBody) → container_of options b ≡ None
+left_path : (options : Options) (r : PassState) (at : ℕ) (ix : TreeIndex) (rest : List TreeIndex) (b : ItemBody) → container_of options b ≡ None
     → r.tree.spine ≡ ix ∷ rest → body_at r.tree.nodes ix.0 ≡ Some b → path_of options (popped at r).tree ≡ path_of options r.tree
 left_path options r at ix rest b none spine is =
     popped_paths at r ix rest options spine (popped at r).tree.spine ∙ ap (path_in options r.tree.nodes) (popped_spine at r ix rest spine)
@@ -80,7 +80,7 @@ left_path options r at ix rest b none spine is =
     ∙ ap (λ o. with_container (option_and_then (container_of options) o) (path_in options r.tree.nodes rest)) is
     ∙ ap (λ o. with_container o (path_in options r.tree.nodes rest)) none)
 
-pub path_left : (options : Options) (r : Reading) (at : ℕ) (s : List TreeIndex) (b : Option ItemBody)
+pub path_left : (options : Options) (r : PassState) (at : ℕ) (s : List TreeIndex) (b : Option ItemBody)
     → r.tree.spine ≡ s → top_in r.tree.nodes s ≡ b
     → path_of options (if is_list b then popped at r else r).tree ≡ path_of options r.tree
 path_left options r at [] None spine is = refl
@@ -92,7 +92,7 @@ path_left options r at (ix ∷ rest) (Some (DefinitionList flags)) spine is = le
 path_left options r at (ix ∷ rest) (Some b) spine is = refl
 
 -- the state after an innermost list, if there is one, is closed
-pub kept_left : (r : Reading) (at : ℕ) (s : List TreeIndex) (b : Option ItemBody) → r.tree.spine ≡ s → top_in r.tree.nodes s ≡ b
+pub kept_left : (r : PassState) (at : ℕ) (s : List TreeIndex) (b : Option ItemBody) → r.tree.spine ≡ s → top_in r.tree.nodes s ≡ b
     → ((if is_list b then popped at r else r).blank ≡ r.blank)
     × (r.begin_list_item ≡ None → (if is_list b then popped at r else r).begin_list_item ≡ None)
 kept_left r at [] None spine is = (refl, λ none. none)
@@ -113,7 +113,7 @@ pub record LeftPlain (d : Document) (defined : Tables) (f : Forest Item) (run : 
   pub opens : Opens d (level_of d.options f run) p lines opening
   pub before : (ix jx : TreeIndex) (s : List TreeIndex) → f.spine ≡ ix ∷ jx ∷ s → IsBefore jx.0 (closed_in f)
 
-module _ (d : Document) (defined : Tables) (r : Reading) (p : Place) (lines : List Place) (at : ℕ) (opening : Opening) (forest : IsForest r.tree)
+module _ (d : Document) (defined : Tables) (r : PassState) (p : Place) (lines : List Place) (at : ℕ) (opening : Opening) (forest : IsForest r.tree)
     (stays : StaysAt d (path_of d.options r.tree) p) (opens : Opens d (level_of d.options r.tree r.blank) p lines opening)
     (block : OpensBlock opening) (other : opens_definition opening ≡ false) where
   abbrev LeftAs : Forest Item → Type 0
@@ -129,8 +129,8 @@ module _ (d : Document) (defined : Tables) (r : Reading) (p : Place) (lines : Li
       let now = popped_list at r ix rest b flags spine is listed none in
       let last : takes_after (last_in (list_popped r.tree at ix rest flags)) ≡ false =
       ap takes_after (plain_last_in d.options (list_popped r.tree at ix rest flags) q.ready.frames OtherClosed q.ready.are_open q.plain q.last) in
-      let path = ap (λ (z : Reading). path_of d.options z.tree) (sym now) ∙ left_path d.options r at ix rest b no_path spine is in
-      subst (λ (z : Reading). LeftAs z.tree) (sym now) (record {
+      let path = ap (λ (z : PassState). path_of d.options z.tree) (sym now) ∙ left_path d.options r at ix rest b no_path spine is in
+      subst (λ (z : PassState). LeftAs z.tree) (sym now) (record {
         ready = (q.ready, q.plain);
         opens = opens_none d r.tree (list_popped r.tree at ix rest flags) r.blank r.blank p lines opening path other last opens;
         before = λ a b s e. subst (IsBefore b.0) (sym q.last) tt;
@@ -148,8 +148,8 @@ module _ (d : Document) (defined : Tables) (r : Reading) (p : Place) (lines : Li
       let last : takes_after (last_in g) ≡ true =
       ap takes_after (plain_last_in d.options g q.ready.frames (ParagraphAt title.0) q.ready.are_open q.plain q.last) in
       let before : takes_after (last_in r.tree) ≡ true = takes_title r.tree title t in
-      let path = ap (λ (z : Reading). path_of d.options z.tree) (sym now) ∙ left_path d.options r at ix rest (DefinitionList flags) refl spine is in
-      subst (λ (z : Reading). LeftAs z.tree) (sym now) (record {
+      let path = ap (λ (z : PassState). path_of d.options z.tree) (sym now) ∙ left_path d.options r at ix rest (DefinitionList flags) refl spine is in
+      subst (λ (z : PassState). LeftAs z.tree) (sym now) (record {
         ready = (q.ready, q.plain);
         opens = opens_as d r.tree g r.blank r.blank p lines opening path (before ∙ sym last) opens;
         before = λ a b s e. subst (IsBefore b.0) (sym q.last)
@@ -185,7 +185,7 @@ module _ (d : Document) (defined : Tables) (r : Reading) (p : Place) (lines : Li
 
   -- an innermost list, if there is one, is closed
   pub ready_left : EndsListAt at (top_body r.tree) (closed_in r.tree) opening → ReadyAt d defined r.tree r.blank (Inside p) lines
-      → LeftAs (list_left at r).tree
+      → LeftAs (list_closed at r).tree
   ready_left away ready = left_by r.tree.spine (top_body r.tree) refl refl away ready
 
 or_true : (a : Bool) → (a || true) ≡ true
@@ -477,17 +477,17 @@ gap_path : (options : Options) (f : Forest Item) (spine : List TreeIndex) → pa
 gap_path options f spine = ap (path_in options (gap_tree f spine).nodes) (gap_spine f spine) ∙ gap_paths options f spine f.spine
 
 -- the state after a new block ended what it ends, given the opening at the place
-pub record Finished (d : Document) (defined : Tables) (old new : Reading) (p : Place) (lines : List Place) (opening : Opening) : Type 0 where
+pub record Finished (d : Document) (defined : Tables) (old new : PassState) (p : Place) (lines : List Place) (opening : Opening) : Type 0 where
   pub ready : ReadyPlain d defined new.tree false p lines
   pub opens : Opens d (level_of d.options new.tree false) p lines opening
   pub path : path_of d.options new.tree ≡ path_of d.options old.tree
   pub blank : new.blank ≡ false
   pub none : new.begin_list_item ≡ None
 
-pub noted_as : (d : Document) (defined : Tables) (r : Reading) (p : Place) (lines : List Place) (opening : Opening) (run : Bool)
+pub noted_as : (d : Document) (defined : Tables) (r : PassState) (p : Place) (lines : List Place) (opening : Opening) (run : Bool)
     → r.blank ≡ run → r.begin_list_item ≡ None → StaysAt d (path_of d.options r.tree) p → OpensBlock opening → opens_definition opening ≡ false
     → LeftPlain d defined r.tree run p lines opening
-    → (let q : Reading = if run then record r { tree = gap_tree r.tree r.tree.spine; blank = false } else r in Finished d defined r q p lines opening)
+    → (let q : PassState = if run then record r { tree = gap_tree r.tree r.tree.spine; blank = false } else r in Finished d defined r q p lines opening)
 noted_as d defined r p lines opening true is none stays block other left =
     let g : Forest Item = gap_tree r.tree r.tree.spine in
     let n = noted_run d defined r.tree p lines opening left.before stays left.opens block other left.ready in
@@ -507,14 +507,14 @@ noted_as d defined r p lines opening false is none stays block other left =
     record { ready = left.ready; opens = left.opens; path = refl; blank = is; none = none }
 
 -- a new block ends an innermost list, and a blank line before it is noted
-pub ready_finished : (d : Document) (defined : Tables) (r : Reading) (p : Place) (lines : List Place) (at : ℕ) (opening : Opening)
+pub ready_finished : (d : Document) (defined : Tables) (r : PassState) (p : Place) (lines : List Place) (at : ℕ) (opening : Opening)
     → IsForest r.tree → StaysAt d (path_of d.options r.tree) p → Opens d (level_of d.options r.tree r.blank) p lines opening
     → OpensBlock opening → opens_definition opening ≡ false
     → EndsListAt at (top_body r.tree) (closed_in r.tree) opening → r.begin_list_item ≡ None → ReadyAt d defined r.tree r.blank (Inside p) lines
     → Finished d defined r (list_finished at r) p lines opening
 unfolding list_finished item_finished
 ready_finished d defined r p lines at opening forest stays opens block other away none ready =
-    let l : Reading = list_left at r in
+    let l : PassState = list_closed at r in
     let kept = kept_left r at r.tree.spine (top_body r.tree) refl refl in
     let path : path_of d.options l.tree ≡ path_of d.options r.tree = path_left d.options r at r.tree.spine (top_body r.tree) refl refl in
     let left : LeftPlain d defined l.tree r.blank p lines opening =
@@ -522,19 +522,19 @@ ready_finished d defined r p lines at opening forest stays opens block other awa
     let left' : LeftPlain d defined l.tree l.blank p lines opening = subst (λ t. LeftPlain d defined l.tree t p lines opening) (sym kept.0) left in
     let done = noted_as d defined l p lines opening l.blank refl (kept.1 none) (subst (λ z. StaysAt d z p) (sym path) stays) block other left' in
     let same : item_finished_by r r.begin_list_item ≡ r = ap (item_finished_by r) none in
-    subst (λ q. Finished d defined r (gap_noted (list_left at q)) p lines opening) (sym same)
+    subst (λ q. Finished d defined r (gap_noted (list_closed at q)) p lines opening) (sym same)
     (record { ready = done.ready; opens = done.opens; path = done.path ∙ path; blank = done.blank; none = done.none })
 
-path_noted : (options : Options) (t : Bool) (r : Reading)
+path_noted : (options : Options) (t : Bool) (r : PassState)
     → path_of options (if t then record r { tree = gap_tree r.tree r.tree.spine; blank = false } else r).tree ≡ path_of options r.tree
 path_noted options true r = gap_path options r.tree r.tree.spine
 path_noted options false r = refl
 
 -- a new block ends no container
-pub path_finished : (options : Options) (at : ℕ) (r : Reading) → r.begin_list_item ≡ None → path_of options (list_finished at r).tree ≡ path_of options r.tree
+pub path_finished : (options : Options) (at : ℕ) (r : PassState) → r.begin_list_item ≡ None → path_of options (list_finished at r).tree ≡ path_of options r.tree
 unfolding list_finished item_finished
 path_finished options at r none =
     let same : item_finished_by r r.begin_list_item ≡ r = ap (item_finished_by r) none in
-    let l : Reading = list_left at r in
-    subst (λ q. path_of options (gap_noted (list_left at q)).tree ≡ path_of options r.tree) (sym same)
+    let l : PassState = list_closed at r in
+    subst (λ q. path_of options (gap_noted (list_closed at q)).tree ≡ path_of options r.tree) (sym same)
     (path_noted options l.blank l ∙ path_left options r at r.tree.spine (top_body r.tree) refl refl)

@@ -27,18 +27,18 @@ use Rattle.first_pass_items.specs.OptionWords.{gfm_footnotes}
 use Rattle.first_pass_grammar.specs.Leaves.{Document, around}
 use Rattle.first_pass_grammar.specs.Openers.{start_at}
 use Rattle.first_pass_grammar.specs.Skeleton.{Inside, Opening, Level, level, may_define, footnote_opening, OpensFootnote, OpensBy, Opens}
-use Rattle.first_pass_grammar.specs.Derivation.{Tables, told_label, node_of}
+use Rattle.first_pass_grammar.specs.Derivation.{Tables, with_footnote_label, node_of}
 use Rattle.first_pass_grammar.specs.Completion.{Closed, OtherClosed, ParagraphAt, DefinitionClosed, TitleAt, Frame, InContainer, InList, InDefinitions}
 use Rattle.first_pass_grammar.specs.Completion.{containers_of, IsPlain}
 use Rattle.first_pass_completion.proofs.ContainerSteps.{completes-footnote}
 use Rattle.first_pass_completion.proofs.EarlierNodes.{IsBefore}
 use Rattle.first_pass_completion.proofs.Extending.{stays_outside}
-use Rattle.first_pass_grammar.proofs.FootnoteHeads.{head_around}
+use Rattle.first_pass_grammar.proofs.Sequences.FootnoteHeads.{head_around}
 use Rattle.first_pass_open.specs.OpenBlock.{closed_by}
 use Rattle.first_pass_open.specs.Path.{container_of, with_container, path_in, path_of}
-use Rattle.first_pass_lists.specs.Closing.{top_body, top_end, is_list, is_footnote, possible_title, popped, item_finished_by, item_finished, list_left}
+use Rattle.first_pass_lists.specs.Closing.{top_body, top_end, is_list, is_footnote, possible_title, popped, item_finished_by, item_finished, list_closed}
 use Rattle.first_pass_lists.specs.Closing.{footnote_left, gap_noted, begun, footnote_begun}
-use Rattle.first_pass_lists.specs.declared.reading.Reading.{Reading}
+use Rattle.first_pass_lists.specs.declared.state.PassState.{PassState}
 use Rattle.first_pass_ready.specs.State.{frame_of, AreOpen, closed_in, ReadyAt}
 use Rattle.first_pass_ready.proofs.ClosedIn.{items_no_container, definitions_no_container, top_in, level_of, open_level, title_is, closed_popped}
 use Rattle.first_pass_ready.proofs.Levels.{open_before, outer_before}
@@ -96,7 +96,7 @@ abbrev IsLeft : Document → Tables → Forest Item → Bool → Place → List 
 IsLeft d defined f run p lines =
     ReadyPlain d defined f run p lines × ((ix jx : TreeIndex) (s : List TreeIndex) → f.spine ≡ ix ∷ jx ∷ s → IsBefore jx.0 (closed_in f))
 
-module _ (d : Document) (defined : Tables) (r : Reading) (p : Place) (lines : List Place) (head : ℕ × List ℕ) (forest : IsForest r.tree)
+module _ (d : Document) (defined : Tables) (r : PassState) (p : Place) (lines : List Place) (head : ℕ × List ℕ) (forest : IsForest r.tree)
     (is_head : footnote_head_at (around d (path_of d.options r.tree)) p ≡ Some head) where
   abbrev at : ℕ
   at = offset (unindented p)
@@ -111,7 +111,7 @@ module _ (d : Document) (defined : Tables) (r : Reading) (p : Place) (lines : Li
   plain_ended ix rest b flags spine is listed none ends ready =
       let q = end_list d defined r.tree r.blank lines at ix rest b flags forest spine is listed p (has_definition r.tree ix rest b spine is none) ends refl
       ready in
-      subst (λ (z : Reading). Left z.tree) (sym (popped_list at r ix rest b flags spine is listed none))
+      subst (λ (z : PassState). Left z.tree) (sym (popped_list at r ix rest b flags spine is listed none))
       ((q.ready, q.plain), λ a o s e. subst (IsBefore o.0) (sym q.last) tt)
 
   -- one with a possible title
@@ -120,7 +120,7 @@ module _ (d : Document) (defined : Tables) (r : Reading) (p : Place) (lines : Li
   titled_ended ix rest title spine titled ends ready =
       let t = title_is r.tree title titled in
       let q = end_title d defined r.tree r.blank lines ix rest title forest spine t p ends ready in
-      subst (λ (z : Reading). Left z.tree) (sym (popped_title at r ix rest title t spine titled)) (
+      subst (λ (z : PassState). Left z.tree) (sym (popped_title at r ix rest title t spine titled)) (
         (q.ready, q.plain),
         λ a o s e. subst (IsBefore o.0) (sym q.last)
             (outer_before r.tree ix a o title rest s forest spine
@@ -156,7 +156,7 @@ module _ (d : Document) (defined : Tables) (r : Reading) (p : Place) (lines : Li
   ended_by (ix ∷ rest) (Some b) inside spine is ready = still (ap (λ z. is_list (top_in r.tree.nodes z)) spine ∙ ap is_list is) ready
 
   list_ended : (t : Bool) (index : CowIndex) → NamesLabel d.names index (label_bytes head.0 (unindented p).rest.left) head.1
-      → in_footnote (path_of d.options r.tree) ≡ t → ReadyAt d defined r.tree r.blank (Inside p) lines → Left (list_left at r).tree
+      → in_footnote (path_of d.options r.tree) ≡ t → ReadyAt d defined r.tree r.blank (Inside p) lines → Left (list_closed at r).tree
   unfolding OpensFootnote
   list_ended true index named inside ready = ended_by r.tree.spine (top_body r.tree) inside refl refl ready
   list_ended false index named out ready =
@@ -167,17 +167,17 @@ module _ (d : Document) (defined : Tables) (r : Reading) (p : Place) (lines : Li
       (left.ready, left.before)
 
 -- the state after the innermost open nodes end where another footnote definition begins
-record IsOutside (d : Document) (defined : Tables) (old new : Reading) (p : Place) (lines : List Place) : Type 0 where
+record IsOutside (d : Document) (defined : Tables) (old new : PassState) (p : Place) (lines : List Place) : Type 0 where
   left : IsLeft d defined new.tree old.blank p lines
   out : in_footnote (path_of d.options new.tree) ≡ false
   blank : new.blank ≡ old.blank
   none : new.begin_list_item ≡ old.begin_list_item
   same : footnote_head_at (around d (path_of d.options new.tree)) p ≡ footnote_head_at (around d (path_of d.options old.tree)) p
 
-note_left : (d : Document) (defined : Tables) (r : Reading) (p : Place) (lines : List Place) (head : ℕ × List ℕ) (t : Bool)
+footnote_closed : (d : Document) (defined : Tables) (r : PassState) (p : Place) (lines : List Place) (head : ℕ × List ℕ) (t : Bool)
     → footnote_head_at (around d (path_of d.options r.tree)) p ≡ Some head → is_footnote (top_body r.tree) ≡ t → IsLeft d defined r.tree r.blank p lines
     → IsOutside d defined r (if t then popped (offset (unindented p)) r else r) p lines
-note_left d defined r p lines head false is_head top ((ready, plain), before) = record {
+footnote_closed d defined r p lines head false is_head top ((ready, plain), before) = record {
   left = ((ready, plain), before);
   out = ap in_footnote (open_path d.options r.tree.nodes r.tree.spine ready.frames ready.are_open)
       ∙ outside d.options r.tree.nodes r.tree.spine ready.frames ready.are_open plain top;
@@ -185,7 +185,7 @@ note_left d defined r p lines head false is_head top ((ready, plain), before) = 
   none = refl;
   same = refl;
 }
-note_left d defined r p lines head true is_head top ((ready, plain), before) =
+footnote_closed d defined r p lines head true is_head top ((ready, plain), before) =
     let e : ℕ = offset (unindented p) in
     let t = footnote_top r.tree.nodes r.tree.spine top in
     let ix : TreeIndex = t.0 in
@@ -205,11 +205,11 @@ note_left d defined r p lines head true is_head top ((ready, plain), before) =
     closed_popped d.options r.tree e ix rest (FootnoteDefinition columns) left.0.frames framed left.0.are_open left.1 in
     let done : IsLeft d defined g r.blank p lines = ((left.0, left.1), λ a o s e. subst (IsBefore o.0) (sym last) tt) in
     record {
-      left = subst (λ (q : Reading). IsLeft d defined q.tree r.blank p lines) (sym now) done;
-      out = ap (λ (q : Reading). in_footnote (path_of d.options q.tree)) now
+      left = subst (λ (q : PassState). IsLeft d defined q.tree r.blank p lines) (sym now) done;
+      out = ap (λ (q : PassState). in_footnote (path_of d.options q.tree)) now
           ∙ ap in_footnote (open_path d.options g.nodes g.spine left.0.frames left.0.are_open) ∙ left.2;
-      blank = ap (λ (q : Reading). q.blank) now;
-      none = ap (λ (q : Reading). q.begin_list_item) now;
+      blank = ap (λ (q : PassState). q.blank) now;
+      none = ap (λ (q : PassState). q.begin_list_item) now;
       same = ap (λ z. footnote_head_at (around d z) p) outer ∙ sym (head_around d.options columns path p refl)
           ∙ ap (λ z. footnote_head_at (around d z) p) (sym inner);
     }
@@ -222,12 +222,12 @@ after_note d p lines size =
     past_head (gfm_footnotes d.options) q (lines_beyond (offset q) lines)
 
 -- a footnote definition is open, and blocks continue in it
-pub record NoteIsOpen (d : Document) (defined : Tables) (q : Reading) (there : Place × List Place) : Type 0 where
+pub record NoteIsOpen (d : Document) (defined : Tables) (q : PassState) (there : Place × List Place) : Type 0 where
   pub ready : ReadyAt d defined q.tree false (Inside there.0) there.1
   pub blank : q.blank ≡ false
   pub none : q.begin_list_item ≡ None
 
-module _ (d : Document) (defined : Tables) (r : Reading) (p : Place) (lines : List Place) (head : ℕ × List ℕ) (index : CowIndex) (forest : IsForest r.tree)
+module _ (d : Document) (defined : Tables) (r : PassState) (p : Place) (lines : List Place) (head : ℕ × List ℕ) (index : CowIndex) (forest : IsForest r.tree)
     (is_head : footnote_head_at (around d (path_of d.options r.tree)) p ≡ Some head)
     (named : NamesLabel d.names index (label_bytes head.0 (unindented p).rest.left) head.1) (none : r.begin_list_item ≡ None) where
   abbrev opening : Opening
@@ -246,7 +246,7 @@ module _ (d : Document) (defined : Tables) (r : Reading) (p : Place) (lines : Li
   -- a footnote definition is opened after the innermost open nodes ended and a blank line before was noted
   note_begun : (f : Forest Item) → ReadyPlain d defined f false p lines → in_footnote (path_of d.options f) ≡ false
       → footnote_head_at (around d (path_of d.options f)) p ≡ Some head
-      → ReadyAt d (told_label defined head.1) (with_open f (node_of start 0 (FootnoteDefinitionBody index))) false (Inside there.0) there.1
+      → ReadyAt d (with_footnote_label defined head.1) (with_open f (node_of start 0 (FootnoteDefinitionBody index))) false (Inside there.0) there.1
   note_begun f (ready, plain) out begins =
       let columns : ℕ = footnote_columns d.options in
       let frames : List Frame = ready.frames in
@@ -256,24 +256,25 @@ module _ (d : Document) (defined : Tables) (r : Reading) (p : Place) (lines : Li
       (opens_in (path_of d.options f) (level_of d.options f false).before begins) in
       let k = completes-footnote d defined (closed_in f) frames f.nodes (map (λ (i : TreeIndex). i.0) f.spine) p lines there.1 columns index head.1 start
       p.line 0 (Inside there.0) plain (stays_outside d (containers_of frames) p out') opens ready.completes in
-      (begun_ready d (told_label defined head.1) f (node_of start 0 (FootnoteDefinitionBody index)) (FootnoteDefinition columns) frames (Inside there.0)
+      (begun_ready d (with_footnote_label defined head.1) f (node_of start 0 (FootnoteDefinitionBody index)) (FootnoteDefinition columns) frames
+      (Inside there.0)
       there.1 refl out' ready.are_open ready.completes.below k).ready
 
   -- a footnote definition is opened
-  pub note_is_open : ReadyAt d defined r.tree r.blank (Inside p) lines → NoteIsOpen d (told_label defined head.1) (footnote_begun start index r) there
+  pub note_is_open : ReadyAt d defined r.tree r.blank (Inside p) lines → NoteIsOpen d (with_footnote_label defined head.1) (footnote_begun start index r) there
   unfolding footnote_begun item_finished
   note_is_open ready =
       let same : item_finished_by r r.begin_list_item ≡ r = ap (item_finished_by r) none in
       let path : List Container = path_of d.options r.tree in
-      let l : Reading = list_left start r in
+      let l : PassState = list_closed start r in
       let kept = kept_left r start r.tree.spine (top_body r.tree) refl refl in
       let path_l : path_of d.options l.tree ≡ path = path_left d.options r start r.tree.spine (top_body r.tree) refl refl in
       let first : IsLeft d defined l.tree l.blank p lines =
       subst (λ t. IsLeft d defined l.tree t p lines) (sym kept.0)
       (list_ended d defined r p lines head forest is_head (in_footnote path) index named refl ready) in
       let head_l : footnote_head_at (around d (path_of d.options l.tree)) p ≡ Some head = ap (λ z. footnote_head_at (around d z) p) path_l ∙ is_head in
-      let q : Reading = footnote_left start l in
-      let o = note_left d defined l p lines head (is_footnote (top_body l.tree)) head_l refl first in
+      let q : PassState = footnote_left start l in
+      let o = footnote_closed d defined l p lines head (is_footnote (top_body l.tree)) head_l refl first in
       let head_q : footnote_head_at (around d (path_of d.options q.tree)) p ≡ Some head = o.same ∙ head_l in
       let left : IsLeft d defined q.tree q.blank p lines = subst (λ t. IsLeft d defined q.tree t p lines) (sym o.blank) o.left in
       let now : LeftPlain d defined q.tree q.blank p lines opening = record {
@@ -282,11 +283,11 @@ module _ (d : Document) (defined : Tables) (r : Reading) (p : Place) (lines : Li
         before = left.1;
       } in
       let done = noted_as d defined q p lines opening q.blank refl (o.none ∙ kept.1 none) (stays_outside d (path_of d.options q.tree) p o.out) tt refl now in
-      let g : Reading = gap_noted q in
+      let g : PassState = gap_noted q in
       let out : in_footnote (path_of d.options g.tree) ≡ false = ap in_footnote done.path ∙ o.out in
       let begins : footnote_head_at (around d (path_of d.options g.tree)) p ≡ Some head = ap (λ z. footnote_head_at (around d z) p) done.path ∙ head_q in
-      let open_it : NoteIsOpen d (told_label defined head.1) (begun start (FootnoteDefinitionBody index) g) there =
+      let open_it : NoteIsOpen d (with_footnote_label defined head.1) (begun start (FootnoteDefinitionBody index) g) there =
       record { ready = note_begun g.tree done.ready out begins; blank = done.blank; none = done.none } in
-      subst (λ z. NoteIsOpen d (told_label defined head.1)
-      (begun start (FootnoteDefinitionBody index) (gap_noted (footnote_left start (list_left start z)))) there)
+      subst (λ z. NoteIsOpen d (with_footnote_label defined head.1)
+      (begun start (FootnoteDefinitionBody index) (gap_noted (footnote_left start (list_closed start z)))) there)
       (sym same) open_it

@@ -19,13 +19,13 @@ use Rattle.first_pass_tree.proofs.Keeps.{depths-modify}
 use Rattle.first_pass_grammar.specs.Before.{is_paragraph_body}
 use Rattle.first_pass_grammar.specs.Derivation.{list_flags}
 use Rattle.first_pass_completion.proofs.FlatBlocks.{NoParagraph}
-use Rattle.first_pass_grammar.proofs.Tightening.{modify-append}
+use Rattle.first_pass_grammar.proofs.Sequences.Tightening.{modify-append}
 use Rattle.first_pass_open.specs.OpenBlock.{closed_by}
 use Rattle.first_pass_open.proofs.PathLemmas.{AreIn, get_front, open_are_in}
 use Rattle.first_pass_lists.specs.Closing.{with_tree, loosened_by, top_body, is_definition_list, is_list, popped_by, popped_at, popped, popped_after}
 use Rattle.first_pass_lists.specs.Closing.{possible_title, is_after_definition, definitions_closed, definitions_left, gap_tree, gap_noted, item_finished_by}
-use Rattle.first_pass_lists.specs.Closing.{item_finished, list_left, list_finished}
-use Rattle.first_pass_lists.specs.declared.reading.Reading.{Reading}
+use Rattle.first_pass_lists.specs.Closing.{item_finished, list_closed, list_finished}
+use Rattle.first_pass_lists.specs.declared.state.PassState.{PassState}
 use Rattle.first_pass_ready.proofs.PopLemmas.{list_popped, list_spine}
 use Rattle.first_pass_ready.proofs.TitleMoved.{last_child, moved_current}
 use Rattle.first_pass_completion.proofs.TitleNodes.{kept_node, shallower_at}
@@ -164,7 +164,7 @@ module _ (f : Forest Item) (items : List (ℕ × Item)) (e : ℕ) (ix : TreeInde
       ∙ ap (tree_of ns rest) (moved_last forest ∙ sym closed_length) ∙ ap (λ z. tree_of z rest (length g.nodes)) moved_nodes
       ∙ ap (λ s. tree_of (g.nodes ++ at_depth (length s + 1) items) s (length g.nodes)) (sym (list_spine f e ix rest flags))
 
-pop_as : (r : Reading) (e : ℕ) (ix : TreeIndex) (rest : List TreeIndex) (flags : ListFlags) → body_at r.tree.nodes ix.0 ≡ Some (DefinitionList flags)
+pop_as : (r : PassState) (e : ℕ) (ix : TreeIndex) (rest : List TreeIndex) (flags : ListFlags) → body_at r.tree.nodes ix.0 ≡ Some (DefinitionList flags)
     → popped_at e r (ix ∷ rest) ≡ with_tree r (list_popped r.tree e ix rest flags)
 pop_as r e ix rest flags is =
     ap (popped_by r (closed_by r.tree e (ix ∷ rest)) ix)
@@ -223,19 +223,19 @@ gap_added f items (ix ∷ outer ∷ rest) low =
     let same : body_at (f.nodes ++ more) outer.0 ≡ body_at f.nodes outer.0 = ap (option_map (λ n. n.1.body)) (get_front f.nodes more outer.0 low.1.0) in
     ap (loosened_by (added f items) outer) same ∙ loosened_added f items outer (body_at f.nodes outer.0) low.1.0
 
-noted_by : (q : Reading) (items : List (ℕ × Item)) (t : Bool) → AreIn (length q.tree.nodes) q.tree.spine
-    → (let noted : Reading = if t then record q { tree = gap_tree q.tree q.tree.spine; blank = false } else q in
+noted_by : (q : PassState) (items : List (ℕ × Item)) (t : Bool) → AreIn (length q.tree.nodes) q.tree.spine
+    → (let noted : PassState = if t then record q { tree = gap_tree q.tree q.tree.spine; blank = false } else q in
     (if t then record q { tree = gap_tree (added q.tree items) q.tree.spine; blank = false } else with_tree q (added q.tree items))
     ≡ with_tree noted (added noted.tree items))
 noted_by q items true low = ap (λ (f : Forest Item). record q { tree = f; blank = false }) (gap_added q.tree items q.tree.spine low)
 noted_by q items false low = refl
 
-noted_added : (q : Reading) (items : List (ℕ × Item)) → AreIn (length q.tree.nodes) q.tree.spine
+noted_added : (q : PassState) (items : List (ℕ × Item)) → AreIn (length q.tree.nodes) q.tree.spine
     → gap_noted (with_tree q (added q.tree items)) ≡ with_tree (gap_noted q) (added (gap_noted q).tree items)
 noted_added q items low = noted_by q items q.blank low
 
 -- a new block right after a definition closes the list
-finished_is : (e : ℕ) (r : Reading) (ix : TreeIndex) (rest : List TreeIndex) (flags : ListFlags) → r.tree.spine ≡ ix ∷ rest
+finished_is : (e : ℕ) (r : PassState) (ix : TreeIndex) (rest : List TreeIndex) (flags : ListFlags) → r.tree.spine ≡ ix ∷ rest
     → body_at r.tree.nodes ix.0 ≡ Some (DefinitionList flags) → possible_title r.tree ≡ None → r.begin_list_item ≡ None
     → list_finished e r ≡ gap_noted (with_tree r (list_popped r.tree e ix rest flags))
 unfolding list_finished item_finished popped
@@ -244,10 +244,10 @@ finished_is e r ix rest flags spine body none empty =
     ap (λ (s : List TreeIndex). option_and_then (λ (ix : TreeIndex). body_at r.tree.nodes ix.0) (slice_get s 0)) spine ∙ body in
     let pop : popped e r ≡ with_tree r (list_popped r.tree e ix rest flags) =
     ap (popped_after e r) none ∙ ap (popped_at e r) spine ∙ pop_as r e ix rest flags body in
-    ap (λ q. gap_noted (list_left e q)) (ap (item_finished_by r) empty)
+    ap (λ q. gap_noted (list_closed e q)) (ap (item_finished_by r) empty)
     ∙ ap (λ (t : Bool). gap_noted (if t then popped e r else r)) (ap is_list top) ∙ ap gap_noted pop
 
-module _ (r : Reading) (items : List (ℕ × Item)) (e : ℕ) (ix : TreeIndex) (rest : List TreeIndex) (flags : ListFlags) (spine : r.tree.spine ≡ ix ∷ rest)
+module _ (r : PassState) (items : List (ℕ × Item)) (e : ℕ) (ix : TreeIndex) (rest : List TreeIndex) (flags : ListFlags) (spine : r.tree.spine ≡ ix ∷ rest)
     (body : body_at r.tree.nodes ix.0 ≡ Some (DefinitionList flags)) (flat : NoParagraph items) (old : IsForest r.tree)
     (new : IsForest (added r.tree items)) where
   are_in : AreIn (length r.tree.nodes) (ix ∷ rest)
@@ -259,10 +259,10 @@ module _ (r : Reading) (items : List (ℕ × Item)) (e : ℕ) (ix : TreeIndex) (
   unfolding definitions_closed
   closed_left =
       let g : Forest Item = added r.tree items in
-      let s : Reading = with_tree r g in
+      let s : PassState = with_tree r g in
       let there : body_at g.nodes ix.0 ≡ Some (DefinitionList flags) =
       ap (option_map (λ n. n.1.body)) (get_front r.tree.nodes (at_depth (length r.tree.spine + 1) items) ix.0 are_in.0) ∙ body in
-      let moved : Reading → Reading = λ q. with_tree q (moved_from q.tree (length r.tree.nodes)) in
+      let moved : PassState → PassState = λ q. with_tree q (moved_from q.tree (length r.tree.nodes)) in
       ap (λ z. moved (popped_at e s z)) spine ∙ ap moved (pop_as s e ix rest flags there)
       ∙ ap (with_tree r) (moved_tree r.tree items e ix rest flags spine flat are_in.0 new)
 
@@ -275,10 +275,10 @@ module _ (r : Reading) (items : List (ℕ × Item)) (e : ℕ) (ix : TreeIndex) (
       subst (AreIn (length f.nodes)) (sym (list_spine r.tree e ix rest flags))
       (subst (λ n. AreIn n rest) (sym (closed_length r.tree items e ix rest flags spine flat are_in.0)) are_in.1) in
       ap gap_noted closed_left ∙ noted_added (with_tree r f) items low
-      ∙ ap (λ (q : Reading). with_tree q (added q.tree items)) (sym (finished_is e r ix rest flags spine body none empty))
+      ∙ ap (λ (q : PassState). with_tree q (added q.tree items)) (sym (finished_is e r ix rest flags spine body none empty))
 
 -- a heading or a table right after a definition gives the same as if the list had ended before it
-pub left_is : (r : Reading) (items : List (ℕ × Item)) (e : ℕ) → IsForest r.tree → IsForest (added r.tree items) → is_after_definition r.tree ≡ true
+pub left_is : (r : PassState) (items : List (ℕ × Item)) (e : ℕ) → IsForest r.tree → IsForest (added r.tree items) → is_after_definition r.tree ≡ true
     → r.begin_list_item ≡ None → NoParagraph items
     → definitions_left e (with_tree r (added r.tree items)) ≡ with_tree (list_finished e r) (added (list_finished e r).tree items)
 left_is r items e old new after empty flat =

@@ -16,7 +16,7 @@ use Rattle.first_pass_grammar.specs.Derivation.{Tables}
 use Rattle.first_pass_grammar.specs.Completion.{lines_from}
 use Rattle.first_pass_lists.specs.Closing.{item_finished}
 use Rattle.first_pass_lists.specs.Closing.{blank_read}
-use Rattle.first_pass_lists.specs.declared.reading.Reading.{Reading}
+use Rattle.first_pass_lists.specs.declared.state.PassState.{PassState}
 use Rattle.first_pass_open.specs.Path.{path_in, path_of, outer}
 use Rattle.first_pass_ready.specs.State.{NoMore, Ready, ReadyAt}
 use Rattle.first_pass_open.proofs.PlaceLemmas.{after_keeps, line_start_end}
@@ -26,12 +26,12 @@ use Rattle.first_pass_lists.specs.Closing.{footnote_ended}
 use Rattle.first_pass_items.specs.declared.option_set.Options.{Options}
 
 -- a line and those after it, after the containers that it does not continue are closed
-pub record IsAtLine (d : Document) (defined : Tables) (old new : Reading) (start : ℕ) (r : Rest) : Type 0 where
+pub record IsAtLine (d : Document) (defined : Tables) (old new : PassState) (start : ℕ) (r : Rest) : Type 0 where
   pub goes : after (path_of d.options new.tree) (line_rest (drop start d.text)) ≡ Some r
   pub ready : Ready d defined old (lines_from d.text start)
       → Ready d defined new (line_place start (drop start d.text) ∷ lines_from d.text (start + line_len (drop start d.text)))
 
-pub at_line : (d : Document) (defined : Tables) (old new : Reading) (start kept : ℕ) (line r : Rest)
+pub at_line : (d : Document) (defined : Tables) (old new : PassState) (start kept : ℕ) (line r : Rest)
     → line ≡ line_rest (drop start d.text) → start < length d.text → new.tree.spine ≡ outer kept old.tree.spine
     → ((s : List TreeIndex) → path_in d.options new.tree.nodes s ≡ path_in d.options old.tree.nodes s)
     → ((d : Document) (lines : List Place) → start_of (length d.text) lines ≡ start → NoMore d.options old.tree kept lines → Ready d defined old lines
@@ -56,13 +56,13 @@ at_line d defined old new start kept line r line_is within spine paths closes ta
 
 -- the same after a footnote definition in the old form ended there, if one does: the innermost open node then does
 -- not end
-pub record IsSettled (d : Document) (defined : Tables) (old new : Reading) (start : ℕ) (r : Rest) : Type 0 where
+pub record IsSettled (d : Document) (defined : Tables) (old new : PassState) (start : ℕ) (r : Rest) : Type 0 where
   pub goes : after (path_of d.options new.tree) (line_rest (drop start d.text)) ≡ Some r
   pub ready : Ready d defined old (lines_from d.text start)
       → Ready d defined new (line_place start (drop start d.text) ∷ lines_from d.text (start + line_len (drop start d.text)))
       × (ends_here d.options new.tree new.blank ≡ false)
 
-pub settled : (d : Document) (defined : Tables) (old new : Reading) (start : ℕ) (r : Rest) → IsAtLine d defined old new start r
+pub settled : (d : Document) (defined : Tables) (old new : PassState) (start : ℕ) (r : Rest) → IsAtLine d defined old new start r
     → IsSettled d defined old (footnote_ended d.options start new) start r
 settled d defined old new start r line =
     let here : Place = line_place start (drop start d.text) in
@@ -73,7 +73,7 @@ settled d defined old new start r line =
     }
 
 -- a blank line is read
-pub blank_line_read : (d : Document) (defined : Tables) (old new : Reading) (start : ℕ) (r : Rest)
+pub blank_line_read : (d : Document) (defined : Tables) (old new : PassState) (start : ℕ) (r : Rest)
     → IsSettled d defined old new start r → is_some (blank_len r.left) ≡ true → Ready d defined old (lines_from d.text start)
     → Ready d defined (blank_read new) (lines_from d.text (start + line_len (drop start d.text)))
 blank_line_read d defined old new start r line blank ready =
@@ -82,7 +82,7 @@ blank_line_read d defined old new start r line blank ready =
     now.1 blank now.0
 
 -- a line that is not blank
-pub line_entered : (d : Document) (defined : Tables) (old new : Reading) (start : ℕ) (r : Rest)
+pub line_entered : (d : Document) (defined : Tables) (old new : PassState) (start : ℕ) (r : Rest)
     → IsSettled d defined old new start r → is_some (blank_len r.left) ≡ false → Ready d defined old (lines_from d.text start)
     → ReadyAt d defined (item_finished new).tree (item_finished new).blank (Inside (place_at start r))
     (lines_from d.text (start + line_len (drop start d.text)))

@@ -23,11 +23,11 @@ use Rattle.first_pass_grammar.specs.Skeleton.{Line, level, ends_old_footnote}
 use Rattle.first_pass_grammar.specs.Derivation.{Tables, no_tables}
 use Rattle.first_pass_grammar.specs.Completion.{Closed, Frame, InContainer, InList, InDefinitions, containers_of, last_plain, StandsIn}
 use Rattle.first_pass_completion.proofs.Extending.{tail, lvl}
-use Rattle.first_pass_grammar.proofs.Goings.{ends_old}
+use Rattle.first_pass_grammar.proofs.Sequences.Goings.{ends_old}
 use Rattle.first_pass_open.specs.OpenBlock.{closed_by}
 use Rattle.first_pass_open.specs.Path.{container_of, with_container, path_in, path_of}
 use Rattle.first_pass_lists.specs.Closing.{top_body, is_footnote, popped}
-use Rattle.first_pass_lists.specs.declared.reading.Reading.{Reading}
+use Rattle.first_pass_lists.specs.declared.state.PassState.{PassState}
 use Rattle.first_pass_ready.specs.State.{frame_of, item_columns, closed_in, AreOpen, ReadyAt, ReadyWith, Ready}
 use Rattle.first_pass_lists.specs.Closing.{footnote_ended}
 use Rattle.first_pass_ready.proofs.ClosedIn.{items_no_container, definitions_no_container, definitions_at, list_at, top_in, HasDefined, open_defined}
@@ -35,7 +35,7 @@ use Rattle.first_pass_ready.proofs.ClosedIn.{defined_open, plain_not_open}
 use Rattle.first_pass_ready.proofs.ItemBodies.{item_container}
 use Rattle.first_pass_ready.proofs.PopLemmas.{leave_container}
 use Rattle.first_pass_ready.proofs.StateLemmas.{ready_plain, popped_as, popped_paths, popped_spine}
-use Rattle.first_pass_grammar.proofs.FootnoteHeads.{after_by}
+use Rattle.first_pass_grammar.proofs.Sequences.FootnoteHeads.{after_by}
 
 pub and_no : (b : Bool) → (b && false) ≡ false
 and_no true = refl
@@ -132,11 +132,11 @@ pub goes_on_at : (options : Options) (f : Forest Item) (frames : List Frame) (ru
 goes_on_at options f frames run o h = continues_in options f.nodes f.spine frames (closed_in f) run o (open_defined options f frames o) h
 
 -- the innermost open node at a line
-ended_by : (options : Options) (e : ℕ) (r : Reading) (g b t : Bool) → gfm_footnotes options ≡ g → r.blank ≡ b → is_footnote (top_body r.tree) ≡ t
+ended_by : (options : Options) (e : ℕ) (r : PassState) (g b t : Bool) → gfm_footnotes options ≡ g → r.blank ≡ b → is_footnote (top_body r.tree) ≡ t
     → ((if g then r else (if b then (if t then popped e r else r) else r)) ≡ footnote_ended options e r)
     × ((t && (b && not g)) ≡ ends_here options r.tree r.blank)
 ended_by options e r g b t g_is b_is t_is =
-    let now : Bool → Bool → Bool → Reading = λ g b t. if g then r else (if b then (if t then popped e r else r) else r) in
+    let now : Bool → Bool → Bool → PassState = λ g b t. if g then r else (if b then (if t then popped e r else r) else r) in
     let tested : Bool → Bool → Bool → Bool = λ g b t. t && (b && not g) in (
       ap (λ (x : Bool). now x b t) (sym g_is) ∙ ap (λ (x : Bool). now (gfm_footnotes options) x t) (sym b_is)
           ∙ ap (λ (x : Bool). now (gfm_footnotes options) r.blank x) (sym t_is),
@@ -145,14 +145,14 @@ ended_by options e r g b t g_is b_is t_is =
     )
 
 -- it stays open; or it is a footnote definition in the old form after a counting blank line, and is closed
-abbrev pub Stays : Options → ℕ → Reading → Type 0
+abbrev pub Stays : Options → ℕ → PassState → Type 0
 Stays options e r = (footnote_ended options e r ≡ r) × (ends_here options r.tree r.blank ≡ false)
 
-abbrev pub IsLeft : Options → ℕ → Reading → Type 0
+abbrev pub IsLeft : Options → ℕ → PassState → Type 0
 IsLeft options e r =
     (footnote_ended options e r ≡ popped e r) × (gfm_footnotes options ≡ false) × (r.blank ≡ true) × (is_footnote (top_body r.tree) ≡ true)
 
-ended_cases : (options : Options) (e : ℕ) (r : Reading) (g b t : Bool) → gfm_footnotes options ≡ g → r.blank ≡ b → is_footnote (top_body r.tree) ≡ t
+ended_cases : (options : Options) (e : ℕ) (r : PassState) (g b t : Bool) → gfm_footnotes options ≡ g → r.blank ≡ b → is_footnote (top_body r.tree) ≡ t
     → Stays options e r ⊎ IsLeft options e r
 ended_cases options e r true b t g_is b_is t_is =
     let z = ended_by options e r true b t g_is b_is t_is in inl (sym z.0, sym z.1 ∙ ap (λ (x : Bool). t && x) (and_no b) ∙ and_no t)
@@ -161,7 +161,7 @@ ended_cases options e r false true false g_is b_is t_is = let z = ended_by optio
 ended_cases options e r false true true g_is b_is t_is =
     let z = ended_by options e r false true true g_is b_is t_is in inr (sym z.0, g_is, b_is, t_is)
 
-pub ended_as : (options : Options) (e : ℕ) (r : Reading) → Stays options e r ⊎ IsLeft options e r
+pub ended_as : (options : Options) (e : ℕ) (r : PassState) → Stays options e r ⊎ IsLeft options e r
 ended_as options e r = ended_cases options e r (gfm_footnotes options) r.blank (is_footnote (top_body r.tree)) refl refl refl
 
 -- it is a footnote definition with a label
@@ -180,7 +180,7 @@ columns_none : (options : Options) (g : Bool) → gfm_footnotes options ≡ g �
 columns_none options g is h = let old : gfm_footnotes options ≡ false = is ∙ h in ap (λ (t : Bool). if t then 4 else 0) old
 
 -- it is then the innermost container
-pub in_old : (options : Options) (r : Reading) → gfm_footnotes options ≡ false → is_footnote (top_body r.tree) ≡ true
+pub in_old : (options : Options) (r : PassState) → gfm_footnotes options ≡ false → is_footnote (top_body r.tree) ≡ true
     → in_old_footnote (path_of options r.tree) ≡ true
 in_old options r old top =
     let t = footnote_top r.tree.nodes r.tree.spine top in
@@ -193,7 +193,8 @@ after_old : (path : List Container) (r : Rest) → after (FootnoteDefinition 0 �
 unfolding after
 after_old path r = after_by (after path r)
 
-module _ (d : Document) (defined : Tables) (r : Reading) (line : Place) (lines : List Place) (e : ℕ) (ix : TreeIndex) (rest : List TreeIndex) (label : CowIndex)
+module _ (d : Document) (defined : Tables) (r : PassState) (line : Place) (lines : List Place) (e : ℕ) (ix : TreeIndex) (rest : List TreeIndex)
+    (label : CowIndex)
     (spine : r.tree.spine ≡ ix ∷ rest) (body : body_at r.tree.nodes ix.0 ≡ Some (FootnoteDefinitionBody label))
     (old : gfm_footnotes d.options ≡ false) (blank : r.blank ≡ true) where
   left_path : (x : Rest) → after (path_of d.options (popped e r).tree) x ≡ after (path_of d.options r.tree) x
@@ -229,8 +230,8 @@ module _ (d : Document) (defined : Tables) (r : Reading) (line : Place) (lines :
       (ends_old d.options (level (FootnoteDefinition columns ∷ path) before) (line ∷ lines) ends) (sym e_is) ready in
       let now : popped e r ≡ record r { tree = g } = popped_as e r ix rest (FootnoteDefinitionBody label) spine body refl in
       let out : in_footnote (containers_of left.ready.frames) ≡ false = left.apart in (
-        subst (λ (q : Reading). Ready d defined q (line ∷ lines)) (sym now) (ready_plain d defined (record r { tree = g }) (line ∷ lines) none left.ready),
-        subst (λ (q : Reading). ends_here d.options q.tree q.blank ≡ false) (sym now)
+        subst (λ (q : PassState). Ready d defined q (line ∷ lines)) (sym now) (ready_plain d defined (record r { tree = g }) (line ∷ lines) none left.ready),
+        subst (λ (q : PassState). ends_here d.options q.tree q.blank ≡ false) (sym now)
             (ap (λ (t : Bool). t && (r.blank && not (gfm_footnotes d.options)))
             (no_footnote_in d.options g.nodes g.spine left.ready.frames left.ready.are_open out)),
       )
@@ -241,21 +242,21 @@ module _ (d : Document) (defined : Tables) (r : Reading) (line : Place) (lines :
   left_ready e_is ready = left_with r.begin_list_item refl e_is ready
 
 -- after the innermost open node has ended at a line, if it does
-pub ended_path : (d : Document) (e : ℕ) (r : Reading) (x : Rest) → after (path_of d.options (footnote_ended d.options e r).tree) x
+pub ended_path : (d : Document) (e : ℕ) (r : PassState) (x : Rest) → after (path_of d.options (footnote_ended d.options e r).tree) x
     ≡ after (path_of d.options r.tree) x
 ended_path d e r x = elim (ended_as d.options e r) [
-  | inl stays ↦ ap (λ (q : Reading). after (path_of d.options q.tree) x) stays.0
+  | inl stays ↦ ap (λ (q : PassState). after (path_of d.options q.tree) x) stays.0
   | inr left ↦ (let top = footnote_top r.tree.nodes r.tree.spine left.3 in
-      ap (λ (q : Reading). after (path_of d.options q.tree) x) left.0
+      ap (λ (q : PassState). after (path_of d.options q.tree) x) left.0
       ∙ left_path d no_tables r (line_place 0 []) [] e top.0 top.1 top.2 top.3 top.4 left.1 left.2 x)
 ]
 
-pub ended_ready : (d : Document) (defined : Tables) (e : ℕ) (r : Reading) (line : Place) (lines : List Place) → line.line ≡ e
+pub ended_ready : (d : Document) (defined : Tables) (e : ℕ) (r : PassState) (line : Place) (lines : List Place) → line.line ≡ e
     → Ready d defined r (line ∷ lines)
-    → (let q : Reading = footnote_ended d.options e r in Ready d defined q (line ∷ lines) × (ends_here d.options q.tree q.blank ≡ false))
+    → (let q : PassState = footnote_ended d.options e r in Ready d defined q (line ∷ lines) × (ends_here d.options q.tree q.blank ≡ false))
 ended_ready d defined e r line lines e_is ready = elim (ended_as d.options e r) [
-  | inl stays ↦ subst (λ (q : Reading). Ready d defined q (line ∷ lines) × (ends_here d.options q.tree q.blank ≡ false)) (sym stays.0) (ready, stays.1)
+  | inl stays ↦ subst (λ (q : PassState). Ready d defined q (line ∷ lines) × (ends_here d.options q.tree q.blank ≡ false)) (sym stays.0) (ready, stays.1)
   | inr left ↦ (let top = footnote_top r.tree.nodes r.tree.spine left.3 in
-      subst (λ (q : Reading). Ready d defined q (line ∷ lines) × (ends_here d.options q.tree q.blank ≡ false)) (sym left.0)
+      subst (λ (q : PassState). Ready d defined q (line ∷ lines) × (ends_here d.options q.tree q.blank ≡ false)) (sym left.0)
       (left_ready d defined r line lines e top.0 top.1 top.2 top.3 top.4 left.1 left.2 e_is ready))
 ]

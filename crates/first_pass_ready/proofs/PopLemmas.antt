@@ -19,13 +19,13 @@ use Rattle.first_pass_grammar.specs.Kinds.{unindented}
 use Rattle.first_pass_grammar.specs.Footnotes.{footnote_head_at, ends_footnote}
 use Rattle.first_pass_grammar.specs.Leaves.{Document, around}
 use Rattle.first_pass_grammar.specs.Containers.{next_goes_on, in_footnote}
-use Rattle.first_pass_grammar.specs.Skeleton.{From, Line, Inside, level, Lines, Ends, next_block, end_before, Opening, Opens}
+use Rattle.first_pass_grammar.specs.Skeleton.{Continues, Line, Inside, level, Lines, Ends, next_block, end_before, Opening, Opens}
 use Rattle.first_pass_grammar.specs.Derivation.{Tables, list_flags}
 use Rattle.first_pass_grammar.specs.Rows.{ItemsOf, DefinitionsTo}
 use Rattle.first_pass_grammar.specs.WholeTables.{SilentClosed}
 use Rattle.first_pass_grammar.specs.Completion.{flagged, ended, list_closed, Closed, OtherClosed, DefinitionClosed, Frame, InContainer, InList, InDefinitions}
 use Rattle.first_pass_grammar.specs.Completion.{closed_as, containers_of, AreBelow, IsPlain, StandsIn, last_plain}
-use Rattle.first_pass_grammar.proofs.Finishes.{CompletesAt}
+use Rattle.first_pass_grammar.proofs.Sequences.Finishes.{CompletesAt}
 use Rattle.first_pass_completion.proofs.Extending.{tail, lvl, StaysAt}
 use Rattle.first_pass_completion.proofs.Completions.{completes-pop, completes-pop_in_line}
 use Rattle.first_pass_completion.proofs.PoppedLists.{completes-pop_list, completes-pop_definitions, completes-pop_list_in_line}
@@ -48,7 +48,7 @@ pub list_depth : (os : List TreeIndex) → suc (suc (suc (length (map (λ (i : T
 list_depth os = ap (λ n. suc (suc (suc n))) (length-map os (λ (i : TreeIndex). i.0))
 
 -- ready nodes, given the last child of the innermost open one
-abbrev pub ready_as : (d : Document) (defined : Tables) (f : Forest Item) (run : Bool) (from : From) (lines : List Place) (frames : List Frame)
+abbrev pub ready_as : (d : Document) (defined : Tables) (f : Forest Item) (run : Bool) (from : Continues) (lines : List Place) (frames : List Frame)
     (closed : Closed)
     → closed_in f ≡ closed → AreOpen d.options f.nodes f.spine frames → SilentClosed f.nodes closed
     → CompletesAt d defined (tail closed run) frames f.nodes (map (λ (i : TreeIndex). i.0) f.spine) from lines → ReadyAt d defined f run from lines
@@ -60,14 +60,14 @@ ready_as d defined f run from lines frames closed is o silent k = record {
 }
 
 -- ready nodes with this last child, and no innermost list
-pub record PlainAfter (d : Document) (defined : Tables) (f : Forest Item) (run : Bool) (from : From) (lines : List Place) (closed : Closed) : Type 0 where
+pub record PlainAfter (d : Document) (defined : Tables) (f : Forest Item) (run : Bool) (from : Continues) (lines : List Place) (closed : Closed) : Type 0 where
   pub ready : ReadyAt d defined f run from lines
   pub plain : IsPlain ready.frames
   pub last : closed_in f ≡ closed
 
 -- a sequence in these containers ends before these lines, after its last block and a run of blank lines that counts
 -- or not
-abbrev pub EndsBefore : Options → Closed → Bool → List Container → From → List Place → Type 0
+abbrev pub EndsBefore : Options → Closed → Bool → List Container → Continues → List Place → Type 0
 EndsBefore options closed run path from lines =
     next_block options (level path (record { last = last_plain closed; counted = run })) from lines ≡ Ends (Lines lines)
 
@@ -77,7 +77,7 @@ pub record LeftOpen (d : Document) (defined : Tables) (f : Forest Item) (run : B
   pub stands : StandsIn c ready.frames
   pub apart : is_footnote_in_another (InContainer c) ready.frames ≡ false
 
-closed_container : (d : Document) (defined : Tables) (f : Forest Item) (closed : Closed) (run : Bool) (from : From) (lines : List Place) (e : ℕ)
+closed_container : (d : Document) (defined : Tables) (f : Forest Item) (closed : Closed) (run : Bool) (from : Continues) (lines : List Place) (e : ℕ)
     (ix : TreeIndex)
     (rest : List TreeIndex) (c : Container) (frames : List Frame) → frame_at d.options f.nodes ix.0 ≡ Some (InContainer c)
     → EndsBefore d.options closed run (c ∷ path_in d.options f.nodes rest) from lines
@@ -114,7 +114,7 @@ closed_container d defined f closed run from lines e ix rest c (InContainer b �
     record { ready = q; stands = stands; apart = ap (λ z. is_footnote_in_another (InContainer z) frames) same ∙ o.2 }
 
 -- a container is closed
-pub leave_container : (d : Document) (defined : Tables) (f : Forest Item) (run : Bool) (from : From) (lines : List Place) (e : ℕ) (ix : TreeIndex)
+pub leave_container : (d : Document) (defined : Tables) (f : Forest Item) (run : Bool) (from : Continues) (lines : List Place) (e : ℕ) (ix : TreeIndex)
     (rest : List TreeIndex) (c : Container) → f.spine ≡ ix ∷ rest → frame_at d.options f.nodes ix.0 ≡ Some (InContainer c)
     → EndsBefore d.options (closed_in f) run (c ∷ path_in d.options f.nodes rest) from lines
     → e ≡ end_before (length d.text) (path_in d.options f.nodes rest) from (Lines lines)
@@ -125,7 +125,7 @@ leave_container d defined f run from lines e ix rest c spine is ends e_is ready 
     (subst (λ s. CompletesAt d defined (tail (closed_in f) run) ready.frames f.nodes (map (λ (i : TreeIndex). i.0) s) from lines) spine ready.completes)
 
 -- ready nodes after that
-pub pop_container : (d : Document) (defined : Tables) (f : Forest Item) (run : Bool) (from : From) (lines : List Place) (e : ℕ) (ix : TreeIndex)
+pub pop_container : (d : Document) (defined : Tables) (f : Forest Item) (run : Bool) (from : Continues) (lines : List Place) (e : ℕ) (ix : TreeIndex)
     (rest : List TreeIndex) (c : Container) → f.spine ≡ ix ∷ rest → frame_at d.options f.nodes ix.0 ≡ Some (InContainer c)
     → EndsBefore d.options (closed_in f) run (c ∷ path_in d.options f.nodes rest) from lines
     → e ≡ end_before (length d.text) (path_in d.options f.nodes rest) from (Lines lines)
@@ -259,7 +259,7 @@ module _ (d : Document) (defined : Tables) (f : Forest Item) (run : Bool) (lines
   os = map (λ (i : TreeIndex). i.0) rest
 
   -- the open nodes that remain after a list is closed
-  list_left_open : (loose : Bool) (from : From) (frames : List Frame)
+  list_left_open : (loose : Bool) (from : Continues) (frames : List Frame)
       → flags ≡ list_flags (not loose) → AreOpen d.options f.nodes rest frames → AreBelow ix.0 os → IsPlain frames
       → CompletesAt d defined (tail OtherClosed run) frames (list_closed f.nodes ix.0 (suc (suc (suc (length os)))) loose e) os from lines
       → PlainAfter d defined (list_popped f e ix rest flags) run from lines OtherClosed
@@ -309,7 +309,7 @@ module _ (d : Document) (defined : Tables) (f : Forest Item) (run : Bool) (lines
   abbrev opened_at : (frames : List Frame) → AreOpen d.options f.nodes f.spine frames → AreOpen d.options f.nodes (ix ∷ rest) frames
   opened_at frames o = subst (λ s. AreOpen d.options f.nodes s frames) spine o
 
-  completes_at : (from : From) (frames : List Frame)
+  completes_at : (from : Continues) (frames : List Frame)
       → CompletesAt d defined (tail (closed_in f) run) frames f.nodes (map (λ (i : TreeIndex). i.0) f.spine) from lines
       → CompletesAt d defined (tail (closed_in f) run) frames f.nodes (ix.0 ∷ os) from lines
   completes_at from frames k =

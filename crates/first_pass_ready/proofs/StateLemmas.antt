@@ -26,14 +26,14 @@ use Rattle.first_pass_grammar.specs.Leaves.{Document, document}
 use Rattle.first_pass_grammar.specs.Skeleton.{Line, Blanks, level, Lines, is_blank_after, next_is_blank, end_before}
 use Rattle.first_pass_grammar.specs.Derivation.{Tables, no_tables, Derives}
 use Rattle.first_pass_grammar.specs.Completion.{lines_from, Frame, InContainer, last_plain}
-use Rattle.first_pass_grammar.proofs.Finishes.{CompletesAt, Tail}
+use Rattle.first_pass_grammar.proofs.Sequences.Finishes.{CompletesAt, Tail}
 use Rattle.first_pass_completion.proofs.Extending.{tail}
-use Rattle.first_pass_grammar.proofs.Goings.{stops, stops_blank}
+use Rattle.first_pass_grammar.proofs.Sequences.Goings.{stops, stops_blank}
 use Rattle.first_pass_completion.proofs.Completions.{completes-first, completes-end}
 use Rattle.first_pass_open.specs.OpenBlock.{closed_by}
-use Rattle.first_pass_lists.specs.Closing.{reading_with, top_body, top_end, is_definition_list, title_by, possible_title, popped_by, popped_at, popped_after}
+use Rattle.first_pass_lists.specs.Closing.{state_with, top_body, top_end, is_definition_list, title_by, possible_title, popped_by, popped_at, popped_after}
 use Rattle.first_pass_lists.specs.Closing.{current_moved, definitions_closed, with_tree, popped}
-use Rattle.first_pass_lists.specs.declared.reading.Reading.{Reading}
+use Rattle.first_pass_lists.specs.declared.state.PassState.{PassState}
 use Rattle.first_pass_open.specs.Path.{container_of, container_at, with_container, path_in, path_of, outer}
 use Rattle.first_pass_ready.specs.State.{frame_of, frame_at, closed_in, AreOpen, ReadyAt, ReadyBeforeLine, ReadyInItem, ReadyWith, NoMore, Ready}
 use Rattle.first_pass_open.proofs.FrontLemmas.{outer-all}
@@ -46,7 +46,7 @@ use Rattle.first_pass_ready.proofs.TitlePops.{title_popped, body-moved, pop_titl
 
 -- before the first block
 pub ready_first : (text : List ℕ) (options : Options) (names : Names) (tree : Forest Item) (root : TreeIndex) → root.0 ≡ 0
-    → tree ≡ with_end_at empty_forest root (length text) → Ready (document text options names) no_tables (reading_with tree None false) (lines_from text 0)
+    → tree ≡ with_end_at empty_forest root (length text) → Ready (document text options names) no_tables (state_with tree None false) (lines_from text 0)
 unfolding Ready
 ready_first text options names tree root top tree_is =
     let at_top : ℕ → TreeIndex = λ n. record { 0 = n } in
@@ -66,17 +66,17 @@ ready_end d defined tree run closed ready =
     ended_by d defined tree (tail (closed_in tree) run) ready.frames (subst (λ s. AreOpen d.options tree.nodes s ready.frames) closed ready.are_open)
     (subst (λ s. CompletesAt d defined (tail (closed_in tree) run) ready.frames tree.nodes (map (λ (ix : TreeIndex). ix.0) s) Line []) closed ready.completes)
 
-ended_with : (d : Document) (defined : Tables) (r : Reading) (o : Option ℕ) → r.tree.spine ≡ [] → ReadyWith d defined r [] o → Derives d r.tree.nodes defined
+ended_with : (d : Document) (defined : Tables) (r : PassState) (o : Option ℕ) → r.tree.spine ≡ [] → ReadyWith d defined r [] o → Derives d r.tree.nodes defined
 ended_with d defined r None closed ready = ready_end d defined r.tree r.blank closed ready
 ended_with d defined r (Some e) closed ready = (let x : [] ≡ ready.place ∷ ready.outer = sym closed ∙ ready.spine in cc)
 
 -- at the end of the text, with nothing open
-pub ready_finish : (d : Document) (defined : Tables) (r : Reading) → r.tree.spine ≡ [] → Ready d defined r [] → Derives d r.tree.nodes defined
+pub ready_finish : (d : Document) (defined : Tables) (r : PassState) → r.tree.spine ≡ [] → Ready d defined r [] → Derives d r.tree.nodes defined
 unfolding Ready
 ready_finish d defined r closed ready = ended_with d defined r r.begin_list_item closed ready
 
 -- if no item is empty
-pub ready_plain : (d : Document) (defined : Tables) (r : Reading) (lines : List Place)
+pub ready_plain : (d : Document) (defined : Tables) (r : PassState) (lines : List Place)
     → r.begin_list_item ≡ None → ReadyAt d defined r.tree r.blank Line lines → Ready d defined r lines
 unfolding Ready
 ready_plain d defined r lines none ready = subst (λ o. ReadyWith d defined r lines o) (sym none) ready
@@ -113,7 +113,7 @@ pub no_title_at : (f : Forest Item) (ix : TreeIndex) (rest : List TreeIndex) (b 
 no_title_at f ix rest b spine is h = no_title f (ap (λ s. is_definition_list (top_in f.nodes s)) spine ∙ ap is_definition_list is ∙ h)
 
 -- the innermost open node is closed, if its last child is no possible title
-pub popped_is : (e : ℕ) (r : Reading) (ix : TreeIndex) (rest : List TreeIndex) → r.tree.spine ≡ ix ∷ rest → possible_title r.tree ≡ None
+pub popped_is : (e : ℕ) (r : PassState) (ix : TreeIndex) (rest : List TreeIndex) → r.tree.spine ≡ ix ∷ rest → possible_title r.tree ≡ None
     → popped e r ≡ popped_by r (closed_by r.tree e (ix ∷ rest)) ix (body_at r.tree.nodes ix.0)
 unfolding popped
 popped_is e r ix rest spine none =
@@ -121,33 +121,33 @@ popped_is e r ix rest spine none =
     (body-kept r.tree.nodes ix.0 ix.0 (λ x. record { start = x.start; «end» = e; body = x.body }) (λ x. refl))
 
 -- one that is no definition list
-pub popped_as : (e : ℕ) (r : Reading) (ix : TreeIndex) (rest : List TreeIndex) (b : ItemBody) → r.tree.spine ≡ ix ∷ rest → body_at r.tree.nodes ix.0 ≡ Some b
+pub popped_as : (e : ℕ) (r : PassState) (ix : TreeIndex) (rest : List TreeIndex) (b : ItemBody) → r.tree.spine ≡ ix ∷ rest → body_at r.tree.nodes ix.0 ≡ Some b
     → is_definition_list (Some b) ≡ false → popped e r ≡ popped_by r (closed_by r.tree e (ix ∷ rest)) ix (Some b)
 popped_as e r ix rest b spine is h =
     popped_is e r ix rest spine (no_title_at r.tree ix rest b spine is h) ∙ ap (popped_by r (closed_by r.tree e (ix ∷ rest)) ix) is
 
 -- a list
-list_by : (e : ℕ) (r : Reading) (ix : TreeIndex) (rest : List TreeIndex) (b : ItemBody) (flags : ListFlags) → list_flags_of b ≡ Some flags
+list_by : (e : ℕ) (r : PassState) (ix : TreeIndex) (rest : List TreeIndex) (b : ItemBody) (flags : ListFlags) → list_flags_of b ≡ Some flags
     → popped_by r (closed_by r.tree e (ix ∷ rest)) ix (Some b) ≡ record r { tree = list_popped r.tree e ix rest flags }
 list_by e r ix rest (ListBody flags byte number) other h = (let same : flags ≡ other = cc in ap (λ z. record r { tree = list_popped r.tree e ix rest z }) same)
 list_by e r ix rest (DefinitionList flags) other h = (let same : flags ≡ other = cc in ap (λ z. record r { tree = list_popped r.tree e ix rest z }) same)
 list_by e r ix rest b other h = cc
 
-pub popped_list : (e : ℕ) (r : Reading) (ix : TreeIndex) (rest : List TreeIndex) (b : ItemBody) (flags : ListFlags) → r.tree.spine ≡ ix ∷ rest
+pub popped_list : (e : ℕ) (r : PassState) (ix : TreeIndex) (rest : List TreeIndex) (b : ItemBody) (flags : ListFlags) → r.tree.spine ≡ ix ∷ rest
     → body_at r.tree.nodes ix.0 ≡ Some b → list_flags_of b ≡ Some flags → possible_title r.tree ≡ None
     → popped e r ≡ record r { tree = list_popped r.tree e ix rest flags }
 popped_list e r ix rest b flags spine is listed none =
     popped_is e r ix rest spine none ∙ ap (popped_by r (closed_by r.tree e (ix ∷ rest)) ix) is ∙ list_by e r ix rest b flags listed
 
 -- a definition list, out of which its last child is moved
-moved_by : (e : ℕ) (r : Reading) (ix : TreeIndex) (rest : List TreeIndex) (flags : ListFlags) (title : TreeIndex) → r.tree.spine ≡ ix ∷ rest
+moved_by : (e : ℕ) (r : PassState) (ix : TreeIndex) (rest : List TreeIndex) (flags : ListFlags) (title : TreeIndex) → r.tree.spine ≡ ix ∷ rest
     → body_at r.tree.nodes ix.0 ≡ Some (DefinitionList flags)
     → current_moved (popped_at e r r.tree.spine) (Some title) ≡ record r { tree = moved_from (list_popped r.tree e ix rest flags) title.0 }
 moved_by e r ix rest flags title spine is =
-    ap (λ (q : Reading). with_tree q (moved_from q.tree title.0)) (ap (popped_at e r) spine ∙ ap (popped_by r (closed_by r.tree e (ix ∷ rest)) ix)
+    ap (λ (q : PassState). with_tree q (moved_from q.tree title.0)) (ap (popped_at e r) spine ∙ ap (popped_by r (closed_by r.tree e (ix ∷ rest)) ix)
     (body-kept r.tree.nodes ix.0 ix.0 (λ x. record { start = x.start; «end» = e; body = x.body }) (λ x. refl) ∙ is))
 
-pub definitions_closed_is : (e : ℕ) (r : Reading) (ix : TreeIndex) (rest : List TreeIndex) (flags : ListFlags) (c : TreeIndex) → r.tree.spine ≡ ix ∷ rest
+pub definitions_closed_is : (e : ℕ) (r : PassState) (ix : TreeIndex) (rest : List TreeIndex) (flags : ListFlags) (c : TreeIndex) → r.tree.spine ≡ ix ∷ rest
     → body_at r.tree.nodes ix.0 ≡ Some (DefinitionList flags) → r.tree.current ≡ Some c
     → definitions_closed e r ≡ record r { tree = moved_from (list_popped r.tree e ix rest flags) c.0 }
 unfolding definitions_closed
@@ -166,12 +166,12 @@ body_apart (n ∷ nodes) (suc place) (suc i) g a b apart here there = body_apart
 title_no_list : (flags : ListFlags) → MaybeDefinitionListTitle ≡ DefinitionList flags → ⊥
 title_no_list flags h = cc
 
-pub popped_title : (e : ℕ) (r : Reading) (ix : TreeIndex) (rest : List TreeIndex) (title : TreeIndex) (t : IsTitle r.tree title) → r.tree.spine ≡ ix ∷ rest
+pub popped_title : (e : ℕ) (r : PassState) (ix : TreeIndex) (rest : List TreeIndex) (title : TreeIndex) (t : IsTitle r.tree title) → r.tree.spine ≡ ix ∷ rest
     → possible_title r.tree ≡ Some title
     → popped e r ≡ record r { tree = title_popped r.tree (top_end r.tree) ix rest t.flags title }
 unfolding popped
 popped_title e r ix rest title t spine is =
-    let q : Reading = with_tree r (with_body_at r.tree title ParagraphBody) in
+    let q : PassState = with_tree r (with_body_at r.tree title ParagraphBody) in
     let listed : body_at r.tree.nodes ix.0 ≡ Some (DefinitionList t.flags) = ap (top_in r.tree.nodes) (sym spine) ∙ t.top in
     ap (popped_after e r) is
     ∙ definitions_closed_is (top_end r.tree) q ix rest t.flags title spine
@@ -185,8 +185,8 @@ framed_open options nodes ix rest [] o = absurd o
 framed_open options nodes ix rest (frame ∷ frames) o = (frame, o.0)
 
 -- the state beside the tree
-kept_by : (e : ℕ) (r : Reading) (ix : TreeIndex) (rest : List TreeIndex) (b : Option ItemBody)
-    → (let q : Reading = popped_by r (closed_by r.tree e (ix ∷ rest)) ix b in (q.blank ≡ r.blank) × (r.begin_list_item ≡ None → q.begin_list_item ≡ None))
+kept_by : (e : ℕ) (r : PassState) (ix : TreeIndex) (rest : List TreeIndex) (b : Option ItemBody)
+    → (let q : PassState = popped_by r (closed_by r.tree e (ix ∷ rest)) ix b in (q.blank ≡ r.blank) × (r.begin_list_item ≡ None → q.begin_list_item ≡ None))
 kept_by e r ix rest None = (refl, λ none. none)
 kept_by e r ix rest (Some (ListBody flags list number)) = (refl, λ none. none)
 kept_by e r ix rest (Some (DefinitionList flags)) = (refl, λ none. none)
@@ -194,17 +194,17 @@ kept_by e r ix rest (Some (ListItemBody columns)) = (refl, λ none. refl)
 kept_by e r ix rest (Some (DefinitionListDefinition columns)) = (refl, λ none. refl)
 kept_by e r ix rest (Some b) = (refl, λ none. none)
 
-keeps_by : (e : ℕ) (r : Reading) (ix : TreeIndex) (rest : List TreeIndex) (o : Option TreeIndex) → possible_title r.tree ≡ o → r.tree.spine ≡ ix ∷ rest
+keeps_by : (e : ℕ) (r : PassState) (ix : TreeIndex) (rest : List TreeIndex) (o : Option TreeIndex) → possible_title r.tree ≡ o → r.tree.spine ≡ ix ∷ rest
     → ((popped e r).blank ≡ r.blank) × (r.begin_list_item ≡ None → (popped e r).begin_list_item ≡ None)
 keeps_by e r ix rest None none spine =
-    subst (λ (q : Reading). (q.blank ≡ r.blank) × (r.begin_list_item ≡ None → q.begin_list_item ≡ None)) (sym (popped_is e r ix rest spine none))
+    subst (λ (q : PassState). (q.blank ≡ r.blank) × (r.begin_list_item ≡ None → q.begin_list_item ≡ None)) (sym (popped_is e r ix rest spine none))
     (kept_by e r ix rest (body_at r.tree.nodes ix.0))
 keeps_by e r ix rest (Some title) is spine =
     let t = title_is r.tree title is in
-    subst (λ (q : Reading). (q.blank ≡ r.blank) × (r.begin_list_item ≡ None → q.begin_list_item ≡ None)) (sym (popped_title e r ix rest title t spine is))
+    subst (λ (q : PassState). (q.blank ≡ r.blank) × (r.begin_list_item ≡ None → q.begin_list_item ≡ None)) (sym (popped_title e r ix rest title t spine is))
     (refl, λ none. none)
 
-pub popped_keeps : (e : ℕ) (r : Reading) (ix : TreeIndex) (rest : List TreeIndex) → r.tree.spine ≡ ix ∷ rest
+pub popped_keeps : (e : ℕ) (r : PassState) (ix : TreeIndex) (rest : List TreeIndex) → r.tree.spine ≡ ix ∷ rest
     → ((popped e r).blank ≡ r.blank) × (r.begin_list_item ≡ None → (popped e r).begin_list_item ≡ None)
 popped_keeps e r ix rest spine = keeps_by e r ix rest (possible_title r.tree) refl spine
 
@@ -213,7 +213,7 @@ pub has_definition : (f : Forest Item) (ix : TreeIndex) (rest : List TreeIndex) 
 has_definition f ix rest (DefinitionList flags) spine is none = closed_definition f flags (ap (top_in f.nodes) spine ∙ is) none
 has_definition f ix rest b spine is none = tt
 
-module _ (d : Document) (defined : Tables) (r : Reading) (lines : List Place) (e : ℕ) (ix : TreeIndex) (rest : List TreeIndex) (forest : IsForest r.tree)
+module _ (d : Document) (defined : Tables) (r : PassState) (lines : List Place) (e : ℕ) (ix : TreeIndex) (rest : List TreeIndex) (forest : IsForest r.tree)
     (spine : r.tree.spine ≡ ix ∷ rest) (e_is : start_of (length d.text) lines ≡ e) where
   abbrev before : Before
   before = record { last = last_plain (closed_in r.tree); counted = r.blank }
@@ -255,11 +255,11 @@ module _ (d : Document) (defined : Tables) (r : Reading) (lines : List Place) (e
   pop_by None none ends ready =
       let o : AreOpen d.options r.tree.nodes (ix ∷ rest) ready.frames = subst (λ s. AreOpen d.options r.tree.nodes s ready.frames) spine ready.are_open in
       let frame = framed_open d.options r.tree.nodes ix rest ready.frames o in
-      subst (λ (q : Reading). ReadyAt d defined q.tree r.blank Line lines) (sym (popped_is e r ix rest spine none))
+      subst (λ (q : PassState). ReadyAt d defined q.tree r.blank Line lines) (sym (popped_is e r ix rest spine none))
       (pop_as (body_at r.tree.nodes ix.0) frame.0 none refl frame.1 (ends_at ends) ready)
   pop_by (Some title) is ends ready =
       let t = title_is r.tree title is in
-      subst (λ (q : Reading). ReadyAt d defined q.tree r.blank Line lines) (sym (popped_title e r ix rest title t spine is))
+      subst (λ (q : PassState). ReadyAt d defined q.tree r.blank Line lines) (sym (popped_title e r ix rest title t spine is))
       (pop_title d defined r.tree r.blank lines ix rest title forest spine t ends ready)
 
   pop_plain : next_goes_on (path_of d.options r.tree) lines ≡ false → ReadyAt d defined r.tree r.blank Line lines
@@ -327,7 +327,7 @@ module _ (d : Document) (defined : Tables) (r : Reading) (lines : List Place) (e
       (closed_item b.0 ready.columns item ends x r.blank refl ready.none ready.ready))
 
 -- the innermost open node is closed before the next line
-pub ready_pop : (d : Document) (defined : Tables) (r : Reading) (lines : List Place) (e : ℕ) (ix : TreeIndex) (rest : List TreeIndex)
+pub ready_pop : (d : Document) (defined : Tables) (r : PassState) (lines : List Place) (e : ℕ) (ix : TreeIndex) (rest : List TreeIndex)
     → IsForest r.tree → r.tree.spine ≡ ix ∷ rest → start_of (length d.text) lines ≡ e → next_goes_on (path_of d.options r.tree) lines ≡ false
     → Ready d defined r lines → Ready d defined (popped e r) lines
 unfolding Ready
@@ -372,7 +372,7 @@ tight_containers options depth (suc from) [] i = refl
 tight_containers options depth (suc from) (n ∷ nodes) zero = refl
 tight_containers options depth (suc from) (n ∷ nodes) (suc i) = tight_containers options depth from nodes i
 
-module _ (e : ℕ) (r : Reading) (ix : TreeIndex) (rest : List TreeIndex) where
+module _ (e : ℕ) (r : PassState) (ix : TreeIndex) (rest : List TreeIndex) where
   pub closed_containers : (options : Options) (i : ℕ) → option_and_then (container_of options) (body_at (closed_by r.tree e (ix ∷ rest)).nodes i)
       ≡ option_and_then (container_of options) (body_at r.tree.nodes i)
   closed_containers options i =
@@ -417,7 +417,7 @@ unnamed options (n ∷ nodes) zero a b old new is (suc i) = refl
 unnamed options (n ∷ nodes) (suc place) a b old new is zero = refl
 unnamed options (n ∷ nodes) (suc place) a b old new is (suc i) = unnamed options nodes place a b old new is i
 
-module _ (e : ℕ) (r : Reading) (ix : TreeIndex) (rest : List TreeIndex) where
+module _ (e : ℕ) (r : PassState) (ix : TreeIndex) (rest : List TreeIndex) where
   -- a possible title that becomes a paragraph is no container, before or after
   title_containers_at : (options : Options) (title : TreeIndex) (t : IsTitle r.tree title) (i : ℕ)
       → option_and_then (container_of options) (body_at (title_popped r.tree (top_end r.tree) ix rest t.flags title).nodes i)
@@ -432,12 +432,12 @@ module _ (e : ℕ) (r : Reading) (ix : TreeIndex) (rest : List TreeIndex) where
   path_by : (options : Options) (o : Option TreeIndex) → possible_title r.tree ≡ o → r.tree.spine ≡ ix ∷ rest → (s : List TreeIndex)
       → path_in options (popped e r).tree.nodes s ≡ path_in options r.tree.nodes s
   path_by options None none spine s =
-      ap (λ (q : Reading). path_in options q.tree.nodes s) (popped_is e r ix rest spine none)
+      ap (λ (q : PassState). path_in options q.tree.nodes s) (popped_is e r ix rest spine none)
       ∙ same_path options r.tree.nodes (popped_by r (closed_by r.tree e (ix ∷ rest)) ix (body_at r.tree.nodes ix.0)).tree.nodes
       (popped_containers e r ix rest options (body_at r.tree.nodes ix.0)) s
   path_by options (Some title) is spine s =
       let t = title_is r.tree title is in
-      ap (λ (q : Reading). path_in options q.tree.nodes s) (popped_title e r ix rest title t spine is)
+      ap (λ (q : PassState). path_in options q.tree.nodes s) (popped_title e r ix rest title t spine is)
       ∙ same_path options r.tree.nodes (title_popped r.tree (top_end r.tree) ix rest t.flags title).nodes (title_containers_at options title t) s
 
   pub popped_paths : (options : Options)
@@ -445,10 +445,10 @@ module _ (e : ℕ) (r : Reading) (ix : TreeIndex) (rest : List TreeIndex) where
   popped_paths options spine s = path_by options (possible_title r.tree) refl spine s
 
   spine_or : (o : Option TreeIndex) → possible_title r.tree ≡ o → r.tree.spine ≡ ix ∷ rest → (popped e r).tree.spine ≡ rest
-  spine_or None none spine = ap (λ (q : Reading). q.tree.spine) (popped_is e r ix rest spine none) ∙ spine_by e r ix rest (body_at r.tree.nodes ix.0)
+  spine_or None none spine = ap (λ (q : PassState). q.tree.spine) (popped_is e r ix rest spine none) ∙ spine_by e r ix rest (body_at r.tree.nodes ix.0)
   spine_or (Some title) is spine =
       let t = title_is r.tree title is in
-      ap (λ (q : Reading). q.tree.spine) (popped_title e r ix rest title t spine is)
+      ap (λ (q : PassState). q.tree.spine) (popped_title e r ix rest title t spine is)
       ∙ list_spine (with_body_at r.tree title ParagraphBody) (top_end r.tree) ix rest t.flags
 
   pub popped_spine : r.tree.spine ≡ ix ∷ rest → (popped e r).tree.spine ≡ rest
@@ -467,7 +467,7 @@ outer_next s x xs l h =
     sym (drop_next (length s - suc (length xs)) s x xs (sym h)) ∙ ap (λ k. drop k s) z
 
 -- The nodes of a tree that are closed so far, and the lines before which it is ready.
-pub record ClosedSoFar (old now : Reading) (kept at : ℕ) : Type 0 where
+pub record ClosedSoFar (old now : PassState) (kept at : ℕ) : Type 0 where
   pub enough : kept ≤ length now.tree.spine
   pub fewer : length now.tree.spine ≤ length old.tree.spine
   pub spine : now.tree.spine ≡ outer (length now.tree.spine) old.tree.spine
@@ -475,7 +475,7 @@ pub record ClosedSoFar (old now : Reading) (kept at : ℕ) : Type 0 where
   pub ready : (d : Document) (defined : Tables) (lines : List Place)
       → start_of (length d.text) lines ≡ at → NoMore d.options old.tree kept lines → Ready d defined old lines → Ready d defined now lines
 
-pub closed_none : (old : Reading) (kept at : ℕ) → kept ≤ length old.tree.spine → ClosedSoFar old old kept at
+pub closed_none : (old : PassState) (kept at : ℕ) → kept ≤ length old.tree.spine → ClosedSoFar old old kept at
 closed_none old kept at h = record {
   enough = h;
   fewer = (let l : length old.tree.spine ≡ length old.tree.spine = refl in omega arith);
@@ -484,7 +484,7 @@ closed_none old kept at h = record {
   ready = λ d defined lines e none ready. ready;
 }
 
-closed_more : (old now : Reading) (kept at : ℕ) (s : List TreeIndex) → IsForest now.tree → now.tree.spine ≡ s → kept < length s → ClosedSoFar old now kept at
+closed_more : (old now : PassState) (kept at : ℕ) (s : List TreeIndex) → IsForest now.tree → now.tree.spine ≡ s → kept < length s → ClosedSoFar old now kept at
     → ClosedSoFar old (popped at now) kept at × (length (popped at now).tree.spine < length s)
 closed_more old now kept at [] forest spine more c = absurd (omega arith)
 closed_more old now kept at (ix ∷ rest) forest spine more c =
@@ -507,7 +507,7 @@ closed_more old now kept at (ix ∷ rest) forest spine more c =
     )
 
 -- one of the open nodes that are to be closed is closed
-pub closed_one : (old now new : Reading) (kept at : ℕ) → IsForest now.tree → new ≡ popped at now → kept < length now.tree.spine → ClosedSoFar old now kept at
+pub closed_one : (old now new : PassState) (kept at : ℕ) → IsForest now.tree → new ≡ popped at now → kept < length now.tree.spine → ClosedSoFar old now kept at
     → ClosedSoFar old new kept at × (length new.tree.spine < length now.tree.spine)
 closed_one old now new kept at forest is more c =
     subst (λ q. ClosedSoFar old q kept at × (length q.tree.spine < length now.tree.spine)) (sym is)

@@ -18,18 +18,18 @@ use Rattle.first_pass_lines.specs.Places.{Place}
 use Rattle.first_pass_grammar.specs.Footnotes.{ends_footnote}
 use Rattle.first_pass_grammar.specs.Leaves.{Document, around}
 use Rattle.first_pass_grammar.specs.Containers.{next_goes_on}
-use Rattle.first_pass_grammar.specs.Skeleton.{From, Line, Inside, Opening, Opens}
+use Rattle.first_pass_grammar.specs.Skeleton.{Continues, Line, Inside, Opening, Opens}
 use Rattle.first_pass_grammar.specs.Derivation.{Tables, list_flags}
 use Rattle.first_pass_grammar.specs.Completion.{list_closed, title_left, ParagraphAt, TitleAt, Frame, InContainer, InList, InDefinitions}
 use Rattle.first_pass_grammar.specs.Completion.{containers_of, AreBelow, IsPlain}
 use Rattle.first_pass_grammar.specs.WholeTables.{SilentFrom, SilentClosed}
-use Rattle.first_pass_grammar.proofs.Finishes.{CompletesAt}
+use Rattle.first_pass_grammar.proofs.Sequences.Finishes.{CompletesAt}
 use Rattle.first_pass_completion.proofs.Extending.{tail, lvl, StaysAt}
 use Rattle.first_pass_completion.proofs.Moved.{OpensBlock, opens_definition}
 use Rattle.first_pass_completion.proofs.PoppedLists.{completes-pop_title, completes-pop_title_in_line}
 use Rattle.first_pass_completion.proofs.Closings.{completes-close_title}
 use Rattle.first_pass_completion.proofs.SilentNodes.{from_closed, from_left}
-use Rattle.first_pass_grammar.proofs.Tightening.{length-closed}
+use Rattle.first_pass_grammar.proofs.Sequences.Tightening.{length-closed}
 use Rattle.first_pass_open.specs.Path.{path_of}
 use Rattle.first_pass_lists.specs.Closing.{top_body, top_end, is_definition_list}
 use Rattle.first_pass_ready.specs.State.{frame_of, frame_at, closed_in, AreOpen, ReadyAt}
@@ -163,7 +163,7 @@ module _ (d : Document) (defined : Tables) (f : Forest Item) (run : Bool) (lines
         ∙ body-set closed_nodes title.0 ParagraphBody (omega arith)
 
     -- the open nodes that remain
-    title_left_open : (from : From) (frames : List Frame)
+    title_left_open : (from : Continues) (frames : List Frame)
         → AreOpen d.options f.nodes rest frames → AreBelow ix.0 os → IsPlain frames → SilentFrom f.nodes title.0
         → CompletesAt d defined (tail (ParagraphAt title.0) run) frames (title_left (list_closed f.nodes ix.0 (suc (suc (suc (length os)))) loose e) title.0) os
         from lines
@@ -193,13 +193,13 @@ module _ (d : Document) (defined : Tables) (f : Forest Item) (run : Bool) (lines
   abbrev Open : List Frame → Type 0
   Open frames = AreOpen d.options f.nodes (ix ∷ rest) frames
 
-  abbrev Becoming : From → List Frame → Type 0
+  abbrev Becoming : Continues → List Frame → Type 0
   Becoming from frames = CompletesAt d defined (tail (TitleAt e title.0) run) frames f.nodes (ix.0 ∷ os) from lines
 
   open_of : (frames : List Frame) → AreOpen d.options f.nodes f.spine frames → Open frames
   open_of frames o = subst (λ s. AreOpen d.options f.nodes s frames) spine o
 
-  becoming_of : (from : From) (frames : List Frame)
+  becoming_of : (from : Continues) (frames : List Frame)
       → CompletesAt d defined (tail (closed_in f) run) frames f.nodes (map (λ (i : TreeIndex). i.0) f.spine) from lines → Becoming from frames
   becoming_of from frames k =
       subst (λ z. CompletesAt d defined (tail z run) frames f.nodes (ix.0 ∷ os) from lines) t.closed

@@ -14,13 +14,13 @@ use Rattle.first_pass_grammar.specs.Names.{Names, Extends}
 use Rattle.first_pass_grammar.specs.Leaves.{Document, document}
 use Rattle.first_pass_grammar.specs.Derivation.{Tables}
 use Rattle.first_pass_grammar.specs.Containers.{footnote_columns, next_goes_on, is_footnote, in_footnote}
-use Rattle.first_pass_grammar.specs.Skeleton.{From, Line, Blanks, next_is_blank}
+use Rattle.first_pass_grammar.specs.Skeleton.{Continues, Line, Blanks, next_is_blank}
 use Rattle.first_pass_grammar.specs.Completion.{Closed, OtherClosed, ParagraphAt, DefinitionClosed, TitleAt, NoList, Frame, InContainer, InList}
 use Rattle.first_pass_grammar.specs.Completion.{InDefinitions}
 use Rattle.first_pass_grammar.specs.Completion.{containers_of, last_of, Completes}
 use Rattle.first_pass_grammar.specs.WholeTables.{SilentClosed}
 use Rattle.first_pass_lists.specs.Closing.{top_body, top_end, emptied, emptied_definition}
-use Rattle.first_pass_lists.specs.declared.reading.Reading.{Reading}
+use Rattle.first_pass_lists.specs.declared.state.PassState.{PassState}
 use Rattle.first_pass_open.specs.Path.{path_in, path_of, outer}
 use Rattle.first_pass_items.specs.declared.option_set.Options.{Options}
 
@@ -89,7 +89,7 @@ closed_in f = closed_with f f.current
 -- Only containers and lists are open, and every completion of the nodes, from a place or from these lines on, is
 -- derived by the text. `run` is true if the run of blank lines before has a counting one. A last child that is a
 -- paragraph or a possible title has no part of a table in it.
-pub record ReadyAt (d : Document) (defined : Tables) (tree : Forest Item) (run : Bool) (from : From) (lines : List Place) : Type 0 where
+pub record ReadyAt (d : Document) (defined : Tables) (tree : Forest Item) (run : Bool) (from : Continues) (lines : List Place) : Type 0 where
   pub frames : List Frame
   pub are_open : AreOpen d.options tree.nodes tree.spine frames
   pub completes : Completes d frames (map (λ ix. ix.0) tree.spine)
@@ -127,7 +127,7 @@ item_columns (DefinitionListDefinition columns) = Some columns
 item_columns _ = None
 
 -- the same for a state; once that blank line is read, the item or definition has the indent 0
-pub record ReadyEmpty (d : Document) (defined : Tables) (r : Reading) (e : ℕ) (lines : List Place) : Type 0 where
+pub record ReadyEmpty (d : Document) (defined : Tables) (r : PassState) (e : ℕ) (lines : List Place) : Type 0 where
   pub place : TreeIndex
   pub outer : List TreeIndex
   pub columns : ℕ
@@ -136,16 +136,16 @@ pub record ReadyEmpty (d : Document) (defined : Tables) (r : Reading) (e : ℕ) 
   pub none : r.blank ≡ true → columns ≡ 0
   pub ready : ReadyInItem d defined r.tree e lines r.blank
 
-abbrev pub ReadyWith : Document → Tables → Reading → List Place → Option ℕ → Type 0
+abbrev pub ReadyWith : Document → Tables → PassState → List Place → Option ℕ → Type 0
 ReadyWith d defined r lines None = ReadyAt d defined r.tree r.blank Line lines
 ReadyWith d defined r lines (Some e) = ReadyEmpty d defined r e lines
 
 -- the state begins a derivation of the text that continues with these lines
-unfoldable pub Ready : Document → Tables → Reading → List Place → Type 0
+unfoldable pub Ready : Document → Tables → PassState → List Place → Type 0
 Ready d defined r lines = ReadyWith d defined r lines r.begin_list_item
 
 -- it does so under any further names
-abbrev pub StaysReady : Document → Tables → Reading → List Place → Type 0
+abbrev pub StaysReady : Document → Tables → PassState → List Place → Type 0
 StaysReady d defined r lines = (more : Names) → Extends more d.names → Ready (document d.text d.options more) defined r lines
 
 -- the first of these lines continues at most this many of the open nodes

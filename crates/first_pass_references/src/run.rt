@@ -6,7 +6,7 @@ ghost use Rattle.first_pass_references.specs.Runs.{AreListed};
 
 use crate::written::write_links;
 use first_pass_blocks::pass::run_first_pass;
-use first_pass_host::fault::BlocksFault;
+use first_pass_host::fault::RunFault;
 use first_pass_items::option_set::Options;
 use first_pass_run::report::{Report, run_report};
 use std::alloc::Global;
@@ -24,7 +24,7 @@ impl Report for ListedLinks {
         text: &str,
         options: Options,
         output: &mut W,
-    ) -> Result<(), BlocksFault> {
+    ) -> Result<(), RunFault> {
         let (tree, allocs) = run_first_pass(alloc, text, options)?;
         write_links(alloc, text, tree.nodes(), &allocs, output)
     }
@@ -44,7 +44,7 @@ pub fn links_run<R: Read, W: Write>(
     words: &[String],
     input: &mut R,
     output: &mut W,
-) -> Result<(), BlocksFault>
+) -> Result<(), RunFault>
     ensures { Runs AreListed words.now (stream_between (R.remaining input.old) (R.remaining input.new))
         (stream_between (W.contents output.old) (W.contents output.new)) result }
 {

@@ -7,7 +7,7 @@ ghost use Rattle.first_pass_references.specs.Lines.{first_lines, links_lines};
 
 use crate::lines::{append_definition, append_footnote, append_reference};
 use crate::reference::reference_at;
-use first_pass_host::fault::BlocksFault;
+use first_pass_host::fault::RunFault;
 use first_pass_host::output::write_each;
 use first_pass_items::item::Item;
 use first_pass_names::items::Allocations;
@@ -23,7 +23,7 @@ pub fn write_links<W: Write>(
     nodes: &[(usize, Item)],
     allocs: &Allocations<'_>,
     output: &mut W,
-) -> Result<(), BlocksFault>
+) -> Result<(), RunFault>
     ensures { WritesText (links_lines text.now (names_of allocs.now) nodes.now (tables_of allocs.now))
         (stream_between (W.contents output.old) (W.contents output.new)) result }
 {

@@ -2,7 +2,7 @@
 
 use crate::report::{Report, run_report};
 use first_pass_host::exit::exit_code;
-use first_pass_host::fault::BlocksFault;
+use first_pass_host::fault::RunFault;
 use first_pass_host::words::words_of;
 use std::alloc::Global;
 use std::process::ExitCode;
@@ -14,7 +14,7 @@ pub fn run_program<P: Report>(rt: &HostRuntime, report: &P) -> ExitCode {
 }
 
 // Runs a report with the words after the program's name, over standard input and standard output.
-fn run_on_host<P: Report>(rt: &HostRuntime, report: &P) -> Result<(), BlocksFault> {
+fn run_on_host<P: Report>(rt: &HostRuntime, report: &P) -> Result<(), RunFault> {
     let words = words_of(rt)?;
     let mut input = rt.stdin();
     let mut output = rt.stdout();

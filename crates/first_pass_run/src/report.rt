@@ -5,7 +5,7 @@ ghost use Rattle.first_pass_items.specs.declared.option_set.Options.{Options as 
 ghost use Rattle.first_pass_host.specs.Streams.{stream_between};
 ghost use Rattle.first_pass_run.specs.Runs.{WritesOutput, LeavesReport, LeavesBytes, Runs};
 
-use first_pass_host::fault::BlocksFault;
+use first_pass_host::fault::RunFault;
 use first_pass_host::input::read_whole;
 use first_pass_host::option_word::parse_options;
 use first_pass_items::option_set::Options;
@@ -26,7 +26,7 @@ pub trait Report {
         text: &str,
         options: Options,
         output: &mut W,
-    ) -> Result<(), BlocksFault>
+    ) -> Result<(), RunFault>
         ensures ok { OnOk result (WritesOutput (says self.now) options text.now
             (stream_between (W.contents output.old) (W.contents output.new))) }
         ensures fault { IfErr result (λ fault. LeavesReport (says self.now) fault options text.now
@@ -46,12 +46,12 @@ pub fn run_report<P: Report, R: Read, W: Write>(
     words: &[String],
     input: &mut R,
     output: &mut W,
-) -> Result<(), BlocksFault>
+) -> Result<(), RunFault>
     ensures { Runs (P.says report.now) words.now (stream_between (R.remaining input.old) (R.remaining input.new))
         (stream_between (W.contents output.old) (W.contents output.new)) result }
 {
     let Some(options) = parse_options(words) else {
-        return Err(BlocksFault::BadOptions);
+        return Err(RunFault::BadOptions);
     };
     let bytes = read_whole(alloc, input)?;
     report_bytes(report, alloc, bytes.as_slice(), options, output)
@@ -64,7 +64,7 @@ fn report_bytes<P: Report, W: Write>(
     bytes: &[u8],
     options: Options,
     output: &mut W,
-) -> Result<(), BlocksFault>
+) -> Result<(), RunFault>
     ensures utf8 { OnOk result (IsUtf8 bytes.now) }
     ensures ok { OnOk result (WritesOutput (P.says report.now) options bytes.now
         (stream_between (W.contents output.old) (W.contents output.new))) }
@@ -73,6 +73,6 @@ fn report_bytes<P: Report, W: Write>(
 {
     match str::from_utf8(bytes) {
         Ok(text) => report.write_report(alloc, text, options, output),
-        Err(_) => Err(BlocksFault::NotUtf8),
+        Err(_) => Err(RunFault::NotUtf8),
     }
 }

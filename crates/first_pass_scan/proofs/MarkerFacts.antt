@@ -26,10 +26,10 @@ few_columns : (t u : Bool) (n k : ℕ) (r s : Rest)
 few_columns t u n k r s h h' = rw (h, h') (refl, refl)
 
 -- the content of an item after fewer than four columns
-pub content_indent-node_bound : (n k : ℕ) (r s : Rest) → is_some (blank_len r.left) ≡ false → s ≡ after_columns 4 r → k ≡ min 4 (indent r) → (k ≡ 4 → ⊥)
+pub content_indent-bound : (n k : ℕ) (r s : Rest) → is_some (blank_len r.left) ≡ false → s ≡ after_columns 4 r → k ≡ min 4 (indent r) → (k ≡ 4 → ⊥)
     → (n + k ≡ (content_indent n r).0) × (s ≡ (content_indent n r).1)
 unfolding content_indent
-content_indent-node_bound n k r s h e m node_bound =
+content_indent-bound n k r s h e m bound =
     let small : indent r < 4 = omega arith in
     let same : k ≡ indent r = omega arith in
     let all : s ≡ after_columns (indent r) r = e ∙ all_columns_up_to 4 r (omega arith) in

@@ -88,8 +88,8 @@ too_few n k (Some j) h = grind (arith, nat_tests)
 rule_few : (c : ℕ) (bs : List ℕ) → prefix_len (in_rule c) bs ≤ 2 → rule_len c bs ≡ None
 rule_few c bs h =
     let n : ℕ = prefix_len (in_rule c) bs in
-    let node_bound : count_by (λ x. x == c) (take n bs) ≤ 2 = omega (arith, count_by-le-length (λ x. x == c) (take n bs), length-take n bs) in
-    too_few n _ (eol_len (drop n bs)) node_bound
+    let bound : count_by (λ x. x == c) (take n bs) ≤ 2 = omega (arith, count_by-le-length (λ x. x == c) (take n bs), length-take n bs) in
+    too_few n _ (eol_len (drop n bs)) bound
 
 rule_third : (t : Bool) (a : ℕ) (bs : List ℕ) → is_rule_byte a ≡ t → (is_rule_byte a ≡ true → rule_len a bs ≡ None)
     → (if t then rule_len a bs else None) ≡ None
@@ -107,5 +107,5 @@ none_before_plain [] h = refl
 none_before_plain (a ∷ []) h = absurd (true≢false (sym h))
 none_before_plain (a ∷ b ∷ []) h = absurd (true≢false (sym h))
 none_before_plain (a ∷ b ∷ d ∷ bs) h =
-    let node_bound = λ (e : is_rule_byte a ≡ true). prefix_two (in_rule a) a b d bs (in_rule a a) (in_rule a b) refl refl (plain_in_rule a d e h) in
-    rule_third (is_rule_byte a) a (a ∷ b ∷ d ∷ bs) refl (λ e. rule_few a (a ∷ b ∷ d ∷ bs) (node_bound e))
+    let bound = λ (e : is_rule_byte a ≡ true). prefix_two (in_rule a) a b d bs (in_rule a a) (in_rule a b) refl refl (plain_in_rule a d e h) in
+    rule_third (is_rule_byte a) a (a ∷ b ∷ d ∷ bs) refl (λ e. rule_few a (a ∷ b ∷ d ∷ bs) (bound e))

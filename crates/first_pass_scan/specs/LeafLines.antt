@@ -7,7 +7,7 @@ use Rattle.std.specs.List.{prefix_len, take_while, list_any, list_all}
 use Rattle.first_pass_items.specs.Bytes.{tab, space, asterisk, hyphen, equals_sign, underscore, backquote, tilde}
 use Rattle.first_pass_items.specs.declared.item.HeadingLevel.{HeadingLevel}
 use Rattle.first_pass_items.specs.declared.item.HeadingLevel.TheVariants.{H1, H2}
-use Rattle.first_pass_lines.specs.Lines.{is_content, is_blank, begins, eol_len, blank_len, at_line_end}
+use Rattle.first_pass_lines.specs.Lines.{is_content, is_space_or_tab, begins, eol_len, blank_len, at_line_end}
 use Rattle.first_pass_lines.specs.Rest.{columns_of}
 
 -- the number of bytes c at the start (this project)
@@ -20,7 +20,7 @@ is_rule_byte b = (b == hyphen) || (b == underscore) || (b == asterisk)
 
 -- a byte of a thematic break made of the byte c: that byte, a space or a tab (CommonMark 4.1)
 abbrev pub in_rule : ℕ → ℕ → Bool
-in_rule c b = (b == c) || is_blank b
+in_rule c b = (b == c) || is_space_or_tab b
 
 -- the length of a thematic break of the byte c, with its line ending: three or more of that byte, with spaces and tabs
 -- between and after them (CommonMark 4.1)
@@ -71,7 +71,7 @@ closing_fence_len c count bs =
     then Some 0
     else (
     let n = run_len c bs in
-    let m = n + prefix_len is_blank (drop n bs) in
+    let m = n + prefix_len is_space_or_tab (drop n bs) in
     if nat_le count n && at_line_end (drop m bs) then Some m else None)
 
 -- the columns of a space or a tab, given the number of bytes since the last tab (CommonMark 2.2)
@@ -81,9 +81,9 @@ blank_columns b column = if b == space then 1 else (if b == tab then 4 - column 
 -- the first n bytes are spaces and tabs of this many columns, at most max (CommonMark 2.2)
 pub record IsIndent (bs : List ℕ) (max : ℕ) (n : ℕ) (columns : ℕ) : Type 0 where
   pub within : n ≤ length bs
-  pub blanks : list_all is_blank (take n bs) ≡ true
+  pub blanks : list_all is_space_or_tab (take n bs) ≡ true
   pub wide : columns ≡ columns_of (take n bs) 0
-  pub node_bound : columns ≤ max
+  pub bound : columns ≤ max
 
 -- the longest run of whole spaces and tabs here that has at most max columns (CommonMark 2.2)
 pub record IsLongestIndent (bs : List ℕ) (max : ℕ) (n : ℕ) (columns : ℕ) : Type 0 where

@@ -1,4 +1,4 @@
--- The markers of list items, definitions and block quotes, task list item markers, and the tags of block quotes.
+-- The markers of list items and definitions, task list item markers, and the tags of block quotes.
 use Rattle.std.specs.Prelude.{ℕ, ◌+◌, ◌-◌, ◌*◌, ◌==◌, ◌&&◌, ◌||◌, not, Bool, nat_le, List, [], ◌∷◌, length, take, drop, Option, Some, None, is_some}
 use Rattle.std.specs.Prelude.{slice_index, codes, if◌then◌else◌}
 use Rattle.std.specs.Option.{option_map}
@@ -14,7 +14,7 @@ use Rattle.first_pass_scan.specs.LeafLines.{hrule_len}
 use Rattle.first_pass_lines.specs.Places.{line_rest}
 use Rattle.first_pass_lines.specs.Rest.{Rest, after_columns, indent, past_bytes}
 
--- the number whose digits are those of n, then these (CommonMark 5.2)
+-- the number written by the digits of n (none if n is 0) followed by these digits (CommonMark 5.2)
 abbrev pub number_from : ℕ → List ℕ → ℕ
 number_from n [] = n
 number_from n (b ∷ bs) = number_from (10 * n + (b - digit_zero)) bs
@@ -44,9 +44,9 @@ ordered_marker bs =
 unfoldable pub list_marker : List ℕ → Option (ℕ × ℕ × ℕ)
 list_marker bs = if is_some (bullet_marker bs) then bullet_marker bs else ordered_marker bs
 
--- The columns that a line needs to continue an item whose content begins n columns in or later, and the rest of the
--- item's line. Up to three further columns count. With four or more the content is indented code, and a blank rest adds
--- nothing (CommonMark 5.2).
+-- For an item with content at column n or later: the columns that a line needs to continue it, and the rest of its line
+-- after the columns that count. Of the columns after column n, up to three count. If there are four or more, none of
+-- them counts, since the content is indented code. In a blank rest none counts either (CommonMark 5.2).
 unfoldable pub content_indent : ℕ → Rest → ℕ × Rest
 content_indent n r =
     if is_blank_line r.left then (n, r) else (if nat_le 4 (indent r) then (n, r) else (n + indent r, after_columns (indent r) r))
@@ -132,13 +132,14 @@ tag_kind bs =
     else (if has_tag Caution bs then Some Caution
     else None))))
 
--- the kind with whose tag the bytes begin, and the length of its line with its line ending, if the rest of the line is
--- blank (GitHub's alerts)
+-- given this kind, with whose tag the bytes begin: the kind and the length of the line with its line ending, if the
+-- rest of the line is blank (GitHub's alerts)
 abbrev pub tag_line_of : List ℕ → Option BlockQuoteKind → Option (BlockQuoteKind × ℕ)
 tag_line_of bs None = None
 tag_line_of bs (Some kind) = let n = length (tag_of kind) in option_map (λ k. (kind, n + k)) (blank_len (drop n bs))
 
--- the same for the tag with which the bytes begin (GitHub's alerts)
+-- the kind whose tag the bytes begin with, and the length of that line with its line ending, if the rest of the line
+-- is blank (GitHub's alerts)
 unfoldable pub tag_line : List ℕ → Option (BlockQuoteKind × ℕ)
 tag_line bs = tag_line_of bs (tag_kind bs)
 

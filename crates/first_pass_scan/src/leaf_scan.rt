@@ -3,11 +3,13 @@
 
 ghost use Rattle.std.specs.List.{prefix_len};
 ghost use Rattle.std.specs.Prelude.{◌≡◌, ◌≤◌, length, None, IfSome};
-ghost use Rattle.first_pass_lines.specs.Lines.{is_blank};
+ghost use Rattle.first_pass_lines.specs.Lines.{is_space_or_tab};
 ghost use Rattle.first_pass_scan.specs.LeafLines.{run_len, in_rule, hrule_len, HasNoRule, underline_len, setext_underline, has_backquote as holds_backquote, code_fence, closing_fence_len, blank_columns, IsLongestIndent};
 
 use first_pass_items::item::HeadingLevel;
-use first_pass_lines::lines::{content_len, is_blank, scan_blank_line, scan_blanks, scan_eol};
+use first_pass_lines::lines::{
+    content_len, is_space_or_tab, scan_blank_line, scan_blanks, scan_eol,
+};
 
 // The number of bytes at the start that are the thematic break's byte, spaces or tabs.
 fn scan_rule_content(bytes: &[u8], byte: u8) -> usize
@@ -16,7 +18,7 @@ fn scan_rule_content(bytes: &[u8], byte: u8) -> usize
 {
     bytes
         .iter()
-        .take_while(|b| **b == byte || is_blank(**b))
+        .take_while(|b| **b == byte || is_space_or_tab(**b))
         .count()
 }
 
@@ -39,8 +41,8 @@ pub fn scan_hrule(bytes: &[u8]) -> Option<usize>
     Some(content + end)
 }
 
-// The length of the leading run of the first byte, spaces and tabs. No thematic break begins in it, given that
-// none begins at its start.
+// The number of bytes at the start that equal the first byte, or are spaces or tabs. If no thematic break begins at the
+// start, none begins at any of these bytes.
 pub(crate) fn scan_rule_free(bytes: &[u8]) -> usize
     requires { hrule_len bytes.now ≡ None }
     ensures none { HasNoRule bytes.now 0 result }

@@ -1,4 +1,4 @@
-//! The rest of a line, in columns.
+//! A place in a line, and the rest of the text from there on, in columns.
 
 ghost use Rattle.std.specs.Prelude.{◌≡◌, ◌≤◌, ◌+◌, ◌<◌, ◌^◌, ◌==◌, min, nat_le, length, drop, is_some, IfSome, MatchOption, if◌then◌else◌, true, false};
 ghost use Rattle.first_pass_lines.specs.Lines.{at_line_end, is_blank_line};
@@ -16,16 +16,15 @@ use first_pass_lines::lines::{is_inert_front, is_plain_front, scan_blank_line, s
 use first_pass_lines::places::rest_of;
 use std::marker::Model;
 
-/// A place in a line: the rest of the line, and the columns that a partly taken tab owes. Tab stops are at
-/// every fourth column, counted from the start of the line, and from zero again after each tab
-/// (CommonMark 2.2).
+/// A place in a line: the rest of the text from there on, and the columns that a partly taken tab owes. Tab stops are
+/// four bytes apart, counted from the start of the line or the last tab (CommonMark 2.2).
 #[derive(Clone)]
 pub struct LineStart<'a> {
     bytes: &'a [u8],
     at: usize,
     tab_start: usize,
     owed: usize,
-    // No thematic break begins from `at` up to here.
+    // No thematic break begins at any offset from `at` up to, but not including, this one.
     rule_free: usize,
 }
 
@@ -71,7 +70,7 @@ fn is_plain_third(bytes: &[u8]) -> bool
 }
 
 impl<'a> LineStart<'a> {
-    /// The start of the line at the start of `bytes`, which may continue after that line.
+    /// The place at the start of the first line of `bytes`. `bytes` may continue after that line.
     pub fn new(bytes: &'a [u8]) -> LineStart<'a>
         ensures { result ≡ line_rest bytes.now }
     {
@@ -91,7 +90,7 @@ impl<'a> LineStart<'a> {
         self.at
     }
 
-    /// The rest of the line, and everything after it.
+    /// The rest of the text from the place on: the rest of the line, and everything after it.
     pub fn left(&self) -> &'a [u8]
         ensures { result.now ≡ self.now.left }
     {
@@ -113,8 +112,9 @@ impl<'a> LineStart<'a> {
         scan_eol(rest_of(self.bytes, self.at)).is_some()
     }
 
-    /// Whether no column is owed and the next byte is an ASCII letter or a non-ASCII byte. Then there is no white space
-    /// here, and the line's block is a paragraph, or a table or setext heading that later lines make of one.
+    /// `true` only if no column is owed and the next byte is an ASCII letter or a non-ASCII byte. Then there is no
+    /// white space here, and a block that begins here is a paragraph, unless later lines turn it into a table or a
+    /// setext heading.
     #[inline(always)]
     pub fn is_at_plain(&self) -> bool
         ensures owed { result ≡ true → self.now.owed ≡ 0 }
@@ -123,8 +123,8 @@ impl<'a> LineStart<'a> {
         self.owed == 0 && is_plain_front(rest_of(self.bytes, self.at))
     }
 
-    /// Whether no column is owed and the next byte is no space or tab, and no list item or block quote begins
-    /// with it.
+    /// `true` only if no column is owed, and the next byte is no space or tab and cannot begin a list item or a block
+    /// quote.
     #[inline(always)]
     pub fn is_at_inert(&self) -> bool
         ensures owed { result ≡ true → self.now.owed ≡ 0 }
@@ -193,10 +193,10 @@ impl<'a> LineStart<'a> {
         Some(kind)
     }
 
-    /// Takes the list marker here, after `indent` columns, and the columns that belong to it. Returns its byte
-    /// (`.` or `)` after digits), its number (0 for a bullet) and the columns that a line needs to continue the
-    /// item. Returns `None`, and takes nothing, if a column is owed, no item begins here, or a thematic break
-    /// is here. CommonMark 5.2.
+    /// Takes the list marker here, before which the line has `indent` columns, and the columns after the marker that
+    /// count towards the item's indent. Returns the marker's byte (`.` or `)` after digits), its number (0 for a
+    /// bullet) and the columns that a line needs to continue the item. Returns `None`, and takes nothing, if a column
+    /// is owed, no item begins here, or a thematic break is here. CommonMark 5.2.
     #[tactic(auto, unfolding(crate::specs::Markers::item_of))]
     pub fn scan_list_marker_with_indent(&mut self, indent: usize) -> Option<(u8, u64, usize)>
         requires { indent ≤ 3 }
@@ -214,9 +214,9 @@ impl<'a> LineStart<'a> {
         Some((byte, number, inner))
     }
 
-    /// Takes the `:` of a definition here, after `indent` columns, and the columns that belong to it. Returns
-    /// the columns that a line needs to continue the definition. Returns `None`, and takes nothing, if a column
-    /// is owed or there is no `:`.
+    /// Takes the `:` of a definition here, before which the line has `indent` columns, and the columns after it that
+    /// count towards the definition's indent. Returns the columns that a line needs to continue the definition. Returns
+    /// `None`, and takes nothing, if a column is owed or there is no `:`.
     #[tactic(auto, unfolding(crate::specs::Markers::definition_of))]
     pub fn scan_definition_list_definition_marker_with_indent(
         &mut self,
@@ -233,9 +233,9 @@ impl<'a> LineStart<'a> {
         Some(self.scan_after_colon(indent + 1))
     }
 
-    /// Takes the task list item marker here, after up to three columns, and returns whether it is checked. It
-    /// is `[`, then white space other than a line ending, `x` or `X`, then `]`. White space must follow, and is
-    /// not taken. Returns `None`, and takes nothing, if there is no such marker. GFM 5.3.
+    /// Takes the task list item marker here, after up to three columns, and returns whether it is checked. It is `[`,
+    /// then one byte of white space, `x` or `X`, then `]`. White space or a line ending must follow, and is not taken.
+    /// Returns `None`, and takes nothing, if there is no such marker. GFM 5.3.
     #[tactic(auto, unfolding(crate::specs::Markers::task_of))]
     pub fn scan_task_list_marker(&mut self) -> Option<bool>
         ensures { MatchOption (task_of self.old) ((result ≡ None) × (self.new ≡ self.old)) (λ task.
@@ -249,7 +249,7 @@ impl<'a> LineStart<'a> {
         Some(checked)
     }
 
-    /// A copy of this place, which needs no allocation.
+    /// A copy of this place. Copying allocates nothing.
     pub fn copy(&self) -> LineStart<'a>
         ensures { result ≡ self.now }
     {
@@ -322,8 +322,8 @@ impl<'a> LineStart<'a> {
         scan_blank_line(rest_of(self.bytes, self.at)).is_some()
     }
 
-    // Takes the columns before an item's content, which begins `width` columns in or later. Returns the columns
-    // before the content.
+    // Takes the further columns between column `width` and an item's content, if they count. Returns the item's indent:
+    // `width` and what was taken. Takes none if there are four or more, or if the rest is blank.
     #[inline(always)]
     #[tactic(auto, unfolding(crate::specs::Markers::content_indent))]
     fn scan_content_indent(&mut self, width: usize) -> usize
@@ -345,8 +345,8 @@ impl<'a> LineStart<'a> {
         width + further
     }
 
-    // Takes the columns after an item's marker that ends `width` columns in. Returns the columns before its
-    // content, or `None` if neither a column nor the end of the line follows the marker.
+    // Takes the columns that count after an item's marker, which ends at column `width`. Returns the item's indent, or
+    // `None` if neither a column nor the end of the line follows the marker.
     #[inline(always)]
     #[tactic(auto, unfolding(crate::specs::Markers::after_marker))]
     fn scan_after_marker(&mut self, width: usize) -> Option<usize>
@@ -425,8 +425,8 @@ impl<'a> LineStart<'a> {
 }
 
 /// The list marker at the start of the line with which `bytes` begins: its length in bytes, its byte (`.` or
-/// `)` after digits), its number (0 for a bullet), and the columns that a line needs to continue the item. A
-/// thematic break that reads as a marker counts too. Otherwise `None`. CommonMark 5.2.
+/// `)` after digits), its number (0 for a bullet), and the columns that a line needs to continue the item. It does not
+/// matter whether the line is a thematic break, such as `- - -`. Otherwise `None`. CommonMark 5.2.
 #[tactic(auto, unfolding(crate::specs::Markers::listitem))]
 pub fn scan_listitem(bytes: &[u8]) -> Option<(usize, u8, u64, usize)>
     ensures value { result ≡ listitem bytes.now }

@@ -19,9 +19,9 @@ fn scan_digits(bytes: &[u8]) -> usize
     bytes.iter().take_while(|b| b.is_ascii_digit()).count()
 }
 
-// The number that these digits write, at most nine.
+// The number that these digits write. There are at most nine digits.
 fn number(digits: &[u8]) -> u64
-    requires node_bound { length digits.now ≤ 9 }
+    requires bound { length digits.now ≤ 9 }
     requires digits { EachIndex digits.now (λ k. (digit_zero ≤ slice_index digits.now k)
         × (slice_index digits.now k ≤ digit_nine)) }
     ensures { result ≡ number_from 0 digits.now }

@@ -8,7 +8,7 @@ use Rattle.std.proofs.lemmas.Bool.Decides.{nat_tests}
 use Rattle.std.proofs.lemmas.List.Sums.{prefix_len-le-length}
 use Rattle.first_pass_items.specs.Bytes.{hyphen, colon, pipe}
 use Rattle.first_pass_items.specs.declared.item.Alignment.{Alignment}
-use Rattle.first_pass_lines.specs.Lines.{is_blank, is_content, begins, line_len}
+use Rattle.first_pass_lines.specs.Lines.{is_space_or_tab, is_content, begins, line_len}
 use Rattle.first_pass_scan.specs.LeafLines.{run_len}
 use Rattle.first_pass_lines.specs.Rest.{Rest, indent, after_columns, columns_of}
 use Rattle.first_pass_lines.proofs.PlaceFacts.{all_columns, all_columns_up_to}
@@ -35,17 +35,17 @@ fronted-take b n bs f =
       | inr more ↦ subst (λ cs. Fronted b (take n cs)) (sym more.1) (take_front b n more.0)
     ]
 
-strip_fronted : (b : ℕ) (cs : List ℕ) → is_blank b ≡ false → prefix_len is_blank (b ∷ cs) ≡ 0
-strip_fronted b cs h = ap (λ t. if t then 1 + prefix_len is_blank cs else 0) h
+strip_fronted : (b : ℕ) (cs : List ℕ) → is_space_or_tab b ≡ false → prefix_len is_space_or_tab (b ∷ cs) ≡ 0
+strip_fronted b cs h = ap (λ t. if t then 1 + prefix_len is_space_or_tab cs else 0) h
 
-fronted-stripped : (b : ℕ) (bs : List ℕ) → is_blank b ≡ false → Fronted b bs → Fronted b (stripped bs)
+fronted-stripped : (b : ℕ) (bs : List ℕ) → is_space_or_tab b ≡ false → Fronted b bs → Fronted b (stripped bs)
 unfolding stripped
 fronted-stripped b bs h f =
     elim f as (λ _. Fronted b (stripped bs)) [
       | inl e ↦ subst (λ cs. Fronted b (stripped cs)) (sym e) (inl refl)
       | inr more ↦ subst (λ cs. Fronted b (stripped cs)) (sym more.1)
-          (subst (λ k. Fronted b (let s : List ℕ = drop k (b ∷ more.0) in take (length s - suffix_len is_blank s) s)) (sym (strip_fronted b more.0 h))
-          (take_front b (length (b ∷ more.0) - suffix_len is_blank (b ∷ more.0)) more.0))
+          (subst (λ k. Fronted b (let s : List ℕ = drop k (b ∷ more.0) in take (length s - suffix_len is_space_or_tab s) s)) (sym (strip_fronted b more.0 h))
+          (take_front b (length (b ∷ more.0) - suffix_len is_space_or_tab (b ∷ more.0)) more.0))
     ]
 
 begins-other : (b c : ℕ) (bs : List ℕ) → (b == c) ≡ false → Fronted b bs → begins c bs ≡ false
@@ -77,7 +77,7 @@ no_hyphens b bs h f =
     ]
 
 -- bytes that begin with another byte are no delimiter cell
-cell-refused : (b : ℕ) (bs : List ℕ) → is_blank b ≡ false → (b == hyphen) ≡ false → (b == colon) ≡ false → Fronted b bs → delimiter_cell bs ≡ None
+cell-refused : (b : ℕ) (bs : List ℕ) → is_space_or_tab b ≡ false → (b == hyphen) ≡ false → (b == colon) ≡ false → Fronted b bs → delimiter_cell bs ≡ None
 unfolding delimiter_cell
 cell-refused b bs blank h k f =
     let cell : List ℕ = stripped bs in
@@ -88,7 +88,7 @@ cell-refused b bs blank h k f =
     let no : is_hyphens (without_last colon tail) ≡ false = no_hyphens b (without_last colon tail) h (last_or_not b tail (ends colon tail) tail_front) in
     ap (λ t. if t then Some (alignment_by (begins colon cell) (ends colon tail)) else None) no
 
-cells-refused-at : (b : ℕ) (bs : List ℕ) → is_blank b ≡ false → (b == hyphen) ≡ false → (b == colon) ≡ false → Fronted b bs → delimiter_cells bs ≡ None
+cells-refused-at : (b : ℕ) (bs : List ℕ) → is_space_or_tab b ≡ false → (b == hyphen) ≡ false → (b == colon) ≡ false → Fronted b bs → delimiter_cells bs ≡ None
 cells-refused-at b bs blank h k f =
     let n : ℕ = position_or_len is_pipe bs in
     cells-refused bs n refl (prefix_len-le-length _ bs) (sym (cell-refused b (take n bs) blank h k (fronted-take b n bs f)))
@@ -99,7 +99,7 @@ if_none false o h = refl
 
 -- bytes that begin with another byte are no delimiter row
 row_refused : (b : ℕ) (bs : List ℕ)
-    → is_blank b ≡ false → (b == pipe) ≡ false → (b == hyphen) ≡ false → (b == colon) ≡ false → Fronted b bs → delimiter_row bs ≡ None
+    → is_space_or_tab b ≡ false → (b == pipe) ≡ false → (b == hyphen) ≡ false → (b == colon) ≡ false → Fronted b bs → delimiter_row bs ≡ None
 unfolding delimiter_row
 row_refused b bs blank p h k f =
     let row : List ℕ = stripped (take_while is_content bs) in
@@ -128,13 +128,13 @@ row-refused (b ∷ bs) space tab h =
     row_refused b (b ∷ bs) (neither (b == 9) (b == 32) tab space) two.0 two.1 some.1 (inr (bs, refl))
 
 -- the delimiter row after an indentation of fewer than four columns
-pub row_of-node_bound : (r s : Rest) → s ≡ after_columns 4 r → nat_le 4 (indent r) ≡ false → delimiter_row_of r ≡ delimiter_row s.left
+pub row_of-bound : (r s : Rest) → s ≡ after_columns 4 r → nat_le 4 (indent r) ≡ false → delimiter_row_of r ≡ delimiter_row s.left
 unfolding delimiter_row_of
-row_of-node_bound r s e h =
-    let node_bound : nat_lt (indent r) 4 ≡ true = grind (arith, nat_tests, h) in
+row_of-bound r s e h =
+    let bound : nat_lt (indent r) 4 ≡ true = grind (arith, nat_tests, h) in
     let low : indent r ≤ 4 = grind (arith, nat_tests, h) in
     let same : after_columns (indent r) r ≡ s = sym (all_columns_up_to 4 r low) ∙ sym e in
-    ap (λ t. if t then delimiter_row (after_columns (indent r) r).left else None) node_bound ∙ ap (λ q. delimiter_row q.left) same
+    ap (λ t. if t then delimiter_row (after_columns (indent r) r).left else None) bound ∙ ap (λ q. delimiter_row q.left) same
 
 pub row_of-refused : (r s : Rest) → s ≡ after_columns 4 r → nat_le 4 (indent r) ≡ false
     → (begins pipe s.left || begins hyphen s.left || begins colon s.left) ≡ false → None ≡ delimiter_row_of r
@@ -142,7 +142,7 @@ row_of-refused r s e h look =
     let low : indent r ≤ 4 = grind (arith, nat_tests, h) in
     let same : after_columns (indent r) r ≡ s = sym (all_columns_up_to 4 r low) ∙ sym e in
     let front = all_columns r in
-    sym (row_of-node_bound r s e h ∙ row-refused s.left (ap (λ q. begins 32 q.left) (sym same) ∙ front.1) (ap (λ q. begins 9 q.left) (sym same) ∙ front.2) look)
+    sym (row_of-bound r s e h ∙ row-refused s.left (ap (λ q. begins 32 q.left) (sym same) ∙ front.1) (ap (λ q. begins 9 q.left) (sym same) ∙ front.2) look)
 
 -- each delimiter row has an alignment
 cons-some : (x : Alignment) (o : Option (List Alignment)) (xs : List Alignment) → option_map (λ ys. x ∷ ys) o ≡ Some xs → 0 < length xs

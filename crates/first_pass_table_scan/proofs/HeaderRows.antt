@@ -180,8 +180,8 @@ pub pipes-of-line : (bs : List ℕ) (n : ℕ)
     → last_pipe_after 0 (take_while is_content bs) ≡ Some n → pipes_of (take (n + 1) bs) ≡ pipes_of (take_while is_content bs)
 pipes-of-line bs n h =
     let within = last-in-line bs n h in
-    let node_bound : n + 1 ≤ prefix_len is_content bs = omega arith in
-    ap (pipes_after 0) (sym (take-take (n + 1) (prefix_len is_content bs) bs node_bound)) ∙ pipes-to-last 0 (take_while is_content bs) n h
+    let bound : n + 1 ≤ prefix_len is_content bs = omega arith in
+    ap (pipes_after 0) (sym (take-take (n + 1) (prefix_len is_content bs) bs bound)) ∙ pipes-to-last 0 (take_while is_content bs) n h
 
 -- the number of columns of a line, from its pipes
 pub head-by-pipes : (bs : List ℕ) (n : ℕ)

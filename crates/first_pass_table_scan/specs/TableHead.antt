@@ -6,7 +6,7 @@ use Rattle.std.specs.List.{prefix_len, suffix_len, take_while, list_any, slice_s
 use Rattle.first_pass_items.specs.Bytes.{hyphen, colon, backslash, pipe}
 use Rattle.first_pass_items.specs.declared.item.Alignment.{Alignment}
 use Rattle.first_pass_items.specs.declared.item.Alignment.TheVariants.{None as Unaligned, Left, Center, Right}
-use Rattle.first_pass_lines.specs.Lines.{is_content, is_white, is_blank, begins, is_blank_line, line_len}
+use Rattle.first_pass_lines.specs.Lines.{is_content, is_white, is_space_or_tab, begins, is_blank_line, line_len}
 use Rattle.first_pass_scan.specs.LeafLines.{run_len}
 use Rattle.first_pass_lines.specs.Rest.{Rest, indent, after_columns, columns_of}
 
@@ -20,7 +20,7 @@ ends c bs = slice_index bs (length bs - 1) == c
 
 -- the bytes without leading and trailing spaces and tabs (CommonMark 2.1)
 unfoldable pub stripped : List ℕ → List ℕ
-stripped bs = let s = drop (prefix_len is_blank bs) bs in take (length s - suffix_len is_blank s) s
+stripped bs = let s = drop (prefix_len is_space_or_tab bs) bs in take (length s - suffix_len is_space_or_tab s) s
 
 -- the bytes without their first one, if it is c, which is not 0 (this project)
 abbrev pub without_first : ℕ → List ℕ → List ℕ

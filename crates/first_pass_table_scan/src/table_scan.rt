@@ -4,12 +4,12 @@ ghost use Rattle.std.specs.List.{prefix_len, suffix_len, position_or_len};
 ghost use Rattle.std.specs.Prelude.{◌≡◌, ◌≤◌, ◌<◌, ◌+◌, ◌-◌, ◌==◌, true, slice_index, length, take, drop, IfOk, if◌then◌else◌};
 ghost use Rattle.std.specs.Option.{option_map};
 ghost use Rattle.first_pass_items.specs.Bytes.{pipe};
-ghost use Rattle.first_pass_lines.specs.Lines.{begins, is_blank, is_white};
+ghost use Rattle.first_pass_lines.specs.Lines.{begins, is_space_or_tab, is_white};
 ghost use Rattle.first_pass_table_scan.specs.TableHead.{is_pipe, ends as ends_with, stripped as stripped_bytes, without_first as past_first, without_last as before_last, is_hyphens as only_hyphens, alignment_by, delimiter_cell, delimiter_cells, delimiter_row, table_head, pipes_of, header_columns};
 
 use first_pass_items::item::Alignment;
 use first_pass_lines::lines::{
-    begins, content_len, is_blank, scan_blank_line, scan_blanks, scan_nextline,
+    begins, content_len, is_space_or_tab, scan_blank_line, scan_blanks, scan_nextline,
     scan_whitespace_no_nl,
 };
 use first_pass_lines::places::rest_of;
@@ -20,10 +20,14 @@ use std::alloc::{AllocError, Global};
 
 // The number of trailing spaces and tabs.
 fn scan_last_blanks(bytes: &[u8]) -> usize
-    ensures value { result ≡ suffix_len is_blank bytes.now }
+    ensures value { result ≡ suffix_len is_space_or_tab bytes.now }
     ensures within { result ≤ length bytes.now }
 {
-    bytes.iter().rev().take_while(|b| is_blank(**b)).count()
+    bytes
+        .iter()
+        .rev()
+        .take_while(|b| is_space_or_tab(**b))
+        .count()
 }
 
 // The bytes without leading and trailing spaces and tabs.

@@ -24,10 +24,10 @@ use Rattle.first_pass_grammar.specs.Leaves.{Document, document, around}
 use Rattle.first_pass_grammar.specs.Completion.{lines_from}
 use Rattle.first_pass_grammar.specs.Tables.{AreCells, filled, row_block, row_text, Taken, taking, FoundRow, HasCells, TableSoFar, table_so_far, AreRows}
 use Rattle.first_pass_grammar.specs.Tables.{most_filled}
-use Rattle.first_pass_grammar.proofs.CountedRows.{is_row, with_row, CountedRows, counted, are_rows}
-use Rattle.first_pass_grammar.proofs.MoreNames.{extends_both}
-use Rattle.first_pass_grammar.proofs.RowEnds.{row_ends_at_place}
-use Rattle.first_pass_grammar.proofs.TextsMore.{cells_more}
+use Rattle.first_pass_grammar.proofs.Count.RowsWithRoom.{is_row, with_row, RowsWithRoom, counted, are_rows}
+use Rattle.first_pass_grammar.proofs.Names.MoreNames.{extends_both}
+use Rattle.first_pass_grammar.proofs.Order.RowEnds.{row_ends_at_place}
+use Rattle.first_pass_grammar.proofs.Names.TextsMore.{cells_more}
 use Rattle.first_pass_open.specs.OpenBlock.{IsJustPushed, closed_by}
 use Rattle.first_pass_open.specs.Path.{path_of, path_in}
 use Rattle.first_pass_open.proofs.PathLemmas.{AreIn, path_in-append}
@@ -67,7 +67,7 @@ row_more : (d : Document) (path : List Container) (table : TableSoFar) (at : ℕ
     → row.row_end ≡ at + line_len (drop at d.text) → HasCells d path (line_place at (drop at d.text)) table.braces row → is_row table row.cells ≡ true
     → AreRows d path (with_row table row) (lines_from d.text row.row_end) more
     → AreRows d path table (lines_from d.text at) (taking (row_block TableRow table.columns row.start row.cells row.row_end ++ more.items) more.left)
-unfolding CountedRows
+unfolding RowsWithRoom
 row_more d path table at row more within next_is has is rest =
     let t : Taken = taking (row_block TableRow table.columns row.start row.cells row.row_end ++ more.items) more.left in
     let lines : List Place = line_place at (drop at d.text) ∷ lines_from d.text row.row_end in
@@ -79,16 +79,16 @@ row_more d path table at row more within next_is has is rest =
 -- no row, before the remaining lines
 row_none_by : (d : Document) (path : List Container) (table : TableSoFar) (line : Place) (lines : List Place) → row_text (around d path) line ≡ None
     → AreRows d path table (line ∷ lines) (taking [] (line ∷ lines))
-unfolding CountedRows
+unfolding RowsWithRoom
 row_none_by d path table line lines h = are_rows d path table (line ∷ lines) (taking [] (line ∷ lines)) (inl (h, refl))
 
 row_over_by : (d : Document) (path : List Container) (table : TableSoFar) (row : FoundRow) (line : Place) (lines : List Place)
     → HasCells d path line table.braces row → is_row table row.cells ≡ false → AreRows d path table (line ∷ lines) (taking [] (line ∷ lines))
-unfolding CountedRows
+unfolding RowsWithRoom
 row_over_by d path table row line lines has is = are_rows d path table (line ∷ lines) (taking [] (line ∷ lines)) (inr (row, has, inl (is, refl)))
 
 rows_none : (d : Document) (path : List Container) (table : TableSoFar) → AreRows d path table [] (taking [] [])
-unfolding CountedRows
+unfolding RowsWithRoom
 rows_none d path table = are_rows d path table [] (taking [] []) refl
 
 -- no line is left, or one is

@@ -20,15 +20,15 @@ use Rattle.first_pass_tokens.specs.TreeTokens.{leaves}
 use Rattle.first_pass_tokens.proofs.BytesLemmas.{few_in_cell}
 use Rattle.first_pass_tokens.proofs.LineLemmas.{cell_ends}
 use Rattle.first_pass_tokens.proofs.OrderLemmas.{order_from, cell_in_order, cell_end_place}
-use Rattle.first_pass_grammar.specs.Counting.{own_nodes}
+use Rattle.first_pass_grammar.specs.Counting.{counted_nodes}
 use Rattle.first_pass_grammar.specs.Leaves.{Document}
 use Rattle.first_pass_grammar.specs.Order.{Ranged, extent_of, extents, Siblings, Empty, Node, laid, IsBetween, Elsewhere, below, Fits}
 use Rattle.first_pass_grammar.specs.Tables.{cell_start, cell_text, cell_block, AreCells, filled, side_by_side, row_cells, row_block}
-use Rattle.first_pass_grammar.proofs.Orders.{beside, extents-append, extents-at_depth, laid-beside, laid-at_depth, fits-order, fits-later, fits-any}
-use Rattle.first_pass_grammar.proofs.Orders.{fits-beside, row_of, row_of-fits, length-block}
-use Rattle.first_pass_grammar.proofs.OwnNodes.{own_at_most, own_join, own_at_depth, AreCellsAt, own_filled}
-use Rattle.first_pass_grammar.proofs.RowEnds.{row_ends_its_line, begun_there, cell_takes_a_byte}
-use Rattle.first_pass_grammar.proofs.TableEnds.{cells_end, text_within}
+use Rattle.first_pass_grammar.proofs.Order.Orders.{beside, extents-append, extents-at_depth, laid-beside, laid-at_depth, fits-order, fits-later, fits-any}
+use Rattle.first_pass_grammar.proofs.Order.Orders.{fits-beside, row_of, row_of-fits, length-block}
+use Rattle.first_pass_grammar.proofs.Count.CountedNodes.{own_at_most, own_join, own_at_depth, AreCellsAt, own_filled}
+use Rattle.first_pass_grammar.proofs.Order.RowEnds.{row_ends_its_line, begun_there, cell_takes_a_byte}
+use Rattle.first_pass_grammar.proofs.Order.TableEnds.{cells_end, text_within}
 use Rattle.first_pass_open.proofs.PlaceLemmas.{place_end, line_start_end}
 use Rattle.first_pass_tables.proofs.RowCells.{side_more}
 
@@ -71,7 +71,7 @@ between-block text from to x kids between (row, is, fits) = (
 )
 
 -- it counts at most once
-pub own_block : (x : Item) (kids : List (ℕ × Item)) → own_nodes (block_of x kids) ≤ suc (own_nodes kids)
+pub own_block : (x : Item) (kids : List (ℕ × Item)) → counted_nodes (block_of x kids) ≤ suc (counted_nodes kids)
 own_block x kids =
     let first = own_join None ((0, x) ∷ []) (at_depth 1 kids) in
     let one = own_at_most None ((0, x) ∷ []) in
@@ -117,7 +117,7 @@ record OneCell (d : Document) (at stop : ℕ) (cell : List (ℕ × Item)) : Type
   within : stop ≤ length d.text
   ends : IsCharBoundary d.text stop
   between : AreBetween d.text at stop cell
-  node_bound : own_nodes cell ≤ 2 * (stop - at)
+  node_bound : counted_nodes cell ≤ 2 * (stop - at)
 
 one_cell : {after : MathBraces} (d : Document) (p : Spot) (tokens : List Item) (stop : ℕ) → IsUtf8 d.text → IsCharBoundary d.text p.at
     → at_line_end (drop (cell_text d.text p.at) d.text) ≡ false → IsCell d.names.texts (begun_there d p) tokens stop after
@@ -150,7 +150,7 @@ one_cell d p tokens stop utf8 boundary on cell =
 -- The cells of a row in the table, up to a number, are in order between the start and the end of the row.
 record KeptCells (text : List ℕ) (from to : ℕ) (items : List (ℕ × Item)) : Type 0 where
   between : AreBetween text from to items
-  node_bound : own_nodes items ≤ 2 * (to - from)
+  node_bound : counted_nodes items ≤ 2 * (to - from)
 
 kept_none : (text : List ℕ) (from to : ℕ) → from ≤ to → KeptCells text from to []
 kept_none text from to h = (let none = own_at_most None [] in record { between = between-none text from to h; node_bound = omega arith })
@@ -208,10 +208,10 @@ unfolding AreCellsAt
 empty_at at zero = tt
 empty_at at (suc n) = (refl, refl, empty_at at n)
 
--- A row is in order between its start and its end. It has at most two nodes of its own, and two for each byte.
+-- A row is in order between its start and its end. It has at most two counted nodes, and two for each byte.
 pub record OneRow (text : List ℕ) (from to : ℕ) (items : List (ℕ × Item)) : Type 0 where
   pub between : AreBetween text from to items
-  pub node_bound : own_nodes items ≤ 2 + 2 * (to - from)
+  pub node_bound : counted_nodes items ≤ 2 + 2 * (to - from)
 
 pub row_fits : (d : Document) (body : ItemBody) (columns : ℕ) (p : Spot) (cells : List (List (ℕ × Item))) (to : Spot) → IsUtf8 d.text
     → IsCharBoundary d.text p.at → AreCells d p cells to → OneRow d.text p.at to.at (row_block body columns p.at cells to.at)
@@ -228,7 +228,7 @@ row_fits d body columns p cells to utf8 boundary are =
     (between-join d.text start stop stop (side_by_side (take columns cells)) (side_by_side missing) kept.between
     (empty_between d.text stop (filled columns cells) ends)) in
     let own = own_block x (row_cells columns cells stop) in
-    let split = ap own_nodes parts in
+    let split = ap counted_nodes parts in
     let both = own_join None (side_by_side (take columns cells)) (side_by_side missing) in
     let last = own_filled None stop (side_by_side missing) (empty_at stop (filled columns cells)) in
     let some = kept.node_bound in

@@ -16,9 +16,9 @@ use Rattle.first_pass_tokens.proofs.LineLemmas.{cell_ends}
 use Rattle.first_pass_grammar.specs.Names.{Names, Extends}
 use Rattle.first_pass_grammar.specs.Leaves.{Document, document}
 use Rattle.first_pass_grammar.specs.Tables.{cell_content, cell_start, cell_text, cell_block, AreCells, side_by_side}
-use Rattle.first_pass_grammar.proofs.MoreNames.{extends_none, extends_both}
-use Rattle.first_pass_grammar.proofs.RowEnds.{begun_there}
-use Rattle.first_pass_grammar.proofs.TextsMore.{cell_later}
+use Rattle.first_pass_grammar.proofs.Names.MoreNames.{extends_none, extends_both}
+use Rattle.first_pass_grammar.proofs.Order.RowEnds.{begun_there}
+use Rattle.first_pass_grammar.proofs.Names.TextsMore.{cell_later}
 use Rattle.first_pass_tables.specs.Appends.{AddsCell}
 use Rattle.first_pass_tables.specs.Reading.{GoOn, AreAppended, AreAllAppended}
 

@@ -18,10 +18,10 @@ use Rattle.first_pass_grammar.specs.Leaves.{Document, around}
 use Rattle.first_pass_grammar.specs.OpenOrder.{within_top}
 use Rattle.first_pass_grammar.specs.Order.{Within, Elsewhere, FitsBetween}
 use Rattle.first_pass_grammar.specs.Tables.{AreCells, filled, row_block, taking, table_so_far, most_filled}
-use Rattle.first_pass_grammar.proofs.Orders.{between-any}
-use Rattle.first_pass_grammar.proofs.OwnNodes.{own_join}
-use Rattle.first_pass_grammar.proofs.RowEnds.{row_ends_its_line}
-use Rattle.first_pass_grammar.proofs.TableEnds.{cells_end}
+use Rattle.first_pass_grammar.proofs.Order.Orders.{between-any}
+use Rattle.first_pass_grammar.proofs.Count.CountedNodes.{own_join}
+use Rattle.first_pass_grammar.proofs.Order.RowEnds.{row_ends_its_line}
+use Rattle.first_pass_grammar.proofs.Order.TableEnds.{cells_end}
 use Rattle.first_pass_open.specs.Path.{path_of}
 use Rattle.first_pass_open.specs.Between.{line_end_at}
 use Rattle.first_pass_open.specs.Between.{AddsBetween}

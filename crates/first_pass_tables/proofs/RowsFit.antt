@@ -15,13 +15,13 @@ use Rattle.first_pass_tokens.specs.LineTokens.{Spot, spot}
 use Rattle.first_pass_grammar.specs.declared.kind.Container.{Container}
 use Rattle.first_pass_grammar.specs.Completion.{lines_from}
 use Rattle.first_pass_grammar.specs.Containers.{Context, at_rest, after}
-use Rattle.first_pass_grammar.specs.Counting.{own_nodes}
+use Rattle.first_pass_grammar.specs.Counting.{counted_nodes}
 use Rattle.first_pass_grammar.specs.Kinds.{unindented}
 use Rattle.first_pass_grammar.specs.Leaves.{Document, around}
 use Rattle.first_pass_grammar.specs.Tables.{AreCells, filled, row_block, interrupts_row, row_text, Taken, taking, TableSoFar, AreRows}
-use Rattle.first_pass_grammar.proofs.CountedRows.{with_row, CountedRows, counted}
-use Rattle.first_pass_grammar.proofs.OwnNodes.{own_at_most, own_join}
-use Rattle.first_pass_grammar.proofs.RowEnds.{row_ends_at_place}
+use Rattle.first_pass_grammar.proofs.Count.RowsWithRoom.{with_row, RowsWithRoom, counted}
+use Rattle.first_pass_grammar.proofs.Count.CountedNodes.{own_at_most, own_join}
+use Rattle.first_pass_grammar.proofs.Order.RowEnds.{row_ends_at_place}
 use Rattle.first_pass_open.proofs.PlaceLemmas.{all_keep, after_keeps, line_start_end}
 use Rattle.first_pass_tables.proofs.CellsFit.{AreBetween, between-none, between-order, between-join, between-wider, some_cells, row_boundary, row_fits}
 
@@ -69,10 +69,10 @@ first_line text n line lines is =
       | inr past ↦ let e : line ∷ lines ≡ [] = is ∙ lines_at-end text n past in cc
     ]
 
--- The rows are in order between two offsets, and have at most four nodes of their own for each byte there.
+-- The rows are in order between two offsets, and have at most four counted nodes for each byte there.
 pub record RowsBetween (text : List ℕ) (from to : ℕ) (items : List (ℕ × Item)) : Type 0 where
   pub between : AreBetween text from to items
-  pub node_bound : own_nodes items ≤ 4 * (to - from)
+  pub node_bound : counted_nodes items ≤ 4 * (to - from)
 
 no_rows : (text : List ℕ) (n : ℕ) (lines : List Place) (t : Taken) → n ≤ length text → lines ≡ lines_from text n → t ≡ taking [] lines
     → RowsBetween text n (start_of (length text) t.left) t.items
@@ -102,9 +102,9 @@ one_more_row d columns n begin cells ended to more utf8 boundary are following s
 
 -- The rows of a table's body are so between the first of its lines and the first line that is no row.
 counted_fit : (d : Document) (path : List Container) (table : TableSoFar) (lines : List Place) (n : ℕ) (t : Taken) → IsUtf8 d.text
-    → IsCharBoundary d.text n → lines ≡ lines_from d.text n → CountedRows d path table lines t
+    → IsCharBoundary d.text n → lines ≡ lines_from d.text n → RowsWithRoom d path table lines t
     → RowsBetween d.text n (start_of (length d.text) t.left) t.items
-unfolding CountedRows
+unfolding RowsWithRoom
 counted_fit d path table [] n t utf8 boundary is e = no_rows d.text n [] t boundary.0 is e
 counted_fit d path table (line ∷ lines) n t utf8 boundary is (inl (none, e)) = no_rows d.text n (line ∷ lines) t boundary.0 is e
 counted_fit d path table (line ∷ lines) n t utf8 boundary is (inr (row, has, inl (stops, e))) = no_rows d.text n (line ∷ lines) t boundary.0 is e

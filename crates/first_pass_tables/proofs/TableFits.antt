@@ -14,9 +14,9 @@ use Rattle.first_pass_grammar.specs.Completion.{lines_from}
 use Rattle.first_pass_grammar.specs.Leaves.{Document}
 use Rattle.first_pass_grammar.specs.Order.{Within, Elsewhere, FitsBetween}
 use Rattle.first_pass_grammar.specs.Tables.{filled, row_block, taking, table_so_far, most_filled, IsTable}
-use Rattle.first_pass_grammar.proofs.Orders.{between-any}
-use Rattle.first_pass_grammar.proofs.OwnNodes.{own_join}
-use Rattle.first_pass_grammar.proofs.RowEnds.{row_ends_its_line}
+use Rattle.first_pass_grammar.proofs.Order.Orders.{between-any}
+use Rattle.first_pass_grammar.proofs.Count.CountedNodes.{own_join}
+use Rattle.first_pass_grammar.proofs.Order.RowEnds.{row_ends_its_line}
 use Rattle.first_pass_open.specs.Between.{line_end_at}
 use Rattle.first_pass_tables.proofs.CellsFit.{OneRow, between-order, between-join, between-wider, between-block, own_block, row_fits}
 use Rattle.first_pass_tables.proofs.RowsFit.{RowsBetween, rows_fit}

@@ -11,8 +11,8 @@ use Rattle.first_pass_grammar.specs.Leaves.{Document}
 use Rattle.first_pass_grammar.specs.Completion.{lines_from}
 use Rattle.first_pass_grammar.specs.Tables.{filled, row_block, taking, TableSoFar, table_so_far, most_filled}
 use Rattle.first_pass_grammar.specs.WholeTables.{Mark, ATable, ARow, ACell, shown, marks, RowCells, row_marks, filled_in, HaveCells}
-use Rattle.first_pass_grammar.proofs.HeadCells.{head_has_cells}
-use Rattle.first_pass_grammar.proofs.TableMarks.{marks-append, row_shows, rows_show}
+use Rattle.first_pass_grammar.proofs.WholeTables.HeadCells.{head_has_cells}
+use Rattle.first_pass_grammar.proofs.WholeTables.TableMarks.{marks-append, row_shows, rows_show}
 use Rattle.first_pass_open.specs.Path.{path_of}
 use Rattle.first_pass_tables.specs.Appends.{AppendsRows, AddsWholeRows}
 

@@ -133,7 +133,7 @@ pub record AppendsRows (d : Document) (columns head_start body_start : ℕ) (old
   pub boundary : IsCharBoundary d.text next
 
 -- Nodes are added to the innermost open node, which is closed after them at an offset. They lie in order between
--- another offset and that one, at most four of their own for each byte there (this project).
+-- another offset and that one, at most four counted nodes for each byte there (this project).
 pub record ClosesBetween (text : List ℕ) (from to : ℕ) (old new : Forest Item) : Type 0 where
   pub items : List (ℕ × Item)
   pub tree_is : new ≡ closed_by (with_below old items) to old.spine

@@ -163,7 +163,7 @@ pub fn parse_table(
     ensures fits { IfOk result (λ next. (from : ℕ) → from ≤ rows.head_start
         → line_end_at source.now.text.now rows.head_start ≤ rows.body_start
         → ClosesBetween source.now.text.now from next tree.old tree.new) }
-    ensures whole { IfOk result (λ next.
+    ensures tables { IfOk result (λ next.
         AddsWholeRows (document source.now.text.now source.now.options (names_of allocs.new)) rows.columns
         rows.head_start tree.old tree.new next) }
 {

@@ -17,7 +17,7 @@ use Rattle.first_pass_attributes.specs.AttributeBlocks.{Braces, attribute_block,
 use Rattle.first_pass_attributes.specs.Attributes.{Attributes, attributes_of, attributes_in}
 use Rattle.first_pass_attributes.specs.declared.attrs.HeadingAttributes.{HeadingAttributes}
 use Rattle.first_pass_attributes.proofs.BlockFacts.{block-found}
-use Rattle.first_pass_grammar.specs.Headings.{heading_braces, heading_attributes_of, before_attributes, chain_end, chain_bytes}
+use Rattle.first_pass_grammar.specs.Headings.{heading_attribute_block, heading_attributes_of, before_attributes, chain_end, chain_bytes}
 use Rattle.first_pass_grammar.specs.Headings.{kept_before}
 use Rattle.first_pass_items.specs.declared.item.Item.{Item}
 use Rattle.first_pass_lines.specs.Lines.{is_white}
@@ -52,23 +52,23 @@ between_both text start to a b within =
     ]
 
 -- without heading attributes, or in an empty text, there is no block
-pub no_braces : (options : Options) (bs : List ℕ) → has options heading_attributes ≡ false → heading_braces options bs ≡ None
-unfolding heading_braces
+pub no_braces : (options : Options) (bs : List ℕ) → has options heading_attributes ≡ false → heading_attribute_block options bs ≡ None
+unfolding heading_attribute_block
 no_braces options bs h = rw h refl
 
-pub empty_braces : (options : Options) → heading_braces options [] ≡ None
-unfolding heading_braces attribute_block
+pub empty_braces : (options : Options) → heading_attribute_block options [] ≡ None
+unfolding heading_attribute_block attribute_block
 empty_braces options = cond_both (has options heading_attributes) (attribute_block []) None (λ (o : Option Braces). o ≡ None) (λ b. refl) (λ b. refl)
 
-pub these_braces : (options : Options) (bs : List ℕ) → has options heading_attributes ≡ true → heading_braces options bs ≡ attribute_block bs
-unfolding heading_braces
+pub these_braces : (options : Options) (bs : List ℕ) → has options heading_attributes ≡ true → heading_attribute_block options bs ≡ attribute_block bs
+unfolding heading_attribute_block
 these_braces options bs h = rw h refl
 
 -- a text without a block
-pub before_none : (options : Options) (bs : List ℕ) → heading_braces options bs ≡ None → before_attributes options bs ≡ bs
+pub before_none : (options : Options) (bs : List ℕ) → heading_attribute_block options bs ≡ None → before_attributes options bs ≡ bs
 before_none options bs h = ap (λ (o : Option Braces). option_map_or (λ block. take block.opening bs) o bs) h
 
-pub given_none : (options : Options) (bs : List ℕ) → heading_braces options bs ≡ None → heading_attributes_of options bs ≡ None
+pub given_none : (options : Options) (bs : List ℕ) → heading_attribute_block options bs ≡ None → heading_attributes_of options bs ≡ None
 given_none options bs h = ap (option_map (λ (block : Braces). attributes_of (slice_range bs (block.opening + 1) block.closing))) h
 
 -- a block is within its text
@@ -85,8 +85,8 @@ block_within bs block e =
     (omega (arith, is.opens, is.closes), omega (arith, is.opens, is.closes))
 
 pub braces_within : (options : Options) (bs : List ℕ) (block : Braces)
-    → heading_braces options bs ≡ Some block → (block.opening + 1 ≤ block.closing) × (block.closing < length bs)
-unfolding heading_braces
+    → heading_attribute_block options bs ≡ Some block → (block.opening + 1 ≤ block.closing) × (block.closing < length bs)
+unfolding heading_attribute_block
 braces_within options bs block e = block_within bs block (some_if (has options heading_attributes) (attribute_block bs) block e)
 
 -- the number of bytes before a block
@@ -152,31 +152,31 @@ brace_boundary text bs start to opening at utf8 bs_is within less opens at_is =
     subst (IsCharBoundary text) same (IsCharBoundary-after_ascii text (start + opening) utf8 (omega arith) (omega (arith, opens)))
 
 -- a text has a block if attributes were found, and none if none were
-given_by : (options : Options) (bs : List ℕ) (found : Option HeadingAttributes) (o : Option Braces) → heading_braces options bs ≡ o
+given_by : (options : Options) (bs : List ℕ) (found : Option HeadingAttributes) (o : Option Braces) → heading_attribute_block options bs ≡ o
     → option_map attributes_in found ≡ option_map (λ (block : Braces). attributes_of (slice_range bs (block.opening + 1) block.closing)) o
-    → is_some found ≡ true → (block : Braces) × (heading_braces options bs ≡ Some block)
+    → is_some found ≡ true → (block : Braces) × (heading_attribute_block options bs ≡ Some block)
 given_by options bs found (Some block) is e some = (block, is)
 given_by options bs (Some a) None is e some = absurd cc
 given_by options bs None None is e some = absurd cc
 
-none_by : (options : Options) (bs : List ℕ) (found : Option HeadingAttributes) (o : Option Braces) → heading_braces options bs ≡ o
+none_by : (options : Options) (bs : List ℕ) (found : Option HeadingAttributes) (o : Option Braces) → heading_attribute_block options bs ≡ o
     → option_map attributes_in found ≡ option_map (λ (block : Braces). attributes_of (slice_range bs (block.opening + 1) block.closing)) o
-    → is_some found ≡ false → heading_braces options bs ≡ None
+    → is_some found ≡ false → heading_attribute_block options bs ≡ None
 none_by options bs found None is e none = is
 none_by options bs None (Some block) is e none = absurd cc
 none_by options bs (Some a) (Some block) is e none = absurd cc
 
 pub block_given : (options : Options) (bs : List ℕ) (found : Option HeadingAttributes) → option_map attributes_in found ≡ heading_attributes_of options bs
-    → is_some found ≡ true → (block : Braces) × (heading_braces options bs ≡ Some block)
-block_given options bs found e some = given_by options bs found (heading_braces options bs) refl e some
+    → is_some found ≡ true → (block : Braces) × (heading_attribute_block options bs ≡ Some block)
+block_given options bs found e some = given_by options bs found (heading_attribute_block options bs) refl e some
 
 pub none_given : (options : Options) (bs : List ℕ) (found : Option HeadingAttributes) → option_map attributes_in found ≡ heading_attributes_of options bs
-    → is_some found ≡ false → heading_braces options bs ≡ None
-none_given options bs found e none = none_by options bs found (heading_braces options bs) refl e none
+    → is_some found ≡ false → heading_attribute_block options bs ≡ None
+none_given options bs found e none = none_by options bs found (heading_attribute_block options bs) refl e none
 
 -- the end of the content before a block
 pub length_some : (options : Options) (bs : List ℕ) (block : Braces)
-    → heading_braces options bs ≡ Some block → length (before_attributes options bs) ≡ block.opening
+    → heading_attribute_block options bs ≡ Some block → length (before_attributes options bs) ≡ block.opening
 length_some options bs block h =
     let inside = braces_within options bs block h in
     ap (λ (o : Option Braces). length (option_map_or (λ (b : Braces). take b.opening bs) o bs)) h
@@ -204,7 +204,7 @@ cut_place false start opening content_end white bs content e f g =
     omega arith
 
 pub cut_by : (text : List ℕ) (options : Options) (start : ℕ) (broken : Bool) (chain : List Item) (block : Braces) (content_end white : ℕ) (content : List ℕ)
-    → heading_braces options (chain_bytes text start chain) ≡ Some block
+    → heading_attribute_block options (chain_bytes text start chain) ≡ Some block
     → content_end ≡ start + length (before_attributes options (chain_bytes text start chain))
     → content ≡ slice_range text start content_end → white ≡ (if broken then 0 else suffix_len is_white content)
     → cut_chain text options start broken chain ≡ cut (content_end - white) chain
@@ -221,7 +221,7 @@ cut_by text options start broken chain block content_end white content h e f g =
     ∙ ap (λ n. cut n chain) (cut_place broken start block.opening content_end white bs content ends content_is g)
 
 pub cut_none : (text : List ℕ) (options : Options) (start : ℕ) (broken : Bool) (chain : List Item)
-    → heading_braces options (chain_bytes text start chain) ≡ None
+    → heading_attribute_block options (chain_bytes text start chain) ≡ None
     → cut_chain text options start broken chain ≡ chain
 cut_none text options start broken chain h =
     ap (λ (o : Option Braces). option_map_or (λ (b : Braces). cut (start + kept_before broken b.opening (chain_bytes text start chain)) chain) o chain) h
@@ -263,8 +263,8 @@ past_front : (front : List ℕ) (b : ℕ) (more : List ℕ) → get_or (front ++
 past_front [] b more = refl
 past_front (x ∷ front) b more = past_front front b more
 
-pub opens_with : (options : Options) (bs : List ℕ) (block : Braces) → heading_braces options bs ≡ Some block → get_or bs block.opening 0 ≡ left_brace
-unfolding heading_braces
+pub opens_with : (options : Options) (bs : List ℕ) (block : Braces) → heading_attribute_block options bs ≡ Some block → get_or bs block.opening 0 ≡ left_brace
+unfolding heading_attribute_block
 opens_with options bs block e =
     let is = block-found bs block (some_if (has options heading_attributes) (attribute_block bs) block e) in
     ap (λ n. get_or bs n 0) is.opens ∙ ap (λ xs. get_or xs (length is.front) 0) is.parts
@@ -272,7 +272,7 @@ opens_with options bs block e =
 
 -- the text from which a heading's line is read, and the bytes before its block
 
-content_by : (options : Options) (line : List ℕ) (size : ℕ) (o : Option Braces) → heading_braces options (take size line) ≡ o → size ≤ length line
+content_by : (options : Options) (line : List ℕ) (size : ℕ) (o : Option Braces) → heading_attribute_block options (take size line) ≡ o → size ≤ length line
     → take (length (before_attributes options (take size line))) line ≡ before_attributes options (take size line)
 content_by options line size None h fits =
     let same = before_none options (take size line) h in
@@ -289,7 +289,7 @@ pub content_read : (options : Options) (text : List ℕ) (start size content_end
     → slice_range text start content_end ≡ before_attributes options (take size (drop start text))
 content_read options text start size content_end fits ends =
     let n : content_end - start ≡ length (before_attributes options (take size (drop start text))) = omega arith in
-    ap (λ k. take k (drop start text)) n ∙ content_by options (drop start text) size (heading_braces options (take size (drop start text))) refl fits
+    ap (λ k. take k (drop start text)) n ∙ content_by options (drop start text) size (heading_attribute_block options (take size (drop start text))) refl fits
 
 -- cut tokens are no more than before, whatever is left of each
 fewer_by : (t u v : Bool) (n m k : ℕ × Item) (cs ns : List (ℕ × Item)) → length cs ≤ length ns

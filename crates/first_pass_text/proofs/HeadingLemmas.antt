@@ -16,10 +16,10 @@ use Rattle.first_pass_tokens.specs.Chains.{add_tokens, close_break, cut}
 use Rattle.first_pass_tokens.specs.Pieces.{Inline, text_upto}
 use Rattle.first_pass_tokens.specs.TreeTokens.{chained, AppendsLine}
 use Rattle.first_pass_tokens.proofs.ChainLemmas.{with_tokens-chained, joins_none-fresh, chained-spine, childless-chained, cut_siblings-chained}
-use Rattle.first_pass_grammar.specs.Headings.{heading_braces, before_attributes, heading_attributes_of, text_before_attributes}
+use Rattle.first_pass_grammar.specs.Headings.{heading_attribute_block, before_attributes, heading_attributes_of, text_before_attributes}
 use Rattle.first_pass_items.specs.declared.cow_str.CowStr.{CowStr}
 use Rattle.first_pass_grammar.specs.Names.{Names, NamesAttributes, Extends}
-use Rattle.first_pass_grammar.proofs.MoreNames.{extends_both}
+use Rattle.first_pass_grammar.proofs.Names.MoreNames.{extends_both}
 use Rattle.first_pass_tokens.proofs.NamedTexts.{line_more}
 use Rattle.first_pass_tokens.specs.Braces.{MathBraces, no_braces}
 use Rattle.first_pass_grammar.specs.Leaves.{document, kept_len, heading_chain, heading_text_at, IsHeading}
@@ -108,7 +108,7 @@ cut_text : (text : List ℕ) (start : ℕ) (o : Option Braces)
 cut_text text start None = refl
 cut_text text start (Some block) = refl
 
-cut_content : (options : Options) (text : List ℕ) (start next : ℕ) (o : Option Braces) → heading_braces options (heading_line text start) ≡ o
+cut_content : (options : Options) (text : List ℕ) (start next : ℕ) (o : Option Braces) → heading_attribute_block options (heading_line text start) ≡ o
     → next ≡ line_end_at (text_upto text (cut_by start o)) start
     → slice_range text start (unwrap_or (cut_by start o) next) ≡ before_attributes options (heading_line text start)
 cut_content options text start next None h e =
@@ -120,7 +120,7 @@ cut_content options text start next (Some block) h e =
 -- The chain of an ATX heading's line that was read, and the attributes that were found.
 pub heading_read : (text : List ℕ) (options : Options) (before names : Names) (start next : ℕ) (cut : Option ℕ)
     (index : Option HeadingIndex) (front content : List ℕ) (old new : Forest Item)
-    → cut ≡ cut_by start (heading_braces options (heading_line text start))
+    → cut ≡ cut_by start (heading_attribute_block options (heading_line text start))
     → front ≡ text_upto text cut → next ≡ line_end_at front start → content ≡ slice_range text start (unwrap_or cut next)
     → AppendsHeading names.texts (record { options = options; whole = text; text = front; start = start; row = false; braces = no_braces }) content old new
     → Extends names before → ((more : Names) → Extends more before → NamesAttributes more index (heading_attributes_of options (heading_line text start)))
@@ -129,7 +129,7 @@ pub heading_read : (text : List ℕ) (options : Options) (before names : Names) 
     → IsHeading (document text options more) start index chain next)
 heading_read text options before names start next cut index front content old new cut_is front_is next_is content_is a grown named =
     let line : List ℕ = heading_line text start in
-    let o : Option Braces = heading_braces options line in
+    let o : Option Braces = heading_attribute_block options line in
     let upto : front ≡ text_upto text (cut_by start o) = front_is ∙ ap (text_upto text) cut_is in
     let text_is : front ≡ text_before_attributes options text start line = upto ∙ cut_text text start o in
     let whole : content ≡ before_attributes options line =
@@ -142,7 +142,8 @@ heading_read text options before names start next cut index front content old ne
         answer = a.answer;
         after = a.after;
         line = subst (λ t.
-            AreLineTokens more.texts (record { options = options; whole = text; text = t; start = start; row = false; braces = no_braces }) a.tokens a.answer a.after)
+            AreLineTokens more.texts (record { options = options; whole = text; text = t; start = start; row = false; braces = no_braces }) a.tokens a.answer
+            a.after)
             text_is
             (line_more (e.more_texts, e.texts) a.line);
         chain_is = refl;
@@ -166,13 +167,13 @@ unfolding place_at
 end_of text start next None e = e
 end_of text start next (Some b) e = refl
 
-pub place_none : (options : Options) (text : List ℕ) (start : ℕ) → heading_braces options (heading_line text start) ≡ None
+pub place_none : (options : Options) (text : List ℕ) (start : ℕ) → heading_attribute_block options (heading_line text start) ≡ None
     → attribute_place options text start ≡ None
 unfolding place_at
 place_none options text start h = ap (option_map (place_at text start)) h
 
 pub place_some : (options : Options) (text : List ℕ) (start opening to : ℕ) (block : Braces)
-    → heading_braces options (heading_line text start) ≡ Some block
+    → heading_attribute_block options (heading_line text start) ≡ Some block
     → opening ≡ start + length (before_attributes options (heading_line text start)) → to ≡ line_end_at text start
     → Some (record { opening = opening; line_end = to }) ≡ attribute_place options text start
 unfolding place_at
@@ -181,12 +182,14 @@ place_some options text start opening to block h e f =
     rw (at, f) (sym (ap (option_map (place_at text start)) h))
 
 pub place_cut : (text : List ℕ) (options : Options) (start : ℕ) (place : Option AttributePlace) → place ≡ attribute_place options text start
-    → option_map (λ (p : AttributePlace). p.opening) place ≡ option_map (λ (b : Braces). start + b.opening) (heading_braces options (heading_line text start))
+    → option_map (λ (p : AttributePlace). p.opening) place
+    ≡ option_map (λ (b : Braces). start + b.opening) (heading_attribute_block options (heading_line text start))
 unfolding place_at
 place_cut text options start place e =
-    ap (option_map (λ (p : AttributePlace). p.opening)) e ∙ cut_of text start (heading_braces options (heading_line text start))
+    ap (option_map (λ (p : AttributePlace). p.opening)) e ∙ cut_of text start (heading_attribute_block options (heading_line text start))
 
-fits_by : (text : List ℕ) (options : Options) (start : ℕ) (o : Option Braces) → heading_braces options (heading_line text start) ≡ o → start ≤ length text
+fits_by : (text : List ℕ) (options : Options) (start : ℕ) (o : Option Braces) → heading_attribute_block options (heading_line text start) ≡ o
+    → start ≤ length text
     → IfSome (cut_by start o) (λ e. e ≤ length text) × (start ≤ length (text_upto text (cut_by start o)))
 fits_by text options start None h within = (tt, within)
 fits_by text options start (Some block) h within =
@@ -203,7 +206,7 @@ pub place_fits : (text : List ℕ) (options : Options) (start : ℕ) (place : Op
     → IfSome cut (λ e. e ≤ length text) × (start ≤ length (text_upto text cut))
 place_fits text options start place cut e f within =
     subst (λ c. IfSome c (λ e. e ≤ length text) × (start ≤ length (text_upto text c))) (sym (f ∙ place_cut text options start place e))
-    (fits_by text options start (heading_braces options (heading_line text start)) refl within)
+    (fits_by text options start (heading_attribute_block options (heading_line text start)) refl within)
 
 pub place_end : (text : List ℕ) (options : Options) (start next : ℕ) (place : Option AttributePlace) → place ≡ attribute_place options text start
     → next ≡ line_end_at (text_upto text (option_map (λ (p : AttributePlace). p.opening) place)) start
@@ -211,7 +214,7 @@ pub place_end : (text : List ℕ) (options : Options) (start next : ℕ) (place 
 unfolding place_at
 place_end text options start next place e f =
     ap (λ o. option_map_or (λ (p : AttributePlace). p.line_end) o next) e
-    ∙ end_of text start next (heading_braces options (heading_line text start))
+    ∙ end_of text start next (heading_attribute_block options (heading_line text start))
     (f ∙ ap (λ c. line_end_at (text_upto text c) start) (place_cut text options start place e))
 
 -- bytes that pass a test, all of which are content

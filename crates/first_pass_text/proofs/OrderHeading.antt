@@ -25,11 +25,11 @@ use Rattle.first_pass_tokens.proofs.BytesLemmas.{few_in_order, bytes_adds, bytes
 use Rattle.first_pass_tokens.proofs.LineLemmas.{ends_line as line_ends}
 use Rattle.first_pass_tokens.proofs.OrderLemmas.{order_bound, order_from, order_to, order_adds, line_in_order, closed_line_in_order, suffix_first}
 use Rattle.first_pass_tokens.proofs.Escapes.{EscapesStand, cut_escaped, escapes_adds, escapes_closed, line_escapes}
-use Rattle.first_pass_grammar.specs.Headings.{heading_braces, before_attributes, text_before_attributes}
-use Rattle.first_pass_grammar.specs.Leaves.{Document, document, is_put_aside, kept_len, heading_chain, heading_text_at, heading_block, line_bytes, rule_block}
+use Rattle.first_pass_grammar.specs.Headings.{heading_attribute_block, before_attributes, text_before_attributes}
+use Rattle.first_pass_grammar.specs.Leaves.{Document, document, is_space_or_line_end, kept_len, heading_chain, heading_text_at, heading_block, line_bytes, rule_block}
 use Rattle.first_pass_grammar.specs.Leaves.{IsHeading, content_at}
 use Rattle.first_pass_grammar.specs.Names.{Names}
-use Rattle.first_pass_grammar.proofs.MoreNames.{extends_none}
+use Rattle.first_pass_grammar.proofs.Names.MoreNames.{extends_none}
 use Rattle.first_pass_attributes.specs.AttributeBlocks.{Braces}
 use Rattle.first_pass_items.specs.Bytes.{left_brace}
 use Rattle.first_pass_items.specs.declared.item.HeadingIndex.{HeadingIndex}
@@ -42,7 +42,7 @@ use Rattle.first_pass_text.proofs.TextFronts.{front_len, front_utf8, place_in_fr
 use Rattle.std.specs.Option.{option_map_or}
 use Rattle.std.proofs.lemmas.Str.{IsCharBoundary-before_ascii}
 use Rattle.first_pass_grammar.specs.OpenOrder.{within_top}
-use Rattle.first_pass_grammar.proofs.Orders.{block_fits}
+use Rattle.first_pass_grammar.proofs.Order.Orders.{block_fits}
 use Rattle.first_pass_text.specs.Appends.{AddsHeading}
 use Rattle.first_pass_open.specs.Between.{line_end_at}
 use Rattle.first_pass_open.specs.Between.{AddsBetween}
@@ -52,11 +52,12 @@ use Rattle.first_pass_open.proofs.PlaceLemmas.{place_end, line_start_end}
 run_first : (p : ℕ → Bool) (xs : List ℕ) (n : ℕ) → n ≤ length xs → (suffix_len p (take n xs) ≡ 0) ⊎ (p (get_or xs (n - suffix_len p (take n xs)) 0) ≡ true)
 run_first p xs n within = elim (cases_lt 0 (suffix_len p (take n xs))) [ inl some ↦ inr (suffix_first p xs n within some).1 | inr none ↦ inl (omega arith) ]
 
--- after the kept bytes of a heading's text there is a byte that is put aside, or nothing; or no byte is kept
+-- after the kept bytes of a heading's text there is a byte that is left out, or nothing; or no byte is kept
 KeptAt : List ℕ → ℕ → Type 0
-KeptAt text n = (n ≡ 0) ⊎ (((n < length text) × (is_put_aside (get_or text n 0) ≡ true)) ⊎ ((n ≡ length text) × (suffix_len is_put_aside text ≡ 0)))
+KeptAt text n = (n ≡ 0) ⊎ (((n < length text) × (is_space_or_line_end (get_or text n 0) ≡ true))
+    ⊎ ((n ≡ length text) × (suffix_len is_space_or_line_end text ≡ 0)))
 
-kept_by : (text : List ℕ) (t o n : ℕ) → t ≡ length text - suffix_len is_put_aside text → o ≤ length text → n ≡ suffix_len (λ b. b == 32) (take o text)
+kept_by : (text : List ℕ) (t o n : ℕ) → t ≡ length text - suffix_len is_space_or_line_end text → o ≤ length text → n ≡ suffix_len (λ b. b == 32) (take o text)
     → KeptAt text (if (o == 0) || nat_lt 0 n then o - n else t)
 unfolding KeptAt
 kept_by text t o n e within g =
@@ -74,16 +75,17 @@ kept_by text t o n e within g =
       | inr none ↦ inl (omega arith)
     ])
     (λ c.
-    let all : suffix_len is_put_aside (take (length text) text) ≡ suffix_len is_put_aside text =
-    ap (suffix_len is_put_aside) (take_all (length text) text (omega arith)) in
-    elim (cases_lt 0 (suffix_len is_put_aside text)) [
+    let all : suffix_len is_space_or_line_end (take (length text) text) ≡ suffix_len is_space_or_line_end text =
+    ap (suffix_len is_space_or_line_end) (take_all (length text) text (omega arith)) in
+    elim (cases_lt 0 (suffix_len is_space_or_line_end text)) [
       | inl some ↦
-          let fits = suffix_len-le-length is_put_aside text in
-          elim (run_first is_put_aside text (length text) (omega arith)) [
+          let fits = suffix_len-le-length is_space_or_line_end text in
+          elim (run_first is_space_or_line_end text (length text) (omega arith)) [
             | inl none ↦ absurd (omega arith)
             | inr first ↦ inr (inl (
               omega arith,
-              ap (λ k. is_put_aside (get_or text k 0)) (let same : t ≡ length text - suffix_len is_put_aside (take (length text) text) = omega arith in same)
+              ap (λ k. is_space_or_line_end (get_or text k 0))
+                  (let same : t ≡ length text - suffix_len is_space_or_line_end (take (length text) text) = omega arith in same)
                   ∙ first,
             ))
           ]
@@ -92,7 +94,7 @@ kept_by text t o n e within g =
 
 kept_at : (text : List ℕ) → KeptAt text (kept_len text)
 kept_at text =
-    let t : ℕ = length text - suffix_len is_put_aside text in
+    let t : ℕ = length text - suffix_len is_space_or_line_end text in
     let o : ℕ = t - suffix_len (λ b. b == 35) (take t text) in
     subst (KeptAt text) (sym (kept_counted text)) (kept_by text t o (suffix_len (λ b. b == 32) (take o text)) refl (omega arith) refl)
 
@@ -117,10 +119,10 @@ last_of_line : (bs : List ℕ) → 0 < length bs → (is_line_end (slice_index b
 last_of_line [] h = absurd (omega arith)
 last_of_line (b ∷ bs) h = last_step (ends_line b bs) b bs refl (last_of_line bs)
 
-line_aside : (b : ℕ) → is_line_end b ≡ true → is_put_aside b ≡ true
+line_aside : (b : ℕ) → is_line_end b ≡ true → is_space_or_line_end b ≡ true
 line_aside b h = grind (arith, nat_tests, h)
 
-aside_small : (b : ℕ) → is_put_aside b ≡ true → b < 33
+aside_small : (b : ℕ) → is_space_or_line_end b ≡ true → b < 33
 aside_small b h = grind (arith, nat_tests, h)
 
 -- before a byte that is no more than a space, or at the end of the text
@@ -131,7 +133,7 @@ small_boundary text i within small = (within, λ l high. absurd (omega arith))
 record IsContent (text : List ℕ) (start : ℕ) (content : List ℕ) : Type 0 where
   fits : start + length content ≤ length text
   bytes : (i : ℕ) → i < length content → get_or content i 0 ≡ slice_index text (start + i)
-  ended : suffix_len is_put_aside content ≡ 0 → (length content ≡ 0) ⊎ (slice_index text (start + length content) < 33)
+  ended : suffix_len is_space_or_line_end content ≡ 0 → (length content ≡ 0) ⊎ (slice_index text (start + length content) < 33)
 
 -- the end of its kept bytes: none is kept, or a space, a line ending or the end of the text is there
 kept_place : (text : List ℕ) (start n : ℕ) (content : List ℕ) → IsContent text start content → KeptAt content n
@@ -141,7 +143,7 @@ kept_place text start n content is (inl none) = inl none
 kept_place text start n content is (inr (inl aside)) =
     let fits = is.fits in
     let inside = aside.0 in
-    inr (omega arith, aside_small (slice_index text (start + n)) (ap is_put_aside (sym (is.bytes n inside)) ∙ aside.1))
+    inr (omega arith, aside_small (slice_index text (start + n)) (ap is_space_or_line_end (sym (is.bytes n inside)) ∙ aside.1))
 kept_place text start n content is (inr (inr whole)) =
     let fits = is.fits in
     let all = whole.0 in
@@ -168,7 +170,7 @@ line_content text start within =
                   | inl line ↦
                       let last : get_or (take (line_len bs) bs) (length (take (line_len bs) bs) - 1) 0 ≡ slice_index bs (line_len bs - 1) =
                       ap (λ k. get_or (take (line_len bs) bs) (k - 1) 0) size ∙ get_or-take (line_len bs) bs (line_len bs - 1) 0 (omega arith) in
-                      absurd (false≢true (sym (run_none is_put_aside (take (line_len bs) bs) (omega arith) none) ∙ ap is_put_aside last
+                      absurd (false≢true (sym (run_none is_space_or_line_end (take (line_len bs) bs) (omega arith) none) ∙ ap is_space_or_line_end last
                       ∙ line_aside (slice_index bs (line_len bs - 1)) line))
                   | inr ended ↦ (let past = get_or_past text (start + length (take (line_len bs) bs)) 0 (omega arith) in inr (omega arith))
                 ]
@@ -237,7 +239,8 @@ line_fits s tokens answer content next utf8 boundary line is ends reach =
     let whole : List Item = close_break answer.1 (add_tokens [] tokens) in
     let n : ℕ = kept_len content in
     let order : AreInOrder s.text s.start next whole = order_to s.text s.start answer.0 next whole (closed_line_in_order utf8 boundary boundary.0 line) ends in
-    let node_bound = few_in_order s.text s.start next whole order (bytes_closed answer.1 (add_tokens [] tokens) (bytes_adds [] tokens (line_has_bytes line) tt)) in
+    let node_bound = few_in_order s.text s.start next whole order
+    (bytes_closed answer.1 (add_tokens [] tokens) (bytes_adds [] tokens (line_has_bytes line) tt)) in
     let less = kept_few n s.start whole in
     let most = kept_less content n (kept_at content) in (
       chain_kept s.text s.start next n whole order
@@ -253,14 +256,15 @@ line_fits s tokens answer content next utf8 boundary line is ends reach =
 
 -- The chain of a heading is in order in the text, up to the end of its line.
 heading_by : (d : Document) (start : ℕ) (index : Option HeadingIndex) (chain : List Item) (end_of_line : ℕ) (o : Option Braces)
-    → heading_braces d.options (line_bytes d start) ≡ o
+    → heading_attribute_block d.options (line_bytes d start) ≡ o
     → IsUtf8 d.text → IsCharBoundary d.text start → IsHeading d start index chain end_of_line
     → AreInOrder d.text start end_of_line chain × (length chain + start ≤ end_of_line)
 heading_by d start index chain end_of_line None none utf8 boundary h =
     let text_is : text_before_attributes d.options d.text start (line_bytes d start) ≡ d.text =
     ap (λ (o : Option Braces). option_map_or (λ (block : Braces). take (start + block.opening) d.text) o d.text) none in
     let line = subst (λ t.
-    AreLineTokens d.names.texts (record { options = d.options; whole = d.text; text = t; start = start; row = false; braces = no_braces }) h.tokens h.answer h.after)
+    AreLineTokens d.names.texts (record { options = d.options; whole = d.text; text = t; start = start; row = false; braces = no_braces }) h.tokens h.answer
+    h.after)
     text_is h.line in
     let ended = line_ends boundary.0 line in
     let place : h.answer.0 ≡ start + line_len (drop start d.text) = ended.place in
@@ -278,7 +282,8 @@ heading_by d start index chain end_of_line (Some block) some utf8 boundary h =
     let text_is : text_before_attributes d.options d.text start bs ≡ front =
     ap (λ (o : Option Braces). option_map_or (λ (b : Braces). take (start + b.opening) d.text) o d.text) some in
     let line = subst (λ t.
-    AreLineTokens d.names.texts (record { options = d.options; whole = d.text; text = t; start = start; row = false; braces = no_braces }) h.tokens h.answer h.after)
+    AreLineTokens d.names.texts (record { options = d.options; whole = d.text; text = t; start = start; row = false; braces = no_braces }) h.tokens h.answer
+    h.after)
     text_is h.line in
     let inside = braces_within d.options bs block some in
     let fits = line_len-fits (drop start d.text) in
@@ -312,7 +317,7 @@ heading_by d start index chain end_of_line (Some block) some utf8 boundary h =
 heading_in_order : (d : Document) (start : ℕ) (index : Option HeadingIndex) (chain : List Item) (end_of_line : ℕ) → IsUtf8 d.text → IsCharBoundary d.text start
     → IsHeading d start index chain end_of_line → AreInOrder d.text start end_of_line chain × (length chain + start ≤ end_of_line)
 heading_in_order d start index chain end_of_line utf8 boundary h =
-    heading_by d start index chain end_of_line (heading_braces d.options (line_bytes d start)) refl utf8 boundary h
+    heading_by d start index chain end_of_line (heading_attribute_block d.options (line_bytes d start)) refl utf8 boundary h
 
 -- A thematic break fits in its line.
 pub rule_fits : (text : List ℕ) (from ix size : ℕ) (old new : Forest Item)

@@ -14,13 +14,13 @@ use Rattle.first_pass_tokens.proofs.BytesLemmas.{few_in_order, bytes_closed}
 use Rattle.first_pass_tokens.proofs.OrderLemmas.{order_bound, order_to, order_closed, suffix_first}
 use Rattle.first_pass_grammar.specs.Leaves.{Document, document, marker_items, TextLines, block_with}
 use Rattle.first_pass_grammar.specs.Completion.{lines_from}
-use Rattle.first_pass_grammar.specs.Counting.{own_nodes}
-use Rattle.first_pass_grammar.proofs.OwnNodes.{own_at_most}
+use Rattle.first_pass_grammar.specs.Counting.{counted_nodes}
+use Rattle.first_pass_grammar.proofs.Count.CountedNodes.{own_at_most}
 use Rattle.first_pass_grammar.specs.Order.{is_task_marker, Ranged, Empty, Node, extent_of, extents, laid, Within, Elsewhere, InItem, below, Fits}
 use Rattle.first_pass_grammar.specs.Order.{FitsBetween, IsBetween}
 use Rattle.first_pass_grammar.specs.OpenOrder.{is_in_item, within_top}
 use Rattle.first_pass_text.specs.Appends.{AddsPlainText}
-use Rattle.first_pass_grammar.proofs.Orders.{length-block, row_of, row_of-laid, row_of-fits}
+use Rattle.first_pass_grammar.proofs.Order.Orders.{length-block, row_of, row_of-laid, row_of-fits}
 use Rattle.first_pass_open.specs.Between.{AddsBetween, IsInItem, StandsBefore}
 use Rattle.first_pass_open.specs.Path.{path_of}
 use Rattle.first_pass_items.specs.declared.item.ItemBody.{ItemBody}
@@ -40,9 +40,9 @@ use Rattle.first_pass_items.specs.declared.option_set.Options.{Options}
 use Rattle.first_pass_lines.specs.Lines.{is_white}
 use Rattle.first_pass_attributes.specs.AttributeBlocks.{Braces, attribute_block}
 use Rattle.first_pass_attributes.proofs.BlockFacts.{block-found}
-use Rattle.first_pass_grammar.specs.Headings.{heading_braces, chain_end, kept_before}
+use Rattle.first_pass_grammar.specs.Headings.{heading_attribute_block, chain_end, kept_before}
 use Rattle.first_pass_grammar.specs.Names.{Names}
-use Rattle.first_pass_grammar.proofs.MoreNames.{extends_none}
+use Rattle.first_pass_grammar.proofs.Names.MoreNames.{extends_none}
 use Rattle.first_pass_text.proofs.AttributeEnds.{length_between, braces_within}
 use Rattle.first_pass_text.proofs.OrderParagraph.{TextInOrder, text_is_in_order, cut_text_in_order, chain_end_place, text_later}
 use Rattle.first_pass_text.proofs.ParagraphLemmas.{closed_past}
@@ -58,7 +58,7 @@ text_node start next body = record { start = start; «end» = next; body = body 
 
 -- such a block has at most four nodes for each byte: the block, a marker and its tokens, all of them its own
 block_few : (from start next : ℕ) (body : ItemBody) (marker : Option Item) (chain : List Item) → from ≤ start → length chain + start ≤ next → from < next
-    → own_nodes (block_with start next body (marker_items marker ++ chain)) ≤ 4 * (next - from)
+    → counted_nodes (block_with start next body (marker_items marker ++ chain)) ≤ 4 * (next - from)
 block_few from start next body marker chain low node_bound some =
     let size = length-block (text_node start next body) (marker_items marker ++ chain) in
     let marked = few_marked marker chain in
@@ -152,8 +152,8 @@ white_first bs some =
     grind (arith, nat_tests, white)
 
 -- a brace is at the opening of an attribute block
-brace_first : (options : Options) (bs : List ℕ) (block : Braces) → heading_braces options bs ≡ Some block → slice_index bs block.opening ≡ left_brace
-unfolding heading_braces
+brace_first : (options : Options) (bs : List ℕ) (block : Braces) → heading_attribute_block options bs ≡ Some block → slice_index bs block.opening ≡ left_brace
+unfolding heading_attribute_block
 brace_first options bs block =
     cond_both (has options heading_attributes) (attribute_block bs) None (λ (o : Option Braces). o ≡ Some block → slice_index bs block.opening ≡ left_brace)
     (λ b e.
@@ -186,7 +186,7 @@ kept_byte false bs opening within is =
 
 -- A heading's content ends at a character boundary before its attribute block.
 pub kept_place : (text : List ℕ) (options : Options) (start last : ℕ) (broken : Bool) (block : Braces)
-    → last ≤ length text → heading_braces options (slice_range text start last) ≡ Some block
+    → last ≤ length text → heading_attribute_block options (slice_range text start last) ≡ Some block
     → let e : ℕ = start + kept_before broken block.opening (slice_range text start last) in (start ≤ e) × (e < last) × IsCharBoundary text e
 kept_place text options start last broken block within e =
     let bs : List ℕ = slice_range text start last in
@@ -264,7 +264,8 @@ module _ (d : Document) (w : Within) (from start : ℕ) (l : TextLines) (h : Tex
       ]
 
   -- the children of a heading, with its attribute block or without one
-  heading_stand : (marker : Option Item) (o : Option Braces) → heading_braces d.options (heading_bytes d start marker l) ≡ o → IsCharBoundary d.text start
+  heading_stand : (marker : Option Item) (o : Option Braces) → heading_attribute_block d.options (heading_bytes d start marker l) ≡ o
+      → IsCharBoundary d.text start
       → StandsBefore d.text from start marker → StandsIn w marker → ChildrenStand d.text w from start next_start (heading_children d start marker l)
   heading_stand marker None none starts stands inside =
       subst (ChildrenStand d.text w from start next_start) (sym (children_by d start marker l None none)) (text_stand marker stands inside)
@@ -327,6 +328,6 @@ plain_fits text options names start marker old new next adds utf8 boundary insid
       fits = ended_between d w from start marker l adds.items next (underline_first (path_of options old) l.left) boundary adds.boundary
           (text_later text l.left h.left_at h.left_is h.left_within)
           (text_stand d w from start l h low marker stands within)
-          (heading_stand d w from start l h low marker (heading_braces options (heading_bytes d start marker l)) refl boundary stands within)
+          (heading_stand d w from start l h low marker (heading_attribute_block options (heading_bytes d start marker l)) refl boundary stands within)
           ended;
     }

@@ -23,7 +23,7 @@ use Rattle.first_pass_grammar.specs.Containers.{Context, context, after, front}
 use Rattle.first_pass_grammar.specs.Kinds.{unindented, Continued, continued, interrupts, ends_paragraph, colon_ends, ends_text, underline_left, underline_of}
 use Rattle.first_pass_items.specs.declared.cow_str.CowStr.{CowStr}
 use Rattle.first_pass_grammar.specs.Names.{Names, Extends}
-use Rattle.first_pass_grammar.proofs.MoreNames.{extends_both}
+use Rattle.first_pass_grammar.proofs.Names.MoreNames.{extends_both}
 use Rattle.first_pass_tokens.proofs.NamedTexts.{line_more}
 use Rattle.first_pass_tokens.specs.Braces.{MathBraces, no_braces}
 use Rattle.first_pass_tokens.specs.LineTokens.{Spot, spot}

@@ -9,8 +9,8 @@ use Rattle.first_pass_lines.proofs.LineFacts.{lines_at-line}
 use Rattle.first_pass_lines.proofs.PlaceFacts.{start_of-lines}
 use Rattle.first_pass_grammar.specs.Leaves.{Document, document, TextLines, text_lines, AreTextLines, paragraph_block, heading_block, marker_items}
 use Rattle.first_pass_grammar.specs.Names.{Names, Extends, NamesAttributes}
-use Rattle.first_pass_grammar.proofs.MoreNames.{extends_both}
-use Rattle.first_pass_grammar.specs.Headings.{heading_braces, heading_attributes_of, chain_bytes, kept_before}
+use Rattle.first_pass_grammar.proofs.Names.MoreNames.{extends_both}
+use Rattle.first_pass_grammar.specs.Headings.{heading_attribute_block, heading_attributes_of, chain_bytes, kept_before}
 use Rattle.first_pass_attributes.specs.AttributeBlocks.{Braces}
 use Rattle.first_pass_names.specs.TableEntries.{no_names}
 use Rattle.first_pass_items.specs.declared.option_set.Options.{Options}
@@ -63,7 +63,7 @@ children_renamed text options m n start marker l = refl
 
 -- the children of a heading, with its attribute block or without one
 pub children_by : (d : Document) (start : ℕ) (marker : Option Item) (l : TextLines) (o : Option Braces)
-    → heading_braces d.options (heading_bytes d start marker l) ≡ o
+    → heading_attribute_block d.options (heading_bytes d start marker l) ≡ o
     → heading_children d start marker l ≡ children_without d start marker l o
 unfolding heading_children
 children_by d start marker l o e = ap (children_without d start marker l) e
@@ -215,7 +215,7 @@ module _ {text : List ℕ} {options : Options} {read_names : Names} {start : ℕ
       (block_closed g n (opened_item start) (text_children marker read_lines) ix t.at (text_filled n n_is) new end.next is)
 
   -- the rest of the chain of a heading, after its last line is ended, forms its children
-  cut_is : (o : Option Braces) → heading_braces options (chain_bytes text start whole_chain) ≡ o
+  cut_is : (o : Option Braces) → heading_attribute_block options (chain_bytes text start whole_chain) ≡ o
       → close_break end.line_break (cut_chain text options start (by_backslash end.line_break) whole_chain)
       ≡ heading_children (document text options no_names) start marker read_lines
   cut_is None none =
@@ -253,7 +253,7 @@ module _ {text : List ℕ} {options : Options} {read_names : Names} {start : ℕ
         ∙ open_named g heads.cut (opened_item start) (cut_chain text options start broken whole_chain) ix t.at cut_off.0 (Heading level heads.index)) n_is
         ∙ ap (chained (pushed (appended g heading_item) ix))
         (ap (λ (b : Bool). close_break end.line_break (cut_chain text options start b whole_chain)) broken_is
-        ∙ cut_is (heading_braces options (chain_bytes text start whole_chain)) refl)
+        ∙ cut_is (heading_attribute_block options (chain_bytes text start whole_chain)) refl)
 
     pub heading_open : IsSome (slice_get n.spine 0)
     heading_open = still_open g n heading_item kids ix t.at heading_filled

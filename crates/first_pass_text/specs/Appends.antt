@@ -19,7 +19,7 @@ use Rattle.first_pass_open.specs.Path.{path_of}
 use Rattle.std.specs.Option.{option_map}
 use Rattle.first_pass_grammar.specs.Texts.{underline_first, IsPlainText}
 use Rattle.first_pass_grammar.specs.Tables.{taking}
-use Rattle.first_pass_grammar.specs.Headings.{heading_braces}
+use Rattle.first_pass_grammar.specs.Headings.{heading_attribute_block}
 use Rattle.first_pass_items.specs.declared.option_set.Options.{Options}
 use Rattle.first_pass_text.specs.declared.heading.AttributePlace.{AttributePlace}
 use Rattle.first_pass_text.specs.declared.paragraph.TextEnd.{TextEnd}
@@ -32,7 +32,7 @@ line_from text start = take (line_len (drop start text)) (drop start text)
 -- line (this project)
 abbrev pub attribute_place : Options → List ℕ → ℕ → Option AttributePlace
 attribute_place options text start =
-    option_map (λ block. record { opening = start + block.opening; line_end = line_end_at text start }) (heading_braces options (line_from text start))
+    option_map (λ block. record { opening = start + block.opening; line_end = line_end_at text start }) (heading_attribute_block options (line_from text start))
 
 -- the tree if no line follows: the backslash of a hard break is text
 abbrev pub with_closed_break : Forest Item → Option Item → Forest Item

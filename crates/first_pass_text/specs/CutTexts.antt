@@ -10,12 +10,12 @@ use Rattle.first_pass_tree.specs.declared.tree_index.TreeIndex.{TreeIndex}
 use Rattle.first_pass_tree.specs.Forest.{Forest, open_place, item_at, with_body_at, cut_siblings}
 use Rattle.first_pass_tokens.specs.Chains.{cut}
 use Rattle.first_pass_tokens.specs.TreeTokens.{chained}
-use Rattle.first_pass_grammar.specs.Headings.{heading_braces, heading_attributes_of, chain_bytes, kept_before}
+use Rattle.first_pass_grammar.specs.Headings.{heading_attribute_block, heading_attributes_of, chain_bytes, kept_before}
 use Rattle.first_pass_grammar.specs.Leaves.{Document}
 use Rattle.first_pass_grammar.specs.Names.{Names, NamesAttributes, NamesEntry, AttributesAt, Extends}
 
 -- the innermost open node is the last node, and has no children
-pub record IsBare (f : Forest Item) : Type 0 where
+pub record IsLastAndChildless (f : Forest Item) : Type 0 where
   pub last : open_place f.spine + 1 ≡ length f.nodes
   pub none : f.current ≡ None
 
@@ -24,13 +24,13 @@ pub record IsBare (f : Forest Item) : Type 0 where
 abbrev pub cut_chain : List ℕ → Options → ℕ → Bool → List Item → List Item
 cut_chain text options start broken chain =
     option_map_or (λ block. cut (start + kept_before broken block.opening (chain_bytes text start chain)) chain)
-    (heading_braces options (chain_bytes text start chain)) chain
+    (heading_attribute_block options (chain_bytes text start chain)) chain
 
 -- The innermost open node has only the chain of a heading's text that begins at an offset. The attribute block is cut
 -- off that chain, and the index names the attributes, also if names are added.
 abbrev pub CutsBlock : Document → ℕ → Bool → Forest Item → Forest Item → Option HeadingIndex → Type 0
 CutsBlock d start broken old new index =
-    (f : Forest Item) → (chain : List Item) → IsBare f → old ≡ chained f chain
+    (f : Forest Item) → (chain : List Item) → IsLastAndChildless f → old ≡ chained f chain
     → (new ≡ chained f (cut_chain d.text d.options start broken chain))
     × ((more : Names) → Extends more d.names → NamesAttributes more index (heading_attributes_of d.options (chain_bytes d.text start chain)))
 

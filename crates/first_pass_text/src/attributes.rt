@@ -12,7 +12,7 @@ ghost use Rattle.first_pass_grammar.specs.Headings.{before_attributes, heading_a
 ghost use Rattle.first_pass_grammar.specs.Leaves.{document};
 ghost use Rattle.first_pass_grammar.specs.Names.{Names, Extends, NamesAttributes, NamesEntry, AttributesAt};
 ghost use Rattle.first_pass_names.specs.TableEntries.{names_of, NamesMore};
-ghost use Rattle.first_pass_text.specs.CutTexts.{IsBare, CutsBlock, CutsChildren, BecomesHeading};
+ghost use Rattle.first_pass_text.specs.CutTexts.{IsLastAndChildless, CutsBlock, CutsChildren, BecomesHeading};
 
 use bitflags::Flags;
 use first_pass_attributes::attrs::{
@@ -85,7 +85,7 @@ pub fn name_attributes<'a>(
 // The end of the chain in the innermost open node; `start`, the offset at which its text begins, if the chain has no
 // token.
 fn chain_end(tree: &Tree<Item>, start: usize) -> usize
-    ensures { (f : Forest Item) → (chain : List Item) → IsBare f → tree.now ≡ chained f chain
+    ensures { (f : Forest Item) → (chain : List Item) → IsLastAndChildless f → tree.now ≡ chained f chain
         → result ≡ chain_end_of start chain }
 {
     tree.recall_forest();

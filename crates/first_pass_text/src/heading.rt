@@ -8,7 +8,7 @@ ghost use Rattle.first_pass_lines.specs.Lines.{atx_level as atx_level_of, level_
 ghost use Rattle.first_pass_names.specs.TableEntries.{names_of, NamesMore};
 ghost use Rattle.first_pass_grammar.specs.Headings.{heading_attributes_of};
 ghost use Rattle.first_pass_grammar.specs.Names.{Names, Extends, NamesAttributes};
-ghost use Rattle.first_pass_grammar.specs.Leaves.{document, is_put_aside, kept_len as kept_len_of, heading_text_at};
+ghost use Rattle.first_pass_grammar.specs.Leaves.{document, is_space_or_line_end, kept_len as kept_len_of, heading_text_at};
 ghost use Rattle.first_pass_open.specs.Between.{AddsBetween, line_end_at};
 ghost use Rattle.first_pass_text.specs.Appends.{AppendsHeading, AddsHeading, line_from, attribute_place};
 ghost use Rattle.first_pass_open.specs.OpenBlock.{IsJustPushed};
@@ -32,8 +32,8 @@ use first_pass_tree::tree_index::TreeIndex;
 use std::alloc::AllocError;
 
 // The number of spaces and line endings at the end.
-fn trailing_aside(text: &[u8]) -> usize
-    ensures value { result ≡ suffix_len is_put_aside text.now }
+fn trailing_space_len(text: &[u8]) -> usize
+    ensures value { result ≡ suffix_len is_space_or_line_end text.now }
     ensures within { result ≤ length text.now }
 {
     text.iter()
@@ -74,7 +74,7 @@ fn kept_len(text: &[u8]) -> usize
     ensures value { result ≡ kept_len_of text.now }
     ensures within { result ≤ length text.now }
 {
-    let trimmed = text.len() - trailing_aside(text);
+    let trimmed = text.len() - trailing_space_len(text);
     let signs = trailing_run(first_bytes(text, trimmed), b'#');
     if signs == 0 {
         return trimmed;

@@ -7,7 +7,6 @@ ghost use Rattle.first_pass_grammar.specs.Texts.{by_backslash};
 ghost use Rattle.first_pass_grammar.specs.Leaves.{document};
 ghost use Rattle.first_pass_tree.specs.Forest.{is_text};
 ghost use Rattle.first_pass_text.specs.Appends.{AppendsLines, AddsPlainText, with_closed_break};
-ghost use Rattle.first_pass_open.specs.OpenBlock.{with_child};
 ghost use Rattle.first_pass_open.specs.Between.{AddsBetween, IsInItem, StandsBefore};
 
 use crate::attributes::{Underlined, make_heading};
@@ -16,25 +15,12 @@ use first_pass_items::item::{HeadingLevel, Item, ItemBody};
 use first_pass_kinds::interrupt::{NextLine, scan_next_line};
 use first_pass_lines::places::next_line;
 use first_pass_names::items::Allocations;
-use first_pass_open::open_block::{close_block, open_block};
+use first_pass_open::open_block::{append_item, close_block, open_block};
 use first_pass_open::source::Source;
 use first_pass_tokens::braces::BraceContexts;
 use first_pass_tokens::pieces::Content;
 use first_pass_tree::forest::Tree;
 use std::alloc::AllocError;
-
-// Appends an item, if there is one: the break between two lines, or the marker of a task list item.
-pub fn append_item(tree: &mut Tree<Item>, item: Option<Item>) -> Result<(), AllocError>
-    ensures { OnOk result (tree.new ≡ with_child tree.old item) }
-{
-    match item {
-        Some(item) => {
-            tree.append(item)?;
-            Ok(())
-        }
-        None => Ok(()),
-    }
-}
 
 // Whether a backslash makes the break.
 fn is_by_backslash(line_break: Option<Item>) -> bool

@@ -51,7 +51,7 @@ first_run asked old new began ended least is read = record {
   more = [];
   timed = record { read = read; counted = refl; shortest = subst (λ n. IsLeast n ((ended - began) ∷ [])) (sym is) (least_one (ended - began)) };
   last = refl;
-  fewer = λ k some node_bound. absurd (omega arith);
+  fewer = λ k some bound. absurd (omega arith);
 }
 
 -- one more run is timed too
@@ -68,17 +68,17 @@ more_timed old mid new runs run count least timed read = record {
 few_at_last : (asked : Option ℕ) (first run : ℕ × ℕ) (more : List (ℕ × ℕ)) (ended count k : ℕ) → last_end first.1 more ≡ ended → count ≡ suc (length more)
     → enough asked count (ended - first.0) ≡ false → k ≡ suc (length more) → enough asked k (elapsed (take k (first ∷ (more ++ run ∷ [])))) ≡ false
 unfolding elapsed
-few_at_last asked first run more ended count k last counted node_bound whole =
+few_at_last asked first run more ended count k last counted bound whole =
     let cut : take k (first ∷ (more ++ run ∷ [])) ≡ first ∷ more =
     ap (λ n. take n (first ∷ (more ++ run ∷ []))) whole ∙ take-append_seam (first ∷ more) (run ∷ []) in
     ap (λ rs. enough asked k (elapsed rs)) cut ∙ ap (λ e. enough asked k (e - first.0)) last ∙ ap (λ n. enough asked n (ended - first.0)) (whole ∙ sym counted)
-    ∙ node_bound
+    ∙ bound
 
 -- one more run, after runs that are not enough
 pub next_run : (asked : Option ℕ) (old mid new : Option (List ℕ)) (first run : ℕ × ℕ) (ended count least counted next : ℕ)
     → SoFar asked old mid first ended count least → enough asked count (ended - first.0) ≡ false
     → counted ≡ count + 1 → next ≡ min least (time_of run) → Consumes mid new (run.0 ∷ run.1 ∷ []) → SoFar asked old new first run.1 counted next
-next_run asked old mid new first run ended count least counted next so_far node_bound more is read =
+next_run asked old mid new first run ended count least counted next so_far bound more is read =
     let runs = first ∷ so_far.more in
     record {
       more = so_far.more ++ run ∷ [];
@@ -86,7 +86,7 @@ next_run asked old mid new first run ended count least counted next so_far node_
       last = last_end-append first.1 so_far.more run;
       fewer = λ k some within. elim (leb_tells (suc k) (suc (length so_far.more))) [
         | inl h ↦ rw (take-append-le k runs (run ∷ []) (omega (arith, h.1))) (so_far.fewer k some h.1)
-        | inr h ↦ few_at_last asked first run so_far.more ended count k so_far.last so_far.timed.counted node_bound
+        | inr h ↦ few_at_last asked first run so_far.more ended count k so_far.last so_far.timed.counted bound
             (let all : length (so_far.more ++ run ∷ []) ≡ length so_far.more + 1 = length-append so_far.more (run ∷ []) in omega (arith, h.1))
       ];
     }

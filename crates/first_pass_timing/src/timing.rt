@@ -2,11 +2,11 @@
 
 ghost use Rattle.std.specs.Prelude.{◌≡◌, ◌+◌, ◌-◌, ◌<◌, min, false, ◌∷◌, [], IfOk, IfErr};
 ghost use Rattle.std.specs.Io.KnownBytes.{Consumes};
-ghost use Rattle.first_pass_host.specs.declared.fault.BlocksFault.TheVariants.{ReadFailed};
+ghost use Rattle.first_pass_host.specs.declared.fault.RunFault.TheVariants.{ReadFailed};
 ghost use Rattle.first_pass_timing.specs.Timing.{enough};
 
 use crate::clock::TimeSource;
-use first_pass_host::fault::BlocksFault;
+use first_pass_host::fault::RunFault;
 
 /// The least number of runs, if no number is given.
 const LEAST_RUNS: u32 = 5;
@@ -74,12 +74,12 @@ pub fn is_enough(asked: Option<u32>, runs: u32, nanos: u128) -> bool
 }
 
 /// Reads the clock. Returns `ReadFailed` if that fails.
-pub fn read_clock<T: TimeSource>(clock: &mut T) -> Result<u128, BlocksFault>
+pub fn read_clock<T: TimeSource>(clock: &mut T) -> Result<u128, RunFault>
     ensures read { IfOk result (λ nanos. Consumes (T.readings clock.old) (T.readings clock.new) (nanos ∷ [])) }
     ensures fault { IfErr result (λ fault. fault ≡ ReadFailed) }
 {
     match clock.nanos() {
         Ok(nanos) => Ok(nanos),
-        Err(_) => Err(BlocksFault::ReadFailed),
+        Err(_) => Err(RunFault::ReadFailed),
     }
 }

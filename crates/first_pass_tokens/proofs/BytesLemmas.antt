@@ -111,7 +111,8 @@ few_add (x ∷ z ∷ zs) y = (let node_bound = few_add (z ∷ zs) y in omega ari
 few_text : (a b : ℕ) (escaped : Bool) (chain : List Item) → length (add_text a b escaped chain) ≤ length chain + 1
 few_text a b escaped chain =
     let node_bound = few_add chain (text_token a b escaped) in
-    cond_both (nat_lt a b) (add_token chain (text_token a b escaped)) chain (λ (ys : List Item). length ys ≤ length chain + 1) (λ c. node_bound) (λ c. omega arith)
+    cond_both (nat_lt a b) (add_token chain (text_token a b escaped)) chain (λ (ys : List Item). length ys ≤ length chain + 1) (λ c. node_bound)
+    (λ c. omega arith)
 
 few_run : (at n : ℕ) (opens closes : Bool) (chain : List Item) → length (add_tokens chain (run_tokens at n opens closes)) ≤ length chain + n
 few_run at zero opens closes chain = omega arith

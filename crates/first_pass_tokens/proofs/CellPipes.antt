@@ -72,7 +72,7 @@ pipe_inside text at (Begins dropped escaped) k facts other low high pipe =
       | inr last ↦ facts.backslashes (k - 1) (omega arith) (omega (arith, facts.some))
     ]
 pipe_inside text at (Token dropped n body) k facts other low high pipe =
-    absurd (markup_no_pipe text (at + dropped) n body k facts.kind facts.over (omega (arith, facts.node_bound)) (omega arith) pipe)
+    absurd (markup_no_pipe text (at + dropped) n body k facts.kind facts.over (omega (arith, facts.bound)) (omega arith) pipe)
 
 module _ (s : Inline) (row : s.row ≡ true) (on : has s.options tables ≡ true) where
   pipe_in : (texts : List CowStr) (b : MathBraces) (at : ℕ) (p : Piece)

@@ -48,7 +48,7 @@ times_utf8 zero t h = IsUtf8-nil
 times_utf8 (suc k) t h = IsUtf8-append t (times k t) h (times_utf8 k t h)
 
 -- parts of seven repetitions of one text and seven of another
-module _ (t u : List ℕ) (first : length t ≡ 3) (second : length u ≡ 3) (utf8 : IsUtf8 u) (k m : ℕ) (node_bound : k ≤ 7) (some : m ≤ 7) where
+module _ (t u : List ℕ) (first : length t ≡ 3) (second : length u ≡ 3) (utf8 : IsUtf8 u) (k m : ℕ) (bound : k ≤ 7) (some : m ≤ 7) where
   abbrev both : List ℕ
   both = times 7 t ++ times 7 u
 

@@ -75,7 +75,7 @@ pub record IsEscape (text : List ℕ) (at dropped : ℕ) : Type 0 where
 -- the bytes of a token, after those that are dropped
 pub record IsMarkup (text : List ℕ) (at dropped n : ℕ) (body : ItemBody) : Type 0 where
   pub some : 0 < n
-  pub node_bound : dropped ≤ 1
+  pub bound : dropped ≤ 1
   pub bytes : AreVisible text at (dropped + n)
   pub last : (slice_index text (at + dropped + n - 1) == 92) ≡ false
   pub kind : is_markup body ≡ true
@@ -211,7 +211,7 @@ module _ (text : List ℕ) (at : ℕ) where
       → StandsOver text at (at + 1) body → IsMarkup text at 0 1 body
   one_byte b body is visible other kind over = record {
     some = omega arith;
-    node_bound = omega arith;
+    bound = omega arith;
     bytes = one_visible (subst IsVisible (sym is) visible);
     last = let place : at + 0 + 1 - 1 ≡ at = omega arith in ap (λ (k : ℕ). slice_index text k == 92) place ∙ ap (λ (x : ℕ). x == 92) is ∙ other;
     kind = kind;
@@ -222,7 +222,7 @@ module _ (text : List ℕ) (at : ℕ) where
   image_facts : slice_index text at ≡ 33 → slice_index text (at + 1) ≡ 91 → IsMarkup text at 0 2 MaybeImage
   image_facts is next = record {
     some = omega arith;
-    node_bound = omega arith;
+    bound = omega arith;
     bytes = two_visible (omega (arith, is), omega (arith, is)) (omega (arith, next), omega (arith, next));
     last = let place : at + 0 + 2 - 1 ≡ at + 1 = omega arith in ap (λ (k : ℕ). slice_index text k == 92) place ∙ ap (λ (x : ℕ). x == 92) next;
     kind = refl;
@@ -240,7 +240,7 @@ module _ (text : List ℕ) (at : ℕ) where
   run_facts : slice_index text at ≡ 96 → 0 < run_at text at → (n : ℕ) → n ≡ run_at text at → IsMarkup text at 0 n (MaybeCode n false)
   run_facts is some n same = record {
     some = omega arith;
-    node_bound = omega arith;
+    bound = omega arith;
     bytes = λ k low high. run_visible (omega (arith, is), omega (arith, is)) k low (omega arith);
     last =
         let place = run_same (at + 0 + n - 1) (omega arith) (omega arith) in
@@ -328,7 +328,7 @@ module _ (text : List ℕ) (at : ℕ) (within : at < length text) where
       let run = run_facts text (at + 1) next (run_some text (at + 1) (at_byte text (at + 1) (omega arith))) (run_at text (at + 1)) refl in
       record {
         some = run.some;
-        node_bound = omega arith;
+        bound = omega arith;
         bytes = λ k low high. elim (cases_lt k (at + 1)) [
           | inl first ↦ one_visible text at (omega (arith, is), omega (arith, is)) k low first
           | inr later ↦ run.bytes k later (omega arith)
@@ -442,7 +442,7 @@ dot_facts text at within is =
     let last = eqb-true (slice_index text (at + 2)) 46 both.1 in
     record {
       some = omega arith;
-      node_bound = omega arith;
+      bound = omega arith;
       bytes =
           three_visible text at (omega (arith, is), omega (arith, is)) (omega (arith, next), omega (arith, next)) (omega (arith, last), omega (arith, last));
       last = let place : at + 0 + 3 - 1 ≡ at + 2 = omega arith in ap (λ (k : ℕ). slice_index text k == 92) place ∙ ap (λ (x : ℕ). x == 92) last;
@@ -461,7 +461,7 @@ dash_token text at n c is run some char =
     let alike : (k : ℕ) → at ≤ k → k < at + n → slice_index text k ≡ 45 = λ k low high. run_same text at k low (omega (arith, run, high)) ∙ is in
     record {
       some = some;
-      node_bound = omega arith;
+      bound = omega arith;
       bytes = λ k low high. let byte = alike k low (omega (arith, high)) in (omega (arith, byte), omega (arith, byte));
       last = let byte = alike (at + 0 + n - 1) (omega (arith, some)) (omega (arith, some)) in ap (λ (x : ℕ). x == 92) byte;
       kind = refl;
@@ -529,7 +529,7 @@ dashes_facts : (text : List ℕ) (at : ℕ) → at < length text → slice_index
 unfolding dash_found
 dashes_facts text at within is =
     cond_both (nat_lt 3 (run_at text at)) (Dashes (run_at text at)) (Ready (dash_piece text at)) (IsFoundAt text at)
-    (λ many. (refl, ltb-true 3 (run_at text at) many, is)) (λ node_bound. dash_facts text at within is)
+    (λ many. (refl, ltb-true 3 (run_at text at) many, is)) (λ bound. dash_facts text at within is)
 
 special_found_facts : (s : Inline) (at : ℕ) → at < length s.text → IsFoundAt s.text at (special_found s at)
 unfolding special_found reference_found dollar_found
@@ -563,7 +563,7 @@ reference_token text at n c ix e =
     let here : at ≡ at + 0 = omega arith in
     record {
       some = r.some;
-      node_bound = omega arith;
+      bound = omega arith;
       bytes = λ k low high. reference_visible _ (r.bytes k low (omega (arith, high)));
       last = reference_solid _ (r.bytes (at + 0 + n - 1) (omega (arith, r.some)) (omega (arith, r.some)));
       kind = refl;
@@ -576,7 +576,7 @@ dashes_token text at n ix run many is =
     let here : at + 0 ≡ at = omega arith in
     record {
       some = omega (arith, many);
-      node_bound = omega arith;
+      bound = omega arith;
       bytes = λ k low high. let byte = alike k low (omega (arith, high)) in (omega (arith, byte), omega (arith, byte));
       last = let byte = alike (at + 0 + n - 1) (omega (arith, many)) (omega (arith, many)) in ap (λ (x : ℕ). x == 92) byte;
       kind = refl;

@@ -213,7 +213,8 @@ so_far_bytes {texts} z chain pending zero at b s fits single =
 so_far_bytes {texts} z chain pending (suc n) at b s fits single =
     let first = single at (omega arith) (omega arith) in
     let more =
-    so_far_piece z chain pending at b s first.0 (Left 1) (subst (λ (f : TokenStart). MakesPiece texts b f (Left 1)) (sym first.1) refl) (omega arith) (omega arith) in
+    so_far_piece z chain pending at b s first.0 (Left 1) (subst (λ (f : TokenStart). MakesPiece texts b f (Left 1)) (sym first.1) refl) (omega arith)
+    (omega arith) in
     let same = subst (λ (f : TokenStart). SoFar texts z chain pending (at + 1) (braces_after f b)) first.1 more in
     let rest = so_far_bytes z chain pending n (at + 1) b same (omega arith) (λ k low high. single k (omega arith) (omega arith)) in
     let here : at + 1 + n ≡ at + suc n = omega arith in

@@ -23,7 +23,7 @@ smart_char byte n =
     else (if byte == hyphen then (if n == 2 then Some 0x2013 else (if n == 3 then Some 0x2014 else None)) else None)
 
 -- the bytes from one offset up to another are equal, and a character replaces them (this project)
-pub record StandFor (text : List ℕ) (start «end» c : ℕ) : Type 0 where
+pub record IsSmartRun (text : List ℕ) (start «end» c : ℕ) : Type 0 where
   pub byte : ℕ
   pub n : ℕ
   pub to : «end» ≡ start + n
@@ -50,7 +50,7 @@ abbrev pub StandsOver : List ℕ → ℕ → ℕ → ItemBody → Type 0
 StandsOver text start end (MaybeEmphasis left opens closes) = (end ≡ start + 1) × (is_delimiter (slice_index text start) ≡ true) × (left ≡ run_at text start)
 StandsOver text start end (MaybeMath opens closes context) = (end ≡ start + 1) × (slice_index text start ≡ dollar_sign)
 StandsOver text start end (MaybeSmartQuote quote opens closes) = (end ≡ start + 1) × (slice_index text start ≡ quote) × (is_quote quote ≡ true)
-StandsOver text start end (SynthesizeChar c) = StandFor text start end c
+StandsOver text start end (SynthesizeChar c) = IsSmartRun text start end c
 StandsOver text start end (SynthesizeText ix) = IsReferred text start end ⊎ AreHyphens text start end
 StandsOver text start end (MaybeCode n escaped) = (end ≡ start + n) × AreBackquotes text start n × (escaped ≡ true → slice_index text (start - 1) ≡ backslash)
 StandsOver text start end MaybeHtml = (end ≡ start + 1) × (slice_index text start ≡ less_than)

@@ -89,7 +89,7 @@ fn dash_text<'a>(alloc: Global, n: usize) -> Result<CowStr<'a>, AllocError>
 #[tactic(auto, unfolding(crate::specs::NamedTexts::dash_counts))]
 fn dash_counts(n: usize) -> (usize, usize)
     ensures value { result ≡ dash_counts n }
-    ensures node_bound { 2 * (result.0 + result.1) ≤ n + 4 }
+    ensures bound { 2 * (result.0 + result.1) ≤ n + 4 }
 {
     if n % 3 == 0 {
         (n / 3, 0)

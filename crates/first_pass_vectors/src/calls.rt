@@ -39,7 +39,7 @@ fn block_end(alloc: Global) -> Result<usize, AllocError> {
 fn nodes_after_block(alloc: Global) -> Result<usize, AllocError> {
     let mut pass = FirstPass::new(alloc, TEXT, Options::empty())?;
     pass.parse_block(0)?;
-    Ok(pass.pass.reading.tree.nodes().len())
+    Ok(pass.pass.state.tree.nodes().len())
 }
 
 // The number of bytes of the head of a footnote definition at the start of a one-line text.

@@ -17,7 +17,7 @@ pub use first_pass::items::{
     Allocations, FootDefs, FootnoteDef, HeadingAttributes, LabelKey, LinkDef, RefDefs,
 };
 pub use first_pass::pass::{
-    BlockPass, BraceContexts, FirstPass, HtmlEnd, Reading, Source, count_header_cols,
+    BlockPass, BraceContexts, FirstPass, HtmlEnd, PassState, Source, count_header_cols,
     fixup_end_of_definition_list, get_html_end_tag, run_first_pass,
     scan_paragraph_interrupt_no_table, surgerize_tight_list,
 };

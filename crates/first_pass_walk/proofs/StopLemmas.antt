@@ -12,7 +12,7 @@ clear_is : (test stop : Bool) → stop ≡ not test → test ≡ (cond stop 1 0 
 clear_is true stop e = rw e refl
 clear_is false stop e = rw e refl
 
-module _ (q : ℕ → Bool) (d : List ℕ) (i n : ℕ) (z : List ℕ) (room : i + n ≤ length d) (node_bound : n ≤ 64)
+module _ (q : ℕ → Bool) (d : List ℕ) (i n : ℕ) (z : List ℕ) (room : i + n ≤ length d) (bound : n ≤ 64)
     (fits : (k : ℕ) → Fits w8 (get_or d k 0)) (f : ℕ → ℕ) (lanes : z ≡ map f (chunk i n d)) where
   abbrev stops : ℕ → Bool
   stops x = top 7 (f x)

@@ -52,7 +52,7 @@ impl Outcome {
 
 /// Returns the outcome of a call, from what it returned, in a run in which one request is refused. That request was
 /// one of the call if none after it is refused.
-pub fn told(alloc: Global, returned: Outcome) -> Outcome {
+pub fn classified_outcome(alloc: Global, returned: Outcome) -> Outcome {
     let is_past = !is_one_refused(alloc, MOST);
     match returned {
         Outcome::Usual if is_past => Outcome::Swallowed,

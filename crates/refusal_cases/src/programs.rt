@@ -4,7 +4,7 @@ use crate::case::Case;
 use crate::outcome::Outcome;
 use first_pass_bench::bench::bench_run;
 use first_pass_blocks::pass::run_first_pass;
-use first_pass_host::fault::BlocksFault;
+use first_pass_host::fault::RunFault;
 use first_pass_host::option_word::parse_options;
 use first_pass_host::words::words_of;
 use first_pass_json::run::tree_run;
@@ -96,7 +96,7 @@ fn parse(alloc: Global, case: &Case<'_>) -> Result<Outcome, AllocError> {
 fn take_words(rt: &HostRuntime, case: &Case<'_>) -> Outcome {
     match words_of(rt) {
         Ok(words) if words.is_empty() => Outcome::Usual,
-        Err(BlocksFault::OutOfMemory) => Outcome::Refused,
+        Err(RunFault::OutOfMemory) => Outcome::Refused,
         _ => Outcome::Differs,
     }
 }
@@ -117,8 +117,8 @@ fn run(alloc: Global, case: &Case<'_>) -> Result<Outcome, AllocError> {
     let written = page.bytes.as_slice();
     Ok(match answer {
         Ok(()) if written == wanted => Outcome::Usual,
-        Err(BlocksFault::OutOfMemory) if wanted.starts_with(written) => Outcome::Refused,
-        Err(BlocksFault::OutOfMemory) => Outcome::Changed,
+        Err(RunFault::OutOfMemory) if wanted.starts_with(written) => Outcome::Refused,
+        Err(RunFault::OutOfMemory) => Outcome::Changed,
         _ => Outcome::Differs,
     })
 }

@@ -1,7 +1,7 @@
 //! The table and its groups of lines, in order.
 
 use crate::case::{Case, read_case};
-use crate::outcome::{Outcome, is_one_refused, told};
+use crate::outcome::{Outcome, classified_outcome, is_one_refused};
 use crate::programs::call_program;
 use crate::tables::call_tables;
 use crate::trees::call_tree;
@@ -55,7 +55,7 @@ fn outcome_of(rt: &HostRuntime, case: &Case<'_>) -> Option<Outcome> {
         return Some(Outcome::Elsewhere);
     }
     let returned = call(rt, case)?;
-    Some(told(rt.alloc(), returned))
+    Some(classified_outcome(rt.alloc(), returned))
 }
 
 /// Makes the call of a case.

@@ -3,7 +3,7 @@
 use first_pass_cases::answer::Answer;
 use first_pass_cases::given::Given;
 use first_pass_lines::lines::{
-    begins, is_ascii_white, is_blank, is_line_end, is_white, level_number, scan_atx_heading,
+    begins, is_ascii_white, is_line_end, is_space_or_tab, is_white, level_number, scan_atx_heading,
     scan_blank_line, scan_blanks, scan_eol, scan_nextline, scan_whitespace_no_nl,
 };
 use first_pass_lines::places::{next_line, rest_of};
@@ -43,7 +43,7 @@ pub fn answer_bytes(
         "begins" => answer.flag(begins(given.byte(0), bytes))?,
         "is_line_end" => answer.flag(is_line_end(byte))?,
         "is_white" => answer.flag(is_white(byte))?,
-        "is_blank" => answer.flag(is_blank(byte))?,
+        "is_blank" => answer.flag(is_space_or_tab(byte))?,
         "is_ascii_white" => answer.flag(is_ascii_white(byte))?,
         _ => return Ok(false),
     }

@@ -4,7 +4,7 @@ use crate::random::{random_options, random_pieces};
 use crate::report::{append_breach, append_line};
 use crate::task::{Task, parse_task};
 use first_pass_blocks::pass::run_first_pass;
-use first_pass_host::fault::BlocksFault;
+use first_pass_host::fault::RunFault;
 use first_pass_items::option_set::Options;
 use first_pass_ranges::breach::Breach;
 use first_pass_ranges::pieces::{joined, remove_pieces};
@@ -26,9 +26,9 @@ pub fn soak<T: TimeSource>(
     alloc: Global,
     words: &[String],
     report: &mut String,
-) -> Result<u8, BlocksFault> {
+) -> Result<u8, RunFault> {
     let Some(Task { seconds, seed }) = parse_task(words) else {
-        return Err(BlocksFault::BadOptions);
+        return Err(RunFault::BadOptions);
     };
     let began = read_clock(clock)?;
     let seed = seed.unwrap_or(u64::try_from(began).unwrap_or(0));

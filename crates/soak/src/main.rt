@@ -16,14 +16,14 @@ mod snippets;
 mod task;
 
 use crate::batches::soak;
-use first_pass_host::fault::BlocksFault;
+use first_pass_host::fault::RunFault;
 use first_pass_host::output::write_whole;
 use first_pass_host::words::words_of;
 use first_pass_timing::clock::HostClock;
 use std::alloc::Global;
 use std::process::ExitCode;
 
-fn run(rt: &HostRuntime) -> Result<u8, BlocksFault> {
+fn run(rt: &HostRuntime) -> Result<u8, RunFault> {
     let words = words_of(rt)?;
     let mut report = String::new(rt.alloc());
     let status = soak(

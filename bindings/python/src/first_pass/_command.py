@@ -101,7 +101,7 @@ def _positive(word: str) -> int:
 
 
 def _output(file: str, lines_of: Callable[[str, Document], Iterable[str]], options: int) -> Output:
-    """Reads a file. What is wrong with it is told as the command ``first_pass`` tells it."""
+    """Reads a file. What is wrong with it is reported as the command ``first_pass`` reports it."""
     try:
         file.encode()
         return Output(file, lines_of(file, parse(_bytes_of(file), options)))

@@ -1,6 +1,6 @@
 use Rattle.std.proofs.Common.{◌≡◌, ℕ, ◌∷◌, [], List, filter, refl, sym, ap, ◌∙◌}
 use Rattle.std.specs.Str.Iter.{split_ascii_whitespace_text}
-use Rattle.first_pass_attributes.specs.Attributes.{Attributes, is_telling, words, with_words, attributes_of, attributes_in}
+use Rattle.first_pass_attributes.specs.Attributes.{Attributes, is_attribute_word, words, with_words, attributes_of, attributes_in}
 use Rattle.first_pass_attributes.proofs.AttributeFacts.{with-none, with-next}
 use Rattle.first_pass_attributes.proofs.WordFacts.{words-cut, words-none}
 use Rattle.first_pass_attributes.proofs.attrs.parse_inside_attribute_block.Goals as goal
@@ -20,15 +20,16 @@ loop-word-preserved c =
     let step = c.in-Some.ensures.steps in
     let cut = step.3 in
     let one_less : words text ≡ word ∷ words rest = words-cut cut.0 word cut.1 rest text cut.2 step.0 step.1 cut.3 cut.4 in
-    let added : attributes_in c.add_word.new.attributes ≡ with_words before (filter is_telling (word ∷ [])) = c.in_ok-add_word.ensures in
-    ap (λ a. with_words a (filter is_telling (words rest))) added
+    let added : attributes_in c.add_word.new.attributes ≡ with_words before (filter is_attribute_word (word ∷ [])) = c.in_ok-add_word.ensures in
+    ap (λ a. with_words a (filter is_attribute_word (words rest))) added
     ∙ sym (with-next before word (words rest))
-    ∙ ap (λ ws. with_words before (filter is_telling ws)) (sym one_less)
+    ∙ ap (λ ws. with_words before (filter is_attribute_word ws)) (sym one_less)
     ∙ c.loop-word.invariant
 
 pub returns : goal.returns
 returns c =
     let before : Attributes = attributes_in c.loop-word.attributes in
     sym (with-none before)
-    ∙ ap (λ ws. with_words before (filter is_telling ws)) (sym (words-none (split_ascii_whitespace_text c.loop-word.word-iterator) c.in-None.ensures.steps.0))
+    ∙ ap (λ ws. with_words before (filter is_attribute_word ws))
+    (sym (words-none (split_ascii_whitespace_text c.loop-word.word-iterator) c.in-None.ensures.steps.0))
     ∙ c.loop-word.invariant

@@ -3,7 +3,7 @@ use Rattle.first_pass_lines.specs.Lines.{blank_len, line_len}
 use Rattle.first_pass_lines.proofs.PlaceFacts.{line_end_boundary}
 use Rattle.first_pass_blocks.specs.Positions.{LineAt, ReadsTo}
 use Rattle.first_pass_ready.proofs.OldFootnotes.{ends_here, and_no}
-use Rattle.first_pass_blocks.proofs.BlankLines.{one_read}
+use Rattle.first_pass_blocks.proofs.LineByLine.BlankLines.{one_read}
 use Rattle.first_pass_blocks.proofs.containers.read_blank_lines.Goals as goal
 use Rattle.first_pass_blocks.proofs.containers.read_blank_lines.Goals.{else-is_in_footnote-via-else-is_in_footnote}
 use Rattle.first_pass_blocks.proofs.containers.read_blank_lines.Goals.{else-is_in_footnote-via-then-is_in_footnote+else-not-has_gfm_footnotes}
@@ -26,16 +26,16 @@ loop-next-preserved c =
     let ends = line_end_boundary text c.loop-next.next c.scan_continued_past.ensures.utf8 i.boundary c.loop-next-test.true in
     let blank = ap (λ bs. is_some (blank_len bs)) (sym c.left.ensures) ∙ ap is_some (sym c.scan_blank_line.ensures.value) ∙ c.is_none.ensures
     ∙ ap not c.if-is_none.false in
-    let stays : ends_here source.options c.args.reading.now.tree c.args.reading.now.blank ≡ false = elim c.else-is_in_footnote.branch [
+    let stays : ends_here source.options c.args.state.now.tree c.args.state.now.blank ≡ false = elim c.else-is_in_footnote.branch [
       | else-is_in_footnote-via-then-is_in_footnote+else-not-has_gfm_footnotes w ↦
-          gfm_stays _ c.args.reading.now.blank _ (sym w.has_gfm_footnotes.ensures ∙ w.if-not-has_gfm_footnotes.false)
+          gfm_stays _ c.args.state.now.blank _ (sym w.has_gfm_footnotes.ensures ∙ w.if-not-has_gfm_footnotes.false)
       | else-is_in_footnote-via-else-is_in_footnote w ↦
-          other_stays _ c.args.reading.now.blank _ (sym c.is_in_footnote.ensures ∙ w.if-is_in_footnote.false)
+          other_stays _ c.args.state.now.blank _ (sym c.is_in_footnote.ensures ∙ w.if-is_in_footnote.false)
     ] in
     record {
       later = omega arith;
       boundary = subst (IsCharBoundary text) (sym is) ends;
-      read = subst (λ n. ReadsTo source c.args.start c.args.reading.now c.args.reading.now (LineAt c.args.start) (LineAt n)) (sym is)
-          (one_read source c.args.start c.loop-next.next c.args.reading.now c.in-Some.rest c.scan_continued_past.ensures.utf8 kept stays
+      read = subst (λ n. ReadsTo source c.args.start c.args.state.now c.args.state.now (LineAt c.args.start) (LineAt n)) (sym is)
+          (one_read source c.args.start c.loop-next.next c.args.state.now c.in-Some.rest c.scan_continued_past.ensures.utf8 kept stays
           c.loop-next-test.true i.boundary (sym c.scan_continued_past.ensures.value ∙ c.in-Some.is) blank i.read);
     }

@@ -7,7 +7,7 @@ abbrev pub invariant-loop-next : goal.invariant-loop-next
 invariant-loop-next l = record {
   later : l.start ≤ l.next;
   boundary : IsCharBoundary l.source.text.now l.next;
-  read : ReadsTo l.source l.start l.reading l.reading (LineAt l.start) (LineAt l.next);
+  read : ReadsTo l.source l.start l.state l.state (LineAt l.start) (LineAt l.next);
 }
 
 abbrev pub decreases-loop-next : goal.decreases-loop-next

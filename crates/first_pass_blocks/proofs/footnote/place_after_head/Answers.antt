@@ -4,7 +4,7 @@ use Rattle.first_pass_lines.specs.Places.{Place, line_rest, place_at, line_end, 
 use Rattle.first_pass_lines.proofs.PlaceFacts.{line_is_place}
 use Rattle.first_pass_grammar.specs.Completion.{lines_from}
 use Rattle.first_pass_blocks.specs.FootnoteHeads.{head_end}
-use Rattle.first_pass_blocks.proofs.HeadLemmas.{ContinuesAt, continues}
+use Rattle.first_pass_blocks.proofs.Openings.HeadLemmas.{ContinuesAt, continues}
 use Rattle.first_pass_blocks.proofs.footnote.place_after_head.Goals as goal
 use Rattle.first_pass_blocks.proofs.footnote.place_after_head.Goals.{After-new}
 

@@ -1,4 +1,4 @@
-use Rattle.first_pass_blocks.proofs.ReadyCompleted.{ready_completed}
+use Rattle.first_pass_blocks.proofs.ReadyStates.ReadyCompleted.{ready_completed}
 use Rattle.first_pass_blocks.proofs.laws.ready_is_completed.Goals as goal
 
 pub returns : goal.returns

@@ -1,6 +1,6 @@
 use Rattle.std.proofs.Common.{Some, refl, sym, ap, ◌∙◌}
 use Rattle.first_pass_lines.specs.Rest.{Rest}
-use Rattle.first_pass_blocks.proofs.Indented.{quote_mark, quote_none, quote_some}
+use Rattle.first_pass_blocks.proofs.Openings.Indented.{quote_mark, quote_none, quote_some}
 use Rattle.first_pass_blocks.proofs.openers.scan_quote_mark.Goals as goal
 
 pub returns-then-not-scan_blockquote_marker : goal.returns-then-not-scan_blockquote_marker

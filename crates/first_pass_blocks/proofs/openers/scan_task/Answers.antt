@@ -1,6 +1,6 @@
 use Rattle.std.proofs.Common.{arith}
 use Rattle.first_pass_open.proofs.PlaceLemmas.{task_keeps, task_found}
-use Rattle.first_pass_blocks.proofs.StartFound.{same_place}
+use Rattle.first_pass_blocks.proofs.Openings.StartFound.{same_place}
 use Rattle.first_pass_blocks.proofs.openers.scan_task.Goals as goal
 
 pub offset-requires : goal.offset-requires

@@ -8,15 +8,15 @@ use Rattle.first_pass_grammar.specs.Containers.{prefix}
 use Rattle.first_pass_grammar.specs.Kinds.{item_at, definition_marker_at, is_blank_rest, quote_start}
 use Rattle.first_pass_grammar.specs.Openers.{Start as ContainerStart, item_start, definition_start, quote_begun, task_after, tag_after, after_quote}
 use Rattle.first_pass_grammar.specs.declared.kind.Container.TheVariants.{BlockQuote}
-use Rattle.first_pass_grammar.proofs.OpenerFacts.{marker_where, start_item, start_definition, start_quote, start_none}
+use Rattle.first_pass_grammar.proofs.Sequences.OpenerFacts.{marker_where, start_item, start_definition, start_quote, start_none}
 use Rattle.first_pass_open.proofs.PlaceLemmas.{item_keeps, quote_absent}
 use Rattle.first_pass_blocks.specs.declared.openers.Opener.TheVariants.{Quote, Item as ItemOpener, Definition as DefinitionOpener}
 use Rattle.first_pass_grammar.specs.declared.kind.AfterMarker.{AfterMarker}
 use Rattle.first_pass_blocks.specs.declared.openers.Start.{Start}
 use Rattle.first_pass_blocks.specs.Starts.{item_after, StartMatches}
-use Rattle.first_pass_blocks.proofs.Indented.{no_item, no_definition, no_quote_prefix, is_far, is_indented}
-use Rattle.first_pass_blocks.proofs.OpenerLemmas.{item_found, item_absent}
-use Rattle.first_pass_blocks.proofs.StartFound.{definition_found, definition_absent, same_place, matches, matches_none, quote_here}
+use Rattle.first_pass_blocks.proofs.Openings.Indented.{no_item, no_definition, no_quote_prefix, is_far, is_indented}
+use Rattle.first_pass_blocks.proofs.Openings.OpenerLemmas.{item_found, item_absent}
+use Rattle.first_pass_blocks.proofs.Openings.StartFound.{definition_found, definition_absent, same_place, matches, matches_none, quote_here}
 use Rattle.first_pass_blocks.proofs.openers.start_at.Goals as goal
 use Rattle.first_pass_blocks.proofs.openers.start_at.Goals.{In-Some}
 

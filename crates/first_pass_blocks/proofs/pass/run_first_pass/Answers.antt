@@ -4,17 +4,17 @@ use Rattle.first_pass_lines.proofs.LineFacts.{lines_at-end}
 use Rattle.first_pass_grammar.specs.Leaves.{document}
 use Rattle.first_pass_items.specs.declared.option_set.Options.{Options}
 use Rattle.first_pass_grammar.specs.Completion.{lines_from}
-use Rattle.first_pass_lists.specs.declared.reading.Reading.{Reading}
+use Rattle.first_pass_lists.specs.declared.state.PassState.{PassState}
 use Rattle.first_pass_open.specs.declared.source.Source.{Source}
 use Rattle.first_pass_order.specs.Ordered.{reached, IsReadTo, IsReadFrom}
 use Rattle.first_pass_ready.specs.State.{Ready}
 use Rattle.first_pass_names.specs.TableEntries.{tables_of, names_of}
 use Rattle.first_pass_blocks.specs.Written.{TablesAreWritten}
-use Rattle.first_pass_blocks.proofs.WrittenLemmas.{none_written}
-use Rattle.first_pass_grammar.proofs.OwnNodes.{own_at_most}
+use Rattle.first_pass_blocks.proofs.LinkDefinitions.WrittenLemmas.{none_written}
+use Rattle.first_pass_grammar.proofs.Count.CountedNodes.{own_at_most}
 use Rattle.first_pass_order.proofs.FilledCells.{all_nodes}
-use Rattle.first_pass_grammar.proofs.Unique.{only_derived}
-use Rattle.first_pass_grammar.proofs.WholeForests.{derived_whole}
+use Rattle.first_pass_grammar.proofs.Uniqueness.Unique.{only_derived}
+use Rattle.first_pass_grammar.proofs.WholeTables.WholeForests.{derived_whole}
 use Rattle.first_pass_order.proofs.SettledNodes.{derived_settled}
 use Rattle.first_pass_order.proofs.OrderLemmas.{ordered_whole}
 use Rattle.first_pass_open.proofs.FrontLemmas.{outer-none}
@@ -27,12 +27,12 @@ loop-ix-init c = record {
   same_text = c.in_ok-pass.ensures.text;
   same_options = c.in_ok-pass.ensures.options;
   boundary = IsCharBoundary-start c.args.text.now c.utf8.text;
-  ready = λ names more. subst (λ z. Ready (document c.args.text.now c.args.options names) z c.in_ok-pass.pass.reading (lines_from c.args.text.now 0))
-      (sym c.in_ok-pass.ensures.tables) (c.in_ok-pass.ensures.ready names);
+  ready = λ names more. subst (λ z. Ready (document c.args.text.now c.args.options names) z c.in_ok-pass.pass.state (lines_from c.args.text.now 0))
+      (sym c.in_ok-pass.ensures.empty) (c.in_ok-pass.ensures.ready names);
   order = inl c.in_ok-pass.ensures.order;
   named = c.in_ok-pass.ensures.named;
-  written = none_written c.args.text.now c.in_ok-pass.pass.allocs c.in_ok-pass.ensures.tables;
-  node_bound = (let root = c.in_ok-pass.ensures.root in let most = own_at_most None c.in_ok-pass.pass.reading.tree.nodes in omega arith);
+  written = none_written c.args.text.now c.in_ok-pass.pass.allocs c.in_ok-pass.ensures.empty;
+  node_bound = (let root = c.in_ok-pass.ensures.root in let most = own_at_most None c.in_ok-pass.pass.state.tree.nodes in omega arith);
 }
 
 both_same : {t u : List ℕ} {o w : Options} → t ≡ u → o ≡ w → ◌≡◌ {A = List ℕ × Options} (t, o) (u, w)
@@ -50,8 +50,8 @@ loop-ix-preserved c =
     let mid = c.in_ok-ix.ix in
     let next = c.read_blank_lines-ix.result in
     let more_lines = c.read_blank_lines-ix.ensures in
-    let before : Reading = pass.reading in
-    let following : Reading = new.reading in
+    let before : PassState = pass.state in
+    let following : PassState = new.state in
     let same_text : new.source.text.now ≡ c.args.text.now = ap (λ (z : Source). z.text.now) e.source ∙ i.same_text in
     let same_options : new.source.options ≡ c.args.options = ap (λ (z : Source). z.options) e.source ∙ i.same_options in
     record {
@@ -75,21 +75,21 @@ loop-ix-preserved c =
     }
 
 -- At the end of the text no block has ended at a blank line.
-at_end : (options : Options) (text : List ℕ) (r : Reading) (at : ℕ) → length text ≤ at → IsReadFrom options text r at → IsReadTo text r at
+at_end : (options : Options) (text : List ℕ) (r : PassState) (at : ℕ) → length text ≤ at → IsReadFrom options text r at → IsReadTo text r at
 at_end options text r at past (inl o) = o
 at_end options text r at past (inr h) = (let within = h.0.within in absurd (omega arith))
 
 -- At the end of the text all containers are closed.
-all_closed : (c : goal.After-close_containers) → c.close_containers.new.reading.tree.spine ≡ []
-all_closed c = c.close_containers.ensures.spine ∙ outer-none c.loop-ix.pass.reading.tree.spine
+all_closed : (c : goal.After-close_containers) → c.close_containers.new.state.tree.spine ≡ []
+all_closed c = c.close_containers.ensures.spine ∙ outer-none c.loop-ix.pass.state.tree.spine
 
 pub returns-clause-derived : goal.returns-clause-derived
 returns-clause-derived c =
     let names = names_of c.loop-ix.pass.allocs in
     let d = document c.args.text.now c.args.options names in
     let i = c.loop-ix.invariant in
-    let now = c.close_containers.new.reading in
-    let here = subst (Ready d (tables_of c.loop-ix.pass.allocs) c.loop-ix.pass.reading) (lines_at-end c.args.text.now c.loop-ix.ix c.loop-ix-test.false)
+    let now = c.close_containers.new.state in
+    let here = subst (Ready d (tables_of c.loop-ix.pass.allocs) c.loop-ix.pass.state) (lines_at-end c.args.text.now c.loop-ix.ix c.loop-ix-test.false)
     (i.ready names (extends_equal _ _ refl)) in
     let closed : Ready d (tables_of c.loop-ix.pass.allocs) now [] =
     c.close_containers.ensures.kept.ready d (tables_of c.loop-ix.pass.allocs) [] refl (λ m low high. refl) here in
@@ -97,14 +97,14 @@ returns-clause-derived c =
 
 pub returns-clause-only : goal.returns-clause-only
 returns-clause-only c =
-    only_derived c.args.text.now c.args.options (names_of c.loop-ix.pass.allocs) c.close_containers.new.reading.tree.nodes (tables_of c.loop-ix.pass.allocs)
+    only_derived c.args.text.now c.args.options (names_of c.loop-ix.pass.allocs) c.close_containers.new.state.tree.nodes (tables_of c.loop-ix.pass.allocs)
     (returns-clause-derived c)
 
-pub returns-clause-whole : goal.returns-clause-whole
-returns-clause-whole c =
+pub returns-clause-tables : goal.returns-clause-tables
+returns-clause-tables c =
     let names = names_of c.loop-ix.pass.allocs in
     let d = document c.args.text.now c.args.options names in
-    derived_whole d c.close_containers.new.reading.tree.nodes (tables_of c.loop-ix.pass.allocs) (returns-clause-derived c)
+    derived_whole d c.close_containers.new.state.tree.nodes (tables_of c.loop-ix.pass.allocs) (returns-clause-derived c)
 
 pub returns-clause-finished : goal.returns-clause-finished
 returns-clause-finished c = all_closed c
@@ -113,7 +113,7 @@ pub returns-clause-settled : goal.returns-clause-settled
 returns-clause-settled c =
     let names = names_of c.loop-ix.pass.allocs in
     let d = document c.args.text.now c.args.options names in
-    derived_settled d c.close_containers.new.reading.tree.nodes (tables_of c.loop-ix.pass.allocs) (returns-clause-derived c)
+    derived_settled d c.close_containers.new.state.tree.nodes (tables_of c.loop-ix.pass.allocs) (returns-clause-derived c)
 
 pub returns-clause-order : goal.returns-clause-order
 returns-clause-order c =
@@ -121,8 +121,8 @@ returns-clause-order c =
     let i = c.loop-ix.invariant in
     let n = length text in
     let last = IsCharBoundary-end text in
-    let now : Reading = c.close_containers.new.reading in
-    let read : Reading = c.loop-ix.pass.reading in
+    let now : PassState = c.close_containers.new.state in
+    let read : PassState = c.loop-ix.pass.state in
     let past = c.loop-ix-test.false in
     let order = at_end c.args.options text read c.loop-ix.ix (omega arith) i.order in
     let within = order.0.within in
@@ -131,8 +131,8 @@ returns-clause-order c =
     let here : IsReadTo text now n = closes (omega arith) last (subst (IsReadTo text read) same order) in
     ordered_whole text now.tree (reached now.begin_list_item n) (all_closed c) here.0.ordered
 
-pub returns-clause-own : goal.returns-clause-own
-returns-clause-own c =
+pub returns-clause-counted : goal.returns-clause-counted
+returns-clause-counted c =
     let read = c.loop-ix.invariant.node_bound in
     let within = c.loop-ix.invariant.boundary.0 in
     let closed = c.close_containers.ensures.kept.count in
@@ -140,15 +140,15 @@ returns-clause-own c =
 
 pub returns-clause-node_bound : goal.returns-clause-node_bound
 returns-clause-node_bound c =
-    let own = returns-clause-own c in
-    let all = all_nodes (names_of c.loop-ix.pass.allocs) c.close_containers.new.reading.tree.nodes (returns-clause-whole c) in
+    let counted = returns-clause-counted c in
+    let all = all_nodes (names_of c.loop-ix.pass.allocs) c.close_containers.new.state.tree.nodes (returns-clause-tables c) in
     omega arith
 
 pub returns-clause-named : goal.returns-clause-named
 returns-clause-named c = c.close_containers.ensures.kept.named (names_of c.loop-ix.pass.allocs) c.loop-ix.invariant.named
 
-pub returns-clause-written : goal.returns-clause-written
-returns-clause-written c = c.loop-ix.invariant.written.0
+pub returns-clause-links : goal.returns-clause-links
+returns-clause-links c = c.loop-ix.invariant.written.0
 
 pub returns-clause-footnotes : goal.returns-clause-footnotes
 returns-clause-footnotes c = c.loop-ix.invariant.written.1

@@ -1,7 +1,7 @@
 use Rattle.std.proofs.Common.{◌≡◌, ◌+◌, ◌-◌, ◌*◌, ◌≤◌, length, IsCharBoundary}
 use Rattle.first_pass_grammar.specs.Names.{Names, Extends, AreNamed}
 use Rattle.first_pass_grammar.specs.Leaves.{document}
-use Rattle.first_pass_grammar.specs.Counting.{own_nodes}
+use Rattle.first_pass_grammar.specs.Counting.{counted_nodes}
 use Rattle.first_pass_grammar.specs.Completion.{lines_from}
 use Rattle.first_pass_order.specs.Ordered.{IsReadFrom}
 use Rattle.first_pass_ready.specs.State.{Ready}
@@ -16,11 +16,11 @@ invariant-loop-ix l = record {
   same_options : l.pass.source.options ≡ l.fn.options;
   boundary : IsCharBoundary l.text l.ix;
   ready : (names : Names)
-      → Extends names (names_of l.pass.allocs) → Ready (document l.text l.fn.options names) (tables_of l.pass.allocs) l.pass.reading (lines_from l.text l.ix);
-  order : IsReadFrom l.fn.options l.text l.pass.reading l.ix;
-  named : AreNamed (names_of l.pass.allocs) l.pass.reading.tree.nodes;
+      → Extends names (names_of l.pass.allocs) → Ready (document l.text l.fn.options names) (tables_of l.pass.allocs) l.pass.state (lines_from l.text l.ix);
+  order : IsReadFrom l.fn.options l.text l.pass.state l.ix;
+  named : AreNamed (names_of l.pass.allocs) l.pass.state.tree.nodes;
   written : TablesAreWritten l.text l.pass.allocs;
-  node_bound : own_nodes l.pass.reading.tree.nodes ≤ 1 + 4 * l.ix;
+  node_bound : counted_nodes l.pass.state.tree.nodes ≤ 1 + 4 * l.ix;
 }
 
 abbrev pub decreases-loop-ix : goal.decreases-loop-ix

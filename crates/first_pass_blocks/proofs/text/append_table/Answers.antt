@@ -7,7 +7,7 @@ use Rattle.first_pass_names.specs.TableEntries.{names_of}
 use Rattle.first_pass_names.proofs.NameLemmas.{extends_none, extends_both, extends_alignments, alignments_last}
 use Rattle.first_pass_open.proofs.PathLemmas.{open_are_in}
 use Rattle.first_pass_tables.specs.Appends.{AppendsRows}
-use Rattle.first_pass_blocks.proofs.TextsAre.{only_opened, line_bounds, body_at, table_text, table_between}
+use Rattle.first_pass_blocks.proofs.Leaves.TextsAre.{only_opened, line_bounds, body_at, table_text, table_between}
 use Rattle.first_pass_blocks.proofs.text.append_table.Goals as goal
 
 pub parse_table-requires-clause-body : goal.parse_table-requires-clause-body

@@ -1,7 +1,7 @@
 use Rattle.std.proofs.Common.{sym, ap, ◌∙◌, arith, if◌then◌else◌}
 use Rattle.first_pass_links.specs.Escapes.{begins_escape}
 use Rattle.first_pass_links.proofs.Destinations.{upto_unit, upto_stopped, upto_ended}
-use Rattle.first_pass_definitions.specs.Reading.{stops_title}
+use Rattle.first_pass_definitions.specs.Reading.{stops_title_line}
 use Rattle.first_pass_definitions.proofs.Titles.{stop-plain}
 use Rattle.first_pass_definitions.proofs.title.scan_title_line.Goals as goal
 
@@ -9,22 +9,22 @@ pub loop-at-preserved : goal.loop-at-preserved
 loop-at-preserved c =
     let bs = c.args.bytes.now in
     let e = c.unit_len-at.ensures.value ∙ ap (λ xs. if begins_escape xs then 2 else 1) c.rest_of.ensures.value in
-    let u = upto_unit (stops_title c.args.close) bs c.loop-at.at c.unit_len-at.result c.loop-at-test.true e
-    (sym c.stops_title.ensures ∙ c.if-not-stops_title.true) in
+    let u = upto_unit (stops_title_line c.args.close) bs c.loop-at.at c.unit_len-at.result c.loop-at-test.true e
+    (sym c.stops_title_line.ensures ∙ c.if-not-stops_title_line.true) in
     let within = c.unit_len-at.ensures.within in
     let whole = c.rest_of.ensures.whole in
     let passed = c.loop-at.invariant.passed in
     record { within = omega arith; passed = u ∙ passed }
 
-pub returns-else-not-stops_title-clause-value : goal.returns-else-not-stops_title-clause-value
-returns-else-not-stops_title-clause-value c =
-    let s = sym c.stops_title.ensures ∙ c.if-not-stops_title.false in
-    let e = upto_stopped (stops_title c.args.close) c.args.bytes.now c.loop-at.at c.loop-at-test.true s (stop-plain c.args.close _ c.requires s) in
+pub returns-else-not-stops_title_line-clause-value : goal.returns-else-not-stops_title_line-clause-value
+returns-else-not-stops_title_line-clause-value c =
+    let s = sym c.stops_title_line.ensures ∙ c.if-not-stops_title_line.false in
+    let e = upto_stopped (stops_title_line c.args.close) c.args.bytes.now c.loop-at.at c.loop-at-test.true s (stop-plain c.args.close _ c.requires s) in
     let passed = c.loop-at.invariant.passed in
     omega arith
 
 pub returns-after-loop-at-clause-value : goal.returns-after-loop-at-clause-value
 returns-after-loop-at-clause-value c =
-    let e = upto_ended (stops_title c.args.close) c.args.bytes.now c.loop-at.at (omega arith) in
+    let e = upto_ended (stops_title_line c.args.close) c.args.bytes.now c.loop-at.at (omega arith) in
     let passed = c.loop-at.invariant.passed in
     omega arith

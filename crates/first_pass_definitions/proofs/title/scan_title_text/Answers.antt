@@ -8,7 +8,7 @@ use Rattle.first_pass_links.specs.Units.{part}
 use Rattle.first_pass_links.proofs.Destinations.{first_byte}
 use Rattle.first_pass_grammar.specs.Definitions.{title_prefix}
 use Rattle.first_pass_open.specs.Path.{context_of}
-use Rattle.first_pass_definitions.specs.Reading.{stops_title, goes_on_at}
+use Rattle.first_pass_definitions.specs.Reading.{stops_title_line, goes_on_at}
 use Rattle.std.specs.Option.{option_map_or}
 use Rattle.first_pass_lines.specs.Places.{line_rest}
 use Rattle.first_pass_kinds.specs.Memory.{line_may_head}
@@ -30,10 +30,11 @@ loop-bytes-init c =
 
 -- the offset at which the line stops
 line_stops : (c : After-begins)
-    → c.loop-bytes.from + c.scan_title_line.result ≡ c.loop-bytes.from + unescaped_upto (stops_title c.args.close) 0 (drop c.loop-bytes.from c.args.text.now)
+    → c.loop-bytes.from + c.scan_title_line.result
+    ≡ c.loop-bytes.from + unescaped_upto (stops_title_line c.args.close) 0 (drop c.loop-bytes.from c.args.text.now)
 line_stops c =
     ap (λ k. c.loop-bytes.from + k) (c.scan_title_line.ensures.value
-    ∙ ap (unescaped_upto (stops_title c.args.close) 0) (c.rest_of.ensures.value ∙ ap (drop c.loop-bytes.from) c.as_bytes-bytes.ensures.value))
+    ∙ ap (unescaped_upto (stops_title_line c.args.close) 0) (c.rest_of.ensures.value ∙ ap (drop c.loop-bytes.from) c.as_bytes-bytes.ensures.value))
 
 stop_is : (c : After-begins) → c.begins.result ≡ begins c.args.close (drop (c.loop-bytes.from + c.scan_title_line.result) c.args.text.now)
 stop_is c =

@@ -12,11 +12,11 @@ flat_node-requires c = c.place_before-place.ensures
 
 pub returns-in_err-flat-clause-long : goal.returns-in_err-flat-clause-long
 returns-in_err-flat-clause-long c failed all =
-    record_long (names_of c.args.allocs.now) c.args.nodes.now c.loop-place.flat c.loop-place.place c.place_before-place.result _ c.next_place-next.result
-    c.loop-place.invariant c.loop-place-test.true c.place_before-place.ensures c.next_place-next.ensures.value c.in_err-flat.ensures.long all
+    record_long (names_of c.args.allocs.now) c.args.nodes.now c.loop-place.flat c.loop-place.place c.place_before-place.result _ c.next_index-next.result
+    c.loop-place.invariant c.loop-place-test.true c.place_before-place.ensures c.next_index-next.ensures.value c.in_err-flat.ensures.long all
 
 pub loop-place-preserved : goal.loop-place-preserved
 loop-place-preserved c =
-    record_written (names_of c.args.allocs.now) c.args.nodes.now c.loop-place.flat c.loop-place.place c.place_before-place.result _ c.next_place-next.result
-    c.in_ok-flat.field-0 c.loop-place.invariant c.loop-place-test.true c.place_before-place.ensures c.next_place-next.ensures.value
+    record_written (names_of c.args.allocs.now) c.args.nodes.now c.loop-place.flat c.loop-place.place c.place_before-place.result _ c.next_index-next.result
+    c.in_ok-flat.field-0 c.loop-place.invariant c.loop-place-test.true c.place_before-place.ensures c.next_index-next.ensures.value
     c.in_ok-flat.ensures.value

@@ -1,4 +1,4 @@
-use Rattle.first_pass_grammar.proofs.FirstLinks.{first_under, order_of_links}
+use Rattle.first_pass_grammar.proofs.LinkTables.FirstLinks.{first_under, order_of_links}
 use Rattle.first_pass_grammar.proofs.laws.law_of_links.Goals as goal
 
 pub returns-clause-first : goal.returns-clause-first

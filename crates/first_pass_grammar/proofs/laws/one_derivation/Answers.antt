@@ -1,4 +1,4 @@
-use Rattle.first_pass_grammar.proofs.Unique.{one_forest}
+use Rattle.first_pass_grammar.proofs.Uniqueness.Unique.{one_forest}
 use Rattle.first_pass_grammar.proofs.laws.one_derivation.Goals as goal
 
 pub returns-clause-forest : goal.returns-clause-forest

@@ -1,5 +1,5 @@
 use Rattle.first_pass_grammar.specs.Leaves.{document}
-use Rattle.first_pass_grammar.proofs.WholeForests.{derived_whole}
+use Rattle.first_pass_grammar.proofs.WholeTables.WholeForests.{derived_whole}
 use Rattle.first_pass_grammar.proofs.laws.tables_are_whole.Goals as goal
 
 pub returns : goal.returns

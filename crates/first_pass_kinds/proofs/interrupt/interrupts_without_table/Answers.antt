@@ -3,10 +3,10 @@ use Rattle.first_pass_kinds.proofs.FirstBytes.{item_plain}
 use Rattle.first_pass_kinds.proofs.MarkBytes.{unmarked_interrupts}
 use Rattle.first_pass_kinds.proofs.interrupt.interrupts_without_table.Goals as goal
 
-pub returns-then-begins_no_mark : goal.returns-then-begins_no_mark
-returns-then-begins_no_mark c =
+pub returns-then-begins_no_interrupt : goal.returns-then-begins_no_interrupt
+returns-then-begins_no_interrupt c =
     sym (unmarked_interrupts c.args.current_container c.args.bytes.now
-    (sym c.begins_no_mark.ensures ∙ c.if-begins_no_mark.true))
+    (sym c.begins_no_interrupt.ensures ∙ c.if-begins_no_interrupt.true))
 
 pub returns-then-begins_plain_item : goal.returns-then-begins_plain_item
 returns-then-begins_plain_item c =

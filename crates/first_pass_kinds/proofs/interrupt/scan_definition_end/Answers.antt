@@ -11,17 +11,17 @@ use Rattle.first_pass_grammar.specs.Definitions.{is_underline}
 use Rattle.first_pass_kinds.specs.Memory.{may_head}
 use Rattle.first_pass_kinds.proofs.interrupt.scan_definition_end.Goals as goal
 
-node_bound : (n m : ℕ) → n ≡ min 4 m → nat_lt n 4 ≡ nat_lt m 4
-node_bound n m e = grind (arith, nat_tests, e)
+bound : (n m : ℕ) → n ≡ min 4 m → nat_lt n 4 ≡ nat_lt m 4
+bound n m e = grind (arith, nat_tests, e)
 
 interrupts_at : (around : Context) (how : Continued) (r : Rest) (columns : ℕ) (bs : List ℕ) → columns ≡ min 4 (indent r) → bs ≡ (all_taken r).left →
     (if nat_lt columns 4 then interrupts_in around how bs else at_line_end bs) ≡ interrupts around how r
 unfolding interrupts
-interrupts_at around how r columns bs e f = let t : nat_lt columns 4 ≡ nat_lt (indent r) 4 = node_bound columns (indent r) e in rw (t, f) refl
+interrupts_at around how r columns bs e f = let t : nat_lt columns 4 ≡ nat_lt (indent r) 4 = bound columns (indent r) e in rw (t, f) refl
 
 underline_at : (r : Rest) (columns : ℕ) (bs : List ℕ) → columns ≡ min 4 (indent r) → bs ≡ (all_taken r).left →
     (nat_lt columns 4 && is_some (setext_underline bs)) ≡ is_underline r
-underline_at r columns bs e f = let t : nat_lt columns 4 ≡ nat_lt (indent r) 4 = node_bound columns (indent r) e in rw (t, f) refl
+underline_at r columns bs e f = let t : nat_lt columns 4 ≡ nat_lt (indent r) 4 = bound columns (indent r) e in rw (t, f) refl
 
 none_by : (t : Bool) → false ≡ t && false
 none_by true = refl
@@ -60,7 +60,7 @@ returns-then-branch-clause-value c =
     let columns = columns_are _ _ _ c.scan_indentation-columns.ensures.columns c.copy-text.ensures in
     let left = left_is _ _ _ c.scan_indentation-columns.ensures.rest c.copy-text.ensures in
     ended_by _ _ _ _ c.in_ok-scan_paragraph_end.ensures.value
-    (interrupts_at (context_of c.args.source.now.options c.args.tree.now) (continued_to c.args.source.now.options c.args.tree.now c.args.front.now.kept)
+    (interrupts_at (context_of c.args.source.now.options c.args.tree.now) (continued_to c.args.source.now.options c.args.tree.now c.args.front.now.continued)
     c.args.front.now.rest _ _ columns left) c.if-branch.true
 
 pub returns-then-is_lazy_in_label-clause-value : goal.returns-then-is_lazy_in_label-clause-value
@@ -68,7 +68,7 @@ returns-then-is_lazy_in_label-clause-value c =
     let columns = columns_are _ _ _ c.scan_indentation-columns.ensures.columns c.copy-text.ensures in
     let left = left_is _ _ _ c.scan_indentation-columns.ensures.rest c.copy-text.ensures in
     lazy_by _ _ _ _ _ _ c.in_ok-scan_paragraph_end.ensures.value
-    (interrupts_at (context_of c.args.source.now.options c.args.tree.now) (continued_to c.args.source.now.options c.args.tree.now c.args.front.now.kept)
+    (interrupts_at (context_of c.args.source.now.options c.args.tree.now) (continued_to c.args.source.now.options c.args.tree.now c.args.front.now.continued)
     c.args.front.now.rest _ _ columns left)
     c.if-branch.false c.if-is_lazy_in_label.true
 
@@ -77,7 +77,7 @@ returns-clause-value c =
     let columns = columns_are _ _ _ c.scan_indentation-columns.ensures.columns c.copy-text.ensures in
     let left = left_is _ _ _ c.scan_indentation-columns.ensures.rest c.copy-text.ensures in
     whole_by _ _ _ _ _ _ _ c.in_ok-scan_paragraph_end.ensures.value
-    (interrupts_at (context_of c.args.source.now.options c.args.tree.now) (continued_to c.args.source.now.options c.args.tree.now c.args.front.now.kept)
+    (interrupts_at (context_of c.args.source.now.options c.args.tree.now) (continued_to c.args.source.now.options c.args.tree.now c.args.front.now.continued)
     c.args.front.now.rest _ _ columns left)
     c.if-branch.false c.if-is_lazy_in_label.false
     (c.is_underline.ensures ∙ underline_at c.args.front.now.rest _ _ columns (c.left.ensures ∙ left))
@@ -92,7 +92,7 @@ err_at : (around : Context) (r : Rest) (columns : ℕ) (bs : List ℕ)
     → columns ≡ min 4 (indent r) → bs ≡ (all_taken r).left → (nat_lt columns 4 && may_head around bs) ≡ true →
     (nat_lt (indent r) 4 && may_head around (all_taken r).left) ≡ true
 err_at around r columns bs e f h =
-    ap (λ t. t && may_head around (all_taken r).left) (sym (node_bound columns (indent r) e)) ∙ ap (λ xs. nat_lt columns 4 && may_head around xs) (sym f) ∙ h
+    ap (λ t. t && may_head around (all_taken r).left) (sym (bound columns (indent r) e)) ∙ ap (λ xs. nat_lt columns 4 && may_head around xs) (sym f) ∙ h
 
 pub returns-in_err-scan_paragraph_end-clause-err : goal.returns-in_err-scan_paragraph_end-clause-err
 returns-in_err-scan_paragraph_end-clause-err c =

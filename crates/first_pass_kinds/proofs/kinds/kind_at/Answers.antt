@@ -3,7 +3,7 @@ use Rattle.std.specs.Option.{option_map}
 use Rattle.first_pass_lines.specs.Lines.{blank_len, atx_level}
 use Rattle.first_pass_lines.specs.Rest.{Rest}
 use Rattle.first_pass_lines.specs.Places.{place_at, IsPlaceOf}
-use Rattle.first_pass_grammar.specs.Kinds.{all_taken, html_kind, last_kind, IsKind}
+use Rattle.first_pass_grammar.specs.Kinds.{all_taken, html_kind, later_kind, IsKind}
 use Rattle.first_pass_kinds.specs.BlockStart.{kind_of, IsFoundWith}
 use Rattle.first_pass_kinds.proofs.KindLemmas.{few_columns, many_columns, blank_kind, code_kind, past_columns, found_early, tag_found, tag_absent}
 use Rattle.first_pass_kinds.proofs.KindLemmas.{metadata_here, html_here, tag_here, last_here, found_html}
@@ -116,7 +116,7 @@ returns-clause-kind c =
     c.scan_indentation-columns.ensures.columns c.scan_indentation-columns.ensures.rest c.bytes_scanned.ensures c.if-columns-ge4.false
     c.as_bytes-bytes.ensures.value (sym c.in_default-scan_metadata.is ∙ c.scan_metadata.ensures.value)) in
     rw (← c.place.view_is) (subst (IsKind c.args.source.now.options c.place.inside.rest)
-    (ap last_kind (sym (c.left-left.ensures ∙ ap (λ (q : Rest). q.left) c.scan_indentation-columns.ensures.rest)) ∙ sym c.last_kind.ensures.kind)
+    (ap later_kind (sym (c.left-left.ensures ∙ ap (λ (q : Rest). q.left) c.scan_indentation-columns.ensures.rest)) ∙ sym c.later_kind.ensures.kind)
     (last_here c.args.source.now.options c.place.inside.rest early
     (ap html_kind (sym (c.left-left.ensures ∙ ap (λ (q : Rest). q.left) c.scan_indentation-columns.ensures.rest)) ∙ sym c.html_kind.ensures.kind
     ∙ ap (option_map kind_of) c.in_default-html_kind.is)
@@ -125,5 +125,5 @@ returns-clause-kind c =
 
 pub returns-clause-end : goal.returns-clause-end
 returns-clause-end c =
-    rw (← c.place.view_is) (subst (λ bs. IsFoundWith bs c.last_kind.result)
-    (c.left-left.ensures ∙ ap (λ (q : Rest). q.left) c.scan_indentation-columns.ensures.rest) c.last_kind.ensures.«end»)
+    rw (← c.place.view_is) (subst (λ bs. IsFoundWith bs c.later_kind.result)
+    (c.left-left.ensures ∙ ap (λ (q : Rest). q.left) c.scan_indentation-columns.ensures.rest) c.later_kind.ensures.«end»)

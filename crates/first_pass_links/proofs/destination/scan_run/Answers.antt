@@ -33,7 +33,7 @@ loop-at-preserved c =
     in
     let within = c.unit_len-at.ensures.within in
     let whole = c.rest_of.ensures.whole in
-    let node_bound = c.loop-at.invariant.nested in
+    let bound = c.loop-at.invariant.nested in
     let small = c.nesting_after-nesting.ensures.small in
     let some = c.unit_len-at.ensures.some in
     let next = c.loop-at.at + c.unit_len-at.result in

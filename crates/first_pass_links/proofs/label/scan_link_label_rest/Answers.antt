@@ -24,7 +24,7 @@ loop-at-init g c =
     let e : string_bytes c.new-written.result ++ part text 0 0 ≡ [] = ap (λ bs. bs ++ part text 0 0) c.new-written.ensures.bytes ∙ part-none text 0 in
     record {
       read = subst (λ bs. IsRead text bs 0 0) (sym c.new-written.ensures.bytes) (read_none text (IsCharBoundary-start text c.utf8.text));
-      node_bound = omega arith;
+      bound = omega arith;
       label = λ h a. ap (λ bs. label_after c.args.is_in_table (known_as 0 false bs) (left_at h text 0)) e ∙ nothing_known c.args.is_in_table h text;
       tracked = λ h a. track_none h c.args.is_in_table text (0 ≡ 0) refl;
     }
@@ -36,7 +36,7 @@ loop-at-preserved g c =
     let reads = rw c.in-Some.is at c.in_ok-unit.ensures.reads in
     record {
       read = c.in_ok-from.ensures.read;
-      node_bound = c.if-characters-gt-MOST_CHARACTERS.false;
+      bound = c.if-characters-gt-MOST_CHARACTERS.false;
       label = λ h a.
           let r : Reads h c.args.is_in_table text c.loop-at.at unit =
           subst (λ xs. Reads h c.args.is_in_table xs c.loop-at.at unit) c.as_bytes-bytes.ensures.value (reads h (λ following answer at b e.
@@ -119,7 +119,8 @@ returns-clause-value g c =
     λ h a.
     let e : label_at h c.args.is_in_table c.args.text.now
     ≡ Some (c.loop-at.at + 1, string_bytes c.loop-at.written ++ part c.args.text.now c.loop-at.from c.loop-at.at) =
-    sym (c.loop-at.invariant.label h a) ∙ closed h c.args.is_in_table c.args.text.now c.loop-at.at _ within closing c.loop-at.invariant.node_bound c.if-not-solid.false
+    sym (c.loop-at.invariant.label h a) ∙ closed h c.args.is_in_table c.args.text.now c.loop-at.at _ within closing c.loop-at.invariant.bound
+    c.if-not-solid.false
     in
     rw e (refl, c.in_ok-finish.ensures.value)
 

@@ -10,7 +10,7 @@ use Rattle.first_pass_links.proofs.label.scan_link_label_rest.Given as goal
 abbrev pub invariant-loop-at : goal.invariant-loop-at
 invariant-loop-at g l = record {
   read : IsRead l.text (string_bytes l.written) l.from l.at;
-  node_bound : l.characters ≤ 999;
+  bound : l.characters ≤ 999;
   label : (prefix : List ℕ → Option ℕ) → AnswersWith l.text prefix (goal.F-post g l.linebreak_handler)
       → label_after l.is_in_table (known_as l.characters l.solid (string_bytes l.written ++ part l.text l.from l.at)) (left_at prefix l.text l.at)
       ≡ label_at prefix l.is_in_table l.text;

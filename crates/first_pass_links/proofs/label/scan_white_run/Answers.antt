@@ -19,13 +19,13 @@ loop-next-preserved g c =
     let some = rw c.in-Some.is at c.in_ok-following.ensures.some in
     let reads = rw c.in-Some.is at c.in_ok-following.ensures.reads in
     let from = c.loop-next.invariant.from in
-    let node_bound = c.loop-next.invariant.node_bound in
+    let bound = c.loop-next.invariant.bound in
     let later = some.0 in
     record {
       from = omega arith;
       within = some.1.0;
       boundary = some.1;
-      node_bound = omega arith;
+      bound = omega arith;
       lone = λ one white. first_is c.args.bytes.now c.args.at c.loop-next.next c.in-Some.following c.loop-next.characters
           (rw c.in-Some.is at c.in_ok-following.ensures.space) c.loop-next.invariant.started one white;
       started = λ z. absurd (omega arith);

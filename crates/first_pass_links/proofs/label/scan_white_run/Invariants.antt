@@ -10,7 +10,7 @@ invariant-loop-next g l = record {
   from : l.at ≤ l.next;
   within : l.next ≤ length l.bytes;
   boundary : IsCharBoundary l.bytes l.next;
-  node_bound : l.characters ≤ l.next - l.at;
+  bound : l.characters ≤ l.next - l.at;
   lone : (l.characters ≡ 1) → (slice_index l.bytes l.at ≡ 32) → (l.next ≡ l.at + 1);
   started : (l.characters ≡ 0) → (l.next ≡ l.at);
   run : (prefix : List ℕ → Option ℕ) → AnswersWith l.bytes prefix (goal.F-post g l.linebreak_handler) → IsWhiteRun prefix l.bytes l.at l.next l.characters;

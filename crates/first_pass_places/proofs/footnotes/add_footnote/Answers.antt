@@ -11,7 +11,11 @@ use Rattle.first_pass_places.proofs.footnotes.add_footnote.Goals as goal
 pub returns-in_default-clause-value : goal.returns-in_default-clause-value
 unfolding with_all
 returns-in_default-clause-value c =
-    record { definitions = []; labels = sym (no_footnote (names_of c.args.allocs.now) c.args.index c.args.item.now.body c.in_default.not-FootnoteDefinition); added = refl }
+    record {
+      definitions = [];
+      labels = sym (no_footnote (names_of c.args.allocs.now) c.args.index c.args.item.now.body c.in_default.not-FootnoteDefinition);
+      added = refl;
+    }
 
 pub returns-clause-value : goal.returns-clause-value
 unfolding with_all

@@ -5,7 +5,8 @@ use Rattle.first_pass_raw.proofs.html_block.holds_end.Goals as goal
 
 pub returns-in-AnyRawTag : goal.returns-in-AnyRawTag
 returns-in-AnyRawTag c =
-    raw_held (condition_of c.args.html_end) c.args.line.now c.as_bytes.result.now c.holds_raw_end_tag.result (ap condition_of c.in-AnyRawTag.is) c.as_bytes.ensures.value
+    raw_held (condition_of c.args.html_end) c.args.line.now c.as_bytes.result.now c.holds_raw_end_tag.result
+    (ap condition_of c.in-AnyRawTag.is) c.as_bytes.ensures.value
     c.holds_raw_end_tag.ensures
 
 pub returns-in-Text : goal.returns-in-Text

@@ -15,7 +15,8 @@ returns-then-holds_end-clause-block c = λ p i.
     let ends = first_end c.args.source.now.text.now c.args.source.now.options _ c.args.start.at c.args.start.columns c.in_ok-end.«end» c.args.tree.now
     c.open_html_block.new.tree
     c.in_ok-end.ensures.line c.in_ok-end.ensures.next.0 p i in
-    let held = held_is c.args.source.now.text.now (condition_of c.args.html_end) p c.args.start.at c.in_ok-end.«end» c.holds_end.result _ i ends c.range.ensures.value
+    let held = held_is c.args.source.now.text.now
+    (condition_of c.args.html_end) p c.args.start.at c.in_ok-end.«end» c.holds_end.result _ i ends c.range.ensures.value
     c.holds_end.ensures ∙ c.if-holds_end.true in
     html_one c.args.source.now.text.now c.args.source.now.options _ c.args.start.at c.args.start.columns c.in_ok-end.«end» c.args.tree.now
     c.open_html_block.new.tree
@@ -37,7 +38,8 @@ returns-clause-block c = λ p i.
     let ends = first_end c.args.source.now.text.now c.args.source.now.options _ c.args.start.at c.args.start.columns c.in_ok-end.«end» c.args.tree.now
     c.open_html_block.new.tree
     c.in_ok-end.ensures.line c.in_ok-end.ensures.next.0 p i in
-    let held = held_is c.args.source.now.text.now (condition_of c.args.html_end) p c.args.start.at c.in_ok-end.«end» c.holds_end.result _ i ends c.range.ensures.value
+    let held = held_is c.args.source.now.text.now
+    (condition_of c.args.html_end) p c.args.start.at c.in_ok-end.«end» c.holds_end.result _ i ends c.range.ensures.value
     c.holds_end.ensures ∙ c.if-holds_end.false in
     html_more c.args.source.now.text.now c.args.source.now.options _ c.args.start.at c.args.start.columns c.in_ok-end.«end» c.args.tree.now
     c.open_html_block.new.tree

@@ -5,7 +5,7 @@ use Rattle.first_pass_scan.proofs.leaf_scan.calc_indent.Given as goal
 abbrev pub invariant-loop-at : goal.invariant-loop-at
 invariant-loop-at l = record {
   tab : l.tab_start ≤ l.at;
-  node_bound : l.columns ≤ l.max;
+  bound : l.columns ≤ l.max;
   front : IsFront l.bytes l.at l.columns (l.at - l.tab_start);
 }
 

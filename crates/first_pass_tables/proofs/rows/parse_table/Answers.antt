@@ -29,8 +29,8 @@ returns-clause-fits c = λ from low following.
     c.args.rows.body_start c.in_ok-next.next from c.args.tree.now
     c.close_block.new.tree c.in_ok-next.ensures.utf8 c.requires.head c.requires.body (returns-clause-rows c) low following
 
-pub returns-clause-whole : goal.returns-clause-whole
-returns-clause-whole c =
+pub returns-clause-tables : goal.returns-clause-tables
+returns-clause-tables c =
     added_whole (document c.args.source.now.text.now c.args.source.now.options (names_of c.append_body.new.allocs)) c.args.rows.columns c.args.rows.head_start
     c.args.rows.body_start c.args.tree.now c.close_block.new.tree
     c.in_ok-next.next (returns-clause-rows c)

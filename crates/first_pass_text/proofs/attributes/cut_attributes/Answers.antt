@@ -12,8 +12,8 @@ use Rattle.first_pass_grammar.specs.Names.{Names, Extends, NamesAttributes}
 use Rattle.first_pass_names.specs.TableEntries.{names_of}
 use Rattle.first_pass_text.proofs.AttributeEnds.{braces_within, clipped, cut_place, length_some, block_given, none_given, cut_by, cut_none, siblings_fewer}
 use Rattle.first_pass_text.proofs.OrderPlain.{kept_place}
-use Rattle.first_pass_grammar.proofs.MoreNames.{extends_none}
-use Rattle.first_pass_grammar.proofs.TextsNamed.{given_entry}
+use Rattle.first_pass_grammar.proofs.Names.MoreNames.{extends_none}
+use Rattle.first_pass_grammar.proofs.Names.TextsNamed.{given_entry}
 use Rattle.first_pass_text.proofs.attributes.cut_attributes.Goals.{then-is_some, else-is_some}
 use Rattle.first_pass_text.proofs.attributes.cut_attributes.Goals as goal
 

@@ -3,7 +3,7 @@ use Rattle.std.specs.Option.{option_map}
 use Rattle.first_pass_attributes.specs.Attributes.{attributes_in}
 use Rattle.first_pass_attributes.specs.declared.attrs.HeadingAttributes.{HeadingAttributes}
 use Rattle.first_pass_grammar.specs.Names.{NamesAttributes}
-use Rattle.first_pass_grammar.proofs.MoreNames.{extends_none, extends_heading, heading_last}
+use Rattle.first_pass_grammar.proofs.Names.MoreNames.{extends_none, extends_heading, heading_last}
 use Rattle.first_pass_names.specs.TableEntries.{names_of}
 use Rattle.first_pass_text.proofs.attributes.name_attributes.Goals as goal
 

@@ -1,13 +1,13 @@
 use Rattle.std.proofs.Common.{◌≡◌, ◌<◌, ◌≤◌, ◌⊎◌, inl, inr, ℕ, ◌-◌, ◌==◌, ◌||◌, nat_lt, List, length, take, sym, ap, ◌∙◌, arith, if◌then◌else◌}
 use Rattle.std.specs.List.{suffix_len}
 use Rattle.std.proofs.lemmas.Bool.Decides.{nat_tests}
-use Rattle.first_pass_grammar.specs.Leaves.{is_put_aside, kept_len}
+use Rattle.first_pass_grammar.specs.Leaves.{is_space_or_line_end, kept_len}
 use Rattle.first_pass_text.proofs.KeptBytes.{kept_counted, kept_unclosed}
 use Rattle.first_pass_text.proofs.heading.kept_len.Goals as goal
 
 -- by the counts at the end
 kept_by : (text : List ℕ) (t o n : ℕ)
-    → t ≡ length text - suffix_len is_put_aside text → o ≡ t - suffix_len (λ b. b == 35) (take t text) → n ≡ suffix_len (λ b. b == 32) (take o text)
+    → t ≡ length text - suffix_len is_space_or_line_end text → o ≡ t - suffix_len (λ b. b == 35) (take t text) → n ≡ suffix_len (λ b. b == 32) (take o text)
     → kept_len text ≡ (if (o == 0) || nat_lt 0 n then o - n else t)
 kept_by text t o n e f g = rw (g, f, e) (kept_counted text)
 
@@ -20,7 +20,7 @@ choose_kept t o n h k = grind (arith, nat_tests, h, k)
 
 -- the counts in the code
 counted : (text front front' : List ℕ) (a b n : ℕ)
-    → a ≡ suffix_len is_put_aside text → front ≡ take (length text - a) text → b ≡ suffix_len (λ b. b == 35) front
+    → a ≡ suffix_len is_space_or_line_end text → front ≡ take (length text - a) text → b ≡ suffix_len (λ b. b == 35) front
     → front' ≡ take (length text - a - b) text → n ≡ suffix_len (λ b. b == 32) front'
     → kept_len text ≡ (if (length text - a - b == 0) || nat_lt 0 n then length text - a - b - n else length text - a)
 counted text front front' a b n e f g h k =
@@ -29,16 +29,16 @@ counted text front front' a b n e f g h k =
 
 pub returns-then-spaces-gt0-clause-value : goal.returns-then-spaces-gt0-clause-value
 returns-then-spaces-gt0-clause-value c =
-    sym (counted c.args.text.now _ _ _ _ _ c.trailing_aside.ensures.value c.first_bytes.ensures c.trailing_run-signs.ensures.value c.first_bytes-2.ensures
+    sym (counted c.args.text.now _ _ _ _ _ c.trailing_space_len.ensures.value c.first_bytes.ensures c.trailing_run-signs.ensures.value c.first_bytes-2.ensures
     c.trailing_run-spaces.ensures.value
     ∙ choose_taken _ _ _ (elim c.if-spaces-gt0.either [ inl h ↦ inl h | inr h ↦ inr h.1 ]))
 
 pub returns-else-spaces-gt0-clause-value : goal.returns-else-spaces-gt0-clause-value
 returns-else-spaces-gt0-clause-value c =
-    sym (counted c.args.text.now _ _ _ _ _ c.trailing_aside.ensures.value c.first_bytes.ensures c.trailing_run-signs.ensures.value c.first_bytes-2.ensures
+    sym (counted c.args.text.now _ _ _ _ _ c.trailing_space_len.ensures.value c.first_bytes.ensures c.trailing_run-signs.ensures.value c.first_bytes-2.ensures
     c.trailing_run-spaces.ensures.value
     ∙ choose_kept _ _ _ c.if-spaces-gt0.false.0 c.if-spaces-gt0.false.1)
 
 pub returns-then-signs-eq0-clause-value : goal.returns-then-signs-eq0-clause-value
 returns-then-signs-eq0-clause-value c =
-    sym (kept_unclosed c.args.text.now _ _ _ c.trailing_aside.ensures.value c.first_bytes.ensures c.trailing_run-signs.ensures.value c.if-signs-eq0.true)
+    sym (kept_unclosed c.args.text.now _ _ _ c.trailing_space_len.ensures.value c.first_bytes.ensures c.trailing_run-signs.ensures.value c.if-signs-eq0.true)

@@ -9,7 +9,7 @@ use Rattle.first_pass_tokens.specs.Chains.{add_tokens, close_break}
 use Rattle.first_pass_tokens.specs.TreeTokens.{chained}
 use Rattle.first_pass_grammar.specs.Leaves.{document, kept_len, heading_chain, heading_text_at, IsHeading}
 use Rattle.first_pass_names.specs.TableEntries.{names_of}
-use Rattle.first_pass_grammar.proofs.MoreNames.{extends_both}
+use Rattle.first_pass_grammar.proofs.Names.MoreNames.{extends_both}
 use Rattle.first_pass_open.specs.Between.{line_end_at}
 use Rattle.first_pass_text.proofs.OrderHeading.{heading_fits}
 use Rattle.first_pass_text.proofs.HeadingLemmas.{heading_read, heading_line_end, place_cut, place_end, place_fits}

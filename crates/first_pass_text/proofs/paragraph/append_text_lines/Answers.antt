@@ -1,6 +1,6 @@
 use Rattle.std.proofs.Common.{◌≡◌, ℕ, Option, ap, ◌<◌, ◌≤◌, length, IsCharBoundary, refl, sym, subst, ◌∙◌, arith}
 use Rattle.first_pass_names.specs.TableEntries.{no_names, names_of}
-use Rattle.first_pass_grammar.proofs.MoreNames.{extends_none, extends_both}
+use Rattle.first_pass_grammar.proofs.Names.MoreNames.{extends_none, extends_both}
 use Rattle.first_pass_tokens.specs.Braces.{MathBraces}
 use Rattle.first_pass_tokens.specs.LineTokens.{spot}
 use Rattle.first_pass_items.specs.declared.item.Item.{Item}

@@ -2,7 +2,7 @@ use Rattle.std.proofs.Common.{◌≤◌, ◌+◌, length, drop, Option, IfSome, 
 use Rattle.first_pass_items.specs.declared.item.Item.{Item}
 use Rattle.first_pass_lines.specs.Lines.{line_len}
 use Rattle.first_pass_names.specs.TableEntries.{names_of}
-use Rattle.first_pass_grammar.proofs.MoreNames.{extends_both}
+use Rattle.first_pass_grammar.proofs.Names.MoreNames.{extends_both}
 use Rattle.first_pass_text.proofs.OrderPlain.{plain_fits}
 use Rattle.first_pass_text.proofs.PlainTexts.{stands_open, innermost, its_item, text_open, closed_paragraph, heading_open, closed_heading}
 use Rattle.first_pass_text.proofs.paragraph.parse_paragraph.Goals as goal

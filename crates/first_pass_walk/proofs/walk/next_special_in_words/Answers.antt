@@ -35,8 +35,8 @@ returns-then-lut-bytes-clause-found c =
 pub loop-stops-preserved : goal.loop-stops-preserved
 loop-stops-preserved c = record {
   within = omega (arith, and_le_r c.loop-stops.stops (c.loop-stops.stops - 1));
-  asked = λ k node_bound clear. elim (cleared c.loop-stops.stops (omega arith) (omega arith) k clear) [
-    | inl already ↦ c.loop-stops.invariant.asked k node_bound already
+  asked = λ k bound clear. elim (cleared c.loop-stops.stops (omega arith) (omega arith) k clear) [
+    | inl already ↦ c.loop-stops.invariant.asked k bound already
     | inr lowest ↦ rw lowest c.if-lut-bytes.false
   ];
 }
@@ -45,5 +45,5 @@ pub loop-next-preserved : goal.loop-next-preserved
 loop-next-preserved c = record {
   from = omega arith;
   none = unmarked c.args.lut.now c.args.bytes.now c.args.ix c.loop-next.next 16 c.loop-next.invariant.none
-      (λ k node_bound. c.loop-stops.invariant.asked k node_bound (ap (λ n. bit_at n k) c.loop-stops-test.false ∙ bit_at-zero k));
+      (λ k bound. c.loop-stops.invariant.asked k bound (ap (λ n. bit_at n k) c.loop-stops-test.false ∙ bit_at-zero k));
 }

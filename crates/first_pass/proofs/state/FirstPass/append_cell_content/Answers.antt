@@ -3,7 +3,7 @@ use Rattle.first_pass_names.specs.TableEntries.{names_of}
 use Rattle.first_pass_tokens.specs.Pieces.{text_upto}
 use Rattle.first_pass_tokens.proofs.BytesLemmas.{few_of_cell}
 use Rattle.first_pass_tokens.proofs.OrderLemmas.{cell_end_place}
-use Rattle.first_pass_lists.specs.declared.reading.Reading.{Reading}
+use Rattle.first_pass_lists.specs.declared.state.PassState.{PassState}
 use Rattle.first_pass_order.specs.Ordered.{reached}
 use Rattle.first_pass_order.proofs.OrderLemmas.{ordered_none}
 use Rattle.first_pass.proofs.CallsNamed.{cell_named}
@@ -21,8 +21,8 @@ returns c =
     let text = self.pass.source.text.now in
     let options = self.pass.source.options in
     let names = names_of c.append_cell.new.self in
-    let old : Reading = self.pass.reading in
-    let new : Reading = record old { tree = c.append_cell.new.tree; begin_list_item = None } in
+    let old : PassState = self.pass.state in
+    let new : PassState = record old { tree = c.append_cell.new.tree; begin_list_item = None } in
     let stop = c.in_ok-stop.stop in
     let e = c.in_ok-stop.ensures in
     record {
@@ -33,7 +33,7 @@ returns c =
           more = record { names = e.names; entries = e.entries };
           named = cell_named names (names_of self.pass.allocs) _ old.tree new.tree stop e.names e.cell;
         };
-        reading = refl;
+        state = refl;
         boundary = λ whole boundary.
             let same : text_upto text c.args.«end» ≡ text = ap (text_upto text) whole in
             subst (λ t. IsCharBoundary t stop) same (cell_end_place (subst (λ t. c.args.start ≤ length t) (sym same) c.requires.0) e.cell.cell);

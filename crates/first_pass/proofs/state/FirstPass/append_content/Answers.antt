@@ -4,7 +4,7 @@ use Rattle.first_pass_grammar.specs.Leaves.{document}
 use Rattle.first_pass_tokens.specs.Pieces.{text_upto}
 use Rattle.first_pass_tokens.specs.LineTokens.{EndsLine}
 use Rattle.first_pass_tokens.proofs.BytesLemmas.{few_of_line}
-use Rattle.first_pass_lists.specs.declared.reading.Reading.{Reading}
+use Rattle.first_pass_lists.specs.declared.state.PassState.{PassState}
 use Rattle.first_pass_order.specs.Ordered.{reached}
 use Rattle.first_pass_order.proofs.OrderLemmas.{ordered_none}
 use Rattle.first_pass.proofs.CallsNamed.{line_named}
@@ -23,8 +23,8 @@ returns-clause-line c =
     let text = self.pass.source.text.now in
     let options = self.pass.source.options in
     let names = names_of c.append_line.new.self in
-    let old : Reading = self.pass.reading in
-    let new : Reading = record old { tree = c.append_line.new.tree; begin_list_item = None } in
+    let old : PassState = self.pass.state in
+    let new : PassState = record old { tree = c.append_line.new.tree; begin_list_item = None } in
     let answer = c.in_ok-line.line in
     let e = c.in_ok-line.ensures in
     record {
@@ -35,7 +35,7 @@ returns-clause-line c =
           more = record { names = e.names; entries = e.entries };
           named = line_named names (names_of self.pass.allocs) _ old.tree new.tree answer e.names e.line;
         };
-        reading = refl;
+        state = refl;
         boundary = λ whole boundary.
             next_boundary (document text options no_names) c.args.start answer.0 self.braces answer.1 e.utf8 boundary
             (subst (λ (t : Option ℕ). EndsLine

@@ -9,7 +9,7 @@ use Rattle.first_pass_raw.specs.declared.raw_line.RawKind.TheVariants.{Code, Htm
 use Rattle.first_pass_raw.proofs.RawOrder.{text_line_in_order, html_line_in_order}
 use Rattle.first_pass_names.proofs.NameLemmas.{extends_none}
 use Rattle.first_pass_names.specs.TableEntries.{names_of}
-use Rattle.first_pass_lists.specs.declared.reading.Reading.{Reading}
+use Rattle.first_pass_lists.specs.declared.state.PassState.{PassState}
 use Rattle.first_pass.proofs.CallsNamed.{raw_line_named}
 use Rattle.first_pass.proofs.OrderJoin.{tokens_ordered}
 use Rattle.first_pass.proofs.state.FirstPass.append_line_of.Goals as goal
@@ -25,8 +25,8 @@ returns c =
     let text = self.pass.source.text.now in
     let from = c.args.start in
     let to = c.args.end in
-    let old : Reading = self.pass.reading in
-    let new : Reading = record old { tree = c.append_raw_line.new.tree; begin_list_item = None } in
+    let old : PassState = self.pass.state in
+    let new : PassState = record old { tree = c.append_raw_line.new.tree; begin_list_item = None } in
     let names = names_of c.append_raw_line.new.allocs in
     let d = document text self.pass.source.options names in
     let e = c.in_ok-append_raw_line.ensures in
@@ -41,7 +41,7 @@ returns c =
         };
         braces = refl;
       };
-      reading = refl;
+      state = refl;
       order = λ at low begins ends o.
           tokens_ordered text old new at from to e.line.items c.recall_forest.ensures o low
           (line_in_order c.args.kind d c.args.remaining_space from to e.line.items c.requires.range.0 begins ends are) ends.0 e.line.tree_is refl;

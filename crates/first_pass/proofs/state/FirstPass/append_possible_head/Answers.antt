@@ -1,11 +1,11 @@
 use Rattle.std.proofs.Common.{◌≡◌, ◌+◌, ◌≤◌, ℕ, List, length, drop, Option, Some, None, IfSome, IsCharBoundary, sym, ap, subst, ◌∙◌, arith}
 use Rattle.std.proofs.lemmas.List.{length-take-le}
 use Rattle.first_pass_lines.specs.Lines.{line_len}
-use Rattle.first_pass_grammar.proofs.NamedItems.{named_more}
+use Rattle.first_pass_grammar.proofs.Names.NamedItems.{named_more}
 use Rattle.first_pass_names.specs.TableEntries.{names_of}
 use Rattle.first_pass_names.proofs.NameLemmas.{extends_both, extends_alignments}
 use Rattle.first_pass_tokens.specs.Pieces.{text_upto}
-use Rattle.first_pass_blocks.proofs.TextsAre.{line_bounds}
+use Rattle.first_pass_blocks.proofs.Leaves.TextsAre.{line_bounds}
 use Rattle.first_pass.specs.Views.{allocs_of, tree_of}
 use Rattle.first_pass_order.proofs.OrderLemmas.{ordered_at_later}
 use Rattle.first_pass.proofs.state.FirstPass.append_possible_head.Goals as goal
@@ -37,12 +37,12 @@ returns-clause-tokens c =
         };
         named = λ h. named_more last mid (tree_of c.append_content.new.self).nodes grown (e.kept.named h);
       };
-      reading = e.reading;
+      state = e.state;
       boundary = λ whole boundary.
           let bytes : c.text_upto-bytes.result.now ≡ text = c.text_upto-bytes.ensures.value ∙ ap (text_upto text) whole in
           let there = value ∙ ap (λ t. next + line_len (drop next t)) bytes in
           subst (IsCharBoundary text) (sym there) (line_bounds text next c.in_ok-next.ensures.place.utf8 (e.boundary whole boundary));
       order = λ ends boundary at low o.
-          ordered_at_later text c.append_content.new.self.pass.reading next c.next_line.result later (omega arith) (e.order ends boundary at low o);
+          ordered_at_later text c.append_content.new.self.pass.state next c.next_line.result later (omega arith) (e.order ends boundary at low o);
       node_bound = omega arith;
     }

@@ -13,10 +13,10 @@ returns c =
       kept = record {
         source = refl;
         tables = refl;
-        named = λ h. subst (AreReadNamed names) (sym is) (continued_named names c.args.start c.args.ch c.args.index pass.reading h);
+        named = λ h. subst (AreReadNamed names) (sym is) (continued_named names c.args.start c.args.ch c.args.index pass.state h);
         braces = refl;
       };
-      reading = is;
+      state = is;
       order = λ at later within starts h.
-          continue_list_keeps_order pass.source.text.now pass.reading _ at c.args.start c.args.ch c.args.index is later within starts h;
+          continue_list_keeps_order pass.source.text.now pass.state _ at c.args.start c.args.ch c.args.index is later within starts h;
     }

@@ -12,9 +12,9 @@ returns c =
       kept = record {
         source = refl;
         tables = refl;
-        named = λ h. subst (AreReadNamed names) (sym c.finish_empty_list_item.ensures) (item_finished_named names pass.reading h);
+        named = λ h. subst (AreReadNamed names) (sym c.finish_empty_list_item.ensures) (item_finished_named names pass.state h);
         braces = refl;
       };
-      reading = c.finish_empty_list_item.ensures;
-      order = λ at h. finish_item_keeps_order pass.source.text.now pass.reading _ at c.finish_empty_list_item.ensures h;
+      state = c.finish_empty_list_item.ensures;
+      order = λ at h. finish_item_keeps_order pass.source.text.now pass.state _ at c.finish_empty_list_item.ensures h;
     }

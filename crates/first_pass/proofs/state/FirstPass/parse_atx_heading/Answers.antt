@@ -20,15 +20,15 @@ returns c =
     record {
       block = e.block;
       leaf =
-          adds_leaf self _ c.args.start c.in_ok-next.next self.pass.reading.blank
+          adds_leaf self _ c.args.start c.in_ok-next.next self.pass.state.blank
           (heading_block c.args.start c.in_ok-next.next c.args.atx_level e.block.index e.block.chain)
           (record {
             source = refl;
             braces = refl;
-            reading = refl;
+            state = refl;
             more = e.more;
             tree_is = e.block.tree_is;
-            own = atx_named d c.args.start c.args.atx_level self.pass.reading.tree c.parse_atx_heading.new.tree c.in_ok-next.next e.block;
+            own = atx_named d c.args.start c.args.atx_level self.pass.state.tree c.parse_atx_heading.new.tree c.in_ok-next.next e.block;
           })
           e.fits (omega arith);
     }

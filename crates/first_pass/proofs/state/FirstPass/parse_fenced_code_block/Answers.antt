@@ -2,7 +2,7 @@ use Rattle.std.proofs.Common.{refl}
 use Rattle.first_pass_names.specs.TableEntries.{names_of}
 use Rattle.first_pass_names.proofs.NameLemmas.{extends_none}
 use Rattle.first_pass_grammar.specs.Leaves.{document}
-use Rattle.first_pass_blocks.proofs.RawFits.{fenced_between}
+use Rattle.first_pass_blocks.proofs.Leaves.RawFits.{fenced_between}
 use Rattle.first_pass.proofs.Added.{adds_lines}
 use Rattle.first_pass.proofs.CallsNamed.{fenced_named}
 use Rattle.first_pass.proofs.state.FirstPass.parse_fenced_code_block.Goals as goal
@@ -16,17 +16,17 @@ returns c =
     record {
       block = e.block;
       leaf =
-          adds_lines self _ c.args.start_ix c.in_ok-next.next self.pass.reading.blank e.block.items
+          adds_lines self _ c.args.start_ix c.in_ok-next.next self.pass.state.blank e.block.items
           (record {
             source = refl;
             braces = refl;
-            reading = refl;
+            state = refl;
             more = e.more;
             tree_is = e.block.tree_is;
             own = fenced_named (document text self.pass.source.options names) c.args.start_ix c.args.n_fence_char _ _ e.block.items
                 (e.block.are names (extends_none names));
           })
-          (fenced_between text self.pass.source.options names self.pass.reading.tree c.parse_fenced_code_block.new.tree
+          (fenced_between text self.pass.source.options names self.pass.state.tree c.parse_fenced_code_block.new.tree
           c.args.start_ix c.in_ok-next.next e.utf8 c.requires.boundary e.boundary.1.0 c.args.indent c.args.fence_ch
           c.args.n_fence_char c.requires.fence e.block) e.boundary;
     }

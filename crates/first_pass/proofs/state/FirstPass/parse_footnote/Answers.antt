@@ -2,22 +2,22 @@ use Rattle.std.proofs.Common.{◌≤◌, ℕ, Option, Some, None, IfSome, IsChar
 use Rattle.first_pass_blocks.specs.declared.state.BlockPass.{BlockPass}
 use Rattle.first_pass_blocks.specs.FootnoteHeads.{StaysSame, ReadsFootnote}
 use Rattle.first_pass_order.specs.Ordered.{IsReadTo}
-use Rattle.first_pass_blocks.specs.Views.{reading_of, source_text}
+use Rattle.first_pass_blocks.specs.Views.{state_of, source_text}
 use Rattle.first_pass_lists.proofs.NoEmptyItem.{footnote_begun_none}
-use Rattle.first_pass_blocks.proofs.FootnoteFound.{IsRead, some_found}
+use Rattle.first_pass_blocks.proofs.Openings.FootnoteFound.{IsRead, some_found}
 use Rattle.first_pass_order.proofs.PopOrder.{footnote_keeps_order}
 use Rattle.first_pass.proofs.CallsNamed.{footnote_named}
 use Rattle.first_pass.proofs.state.FirstPass.parse_footnote.Goals as goal
 
 -- a footnote definition that is opened at an offset keeps order
 order_by : (old new : BlockPass) (start : ℕ) (size : Option ℕ) → IsCharBoundary (source_text old) start → ReadsFootnote old new start size
-    → IfSome size (λ n. (at : ℕ) → at ≤ start → IsReadTo (source_text old) (reading_of old) at → IsReadTo (source_text old) (reading_of new) start)
+    → IfSome size (λ n. (at : ℕ) → at ≤ start → IsReadTo (source_text old) (state_of old) at → IsReadTo (source_text old) (state_of new) start)
 order_by old new start None boundary reads = tt
 order_by old new start (Some n) boundary reads = λ at low o.
     let f = some_found (StaysSame old new) (IsRead old new start) _ (Some n) n refl reads in
     let opened = f.2.1 in
-    footnote_keeps_order (source_text old) (reading_of old) (reading_of new) at start opened.index opened.opened low boundary.0 boundary
-    (footnote_begun_none start opened.index (reading_of old)) o
+    footnote_keeps_order (source_text old) (state_of old) (state_of new) at start opened.index opened.opened low boundary.0 boundary
+    (footnote_begun_none start opened.index (state_of old)) o
 
 pub returns : goal.returns
 returns c =

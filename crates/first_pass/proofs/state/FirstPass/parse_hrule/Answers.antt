@@ -1,11 +1,11 @@
 use Rattle.std.proofs.Common.{◌+◌, None, refl, sym, subst}
-use Rattle.first_pass_grammar.proofs.MoreNames.{extends_none}
+use Rattle.first_pass_grammar.proofs.Names.MoreNames.{extends_none}
 use Rattle.first_pass_grammar.specs.Leaves.{rule_block}
 use Rattle.first_pass_names.specs.TableEntries.{names_of}
-use Rattle.first_pass_lists.specs.declared.reading.Reading.{Reading}
+use Rattle.first_pass_lists.specs.declared.state.PassState.{PassState}
 use Rattle.first_pass_order.specs.Ordered.{IsOrderedAt}
 use Rattle.first_pass_order.proofs.NamedLemmas.{block_added}
-use Rattle.first_pass_blocks.proofs.OrderSteps.{block_ordered}
+use Rattle.first_pass_blocks.proofs.Order.OrderSteps.{block_ordered}
 use Rattle.first_pass.proofs.CallsNamed.{rule_named}
 use Rattle.first_pass.proofs.state.FirstPass.parse_hrule.Goals as goal
 
@@ -13,8 +13,8 @@ pub returns : goal.returns
 returns c =
     let text = c.args.self.now.pass.source.text.now in
     let names = names_of c.args.self.now.pass.allocs in
-    let old : Reading = c.args.self.now.pass.reading in
-    let new : Reading = record old { tree = c.parse_hrule.new.tree; begin_list_item = None } in
+    let old : PassState = c.args.self.now.pass.state in
+    let new : PassState = record old { tree = c.parse_hrule.new.tree; begin_list_item = None } in
     let e = c.in_ok-next.ensures in
     record {
       kept = record {
@@ -24,7 +24,7 @@ returns c =
             (rule_named names c.args.ix c.args.hrule_size);
         braces = refl;
       };
-      reading = refl;
+      state = refl;
       block = e.block;
       fits = e.fits text;
       order = λ at low begins ends o.

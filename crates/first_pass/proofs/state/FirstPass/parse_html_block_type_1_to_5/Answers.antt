@@ -8,7 +8,7 @@ use Rattle.first_pass_names.proofs.NameLemmas.{extends_none}
 use Rattle.first_pass_grammar.specs.Extents.{Extent}
 use Rattle.first_pass_grammar.specs.HtmlBlocks.{IsHtml}
 use Rattle.first_pass_grammar.specs.Leaves.{document}
-use Rattle.first_pass_blocks.proofs.RawFits.{to_end_between}
+use Rattle.first_pass_blocks.proofs.Leaves.RawFits.{to_end_between}
 use Rattle.first_pass.proofs.Added.{adds_lines}
 use Rattle.first_pass.proofs.CallsNamed.{html_named}
 use Rattle.first_pass.proofs.state.FirstPass.parse_html_block_type_1_to_5.Goals as goal
@@ -18,7 +18,7 @@ returns c =
     let self = c.args.self.now in
     let text = self.pass.source.text.now in
     let options = self.pass.source.options in
-    let old = self.pass.reading.tree in
+    let old = self.pass.state.tree in
     let new = c.parse_html_block_type_1_to_5.new.tree in
     let names = names_of c.parse_html_block_type_1_to_5.new.allocs in
     let e = c.in_ok-next.ensures in
@@ -29,11 +29,11 @@ returns c =
           subst (λ n. AddsRaw (document text options names) (λ d. IsHtml d c.args.start_ix n x.places x.«end») x.left old new c.in_ok-next.next) c.max.ensures
           (e.block p i);
       leaf =
-          adds_lines self _ c.args.start_ix c.in_ok-next.next self.pass.reading.blank block.items
+          adds_lines self _ c.args.start_ix c.in_ok-next.next self.pass.state.blank block.items
           (record {
             source = refl;
             braces = refl;
-            reading = refl;
+            state = refl;
             more = e.more;
             tree_is = block.tree_is;
             own = html_named (document text options names) c.args.start_ix c.max.result _ _ block.items (block.are names (extends_none names));

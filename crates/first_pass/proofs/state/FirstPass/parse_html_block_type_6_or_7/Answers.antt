@@ -7,13 +7,13 @@ use Rattle.first_pass_grammar.specs.Completion.{lines_from}
 use Rattle.first_pass_open.specs.Between.{AddsBetween}
 use Rattle.first_pass_open.specs.Path.{path_of}
 use Rattle.first_pass_raw.specs.RawBlocks.{after_line_at, html_to_blank, AddsRaw, IsPlaceAt}
-use Rattle.first_pass_lists.specs.declared.reading.Reading.{Reading}
+use Rattle.first_pass_lists.specs.declared.state.PassState.{PassState}
 use Rattle.first_pass_names.specs.TableEntries.{names_of}
 use Rattle.first_pass_names.proofs.NameLemmas.{extends_none}
 use Rattle.first_pass_raw.proofs.IndentedLemmas.{first_at, first_is}
-use Rattle.first_pass_blocks.proofs.HandedOn.{path_added, html_stops, ordered_stopped}
-use Rattle.first_pass_blocks.proofs.OrderSteps.{block_ordered}
-use Rattle.first_pass_blocks.proofs.RawFits.{to_blank_between, to_blank_ends, to_blank_few}
+use Rattle.first_pass_blocks.proofs.LineByLine.HandedOn.{path_added, html_stops, ordered_stopped}
+use Rattle.first_pass_blocks.proofs.Order.OrderSteps.{block_ordered}
+use Rattle.first_pass_blocks.proofs.Leaves.RawFits.{to_blank_between, to_blank_ends, to_blank_few}
 use Rattle.first_pass.proofs.Added.{adds_kept}
 use Rattle.first_pass.proofs.CallsNamed.{html_named}
 use Rattle.first_pass.proofs.state.FirstPass.parse_html_block_type_6_or_7.Goals as goal
@@ -25,8 +25,8 @@ returns c =
     let options = self.pass.source.options in
     let names = names_of c.parse_html_block_type_6_or_7.new.allocs in
     let e = c.in_ok-next.ensures in
-    let old : Reading = self.pass.reading in
-    let new : Reading = record old { tree = c.parse_html_block_type_6_or_7.new.tree; begin_list_item = None } in
+    let old : PassState = self.pass.state in
+    let new : PassState = record old { tree = c.parse_html_block_type_6_or_7.new.tree; begin_list_item = None } in
     let p = first_at text c.args.start_ix 0 in
     let i = first_is text c.args.start_ix 0 in
     let block = e.block p i in
@@ -46,12 +46,12 @@ returns c =
           (record {
             source = refl;
             braces = refl;
-            reading = refl;
+            state = refl;
             more = e.more;
             tree_is = block.tree_is;
             own = html_named (document text options names) c.args.start_ix c.max.result _ _ block.items (block.are names (extends_none names));
           });
-      reading = refl;
+      state = refl;
       later = e.boundary.0;
       boundary = e.boundary.1;
       fits = fits;

@@ -3,7 +3,7 @@ use Rattle.first_pass_names.specs.TableEntries.{names_of}
 use Rattle.first_pass_names.proofs.NameLemmas.{extends_none}
 use Rattle.first_pass_grammar.specs.Leaves.{document}
 use Rattle.first_pass_raw.proofs.IndentedLemmas.{first_at, first_is}
-use Rattle.first_pass_blocks.proofs.RawFits.{indented_between}
+use Rattle.first_pass_blocks.proofs.Leaves.RawFits.{indented_between}
 use Rattle.first_pass.proofs.Added.{adds_lines}
 use Rattle.first_pass.proofs.CallsNamed.{indented_named}
 use Rattle.first_pass.proofs.state.FirstPass.parse_indented_code_block.Goals as goal
@@ -23,11 +23,11 @@ returns c =
           (record {
             source = refl;
             braces = refl;
-            reading = refl;
+            state = refl;
             more = e.more;
             tree_is = block.tree_is;
             own = indented_named (document text self.pass.source.options names) p _ block.items (block.is names (extends_none names));
           })
-          (indented_between text self.pass.source.options names self.pass.reading.tree c.parse_indented_code_block.new.tree
+          (indented_between text self.pass.source.options names self.pass.state.tree c.parse_indented_code_block.new.tree
           c.args.start_ix c.in_ok-next.next e.utf8 c.requires.boundary e.boundary.1.0 c.args.remaining_space c.in_ok-next.blank e.block) e.boundary;
     }

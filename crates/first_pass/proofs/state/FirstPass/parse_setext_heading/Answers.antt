@@ -17,7 +17,7 @@ returns-in_default c = record {
     };
     braces = refl;
   };
-  reading = refl;
+  state = refl;
   value = search rules;
   heading = search rules;
   node_bound = omega arith;
@@ -28,7 +28,7 @@ pub returns : goal.returns
 returns c =
     let self = c.args.self.now in
     let text = self.pass.source.text.now in
-    let old = self.pass.reading.tree in
+    let old = self.pass.state.tree in
     let new = c.make_heading.new.tree in
     let d = document text self.pass.source.options (names_of c.make_heading.new.allocs) in
     let e = c.in_ok-make_heading.ensures in
@@ -41,7 +41,7 @@ returns c =
         };
         braces = refl;
       };
-      reading = refl;
+      state = refl;
       value = search rules;
       heading = search rules;
       node_bound = e.node_bound;

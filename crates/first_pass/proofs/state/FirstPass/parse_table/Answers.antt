@@ -9,7 +9,7 @@ pub returns : goal.returns
 returns c =
     let self = c.args.self.now in
     let text = self.pass.source.text.now in
-    let old = self.pass.reading.tree in
+    let old = self.pass.state.tree in
     let new = c.parse_table.new.tree in
     let names = names_of c.parse_table.new.allocs in
     let e = c.in_ok-next.ensures in
@@ -24,11 +24,11 @@ returns c =
         braces = refl;
       };
       texts = e.texts;
-      reading = refl;
+      state = refl;
       rows = e.rows;
       order = λ at low following o.
           rows_ordered text old new at c.in_ok-next.next c.requires.open.0 c.requires.open.1 e.rows.boundary (e.fits at low following) o;
       node_bound = λ from low following apart.
           rows_count text old new from c.in_ok-next.next c.requires.open.0 c.requires.open.1 (e.fits from low following) apart;
-      whole = e.whole;
+      tables = e.tables;
     }

@@ -11,7 +11,7 @@ pub returns : goal.returns
 returns c =
     let self = c.args.self.now in
     let d = document self.pass.source.text.now self.pass.source.options (names_of c.parse_table_row-row.new.allocs) in
-    let old = self.pass.reading.tree in
+    let old = self.pass.state.tree in
     let new = c.parse_table_row-row.new.tree in
     let before : OpenTable = open_table old c.args.missing_empty_cells.now c.replace.result in
     let after : OpenTable = open_table new c.parse_table_row-row.new.table.missing_empty_cells c.parse_table_row-row.new.table.braces in
@@ -27,7 +27,7 @@ returns c =
           named = row_line_named d c.args.row_cells c.args.ix before after row (names_of self.pass.allocs) e.more.names e.row;
         };
         texts = e.texts;
-        reading = refl;
+        state = refl;
         order = λ begins at low o.
             row_ordered d.text old new at c.args.ix row low c.requires.boundary.0 none
             (line_row_ends d c.args.row_cells c.args.ix before after row e.utf8 c.requires.boundary e.row) (e.fits at low) o;

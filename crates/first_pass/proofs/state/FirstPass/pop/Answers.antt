@@ -12,9 +12,9 @@ returns c =
       kept = record {
         source = refl;
         tables = refl;
-        named = λ h. subst (AreReadNamed names) (sym c.pop.ensures) (popped_named names c.args.ix pass.reading h);
+        named = λ h. subst (AreReadNamed names) (sym c.pop.ensures) (popped_named names c.args.ix pass.state h);
         braces = refl;
       };
-      reading = c.pop.ensures;
-      order = λ at later within ends h. pop_keeps_order pass.source.text.now pass.reading _ at c.args.ix c.pop.ensures later within ends h;
+      state = c.pop.ensures;
+      order = λ at later within ends h. pop_keeps_order pass.source.text.now pass.state _ at c.args.ix c.pop.ensures later within ends h;
     }

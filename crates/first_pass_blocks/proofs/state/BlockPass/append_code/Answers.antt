@@ -6,12 +6,12 @@ use Rattle.first_pass_lines.proofs.PlaceFacts.{columns_keep, columns_line_end, c
 use Rattle.first_pass_raw.specs.RawBlocks.{after_line_at}
 use Rattle.first_pass_open.proofs.PlaceLemmas.{read_to}
 use Rattle.first_pass_ready.proofs.EnterLemmas.{blank_columns}
-use Rattle.first_pass_blocks.proofs.OrderSteps.{offset_later}
+use Rattle.first_pass_blocks.proofs.Order.OrderSteps.{offset_later}
 use Rattle.first_pass_names.specs.TableEntries.{names_of}
 use Rattle.first_pass_kinds.specs.declared.kinds.MarkedLeaf.TheVariants.{IndentedCode}
-use Rattle.first_pass_blocks.proofs.LeafAdded.{found_says}
-use Rattle.first_pass_blocks.proofs.RawFits.{indented_between}
-use Rattle.first_pass_blocks.proofs.KindBlocks.{code_added}
+use Rattle.first_pass_blocks.proofs.Leaves.LeafAdded.{found_says}
+use Rattle.first_pass_blocks.proofs.Leaves.RawFits.{indented_between}
+use Rattle.first_pass_blocks.proofs.Leaves.KindBlocks.{code_added}
 use Rattle.first_pass_blocks.proofs.state.BlockPass.append_code.Goals as goal
 
 pub offset-requires : goal.offset-requires
@@ -56,13 +56,13 @@ returns c =
     let low = offset_later text p.line p.rest q.rest f.place i (columns_shorter 4 p.rest) in
     let later = e.boundary.0 in
     let begins = subst (IsCharBoundary text) (sym there) i.boundary in
-    let fits = indented_between text options names self.reading.tree tree c.offset.result next e.utf8 begins e.boundary.1.0 c.remaining_space-owed.result
+    let fits = indented_between text options names self.state.tree tree c.offset.result next e.utf8 begins e.boundary.1.0 c.remaining_space-owed.result
     c.in_ok-next.blank e.block in
     record {
       source = refl;
       more = e.more;
       begin_list_item = f.no_empty;
-      block = code_added text options names p self.reading.tree tree next _ i
+      block = code_added text options names p self.state.tree tree next _ i
           (e.block q (record { offset_is = sym there; left_is = i.left ∙ ap (λ n. drop n text) (sym there) }) (sym owed));
       later = omega arith;
       boundary = e.boundary.1;

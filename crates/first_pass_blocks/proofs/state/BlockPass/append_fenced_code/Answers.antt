@@ -4,9 +4,9 @@ use Rattle.first_pass_kinds.specs.declared.kinds.MarkedLeaf.{MarkedLeaf}
 use Rattle.first_pass_kinds.specs.declared.kinds.MarkedLeaf.TheVariants.{FencedCode}
 use Rattle.first_pass_raw.specs.declared.fenced_code.Fence.{Fence}
 use Rattle.first_pass_open.proofs.PlaceLemmas.{all_keep}
-use Rattle.first_pass_blocks.proofs.RawFits.{fenced_between}
-use Rattle.first_pass_blocks.proofs.KindBlocks.{fenced_added, columns_are}
-use Rattle.first_pass_blocks.proofs.LeafAdded.{found_says, found_boundary, fence_found, leaf_added}
+use Rattle.first_pass_blocks.proofs.Leaves.RawFits.{fenced_between}
+use Rattle.first_pass_blocks.proofs.Leaves.KindBlocks.{fenced_added, columns_are}
+use Rattle.first_pass_blocks.proofs.Leaves.LeafAdded.{found_says, found_boundary, fence_found, leaf_added}
 use Rattle.first_pass_blocks.proofs.state.BlockPass.append_fenced_code.Goals as goal
 
 pub parse_fenced_code_block-requires : goal.parse_fenced_code_block-requires
@@ -28,8 +28,8 @@ returns c = λ p f.
     let i = all_keep text p.line p.rest f.utf8 f.place in
     let says = found_says self.source.options p leaf fence.indent c.args.at f.found in
     leaf_added self _ p leaf fence.indent c.args.at next f refl e.more refl refl e.boundary
-    (fenced_between text self.source.options names self.reading.tree tree c.args.at next f.utf8
+    (fenced_between text self.source.options names self.state.tree tree c.args.at next f.utf8
     (found_boundary text p c.args.at f.utf8 f.place f.found.at_is) e.boundary.1.0 fence.indent fence.byte fence.count
     (fence_found self p fence.count fence.byte fence.indent c.args.at f) e.block)
-    (fenced_added text self.source.options names p self.reading.tree tree c.args.at next f.found.at_is i fence.count fence.byte
+    (fenced_added text self.source.options names p self.state.tree tree c.args.at next f.found.at_is i fence.count fence.byte
     fence.indent (columns_are _ _ f.found.columns_are says.1).0 e.block)

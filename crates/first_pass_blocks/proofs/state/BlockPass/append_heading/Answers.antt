@@ -3,8 +3,8 @@ use Rattle.first_pass_names.specs.TableEntries.{names_of}
 use Rattle.first_pass_kinds.specs.declared.kinds.MarkedLeaf.{MarkedLeaf}
 use Rattle.first_pass_kinds.specs.declared.kinds.MarkedLeaf.TheVariants.{AtxHeading}
 use Rattle.first_pass_open.proofs.PlaceLemmas.{all_keep}
-use Rattle.first_pass_blocks.proofs.KindBlocks.{heading_added, ends_here}
-use Rattle.first_pass_blocks.proofs.LeafAdded.{found_boundary, heading_found, line_read, leaf_added}
+use Rattle.first_pass_blocks.proofs.Leaves.KindBlocks.{heading_added, ends_here}
+use Rattle.first_pass_blocks.proofs.Leaves.LeafAdded.{found_boundary, heading_found, line_read, leaf_added}
 use Rattle.first_pass_blocks.proofs.state.BlockPass.append_heading.Goals as goal
 
 pub parse_atx_heading-requires : goal.parse_atx_heading-requires
@@ -29,7 +29,7 @@ returns c = λ p columns f.
     let names = names_of c.parse_atx_heading.new.allocs in
     let tree = c.parse_atx_heading.new.tree in
     let i = all_keep text p.line p.rest f.utf8 f.place in
-    let ends = e.block.end_is ∙ ends_here text options names p self.reading.tree tree at next f.found.at_is i in
+    let ends = e.block.end_is ∙ ends_here text options names p self.state.tree tree at next f.found.at_is i in
     leaf_added self _ p leaf columns at next f refl e.more refl refl (line_read self self p leaf columns at next f ends)
     (λ from low. e.fits from low (found_boundary text p at f.utf8 f.place f.found.at_is))
-    (heading_added text options names p self.reading.tree tree at next f.found.at_is i c.args.level e.block)
+    (heading_added text options names p self.state.tree tree at next f.found.at_is i c.args.level e.block)

@@ -6,9 +6,9 @@ use Rattle.first_pass_names.specs.TableEntries.{names_of}
 use Rattle.first_pass_kinds.specs.declared.kinds.MarkedLeaf.{MarkedLeaf}
 use Rattle.first_pass_kinds.specs.declared.kinds.MarkedLeaf.TheVariants.{HtmlToEnd}
 use Rattle.first_pass_open.proofs.PlaceLemmas.{all_keep}
-use Rattle.first_pass_blocks.proofs.RawFits.{to_end_between}
-use Rattle.first_pass_blocks.proofs.KindBlocks.{html_end_added, is_here, columns_are}
-use Rattle.first_pass_blocks.proofs.LeafAdded.{found_says, found_boundary, leaf_added}
+use Rattle.first_pass_blocks.proofs.Leaves.RawFits.{to_end_between}
+use Rattle.first_pass_blocks.proofs.Leaves.KindBlocks.{html_end_added, is_here, columns_are}
+use Rattle.first_pass_blocks.proofs.Leaves.LeafAdded.{found_says, found_boundary, leaf_added}
 use Rattle.first_pass_blocks.proofs.state.BlockPass.append_html.Goals as goal
 
 pub parse_html_block_type_1_to_5-requires : goal.parse_html_block_type_1_to_5-requires
@@ -32,8 +32,8 @@ returns c = λ p f.
     let i = all_keep text p.line p.rest f.utf8 f.place in
     let until_is : html_end (drop 1 (all_taken p.rest).left) ≡ Some until = f.found.«end» in
     leaf_added self _ p leaf c.args.columns at next f refl e.more refl refl e.boundary
-    (to_end_between text options names self.reading.tree tree at next f.utf8 (found_boundary text p at f.utf8 f.place f.found.at_is) e.boundary.1.0
+    (to_end_between text options names self.state.tree tree at next f.utf8 (found_boundary text p at f.utf8 f.place f.found.at_is) e.boundary.1.0
     until c.args.columns e.block)
-    (html_end_added text options names p self.reading.tree tree at next f.found.at_is i until c.args.columns until_is
+    (html_end_added text options names p self.state.tree tree at next f.found.at_is i until c.args.columns until_is
     (columns_are _ _ f.found.columns_are (found_says options p leaf c.args.columns at f.found)).0
-    (e.block (unindented p) (is_here text options names p self.reading.tree tree at next f.found.at_is i)))
+    (e.block (unindented p) (is_here text options names p self.state.tree tree at next f.found.at_is i)))

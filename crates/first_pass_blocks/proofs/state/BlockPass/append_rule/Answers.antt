@@ -5,9 +5,9 @@ use Rattle.first_pass_open.specs.Between.{AddsBetween}
 use Rattle.first_pass_kinds.specs.declared.kinds.MarkedLeaf.{MarkedLeaf}
 use Rattle.first_pass_kinds.specs.declared.kinds.MarkedLeaf.TheVariants.{ThematicBreak}
 use Rattle.first_pass_open.proofs.PlaceLemmas.{all_keep, place_end}
-use Rattle.first_pass_blocks.proofs.LeafLemmas.{rule_end}
-use Rattle.first_pass_blocks.proofs.KindBlocks.{rule_added}
-use Rattle.first_pass_blocks.proofs.LeafAdded.{found_says, found_boundary, line_read, leaf_added}
+use Rattle.first_pass_blocks.proofs.Leaves.LeafLemmas.{rule_end}
+use Rattle.first_pass_blocks.proofs.Leaves.KindBlocks.{rule_added}
+use Rattle.first_pass_blocks.proofs.Leaves.LeafAdded.{found_says, found_boundary, line_read, leaf_added}
 use Rattle.first_pass_blocks.proofs.state.BlockPass.append_rule.Goals as goal
 
 pub parse_hrule-requires : goal.parse_hrule-requires
@@ -36,6 +36,6 @@ returns c = λ p columns f.
     let last = subst (IsCharBoundary text) (sym ends) (place_end text p f.utf8 f.place) in
     leaf_added self _ p leaf columns at next f refl (record { names = extends_none names; entries = refl }) refl refl
     (line_read self self p leaf columns at next f (e.following ∙ ends))
-    (λ from low. subst (λ n. AddsBetween text from n self.reading.tree tree) (sym e.following)
+    (λ from low. subst (λ n. AddsBetween text from n self.state.tree tree) (sym e.following)
     (e.fits text from low (found_boundary text p at f.utf8 f.place f.found.at_is) last))
-    (rule_added text options names p self.reading.tree tree at next f.found.at_is i size (e.following ∙ ends) e.block)
+    (rule_added text options names p self.state.tree tree at next f.found.at_is i size (e.following ∙ ends) e.block)

@@ -1,5 +1,5 @@
 use Rattle.std.proofs.Common.{length, None, false, refl, ap, ◌∙◌, arith}
-use Rattle.first_pass_lists.specs.Closing.{reading_with}
+use Rattle.first_pass_lists.specs.Closing.{state_with}
 use Rattle.first_pass_tree.specs.Forest.{with_end_at}
 use Rattle.first_pass_order.proofs.NamedLemmas.{first_named}
 use Rattle.first_pass_order.proofs.Nests.{first_closes}
@@ -18,7 +18,7 @@ returns-clause-order c =
     let text = c.args.text.now in
     let tree = c.set_end.new.self in
     let is = c.set_end.ensures ∙ ap (λ f. with_end_at f c.root-root.result (length text)) c.in_ok-tree.ensures in (
-      ordered_none text (reading_with tree None false) 0 refl (omega arith)
+      ordered_none text (state_with tree None false) 0 refl (omega arith)
           (ordered_first text tree c.root-root.result c.utf8.text c.root-root.ensures.value is),
       first_closes text tree c.root-root.result (length text) 0 is,
     )
@@ -28,7 +28,7 @@ returns-clause-named c =
     first_named _ c.set_end.new.self c.root-root.result (length c.args.text.now)
     (c.set_end.ensures ∙ ap (λ f. with_end_at f c.root-root.result (length c.args.text.now)) c.in_ok-tree.ensures)
 
-pub returns-clause-whole : goal.returns-clause-whole
-returns-clause-whole c =
+pub returns-clause-tables : goal.returns-clause-tables
+returns-clause-tables c =
     first_whole _ c.set_end.new.self c.root-root.result (length c.args.text.now)
     (c.set_end.ensures ∙ ap (λ f. with_end_at f c.root-root.result (length c.args.text.now)) c.in_ok-tree.ensures)

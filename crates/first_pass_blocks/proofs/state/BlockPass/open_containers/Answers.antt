@@ -2,16 +2,16 @@ use Rattle.std.proofs.Common.{refl, subst}
 use Rattle.first_pass_lines.specs.Places.{Place}
 use Rattle.first_pass_blocks.specs.declared.state.BlockPass.{BlockPass}
 use Rattle.first_pass_blocks.specs.Positions.{InLine, LeafAt}
-use Rattle.first_pass_blocks.specs.Starts.{OpensNone}
-use Rattle.first_pass_blocks.proofs.BlockRead.{passes_reading}
-use Rattle.first_pass_blocks.proofs.NoContainer.{only_leaf}
+use Rattle.first_pass_blocks.specs.Starts.{BeginsNoContainer}
+use Rattle.first_pass_blocks.proofs.LineByLine.BlockRead.{passes_state}
+use Rattle.first_pass_blocks.proofs.Openings.NoContainer.{only_leaf}
 use Rattle.first_pass_blocks.proofs.state.BlockPass.open_containers.Goals as goal
 
 -- the next byte begins no container
-pub returns-then-opens_none-clause-opened : goal.returns-then-opens_none-clause-opened
-returns-then-opens_none-clause-opened c =
+pub returns-then-begins_no_container-clause-opened : goal.returns-then-begins_no_container-clause-opened
+returns-then-begins_no_container-clause-opened c =
     let self : BlockPass = c.args.self.now in
     let p : Place = c.args.place.now in
-    passes_reading self.source p.line self self (InLine p) (LeafAt p) refl refl
-    (only_leaf self.source self.reading p p.line
-    (subst (λ (q : Place). OpensNone q.rest) c.place.view_is (c.opens_none.ensures c.if-opens_none.true)))
+    passes_state self.source p.line self self (InLine p) (LeafAt p) refl refl
+    (only_leaf self.source self.state p p.line
+    (subst (λ (q : Place). BeginsNoContainer q.rest) c.place.view_is (c.begins_no_container.ensures c.if-begins_no_container.true)))

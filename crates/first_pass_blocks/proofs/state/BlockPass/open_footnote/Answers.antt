@@ -5,7 +5,7 @@ use Rattle.first_pass_open.proofs.PlaceLemmas.{all_keep}
 use Rattle.first_pass_blocks.specs.declared.state.BlockPass.{BlockPass}
 use Rattle.first_pass_blocks.specs.FootnoteHeads.{StaysSame, IsAfterHead}
 use Rattle.first_pass_blocks.specs.Views.{context_in}
-use Rattle.first_pass_blocks.proofs.FootnoteFound.{IsRead, no_mark, head_at_mark, none_found, some_found, note_opened}
+use Rattle.first_pass_blocks.proofs.Openings.FootnoteFound.{IsRead, no_mark, head_at_mark, none_found, some_found, footnote_opened}
 use Rattle.first_pass_blocks.proofs.state.BlockPass.open_footnote.Goals as goal
 use Rattle.first_pass_blocks.proofs.state.BlockPass.open_footnote.Goals.{In-Some-2}
 
@@ -52,6 +52,6 @@ returns-in-Some-2 c =
     let r = read (goal.at.returns-in-Some-2 c).In-Some-2 in
     let source = c.parse_footnote.ensures.source in
     let following = subst (λ (z : Source). IsAfterHead z (c.in-Some.start + c.in-Some-2.size) c.place_after_head.result) source c.place_after_head.ensures in
-    note_opened self new c.args.place.now c.place_after_head.result c.in-Some.start c.in-Some-2.size f.0
+    footnote_opened self new c.args.place.now c.place_after_head.result c.in-Some.start c.in-Some-2.size f.0
     c.requires.utf8 c.requires.place c.recall_forest.ensures
     c.requires.no_empty source (sym c.footnote_mark.ensures.value ∙ c.in-Some.is) f.1 f.2.0 f.2.1 r.0 following

@@ -8,20 +8,20 @@ use Rattle.first_pass_grammar.specs.Footnotes.{footnote_head_at}
 use Rattle.first_pass_grammar.specs.Openers.{Start as ContainerStart, start_at}
 use Rattle.first_pass_open.specs.Path.{context_of}
 use Rattle.first_pass_open.specs.declared.source.Source.{Source}
-use Rattle.first_pass_lists.specs.declared.reading.Reading.{Reading}
+use Rattle.first_pass_lists.specs.declared.state.PassState.{PassState}
 use Rattle.first_pass_grammar.specs.declared.kind.AfterMarker.{AfterMarker}
 use Rattle.first_pass_grammar.specs.declared.kind.AfterMarker.TheVariants.{OnLine, TaskText, LineEnds, OnlyTag}
 use Rattle.first_pass_blocks.specs.declared.openers.Start.{Start}
 use Rattle.first_pass_blocks.specs.declared.state.BlockPass.{BlockPass}
 use Rattle.first_pass_blocks.specs.FootnoteHeads.{StaysSame, TriesFootnote}
-use Rattle.first_pass_blocks.specs.Positions.{Position, InLine, LeafAt, IsFrom, ReadsTo, may_define}
+use Rattle.first_pass_blocks.specs.Positions.{Position, InLine, LeafAt, IsNotBefore, ReadsTo, may_define}
 use Rattle.first_pass_blocks.specs.Progress.{PassesTo}
-use Rattle.first_pass_blocks.specs.Starts.{StartMatches, start_opened, after_at, last_at, IsAfter, OpensNone}
-use Rattle.first_pass_blocks.specs.Views.{allocs_of, reading_of, source_of, tree_of}
-use Rattle.first_pass_blocks.proofs.BlockRead.{passes_reading, passes_both}
-use Rattle.first_pass_blocks.proofs.NoContainer.{only_leaf}
-use Rattle.first_pass_blocks.proofs.StartLemmas.{start_opens, no_start, opened_start, reads_none}
-use Rattle.first_pass_blocks.proofs.StartFound.{start_found, start_missing}
+use Rattle.first_pass_blocks.specs.Starts.{StartMatches, start_opened, after_at, last_at, IsAfterMarker, BeginsNoContainer}
+use Rattle.first_pass_blocks.specs.Views.{allocs_of, state_of, source_of, tree_of}
+use Rattle.first_pass_blocks.proofs.LineByLine.BlockRead.{passes_state, passes_both}
+use Rattle.first_pass_blocks.proofs.Openings.NoContainer.{only_leaf}
+use Rattle.first_pass_blocks.proofs.Openings.StartLemmas.{start_opens, no_start, opened_start, reads_none}
+use Rattle.first_pass_blocks.proofs.Openings.StartFound.{start_found, start_missing}
 use Rattle.first_pass_blocks.proofs.state.BlockPass.open_in_turn.Goals as goal
 use Rattle.first_pass_blocks.proofs.state.BlockPass.open_in_turn.Goals.{Then-not-branch, Joined-not-branch}
 use Rattle.first_pass_blocks.proofs.state.BlockPass.open_in_turn.Goals.{then-not-branch+in-Some+in_ok-open_start+in-OnLine, else-not-branch}
@@ -37,51 +37,51 @@ loop-self-init c =
     record {
       no_empty = c.requires.no_empty;
       here = (c.requires.place, omega arith, omega arith, omega arith);
-      opened = passes_reading self.source first.line self self (InLine first) (InLine first) refl refl
-          (reads_none self.source first.line self.reading (InLine first));
+      opened = passes_state self.source first.line self self (InLine first) (InLine first) refl refl
+          (reads_none self.source first.line self.state (InLine first));
     }
 
 -- no footnote definition begins at the place, and the search for another container begins
 record IsTried (over : Source) (first : Place) (old mid : BlockPass) (p : Place) : Type 0 where
-  here : IsFrom over.text.now first p
-  no_empty : (reading_of mid).begin_list_item ≡ None
+  here : IsNotBefore over.text.now first p
+  no_empty : (state_of mid).begin_list_item ≡ None
   opened : PassesTo over first.line old mid (InLine first) (InLine p)
   bare : in_table (tree_of mid).nodes (tree_of mid).spine ≡ false → footnote_head_at (context_of over.options (tree_of mid)) p ≡ None
 
-tried : (over : Source) (first : Place) (old now mid : BlockPass) (p q : Place) (t : Bool) → t ≡ false → IsFrom over.text.now first p
-    → (reading_of now).begin_list_item ≡ None → source_of now ≡ over → PassesTo over first.line old now (InLine first) (InLine p) → TriesFootnote now mid p q t
+tried : (over : Source) (first : Place) (old now mid : BlockPass) (p q : Place) (t : Bool) → t ≡ false → IsNotBefore over.text.now first p
+    → (state_of now).begin_list_item ≡ None → source_of now ≡ over → PassesTo over first.line old now (InLine first) (InLine p) → TriesFootnote now mid p q t
     → IsTried over first old mid q
 tried over first old now mid p q t is here none source opened tries =
     let no = subst (TriesFootnote now mid p q) is tries in
     let same : StaysSame now mid = no.0 in
     let at : q ≡ p = no.1 in
-    let kept = subst (λ (r : Reading). ReadsTo over first.line (reading_of now) r (InLine p) (InLine p)) (sym same.1)
-    (reads_none over first.line (reading_of now) (InLine p)) in
+    let kept = subst (λ (r : PassState). ReadsTo over first.line (state_of now) r (InLine p) (InLine p)) (sym same.1)
+    (reads_none over first.line (state_of now) (InLine p)) in
     let steps = passes_both over first.line old now mid (InLine first) (InLine p) (InLine p) opened
-    (passes_reading over first.line now mid (InLine p) (InLine p) same.0 same.2 kept) in
+    (passes_state over first.line now mid (InLine p) (InLine p) same.0 same.2 kept) in
     record {
-      here = subst (IsFrom over.text.now first) (sym at) here;
-      no_empty = ap (λ (r : Reading). r.begin_list_item) same.1 ∙ none;
+      here = subst (IsNotBefore over.text.now first) (sym at) here;
+      no_empty = ap (λ (r : PassState). r.begin_list_item) same.1 ∙ none;
       opened = subst (λ (z : Place). PassesTo over first.line old mid (InLine first) (InLine z)) (sym at) steps;
       bare = λ no_table.
           ap (footnote_head_at (context_of over.options (tree_of mid))) at
-          ∙ ap (λ (r : Reading). footnote_head_at (context_of over.options r.tree) p) same.1
+          ∙ ap (λ (r : PassState). footnote_head_at (context_of over.options r.tree) p) same.1
           ∙ ap (λ (z : Source). footnote_head_at (context_of z.options (tree_of now)) p) (sym source)
-          ∙ no.2 (ap (λ (r : Reading). in_table r.tree.nodes r.tree.spine) (sym same.1) ∙ no_table);
+          ∙ no.2 (ap (λ (r : PassState). in_table r.tree.nodes r.tree.spine) (sym same.1) ∙ no_table);
     }
 
 -- one more container is open at the place, and less of its line is left
 record IsNested (over : Source) (first : Place) (old mid : BlockPass) (p q : Place) : Type 0 where
-  here : IsFrom over.text.now first q
-  no_empty : (reading_of mid).begin_list_item ≡ None
+  here : IsNotBefore over.text.now first q
+  no_empty : (state_of mid).begin_list_item ≡ None
   less : length q.rest.left < length p.rest.left
   opened : PassesTo over first.line old mid (InLine first) (InLine q)
 
-opens_note : (over : Source) (first : Place) (old now mid : BlockPass) (p q : Place) (t : Bool) → t ≡ true → IsFrom over.text.now first p
+opens_note : (over : Source) (first : Place) (old now mid : BlockPass) (p q : Place) (t : Bool) → t ≡ true → IsNotBefore over.text.now first p
     → source_of now ≡ over → PassesTo over first.line old now (InLine first) (InLine p) → TriesFootnote now mid p q t → IsNested over first old mid p q
 opens_note over first old now mid p q t is here source opened tries =
     let yes = subst (TriesFootnote now mid p q) is tries in
-    let from = subst (λ (z : Source). IsFrom z.text.now p q) source yes.0 in
+    let from = subst (λ (z : Source). IsNotBefore z.text.now p q) source yes.0 in
     let low = here.1 in
     let later = here.2 in
     let far = here.3 in
@@ -120,14 +120,14 @@ absent over now may p new r same told is says =
 
 ended_here : (over : Source) (first : Place) (old mid new : BlockPass) (p q : Place) → IsUtf8 over.text.now → IsForest (tree_of mid)
     → IsTried over first old mid p → start_at over.options (may_in over mid) p ≡ None → q ≡ p
-    → source_of new ≡ source_of mid → reading_of new ≡ reading_of mid → allocs_of new ≡ allocs_of mid
+    → source_of new ≡ source_of mid → state_of new ≡ state_of mid → allocs_of new ≡ allocs_of mid
     → PassesTo over first.line old new (InLine first) (LeafAt q)
-ended_here over first old mid new p q utf8 forest i none at source reading allocs =
-    let stays = no_start over (reading_of mid) p utf8 i.here.0 forest i.no_empty first.line i.here.1 i.bare none in
+ended_here over first old mid new p q utf8 forest i none at source state allocs =
+    let stays = no_start over (state_of mid) p utf8 i.here.0 forest i.no_empty first.line i.here.1 i.bare none in
     subst (λ (z : Place). PassesTo over first.line old new (InLine first) (LeafAt z)) (sym at)
     (passes_both over first.line old mid new (InLine first) (InLine p) (LeafAt p) i.opened
-    (passes_reading over first.line mid new (InLine p) (LeafAt p) source allocs
-    (subst (λ (z : Reading). ReadsTo over first.line (reading_of mid) z (InLine p) (LeafAt p)) (sym reading) stays)))
+    (passes_state over first.line mid new (InLine p) (LeafAt p) source allocs
+    (subst (λ (z : PassState). ReadsTo over first.line (state_of mid) z (InLine p) (LeafAt p)) (sym state) stays)))
 
 pub returns-in_default-clause-opened : goal.returns-in_default-clause-opened
 returns-in_default-clause-opened c =
@@ -170,25 +170,25 @@ open_start-requires c =
     let i = at_place (goal.at.open_start-requires c).Then-not-branch in
     let f = found over c.open_footnote.new.self c.may_define-may_define.result p new c.start_at.result c.in-Some.start i.opened.source
     c.may_define-may_define.ensures c.in-Some.is c.start_at.ensures in
-    let opens = start_opens over c.open_footnote.new.self.reading p c.requires.utf8 i.here.0 c.recall_forest.ensures i.no_empty first.line i.here.1 i.bare
+    let opens = start_opens over c.open_footnote.new.self.state p c.requires.utf8 i.here.0 c.recall_forest.ensures i.no_empty first.line i.here.1 i.bare
     f.start f.begins in
     subst (λ (z : Source). IsPlaceOf z.text.now new) (sym i.opened.source)
     (subst (λ (q : Place). IsPlaceOf over.text.now q) (sym f.new_is) opens.2.0)
 
 -- a container is open whose marker ends at the place
-record IsBegun (over : Source) (first : Place) (mid : BlockPass) (p new : Place) (after : AfterMarker) (q : Reading) : Type 0 where
-  stands : IsAfter after q
+record IsBegun (over : Source) (first : Place) (mid : BlockPass) (p new : Place) (after : AfterMarker) (q : PassState) : Type 0 where
+  stands : IsAfterMarker after q
   less : length new.rest.left < length p.rest.left
-  here : IsFrom over.text.now first new
-  reads : ReadsTo over first.line (reading_of mid) q (InLine p) (after_at new (line_end new) after)
+  here : IsNotBefore over.text.now first new
+  reads : ReadsTo over first.line (state_of mid) q (InLine p) (after_at new (line_end new) after)
 
-begun : (over : Source) (first : Place) (old mid : BlockPass) (p new : Place) (may : Bool) (r : Option Start) (told : Start) (q : Reading)
+begun : (over : Source) (first : Place) (old mid : BlockPass) (p new : Place) (may : Bool) (r : Option Start) (told : Start) (q : PassState)
     → IsUtf8 over.text.now → IsForest (tree_of mid) → IsTried over first old mid p → source_of mid ≡ over → may ≡ may_in (source_of mid) mid → r ≡ Some told
     → MatchOption (start_at (source_of mid).options may p) ((r ≡ None) × (new ≡ p)) (λ s. IsSomeAnd r (StartMatches s) × (new ≡ at_rest p s.rest))
-    → q ≡ start_opened new.line told (line_end new) (reading_of mid) → IsBegun over first mid p new told.after q
+    → q ≡ start_opened new.line told (line_end new) (state_of mid) → IsBegun over first mid p new told.after q
 begun over first old mid p new may r told q utf8 forest i same may_is is says opened =
     let f = found over mid may p new r told same may_is is says in
-    let s = opened_start over (reading_of mid) p utf8 i.here.0 forest i.no_empty first.line i.here.1 i.bare f.start new told q f.begins
+    let s = opened_start over (state_of mid) p utf8 i.here.0 forest i.no_empty first.line i.here.1 i.bare f.start new told q f.begins
     f.told_is f.new_is opened in
     let line = s.2.1 in
     let stop = s.2.2 in
@@ -201,7 +201,7 @@ begun over first old mid p new may r told q utf8 forest i same may_is is says op
       stands = s.0;
       less = less;
       here = (s.2.0, omega (arith, line, low), omega (arith, later, from), omega (arith, stop, far));
-      reads = subst (λ (e : ℕ). ReadsTo over first.line (reading_of mid) q (InLine p) (after_at new e told.after)) (sym stop) s.3;
+      reads = subst (λ (e : ℕ). ReadsTo over first.line (state_of mid) q (InLine p) (after_at new e told.after)) (sym stop) s.3;
     }
 
 -- a marker after which the line ends is the last
@@ -219,16 +219,16 @@ returns-in_default-after c =
     let new : Place = c.start_at.new.place in
     let i = at_place (goal.at.returns-in_default-after c).Then-not-branch in
     let s = begun over first c.args.self.now c.open_footnote.new.self p new c.may_define-may_define.result c.start_at.result c.in-Some.start
-    c.open_start.new.reading c.requires.utf8 c.recall_forest.ensures i i.opened.source c.may_define-may_define.ensures c.in-Some.is
+    c.open_start.new.state c.requires.utf8 c.recall_forest.ensures i i.opened.source c.may_define-may_define.ensures c.in-Some.is
     c.start_at.ensures c.in_ok-open_start.ensures in
     let there : Position = last_at new (line_end new) c.in-Some.start.after in
-    let opens = subst (λ (t : Position). ReadsTo over first.line c.open_footnote.new.self.reading c.open_start.new.reading (InLine p) t)
+    let opens = subst (λ (t : Position). ReadsTo over first.line c.open_footnote.new.self.state c.open_start.new.state (InLine p) t)
     (last_is new (line_end new) c.in-Some.start.after c.in_default-after.not-OnLine) s.reads in
     record {
       after = s.stands;
       place = s.here;
       opened = passes_both over first.line c.args.self.now c.open_footnote.new.self _ (InLine first) (InLine p) there i.opened
-          (passes_reading over first.line c.open_footnote.new.self _ (InLine p) there refl refl opens);
+          (passes_state over first.line c.open_footnote.new.self _ (InLine p) there refl refl opens);
     }
 
 -- after a footnote definition or another container
@@ -249,16 +249,16 @@ nested c =
           let new : Place = w.start_at.new.place in
           let no = subst (TriesFootnote now mid here p) w.if-not-branch.true tries in
           let i = tried over first old now mid here p _ w.if-not-branch.true l.here l.no_empty l.opened.source l.opened tries in
-          let s = begun over first old mid p new w.may_define-may_define.result w.start_at.result w.in-Some.start w.open_start.new.reading c.requires.utf8
+          let s = begun over first old mid p new w.may_define-may_define.result w.start_at.result w.in-Some.start w.open_start.new.state c.requires.utf8
           w.recall_forest.ensures i i.opened.source w.may_define-may_define.ensures w.in-Some.is w.start_at.ensures w.in_ok-open_start.ensures in
-          let opens = subst (λ (a : AfterMarker). ReadsTo over first.line mid.reading w.open_start.new.reading (InLine p) (after_at new (line_end new) a))
+          let opens = subst (λ (a : AfterMarker). ReadsTo over first.line mid.state w.open_start.new.state (InLine p) (after_at new (line_end new) a))
           w.in-OnLine.is s.reads in
           rw (w.self-is, w.place-is) (record {
             here = s.here;
-            no_empty = subst (λ (a : AfterMarker). IsAfter a w.open_start.new.reading) w.in-OnLine.is s.stands;
+            no_empty = subst (λ (a : AfterMarker). IsAfterMarker a w.open_start.new.state) w.in-OnLine.is s.stands;
             less = subst (λ (z : Place). length new.rest.left < length z.rest.left) no.1 s.less;
             opened = passes_both over first.line old mid _ (InLine first) (InLine p) (InLine new) i.opened
-                (passes_reading over first.line mid _ (InLine p) (InLine new) refl refl opens);
+                (passes_state over first.line mid _ (InLine p) (InLine new) refl refl opens);
           })
       | else-not-branch w ↦
           rw (w.self-is, w.place-is) (opens_note over first old now mid here p _ w.if-not-branch.false l.here l.opened.source l.opened tries)
@@ -273,20 +273,20 @@ loop-self-preserved c =
     record { no_empty = n.no_empty; here = n.here; opened = n.opened }
 
 -- the next byte begins no container
-pub returns-then-opens_none-clause-after : goal.returns-then-opens_none-clause-after
-returns-then-opens_none-clause-after c = (nested (goal.at.returns-then-opens_none-clause-after c).Joined-not-branch).no_empty
+pub returns-then-begins_no_container-clause-after : goal.returns-then-begins_no_container-clause-after
+returns-then-begins_no_container-clause-after c = (nested (goal.at.returns-then-begins_no_container-clause-after c).Joined-not-branch).no_empty
 
-pub returns-then-opens_none-clause-place : goal.returns-then-opens_none-clause-place
-returns-then-opens_none-clause-place c = (nested (goal.at.returns-then-opens_none-clause-place c).Joined-not-branch).here
+pub returns-then-begins_no_container-clause-place : goal.returns-then-begins_no_container-clause-place
+returns-then-begins_no_container-clause-place c = (nested (goal.at.returns-then-begins_no_container-clause-place c).Joined-not-branch).here
 
-pub returns-then-opens_none-clause-opened : goal.returns-then-opens_none-clause-opened
-returns-then-opens_none-clause-opened c =
+pub returns-then-begins_no_container-clause-opened : goal.returns-then-begins_no_container-clause-opened
+returns-then-begins_no_container-clause-opened c =
     let over = c.args.self.now.source in
     let first : Place = c.args.place.now in
     let now : BlockPass = c.if-not-branch.self in
     let p : Place = c.if-not-branch.place in
-    let n = nested (goal.at.returns-then-opens_none-clause-opened c).Joined-not-branch in
+    let n = nested (goal.at.returns-then-begins_no_container-clause-opened c).Joined-not-branch in
     passes_both over first.line c.args.self.now now now (InLine first) (InLine p) (LeafAt p) n.opened
-    (passes_reading over first.line now now (InLine p) (LeafAt p) refl refl
-    (only_leaf over now.reading p first.line
-    (subst (λ (q : Place). OpensNone q.rest) c.place-in-loop-self.view_is (c.opens_none.ensures c.if-opens_none.true))))
+    (passes_state over first.line now now (InLine p) (LeafAt p) refl refl
+    (only_leaf over now.state p first.line
+    (subst (λ (q : Place). BeginsNoContainer q.rest) c.place-in-loop-self.view_is (c.begins_no_container.ensures c.if-begins_no_container.true))))

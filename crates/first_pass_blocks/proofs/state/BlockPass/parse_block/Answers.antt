@@ -3,30 +3,30 @@ use Rattle.first_pass_lines.specs.Lines.{line_len}
 use Rattle.first_pass_lines.specs.Places.{Place, line_end, IsPlaceOf}
 use Rattle.first_pass_open.specs.declared.source.Source.{Source}
 use Rattle.first_pass_open.proofs.PlaceLemmas.{place_end}
-use Rattle.first_pass_lists.specs.declared.reading.Reading.{Reading}
+use Rattle.first_pass_lists.specs.declared.state.PassState.{PassState}
 use Rattle.first_pass_grammar.specs.declared.kind.AfterMarker.{AfterMarker}
 use Rattle.first_pass_grammar.specs.declared.kind.AfterMarker.TheVariants.{OnLine, TaskText, OnlyTag}
 use Rattle.first_pass_blocks.specs.declared.state.BlockPass.{BlockPass}
 use Rattle.first_pass_blocks.specs.Entering.{EntersLine}
 use Rattle.first_pass_blocks.specs.Positions.{LineAt, InLine, LeafAt, TaskAt, TaggedAt}
 use Rattle.first_pass_blocks.specs.Progress.{PassesTo, ReadsBlockOf}
-use Rattle.first_pass_blocks.specs.Starts.{last_at, IsAfter}
-use Rattle.first_pass_blocks.proofs.BlockRead.{IsOpenedFrom, opened_line, place_between, block_read, line_passed, line_ended}
-use Rattle.first_pass_blocks.proofs.OrderSteps.{line_later}
+use Rattle.first_pass_blocks.specs.Starts.{last_at, IsAfterMarker}
+use Rattle.first_pass_blocks.proofs.LineByLine.BlockRead.{IsOpenedFrom, opened_line, place_between, block_read, line_passed, line_ended}
+use Rattle.first_pass_blocks.proofs.Order.OrderSteps.{line_later}
 use Rattle.first_pass_blocks.proofs.state.BlockPass.parse_block.Goals as goal
 use Rattle.first_pass_blocks.proofs.state.BlockPass.parse_block.Goals.{In_ok-open_containers}
 
 -- the containers that begin in the line, or where they continue, are open
 opened : (c : In_ok-open_containers) (mid : BlockPass) (after here : AfterMarker) → mid.source ≡ c.args.self.now.source → mid.allocs ≡ c.args.self.now.allocs
-    → mid.reading ≡ c.enter_line.new.reading → IsAfter after c.open_containers.new.self.reading
+    → mid.state ≡ c.enter_line.new.state → IsAfterMarker after c.open_containers.new.self.state
     → PassesTo c.args.self.now.source c.in-Some.place.line mid c.open_containers.new.self (InLine c.in-Some.place)
     (last_at c.open_containers.new.place (line_end c.open_containers.new.place) after) → after ≡ here
     → IsOpenedFrom c.args.self.now.source c.args.start_ix c.args.self.now c.open_containers.new.self c.open_containers.new.place here
-opened c mid after here source allocs reading kept opens is =
+opened c mid after here source allocs state kept opens is =
     let over = c.args.self.now.source in
     opened_line over c.args.start_ix c.args.self.now mid c.open_containers.new.self c.enter_line.result c.in-Some.place c.open_containers.new.place after here
     source allocs c.in-Some.is
-    (subst (λ (r : Reading). EntersLine over c.args.self.now.reading r c.args.start_ix c.enter_line.result) (sym reading) c.enter_line.ensures.entered)
+    (subst (λ (r : PassState). EntersLine over c.args.self.now.state r c.args.start_ix c.enter_line.result) (sym state) c.enter_line.ensures.entered)
     c.in_ok-open_containers.ensures.place kept opens is
 
 -- reading goes past the line
@@ -38,7 +38,7 @@ pub returns-in_default : goal.returns-in_default
 returns-in_default c =
     let self = c.args.self.now in
     let start = c.args.start_ix in
-    let entered = subst (EntersLine self.source self.reading c.enter_line.new.reading start) c.in_default.is c.enter_line.ensures.entered in
+    let entered = subst (EntersLine self.source self.state c.enter_line.new.state start) c.in_default.is c.enter_line.ensures.entered in
     line_passed self _ start c.next_line.result c.enter_line.ensures.utf8 c.requires.within c.requires.boundary refl refl
     (c.next_line.ensures.value ∙ ap (λ bs. start + line_len (drop start bs)) c.as_bytes.ensures.value) entered
 
@@ -49,7 +49,7 @@ parse_leaf-requires c =
     record {
       utf8 = subst (λ (z : Source). IsUtf8 z.text.now) (sym e.opened.source) c.enter_line.ensures.utf8;
       place = subst (λ (z : Source). IsPlaceOf z.text.now q) (sym e.opened.source) e.place.0;
-      no_empty = subst (λ (a : AfterMarker). IsAfter a c.open_containers.new.self.reading) c.in-OnLine.is e.after;
+      no_empty = subst (λ (a : AfterMarker). IsAfterMarker a c.open_containers.new.self.state) c.in-OnLine.is e.after;
     }
 
 pub returns-in_ok-next-in-OnLine : goal.returns-in_ok-next-in-OnLine
@@ -75,7 +75,7 @@ parse_task_text-requires c =
     record {
       utf8 = subst (λ (z : Source). IsUtf8 z.text.now) (sym e.opened.source) c.enter_line.ensures.utf8;
       place = subst (λ (z : Source). IsPlaceOf z.text.now q) (sym e.opened.source) e.place.0;
-      after = subst (λ (a : AfterMarker). IsAfter a c.open_containers.new.self.reading) c.in-TaskText.is e.after;
+      after = subst (λ (a : AfterMarker). IsAfterMarker a c.open_containers.new.self.state) c.in-TaskText.is e.after;
     }
 
 pub returns-in_ok-next-in-TaskText : goal.returns-in_ok-next-in-TaskText
@@ -96,8 +96,8 @@ returns-in_ok-next-in-TaskText c =
     block_read over c.args.self.now mid c.parse_task_text.new.self start (line_end q) next (TaskAt q marker) o.steps r
     (place_between start next q o.begins later) (passes at next (omega arith) r.boundary)
 
-pub line_over-requires : goal.line_over-requires
-line_over-requires c =
+pub next_line_start-requires : goal.next_line_start-requires
+next_line_start-requires c =
     let e = c.in_ok-open_containers.ensures in
     let q : Place = c.open_containers.new.place in
     subst (λ (z : Source). IsPlaceOf z.text.now q) (sym e.opened.source) e.place.0
@@ -112,7 +112,7 @@ returns-in-LineEnds c =
     let e = c.in_ok-open_containers.ensures in
     let o = opened at _ _ _ refl refl refl e.after e.opened c.in-LineEnds.is in
     let boundary = place_end over.text.now q c.enter_line.ensures.utf8 o.place in
-    subst (λ (n : ℕ). ReadsBlockOf over c.args.self.now mid (1 + start) (LineAt start) n) (sym c.line_over.ensures)
+    subst (λ (n : ℕ). ReadsBlockOf over c.args.self.now mid (1 + start) (LineAt start) n) (sym c.next_line_start.ensures)
     (line_ended over c.args.self.now mid start (line_end q) o.steps boundary (passes at (line_end q) o.ends boundary))
 
 pub parse_tagged-requires-clause-boundary : goal.parse_tagged-requires-clause-boundary
@@ -120,12 +120,12 @@ parse_tagged-requires-clause-boundary c =
     let over = c.args.self.now.source in
     let e = c.in_ok-open_containers.ensures in
     let q : Place = c.open_containers.new.place in
-    subst (λ (z : Source). IsCharBoundary z.text.now c.line_over-following.result) (sym e.opened.source)
-    (subst (IsCharBoundary over.text.now) (sym c.line_over-following.ensures) (place_end over.text.now q c.enter_line.ensures.utf8 e.place.0))
+    subst (λ (z : Source). IsCharBoundary z.text.now c.next_line_start-following.result) (sym e.opened.source)
+    (subst (IsCharBoundary over.text.now) (sym c.next_line_start-following.ensures) (place_end over.text.now q c.enter_line.ensures.utf8 e.place.0))
 
 pub parse_tagged-requires-clause-no_empty : goal.parse_tagged-requires-clause-no_empty
 parse_tagged-requires-clause-no_empty c =
-    subst (λ (a : AfterMarker). IsAfter a c.open_containers.new.self.reading) c.in-OnlyTag.is c.in_ok-open_containers.ensures.after
+    subst (λ (a : AfterMarker). IsAfterMarker a c.open_containers.new.self.state) c.in-OnlyTag.is c.in_ok-open_containers.ensures.after
 
 pub returns-in_ok-next-in-OnlyTag : goal.returns-in_ok-next-in-OnlyTag
 returns-in_ok-next-in-OnlyTag c =
@@ -133,12 +133,12 @@ returns-in_ok-next-in-OnlyTag c =
     let start = c.args.start_ix in
     let q : Place = c.open_containers.new.place in
     let mid : BlockPass = c.open_containers.new.self in
-    let stop : ℕ = c.line_over-following.result in
+    let stop : ℕ = c.next_line_start-following.result in
     let next = c.in_ok-next-in-OnlyTag.next in
     let at : In_ok-open_containers = (goal.at.returns-in_ok-next-in-OnlyTag c).In_ok-open_containers in
     let e = c.in_ok-open_containers.ensures in
     let o = opened at _ _ OnlyTag refl refl refl e.after e.opened c.in-OnlyTag.is in
-    let is = c.line_over-following.ensures in
+    let is = c.next_line_start-following.ensures in
     let ends = o.ends in
     let steps = subst (λ (n : ℕ). PassesTo over start c.args.self.now mid (LineAt start) (TaggedAt n)) (sym is) o.steps in
     let r = subst (λ (z : Source). ReadsBlockOf z mid c.parse_tagged.new.self stop (TaggedAt stop) next) e.opened.source c.in_ok-next-in-OnlyTag.ensures in

@@ -6,26 +6,26 @@ use Rattle.first_pass_lines.specs.Places.{offset}
 use Rattle.first_pass_tree.specs.Forest.{in_table}
 use Rattle.first_pass_lines.specs.Rest.{Rest}
 use Rattle.first_pass_open.specs.declared.source.Source.{Source}
-use Rattle.first_pass_lists.specs.declared.reading.Reading.{Reading}
+use Rattle.first_pass_lists.specs.declared.state.PassState.{PassState}
 use Rattle.first_pass_open.proofs.PlaceLemmas.{text_place}
-use Rattle.first_pass_grammar.specs.Definitions.{reference_at}
+use Rattle.first_pass_grammar.specs.Definitions.{reference_definition_at}
 use Rattle.first_pass_names.specs.TableEntries.{tables_of}
 use Rattle.first_pass_definitions.specs.Found.{IsWritten}
-use Rattle.first_pass_blocks.proofs.WrittenLemmas.{one_written, written_here}
+use Rattle.first_pass_blocks.proofs.LinkDefinitions.WrittenLemmas.{one_written, written_here}
 use Rattle.first_pass_open.specs.Path.{context_of}
 use Rattle.first_pass_blocks.specs.Written.{TablesAreWritten}
 use Rattle.first_pass_blocks.specs.Views.{context_in}
 use Rattle.first_pass_blocks.specs.declared.state.BlockPass.{BlockPass}
-use Rattle.first_pass_blocks.proofs.RunLemmas.{run_begun, run_flows, run_ends, run_goes_on, defined_none, text_at}
-use Rattle.first_pass_blocks.proofs.DefinitionLemmas.{after_boundary, none_here, found_here, one_more, stops_by, goes_by, stops_at, rest_at}
-use Rattle.first_pass_blocks.proofs.DefinitionLemmas.{line_is_there, answered}
+use Rattle.first_pass_blocks.proofs.LinkDefinitions.RunLemmas.{run_begun, run_flows, run_ends, run_goes_on, defined_none, text_at}
+use Rattle.first_pass_blocks.proofs.LinkDefinitions.DefinitionLemmas.{after_boundary, none_here, found_here, one_more, stops_by, goes_by, stops_at, rest_at}
+use Rattle.first_pass_blocks.proofs.LinkDefinitions.DefinitionLemmas.{line_is_there, answered}
 use Rattle.first_pass_blocks.proofs.state.BlockPass.parse_definitions.Goals as goal
 use Rattle.first_pass_blocks.proofs.state.BlockPass.parse_definitions.Goals.{After-rest_of}
 
 pub loop-size-init : goal.loop-size-init
 loop-size-init c = record {
   same_source = refl;
-  same_reading = refl;
+  same_state = refl;
   same_names = refl;
   written = λ h. h;
   boundary = c.requires.boundary;
@@ -38,19 +38,20 @@ returns-clause-run c = λ p line at i.
     let now : BlockPass = c.loop-size.self in
     let text = first.source.text.now in
     let around = context_in first in
-    let nested = in_table first.reading.tree.nodes first.reading.tree.spine in
+    let nested = in_table first.state.tree.nodes first.state.tree.spine in
     let inv = c.loop-size.invariant in
     let e = c.in_ok-size.ensures in
     let r = inv.so_far p line at i in
-    let none = none_here first now c.loop-size.at c.in_ok-size.field-0 inv.same_source inv.same_reading e.value c.in_default.is in
+    let none = none_here first now c.loop-size.at c.in_ok-size.field-0 inv.same_source inv.same_state e.value c.in_default.is in
     run_flows text around nested p r.0 c.loop-size.at (tables_of first.allocs) (tables_of now.allocs) (sym r.2)
     (λ plain. defined_none text around r.0 r.3.stands
-    (ap (λ n. reference_at false around (drop n text)) r.2 ∙ subst (λ z. reference_at z around (drop c.loop-size.at text) ≡ None) plain none)) r.3
+    (ap (λ n. reference_definition_at false around (drop n text)) r.2
+    ∙ subst (λ z. reference_definition_at z around (drop c.loop-size.at text) ≡ None) plain none)) r.3
 
 pub returns-clause-kept : goal.returns-clause-kept
 returns-clause-kept c =
     let i = c.loop-size.invariant in
-    record { source = i.same_source; reading = i.same_reading; names = i.same_names; written = i.written }
+    record { source = i.same_source; state = i.same_state; names = i.same_names; written = i.written }
 
 -- the definition that was found is one more
 one_more_written : (c : After-rest_of) → TablesAreWritten c.args.self.now.source.text.now c.args.self.now.allocs
@@ -72,7 +73,7 @@ returns-in_default-rest-clause-kept c =
     let i = c.loop-size.invariant in
     record {
       source = i.same_source;
-      reading = i.same_reading;
+      state = i.same_state;
       names = c.in_ok-define_link.ensures.names ∙ i.same_names;
       written = one_more_written (goal.at.returns-in_default-rest-clause-kept c).After-rest_of;
     }
@@ -94,13 +95,13 @@ returns-in_default-rest-clause-run c = λ p line begins i.
     let fits = subst (λ z. IfSome z (λ found. (0 < found.0) × IsCharBoundary now.source.text.now (at + found.0))) c.in-Some.is e.fits in
     let ends : IsCharBoundary text (at + size) = subst (λ (z : Source). IsCharBoundary z.text.now (at + size)) inv.same_source fits.1 in
     let around = context_in first in
-    let nested = in_table first.reading.tree.nodes first.reading.tree.spine in
+    let nested = in_table first.state.tree.nodes first.state.tree.spine in
     let found : ℕ × CowStr × LinkDef = (size, c.in-Some.label, c.in-Some.definition) in
-    let w = found_here first now at c.in_ok-size.field-0 found inv.same_source inv.same_reading e.value c.in-Some.is in
+    let w = found_here first now at c.in_ok-size.field-0 found inv.same_source inv.same_state e.value c.in-Some.is in
     let f = c.in_ok-rest.ensures in
     let told_is = c.in_ok-define_link.ensures.tables in
-    let path_is = ap (λ (z : Source). context_of z.options now.reading.tree) inv.same_source
-    ∙ ap (λ (z : Reading). context_of first.source.options z.tree) inv.same_reading in
+    let path_is = ap (λ (z : Source). context_of z.options now.state.tree) inv.same_source
+    ∙ ap (λ (z : PassState). context_of first.source.options z.tree) inv.same_state in
     let rest_is : c.rest_of.result.now ≡ drop next text = c.rest_of.ensures.value ∙ ap (drop next) bytes_are in
     let said = answered (context_in now) around c.rest_of.result.now (drop next text) c.in_ok-rest.rest path_is rest_is f.value in
     let r = inv.so_far p line begins i in
@@ -128,13 +129,13 @@ loop-size-preserved c =
     let fits = subst (λ z. IfSome z (λ found. (0 < found.0) × IsCharBoundary now.source.text.now (at + found.0))) c.in-Some.is e.fits in
     let ends : IsCharBoundary text (at + size) = subst (λ (z : Source). IsCharBoundary z.text.now (at + size)) inv.same_source fits.1 in
     let around = context_in first in
-    let nested = in_table first.reading.tree.nodes first.reading.tree.spine in
+    let nested = in_table first.state.tree.nodes first.state.tree.spine in
     let found : ℕ × CowStr × LinkDef = (size, c.in-Some.label, c.in-Some.definition) in
-    let w = found_here first now at c.in_ok-size.field-0 found inv.same_source inv.same_reading e.value c.in-Some.is in
+    let w = found_here first now at c.in_ok-size.field-0 found inv.same_source inv.same_state e.value c.in-Some.is in
     let f = c.in_ok-rest.ensures in
     let told_is = c.in_ok-define_link.ensures.tables in
-    let path_is = ap (λ (z : Source). context_of z.options now.reading.tree) inv.same_source
-    ∙ ap (λ (z : Reading). context_of first.source.options z.tree) inv.same_reading in
+    let path_is = ap (λ (z : Source). context_of z.options now.state.tree) inv.same_source
+    ∙ ap (λ (z : PassState). context_of first.source.options z.tree) inv.same_state in
     let rest_is : c.rest_of.result.now ≡ drop next text = c.rest_of.ensures.value ∙ ap (drop next) bytes_are in
     let said = answered (context_in now) around c.rest_of.result.now (drop next text) c.in_ok-rest.rest path_is rest_is f.value in
     let goes = goes_by (stops_at around (drop next text)) (rest_at around (drop next text)) c.in-Some-rest.rest c.in_ok-rest.rest said c.in-Some-rest.is in
@@ -145,7 +146,7 @@ loop-size-preserved c =
     ap (λ (z : Rest). next + z.taken) (sym goes.1) ∙ ap (λ n. next + n) (sym c.bytes_scanned.ensures) in
     record {
       same_source = inv.same_source;
-      same_reading = inv.same_reading;
+      same_state = inv.same_state;
       same_names = c.in_ok-define_link.ensures.names ∙ inv.same_names;
       written = one_more_written (goal.at.loop-size-preserved c).After-rest_of;
       boundary = subst (IsCharBoundary text) here there.boundary;

@@ -8,7 +8,7 @@ use Rattle.first_pass_names.specs.TableEntries.{names_of, tables_of}
 use Rattle.first_pass_names.proofs.NameLemmas.{extends_none}
 use Rattle.first_pass_open.proofs.PlaceLemmas.{all_keep, place_end}
 use Rattle.first_pass_lists.specs.Closing.{list_finished, blank_read}
-use Rattle.first_pass_lists.specs.declared.reading.Reading.{Reading}
+use Rattle.first_pass_lists.specs.declared.state.PassState.{PassState}
 use Rattle.first_pass_open.specs.Between.{line_end_at}
 use Rattle.first_pass_kinds.specs.BlockStart.{IsFoundAt, kind_of, marked_kind}
 use Rattle.first_pass_kinds.specs.declared.kinds.MarkedLeaf.{MarkedLeaf}
@@ -18,17 +18,17 @@ use Rattle.first_pass_order.specs.Ordered.{IsReadTo}
 use Rattle.first_pass_blocks.specs.Positions.{line_or}
 use Rattle.first_pass_ready.specs.State.{Ready}
 use Rattle.first_pass_order.proofs.CountLemmas.{count, blank_count}
-use Rattle.first_pass_blocks.proofs.HandedOn.{list_finished_blank}
-use Rattle.first_pass_blocks.proofs.HtmlRead.{html_stands, html_read}
-use Rattle.first_pass_blocks.proofs.KindBlocks.{marked_some, marked_other, marked_no_run, columns_are, AddsHtml}
-use Rattle.first_pass_blocks.proofs.LeafAdded.{found_boundary}
-use Rattle.first_pass_blocks.proofs.LeafLemmas.{ready_blank_leaf, line_end_of}
-use Rattle.first_pass_blocks.proofs.LeafRead.{leaf_read}
+use Rattle.first_pass_blocks.proofs.LineByLine.HandedOn.{list_finished_blank}
+use Rattle.first_pass_blocks.proofs.Leaves.HtmlRead.{html_stands, html_read}
+use Rattle.first_pass_blocks.proofs.Leaves.KindBlocks.{marked_some, marked_other, marked_no_run, columns_are, AddsHtml}
+use Rattle.first_pass_blocks.proofs.Leaves.LeafAdded.{found_boundary}
+use Rattle.first_pass_blocks.proofs.Leaves.LeafLemmas.{ready_blank_leaf, line_end_of}
+use Rattle.first_pass_blocks.proofs.Leaves.LeafRead.{leaf_read}
 use Rattle.first_pass_lists.proofs.NoEmptyItem.{list_finished_none}
 use Rattle.first_pass_order.proofs.NamedLemmas.{AreReadNamed, blank_named}
 use Rattle.first_pass_order.proofs.OrderLemmas.{ordered_none}
 use Rattle.first_pass_order.proofs.PopOrder.{read_blank_read}
-use Rattle.first_pass_blocks.proofs.OrderSteps.{line_or-below, place_before_end}
+use Rattle.first_pass_blocks.proofs.Order.OrderSteps.{line_or-below, place_before_end}
 use Rattle.first_pass_order.proofs.WholeKept.{IsReadWhole, blank_whole}
 use Rattle.first_pass_blocks.proofs.state.BlockPass.parse_kind.Goals as goal
 
@@ -44,7 +44,7 @@ returns-in-Blank c =
     let self = c.args.self.now in
     let text = self.source.text.now in
     let p = c.args.place in
-    let old : Reading = self.reading in
+    let old : PassState = self.state in
     let next = c.next_line.result in
     let i = all_keep text p.line p.rest c.requires.utf8 c.requires.place in
     let ends : next ≡ line_end p = c.next_line.ensures.value ∙ ap (λ t. line_end_at t c.args.at) c.as_bytes.ensures.value
@@ -68,9 +68,9 @@ returns-in-Blank c =
           (subst (IsKind self.source.options p.rest) (ap kind_of c.in-Blank.is) c.requires.found.kind) c.requires.no_empty ready));
       named = λ h. subst (AreReadNamed (names_of self.allocs)) (sym c.read_blank_line.ensures) (blank_named (names_of self.allocs) old h);
       written = λ h. h;
-      order = λ o. inl (subst (λ (q : Reading). IsReadTo text q next) (sym c.read_blank_line.ensures)
+      order = λ o. inl (subst (λ (q : PassState). IsReadTo text q next) (sym c.read_blank_line.ensures)
           (read_blank_read text old from next (omega arith) high (ordered_none text old from c.requires.no_empty (omega arith) o.1.0, o.1.1)));
-      whole = λ h k. subst (IsReadWhole (names_of self.allocs)) (sym c.read_blank_line.ensures) (blank_whole (names_of self.allocs) old k);
+      tables = λ h k. subst (IsReadWhole (names_of self.allocs)) (sym c.read_blank_line.ensures) (blank_whole (names_of self.allocs) old k);
       node_bound = omega arith;
     }
 
@@ -85,16 +85,16 @@ pub returns-in_ok-next-in-HtmlToBlank : goal.returns-in_ok-next-in-HtmlToBlank
 returns-in_ok-next-in-HtmlToBlank c =
     let self = c.args.self.now in
     let p = c.args.place in
-    let old : Reading = self.reading in
-    let q : Reading = list_finished p.line old in
-    let f : Reading = c.finish_list.new.self in
+    let old : PassState = self.state in
+    let q : PassState = list_finished p.line old in
+    let f : PassState = c.finish_list.new.self in
     let rem : f ≡ q = c.finish_list.ensures ∙ ap (λ (z : Place). list_finished z.line old) c.place-in-HtmlToBlank.view_is in
     let e = c.in_ok-next-in-HtmlToBlank.ensures in
     html_read self _ p c.args.at c.args.columns c.in_ok-next-in-HtmlToBlank.next c.requires.utf8 c.requires.place c.requires.no_empty c.recall_forest.ensures
-    (subst (λ (z : Reading). IsForest z.tree) rem c.recall_forest-in-HtmlToBlank.ensures)
+    (subst (λ (z : PassState). IsForest z.tree) rem c.recall_forest-in-HtmlToBlank.ensures)
     (subst (IsKind self.source.options p.rest) (ap kind_of c.in-HtmlToBlank.is) c.requires.found.kind) c.requires.found.columns_are c.requires.found.at_is
-    refl e.more (ap (λ (z : Reading). z.begin_list_item) rem) (ap (λ (z : Reading). z.blank) rem) e.boundary
-    (subst (λ (z : Reading). AddsHtml self.source.text.now self.source.options (names_of c.parse_html_block_type_6_or_7.new.allocs) c.args.at c.args.columns
+    refl e.more (ap (λ (z : PassState). z.begin_list_item) rem) (ap (λ (z : PassState). z.blank) rem) e.boundary
+    (subst (λ (z : PassState). AddsHtml self.source.text.now self.source.options (names_of c.parse_html_block_type_6_or_7.new.allocs) c.args.at c.args.columns
     (unindented p) z.tree c.parse_html_block_type_6_or_7.new.tree c.in_ok-next-in-HtmlToBlank.next) rem
     (e.block (unindented p) (html_stands self.source.text.now p
     c.args.at c.requires.utf8 c.requires.place c.requires.found.at_is)))
@@ -103,15 +103,15 @@ pub append_marked-requires : goal.append_marked-requires
 append_marked-requires c =
     let self = c.args.self.now in
     let p = c.args.place in
-    let old : Reading = self.reading in
-    let f : Reading = c.finish_list-in-Marked.new.self in
+    let old : PassState = self.state in
+    let f : PassState = c.finish_list-in-Marked.new.self in
     let rem : f ≡ list_finished p.line old = c.finish_list-in-Marked.ensures ∙ ap (λ (z : Place). list_finished z.line old) c.place-in-Marked.view_is in
     record {
       utf8 = c.requires.utf8;
       place = c.requires.place;
       found = subst (λ x. IsFoundAt self.source.options p x c.args.columns c.args.at) c.in-Marked.is c.requires.found;
-      not_blank = ap (λ (r : Reading). r.blank) rem ∙ list_finished_blank p.line old;
-      no_empty = ap (λ (r : Reading). r.begin_list_item) rem ∙ list_finished_none p.line old;
+      not_blank = ap (λ (r : PassState). r.blank) rem ∙ list_finished_blank p.line old;
+      no_empty = ap (λ (r : PassState). r.begin_list_item) rem ∙ list_finished_none p.line old;
     }
 
 pub returns-in_ok-next-in-Marked : goal.returns-in_ok-next-in-Marked
@@ -119,14 +119,14 @@ returns-in_ok-next-in-Marked c =
     let self = c.args.self.now in
     let options = self.source.options in
     let p = c.args.place in
-    let old : Reading = self.reading in
-    let f : Reading = c.finish_list-in-Marked.new.self in
+    let old : PassState = self.state in
+    let f : PassState = c.finish_list-in-Marked.new.self in
     let rem : f ≡ list_finished p.line old = c.finish_list-in-Marked.ensures ∙ ap (λ (z : Place). list_finished z.line old) c.place-in-Marked.view_is in
     let leaf : MarkedLeaf = c.in-Marked.leaf in
     let new = c.append_marked.new.self in
     let next = c.in_ok-next-in-Marked.next in
     let e = c.in_ok-next-in-Marked.ensures in
-    let adds : AddsLeaf (record self { reading = f }) new p (marked_kind leaf) next = record {
+    let adds : AddsLeaf (record self { state = f }) new p (marked_kind leaf) next = record {
       source = e.source;
       more = e.more;
       begin_list_item = e.begin_list_item;
@@ -137,4 +137,4 @@ returns-in_ok-next-in-Marked c =
     } in
     leaf_read self new p (marked_kind leaf) next c.requires.place c.requires.no_empty c.recall_forest.ensures
     (subst (IsKind options p.rest) (ap kind_of c.in-Marked.is) c.requires.found.kind) (marked_some leaf) (marked_other leaf) (marked_no_run leaf)
-    (subst (λ (r : Reading). AddsLeaf (record self { reading = r }) new p (marked_kind leaf) next) rem adds)
+    (subst (λ (r : PassState). AddsLeaf (record self { state = r }) new p (marked_kind leaf) next) rem adds)

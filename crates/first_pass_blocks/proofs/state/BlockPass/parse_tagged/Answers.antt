@@ -6,26 +6,27 @@ use Rattle.first_pass_lines.specs.Places.{Place, line_rest, place_at, line_end, 
 use Rattle.first_pass_grammar.specs.Containers.{front}
 use Rattle.first_pass_grammar.specs.Containers.{Context}
 use Rattle.first_pass_blocks.specs.Views.{context_in}
-use Rattle.first_pass_grammar.specs.Kinds.{all_taken, ends_tag, unindented}
+use Rattle.first_pass_grammar.specs.Kinds.{all_taken, is_ordinary_after_tag, unindented}
 use Rattle.first_pass_grammar.specs.Leaves.{document}
 use Rattle.first_pass_grammar.specs.Completion.{lines_from}
-use Rattle.first_pass_lists.specs.declared.reading.Reading.{Reading}
+use Rattle.first_pass_lists.specs.declared.state.PassState.{PassState}
 use Rattle.first_pass_open.specs.Path.{path_of}
 use Rattle.first_pass_blocks.specs.Positions.{ReadyLazy}
 use Rattle.first_pass_open.proofs.PlaceLemmas.{text_place}
 use Rattle.first_pass_order.proofs.OrderLemmas.{ordered_none}
-use Rattle.first_pass_blocks.proofs.OrderSteps.{ordered_at_place, place_before_end}
+use Rattle.first_pass_blocks.proofs.Order.OrderSteps.{ordered_at_place, place_before_end}
 use Rattle.first_pass_names.specs.TableEntries.{tables_of}
 use Rattle.first_pass_names.proofs.NameLemmas.{extends_none}
-use Rattle.first_pass_blocks.proofs.TagLemmas.{ready_any_line, ready_its_line}
+use Rattle.first_pass_blocks.proofs.Openings.TagLemmas.{ready_any_line, ready_its_line}
 use Rattle.first_pass_blocks.proofs.state.BlockPass.parse_tagged.Goals as goal
 
 -- the property of the first line of some bytes, in terms of the text
 said : (found : Option Rest) (around : Context) (text all bytes : List ℕ) (at : ℕ) → all ≡ text → bytes ≡ drop at all
-    → found ≡ (if ends_tag around (line_rest bytes) then None else Some (all_taken (front around.path (line_rest bytes))))
-    → found ≡ (if ends_tag around (line_rest (drop at text)) then None else Some (all_taken (front around.path (line_rest (drop at text)))))
+    → found ≡ (if is_ordinary_after_tag around (line_rest bytes) then None else Some (all_taken (front around.path (line_rest bytes))))
+    → found ≡ (if is_ordinary_after_tag around (line_rest (drop at text)) then None else Some (all_taken (front around.path (line_rest (drop at text)))))
 said found around text all bytes at a b h =
-    subst (λ bs. found ≡ (if ends_tag around (line_rest bs) then None else Some (all_taken (front around.path (line_rest bs))))) (b ∙ ap (drop at) a) h
+    subst (λ bs. found ≡ (if is_ordinary_after_tag around (line_rest bs) then None else Some (all_taken (front around.path (line_rest bs)))))
+    (b ∙ ap (drop at) a) h
 
 any_by : (t : Bool) (r : Rest) (found : Option Rest) → found ≡ None → found ≡ (if t then None else Some r) → t ≡ true
 any_by true r found none h = refl
@@ -41,18 +42,18 @@ returns-in-None c =
     let at = c.args.start in
     let text = self.source.text.now in
     let h = said _ (context_in self) text _ _ at c.as_bytes.ensures.value c.rest_of-bytes.ensures.value c.in_ok-scan_line_after_tag.ensures.value in
-    let any = any_by (ends_tag (context_in self) (line_rest (drop at text))) _ _ c.in-None.is h in
+    let any = any_by (is_ordinary_after_tag (context_in self) (line_rest (drop at text))) _ _ c.in-None.is h in
     record {
       source = refl;
       names = extends_none _;
       later = omega arith;
       boundary = c.requires.boundary;
       ready = λ names more tagged.
-          ready_any_line (document text self.source.options names) (tables_of self.allocs) self.reading at any c.requires.no_empty tagged;
+          ready_any_line (document text self.source.options names) (tables_of self.allocs) self.state at any c.requires.no_empty tagged;
       named = λ h. h;
       written = λ h. h;
-      order = λ ordered. inl (ordered_none text self.reading at c.requires.no_empty c.requires.boundary.0 ordered.0, ordered.1);
-      whole = λ h k. k;
+      order = λ ordered. inl (ordered_none text self.state at c.requires.no_empty c.requires.boundary.0 ordered.0, ordered.1);
+      tables = λ h k. k;
       node_bound = omega arith;
     }
 
@@ -61,13 +62,13 @@ returns-in_ok-next-in-Some c =
     let self = c.args.self.now in
     let text = self.source.text.now in
     let at = c.args.start in
-    let old : Reading = self.reading in
-    let path = path_of self.source.options self.reading.tree in
+    let old : PassState = self.state in
+    let path = path_of self.source.options self.state.tree in
     let p : Place = unindented (place_at at (front path (line_rest (drop at text)))) in
     let q : Place = place_at at c.in-Some.rest in
     let e = c.in_ok-next-in-Some.ensures in
     let h = said _ (context_in self) text _ _ at c.as_bytes.ensures.value c.rest_of-bytes.ensures.value c.in_ok-scan_line_after_tag.ensures.value in
-    let its = its_by (ends_tag (context_in self) (line_rest (drop at text))) _ c.in-Some.rest _ c.in-Some.is h in
+    let its = its_by (is_ordinary_after_tag (context_in self) (line_rest (drop at text))) _ c.in-Some.rest _ c.in-Some.is h in
     let same : q ≡ p = ap (place_at at) its.1 in
     let here = text_place text at path (subst IsUtf8 c.as_bytes.ensures.value c.as_bytes.ensures.utf8) c.requires.boundary in
     let ends : line_end p ≡ at + line_len (drop at text) = here.1 in
@@ -86,8 +87,8 @@ returns-in_ok-next-in-Some c =
           (ready_its_line d (tables_of self.allocs) old at its.0 tagged))));
       named = e.named;
       written = e.written;
-      order = λ ordered. e.order (ordered_at_place text self.reading.tree at q refl c.requires.boundary (subst (IsPlaceOf text) (sym same) here.0) ordered);
-      whole = e.whole;
+      order = λ ordered. e.order (ordered_at_place text self.state.tree at q refl c.requires.boundary (subst (IsPlaceOf text) (sym same) here.0) ordered);
+      tables = e.tables;
       node_bound = omega arith;
     }
 
@@ -95,8 +96,8 @@ pub parse_leaf-requires-clause-place : goal.parse_leaf-requires-clause-place
 parse_leaf-requires-clause-place c =
     let text = c.args.self.now.source.text.now in
     let at = c.args.start in
-    let path = path_of c.args.self.now.source.options c.args.self.now.reading.tree in
+    let path = path_of c.args.self.now.source.options c.args.self.now.state.tree in
     let h = said _ (context_in c.args.self.now) text _ _ at c.as_bytes.ensures.value c.rest_of-bytes.ensures.value c.in_ok-scan_line_after_tag.ensures.value in
-    let its = its_by (ends_tag (context_in c.args.self.now) (line_rest (drop at text))) _ c.in-Some.rest _ c.in-Some.is h in
+    let its = its_by (is_ordinary_after_tag (context_in c.args.self.now) (line_rest (drop at text))) _ c.in-Some.rest _ c.in-Some.is h in
     subst (λ r. IsPlaceOf text (place_at at r)) (sym its.1) (text_place text at path (subst IsUtf8 c.as_bytes.ensures.value c.as_bytes.ensures.utf8)
     c.requires.boundary).0

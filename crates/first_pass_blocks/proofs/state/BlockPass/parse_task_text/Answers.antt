@@ -3,21 +3,21 @@ use Rattle.first_pass_grammar.specs.Kinds.{all_taken, unindented}
 use Rattle.first_pass_grammar.specs.Leaves.{document}
 use Rattle.first_pass_grammar.specs.Completion.{lines_from}
 use Rattle.first_pass_open.specs.Between.{line_end_at}
-use Rattle.first_pass_lists.specs.declared.reading.Reading.{Reading}
+use Rattle.first_pass_lists.specs.declared.state.PassState.{PassState}
 use Rattle.first_pass_ready.specs.State.{Ready}
 use Rattle.first_pass_open.proofs.PlaceLemmas.{all_keep, read_to}
 use Rattle.first_pass_order.proofs.CountLemmas.{block_count}
-use Rattle.first_pass_blocks.proofs.OrderSteps.{ordered_text, unindented_later}
+use Rattle.first_pass_blocks.proofs.Order.OrderSteps.{ordered_text, unindented_later}
 use Rattle.first_pass_lines.specs.Places.{offset}
 use Rattle.first_pass_open.specs.Between.{AddsBetween, StandsBefore}
-use Rattle.first_pass_names.specs.TableEntries.{tables_of, told_by, names_of}
-use Rattle.first_pass_blocks.proofs.WrittenLemmas.{written_stay}
+use Rattle.first_pass_names.specs.TableEntries.{tables_of, tables_in, names_of}
+use Rattle.first_pass_blocks.proofs.LinkDefinitions.WrittenLemmas.{written_stay}
 use Rattle.first_pass_names.proofs.NameLemmas.{extends_none}
-use Rattle.first_pass_grammar.proofs.TextsNamed.{text_named}
+use Rattle.first_pass_grammar.proofs.Names.TextsNamed.{text_named}
 use Rattle.first_pass_order.proofs.NamedLemmas.{block_added, task_is_no_text, task_has_none}
 use Rattle.first_pass_order.proofs.WholeKept.{task_shows, kept_of, block_whole, added_text_whole}
-use Rattle.first_pass_blocks.proofs.FirstItems.{text_silent_first}
-use Rattle.first_pass_blocks.proofs.LeafLemmas.{line_end_of, ready_text}
+use Rattle.first_pass_blocks.proofs.Leaves.FirstItems.{text_silent_first}
+use Rattle.first_pass_blocks.proofs.Leaves.LeafLemmas.{line_end_of, ready_text}
 use Rattle.first_pass_blocks.proofs.state.BlockPass.parse_task_text.Goals as goal
 
 pub offset-requires : goal.offset-requires
@@ -27,15 +27,15 @@ offset-requires c =
     let short = c.recall_length.ensures in
     omega (arith, i.within, e)
 
-pub parse_paragraph-requires-clause-boundary : goal.parse_paragraph-requires-clause-boundary
-parse_paragraph-requires-clause-boundary c =
+pub parse_text-requires-clause-boundary : goal.parse_text-requires-clause-boundary
+parse_text-requires-clause-boundary c =
     let text = c.args.self.now.source.text.now in
     let i = all_keep text c.args.place.line c.args.place.rest c.requires.utf8 c.requires.place in
     let e = read_to all_taken _ c.args.place _ _ c.offset.ensures c.scan_indentation.ensures.rest c.place.view_is in
     subst (IsCharBoundary text) (sym e) i.boundary
 
-pub parse_paragraph-requires-clause-marker : goal.parse_paragraph-requires-clause-marker
-parse_paragraph-requires-clause-marker c = task_is_no_text c.args.marker.body c.requires.after.0
+pub parse_text-requires-clause-marker : goal.parse_text-requires-clause-marker
+parse_text-requires-clause-marker c = task_is_no_text c.args.marker.body c.requires.after.0
 
 pub returns : goal.returns
 returns c =
@@ -44,10 +44,10 @@ returns c =
     let options = self.source.options in
     let p = c.args.place in
     let at = c.offset.result in
-    let old : Reading = self.reading in
-    let now = names_of c.parse_paragraph.new.allocs in
-    let tree = c.parse_paragraph.new.tree in
-    let new : Reading = record old { tree = tree } in
+    let old : PassState = self.state in
+    let now = names_of c.parse_text.new.allocs in
+    let tree = c.parse_text.new.tree in
+    let new : PassState = record old { tree = tree } in
     let next = c.in_ok-next.next in
     let e = c.in_ok-next.ensures in
     let mark = c.requires.after.0 in
@@ -66,15 +66,15 @@ returns c =
       later = omega arith;
       boundary = e.block.boundary;
       ready = λ names more ready. let d = document text options names in
-          subst (λ z. Ready d z new (lines_from text next)) (sym (ap told_by e.more.entries))
+          subst (λ z. Ready d z new (lines_from text next)) (sym (ap tables_in e.more.entries))
           (ready_text d (tables_of self.allocs) old tree p at next c.args.marker e.block.items mark there i (e.block.is_text names more) e.block.tree_is
           none ready);
       named = λ h. block_added now (names_of self.allocs) old.tree tree e.block.items e.more.names e.block.tree_is
           (text_named (document text options now) _ (unindented p) (Some c.args.marker) _ _ (task_has_none c.args.marker.body mark)
           (e.block.is_text now (extends_none now) (unindented p) i (sym there))) h;
-      written = written_stay text self.allocs c.parse_paragraph.new.allocs e.more.entries;
+      written = written_stay text self.allocs c.parse_text.new.allocs e.more.entries;
       order = λ o. inl (ordered_text text old.tree new c.args.marker (offset p) next fits e.block.boundary.0 none o);
-      whole = λ h k. block_whole now (names_of self.allocs) old.tree tree e.block.items e.more.names e.block.tree_is
+      tables = λ h k. block_whole now (names_of self.allocs) old.tree tree e.block.items e.more.names e.block.tree_is
           (added_text_whole (document text options now) _ (unindented p) (Some c.args.marker) _ _ i (task_shows c.args.marker.body mark)
           (e.block.is_text now (extends_none now) (unindented p) i (sym there)))
           (text_silent_first (document text options now) _ (unindented p) (Some c.args.marker) _ _ (task_shows c.args.marker.body mark)

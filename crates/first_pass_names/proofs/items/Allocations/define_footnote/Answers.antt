@@ -1,6 +1,6 @@
 use Rattle.std.proofs.Common.{refl, ap, ◌∙◌}
 use Rattle.first_pass_labels.specs.LabelTables.{with_first}
-use Rattle.first_pass_grammar.specs.Derivation.{told_label}
+use Rattle.first_pass_grammar.specs.Derivation.{with_footnote_label}
 use Rattle.first_pass_names.specs.TableEntries.{tables_of}
 use Rattle.first_pass_names.proofs.LinkLemmas.{footnote_defined}
 use Rattle.first_pass_names.proofs.items.Allocations.define_footnote.Goals as goal
@@ -13,4 +13,4 @@ returns-clause-tables c =
     footnote_defined self
     (record { texts = self.texts; alignments = self.alignments; headings = self.headings; refdefs = self.refdefs; footdefs = c.insert_first.new.self })
     copy c.insert_first.ensures.order first refl
-    ∙ ap (told_label (tables_of self)) c.in_ok-copy_of.ensures.same
+    ∙ ap (with_footnote_label (tables_of self)) c.in_ok-copy_of.ensures.same

@@ -1,6 +1,6 @@
 use Rattle.std.proofs.Common.{refl}
 use Rattle.first_pass_lines.specs.Rest.{Rest}
-use Rattle.first_pass_scan.proofs.MarkerFacts.{content_indent-node_bound}
+use Rattle.first_pass_scan.proofs.MarkerFacts.{content_indent-bound}
 use Rattle.first_pass_scan.proofs.PlainFacts.{plain_content}
 use Rattle.first_pass_scan.proofs.line_start.LineStart.scan_content_indent.Goals as goal
 
@@ -12,4 +12,4 @@ returns-then-is_at_plain c =
 pub returns : goal.returns
 returns c =
     let r : Rest = c.args.self.now in
-    content_indent-node_bound c.args.width c.scan_space_upto-further.result r c.scan_space_upto-further.new.self (cc) (cc) (cc) c.if-further-eq4.false
+    content_indent-bound c.args.width c.scan_space_upto-further.result r c.scan_space_upto-further.new.self (cc) (cc) (cc) c.if-further-eq4.false

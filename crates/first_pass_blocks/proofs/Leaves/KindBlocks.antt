@@ -1,0 +1,256 @@
+-- An added leaf block is the one that its kind opens at its place.
+use Rattle.std.proofs.Common.{◌≡◌, ℕ, ◌+◌, ◌<◌, ◌≤◌, nat_lt, Bool, true, false, List, length, drop, Option, Some, None, refl, sym, ap, subst, ◌∙◌, arith, min}
+use Rattle.std.proofs.Common.{if◌then◌else◌}
+use Rattle.std.proofs.lemmas.Bool.Decides.{nat_tests}
+use Rattle.first_pass_items.specs.declared.option_set.Options.{Options}
+use Rattle.first_pass_items.specs.declared.item.Item.{Item}
+use Rattle.first_pass_items.specs.declared.item.HeadingLevel.{HeadingLevel}
+use Rattle.first_pass_tree.specs.Forest.{Forest, IsForest, added}
+use Rattle.first_pass_lines.specs.Lines.{line_len}
+use Rattle.first_pass_lines.specs.Rest.{indent}
+use Rattle.first_pass_lines.specs.Places.{Place, offset, line_end, moved_columns, IsPlaceOf}
+use Rattle.first_pass_lines.proofs.PlaceFacts.{columns_line_end}
+use Rattle.first_pass_html.specs.Ends.{BlockEnd}
+use Rattle.first_pass_html.specs.Starts.{html_end}
+use Rattle.first_pass_grammar.specs.Derivation.{Tables}
+use Rattle.first_pass_grammar.specs.declared.kind.Container.{Container}
+use Rattle.first_pass_grammar.specs.Names.{Names, Extends}
+use Rattle.first_pass_grammar.specs.Kinds.{Kind, Blank, IndentedCode, Metadata, HtmlToEnd, HtmlToBlank, ThematicBreak, AtxHeading, FencedCode, all_taken}
+use Rattle.first_pass_grammar.specs.Kinds.{unindented, IsKind}
+use Rattle.first_pass_grammar.specs.Leaves.{Document, document, rule_block, heading_block}
+use Rattle.first_pass_grammar.specs.Extents.{Extent}
+use Rattle.first_pass_grammar.specs.CodeBlocks.{code_lines, last_is_blank, IsIndentedCode, metadata_lines, IsMetadata, fenced_lines, IsFencedCode}
+use Rattle.first_pass_grammar.specs.HtmlBlocks.{until_end, until_blank, IsHtml}
+use Rattle.first_pass_grammar.specs.Rows.{is_paragraph}
+use Rattle.first_pass_grammar.specs.Before.{is_run}
+use Rattle.first_pass_grammar.specs.Blocks.{LeafBlock, block_at, leaf_block}
+use Rattle.first_pass_grammar.specs.Skeleton.{Line, Opening, OpensLeaf, OpensAs}
+use Rattle.first_pass_grammar.specs.Completion.{lines_from}
+use Rattle.first_pass_open.specs.Path.{path_of, context_of}
+use Rattle.first_pass_raw.specs.RawBlocks.{IsPlaceAt, after_line_at, code_after, AddsIndented, AddsRaw, metadata_after, fenced_after, html_to_end}
+use Rattle.first_pass_raw.specs.RawBlocks.{html_to_blank}
+use Rattle.first_pass_order.specs.LeafBlocks.{AddsKind}
+use Rattle.first_pass_kinds.specs.BlockStart.{marked_kind}
+use Rattle.first_pass_kinds.specs.declared.kinds.MarkedLeaf.{MarkedLeaf}
+use Rattle.first_pass_kinds.specs.declared.kinds.MarkedLeaf.TheVariants.{IndentedCode as MarkedCode, Metadata as MarkedMetadata, HtmlToEnd as MarkedHtml}
+use Rattle.first_pass_kinds.specs.declared.kinds.MarkedLeaf.TheVariants.{ThematicBreak as MarkedBreak, AtxHeading as MarkedHeading, FencedCode as MarkedFence}
+use Rattle.first_pass_text.specs.Appends.{AddsHeading}
+use Rattle.first_pass_completion.proofs.Closings.{leaf_closes}
+use Rattle.first_pass_lists.specs.Closing.{state_with, top_body, list_finished}
+use Rattle.first_pass_lists.specs.declared.state.PassState.{PassState}
+use Rattle.first_pass_blocks.specs.Positions.{ReadyLeaf}
+use Rattle.first_pass_ready.specs.State.{closed_in, Ready}
+use Rattle.first_pass_ready.proofs.FinishLemmas.{path_finished}
+use Rattle.first_pass_blocks.proofs.Leaves.LeafLemmas.{told_none, kind_in_other, kind_away, line_end_of, opens_heading, opens_rule, ready_added}
+
+-- indented code
+pub code_added : (text : List ℕ) (options : Options) (names : Names) (p : Place) (old new : Forest Item) (next : ℕ) (blank : Bool)
+    → IsPlaceOf text (moved_columns 4 p) → AddsIndented (document text options names) (moved_columns 4 p) old new next blank
+    → AddsKind (document text options names) p IndentedCode blank old new next
+unfolding OpensAs
+code_added text options names p old new next blank place a =
+    let q : Place = moved_columns 4 p in
+    let path : List Container = path_of options old in
+    let ends : after_line_at text (offset q) ≡ line_end p = ap (λ (bs : List ℕ). offset q + line_len bs) (sym place.left) ∙ columns_line_end 4 p in
+    let same : code_after text path (offset q) ≡ code_lines path (lines_from text (line_end p)) = ap (λ n. code_lines path (lines_from text n)) ends in
+    record {
+      items = a.items;
+      tree_is = a.tree_is;
+      opens = λ more extends. (
+        a.items,
+        subst (λ (f : List Place × List Place). IsIndentedCode (document text options more) q f.0 a.items) same (a.is more extends),
+        ap (λ t. OpensLeaf (leaf_block IndentedCode p a.items t) Line (lines_from text next))
+            (a.blank_is ∙ ap (λ (f : List Place × List Place). last_is_blank f.0) same)
+            ∙ ap (OpensLeaf (leaf_block IndentedCode p a.items (last_is_blank (code_lines path (lines_from text (line_end p))).0)) Line)
+            (a.left_is ∙ ap (λ (f : List Place × List Place). f.1) same),
+      );
+    }
+
+-- the contract of a block at an offset, for the place there
+module _ (text : List ℕ) (options : Options) (names : Names) (p : Place) (old new : Forest Item) (at next : ℕ) (at_is : at ≡ offset (unindented p))
+    (place : IsPlaceOf text (unindented p)) where
+  pub ends_here : after_line_at text at ≡ line_end p
+  ends_here = ap (after_line_at text) at_is ∙ line_end_of text p place
+
+  pub is_here : IsPlaceAt text at (unindented p)
+  is_here = record { offset_is = sym at_is; left_is = place.left ∙ ap (λ n. drop n text) (sym at_is) }
+
+  -- metadata
+  pub metadata_added : (byte : ℕ) → (
+      let e : Extent = metadata_after text (path_of options old) byte at in
+      AddsRaw (document text options names) (λ d. IsMetadata d at byte e.places e.«end») e.left old new next)
+      → AddsKind (document text options names) p (Metadata byte) false old new next
+  unfolding OpensAs
+  metadata_added byte a =
+      let path : List Container = path_of options old in
+      let e : Extent = metadata_after text path byte at in
+      let f : Extent = metadata_lines (length text) path byte (lines_from text (line_end p)) in
+      let same : e ≡ f = ap (λ n. metadata_lines (length text) path byte (lines_from text n)) ends_here in
+      record {
+        items = a.items;
+        tree_is = a.tree_is;
+        opens = λ more extends. (
+          a.items,
+          subst (λ n. IsMetadata (document text options more) n byte f.places f.«end» a.items) at_is
+              (subst (λ (g : Extent). IsMetadata (document text options more) at byte g.places g.«end» a.items) same (a.are more extends)),
+          ap (OpensLeaf (leaf_block (Metadata byte) p a.items false) Line) (a.left_is ∙ ap (λ (g : Extent). g.left) same),
+        );
+      }
+
+  -- a fenced code block
+  pub fenced_added : (count byte columns : ℕ) → columns ≡ indent p.rest → (
+      let e : Extent = fenced_after text (path_of options old) columns byte count at in
+      AddsRaw (document text options names) (λ d. IsFencedCode d at count e.places e.«end») e.left old new next)
+      → AddsKind (document text options names) p (FencedCode count byte) false old new next
+  unfolding OpensAs
+  fenced_added count byte columns width a =
+      let path : List Container = path_of options old in
+      let e : Extent = fenced_after text path columns byte count at in
+      let f : Extent = fenced_lines (length text) path (indent p.rest) byte count (lines_from text (line_end p)) in
+      let same : e ≡ f = ap (λ n. fenced_lines (length text) path columns byte count (lines_from text n)) ends_here
+      ∙ ap (λ k. fenced_lines (length text) path k byte count (lines_from text (line_end p))) width in
+      record {
+        items = a.items;
+        tree_is = a.tree_is;
+        opens = λ more extends. (
+          a.items,
+          subst (λ n. IsFencedCode (document text options more) n count f.places f.«end» a.items) at_is
+              (subst (λ (g : Extent). IsFencedCode (document text options more) at count g.places g.«end» a.items) same (a.are more extends)),
+          ap (OpensLeaf (leaf_block (FencedCode count byte) p a.items false) Line) (a.left_is ∙ ap (λ (g : Extent). g.left) same),
+        );
+      }
+
+  -- HTML up to its end
+  pub html_end_added : (until : BlockEnd) (columns : ℕ) → html_end (drop 1 (all_taken p.rest).left) ≡ Some until → columns ≡ indent p.rest
+      → (
+      let e : Extent = html_to_end text (path_of options old) until (unindented p) in
+      AddsRaw (document text options names) (λ d. IsHtml d at columns e.places e.«end») e.left old new next)
+      → AddsKind (document text options names) p HtmlToEnd false old new next
+  unfolding OpensAs
+  html_end_added until columns until_is width a =
+      let path : List Container = path_of options old in
+      let e : Extent = html_to_end text path until (unindented p) in
+      let f : Extent = until_end (length text) path until (unindented p) (lines_from text (line_end p)) in
+      let same : e ≡ f = ap (λ n. until_end (length text) path until (unindented p) (lines_from text n)) (line_end_of text p place) in
+      record {
+        items = a.items;
+        tree_is = a.tree_is;
+        opens = λ more extends. (
+          until,
+          until_is,
+          (
+            a.items,
+            subst (λ k. IsHtml (document text options more) (offset (unindented p)) k f.places f.«end» a.items) width
+                (subst (λ n. IsHtml (document text options more) n columns f.places f.«end» a.items) at_is
+                (subst (λ (g : Extent). IsHtml (document text options more) at columns g.places g.«end» a.items) same (a.are more extends))),
+            ap (OpensLeaf (leaf_block HtmlToEnd p a.items false) Line) (a.left_is ∙ ap (λ (g : Extent). g.left) same),
+          ),
+        );
+      }
+
+  -- HTML up to a blank line
+  pub html_blank_added : (columns : ℕ) → columns ≡ indent p.rest
+      → (
+      let e : Extent = html_to_blank text (path_of options old) (unindented p) in
+      AddsRaw (document text options names) (λ d. IsHtml d at columns e.places e.«end») e.left old new next)
+      → AddsKind (document text options names) p HtmlToBlank false old new next
+  unfolding OpensAs
+  html_blank_added columns width a =
+      let path : List Container = path_of options old in
+      let e : Extent = html_to_blank text path (unindented p) in
+      let f : Extent = until_blank (length text) path (unindented p) (lines_from text (line_end p)) in
+      let same : e ≡ f = ap (λ n. until_blank (length text) path (unindented p) (lines_from text n)) (line_end_of text p place) in
+      record {
+        items = a.items;
+        tree_is = a.tree_is;
+        opens = λ more extends. (
+          a.items,
+          subst (λ k. IsHtml (document text options more) (offset (unindented p)) k f.places f.«end» a.items) width
+              (subst (λ n. IsHtml (document text options more) n columns f.places f.«end» a.items) at_is
+              (subst (λ (g : Extent). IsHtml (document text options more) at columns g.places g.«end» a.items) same (a.are more extends))),
+          ap (OpensLeaf (leaf_block HtmlToBlank p a.items false) Line) (a.left_is ∙ ap (λ (g : Extent). g.left) same),
+        );
+      }
+
+  -- a thematic break
+  pub rule_added : (size : ℕ)
+      → next ≡ line_end p → new ≡ added old (rule_block at size) → AddsKind (document text options names) p (ThematicBreak size) false old new next
+  rule_added size next_is new_is = record {
+    items = rule_block at size;
+    tree_is = new_is;
+    opens = λ more extends. opens_rule (document text options more) (path_of options old) p at next size at_is next_is;
+  }
+
+  -- an ATX heading
+  pub heading_added : (level : HeadingLevel)
+      → AddsHeading (document text options names) at level old new next → AddsKind (document text options names) p (AtxHeading level) false old new next
+  heading_added level h = record {
+    items = heading_block at next level h.index h.chain;
+    tree_is = h.tree_is;
+    opens = λ more extends. opens_heading text options names more (path_of options old) old new p at next level at_is place h extends;
+  }
+
+-- after a leaf block of a kind
+pub ready_kind : (text : List ℕ) (options : Options) (defined : Tables) (own names : Names) (r : PassState) (new : Forest Item) (p : Place) (kind : Kind)
+    (gap : Bool) (next : ℕ) → IsForest r.tree → IsKind options p.rest kind → is_paragraph kind ≡ false → is_run kind ≡ false → Extends names own
+    → AddsKind (document text options own) p kind gap (list_finished p.line r).tree new next → r.begin_list_item ≡ None
+    → ReadyLeaf (document text options names) defined r p (lines_from text (line_end p))
+    → (empty : Option ℕ) (blank : Bool) → empty ≡ None → blank ≡ gap
+    → Ready (document text options names) defined (state_with new empty blank) (lines_from text next)
+ready_kind text options defined own names r new p kind gap next forest is other no_run extends a none ready empty blank e b =
+    let d : Document = document text options names in
+    let lines : List Place = lines_from text (line_end p) in
+    let left : List Place = lines_from text next in
+    let o : Opening = OpensLeaf (leaf_block kind p a.items gap) Line left in
+    let opens = subst (λ path. OpensAs d path p lines kind o) (path_finished options p.line r none) (a.opens names extends) in
+    let block : LeafBlock = block_at kind p a.items gap in
+    let closes : leaf_closes block ≡ p.line = ap (λ (t : Bool). if t then offset (unindented p) else p.line) other in
+    subst (λ z. Ready d z (state_with new empty blank) left) (told_none defined)
+    (ready_added d defined r new p lines left p.line block no_run kind
+    (λ begins. kind_away (top_body r.tree) (closed_in r.tree) p.line block left other (begins other) closes) forest is
+    (subst (λ k. OpensAs d (path_of options r.tree) p lines k o) (sym (kind_in_other (context_of options r.tree) p kind other)) opens) a.tree_is none ready
+    empty blank e b)
+
+-- the same for a kind that equals this one, with blank lines at its end or none
+pub adds_so : (text : List ℕ) (options : Options) (names : Names) (p : Place) (k kind : Kind) (gap blank : Bool) (old new : Forest Item) (next : ℕ)
+    → kind ≡ k → blank ≡ gap → AddsKind (document text options names) p k gap old new next → AddsKind (document text options names) p kind blank old new next
+adds_so text options names p k kind gap blank old new next is same a =
+    subst (λ z. AddsKind (document text options names) p z blank old new next) (sym is)
+    (subst (λ g. AddsKind (document text options names) p k g old new next) (sym same) a)
+
+-- counted columns under four
+pub columns_are : (n m : ℕ) → n ≡ min 4 m → nat_lt m 4 ≡ true → (n ≡ m) × (n ≤ 3)
+columns_are n m is node_bound = let low : m < 4 = grind (arith, nat_tests, node_bound) in (omega arith, omega arith)
+
+-- an HTML block up to a blank line, at a place
+abbrev pub AddsHtml : List ℕ → Options → Names → ℕ → ℕ → Place → Forest Item → Forest Item → ℕ → Type 0
+AddsHtml text options names start columns p old new next =
+    let e : Extent = html_to_blank text (path_of options old) p in
+    AddsRaw (document text options names) (λ d. IsHtml d start columns e.places e.«end») e.left old new next
+
+-- a leaf block that begins with a mark is no paragraph
+pub marked_other : (leaf : MarkedLeaf) → is_paragraph (marked_kind leaf) ≡ false
+marked_other MarkedCode = refl
+marked_other (MarkedMetadata byte) = refl
+marked_other (MarkedHtml «end») = refl
+marked_other (MarkedBreak size) = refl
+marked_other (MarkedHeading level) = refl
+marked_other (MarkedFence count byte) = refl
+
+-- nor link definitions
+pub marked_no_run : (leaf : MarkedLeaf) → is_run (marked_kind leaf) ≡ false
+marked_no_run MarkedCode = refl
+marked_no_run (MarkedMetadata byte) = refl
+marked_no_run (MarkedHtml «end») = refl
+marked_no_run (MarkedBreak size) = refl
+marked_no_run (MarkedHeading level) = refl
+marked_no_run (MarkedFence count byte) = refl
+
+-- nor a blank line
+pub marked_some : (leaf : MarkedLeaf) → marked_kind leaf ≡ Blank → ⊥
+marked_some MarkedCode e = cc
+marked_some (MarkedMetadata byte) e = cc
+marked_some (MarkedHtml «end») e = cc
+marked_some (MarkedBreak size) e = cc
+marked_some (MarkedHeading level) e = cc
+marked_some (MarkedFence count byte) e = cc

@@ -1,0 +1,132 @@
+-- Whether a footnote definition begins at a place, from the results of the calls, and what is open then.
+use Rattle.std.proofs.Common.{◌≡◌, inl, inr, ℕ, ◌+◌, ◌-◌, ◌<◌, ◌≤◌, nat_lt, ◌&&◌, Bool, true, false, List, drop, Option, Some, None, MatchOption}
+use Rattle.std.proofs.Common.{IsSomeAnd, IsUtf8, refl, sym, ap, subst, ◌∙◌, arith, drop-drop, if◌then◌else◌}
+use Rattle.std.proofs.lemmas.Bool.{cases_lt}
+use Rattle.std.specs.Option.{option_and_then}
+use Rattle.first_pass_items.specs.OptionWords.{has, footnotes, gfm_footnotes}
+use Rattle.first_pass_tree.specs.Forest.{IsForest, in_table}
+use Rattle.first_pass_lines.specs.Lines.{line_len}
+use Rattle.first_pass_lines.specs.Rest.{indent}
+use Rattle.first_pass_lines.specs.Places.{Place, offset, line_end, IsPlaceOf}
+use Rattle.first_pass_lines.proofs.LineFacts.{line_len-inside}
+use Rattle.first_pass_lines.proofs.PlaceFacts.{place_length}
+use Rattle.first_pass_links.specs.Labels.{label_at}
+use Rattle.first_pass_links.specs.Footnotes.{begins_footnote, head_after, footnote_head}
+use Rattle.first_pass_grammar.specs.Containers.{Context}
+use Rattle.first_pass_grammar.specs.Kinds.{unindented}
+use Rattle.first_pass_grammar.specs.Leaves.{document}
+use Rattle.first_pass_grammar.specs.Footnotes.{footnote_prefix, footnote_at, footnote_head_at}
+use Rattle.first_pass_open.proofs.PlaceLemmas.{all_keep, line_start_end}
+use Rattle.first_pass_blocks.specs.declared.state.BlockPass.{BlockPass}
+use Rattle.first_pass_blocks.specs.FootnoteHeads.{footnote_mark_at, head_read, OpenedFootnote, after_head, IsAfterHead, TriesFootnote}
+use Rattle.first_pass_blocks.specs.Views.{context_in, state_of, source_of, source_text, tree_of}
+use Rattle.first_pass_blocks.proofs.Openings.HeadLemmas.{head_after_is}
+use Rattle.first_pass_lists.proofs.NoEmptyItem.{footnote_begun_none}
+use Rattle.first_pass_blocks.proofs.Openings.FootnoteSteps.{passes_note}
+use Rattle.first_pass_blocks.proofs.Order.OrderSteps.{unindented_later}
+
+no_mark_by : (t u v : Bool) (n : ℕ) (o : Option (ℕ × List ℕ)) → (if t && (u && v) then Some n else None) ≡ None
+    → (if t && u then (if v then o else None) else None) ≡ None
+no_mark_by true true true n o h = cc
+no_mark_by true true false n o h = refl
+no_mark_by true false v n o h = refl
+no_mark_by false u v n o h = refl
+
+-- without a `[^` none begins
+pub no_mark : (around : Context) (p : Place) → footnote_mark_at around.options p ≡ None → footnote_head_at around p ≡ None
+unfolding footnote_head_at footnote_head
+no_mark around p h =
+    no_mark_by (has around.options footnotes) (nat_lt (indent p.rest) 4) (begins_footnote (unindented p).rest.left) (offset (unindented p))
+    (option_and_then (head_after (drop 2 (unindented p).rest.left)) (label_at (footnote_prefix around) false (drop 2 (unindented p).rest.left))) h
+
+marked_by : (t u v : Bool) (at n : ℕ) → (if t && (u && v) then Some at else None) ≡ Some n → (at ≡ n) × ((t && u) ≡ true)
+marked_by true true true at n h = let same : at ≡ n = cc in (same, refl)
+marked_by true true false at n h = cc
+marked_by true false v at n h = cc
+marked_by false u v at n h = cc
+
+if_true : (t : Bool) (o : Option (ℕ × List ℕ)) → t ≡ true → (if t then o else None) ≡ o
+if_true true o h = refl
+if_true false o h = cc
+
+-- with a `[^`, the bytes there decide whether one begins
+pub head_at_mark : (text : List ℕ) (around : Context) (p : Place) (n : ℕ) → IsPlaceOf text (unindented p) → footnote_mark_at around.options p ≡ Some n
+    → (offset (unindented p) ≡ n) × (footnote_head_at around p ≡ footnote_at false around (drop n text)) × ((unindented p).rest.left ≡ drop n text)
+unfolding footnote_head_at
+head_at_mark text around p n i h =
+    let m = marked_by (has around.options footnotes) (nat_lt (indent p.rest) 4) (begins_footnote (unindented p).rest.left) (offset (unindented p)) n h in
+    let left : (unindented p).rest.left ≡ drop n text = i.left ∙ ap (λ (k : ℕ). drop k text) m.0 in (
+      m.0,
+      if_true (has around.options footnotes && nat_lt (indent p.rest) 4) (footnote_at false around (unindented p).rest.left) m.1
+          ∙ ap (footnote_at false around) left,
+      left,
+    )
+
+-- a footnote definition is open at an offset, with the length of its head as read
+abbrev pub IsRead : BlockPass → BlockPass → ℕ → ℕ × List ℕ → ℕ → Type 0
+IsRead old new start head n =
+    (n ≡ head_read (gfm_footnotes (source_of old).options) head.0 (drop (start + head.0) (source_text old))) × OpenedFootnote start head old new
+
+-- the result of the call that reads a head
+pub none_found : (N : Type 0) (P : ℕ × List ℕ → ℕ → Type 0) (o : Option (ℕ × List ℕ)) (size : Option ℕ) → size ≡ None
+    → MatchOption o ((size ≡ None) × N) (λ head. IsSomeAnd size (P head)) → (o ≡ None) × N
+none_found N P None size is says = (refl, says.1)
+none_found N P (Some head) size is says = absurd (subst (λ (z : Option ℕ). IsSomeAnd z (P head)) is says)
+
+pub some_found : (N : Type 0) (P : ℕ × List ℕ → ℕ → Type 0) (o : Option (ℕ × List ℕ)) (size : Option ℕ) (n : ℕ) → size ≡ Some n
+    → MatchOption o ((size ≡ None) × N) (λ head. IsSomeAnd size (P head)) → (head : ℕ × List ℕ) × (o ≡ Some head) × P head n
+some_found N P None size n is says = let z : None ≡ Some n = sym says.0 ∙ is in cc
+some_found N P (Some head) size n is says = (head, refl, subst (λ (z : Option ℕ). IsSomeAnd z (P head)) is says)
+
+-- a later offset is not in an earlier line
+line_after : (text : List ℕ) (s e : ℕ) → s ≤ e → s + line_len (drop s text) ≤ e + line_len (drop e text)
+line_after text s e low =
+    let k : ℕ = e - s in
+    let at : s + k ≡ e = omega arith in
+    let same : drop k (drop s text) ≡ drop e text = drop-drop k s text ∙ ap (λ (n : ℕ). drop n text) at in
+    let size = ap line_len same in
+    elim (cases_lt k (line_len (drop s text))) [
+      | inl less ↦ (let inside = line_len-inside (drop s text) k less in omega arith)
+      | inr more ↦ omega arith
+    ]
+
+-- a footnote definition is open whose head was read
+pub footnote_opened : (old new : BlockPass) (p q : Place) (start n : ℕ) (head : ℕ × List ℕ) → IsUtf8 (source_text old) → IsPlaceOf (source_text old) p
+    → IsForest (tree_of old) → (state_of old).begin_list_item ≡ None → source_of new ≡ source_of old → footnote_mark_at (source_of old).options p ≡ Some start
+    → footnote_at (in_table (tree_of old).nodes (tree_of old).spine) (context_in old) (drop start (source_text old)) ≡ Some head
+    → n ≡ head_read (gfm_footnotes (source_of old).options) head.0 (drop (start + head.0) (source_text old))
+    → OpenedFootnote start head old new → 3 < n → IsAfterHead (source_of old) (start + n) q → TriesFootnote old new p q true
+footnote_opened old new p q start n head utf8 at forest none same mark is n_is opened some following =
+    let text : List ℕ = source_text old in
+    let around : Context = context_in old in
+    let gfm : Bool = gfm_footnotes (source_of old).options in
+    let nested : Bool = in_table (tree_of old).nodes (tree_of old).spine in
+    let h : Place = unindented p in
+    let i : IsPlaceOf text h = all_keep text p.line p.rest utf8 at in
+    let m = head_at_mark text around p start i mark in
+    let here : offset h ≡ start = m.0 in
+    let head_is : footnote_head (footnote_prefix around) nested h.rest.left ≡ Some head = ap (footnote_at nested around) m.2 ∙ is in
+    let size : n ≡ head_read gfm head.0 (drop (offset h + head.0) text) =
+    n_is ∙ ap (λ (k : ℕ). head_read gfm head.0 (drop (k + head.0) text)) (sym here) in
+    let opens : OpenedFootnote (offset h) head old new =
+    subst (λ (k : ℕ). OpenedFootnote k head old new) (sym here) opened in
+    let low = unindented_later text p.line p.rest utf8 at in
+    let a = place_length text p at in
+    let b = place_length text q following.place in
+    let later = following.later in
+    let ends = following.ends in
+    let e : ℕ = start + n in
+    let line : line_end p ≡ offset p + line_len (drop (offset p) text) = ap (λ bs. offset p + line_len bs) at.left in
+    let stop = line_start_end text e in
+    let far = line_after text (offset p) e (omega arith) in (
+      (following.place, omega arith, omega arith, omega arith),
+      omega arith,
+      ap (λ r. r.begin_list_item) opened.opened ∙ footnote_begun_none start opened.index (state_of old),
+      passes_note old new p q head utf8 at forest none same opens
+          (λ no_table. m.1 ∙ ap (λ (t : Bool). footnote_at t around (drop start text)) (sym no_table) ∙ is) around nested
+          (ap (λ (k : ℕ). footnote_at nested around (drop k text)) here ∙ is) following.place (omega arith)
+          (λ names.
+          head_after_is (document text (source_of old).options names) p (footnote_prefix around) nested head n utf8 at head_is size
+          ∙ ap (λ (k : ℕ). after_head gfm text (k + n)) here ∙ sym following.there)
+          following.boundary,
+    )

@@ -1,0 +1,111 @@
+use Rattle.std.proofs.Common.{◌≡◌, ◌≤◌, ℕ, None, IsCharBoundary, refl, sym, ap, subst, ◌∙◌}
+use Rattle.first_pass_lines.specs.Places.{Place}
+use Rattle.first_pass_grammar.specs.Leaves.{document}
+use Rattle.first_pass_grammar.specs.Kinds.{unindented}
+use Rattle.first_pass_names.specs.TableEntries.{tables_of, names_of}
+use Rattle.first_pass_lists.specs.Closing.{is_after_definition, list_finished}
+use Rattle.first_pass_lists.proofs.NoEmptyItem.{list_finished_none}
+use Rattle.first_pass_blocks.proofs.LineByLine.HandedOn.{list_finished_blank}
+use Rattle.first_pass_lists.specs.declared.state.PassState.{PassState}
+use Rattle.first_pass_blocks.specs.Views.{context_in}
+use Rattle.first_pass_open.specs.declared.source.Source.{Source}
+use Rattle.first_pass_open.proofs.PlaceLemmas.{all_keep}
+use Rattle.first_pass_tree.specs.Forest.{in_table}
+use Rattle.first_pass_blocks.specs.TextsAdded.{AddsText}
+use Rattle.first_pass_open.specs.Between.{AddsBetween}
+use Rattle.first_pass_blocks.specs.Runs.{ReadsRun}
+use Rattle.first_pass_blocks.proofs.Leaves.LeafAdded.{found_boundary}
+use Rattle.first_pass_blocks.proofs.Leaves.TextLemmas.{run_line, run_text, run_title, plain_text}
+use Rattle.first_pass_blocks.proofs.state.BlockPass.parse_definitions_or_text.Goals as goal
+
+pub parse_definitions-requires-clause-boundary : goal.parse_definitions-requires-clause-boundary
+parse_definitions-requires-clause-boundary c = found_boundary _ _ _ c.requires.utf8 c.requires.place c.requires.at
+
+pub returns-in-NextLine : goal.returns-in-NextLine
+returns-in-NextLine c =
+    let self = c.args.self.now in
+    let text = self.source.text.now in
+    let p = c.args.place in
+    let r : PassState = self.state in
+    let mid = c.parse_definitions.new.self in
+    let e = c.in_ok-line.ensures in
+    let i = all_keep text p.line p.rest c.requires.utf8 c.requires.place in
+    let nested = in_table r.tree.nodes r.tree.spine in
+    let run = subst (ReadsRun text (context_in self) nested (unindented p) (tables_of self.allocs) (tables_of mid.allocs)) c.in-NextLine.is
+    (e.run (unindented p) (ap (λ (q : Place). q.line) (sym c.place.view_is)) (sym c.requires.at) i) in
+    run_line self mid _ p nested c.in-NextLine.line c.in-NextLine.next c.requires.utf8 c.requires.place c.requires.no_empty c.recall_forest.ensures
+    c.requires.kind refl e.kept.source e.kept.names e.kept.written run refl refl (c.finish_list.ensures ∙ ap (list_finished c.in-NextLine.line) e.kept.state)
+
+pub parse_possible_title-requires-clause-boundary : goal.parse_possible_title-requires-clause-boundary
+parse_possible_title-requires-clause-boundary c =
+    let self = c.args.self.now in
+    let text = self.source.text.now in
+    let p = c.args.place in
+    let e = c.in_ok-line.ensures in
+    let i = all_keep text p.line p.rest c.requires.utf8 c.requires.place in
+    let run = subst (ReadsRun text (context_in self) (in_table self.state.tree.nodes self.state.tree.spine) (unindented p) (tables_of self.allocs)
+    (tables_of c.parse_definitions.new.self.allocs)) c.in-Paragraph.is
+    (e.run (unindented p) (ap (λ (q : Place). q.line) (sym c.place.view_is)) (sym c.requires.at) i) in
+    subst (λ (z : Source). IsCharBoundary z.text.now c.in-Paragraph.text) (sym e.kept.source) (subst (IsCharBoundary text) (sym run.says) run.stands.boundary)
+
+pub returns-then-is_after_definition : goal.returns-then-is_after_definition
+returns-then-is_after_definition c =
+    let self = c.args.self.now in
+    let text = self.source.text.now in
+    let p = c.args.place in
+    let r : PassState = self.state in
+    let mid = c.parse_definitions.new.self in
+    let e = c.in_ok-line.ensures in
+    let i = all_keep text p.line p.rest c.requires.utf8 c.requires.place in
+    let nested = in_table r.tree.nodes r.tree.spine in
+    let run = subst (ReadsRun text (context_in self) nested (unindented p) (tables_of self.allocs) (tables_of mid.allocs)) c.in-Paragraph.is
+    (e.run (unindented p) (ap (λ (q : Place). q.line) (sym c.place.view_is)) (sym c.requires.at) i) in
+    run_title self mid _ p nested c.in-Paragraph.text c.in_ok-next-in-Paragraph.next
+    c.requires.utf8 c.requires.place c.requires.no_empty c.recall_forest.ensures
+    c.requires.kind refl e.kept.source e.kept.state e.kept.names e.kept.written run (sym c.is_after_definition.ensures ∙ c.if-is_after_definition.true)
+    c.in_ok-next-in-Paragraph.ensures
+
+pub parse_text-requires-clause-boundary : goal.parse_text-requires-clause-boundary
+parse_text-requires-clause-boundary c =
+    let self = c.args.self.now in
+    let text = self.source.text.now in
+    let p = c.args.place in
+    let e = c.in_ok-line.ensures in
+    let i = all_keep text p.line p.rest c.requires.utf8 c.requires.place in
+    let run = subst (ReadsRun text (context_in self) (in_table self.state.tree.nodes self.state.tree.spine) (unindented p) (tables_of self.allocs)
+    (tables_of c.parse_definitions.new.self.allocs)) c.in-Paragraph.is
+    (e.run (unindented p) (ap (λ (q : Place). q.line) (sym c.place.view_is)) (sym c.requires.at) i) in
+    subst (λ (z : Source). IsCharBoundary z.text.now c.in-Paragraph.text) (sym e.kept.source) (subst (IsCharBoundary text) (sym run.says) run.stands.boundary)
+
+pub returns : goal.returns
+returns c =
+    let self = c.args.self.now in
+    let text = self.source.text.now in
+    let options = self.source.options in
+    let p = c.args.place in
+    let at = c.in-Paragraph.text in
+    let next = c.in_ok-next-in-Paragraph-2.next in
+    let r : PassState = self.state in
+    let mid = c.parse_definitions.new.self in
+    let names = names_of c.parse_text.new.allocs in
+    let tree = c.parse_text.new.tree in
+    let ended : PassState = c.finish_list-in-Paragraph.new.self in
+    let e = c.in_ok-line.ensures in
+    let f = c.in_ok-next-in-Paragraph-2.ensures in
+    let i = all_keep text p.line p.rest c.requires.utf8 c.requires.place in
+    let nested = in_table r.tree.nodes r.tree.spine in
+    let run = subst (ReadsRun text (context_in self) nested (unindented p) (tables_of self.allocs) (tables_of mid.allocs)) c.in-Paragraph.is
+    (e.run (unindented p) (ap (λ (q : Place). q.line) (sym c.place.view_is)) (sym c.requires.at) i) in
+    let done : ended ≡ list_finished at r = c.finish_list-in-Paragraph.ensures ∙ ap (list_finished at) e.kept.state in
+    let none = ap (λ (z : PassState). z.begin_list_item) done ∙ list_finished_none at r in
+    let blank = ap (λ (z : PassState). z.blank) done ∙ list_finished_blank at r in
+    let block : AddsText (document text options names) at None (list_finished at r).tree tree next =
+    subst (λ (z : PassState). AddsText (document text options names) at None z.tree tree next) done
+    (subst (λ (z : Source). AddsText (document z.text.now z.options names) at None ended.tree tree next) e.kept.source f.block) in
+    let fits : (from : ℕ) → from ≤ at → AddsBetween text from next (list_finished at r).tree tree =
+    λ from before. subst (λ (z : PassState). AddsBetween text from next z.tree tree) done
+    (subst (λ (z : Source). AddsBetween z.text.now from next ended.tree tree) e.kept.source (f.fits tt from before)) in
+    let after = ap (λ (z : PassState). is_after_definition z.tree) (sym e.kept.state) ∙ sym c.is_after_definition.ensures ∙ c.if-is_after_definition.false in
+    run_text self mid _ p nested at next c.requires.utf8 c.requires.place c.requires.kind refl e.kept.source e.kept.names e.kept.written run refl f.more
+    block.later block.boundary
+    (plain_text self _ p at next c.requires.no_empty c.recall_forest.ensures c.requires.kind after none blank block fits)

@@ -1,0 +1,3 @@
+-- The number of counted nodes, and of filled cells.
+pub mod CountedNodes
+pub mod RowsWithRoom

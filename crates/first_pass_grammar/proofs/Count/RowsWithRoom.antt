@@ -1,0 +1,129 @@
+-- The rows of a table are found by a count that falls: how many more cells they may be filled with.
+use Rattle.std.proofs.Common.{◌≡◌, ◌⊎◌, inl, inr, ℕ, ◌-◌, ◌<◌, ◌≤◌, ◌&&◌, Bool, true, false, nat_lt, nat_le, List, [], ◌∷◌, ◌++◌, length, None, refl, sym, ap}
+use Rattle.std.proofs.Common.{subst, arith}
+use Rattle.std.proofs.lemmas.Bool.{and_parts, leb-true}
+use Rattle.std.proofs.lemmas.Bool.Decides.{nat_tests}
+use Rattle.first_pass_items.specs.declared.item.Item.{Item}
+use Rattle.first_pass_items.specs.declared.item.ItemBody.TheVariants.{TableRow}
+use Rattle.first_pass_lines.specs.Places.{Place}
+use Rattle.first_pass_grammar.specs.declared.kind.Container.{Container}
+use Rattle.first_pass_grammar.specs.Leaves.{Document, around}
+use Rattle.first_pass_grammar.specs.Tables.{filled, row_block, row_text, Taken, taking, FoundRow, HasCells, braces_after_rows, TakesRows, all_filled}
+use Rattle.first_pass_grammar.specs.Tables.{TableSoFar, table_so_far, with_rows, EndRows, row_blocks, AreRows}
+
+-- a line with these cells is a row if it has a cell and needs no more filled cells than allowed
+abbrev pub is_row : TableSoFar → List (List (ℕ × Item)) → Bool
+is_row table cells = nat_lt 0 (length cells) && nat_le (filled table.columns cells) table.room
+
+-- a table after one more row
+abbrev pub with_row : TableSoFar → FoundRow → TableSoFar
+with_row table row = table_so_far table.columns (table.room - filled table.columns row.cells) row.after
+
+-- The rows of a table among lines, up to the first line that is no row; the number of filled cells that are allowed
+-- falls with each row.
+unfoldable pub RowsWithRoom : Document → List Container → TableSoFar → List Place → Taken → Type 0
+RowsWithRoom d path table [] t = t ≡ taking [] []
+RowsWithRoom d path table (line ∷ lines) t =
+    ((row_text (around d path) line ≡ None) × (t ≡ taking [] (line ∷ lines)))
+    ⊎ ((row : FoundRow) × HasCells d path line table.braces row
+    × (((is_row table row.cells ≡ false) × (t ≡ taking [] (line ∷ lines)))
+    ⊎ ((is_row table row.cells ≡ true)
+    × (more : Taken) × RowsWithRoom d path (with_row table row) lines more
+    × (t ≡ taking (row_block TableRow table.columns row.start row.cells row.row_end ++ more.items) more.left))))
+
+-- a row has a cell, and its filled cells are allowed; otherwise it has no cell, or needs more filled cells than
+-- allowed
+row_parts : (table : TableSoFar) (cells : List (List (ℕ × Item))) → is_row table cells ≡ true
+    → (0 < length cells) × (filled table.columns cells ≤ table.room)
+row_parts table cells h =
+    let both = and_parts (nat_lt 0 (length cells)) (nat_le (filled table.columns cells) table.room) h in
+    let some : nat_lt 0 (length cells) ≡ true = both.0 in
+    (grind (arith, nat_tests, some), leb-true (filled table.columns cells) table.room both.1)
+
+row_of : (table : TableSoFar) (cells : List (List (ℕ × Item))) → 0 < length cells → filled table.columns cells ≤ table.room → is_row table cells ≡ true
+row_of table cells some node_bound = grind (arith, nat_tests)
+
+-- the number of filled cells that are allowed in a table before any is filled in
+all_room : (table : TableSoFar) → table_so_far table.columns (table.room - 0) table.braces ≡ table
+all_room table =
+    let room : table.room - 0 ≡ table.room = omega arith in
+    ap (λ (k : ℕ). table_so_far table.columns k table.braces) room
+
+no_row : (table : TableSoFar) (cells : List (List (ℕ × Item))) → is_row table cells ≡ false → (cells ≡ []) ⊎ (table.room < filled table.columns cells)
+no_row table [] h = inl refl
+no_row table (cell ∷ cells) h = inr (grind (arith, nat_tests, h))
+
+none_of : (table : TableSoFar) (cells : List (List (ℕ × Item))) → (cells ≡ []) ⊎ (table.room < filled table.columns cells) → is_row table cells ≡ false
+none_of table cells (inl none) = subst (λ z. is_row table z ≡ false) (sym none) refl
+none_of table cells (inr over) = grind (arith, nat_tests)
+
+-- rows end after a first row and other rows if they end after all of them
+rows_after : (table : TableSoFar) (row : FoundRow) (rows : List FoundRow) → with_rows (with_row table row) rows ≡ with_rows table (row ∷ rows)
+rows_after table row rows =
+    let room : table.room - filled table.columns row.cells - all_filled table.columns rows ≡ table.room - all_filled table.columns (row ∷ rows) = omega arith in
+    ap (λ (k : ℕ). table_so_far table.columns k (braces_after_rows row.after rows)) room
+
+-- each longest run of rows is found by the count
+none_counted : (d : Document) (path : List Container) (table : TableSoFar) (lines : List Place) → EndRows d path table lines
+    → RowsWithRoom d path table lines (taking [] lines)
+unfolding EndRows RowsWithRoom
+none_counted d path table [] h = refl
+none_counted d path table (line ∷ lines) (inl none) = inl (none, refl)
+none_counted d path table (line ∷ lines) (inr (row, has, over)) = inr (row, has, inl (none_of table row.cells over, refl))
+
+all_counted : (d : Document) (path : List Container) (table : TableSoFar) (rows : List FoundRow) (lines left : List Place)
+    → TakesRows d path table.braces rows lines left → all_filled table.columns rows ≤ table.room → EndRows d path (with_rows table rows) left
+    → RowsWithRoom d path table lines (taking (row_blocks table.columns rows) left)
+unfolding TakesRows RowsWithRoom
+all_counted d path table [] lines left same fits ends =
+    subst (λ z. RowsWithRoom d path table z (taking [] left)) same (none_counted d path table left (subst (λ z. EndRows d path z left) (all_room table) ends))
+all_counted d path table (row ∷ rows) [] left none fits ends = absurd none
+all_counted d path table (row ∷ rows) (line ∷ lines) left (has, some, takes) fits ends =
+    let here : filled table.columns row.cells ≤ table.room = omega arith in
+    let more = all_counted d path (with_row table row) rows lines left takes (omega arith)
+    (subst (λ z. EndRows d path z left) (sym (rows_after table row rows)) ends) in
+    inr (row, has, inr (row_of table row.cells some here, taking (row_blocks table.columns rows) left, more, refl))
+
+pub counted : (d : Document) (path : List Container) (table : TableSoFar) (lines : List Place) (t : Taken) → AreRows d path table lines t
+    → RowsWithRoom d path table lines t
+counted d path table lines t h =
+    subst (λ z. RowsWithRoom d path table lines (taking z t.left)) (sym h.items_are)
+    (all_counted d path table h.rows lines t.left h.takes h.fits h.ends)
+
+-- what the count finds is a longest run of rows
+no_rows : (d : Document) (path : List Container) (table : TableSoFar) (lines : List Place) (t : Taken) → t ≡ taking [] lines → EndRows d path table lines
+    → AreRows d path table lines t
+unfolding TakesRows
+no_rows d path table lines t e ends = record {
+  rows = [];
+  takes = ap (λ (z : Taken). z.left) e;
+  fits = omega arith;
+  ends = subst (λ z. EndRows d path z t.left) (sym (all_room table)) (subst (λ (z : Taken). EndRows d path table z.left) (sym e) ends);
+  items_are = ap (λ (z : Taken). z.items) e;
+}
+
+one_row : (d : Document) (path : List Container) (table : TableSoFar) (line : Place) (lines : List Place) (row : FoundRow) (more : Taken)
+    → HasCells d path line table.braces row → is_row table row.cells ≡ true → AreRows d path (with_row table row) lines more
+    → AreRows d path table (line ∷ lines) (taking (row_block TableRow table.columns row.start row.cells row.row_end ++ more.items) more.left)
+unfolding TakesRows
+one_row d path table line lines row more has is h =
+    let parts = row_parts table row.cells is in
+    let fits = h.fits in
+    let low = parts.1 in record {
+      rows = row ∷ h.rows;
+      takes = (has, parts.0, h.takes);
+      fits = omega arith;
+      ends = subst (λ z. EndRows d path z more.left) (rows_after table row h.rows) h.ends;
+      items_are = ap (λ z. row_block TableRow table.columns row.start row.cells row.row_end ++ z) h.items_are;
+    }
+
+pub are_rows : (d : Document) (path : List Container) (table : TableSoFar) (lines : List Place) (t : Taken) → RowsWithRoom d path table lines t
+    → AreRows d path table lines t
+unfolding RowsWithRoom EndRows
+are_rows d path table [] t e = no_rows d path table [] t e tt
+are_rows d path table (line ∷ lines) t (inl (none, e)) = no_rows d path table (line ∷ lines) t e (inl none)
+are_rows d path table (line ∷ lines) t (inr (row, has, inl (stops, e))) =
+    no_rows d path table (line ∷ lines) t e (inr (row, has, no_row table row.cells stops))
+are_rows d path table (line ∷ lines) t (inr (row, has, inr (is, more, rest, e))) =
+    subst (λ z. AreRows d path table (line ∷ lines) z) (sym e)
+    (one_row d path table line lines row more has is (are_rows d path (with_row table row) lines more rest))

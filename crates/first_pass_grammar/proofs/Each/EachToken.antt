@@ -1,0 +1,241 @@
+-- A property of each token holds for each item in the chain of a paragraph, a heading or a cell, and in raw lines.
+use Rattle.std.proofs.Common.{◌≡◌, inl, inr, ℕ, zero, suc, ◌+◌, ◌-◌, ◌==◌, ◌&&◌, Bool, true, false, nat_lt, nat_le, min, List, [], ◌∷◌, ◌++◌, length, Option}
+use Rattle.std.proofs.Common.{Some, None, IfSome, sym, subst, if◌then◌else◌, refl}
+use Rattle.first_pass_items.specs.declared.cow_str.CowStr.{CowStr}
+use Rattle.first_pass_items.specs.declared.item.CowIndex.{CowIndex}
+use Rattle.first_pass_items.specs.declared.item.Item.{Item}
+use Rattle.first_pass_items.specs.declared.item.ItemBody.{ItemBody}
+use Rattle.first_pass_items.specs.declared.item.ItemBody.TheVariants.{Text, SoftBreak, HardBreak, MaybeEmphasis, Html, SynthesizeText}
+use Rattle.first_pass_tree.specs.Forest.{is_escaped, cut_item}
+use Rattle.first_pass_lines.specs.Places.{Place, offset, line_end}
+use Rattle.first_pass_tokens.specs.declared.pieces.Piece.{Piece}
+use Rattle.first_pass_tokens.specs.declared.pieces.Piece.TheVariants.{Left, Begins, Token, Run}
+use Rattle.first_pass_tokens.specs.Pieces.{Inline, found_at, size}
+use Rattle.first_pass_tokens.specs.Braces.{MathBraces, braces_after}
+use Rattle.first_pass_tokens.specs.LineTokens.{Spot, spot, ArePieces, add_piece, add_pieces, text_end, line_end_len, breaks_by_backslash, blanks_at_end}
+use Rattle.first_pass_tokens.specs.LineTokens.{break_of, line_break, AreLineTokens, IsCell}
+use Rattle.first_pass_tokens.specs.Chains.{text_token, token, run_tokens, touches, add_token, add_tokens, add_text, is_backslash_break, close_break, cut}
+use Rattle.first_pass_tokens.proofs.PieceFacts.{IsPieceAt, is_markup}
+use Rattle.first_pass_tokens.proofs.LineLemmas.{piece_of}
+use Rattle.first_pass_grammar.specs.declared.kind.Container.{Container}
+use Rattle.first_pass_grammar.proofs.Names.TokensNamed.{NamesWithin, PieceWithin, piece_within}
+use Rattle.first_pass_grammar.specs.Names.{Names}
+use Rattle.first_pass_grammar.specs.Containers.{at_rest, front}
+use Rattle.first_pass_grammar.specs.Kinds.{unindented}
+use Rattle.first_pass_grammar.specs.Leaves.{Document, content_at, add_break, heading_content, heading_chain, IsHeading, marker_items, TextLines, AreTextLines}
+use Rattle.first_pass_grammar.specs.RawLines.{AreColumns, Ranges, range_text, range_html, ends_with_both, raw_items, IsRawLine, AreRawLines}
+use Rattle.first_pass_grammar.specs.Texts.{text_children, by_backslash, heading_bytes, children_without, heading_children}
+use Rattle.first_pass_grammar.specs.Headings.{kept_before, heading_attribute_block}
+use Rattle.first_pass_attributes.specs.AttributeBlocks.{Braces}
+use Rattle.first_pass_items.specs.declared.item.HeadingIndex.{HeadingIndex}
+
+-- each of these items has a property
+abbrev pub AreEach : (ItemBody → Type 0) → List Item → Type 0
+AreEach P [] = Unit {0}
+AreEach P (x ∷ xs) = P x.body × AreEach P xs
+
+-- each token of a text's lines has a property; the texts of the tokens are among these
+pub record HoldsOfTokens (texts : List CowStr) (P : ItemBody → Type 0) : Type 0 where
+  pub text : (escaped : Bool) → P (Text escaped)
+  pub soft : P SoftBreak
+  pub hard : (by_backslash : Bool) → P (HardBreak by_backslash)
+  pub markup : (body : ItemBody) → is_markup body ≡ true → NamesWithin texts body → P body
+
+-- the items of raw lines other than texts have a property
+pub record HoldsOfRaw (P : ItemBody → Type 0) : Type 0 where
+  pub html : P Html
+  pub columns : (ix : CowIndex) → P (SynthesizeText ix)
+
+module _ (P : ItemBody → Type 0) where
+  -- more items
+  pub both_each : (xs ys : List Item) → AreEach P xs → AreEach P ys → AreEach P (xs ++ ys)
+  both_each [] ys h k = k
+  both_each (x ∷ xs) ys h k = (h.0, both_each xs ys h.1 k)
+
+  pub unless_each : (t : Bool) (xs ys : List Item) → AreEach P xs → AreEach P ys → AreEach P (if t then xs else ys)
+  unless_each true xs ys h k = h
+  unless_each false xs ys h k = k
+
+  joined_each : (t : Bool) (x y : Item) → P x.body → P y.body → AreEach P (if t then record x { «end» = y.«end» } ∷ [] else x ∷ y ∷ [])
+  joined_each true x y h k = (h, tt)
+  joined_each false x y h k = (h, (k, tt))
+
+  token_each : (chain : List Item) (y : Item) → AreEach P chain → P y.body → AreEach P (add_token chain y)
+  token_each [] y h k = (k, tt)
+  token_each (x ∷ []) y h k = joined_each (touches x y) x y h.0 k
+  token_each (x ∷ z ∷ zs) y h k = (h.0, token_each (z ∷ zs) y h.1 k)
+
+  tokens_each : (chain tokens : List Item) → AreEach P chain → AreEach P tokens → AreEach P (add_tokens chain tokens)
+  tokens_each chain [] h k = h
+  tokens_each chain (x ∷ xs) h k = tokens_each (add_token chain x) xs (token_each chain x h k.0) k.1
+
+  -- the bytes of a raw line
+  pub raw_each : (range : Ranges) (text : List ℕ) (from to : ℕ) → ((a b : ℕ) → AreEach P (range a b)) → AreEach P (raw_items range text from to)
+  unfolding raw_items
+  raw_each range text from to each =
+      unless_each (ends_with_both text from to) (range from (to - 2) ++ range (to - 1) to) (range from to)
+      (both_each (range from (to - 2)) (range (to - 1) to) (each from (to - 2)) (each (to - 1) to)) (each from to)
+
+module _ (P : ItemBody → Type 0) (text : (escaped : Bool) → P (Text escaped)) where
+  pub range_text_each : (a b : ℕ) → AreEach P (range_text a b)
+  range_text_each a b = unless_each P (nat_lt a b) (text_token a b false ∷ []) [] (text false, tt) tt
+
+  text_each : (from to : ℕ) (escaped : Bool) (chain : List Item) → AreEach P chain → AreEach P (add_text from to escaped chain)
+  text_each from to escaped chain h =
+      unless_each P (nat_lt from to) (add_token chain (text_token from to escaped)) chain (token_each P chain (text_token from to escaped) h (text escaped)) h
+
+  closed_each : (o : Option Item) (chain : List Item) → AreEach P chain → AreEach P (close_break o chain)
+  closed_each None chain h = h
+  closed_each (Some x) chain h =
+      unless_each P (is_backslash_break x.body) (add_text x.start (x.start + 1) false chain) chain (text_each x.start (x.start + 1) false chain h) h
+
+  pub marked_each : (marker : Option Item) (chain : List Item) → IfSome marker (λ x. P x.body) → AreEach P chain → AreEach P (marker_items marker ++ chain)
+  marked_each None chain h k = k
+  marked_each (Some x) chain h k = (h, k)
+
+  pub children_each : (marker : Option Item) (t : TextLines) → IfSome marker (λ x. P x.body) → AreEach P t.chain → AreEach P (text_children marker t)
+  children_each marker t h k = marked_each marker (close_break t.break t.chain) h (closed_each t.break t.chain k)
+
+  -- the chain of a heading
+  cut_item_each : (t : Bool) (e : ℕ) (x : Item) → P x.body → P (if◌then◌else◌ {A = Item} t (record x { «end» = e }) x).body
+  cut_item_each true e x h = h
+  cut_item_each false e x h = h
+
+  cut_each : (e : ℕ) (chain : List Item) → AreEach P chain → AreEach P (cut e chain)
+  cut_each e [] h = tt
+  cut_each e (x ∷ xs) h =
+      unless_each P (nat_lt x.start e) (cut_item e x ∷ cut e xs) (if is_escaped x.body && (x.start == e) then text_token (e - 1) e false ∷ [] else [])
+      (cut_item_each (nat_lt e x.«end») e x h.0, cut_each e xs h.1)
+      (unless_each P (is_escaped x.body && (x.start == e)) (text_token (e - 1) e false ∷ []) [] (text false, tt) tt)
+
+  heading_chain_each : (kept start : ℕ) (chain : List Item) → AreEach P chain → AreEach P (heading_chain kept start chain)
+  unfolding heading_chain
+  heading_chain_each kept start chain h = unless_each P (kept == 0) [] (cut (start + kept) chain) tt (cut_each (start + kept) chain h)
+
+  -- the children of a setext heading
+  cut_children_each : (d : Document) (start : ℕ) (marker : Option Item) (t : TextLines) (o : Option Braces) → AreEach P (marker_items marker ++ t.chain)
+      → AreEach P (text_children marker t)
+      → AreEach P (children_without d start marker t o)
+  cut_children_each d start marker t None h k = k
+  cut_children_each d start marker t (Some block) h k =
+      closed_each t.break _
+      (cut_each (start + kept_before (by_backslash t.break) block.opening (heading_bytes d start marker t)) (marker_items marker ++ t.chain) h)
+
+  pub heading_children_each : (d : Document) (start : ℕ) (marker : Option Item) (t : TextLines) → IfSome marker (λ x. P x.body) → AreEach P t.chain
+      → AreEach P (heading_children d start marker t)
+  unfolding heading_children
+  heading_children_each d start marker t h k =
+      cut_children_each d start marker t (heading_attribute_block d.options (heading_bytes d start marker t)) (marked_each marker t.chain h k)
+      (children_each marker t h k)
+
+-- breaks
+module _ (P : ItemBody → Type 0) (soft : P SoftBreak) (hard : (by_backslash : Bool) → P (HardBreak by_backslash)) where
+  white_each : (two : Bool) (end next blanks : ℕ)
+      → P (if◌then◌else◌ {A = Item} two (record { start = end - blanks; «end» = next; body = HardBreak false })
+      (record { start = end; «end» = next; body = SoftBreak })).body
+  white_each true end next blanks = hard false
+  white_each false end next blanks = soft
+
+  break_of_each : (end next : ℕ) (by_backslash : Bool) (blanks : ℕ) → P (break_of end next by_backslash blanks).body
+  break_of_each end next true blanks = hard true
+  break_of_each end next false blanks = white_each (nat_le 2 blanks) end next blanks
+
+  some_each : (t : Bool) (x : Item) → P x.body → IfSome (if t then None else Some x) (λ y. P y.body)
+  some_each true x h = tt
+  some_each false x h = h
+
+  line_break_each : (s : Inline) (end : ℕ) → IfSome (line_break s end) (λ y. P y.body)
+  unfolding line_break
+  line_break_each s end =
+      some_each (nat_le (length s.text) end) (break_of end (end + line_end_len s end) (breaks_by_backslash s end) (blanks_at_end s end))
+      (break_of_each end (end + line_end_len s end) (breaks_by_backslash s end) (blanks_at_end s end))
+
+  pub break_each : {after : MathBraces} (texts : List CowStr) (s : Inline) (tokens : List Item) (answer : ℕ × Option Item)
+      → AreLineTokens texts s tokens answer after
+      → IfSome answer.1 (λ y. P y.body)
+  break_each texts s tokens answer h = subst (λ (a : ℕ × Option Item). IfSome a.1 (λ y. P y.body)) (sym h.answer_is) (line_break_each s h.content_end)
+
+module _ (texts : List CowStr) (P : ItemBody → Type 0) (holds : HoldsOfTokens texts P) where
+  -- the tokens of a run
+  run_each : (at n : ℕ) (opens closes : Bool) → AreEach P (run_tokens at n opens closes)
+  run_each at zero opens closes = tt
+  run_each at (suc n) opens closes = (holds.markup (MaybeEmphasis (suc n) opens closes) refl tt, run_each (at + 1) n opens closes)
+
+  -- the tokens of pieces
+  piece_each : (text : List ℕ) (stop at : ℕ) (p : Piece) (chain : List Item) → IsPieceAt text at p → PieceWithin texts p → AreEach P chain
+      → AreEach P (add_piece stop at p chain)
+  piece_each text stop at (Left n) chain facts within h = text_each P holds.text at (min (at + n) stop) false chain h
+  piece_each text stop at (Begins dropped escaped) chain facts within h =
+      text_each P holds.text (at + dropped) (min (at + (dropped + 1)) stop) escaped chain h
+  piece_each text stop at (Token dropped n body) chain facts within h =
+      token_each P chain (token (at + dropped) n body) h (holds.markup body facts.kind within)
+  piece_each text stop at (Run n opens closes) chain facts within h = tokens_each P chain (run_tokens at n opens closes) h (run_each at n opens closes)
+
+  pub pieces_each : (s : Inline) (stop at : ℕ) (b : MathBraces) (ps : List Piece) (to : Spot) (chain : List Item) → ArePieces texts s at b ps to
+      → AreEach P chain → AreEach P (add_pieces stop at ps chain)
+  pieces_each s stop at b [] to chain are h = h
+  pieces_each s stop at b (p ∷ ps) to chain are h =
+      pieces_each s stop (at + size p) (braces_after (found_at s at) b) ps to (add_piece stop at p chain) are.2
+      (piece_each s.text stop at p chain (piece_of texts b s at p are.0 are.1) (piece_within texts b s at p are.1) h)
+
+  -- the tokens of a line, and of a cell
+  pub line_each : {after : MathBraces} (s : Inline) (tokens : List Item) (answer : ℕ × Option Item) → AreLineTokens texts s tokens answer after
+      → AreEach P tokens
+  line_each {after} s tokens answer h =
+      subst (AreEach P) (sym h.tokens_are)
+      (pieces_each s (text_end s h.content_end) s.start s.braces h.pieces (spot h.content_end after) [] h.division.divided tt)
+
+  pub cell_each : {after : MathBraces} (s : Inline) (tokens : List Item) (stop : ℕ) → IsCell texts s tokens stop after → AreEach P tokens
+  cell_each {after} s tokens stop h =
+      subst (AreEach P) (sym h.tokens_are)
+      (pieces_each s (stop - blanks_at_end s stop) s.start s.braces h.pieces (spot stop after) [] h.division.divided tt)
+
+module _ (P : ItemBody → Type 0) (d : Document) (holds : HoldsOfTokens d.names.texts P) where
+  broken_each : (o : Option Item) (chain : List Item) → IfSome o (λ y. P y.body) → AreEach P chain → AreEach P (add_break o chain)
+  broken_each None chain k h = h
+  broken_each (Some x) chain k h = both_each P chain (x ∷ []) h (k, tt)
+
+  first_each : {after : MathBraces} (p : Spot) (chain tokens : List Item) (answer : ℕ × Option Item) → AreEach P chain
+      → AreLineTokens d.names.texts (content_at d p) tokens answer after → AreEach P (add_tokens chain tokens)
+  first_each p chain tokens answer h line = tokens_each P chain tokens h (line_each d.names.texts P holds (content_at d p) tokens answer line)
+
+  -- the chain of a text's lines
+  pub lines_each : (path : List Container) (p : Spot) (chain : List Item) (lines : List Place) (t : TextLines) → AreEach P chain
+      → AreTextLines d path p chain lines t → AreEach P t.chain
+  unfolding AreTextLines
+  lines_each path p chain [] t h (k, a, after, i, e) = subst (λ (z : TextLines). AreEach P z.chain) (sym e) (first_each p chain k a h i)
+  lines_each path p chain (line ∷ lines) t h (k, a, after, i, inl (ends, e)) =
+      subst (λ (z : TextLines). AreEach P z.chain) (sym e) (first_each p chain k a h i)
+  lines_each path p chain (line ∷ lines) t h (k, a, after, i, inr (goes, more)) =
+      lines_each path (spot (offset (unindented (at_rest line (front path line.rest)))) after) (add_break a.1 (add_tokens chain k)) lines t
+      (broken_each a.1 (add_tokens chain k) (break_each P holds.soft holds.hard d.names.texts (content_at d p) k a i) (first_each p chain k a h i)) more
+
+  pub heading_each : (start : ℕ) (index : Option HeadingIndex) (chain : List Item) (e : ℕ) → IsHeading d start index chain e → AreEach P chain
+  heading_each start index chain e h =
+      subst (AreEach P) (sym h.chain_is)
+      (heading_chain_each P holds.text _ start (close_break h.answer.1 (add_tokens [] h.tokens))
+      (closed_each P holds.text h.answer.1 (add_tokens [] h.tokens)
+      (tokens_each P [] h.tokens tt (line_each d.names.texts P holds (heading_content d start) h.tokens h.answer h.line))))
+
+-- raw lines
+module _ (P : ItemBody → Type 0) (raw : HoldsOfRaw P) where
+  columns_each : (names : Names) (owed at : ℕ) (items : List Item) → AreColumns names owed at items → AreEach P items
+  columns_each names zero at items is = subst (AreEach P) (sym is) tt
+  columns_each names (suc n) at items (ix, names_it, is) = subst (AreEach P) (sym is) (raw.columns ix, tt)
+
+  pub range_html_each : (a b : ℕ) → AreEach P (range_html a b)
+  range_html_each a b = (raw.html, tt)
+
+  raw_line_each : (range : Ranges) (d : Document) (owed from to : ℕ) (items : List Item) → ((a b : ℕ) → AreEach P (range a b))
+      → IsRawLine range d owed from to items → AreEach P items
+  raw_line_each range d owed from to items each (columns, are, is) =
+      subst (AreEach P) (sym is)
+      (both_each P columns (raw_items range d.text from to) (columns_each d.names owed from columns are) (raw_each P range d.text from to each))
+
+  pub raw_lines_each : (range : Ranges) (d : Document) (chain : List Item) (places : List Place) (whole : List Item) → ((a b : ℕ) → AreEach P (range a b))
+      → AreEach P chain → AreRawLines range d chain places whole → AreEach P whole
+  unfolding AreRawLines
+  raw_lines_each range d chain [] whole each h is = subst (AreEach P) (sym is) h
+  raw_lines_each range d chain (p ∷ places) whole each h (line, is, more) =
+      raw_lines_each range d (add_tokens chain line) places whole each
+      (tokens_each P chain line h (raw_line_each range d p.rest.owed (offset p) (line_end p) line each is)) more

@@ -1,0 +1,53 @@
+-- Items without an index read alike under all names; the tokens of lines have no indices except those of texts.
+use Rattle.std.proofs.Common.{◌≡◌, true, List, [], ◌∷◌, map, None, refl}
+use Rattle.std.proofs.lemmas.Bool.{false≢true}
+use Rattle.first_pass_items.specs.declared.cow_str.CowStr.{CowStr}
+use Rattle.first_pass_items.specs.declared.item.Item.{Item}
+use Rattle.first_pass_items.specs.declared.item.ItemBody.{ItemBody}
+use Rattle.first_pass_items.specs.declared.item.ItemBody.TheVariants.{MaybeEmphasis, MaybeMath, MaybeSmartQuote, SynthesizeChar, SynthesizeText, MaybeCode}
+use Rattle.first_pass_items.specs.declared.item.ItemBody.TheVariants.{MaybeHtml, MaybeLinkOpen, MaybeLinkClose, MaybeImage}
+use Rattle.first_pass_tokens.proofs.PieceFacts.{is_markup}
+use Rattle.first_pass_grammar.specs.Names.{Names, index_of, read}
+use Rattle.first_pass_grammar.proofs.Each.EachToken.{AreEach, HoldsOfTokens}
+use Rattle.first_pass_grammar.proofs.Names.TokensNamed.{NamesWithin}
+
+abbrev pub IsWithoutIndex : ItemBody → Type 0
+IsWithoutIndex body = index_of body ≡ None
+
+abbrev pub HasNoIndex : Item → Type 0
+HasNoIndex x = IsWithoutIndex x.body
+
+-- none of these items has an index
+abbrev pub HaveNoIndex : List Item → Type 0
+HaveNoIndex xs = AreEach IsWithoutIndex xs
+
+-- an item without an index reads alike under all names
+pub only_reads : (m n : Names) (x : Item) → HasNoIndex x → read m x ≡ read n x
+only_reads m n x h = rw h refl
+
+pub only_read : (m n : Names) (xs : List Item) → HaveNoIndex xs → map (read m) xs ≡ map (read n) xs
+only_read m n [] h = refl
+only_read m n (x ∷ xs) h = let a = only_reads m n x h.0 in let b = only_read m n xs h.1 in cc
+
+-- an item has no index, or that of its text
+abbrev pub HasTextIndex : ItemBody → Type 0
+HasTextIndex (SynthesizeText ix) = Unit {0}
+HasTextIndex body = index_of body ≡ None
+
+-- a token of possible markup has this property
+markup_textual : (texts : List CowStr) (body : ItemBody) → is_markup body ≡ true → NamesWithin texts body → HasTextIndex body
+markup_textual texts (MaybeEmphasis left opens closes) h k = refl
+markup_textual texts (MaybeMath opens closes context) h k = refl
+markup_textual texts (MaybeSmartQuote quote opens closes) h k = refl
+markup_textual texts (SynthesizeChar c) h k = refl
+markup_textual texts (SynthesizeText ix) h k = tt
+markup_textual texts (MaybeCode n escaped) h k = refl
+markup_textual texts MaybeHtml h k = refl
+markup_textual texts MaybeLinkOpen h k = refl
+markup_textual texts (MaybeLinkClose b) h k = refl
+markup_textual texts MaybeImage h k = refl
+markup_textual texts _ h k = absurd (false≢true h)
+
+-- a token of a line has no index except that of a text
+pub tokens_textual : (texts : List CowStr) → HoldsOfTokens texts HasTextIndex
+tokens_textual texts = record { text = λ escaped. refl; soft = refl; hard = λ by_backslash. refl; markup = markup_textual texts }

@@ -1,0 +1,8 @@
+-- The lines and places of a sequence of blocks.
+pub mod Finishes
+pub mod FootnoteHeads
+pub mod Goings
+pub mod LinesLeft
+pub mod OpenerFacts
+pub mod PlacesKept
+pub mod Tightening

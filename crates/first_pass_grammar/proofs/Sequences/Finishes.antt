@@ -1,0 +1,146 @@
+-- The completions of open nodes, as one type over the further parts of the open containers.
+use Rattle.std.proofs.Common.{◌≡◌, ℕ, suc, Bool, false, List, [], ◌∷◌, length, refl, sym, ap, ◌∙◌, subst}
+use Rattle.first_pass_items.specs.declared.item.Item.{Item}
+use Rattle.first_pass_lines.specs.Places.{Place}
+use Rattle.first_pass_grammar.specs.declared.kind.Container.{Container}
+use Rattle.first_pass_grammar.specs.Leaves.{Document}
+use Rattle.first_pass_grammar.specs.Blocks.{Skeleton}
+use Rattle.first_pass_grammar.specs.Before.{Before, after_container, before_end}
+use Rattle.first_pass_grammar.specs.Skeleton.{Continues, level, Remaining, Lines, onward, end_before, IsSequence}
+use Rattle.first_pass_grammar.specs.Rows.{ItemsOf, Rows, any_gap, rows_of}
+use Rattle.first_pass_grammar.specs.Derivation.{Tables, Derives, with_all_of}
+use Rattle.first_pass_grammar.specs.Completion.{ended, Pending, NoList, OneList, Unfinished, Further, AreFurther, rows_beyond, rendered, Frame, InContainer}
+use Rattle.first_pass_grammar.specs.Completion.{Closed, InDefinitions, closed_as, definitions_open, InList, containers_of, loosened, last_of, Becomes}
+use Rattle.first_pass_grammar.specs.Completion.{Completes}
+use Rattle.first_pass_grammar.specs.Containers.{is_quote}
+
+-- some remaining sequence of the innermost container, and so on outwards
+unfoldable pub Finish : Document → Tables → Pending → Before → List Frame → List (ℕ × Item) → List ℕ → Continues → List Place → List (ℕ × Item) → Tables
+    → Type 0
+Finish d defined list before [] nodes [] from lines forest tables =
+    (s : Skeleton) × IsSequence d s (level [] before) from lines (Lines [])
+    × (forest ≡ rendered 1 (length d.text) nodes list (rows_of false before (length d.text) s)) × (tables ≡ with_all_of defined s)
+Finish d defined list before [] nodes (place ∷ places) from lines forest tables = ⊥
+Finish d defined list before (frame ∷ frames) nodes [] from lines forest tables = ⊥
+Finish d defined list before (InList byte loose ∷ frames) nodes (place ∷ places) from lines forest tables =
+    Finish d defined (OneList place (ItemsOf byte) loose) before frames nodes places from lines forest tables
+Finish d defined list before (InDefinitions loose ∷ frames) nodes (place ∷ places) from lines forest tables =
+    Finish d defined (definitions_open place loose list) before frames nodes places from lines forest tables
+Finish d defined list before (InContainer c ∷ frames) nodes (place ∷ places) from lines forest tables =
+    (s : Skeleton) × (mid : Remaining) × IsSequence d s (level (c ∷ containers_of frames) before) from lines mid
+    × (let last : ℕ = end_before (length d.text) (containers_of frames) from mid in
+    let rows : Rows = rows_of (is_quote c) before last s in
+    Finish d (with_all_of defined s) (NoList (closed_as c last)) (after_container c (before_end (is_quote c) before s))
+    (loosened (any_gap (rows_beyond list rows)) frames) (ended (rendered (suc (length (place ∷ places))) last nodes list rows) place last)
+    places (onward mid).0 (onward mid).1 forest tables)
+
+pub containers-loosened : (gap : Bool) (frames : List Frame) → containers_of (loosened gap frames) ≡ containers_of frames
+containers-loosened gap [] = refl
+containers-loosened gap (InContainer c ∷ frames) = refl
+containers-loosened gap (InList byte loose ∷ frames) = refl
+containers-loosened gap (InDefinitions loose ∷ frames) = refl
+
+-- the state with these parts
+abbrev pub unfinished : Tables → List (ℕ × Item) → Pending → Before → Unfinished
+unfinished defined nodes list before = record { nodes = nodes; list = list; before = before; defined = defined }
+
+abbrev further_to : Skeleton → ℕ → Further
+further_to s e = record { blocks = s; «end» = e }
+
+becomes_at : (defined : Tables) (frames : List Frame) (c : Container) (o : ℕ) (os : List ℕ) (nodes : List (ℕ × Item)) (list : Pending)
+    (before : Before) (s : Skeleton) (e e' : ℕ) (further : List Further) (forest : List (ℕ × Item)) (tables : Tables) → e ≡ e'
+    → Becomes (InContainer c ∷ frames) (o ∷ os) (unfinished defined nodes list before) (further_to s e ∷ further) forest tables
+    → Becomes (InContainer c ∷ frames) (o ∷ os) (unfinished defined nodes list before) (further_to s e' ∷ further) forest tables
+becomes_at defined frames c o os nodes list before s e e' further forest tables is becomes =
+    subst (λ z. Becomes (InContainer c ∷ frames) (o ∷ os) (unfinished defined nodes list before) (further_to s z ∷ further) forest tables) is becomes
+
+finish_of : (d : Document) (defined : Tables) (os : List ℕ) (further : List Further) (list : Pending) (before : Before) (frames : List Frame)
+    (nodes : List (ℕ × Item)) (from : Continues) (lines : List Place) (forest : List (ℕ × Item)) (tables : Tables)
+    → AreFurther d (containers_of frames) before from lines further → Becomes frames os (unfinished defined nodes list before) further forest tables
+    → Finish d defined list before frames nodes os from lines forest tables
+unfolding AreFurther Becomes Finish
+finish_of d defined [] [] list before [] nodes from lines forest tables are becomes = absurd becomes
+finish_of d defined [] (f ∷ []) list before [] nodes from lines forest tables (seq, e) (is, tables_are) =
+    (f.blocks, seq, is ∙ ap (λ z. rendered 1 z nodes list (rows_of false before z f.blocks)) e, tables_are)
+finish_of d defined [] (f ∷ g ∷ more) list before [] nodes from lines forest tables are becomes = absurd are
+finish_of d defined (o ∷ os) further list before [] nodes from lines forest tables are becomes = becomes
+finish_of d defined [] further list before (InContainer c ∷ frames) nodes from lines forest tables are becomes = becomes
+finish_of d defined [] further list before (InList byte loose ∷ frames) nodes from lines forest tables are becomes = becomes
+finish_of d defined [] further list before (InDefinitions loose ∷ frames) nodes from lines forest tables are becomes = becomes
+finish_of d defined (o ∷ os) further list before (InDefinitions loose ∷ frames) nodes from lines forest tables are becomes =
+    finish_of d defined os further (definitions_open o loose list) before frames nodes from lines forest tables are becomes
+finish_of d defined (o ∷ os) further list before (InList byte loose ∷ frames) nodes from lines forest tables are becomes =
+    finish_of d defined os further (OneList o (ItemsOf byte) loose) before frames nodes from lines forest tables are becomes
+finish_of d defined (o ∷ os) [] list before (InContainer c ∷ frames) nodes from lines forest tables are becomes = absurd are
+finish_of d defined (o ∷ os) (f ∷ further) list before (InContainer c ∷ frames) nodes from lines forest tables (mid, seq, is, are) becomes =
+    let e : ℕ = end_before (length d.text) (containers_of frames) from mid in
+    let now : Before = after_container c (before_end (is_quote c) before f.blocks) in
+    let rows : Rows = rows_of (is_quote c) before e f.blocks in (
+      f.blocks,
+      mid,
+      seq,
+      finish_of d (with_all_of defined f.blocks) os further (NoList (closed_as c e)) _ _ _ (onward mid).0 (onward mid).1 forest tables
+          (subst (λ p. AreFurther d p now (onward mid).0 (onward mid).1 further) (sym (containers-loosened (any_gap (rows_beyond list rows)) frames)) are)
+          (becomes_at defined frames c o os nodes list before f.blocks f.«end» e further forest tables is becomes),
+    )
+
+of_finish : (d : Document) (defined : Tables) (os : List ℕ) (list : Pending) (before : Before) (frames : List Frame) (nodes : List (ℕ × Item))
+    (from : Continues) (lines : List Place) (forest : List (ℕ × Item)) (tables : Tables)
+    → Finish d defined list before frames nodes os from lines forest tables
+    → (further : List Further) × AreFurther d (containers_of frames) before from lines further
+    × Becomes frames os (unfinished defined nodes list before) further forest tables
+unfolding AreFurther Becomes Finish
+of_finish d defined [] list before [] nodes from lines forest tables (s, seq, is, tables_are) =
+    (further_to s (length d.text) ∷ [], (seq, refl), (is, tables_are))
+of_finish d defined (o ∷ os) list before [] nodes from lines forest tables fin = absurd fin
+of_finish d defined [] list before (InContainer c ∷ frames) nodes from lines forest tables fin = absurd fin
+of_finish d defined [] list before (InList byte loose ∷ frames) nodes from lines forest tables fin = absurd fin
+of_finish d defined [] list before (InDefinitions loose ∷ frames) nodes from lines forest tables fin = absurd fin
+of_finish d defined (o ∷ os) list before (InDefinitions loose ∷ frames) nodes from lines forest tables fin =
+    of_finish d defined os (definitions_open o loose list) before frames nodes from lines forest tables fin
+of_finish d defined (o ∷ os) list before (InList byte loose ∷ frames) nodes from lines forest tables fin =
+    of_finish d defined os (OneList o (ItemsOf byte) loose) before frames nodes from lines forest tables fin
+of_finish d defined (o ∷ os) list before (InContainer c ∷ frames) nodes from lines forest tables (s, mid, seq, fin) =
+    let e : ℕ = end_before (length d.text) (containers_of frames) from mid in
+    let rows : Rows = rows_of (is_quote c) before e s in
+    let now : Before = after_container c (before_end (is_quote c) before s) in
+    let r = of_finish d (with_all_of defined s) os (NoList (closed_as c e)) _ _ _ (onward mid).0 (onward mid).1 forest tables fin in
+    let path : containers_of (loosened (any_gap (rows_beyond list rows)) frames) ≡ containers_of frames =
+    containers-loosened (any_gap (rows_beyond list rows)) frames in
+    (further_to s e ∷ r.0, (mid, seq, refl, subst (λ p. AreFurther d p now (onward mid).0 (onward mid).1 r.0) path r.1), r.2)
+
+-- the end of open nodes: the last child of the innermost one, and whether the blank lines after it include a counting
+-- one
+pub record Tail : Type 0 where
+  pub closed : Closed
+  pub run : Bool
+
+-- what precedes the next block in open nodes with this end
+abbrev pub before_of : List Frame → Tail → Before
+before_of frames t = record { last = last_of frames t.closed; counted = t.run }
+
+-- open nodes at these places, as the frames list them, with this end: every completion of them is derived by the text
+abbrev pub CompletesAt : Document → Tables → Tail → List Frame → List (ℕ × Item) → List ℕ → Continues → List Place → Type 0
+CompletesAt d defined t frames nodes os from lines = Completes d frames os (unfinished defined nodes (NoList t.closed) (before_of frames t)) from lines
+
+-- such nodes are completed to this forest and these tables
+abbrev pub FinishesAt : Document → Tables → Tail → List Frame → List (ℕ × Item) → List ℕ → Continues → List Place → List (ℕ × Item) → Tables → Type 0
+FinishesAt d defined t frames nodes os from lines forest tables =
+    Finish d defined (NoList t.closed) (before_of frames t) frames nodes os from lines forest tables
+
+pub finish_derives : (d : Document) (defined : Tables) (t : Tail) (frames : List Frame) (nodes : List (ℕ × Item)) (os : List ℕ) (from : Continues)
+    (lines : List Place)
+    → CompletesAt d defined t frames nodes os from lines
+    → (forest : List (ℕ × Item)) (tables : Tables) → FinishesAt d defined t frames nodes os from lines forest tables → Derives d forest tables
+finish_derives d defined t frames nodes os from lines c forest tables fin =
+    let r = of_finish d defined os (NoList t.closed) (before_of frames t) frames nodes from lines forest tables fin in c.whole r.0 forest tables r.1 r.2
+
+pub whole_by : (d : Document) (defined : Tables) (t : Tail) (frames : List Frame) (nodes : List (ℕ × Item)) (os : List ℕ) (from : Continues)
+    (lines : List Place)
+    → ((forest : List (ℕ × Item)) (tables : Tables) → FinishesAt d defined t frames nodes os from lines forest tables → Derives d forest tables)
+    → (further : List Further) (forest : List (ℕ × Item)) (tables : Tables)
+    → AreFurther d (containers_of frames) (before_of frames t) from lines further
+    → Becomes frames os (unfinished defined nodes (NoList t.closed) (before_of frames t)) further forest tables
+    → Derives d forest tables
+whole_by d defined t frames nodes os from lines whole further forest tables are becomes =
+    whole forest tables (finish_of d defined os further (NoList t.closed) (before_of frames t) frames nodes from lines forest tables are becomes)

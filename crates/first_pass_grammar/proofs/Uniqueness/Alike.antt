@@ -1,0 +1,315 @@
+-- Items that read alike: they differ at most in indices that name the same text, alignments or attributes.
+use Rattle.std.proofs.Common.{◌≡◌, ℕ, zero, suc, ◌+◌, ◌==◌, Bool, true, false, List, [], ◌∷◌, ◌++◌, map, Option, Some, None, refl, sym, ap, ◌∙◌}
+use Rattle.std.proofs.Common.{if◌then◌else◌}
+use Rattle.std.specs.Option.{option_and_then, option_map}
+use Rattle.std.proofs.lemmas.List.{map-append}
+use Rattle.first_pass_items.specs.declared.item.Alignment.{Alignment}
+use Rattle.first_pass_items.specs.declared.item.AlignmentIndex.{AlignmentIndex}
+use Rattle.first_pass_items.specs.declared.item.CowIndex.{CowIndex}
+use Rattle.first_pass_items.specs.declared.item.HeadingIndex.{HeadingIndex}
+use Rattle.first_pass_items.specs.declared.item.HeadingLevel.{HeadingLevel}
+use Rattle.first_pass_items.specs.declared.item.Item.{Item}
+use Rattle.first_pass_items.specs.declared.item.ItemBody.{ItemBody}
+use Rattle.first_pass_items.specs.declared.item.ItemBody.TheVariants.{Heading, SynthesizeText, FencedCodeBlock, Table, Paragraph, FootnoteDefinition}
+use Rattle.first_pass_attributes.specs.Attributes.{Attributes}
+use Rattle.first_pass_tree.specs.Forest.{at_depth, is_text}
+use Rattle.first_pass_tree.specs.Tight.{tight_body, tightened}
+use Rattle.first_pass_lines.specs.Places.{Place, offset, line_end}
+use Rattle.first_pass_tokens.specs.TreeTokens.{leaves}
+use Rattle.first_pass_tokens.specs.Chains.{touches, add_token, add_tokens}
+use Rattle.first_pass_grammar.specs.Footnotes.{NamesLabel}
+use Rattle.first_pass_grammar.specs.Names.{Names, NamesText, NamesAlignments, NamesAttributes, TextAt, AlignmentsAt, AttributesAt, Named, AText, Alignments}
+use Rattle.first_pass_grammar.specs.Names.{OfHeading, index_of, only_kind, named, read, read_nodes}
+use Rattle.first_pass_grammar.specs.Leaves.{Document, document, block_with}
+use Rattle.first_pass_grammar.specs.RawLines.{AreColumns, Ranges, range_text, range_html, raw_items, AreRawLines, spaces}
+use Rattle.first_pass_grammar.specs.Blocks.{LeafBlock, Leaf, BlankLine, Block, Opener, QuoteMarker, ItemMarker, FootnoteMarker, DefinitionMarker, label_of}
+use Rattle.first_pass_grammar.specs.Blocks.{Head, opened}
+use Rattle.first_pass_grammar.specs.Blocks.{Skeleton, Nil, Then, Node}
+use Rattle.first_pass_grammar.specs.Skeleton.{Continues, Line, Blanks, AtPlace, Anything, OnlyALeaf, TextOf, OnlyMark, Opening, OpensLeaf, OpensNode}
+use Rattle.first_pass_grammar.specs.Kinds.{Kind}
+use Rattle.first_pass_grammar.specs.Derivation.{node_of}
+use Rattle.first_pass_grammar.proofs.Names.NoIndex.{IsWithoutIndex, HasNoIndex, HaveNoIndex, only_read}
+use Rattle.first_pass_grammar.proofs.Each.EachToken.{range_text_each, raw_each}
+
+-- the same document with other names for the indices
+abbrev pub with_names : Document → Names → Document
+with_names d n = document d.text d.options n
+
+-- chains that read alike; the next definition is for nodes
+abbrev pub AlikeChains : Names → Names → List Item → List Item → Type 0
+AlikeChains m n xs ys = map (read m) xs ≡ map (read n) ys
+
+abbrev pub AlikeNodes : Names → Names → List (ℕ × Item) → List (ℕ × Item) → Type 0
+AlikeNodes m n xs ys = read_nodes m xs ≡ read_nodes n ys
+
+-- leaf blocks, openings and skeletons that differ at most in nodes that read alike
+-- the kind of a leaf block, the start of its line, and its own start
+abbrev pub stands : LeafBlock → Kind × ℕ × ℕ
+stands b = (b.kind, b.line, b.start)
+
+abbrev pub AlikeLeaf : Names → Names → Leaf → Leaf → Type 0
+AlikeLeaf m n BlankLine BlankLine = Unit {0}
+AlikeLeaf m n BlankLine (Block b) = ⊥
+AlikeLeaf m n (Block b) BlankLine = ⊥
+AlikeLeaf m n (Block b) (Block b') = (stands b ≡ stands b') × AlikeNodes m n b.items b'.items × (b.gap ≡ b'.gap) × (b.definitions ≡ b'.definitions)
+
+-- the marker where blocks continue, if there is one, has no index
+abbrev pub HoldsNoIndex : Continues → Type 0
+HoldsNoIndex Line = Unit {0}
+HoldsNoIndex (Blanks e) = Unit {0}
+HoldsNoIndex (AtPlace p Anything) = Unit {0}
+HoldsNoIndex (AtPlace p OnlyALeaf) = Unit {0}
+HoldsNoIndex (AtPlace p (TextOf marker)) = HasNoIndex marker
+HoldsNoIndex (AtPlace p (OnlyMark marker blanks)) = HasNoIndex marker
+
+-- an opener with the index of its label replaced by 0
+abbrev pub only_opener : Opener → Opener
+only_opener (QuoteMarker kind) = QuoteMarker kind
+only_opener (ItemMarker byte number columns) = ItemMarker byte number columns
+only_opener (FootnoteMarker columns index label) = FootnoteMarker columns (record { 0 = 0 }) label
+only_opener (DefinitionMarker columns) = DefinitionMarker columns
+
+abbrev pub only_head : Head → Head
+only_head head = record { opener = only_opener head.opener; line = head.line; start = head.start }
+
+-- a node with the index of the container's label, if it has one
+abbrev pub label_node : Opener → List (ℕ × Item)
+label_node (QuoteMarker kind) = []
+label_node (ItemMarker byte number columns) = []
+label_node (FootnoteMarker columns index label) = (0, node_of 0 0 (FootnoteDefinition index)) ∷ []
+label_node (DefinitionMarker columns) = []
+
+-- containers that begin alike: their labels, if they have any, are named by their indices
+abbrev pub AlikeHead : Names → Names → Head → Head → Type 0
+AlikeHead m n head head' = (only_head head ≡ only_head head') × AlikeNodes m n (label_node head.opener) (label_node head'.opener)
+
+only_opened : (o : Opener) → opened (only_opener o) ≡ opened o
+only_opened (QuoteMarker kind) = refl
+only_opened (ItemMarker byte number columns) = refl
+only_opened (FootnoteMarker columns index label) = refl
+only_opened (DefinitionMarker columns) = refl
+
+pub opened_alike : (head head' : Head) → only_head head ≡ only_head head' → opened head.opener ≡ opened head'.opener
+opened_alike head head' is = sym (only_opened head.opener) ∙ ap (λ (h : Head). opened h.opener) is ∙ only_opened head'.opener
+
+only_label : (o : Opener) → label_of (only_opener o) ≡ label_of o
+only_label (QuoteMarker kind) = refl
+only_label (ItemMarker byte number columns) = refl
+only_label (FootnoteMarker columns index label) = refl
+only_label (DefinitionMarker columns) = refl
+
+pub label_alike : (head head' : Head) → only_head head ≡ only_head head' → label_of head.opener ≡ label_of head'.opener
+label_alike head head' is = sym (only_label head.opener) ∙ ap (λ (h : Head). label_of h.opener) is ∙ only_label head'.opener
+
+abbrev pub AlikeOpening : Names → Names → Opening → Opening → Type 0
+AlikeOpening m n (OpensLeaf leaf there left) (OpensLeaf leaf' there' left') = AlikeLeaf m n leaf leaf' × (there ≡ there') × HoldsNoIndex there × (left ≡ left')
+AlikeOpening m n (OpensLeaf leaf there left) (OpensNode head' inside' following') = ⊥
+AlikeOpening m n (OpensNode head inside following) (OpensLeaf leaf' there' left') = ⊥
+AlikeOpening m n (OpensNode head inside following) (OpensNode head' inside' following') =
+    AlikeHead m n head head' × (inside ≡ inside') × HoldsNoIndex inside × (following ≡ following')
+
+abbrev pub Alike : Names → Names → Skeleton → Skeleton → Type 0
+Alike m n Nil Nil = Unit {0}
+Alike m n Nil (Then leaf' next') = ⊥
+Alike m n Nil (Node head' e' kids' next') = ⊥
+Alike m n (Then leaf next) Nil = ⊥
+Alike m n (Then leaf next) (Then leaf' next') = AlikeLeaf m n leaf leaf' × Alike m n next next'
+Alike m n (Then leaf next) (Node head' e' kids' next') = ⊥
+Alike m n (Node head e kids next) Nil = ⊥
+Alike m n (Node head e kids next) (Then leaf' next') = ⊥
+Alike m n (Node head e kids next) (Node head' e' kids' next') = AlikeHead m n head head' × (e ≡ e') × Alike m n kids kids' × Alike m n next next'
+
+-- one chain after another
+pub chains_append : (m n : Names) (xs xs' ys ys' : List Item) → AlikeChains m n xs xs' → AlikeChains m n ys ys' → AlikeChains m n (xs ++ ys) (xs' ++ ys')
+chains_append m n xs xs' ys ys' h k = let a = map-append (read m) xs ys in let b = map-append (read n) xs' ys' in cc
+
+pub nodes_append : (m n : Names) (xs xs' ys ys' : List (ℕ × Item)) → AlikeNodes m n xs xs' → AlikeNodes m n ys ys' → AlikeNodes m n (xs ++ ys) (xs' ++ ys')
+nodes_append m n xs xs' ys ys' h k =
+    let a : read_nodes m (xs ++ ys) ≡ read_nodes m xs ++ read_nodes m ys = map-append (λ (x : ℕ × Item). (x.0, read m x.1)) xs ys in
+    let b : read_nodes n (xs' ++ ys') ≡ read_nodes n xs' ++ read_nodes n ys' = map-append (λ (x : ℕ × Item). (x.0, read n x.1)) xs' ys' in
+    cc
+
+-- a chain that was read with one more item that was read; the item may be joined to the chain
+abbrev join_read : List (Item × Option Named) → Item × Option Named → List (Item × Option Named)
+join_read [] y = y ∷ []
+join_read (x ∷ []) y = if touches x.0 y.0 then (record { start = x.0.start; «end» = y.0.«end»; body = x.0.body }, x.1) ∷ [] else x ∷ y ∷ []
+join_read (x ∷ z ∷ zs) y = x ∷ join_read (z ∷ zs) y
+
+abbrev join_reads : List (Item × Option Named) → List (Item × Option Named) → List (Item × Option Named)
+join_reads chain [] = chain
+join_reads chain (x ∷ xs) = join_reads (join_read chain x) xs
+
+only_text : (b : ItemBody) → is_text (only_kind b) ≡ is_text b
+only_text (SynthesizeText ix) = refl
+only_text (FencedCodeBlock ix) = refl
+only_text (FootnoteDefinition ix) = refl
+only_text (Table ix) = refl
+only_text (Heading level ix) = refl
+only_text b = refl
+
+touches_read : (m : Names) (x y : Item) → touches (read m x).0 (read m y).0 ≡ touches x y
+touches_read m x y = rw (only_text x.body, only_text y.body) refl
+
+read_joined : (m : Names) (t : Bool) (x y : Item)
+    → map (read m) (if t then record x { «end» = y.«end» } ∷ [] else x ∷ y ∷ [])
+    ≡ (if t then (record { start = (read m x).0.start; «end» = (read m y).0.«end»; body = (read m x).0.body }, (read m x).1) ∷ [] else read m x ∷ read m y ∷ [])
+read_joined m true x y = refl
+read_joined m false x y = refl
+
+read_token : (m : Names) (chain : List Item) (y : Item) → map (read m) (add_token chain y) ≡ join_read (map (read m) chain) (read m y)
+read_token m [] y = refl
+read_token m (x ∷ []) y =
+    read_joined m (touches x y) x y
+    ∙ ap (λ (t : Bool).
+    if t then (record { start = (read m x).0.start; «end» = (read m y).0.«end»; body = (read m x).0.body }, (read m x).1) ∷ [] else read m x ∷ read m y ∷ [])
+    (sym (touches_read m x y))
+read_token m (x ∷ z ∷ zs) y = ap (λ r. read m x ∷ r) (read_token m (z ∷ zs) y)
+
+read_tokens : (m : Names) (chain tokens : List Item) → map (read m) (add_tokens chain tokens) ≡ join_reads (map (read m) chain) (map (read m) tokens)
+read_tokens m chain [] = refl
+read_tokens m chain (x ∷ xs) = read_tokens m (add_token chain x) xs ∙ ap (λ z. join_reads z (map (read m) xs)) (read_token m chain x)
+
+pub tokens_alike : (m n : Names) (chain chain' tokens tokens' : List Item)
+    → AlikeChains m n chain chain' → AlikeChains m n tokens tokens' → AlikeChains m n (add_tokens chain tokens) (add_tokens chain' tokens')
+tokens_alike m n chain chain' tokens tokens' h k = let a = read_tokens m chain tokens in let b = read_tokens n chain' tokens' in cc
+
+-- what an index names
+named_text : (names : Names) (ix : CowIndex) (text : List ℕ) → NamesText names ix text → named names (TextAt ix) ≡ Some (AText text)
+named_text names ix text (cow, at, is) = rw at (ap (λ z. Some (AText z)) is)
+
+named_alignments : (names : Names) (ix : AlignmentIndex) (alignments : List Alignment) → NamesAlignments names ix alignments
+    → named names (AlignmentsAt ix) ≡ Some (Alignments alignments)
+named_alignments names ix alignments at = rw at refl
+
+named_attributes : (names : Names) (ix : Option HeadingIndex) (attributes : Option Attributes) → NamesAttributes names ix attributes
+    → option_and_then (named names) (option_map AttributesAt ix) ≡ option_map OfHeading attributes
+named_attributes names None None h = refl
+named_attributes names None (Some attributes) h = absurd h
+named_attributes names (Some ix) None h = absurd h
+named_attributes names (Some ix) (Some attributes) h = rw h refl
+
+-- two headings have an index each if they have the same attributes, and none if they have none
+abbrev only_index : Option HeadingIndex → Option HeadingIndex
+only_index ix = option_map (λ (at : HeadingIndex). record { 0 = 0 }) ix
+
+both_given : (m n : Names) (i j : Option HeadingIndex) (attributes : Option Attributes) → NamesAttributes m i attributes → NamesAttributes n j attributes
+    → only_index i ≡ only_index j
+both_given m n None None None h k = refl
+both_given m n None None (Some attributes) h k = refl
+both_given m n None (Some j) None h k = absurd k
+both_given m n None (Some j) (Some attributes) h k = absurd h
+both_given m n (Some i) None None h k = absurd h
+both_given m n (Some i) None (Some attributes) h k = absurd k
+both_given m n (Some i) (Some j) attributes h k = refl
+
+-- Items that differ only in their indices read alike if these name the same.
+indexed_alike : (m n : Names) (start «end» : ℕ) (body body' : ItemBody) → only_kind body ≡ only_kind body'
+    → option_and_then (named m) (index_of body) ≡ option_and_then (named n) (index_of body')
+    → read m (node_of start «end» body) ≡ read n (node_of start «end» body')
+indexed_alike m n start end body body' h k = λ i. (node_of start end (h i), k i)
+
+-- Columns read alike, and so do raw lines.
+columns_alike : (m n : Names) (owed at : ℕ) (xs ys : List Item) → AreColumns m owed at xs → AreColumns n owed at ys → AlikeChains m n xs ys
+columns_alike m n zero at xs ys h k = let e : xs ≡ [] = h in let f : ys ≡ [] = k in cc
+columns_alike m n (suc owed) at xs ys (i, names, e) (j, names', f) =
+    let a = named_text m i (spaces (suc owed)) names in
+    let b = named_text n j (spaces (suc owed)) names' in
+    ap (map (read m)) e ∙ ap (λ (z : Item × Option Named). z ∷ []) (indexed_alike m n at at (SynthesizeText i) (SynthesizeText j) refl (a ∙ sym b))
+    ∙ sym (ap (map (read n)) f)
+
+-- a range has no index
+abbrev pub AreFree : Ranges → Type 0
+AreFree range = (from to : ℕ) → HaveNoIndex (range from to)
+
+pub text_free : AreFree range_text
+text_free = range_text_each IsWithoutIndex (λ escaped. refl)
+
+pub html_free : AreFree range_html
+html_free from to = (refl, tt)
+
+-- columns, followed by items without indices
+line_alike : (m n : Names) (owed at : ℕ) (more xs ys : List Item) → HaveNoIndex more
+    → (columns : List Item) × AreColumns m owed at columns × (xs ≡ columns ++ more)
+    → (columns : List Item) × AreColumns n owed at columns × (ys ≡ columns ++ more) → AlikeChains m n xs ys
+line_alike m n owed at more xs ys free (c, h, e) (c', k, f) =
+    ap (map (read m)) e ∙ chains_append m n c c' more more (columns_alike m n owed at c c' h k) (only_read m n more free) ∙ sym (ap (map (read n)) f)
+
+pub raw_alike : (range : Ranges) → AreFree range → (d : Document) (n : Names) (chain chain' : List Item) (places : List Place) (w w' : List Item)
+    → AlikeChains d.names n chain chain' → AreRawLines range d chain places w → AreRawLines range (with_names d n) chain' places w' → AlikeChains d.names n w w'
+unfolding AreRawLines
+raw_alike range free d n chain chain' [] w w' a e f = ap (map (read d.names)) e ∙ a ∙ sym (ap (map (read n)) f)
+raw_alike range free d n chain chain' (p ∷ ps) w w' a (line, is, more) (line', is', more') =
+    raw_alike range free d n (add_tokens chain line) (add_tokens chain' line') ps w w'
+    (tokens_alike d.names n chain chain' line line' a (line_alike d.names n p.rest.owed (offset p) (raw_items range d.text (offset p) (line_end p)) line line'
+    (raw_each IsWithoutIndex range d.text (offset p) (line_end p) free) is is'))
+    more more'
+
+-- blocks with chains that read alike
+read_below : (m : Names) (chain : List Item) → read_nodes m (at_depth 1 (leaves chain)) ≡ map (λ (z : Item × Option Named). (1, z)) (map (read m) chain)
+read_below m [] = refl
+read_below m (x ∷ xs) = ap (λ z. (1, read m x) ∷ z) (read_below m xs)
+
+pub block_alike : (m n : Names) (start «end» : ℕ) (body body' : ItemBody) (chain chain' : List Item)
+    → read m (node_of start «end» body) ≡ read n (node_of start «end» body')
+    → AlikeChains m n chain chain' → AlikeNodes m n (block_with start «end» body chain) (block_with start «end» body' chain')
+block_alike m n start end body body' chain chain' h k =
+    ap (λ z. (0, z) ∷ read_nodes m (at_depth 1 (leaves chain))) h
+    ∙ ap (λ z. (0, read n (node_of start end body')) ∷ z) (read_below m chain ∙ ap (map (λ (z : Item × Option Named). (1, z))) k ∙ sym (read_below n chain'))
+
+pub fence_alike : (m n : Names) (start «end» : ℕ) (i j : CowIndex) (info : List ℕ)
+    → NamesText m i info → NamesText n j info → read m (node_of start «end» (FencedCodeBlock i)) ≡ read n (node_of start «end» (FencedCodeBlock j))
+fence_alike m n start end i j info h k =
+    indexed_alike m n start end (FencedCodeBlock i) (FencedCodeBlock j) refl (named_text m i info h ∙ sym (named_text n j info k))
+
+pub table_alike : (m n : Names) (start «end» : ℕ) (i j : AlignmentIndex) (alignments : List Alignment) → NamesAlignments m i alignments
+    → NamesAlignments n j alignments → read m (node_of start «end» (Table i)) ≡ read n (node_of start «end» (Table j))
+table_alike m n start end i j alignments h k =
+    indexed_alike m n start end (Table i) (Table j) refl (named_alignments m i alignments h ∙ sym (named_alignments n j alignments k))
+
+-- footnote definitions whose indices name the same label
+pub label_named : (m n : Names) (columns : ℕ) (i j : CowIndex) (written label : List ℕ) → NamesLabel m i written label → NamesLabel n j written label
+    → AlikeNodes m n (label_node (FootnoteMarker columns i label)) (label_node (FootnoteMarker columns j label))
+label_named m n columns i j written label h k =
+    ap (λ (z : Item × Option Named). (0, z) ∷ [])
+    (indexed_alike m n 0 0 (FootnoteDefinition i) (FootnoteDefinition j) refl
+    (named_text m i label (h.named, h.at, h.text) ∙ sym (named_text n j label (k.named, k.at, k.text))))
+
+pub heading_alike : (m n : Names) (start «end» : ℕ) (level : HeadingLevel) (i j : Option HeadingIndex) (attributes : Option Attributes)
+    → NamesAttributes m i attributes
+    → NamesAttributes n j attributes → read m (node_of start «end» (Heading level i)) ≡ read n (node_of start «end» (Heading level j))
+heading_alike m n start end level i j attributes h k =
+    indexed_alike m n start end (Heading level i) (Heading level j) (ap (Heading level) (both_given m n i j attributes h k))
+    (named_attributes m i attributes h ∙ sym (named_attributes n j attributes k))
+
+-- Tightening a paragraph does not change an item's index.
+only_tight : (b : ItemBody) → only_kind (tight_body b) ≡ tight_body (only_kind b)
+only_tight Paragraph = refl
+only_tight (SynthesizeText ix) = refl
+only_tight (FencedCodeBlock ix) = refl
+only_tight (FootnoteDefinition ix) = refl
+only_tight (Table ix) = refl
+only_tight (Heading level ix) = refl
+only_tight b = refl
+
+tight_index : (b : ItemBody) → index_of (tight_body b) ≡ index_of b
+tight_index Paragraph = refl
+tight_index b = refl
+
+-- a node as it is read, after tightening
+abbrev pub tight_read : ℕ → ℕ × (Item × Option Named) → ℕ × (Item × Option Named)
+tight_read depth x = (x.0, if x.0 == depth then (node_of x.1.0.start x.1.0.«end» (tight_body x.1.0.body), x.1.1) else x.1)
+
+read_tight_by : (m : Names) (t : Bool) (x : Item) → read m (if t then node_of x.start x.«end» (tight_body x.body) else x)
+    ≡ (if t then (node_of x.start x.«end» (tight_body (read m x).0.body), (read m x).1) else read m x)
+read_tight_by m true x = rw (only_tight x.body, tight_index x.body) refl
+read_tight_by m false x = refl
+
+pub read_tight : (m : Names) (depth : ℕ) (nodes : List (ℕ × Item)) → read_nodes m (map (tightened depth) nodes) ≡ map (tight_read depth) (read_nodes m nodes)
+read_tight m depth [] = refl
+read_tight m depth (x ∷ nodes) =
+    let a = read_tight_by m (x.0 == depth) x.1 in
+    let b = read_tight m depth nodes in ap (λ z. (x.0, z) ∷ read_nodes m (map (tightened depth) nodes)) a ∙ ap (λ z. tight_read depth (x.0, read m x.1) ∷ z) b
+
+pub read_at_depth : (m : Names) (depth : ℕ) (nodes : List (ℕ × Item)) → read_nodes m (at_depth depth nodes) ≡ at_depth depth (read_nodes m nodes)
+read_at_depth m depth [] = refl
+read_at_depth m depth (x ∷ nodes) = ap (λ z. (depth + x.0, read m x.1) ∷ z) (read_at_depth m depth nodes)

@@ -1,0 +1,77 @@
+-- Paragraphs and headings have one chain, apart from the indices of the texts that it names.
+use Rattle.std.proofs.Common.{◌≡◌, inl, inr, ℕ, List, [], ◌∷◌, Option, IfSome, refl, sym, ap, ◌∙◌, subst}
+use Rattle.first_pass_items.specs.declared.item.HeadingIndex.{HeadingIndex}
+use Rattle.first_pass_items.specs.declared.item.Item.{Item}
+use Rattle.first_pass_lines.specs.Places.{Place, offset}
+use Rattle.first_pass_tokens.specs.Pieces.{Inline}
+use Rattle.first_pass_tokens.specs.Braces.{MathBraces}
+use Rattle.first_pass_tokens.specs.LineTokens.{Spot, spot, AreLineTokens}
+use Rattle.first_pass_tokens.specs.Chains.{add_tokens, close_break}
+use Rattle.first_pass_tokens.proofs.AlikeLemmas.{one_line}
+use Rattle.first_pass_grammar.specs.declared.kind.Container.{Container}
+use Rattle.first_pass_grammar.specs.Names.{Names}
+use Rattle.first_pass_grammar.specs.Containers.{at_rest, front}
+use Rattle.first_pass_grammar.specs.Kinds.{unindented}
+use Rattle.first_pass_grammar.specs.Headings.{before_attributes}
+use Rattle.first_pass_grammar.specs.Leaves.{Document, content_at, heading_content, heading_chain, kept_len, line_bytes, add_break, IsHeading, TextLines}
+use Rattle.first_pass_grammar.specs.Leaves.{text_lines, AreTextLines}
+use Rattle.first_pass_grammar.proofs.Names.NoIndex.{IsWithoutIndex, HasNoIndex, HasTextIndex, tokens_textual}
+use Rattle.first_pass_grammar.proofs.Each.EachToken.{line_each, break_each}
+use Rattle.first_pass_grammar.proofs.Uniqueness.Alike.{with_names, AlikeChains, tokens_alike}
+use Rattle.first_pass_grammar.proofs.Uniqueness.ChainsAlike.{alike_reads, close_alike, break_alike, heading_chain_alike}
+use Rattle.std.proofs.lemmas.Bool.{true≢false}
+
+-- two readings of a line have tokens that read alike, the same end and break, and the same brace contexts after them
+one_line_read : (d : Document) (n : Names) (s : Inline) (k k' : List Item) (a a' : ℕ × Option Item) (b b' : MathBraces) → AreLineTokens d.names.texts s k a b
+    → AreLineTokens n.texts s k' a' b' → AlikeChains d.names n k k' × (a ≡ a') × (b ≡ b')
+one_line_read d n s k k' a a' b b' i i' =
+    let o = one_line d.names.texts n.texts s k k' a a' b b' i i' in
+    (alike_reads d.names n k k' (line_each d.names.texts HasTextIndex (tokens_textual d.names.texts) s k a i) o.0, o.1, o.2)
+
+-- two results of reading lines are the same except for chains that read alike
+abbrev pub OneGiven : Names → Names → TextLines → TextLines → Type 0
+OneGiven m n t u = (chain : List Item) × AlikeChains m n t.chain chain × (u ≡ text_lines chain t.break t.left)
+
+given_alike : (m n : Names) (t u : TextLines) (c c' : List Item) (a a' : ℕ × Option Item) (left : List Place) → t ≡ text_lines c a.1 left
+    → u ≡ text_lines c' a'.1 left → a ≡ a' → AlikeChains m n c c' → OneGiven m n t u
+given_alike m n t u c c' a a' left e f same h =
+    subst (λ z. OneGiven m n z u) (sym e) (c', h, f ∙ ap (λ (z : ℕ × Option Item). text_lines c' z.1 left) (sym same))
+
+-- the lines of a text have one result, apart from indices
+pub one_lines : (d : Document) (n : Names) (path : List Container) (p : Spot) (chain chain' : List Item) (lines : List Place) (t u : TextLines)
+    → AlikeChains d.names n chain chain' → AreTextLines d path p chain lines t → AreTextLines (with_names d n) path p chain' lines u
+    → OneGiven d.names n t u
+unfolding AreTextLines
+one_lines d n path p chain chain' [] t u same (k, a, b, i, e) (k', a', b', i', e') =
+    let o = one_line_read d n (content_at d p) k k' a a' b b' i i' in
+    given_alike d.names n t u (add_tokens chain k) (add_tokens chain' k') a a' [] e e' o.1 (tokens_alike d.names n chain chain' k k' same o.0)
+one_lines d n path p chain chain' (line ∷ lines) t u same (k, a, b, i, inl (h, e)) (k', a', b', i', inl (h', e')) =
+    let o = one_line_read d n (content_at d p) k k' a a' b b' i i' in
+    given_alike d.names n t u (add_tokens chain k) (add_tokens chain' k') a a' (line ∷ lines) e e' o.1 (tokens_alike d.names n chain chain' k k' same o.0)
+one_lines d n path p chain chain' (line ∷ lines) t u same (k, a, b, i, inl (h, e)) (k', a', b', i', inr (h', more)) = absurd (true≢false (sym h ∙ h'))
+one_lines d n path p chain chain' (line ∷ lines) t u same (k, a, b, i, inr (h, more)) (k', a', b', i', inl (h', e')) = absurd (true≢false (sym h' ∙ h))
+one_lines d n path p chain chain' (line ∷ lines) t u same (k, a, b, i, inr (h, more)) (k', a', b', i', inr (h', more')) =
+    let o = one_line_read d n (content_at d p) k k' a a' b b' i i' in
+    let next : MathBraces → Spot = λ z. spot (offset (unindented (at_rest line (front path line.rest)))) z in
+    let free : IfSome a.1 HasNoIndex = break_each IsWithoutIndex refl (λ by_backslash. refl) d.names.texts (content_at d p) k a i in
+    let alike = break_alike d.names n a.1 (add_tokens chain k) (add_tokens chain' k') free (tokens_alike d.names n chain chain' k k' same o.0) in
+    one_lines d n path (next b) (add_break a.1 (add_tokens chain k)) (add_break a.1 (add_tokens chain' k')) lines t u alike more
+    (subst (λ (z : ℕ × Option Item). AreTextLines (with_names d n) path (next b) (add_break z.1 (add_tokens chain' k')) lines u) (sym o.1)
+    (subst (λ z. AreTextLines (with_names d n) path (next z) (add_break a'.1 (add_tokens chain' k')) lines u) (sym o.2) more'))
+
+-- an ATX heading has one chain, apart from indices, and one end
+pub one_heading : (d : Document) (n : Names) (start : ℕ) (i i' : Option HeadingIndex) (c c' : List Item) (e e' : ℕ) → IsHeading d start i c e
+    → IsHeading (with_names d n) start i' c' e' → AlikeChains d.names n c c' × (e ≡ e')
+one_heading d n start i i' c c' e e' h h' =
+    let o = one_line_read d n (heading_content d start) h.tokens h'.tokens h.answer h'.answer h.after h'.after h.line h'.line in
+    let kept : ℕ = kept_len (before_attributes d.options (line_bytes d start)) in
+    let given : List Item = heading_chain kept start (close_break h.answer.1 (add_tokens [] h'.tokens)) in
+    let other : c' ≡ given =
+    h'.chain_is ∙ ap (λ (z : ℕ × Option Item). heading_chain kept start (close_break z.1 (add_tokens [] h'.tokens))) (sym o.1) in
+    let alike : AlikeChains d.names n (heading_chain kept start (close_break h.answer.1 (add_tokens [] h.tokens))) given =
+    heading_chain_alike d.names n kept start (close_break h.answer.1 (add_tokens [] h.tokens)) (close_break h.answer.1 (add_tokens [] h'.tokens))
+    (close_alike d.names n h.answer.1 (add_tokens [] h.tokens) (add_tokens [] h'.tokens) (tokens_alike d.names n [] [] h.tokens h'.tokens refl o.0)) in
+    let one : List Item = heading_chain kept start (close_break h.answer.1 (add_tokens [] h.tokens)) in (
+      subst (λ z. AlikeChains d.names n z c') (sym h.chain_is) (subst (λ z. AlikeChains d.names n one z) (sym other) alike),
+      h.end_is ∙ sym h'.end_is,
+    )

@@ -1,0 +1,52 @@
+-- The header row of a table is filled with no cells.
+use Rattle.std.proofs.Common.{◌≡◌, ℕ, ◌-◌, ◌==◌, ◌&&◌, not, Bool, true, false, List, length}
+use Rattle.std.proofs.Common.{Option, Some, None, refl, sym, ap, ◌∙◌, arith, if◌then◌else◌}
+use Rattle.std.specs.Option.{option_and_then}
+use Rattle.std.proofs.lemmas.Bool.{eqb-true}
+use Rattle.std.proofs.lemmas.Option.{none-some, same_Some}
+use Rattle.first_pass_items.specs.OptionWords.{has, tables}
+use Rattle.first_pass_items.specs.declared.item.Alignment.{Alignment}
+use Rattle.first_pass_items.specs.declared.item.Item.{Item}
+use Rattle.first_pass_lines.specs.Places.{Place, offset}
+use Rattle.first_pass_table_scan.specs.TableHead.{head_columns}
+use Rattle.first_pass_tokens.specs.Braces.{no_braces}
+use Rattle.first_pass_tokens.specs.LineTokens.{Spot, spot}
+use Rattle.first_pass_grammar.specs.declared.kind.Container.{Container}
+use Rattle.first_pass_grammar.specs.Leaves.{Document, around}
+use Rattle.first_pass_grammar.specs.TableHeads.{alignments_after, if_as_many, table_at, ends_in_backslash, headed_table}
+use Rattle.first_pass_grammar.specs.Tables.{AreCells, filled}
+use Rattle.first_pass_grammar.proofs.Sequences.PlacesKept.{IsAt}
+use Rattle.first_pass_grammar.proofs.WholeTables.WholeBlocks.{HeadsAreFull}
+use Rattle.first_pass_grammar.proofs.WholeTables.HeadCells.{head_has_cells}
+
+-- the columns of a table whose header row is the first line of a text
+as_many_by : (t : Bool) (columns : ℕ) (xs alignments : List Alignment) → (length xs == columns) ≡ t → (if t then Some xs else None) ≡ Some alignments
+    → length alignments ≡ columns
+as_many_by true columns xs alignments same e = ap length (sym (same_Some xs alignments e)) ∙ eqb-true (length xs) columns same
+as_many_by false columns xs alignments same e = absurd (none-some alignments e)
+
+table_columns : (columns : ℕ) (o : Option (List Alignment)) (alignments : List Alignment) → option_and_then (if_as_many columns) o ≡ Some alignments
+    → length alignments ≡ columns
+table_columns columns None alignments e = absurd (none-some alignments e)
+table_columns columns (Some xs) alignments e = as_many_by (length xs == columns) columns xs alignments refl e
+
+headed_by : (t s : Bool) (o : Option (List Alignment)) (alignments : List Alignment) → (if t && s then o else None) ≡ Some alignments
+    → (t ≡ true) × (o ≡ Some alignments)
+headed_by true true o alignments e = (refl, e)
+headed_by true false o alignments e = absurd (none-some alignments e)
+headed_by false s o alignments e = absurd (none-some alignments e)
+
+-- A header row is filled with no cells.
+pub head_is_full : (d : Document) (path : List Container) (p : Place) (alignments : List Alignment) (cells : List (List (ℕ × Item))) (to : Spot) → IsAt d.text p
+    → headed_table (around d path) p.rest.left ≡ Some alignments → AreCells d (spot (offset p) no_braces) cells to → filled (length alignments) cells ≡ 0
+unfolding headed_table table_at
+head_is_full d path p alignments cells to i e are =
+    let headed = headed_by (has d.options tables) (not (ends_in_backslash p.rest.left)) _ alignments e in
+    let columns = table_columns (head_columns p.rest.left) (alignments_after path p.rest.left) alignments headed.1 in
+    let least = head_has_cells d (spot (offset p) no_braces) cells to headed.0 are in
+    let here = ap (λ (bs : List ℕ). head_columns bs) i in
+    omega arith
+
+pub heads_are_full : (d : Document) → HeadsAreFull d
+heads_are_full d path p alignments lines t i e h =
+    (let none = head_is_full d path p alignments h.cells (spot h.head_end h.after) i e h.are_cells in omega arith)

@@ -1,0 +1,386 @@
+-- The marks of a table's nodes: each row has as many cells as there are columns, and the number of filled cells is
+-- limited.
+use Rattle.std.proofs.Common.{◌≡◌, inl, inr, ℕ, zero, suc, ◌+◌, ◌-◌, ◌<◌, ◌≤◌, ◌==◌, nat_lt, nat_le, Bool, true, false, List, ◌∷◌, ◌++◌, length, map, take}
+use Rattle.std.proofs.Common.{[]}
+use Rattle.std.proofs.Common.{drop, replicate, refl, sym, ap, ◌∙◌, arith, if◌then◌else◌}
+use Rattle.std.proofs.lemmas.Bool.{cases_lt, and_parts, eq-eqb, ne_eqb, leb-true, true≢false}
+use Rattle.std.proofs.lemmas.List.{append_assoc, append-nil, map-append, at_drop_all}
+use Rattle.first_pass_items.specs.declared.item.Alignment.{Alignment}
+use Rattle.first_pass_items.specs.declared.item.Item.{Item}
+use Rattle.first_pass_items.specs.declared.item.ItemBody.{ItemBody}
+use Rattle.first_pass_items.specs.declared.item.ItemBody.TheVariants.{Table, TableHead, TableRow, TableCell}
+use Rattle.first_pass_tree.specs.Forest.{at_depth, block_of}
+use Rattle.first_pass_lines.specs.Lines.{at_line_end}
+use Rattle.first_pass_lines.specs.Places.{Place, offset, start_of}
+use Rattle.first_pass_lines.proofs.LineFacts.{line_len-within}
+use Rattle.first_pass_tokens.specs.Braces.{MathBraces, no_braces}
+use Rattle.first_pass_tokens.specs.LineTokens.{Spot, spot, IsCell}
+use Rattle.first_pass_tokens.specs.TreeTokens.{leaves}
+use Rattle.first_pass_tokens.proofs.LineLemmas.{cell_ends}
+use Rattle.first_pass_grammar.specs.declared.kind.Container.{Container}
+use Rattle.first_pass_grammar.specs.Names.{Names}
+use Rattle.first_pass_grammar.specs.Leaves.{Document}
+use Rattle.first_pass_grammar.specs.Tables.{cell_content, cell_start, cell_text, cell_block, AreCells, filled, side_by_side, row_cells, row_block, Taken}
+use Rattle.first_pass_grammar.specs.Tables.{TableSoFar, table_so_far, AreRows, most_filled, IsTable}
+use Rattle.first_pass_grammar.specs.WholeTables.{Mark, ATable, ARow, ACell, shown, marks, RowCells, row_marks, TableRows, table_marks, how_often, filled_in}
+use Rattle.first_pass_grammar.specs.WholeTables.{StartApart, HaveCells, AreFull, AreWholeTables}
+use Rattle.first_pass_grammar.proofs.Count.RowsWithRoom.{with_row, RowsWithRoom, counted}
+use Rattle.first_pass_grammar.proofs.Each.EachToken.{AreEach, HoldsOfTokens, HoldsOfRaw, cell_each}
+use Rattle.first_pass_grammar.proofs.Order.RowEnds.{row_ends_its_line, next_starts_later}
+use Rattle.first_pass_grammar.proofs.WholeTables.TableRows.{as_many_cells}
+use Rattle.first_pass_tokens.proofs.PieceFacts.{is_markup}
+use Rattle.first_pass_items.specs.declared.cow_str.CowStr.{CowStr}
+use Rattle.first_pass_grammar.proofs.Names.TokensNamed.{NamesWithin}
+use Rattle.first_pass_items.specs.declared.item.ItemBody.TheVariants.{MaybeEmphasis, MaybeMath, MaybeSmartQuote, SynthesizeChar, SynthesizeText, Text}
+use Rattle.first_pass_items.specs.declared.item.ItemBody.TheVariants.{MaybeCode, MaybeHtml, MaybeLinkOpen, MaybeLinkClose, MaybeImage}
+use Rattle.first_pass_grammar.specs.WholeTables.{ShowsNothing}
+
+-- more nodes, and nodes at another depth
+pub marks-append : (names : Names) (nodes more : List (ℕ × Item)) → marks names (nodes ++ more) ≡ marks names nodes ++ marks names more
+unfolding marks
+marks-append names [] more = refl
+marks-append names (n ∷ nodes) more =
+    let first = shown names n.0 n.1.start n.1.«end» n.1.body in
+    ap (λ (z : List Mark). first ++ z) (marks-append names nodes more) ∙ sym (append_assoc first (marks names nodes) (marks names more))
+
+-- a mark, this much deeper
+abbrev pub mark_deeper : ℕ → Mark → Mark
+mark_deeper d (ATable depth columns) = ATable (d + depth) columns
+mark_deeper d (ARow depth «end») = ARow (d + depth) «end»
+mark_deeper d (ACell depth start) = ACell (d + depth) start
+
+shown_deeper : (names : Names) (d depth start «end» : ℕ) (b : ItemBody)
+    → shown names (d + depth) start «end» b ≡ map (mark_deeper d) (shown names depth start «end» b)
+shown_deeper names d depth start end (Table ix) = refl
+shown_deeper names d depth start end TableHead = refl
+shown_deeper names d depth start end TableRow = refl
+shown_deeper names d depth start end TableCell = refl
+shown_deeper names d depth start end b = refl
+
+pub marks-at_depth : (names : Names) (d : ℕ) (nodes : List (ℕ × Item)) → marks names (at_depth d nodes) ≡ map (mark_deeper d) (marks names nodes)
+unfolding marks
+marks-at_depth names d [] = refl
+marks-at_depth names d (n ∷ nodes) =
+    let first = shown names n.0 n.1.start n.1.«end» n.1.body in
+    ap (λ (z : List Mark). z ++ marks names (at_depth d nodes)) (shown_deeper names d n.0 n.1.start n.1.«end» n.1.body)
+    ∙ ap (λ (z : List Mark). map (mark_deeper d) first ++ z) (marks-at_depth names d nodes)
+    ∙ sym (map-append (mark_deeper d) first (marks names nodes))
+
+-- cells, rows and tables, this much deeper
+cells_deeper : (d depth : ℕ) (starts : List ℕ) → map (mark_deeper d) (map (ACell depth) starts) ≡ map (ACell (d + depth)) starts
+cells_deeper d depth [] = refl
+cells_deeper d depth (start ∷ starts) = ap (λ (z : List Mark). ACell (d + depth) start ∷ z) (cells_deeper d depth starts)
+
+rows_deeper : (d depth : ℕ) (rows : List RowCells) → map (mark_deeper d) (row_marks depth rows) ≡ row_marks (d + depth) rows
+unfolding row_marks
+rows_deeper d depth [] = refl
+rows_deeper d depth (row ∷ rows) =
+    let one : d + suc depth ≡ suc (d + depth) = omega arith in
+    map-append (mark_deeper d) (ARow depth row.«end» ∷ map (ACell (suc depth)) row.starts) (row_marks depth rows)
+    ∙ ap (λ (z : List Mark). (ARow (d + depth) row.«end» ∷ z) ++ map (mark_deeper d) (row_marks depth rows))
+    (cells_deeper d (suc depth) row.starts ∙ ap (λ k. map (ACell k) row.starts) one)
+    ∙ ap (λ (z : List Mark). (ARow (d + depth) row.«end» ∷ map (ACell (suc (d + depth))) row.starts) ++ z) (rows_deeper d depth rows)
+
+abbrev pub table_deeper : ℕ → TableRows → TableRows
+table_deeper d table = record { depth = d + table.depth; columns = table.columns; rows = table.rows }
+
+tables_deeper : (d : ℕ) (tables : List TableRows) → map (mark_deeper d) (table_marks tables) ≡ table_marks (map (table_deeper d) tables)
+unfolding table_marks
+tables_deeper d [] = refl
+tables_deeper d (table ∷ tables) =
+    let one : d + suc table.depth ≡ suc (d + table.depth) = omega arith in
+    map-append (mark_deeper d) (ATable table.depth table.columns ∷ row_marks (suc table.depth) table.rows) (table_marks tables)
+    ∙ ap (λ (z : List Mark). (ATable (d + table.depth) table.columns ∷ z) ++ map (mark_deeper d) (table_marks tables))
+    (rows_deeper d (suc table.depth) table.rows ∙ ap (λ k. row_marks k table.rows) one)
+    ∙ ap (λ (z : List Mark). (ATable (d + table.depth) table.columns ∷ row_marks (suc (d + table.depth)) table.rows) ++ z) (tables_deeper d tables)
+
+full_deeper : (d : ℕ) (tables : List TableRows) → AreFull tables → AreFull (map (table_deeper d) tables)
+unfolding AreFull
+full_deeper d [] h = h
+full_deeper d (table ∷ tables) h = (h.0, h.1, full_deeper d tables h.2)
+
+pub whole_deeper : (names : Names) (d : ℕ) (nodes : List (ℕ × Item)) → AreWholeTables names nodes → AreWholeTables names (at_depth d nodes)
+unfolding AreWholeTables
+whole_deeper names d nodes (tables, is, full) = (
+  map (table_deeper d) tables,
+  marks-at_depth names d nodes ∙ ap (map (mark_deeper d)) is ∙ tables_deeper d tables,
+  full_deeper d tables full,
+)
+
+markup_shows : (texts : List CowStr) (body : ItemBody) → is_markup body ≡ true → NamesWithin texts body → ShowsNothing body
+markup_shows texts (MaybeEmphasis left opens closes) h k = λ names depth start end. refl
+markup_shows texts (MaybeMath opens closes context) h k = λ names depth start end. refl
+markup_shows texts (MaybeSmartQuote quote opens closes) h k = λ names depth start end. refl
+markup_shows texts (SynthesizeChar c) h k = λ names depth start end. refl
+markup_shows texts (SynthesizeText ix) h k = λ names depth start end. refl
+markup_shows texts (MaybeCode n escaped) h k = λ names depth start end. refl
+markup_shows texts MaybeHtml h k = λ names depth start end. refl
+markup_shows texts MaybeLinkOpen h k = λ names depth start end. refl
+markup_shows texts (MaybeLinkClose b) h k = λ names depth start end. refl
+markup_shows texts MaybeImage h k = λ names depth start end. refl
+markup_shows texts _ h k = absurd (true≢false (sym h))
+
+pub text_shows : (escaped : Bool) → ShowsNothing (Text escaped)
+text_shows escaped = λ names depth start end. refl
+
+pub tokens_show : (texts : List CowStr) → HoldsOfTokens texts ShowsNothing
+tokens_show texts =
+    record {
+      text = text_shows;
+      soft = λ names depth start end. refl;
+      hard = λ by_backslash names depth start end. refl;
+      markup = markup_shows texts;
+    }
+
+pub raw_shows : HoldsOfRaw ShowsNothing
+raw_shows = record { html = λ names depth start end. refl; columns = λ ix names depth start end. refl }
+
+pub leaves_show : (names : Names) (chain : List Item) → AreEach ShowsNothing chain → marks names (leaves chain) ≡ []
+unfolding marks
+leaves_show names [] h = refl
+leaves_show names (x ∷ chain) h = rw (h.0 names 0 x.start x.«end», leaves_show names chain h.1) refl
+
+-- a block whose first node is no part of a table, with a chain of such nodes
+pub block_shows : (names : Names) (x : Item) (chain : List Item) → ShowsNothing x.body → AreEach ShowsNothing chain
+    → marks names (block_of x (leaves chain)) ≡ []
+unfolding marks
+block_shows names x chain own h =
+    ap (λ (z : List Mark). z ++ marks names (at_depth 1 (leaves chain))) (own names 0 x.start x.«end»)
+    ∙ marks-at_depth names 1 (leaves chain) ∙ ap (map (mark_deeper 1)) (leaves_show names chain h)
+
+-- The marks of these blocks are cells that start at these offsets.
+unfoldable pub ShowCells : Names → List (List (ℕ × Item)) → List ℕ → Type 0
+ShowCells names [] [] = Unit {0}
+ShowCells names (block ∷ blocks) (start ∷ starts) = (marks names block ≡ ACell 0 start ∷ []) × ShowCells names blocks starts
+ShowCells names _ _ = ⊥
+
+first_show : (names : Names) (n : ℕ) (blocks : List (List (ℕ × Item))) (starts : List ℕ) → ShowCells names blocks starts
+    → ShowCells names (take n blocks) (take n starts)
+unfolding ShowCells
+first_show names zero blocks starts h = tt
+first_show names (suc n) [] [] h = tt
+first_show names (suc n) [] (start ∷ starts) h = absurd h
+first_show names (suc n) (block ∷ blocks) [] h = absurd h
+first_show names (suc n) (block ∷ blocks) (start ∷ starts) h = (h.0, first_show names n blocks starts h.1)
+
+copies_show : (names : Names) (n : ℕ) (block : List (ℕ × Item)) (start : ℕ) → marks names block ≡ ACell 0 start ∷ []
+    → ShowCells names (replicate n block) (replicate n start)
+unfolding ShowCells
+copies_show names zero block start h = tt
+copies_show names (suc n) block start h = (h, copies_show names n block start h)
+
+both_show : (names : Names) (xs ys : List (List (ℕ × Item))) (ss ts : List ℕ) → ShowCells names xs ss → ShowCells names ys ts
+    → ShowCells names (xs ++ ys) (ss ++ ts)
+unfolding ShowCells
+both_show names [] ys [] ts h k = k
+both_show names [] ys (s ∷ ss) ts h k = absurd h
+both_show names (x ∷ xs) ys [] ts h k = absurd h
+both_show names (x ∷ xs) ys (s ∷ ss) ts h k = (h.0, both_show names xs ys ss ts h.1 k)
+
+side_shows : (names : Names) (blocks : List (List (ℕ × Item))) (starts : List ℕ) → ShowCells names blocks starts
+    → (marks names (side_by_side blocks) ≡ map (ACell 0) starts) × (length starts ≡ length blocks)
+unfolding ShowCells marks
+side_shows names [] [] h = (refl, refl)
+side_shows names [] (start ∷ starts) h = absurd h
+side_shows names (block ∷ blocks) [] h = absurd h
+side_shows names (block ∷ blocks) (start ∷ starts) h =
+    let rest = side_shows names blocks starts h.1 in
+    let own = h.0 in
+    let both = marks-append names block (side_by_side blocks) in
+    (both ∙ ap (λ (z : List Mark). z ++ marks names (side_by_side blocks)) own ∙ ap (λ (z : List Mark). ACell 0 start ∷ z) rest.0, ap suc rest.1)
+
+-- these offsets are in ascending order, from one offset on and before another
+unfoldable AreBetween : ℕ → ℕ → List ℕ → Type 0
+AreBetween from «end» [] = Unit {0}
+AreBetween from «end» (start ∷ starts) = (from ≤ start) × (start < «end») × AreBetween (suc start) «end» starts
+
+later_between : (low from end : ℕ) (starts : List ℕ) → low ≤ from → AreBetween from end starts → AreBetween low end starts
+unfolding AreBetween
+later_between low from end [] le h = tt
+later_between low from end (start ∷ starts) le h = (let first = h.0 in omega arith, h.1, h.2)
+
+first_between : (from end n : ℕ) (starts : List ℕ) → AreBetween from end starts → AreBetween from end (take n starts)
+unfolding AreBetween
+first_between from end zero starts h = tt
+first_between from end (suc n) [] h = tt
+first_between from end (suc n) (start ∷ starts) h = (h.0, h.1, first_between (suc start) end n starts h.2)
+
+never : (from end : ℕ) (starts : List ℕ) → AreBetween from end starts → how_often end starts ≡ 0
+unfolding AreBetween how_often
+never from end [] h = refl
+never from end (start ∷ starts) h =
+    let rest = never (suc start) end starts h.2 in
+    let low = h.1 in
+    let other : (start == end) ≡ false = ne_eqb start end (λ same. omega arith) in
+    rw (other, rest) refl
+
+-- they start apart, and so they do with copies of the end after them
+copies_apart : (end start n : ℕ) → StartApart end (start ∷ replicate n end)
+unfolding StartApart
+copies_apart end start zero = tt
+copies_apart end start (suc n) = (inr refl, copies_apart end end n)
+
+after_apart : (end start n : ℕ) (starts : List ℕ) → AreBetween (suc start) end starts → StartApart end (start ∷ (starts ++ replicate n end))
+unfolding AreBetween StartApart
+after_apart end start n [] h = copies_apart end start n
+after_apart end start n (next ∷ starts) h = (let later = h.0 in inl (omega arith), after_apart end next n starts h.2)
+
+all_apart : (from end n : ℕ) (starts : List ℕ) → AreBetween from end starts → StartApart end (starts ++ replicate n end)
+unfolding AreBetween StartApart
+all_apart from end zero [] h = tt
+all_apart from end (suc n) [] h = copies_apart end end n
+all_apart from end n (start ∷ starts) h = after_apart end start n starts h.2
+
+always : (end n : ℕ) → how_often end (replicate n end) ≡ n
+unfolding how_often
+always end zero = refl
+always end (suc n) = (let rest = always end n in let same = eq-eqb end end refl in rw same (omega arith))
+
+often_both : (end : ℕ) (xs ys : List ℕ) → how_often end (xs ++ ys) ≡ how_often end xs + how_often end ys
+unfolding how_often
+often_both end [] ys = omega arith
+often_both end (x ∷ xs) ys = (let rest = often_both end xs ys in omega arith)
+
+-- a written cell starts before the end of its row
+
+written_before : (d : Document) (p : Spot) (tokens : List Item) (stop : Spot) (cells : List (List (ℕ × Item))) (to : Spot)
+    → at_line_end (drop (cell_text d.text p.at) d.text) ≡ false
+    → IsCell d.names.texts (cell_content d (spot (cell_text d.text p.at) p.braces)) tokens stop.at stop.braces → AreCells d stop cells to
+    → (cell_start d.text p.at < to.at) × (stop.at ≤ length d.text) × (cell_text d.text p.at ≤ stop.at)
+written_before d p tokens stop cells to on cell more =
+    elim (cases_lt (cell_text d.text p.at) (length d.text)) [
+      | inl inside ↦
+          let ends = cell_ends (omega arith) cell in
+          let from : cell_text d.text p.at ≤ stop.at = ends.from in
+          let within : stop.at ≤ length d.text = ends.within in
+          let line = row_ends_its_line d stop cells to within more in (
+            elim (cases_lt stop.at (length d.text)) [
+              | inl short ↦ (let some = (line_len-within d.text stop.at short).0 in omega arith)
+              | inr all ↦ omega arith
+            ],
+            within,
+            from,
+          )
+      | inr past ↦ absurd (true≢false (sym (at_drop_all (λ (bs : List ℕ). at_line_end bs) d.text (cell_text d.text p.at) past) ∙ on))
+    ]
+
+-- the marks of a row's cells have their starts
+cell_shows : {after : MathBraces} (d : Document) (p : Spot) (start : ℕ) (tokens : List Item) (stop : ℕ)
+    → IsCell d.names.texts (cell_content d p) tokens stop after
+    → marks d.names (cell_block start stop tokens) ≡ ACell 0 start ∷ []
+unfolding marks
+cell_shows d p start tokens stop h =
+    ap (λ (z : List Mark). ACell 0 start ∷ z)
+    (marks-at_depth d.names 1 (leaves tokens)
+    ∙ ap (map (mark_deeper 1)) (leaves_show d.names tokens (cell_each d.names.texts ShowsNothing (tokens_show d.names.texts) (cell_content d p) tokens stop h)))
+
+cells_show : (d : Document) (p : Spot) (cells : List (List (ℕ × Item))) (to : Spot) → AreCells d p cells to
+    → (starts : List ℕ) × ShowCells d.names cells starts × AreBetween (cell_start d.text p.at) to.at starts
+unfolding AreCells ShowCells AreBetween
+cells_show d p [] to h = ([], tt, tt)
+cells_show d p (cell ∷ cells) to (on, tokens, stop, is, e, more) =
+    let rest = cells_show d stop cells to more in
+    let here = written_before d p tokens stop cells to on is more in
+    let own = cell_shows d (spot (cell_text d.text p.at) p.braces) (cell_start d.text p.at) tokens stop.at is in
+    let later = next_starts_later d p tokens stop.at on here.2 is in (
+      cell_start d.text p.at ∷ rest.0,
+      (ap (marks d.names) e ∙ own, rest.1),
+      (omega arith, here.0, later_between (suc (cell_start d.text p.at)) (cell_start d.text stop.at) to.at rest.0 (omega arith) rest.2),
+    )
+
+filled_shows : (names : Names) («end» : ℕ) → marks names (cell_block «end» «end» []) ≡ ACell 0 «end» ∷ []
+unfolding marks
+filled_shows names end = refl
+
+-- the marks of a row: its end, and as many cells as columns, of which the filled ones start at its end
+pub row_shows : (d : Document) (body : ItemBody) (columns : ℕ) (p : Spot) (cells : List (List (ℕ × Item))) (to : Spot)
+    → shown d.names 0 p.at to.at body ≡ ARow 0 to.at ∷ [] → AreCells d p cells to
+    → (starts : List ℕ) × (marks d.names (row_block body columns p.at cells to.at) ≡ ARow 0 to.at ∷ map (ACell 1) starts)
+    × (length starts ≡ columns) × StartApart to.at starts × (how_often to.at starts ≡ filled columns cells)
+unfolding marks
+row_shows d body columns p cells to own are =
+    let (starts, show, before) = cells_show d p cells to are in
+    let end : ℕ = to.at in
+    let n : ℕ = filled columns cells in
+    let both = both_show d.names (take columns cells) (replicate n (cell_block end end [])) (take columns starts) (replicate n end)
+    (first_show d.names columns cells starts show) (copies_show d.names n (cell_block end end []) end (filled_shows d.names end)) in
+    let all = side_shows d.names (take columns cells ++ replicate n (cell_block end end [])) (take columns starts ++ replicate n end) both in
+    let from : ℕ = cell_start d.text p.at in
+    let first = first_between from end columns starts before in
+    let none = never from end (take columns starts) first in
+    let last = always end n in
+    let sum = often_both end (take columns starts) (replicate n end) in (
+      take columns starts ++ replicate n end,
+      ap (λ (z : List Mark). z ++ marks d.names (at_depth 1 (row_cells columns cells end))) own
+          ∙ ap (λ (z : List Mark). ARow 0 end ∷ z)
+          (marks-at_depth d.names 1 (row_cells columns cells end) ∙ ap (map (mark_deeper 1)) all.0
+          ∙ cells_deeper 1 0 (take columns starts ++ replicate n end)),
+      all.1 ∙ as_many_cells columns cells end,
+      all_apart from end n (take columns starts) first,
+      omega arith,
+    )
+
+-- the marks of the rows of a table body
+none_over : (d : Document) (columns : ℕ) (items : List (ℕ × Item)) → items ≡ [] → (most : ℕ)
+    → (rows : List RowCells) × (marks d.names items ≡ row_marks 0 rows) × HaveCells columns rows × (filled_in rows ≤ most)
+unfolding marks row_marks HaveCells filled_in
+none_over d columns items e most = ([], ap (marks d.names) e, tt, omega arith)
+
+one_over : (d : Document) (columns most : ℕ) (first more items : List (ℕ × Item)) (row : RowCells) (rows : List RowCells) → items ≡ first ++ more
+    → marks d.names first ≡ ARow 0 row.«end» ∷ map (ACell 1) row.starts → (length row.starts ≡ columns) × StartApart row.«end» row.starts
+    → marks d.names more ≡ row_marks 0 rows → HaveCells columns rows
+    → how_often row.«end» row.starts + filled_in rows ≤ most
+    → (rows : List RowCells) × (marks d.names items ≡ row_marks 0 rows) × HaveCells columns rows × (filled_in rows ≤ most)
+unfolding row_marks HaveCells filled_in
+one_over d columns most first more items row rows e show size these have node_bound = (
+  row ∷ rows,
+  ap (marks d.names) e ∙ marks-append d.names first more ∙ ap (λ (z : List Mark). z ++ marks d.names more) show
+      ∙ ap (λ (z : List Mark). (ARow 0 row.«end» ∷ map (ACell 1) row.starts) ++ z) these,
+  (size.0, size.1, have),
+  node_bound,
+)
+
+counted_show : (d : Document) (path : List Container) (table : TableSoFar) (lines : List Place) (t : Taken) → RowsWithRoom d path table lines t
+    → (rows : List RowCells) × (marks d.names t.items ≡ row_marks 0 rows) × HaveCells table.columns rows × (filled_in rows ≤ table.room)
+unfolding RowsWithRoom
+counted_show d path table [] t e = none_over d table.columns t.items (ap (λ (z : Taken). z.items) e) table.room
+counted_show d path table (line ∷ lines) t (inl (none, e)) = none_over d table.columns t.items (ap (λ (z : Taken). z.items) e) table.room
+counted_show d path table (line ∷ lines) t (inr (row, has, inl (stops, e))) =
+    none_over d table.columns t.items (ap (λ (z : Taken). z.items) e) table.room
+counted_show d path table (line ∷ lines) t (inr (row, has, inr (is, more, rest, e))) =
+    let n : ℕ = filled table.columns row.cells in
+    let (starts, show, size, apart, often) =
+    row_shows d TableRow table.columns (spot row.start table.braces) row.cells (spot row.row_end row.after) refl has.are_cells in
+    let (rows, these, have, node_bound) = counted_show d path (with_row table row) lines more rest in
+    let fits = leb-true n table.room (and_parts (nat_lt 0 (length row.cells)) (nat_le n table.room) is).1 in
+    one_over d table.columns table.room (row_block TableRow table.columns row.start row.cells row.row_end) more.items t.items
+    (record { «end» = row.row_end; starts = starts }) rows (ap (λ (z : Taken). z.items) e) show (size, apart) these have (omega arith)
+
+pub rows_show : (d : Document) (path : List Container) (table : TableSoFar) (lines : List Place) (t : Taken) → AreRows d path table lines t
+    → (rows : List RowCells) × (marks d.names t.items ≡ row_marks 0 rows) × HaveCells table.columns rows × (filled_in rows ≤ table.room)
+rows_show d path table lines t h = counted_show d path table lines t (counted d path table lines t h)
+
+-- The marks of a table are those of one table, which is whole if its header row needs no more filled cells than
+-- allowed.
+pub table_shows : (d : Document) (path : List Container) (p : Place) (alignments : List Alignment) (lines : List Place) (t : Taken)
+    → (h : IsTable d path p alignments lines t) → filled (length alignments) h.cells ≤ most_filled → AreWholeTables d.names t.items
+unfolding AreWholeTables marks row_marks table_marks HaveCells filled_in AreFull
+table_shows d path p alignments lines t h low =
+    let columns : ℕ = length alignments in
+    let (starts, show, size, apart, often) =
+    row_shows d TableHead columns (spot (offset p) no_braces) h.cells (spot h.head_end h.after) refl h.are_cells in
+    let (rows, these, have, node_bound) = rows_show d path (table_so_far columns (most_filled - filled columns h.cells) h.after) (drop 1 lines) _ h.are_rows in
+    let head : List (ℕ × Item) = row_block TableHead columns (offset p) h.cells h.head_end in
+    let first : RowCells = record { «end» = h.head_end; starts = starts } in
+    let count : shown d.names 0 (offset p) (start_of (length d.text) t.left) (Table h.index) ≡ ATable 0 columns ∷ [] = rw h.named refl in
+    let inside : marks d.names (at_depth 1 (head ++ h.body)) ≡ row_marks 1 (first ∷ rows) =
+    marks-at_depth d.names 1 (head ++ h.body)
+    ∙ ap (map (mark_deeper 1))
+    (marks-append d.names head h.body ∙ ap (λ (z : List Mark). z ++ marks d.names h.body) show
+    ∙ ap (λ (z : List Mark). (ARow 0 h.head_end ∷ map (ACell 1) starts) ++ z) these)
+    ∙ rows_deeper 1 0 (first ∷ rows) in (
+      record { depth = 0; columns = columns; rows = first ∷ rows } ∷ [],
+      ap (marks d.names) h.items_are ∙ ap (λ (z : List Mark). z ++ marks d.names (at_depth 1 (head ++ h.body))) count
+          ∙ ap (λ (z : List Mark). ATable 0 columns ∷ z) (inside ∙ sym (append-nil (row_marks 1 (first ∷ rows)))),
+      ((size, apart, have), omega arith, tt),
+    )

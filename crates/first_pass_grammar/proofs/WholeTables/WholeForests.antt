@@ -1,0 +1,119 @@
+-- The tables of a derived tree are whole.
+use Rattle.std.proofs.Common.{◌≡◌, ℕ, suc, ◌==◌, Bool, true, false, List, [], ◌∷◌, ◌++◌, length, map, refl, sym, ap, subst, ◌∙◌, if◌then◌else◌}
+use Rattle.std.proofs.lemmas.List.{append_assoc}
+use Rattle.first_pass_items.specs.declared.item.Item.{Item}
+use Rattle.first_pass_items.specs.declared.item.ItemBody.{ItemBody}
+use Rattle.first_pass_items.specs.declared.item.ItemBody.TheVariants.{Paragraph as ParagraphBody}
+use Rattle.first_pass_tree.specs.Forest.{at_depth}
+use Rattle.first_pass_tree.specs.Tight.{tight_body, tightened}
+use Rattle.first_pass_lines.specs.Places.{lines_at}
+use Rattle.first_pass_grammar.specs.Names.{Names}
+use Rattle.first_pass_grammar.specs.Leaves.{Document}
+use Rattle.first_pass_grammar.specs.Skeleton.{Line, level, Lines}
+use Rattle.first_pass_grammar.specs.Before.{nothing}
+use Rattle.first_pass_grammar.specs.Rows.{What, ALeaf, AQuote, AList, AnItem, Rows, End, OneOf, is_loose}
+use Rattle.first_pass_grammar.specs.Rows.{ADefinitionList, ATitle, ADefinition}
+use Rattle.first_pass_grammar.specs.Before.{is_paragraph_body, begins_paragraph}
+use Rattle.first_pass_grammar.specs.Derivation.{as_title}
+use Rattle.first_pass_items.specs.declared.item.ItemBody.TheVariants.{DefinitionListTitle}
+use Rattle.first_pass_grammar.specs.Rows.{rows_of, AFootnote}
+use Rattle.first_pass_grammar.specs.Derivation.{row_items, tight_in, items_of, Tables, root_of, Derives}
+use Rattle.first_pass_grammar.specs.WholeTables.{Mark, ATable, shown, marks, row_marks, TableRows, table_marks, AreFull, AreWholeTables}
+use Rattle.first_pass_grammar.proofs.Each.EachRow.{HoldsOfRow, HoldsOfEachRow, each_row}
+use Rattle.first_pass_grammar.proofs.WholeTables.FullHeads.{heads_are_full}
+use Rattle.first_pass_grammar.proofs.Sequences.LinesLeft.{lines_are_at}
+use Rattle.first_pass_grammar.proofs.WholeTables.TableMarks.{marks-append, whole_deeper}
+use Rattle.first_pass_grammar.proofs.WholeTables.WholeBlocks.{whole_none, sequence_whole}
+
+-- whole tables after other whole tables
+pub table_marks-append : (a b : List TableRows) → table_marks (a ++ b) ≡ table_marks a ++ table_marks b
+unfolding table_marks
+table_marks-append [] b = refl
+table_marks-append (t ∷ a) b =
+    let first : List Mark = ATable t.depth t.columns ∷ row_marks (suc t.depth) t.rows in
+    ap (λ (z : List Mark). first ++ z) (table_marks-append a b) ∙ sym (append_assoc first (table_marks a) (table_marks b))
+
+both_full : (a b : List TableRows) → AreFull a → AreFull b → AreFull (a ++ b)
+unfolding AreFull
+both_full [] b h k = k
+both_full (t ∷ a) b h k = (h.0, h.1, both_full a b h.2 k)
+
+pub whole_both : (names : Names) (nodes more : List (ℕ × Item)) → AreWholeTables names nodes → AreWholeTables names more → AreWholeTables names (nodes ++ more)
+unfolding AreWholeTables
+whole_both names nodes more (a, e, h) (b, f, k) =
+    let first = ap (λ (z : List Mark). z ++ marks names more) e in
+    let second = ap (λ (z : List Mark). table_marks a ++ z) f in
+    (a ++ b, marks-append names nodes more ∙ first ∙ second ∙ sym (table_marks-append a b), both_full a b h k)
+
+-- nodes with the same marks
+pub whole_same : (names : Names) (nodes more : List (ℕ × Item)) → marks names more ≡ marks names nodes → AreWholeTables names nodes → AreWholeTables names more
+unfolding AreWholeTables
+whole_same names nodes more same (a, e, h) = (a, same ∙ e, h)
+
+-- tightening a paragraph does not change its marks
+pub tight_shows : (names : Names) (depth start «end» : ℕ) (b : ItemBody) → shown names depth start «end» (tight_body b) ≡ shown names depth start «end» b
+tight_shows names depth start end ParagraphBody = refl
+tight_shows names depth start end b = refl
+
+pub tight_by : (names : Names) (depth : ℕ) (t : Bool) (x : Item)
+    → (let y : Item = if t then record { start = x.start; «end» = x.«end»; body = tight_body x.body } else x in shown names depth y.start y.«end» y.body)
+    ≡ shown names depth x.start x.«end» x.body
+tight_by names depth true x = tight_shows names depth x.start x.«end» x.body
+tight_by names depth false x = refl
+
+pub marks-tightened : (names : Names) (depth : ℕ) (nodes : List (ℕ × Item)) → marks names (map (tightened depth) nodes) ≡ marks names nodes
+unfolding marks
+marks-tightened names depth [] = refl
+marks-tightened names depth (n ∷ nodes) =
+    ap (λ (z : List Mark). z ++ marks names (map (tightened depth) nodes)) (tight_by names n.0 (n.0 == depth) n.1)
+    ∙ ap (λ (z : List Mark). shown names n.0 n.1.start n.1.«end» n.1.body ++ z) (marks-tightened names depth nodes)
+
+-- the leaf blocks of rows have whole tables, or no part of a table
+abbrev pub WholeRows : Names → Rows → Type 0
+WholeRows names rows = HoldsOfEachRow (AreWholeTables names) rows
+
+-- a paragraph that becomes a title
+title_body : (names : Names) (depth start «end» : ℕ) (b : ItemBody) → is_paragraph_body b ≡ true
+    → shown names depth start «end» b ≡ shown names depth start «end» DefinitionListTitle
+title_body names depth start end ParagraphBody h = refl
+title_body names depth start end b h = cc
+
+title_marks : (names : Names) (items : List (ℕ × Item)) → begins_paragraph items ≡ true → marks names (as_title items) ≡ marks names items
+unfolding marks
+title_marks names [] h = refl
+title_marks names (x ∷ items) h = ap (λ z. z ++ marks names items) (sym (title_body names x.0 x.1.start x.1.«end» x.1.body h))
+
+-- the items of rows have whole tables too
+row_whole : (names : Names) (depth : ℕ) (tight loose : Bool) (start : ℕ) (w : What) (inner : Rows) → HoldsOfRow (AreWholeTables names) w inner
+    → AreWholeTables names (row_items depth tight loose start w)
+unfolding marks
+row_whole names depth true loose start (ALeaf block) inner h =
+    whole_same names (at_depth depth block.items) _ (marks-tightened names depth (at_depth depth block.items)) (whole_deeper names depth block.items h.0)
+row_whole names depth false loose start (ALeaf block) inner h = whole_deeper names depth block.items h.0
+row_whole names depth tight loose start (AQuote kind e) inner h = whole_none names _ refl
+row_whole names depth tight loose start (AList byte number e) inner h = whole_none names _ refl
+row_whole names depth tight loose start (AnItem columns e) inner h = whole_none names _ refl
+row_whole names depth tight loose start (AFootnote index e) inner h = whole_none names _ refl
+row_whole names depth tight loose start (ADefinitionList t e) inner h = whole_none names _ refl
+row_whole names depth tight loose start (ATitle block) inner h =
+    whole_deeper names depth (as_title block.items) (whole_same names block.items (as_title block.items) (title_marks names block.items h.2) h.0)
+row_whole names depth tight loose start (ADefinition columns e) inner h = whole_none names _ refl
+
+pub forest_whole : (names : Names) (depth : ℕ) (tight : Bool) (rows : Rows) → WholeRows names rows → AreWholeTables names (items_of depth tight rows)
+unfolding HoldsOfEachRow items_of marks
+forest_whole names depth tight End h = whole_none names [] refl
+forest_whole names depth tight (OneOf row inner next) h =
+    whole_both names (row_items depth tight (is_loose inner) row.start row.what) _
+    (row_whole names depth tight (is_loose inner) row.start row.what inner h.0)
+    (whole_both names (items_of (suc depth) (tight_in tight (is_loose inner) row.what) inner) (items_of depth tight next)
+    (forest_whole names (suc depth) (tight_in tight (is_loose inner) row.what) inner h.1) (forest_whole names depth tight next h.2))
+
+-- The tables of a tree that a text derives are whole.
+pub derived_whole : (d : Document) (nodes : List (ℕ × Item)) (tables : Tables) → Derives d nodes tables → AreWholeTables d.names nodes
+unfolding marks
+derived_whole d nodes tables h =
+    let s = (sequence_whole d (heads_are_full d) h.skeleton (level [] nothing) Line (lines_at 0 d.text) (Lines []) tt (lines_are_at d.text) h.sequence).0 in
+    let rows = rows_of false nothing (length d.text) h.skeleton in
+    let all = forest_whole d.names 1 false rows (each_row (AreWholeTables d.names) false nothing (length d.text) h.skeleton s) in
+    subst (AreWholeTables d.names) (sym h.forest_is)
+    (whole_both d.names (root_of (length d.text) ∷ []) (items_of 1 false rows) (whole_none d.names (root_of (length d.text) ∷ []) refl) all)
