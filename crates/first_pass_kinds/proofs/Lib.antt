@@ -3,3 +3,4 @@ pub mod PlainKinds
 mod PlainLines
 mod FirstBytes
 mod MarkBytes
+mod NoHeads

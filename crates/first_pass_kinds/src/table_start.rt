@@ -1,9 +1,11 @@
 //! The lines that head a table (GFM 4.10).
 
-ghost use Rattle.std.specs.Prelude.{◌≡◌, ◌≤◌, ◌+◌, ◌==◌, length, drop, true, IfOk, IfSome, OnOk, OnErr, IsUtf8, IsCharBoundary};
+ghost use Rattle.std.specs.Prelude.{◌≡◌, ◌≤◌, ◌+◌, ◌==◌, ◌&&◌, ◌||◌, not, length, drop, true, IfOk, IfSome, OnOk, OnErr, IsUtf8, IsCharBoundary};
 ghost use Rattle.std.specs.List.{suffix_len};
 ghost use Rattle.std.specs.Option.{option_map};
-ghost use Rattle.first_pass_items.specs.Bytes.{backslash};
+ghost use Rattle.first_pass_items.specs.Bytes.{backslash, colon, pipe};
+ghost use Rattle.first_pass_lines.specs.Lines.{begins};
+ghost use Rattle.first_pass_lines.specs.Plain.{begins_inert};
 ghost use Rattle.first_pass_grammar.specs.TableHeads.{table_at, table_interrupts, ends_in_backslash, headed_table};
 ghost use Rattle.first_pass_open.specs.Path.{path_of, context_of};
 ghost use Rattle.first_pass_kinds.specs.Memory.{may_head};
@@ -12,7 +14,7 @@ ghost use Rattle.first_pass_kinds.specs.TableHeads.{table_head_len};
 use bitflags::Flags;
 use first_pass_items::item::{Alignment, Item};
 use first_pass_items::option_set::Options;
-use first_pass_lines::lines::{begins, content_len, scan_nextline};
+use first_pass_lines::lines::{begins, content_len, is_inert_front, scan_nextline};
 use first_pass_lines::places::rest_of;
 use first_pass_open::front::front_of;
 use first_pass_open::source::Source;
@@ -30,9 +32,18 @@ pub struct HeadedTable {
     pub table_head_len: usize,
 }
 
+// `true` only if the first line of `bytes` is no delimiter row in any container: its first byte is no space, tab, `>`,
+// bullet, digit, `|` or `:`.
+#[inline(always)]
+fn begins_no_row(bytes: &[u8]) -> bool
+    ensures { result ≡ (begins_inert bytes.now && not (begins pipe bytes.now || begins colon bytes.now)) }
+{
+    is_inert_front(bytes) && !matches!(bytes, [b'|' | b':', ..])
+}
+
 // The table whose header row is the first line of `bytes`. `bytes` is all the rest of the text. The alignments are
 // those of the delimiter row in the next line, if that line continues all open containers and the header row has as
-// many columns. The next line is tested first: after most lines of prose it does not begin like such a row.
+// many columns. The next line is tested first: most lines of prose begin like no such row.
 #[tactic(auto, unfolding(first_pass_grammar::specs::TableHeads::table_at))]
 fn scan_table_at(
     source: &Source<'_>,
@@ -46,6 +57,9 @@ fn scan_table_at(
 {
     let row_len = scan_nextline(bytes);
     let after = rest_of(bytes, row_len);
+    if begins_no_row(after) {
+        return Ok(None);
+    }
     let front = front_of(after, tree, source.options);
     if !front.continues_all {
         return Ok(None);

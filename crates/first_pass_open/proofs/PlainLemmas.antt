@@ -1,10 +1,14 @@
 -- If a plain byte is next, no container begins, and the indentation has no columns.
-use Rattle.std.proofs.Common.{◌≡◌, min, true, None, refl}
-use Rattle.first_pass_lines.specs.Rest.{Rest, indent}
+use Rattle.std.proofs.Common.{◌≡◌, ℕ, min, true, false, Bool, List, [], ◌∷◌, Option, Some, None, refl, sym, ap, ◌∙◌, if◌then◌else◌}
+use Rattle.std.specs.Option.{option_and_then}
+use Rattle.std.proofs.lemmas.Option.{none-some}
+use Rattle.first_pass_items.specs.declared.item.BlockQuoteKind.{BlockQuoteKind}
+use Rattle.first_pass_lines.specs.Rest.{Rest, indent, after_columns}
 use Rattle.first_pass_lines.specs.Plain.{begins_plain, begins_inert}
 use Rattle.first_pass_scan.proofs.PlainFacts.{plain_indent, plain_after, inert_indent, inert_after, inert_quote, inert_item}
-use Rattle.first_pass_grammar.specs.declared.kind.Container.TheVariants.{BlockQuote}
-use Rattle.first_pass_grammar.specs.Containers.{prefix}
+use Rattle.first_pass_grammar.specs.declared.kind.Container.{Container}
+use Rattle.first_pass_grammar.specs.declared.kind.Container.TheVariants.{BlockQuote, ListItem, FootnoteDefinition, Definition}
+use Rattle.first_pass_grammar.specs.Containers.{after, has_columns, or_shorter, prefix}
 use Rattle.first_pass_grammar.specs.Kinds.{all_taken, item_at}
 
 pub plain_all : (r : Rest) → r.owed ≡ 0 → begins_plain r.left ≡ true → all_taken r ≡ r
@@ -19,10 +23,36 @@ inert_all r o h = inert_after (indent r) r o h
 pub inert_few : (r : Rest) → r.owed ≡ 0 → begins_inert r.left ≡ true → 0 ≡ min 4 (indent r)
 inert_few r o h = rw (inert_indent r o h) refl
 
-pub inert_prefix : (r : Rest) → r.owed ≡ 0 → begins_inert r.left ≡ true → prefix (BlockQuote None) r ≡ None
+pub inert_prefix : (kind : Option BlockQuoteKind) (r : Rest) → r.owed ≡ 0 → begins_inert r.left ≡ true → prefix (BlockQuote kind) r ≡ None
 unfolding prefix
-inert_prefix r o h = rw (inert_after 3 r o h) (rw (inert_quote r o h) refl)
+inert_prefix kind r o h = rw (inert_after 3 r o h) (rw (inert_quote r o h) refl)
 
 pub inert_item_at : (r : Rest) → r.owed ≡ 0 → begins_inert r.left ≡ true → item_at r ≡ None
 unfolding item_at
 inert_item_at r o h = rw (inert_indent r o h) (rw (inert_item 0 r o h) refl)
+
+same_some : (r s q : Rest) → s ≡ r → Some s ≡ Some q → q ≡ r
+same_some r s q e is = sym (ap (λ o. or_shorter o r) is) ∙ e
+
+taken_if : (t : Bool) (r s q : Rest) → s ≡ r → (if t then Some s else None) ≡ Some q → q ≡ r
+taken_if true r s q e is = same_some r s q e is
+taken_if false r s q e is = absurd (none-some q is)
+
+-- a container that such a byte continues takes nothing
+inert_next : (c : Container) (r q : Rest) → r.owed ≡ 0 → begins_inert r.left ≡ true → prefix c r ≡ Some q → q ≡ r
+unfolding prefix
+inert_next (BlockQuote kind) r q o h is = absurd (none-some q (sym (inert_prefix kind r o h) ∙ is))
+inert_next (ListItem n) r q o h is = taken_if (has_columns n r) r (after_columns n r) q (inert_after n r o h) is
+inert_next (FootnoteDefinition n) r q o h is = taken_if (has_columns n r) r (after_columns n r) q (inert_after n r o h) is
+inert_next (Definition n) r q o h is = taken_if (has_columns n r) r (after_columns n r) q (inert_after n r o h) is
+
+inert_then : (c : Container) (o : Option Rest) (r q : Rest) → ((m : Rest) → o ≡ Some m → m ≡ r) → r.owed ≡ 0 → begins_inert r.left ≡ true
+    → option_and_then (prefix c) o ≡ Some q → q ≡ r
+inert_then c None r q same owed h is = absurd (none-some q is)
+inert_then c (Some m) r q same owed h is = inert_next c r q owed h (sym (ap (prefix c) (same m refl)) ∙ is)
+
+-- neither do the containers of a path
+pub inert_path : (path : List Container) (r q : Rest) → r.owed ≡ 0 → begins_inert r.left ≡ true → after path r ≡ Some q → q ≡ r
+unfolding after
+inert_path [] r q o h is = same_some r r q refl is
+inert_path (c ∷ path) r q o h is = inert_then c (after path r) r q (λ m e. inert_path path r m o h e) o h is

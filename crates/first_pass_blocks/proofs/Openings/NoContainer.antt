@@ -49,7 +49,7 @@ no_marker false p h = refl
 
 pub none_starts : (options : Options) (may : Bool) (p : Place) → BeginsNoContainer p.rest → start_at options may p ≡ None
 none_starts options may p h =
-    start_none options may p (inert_item_at p.rest h.owed h.inert) (no_marker may p h) (inert_prefix p.rest h.owed h.inert)
+    start_none options may p (inert_item_at p.rest h.owed h.inert) (no_marker may p h) (inert_prefix None p.rest h.owed h.inert)
 
 -- so a leaf block is there
 pub only_leaf : (source : Source) (r : PassState) (p : Place) (line : ℕ) → BeginsNoContainer p.rest → ReadsTo source line r r (InLine p) (LeafAt p)

@@ -1,4 +1,4 @@
-use Rattle.std.proofs.Common.{◌≡◌, refl, rules}
+use Rattle.std.proofs.Common.{◌≡◌, None, refl, rules}
 use Rattle.first_pass_grammar.specs.Containers.{prefix}
 use Rattle.first_pass_open.proofs.PlainLemmas.{inert_prefix}
 use Rattle.first_pass_open.proofs.containers.scan_quote.Goals as goal
@@ -7,7 +7,7 @@ use Rattle.first_pass_open.proofs.containers.scan_quote.Goals as goal
 pub returns-then-is_at_inert : goal.returns-then-is_at_inert
 returns-then-is_at_inert c =
     let same : c.scan_blockquote_marker.new.self ≡ c.args.line_start.now = search rules in
-    let none = inert_prefix c.scan_blockquote_marker.new.self (c.is_at_inert.ensures.owed c.if-is_at_inert.true)
+    let none = inert_prefix None c.scan_blockquote_marker.new.self (c.is_at_inert.ensures.owed c.if-is_at_inert.true)
     (c.is_at_inert.ensures.inert c.if-is_at_inert.true) in
     rw (← same) (rw none (refl, refl))
 

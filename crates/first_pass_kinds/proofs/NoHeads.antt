@@ -1,0 +1,54 @@
+-- The next line begins like no delimiter row: then the line before it heads no table.
+use Rattle.std.proofs.Common.{◌≡◌, ℕ, nat_le, ◌&&◌, ◌||◌, not, Bool, true, false, true≢false, List, [], ◌∷◌, drop, Option, Some, None}
+use Rattle.std.proofs.Common.{refl, sym, ap, ◌∙◌, arith}
+use Rattle.std.specs.Option.{option_and_then}
+use Rattle.std.proofs.lemmas.Bool.Decides.{nat_tests}
+use Rattle.first_pass_items.specs.Bytes.{hyphen, colon, pipe}
+use Rattle.first_pass_items.specs.declared.item.Alignment.{Alignment}
+use Rattle.first_pass_lines.specs.Lines.{begins, line_len}
+use Rattle.first_pass_lines.specs.Plain.{begins_inert, is_inert}
+use Rattle.first_pass_lines.specs.Places.{line_rest}
+use Rattle.first_pass_lines.specs.Rest.{Rest, after_columns, indent}
+use Rattle.first_pass_scan.proofs.PlainFacts.{inert_after, inert_indent}
+use Rattle.first_pass_table_scan.specs.TableHead.{delimiter_row_of, head_columns}
+use Rattle.first_pass_table_scan.proofs.DelimiterRows.{row_of-refused}
+use Rattle.first_pass_grammar.specs.declared.kind.Container.{Container}
+use Rattle.first_pass_grammar.specs.Containers.{after}
+use Rattle.first_pass_grammar.specs.TableHeads.{if_as_many, table_at}
+use Rattle.first_pass_open.proofs.PlainLemmas.{inert_path}
+
+no_hyphen : (bs : List ℕ) → begins_inert bs ≡ true → begins hyphen bs ≡ false
+unfolding is_inert
+no_hyphen [] h = refl
+no_hyphen (b ∷ bs) h = grind (arith, nat_tests, h)
+
+both_off : (s t : Bool) → not (s || t) ≡ true → (s ≡ false) × (t ≡ false)
+both_off true t h = absurd (true≢false (sym h))
+both_off false true h = absurd (true≢false (sym h))
+both_off false false h = (refl, refl)
+
+both_on : (s t : Bool) → (s && t) ≡ true → (s ≡ true) × (t ≡ true)
+both_on false t h = absurd (true≢false (sym h))
+both_on true t h = (refl, h)
+
+row_none : (r : Rest) → r.owed ≡ 0 → begins_inert r.left ≡ true → begins pipe r.left ≡ false → begins colon r.left ≡ false → None ≡ delimiter_row_of r
+row_none r owed inert no_pipe no_colon =
+    let look = ap (λ (q : Rest). begins pipe q.left || begins hyphen q.left || begins colon q.left) (inert_after 4 r owed inert)
+    ∙ rw (no_pipe, no_hyphen r.left inert, no_colon) refl in
+    row_of-refused r (after_columns 4 r) refl (ap (λ n. nat_le 4 n) (inert_indent r owed inert)) look
+
+row_by : (o : Option Rest) (r : Rest) → ((q : Rest) → o ≡ Some q → q ≡ r) → None ≡ delimiter_row_of r → option_and_then delimiter_row_of o ≡ None
+row_by None r same none = refl
+row_by (Some q) r same none = ap delimiter_row_of (same q refl) ∙ sym none
+
+pub no_head : (path : List Container) (bs next : List ℕ) → next ≡ drop (line_len bs) bs
+    → (begins_inert next && not (begins pipe next || begins colon next)) ≡ true
+    → table_at path bs ≡ None
+unfolding table_at
+no_head path bs next is h =
+    let r : Rest = line_rest next in
+    let on = both_on (begins_inert next) _ h in
+    let off = both_off (begins pipe next) (begins colon next) on.1 in
+    let none = row_by (after path r) r (λ q e. inert_path path r q refl on.0 e) (row_none r refl on.0 off.0 off.1) in
+    ap (λ (bytes : List ℕ). option_and_then (if_as_many (head_columns bs)) (option_and_then delimiter_row_of (after path (line_rest bytes)))) (sym is)
+    ∙ ap (option_and_then (if_as_many (head_columns bs))) none
