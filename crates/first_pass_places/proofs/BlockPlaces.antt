@@ -81,7 +81,7 @@ found_braces bs block e =
     }
 
 -- a part of a text, at a place
-part_at : (text : List ℕ) (start n k : ℕ) → k < n → slice_index (take n (drop start text)) k ≡ slice_index text (start + k)
+pub part_at : (text : List ℕ) (start n k : ℕ) → k < n → slice_index (take n (drop start text)) k ≡ slice_index text (start + k)
 part_at text start n k h = get_or-take n (drop start text) k 0 h ∙ get_or-drop start text k 0
 
 pub part_short : (text : List ℕ) (start n : ℕ) → length (take n (drop start text)) ≤ n

@@ -63,7 +63,11 @@ head_long : (prefix : List ℕ → Option ℕ) (bs : List ℕ) (head : ℕ × Li
 unfolding footnote_head
 head_long prefix bs head e = two_bytes bs (test_if (begins_footnote bs) _ head e)
 
-head_here : (around : Context) (p : Place) (head : ℕ × List ℕ) → footnote_head_at around p ≡ Some head
+pub head_begins : (prefix : List ℕ → Option ℕ) (bs : List ℕ) (head : ℕ × List ℕ) → footnote_head prefix false bs ≡ Some head → begins_footnote bs ≡ true
+unfolding footnote_head
+head_begins prefix bs head e = test_if (begins_footnote bs) _ head e
+
+pub head_here : (around : Context) (p : Place) (head : ℕ × List ℕ) → footnote_head_at around p ≡ Some head
     → footnote_head (footnote_prefix around) false (unindented p).rest.left ≡ Some head
 unfolding footnote_head_at
 head_here around p head e = some_if (has around.options footnotes && nat_lt (indent p.rest) 4) (footnote_at false around (unindented p).rest.left) head e

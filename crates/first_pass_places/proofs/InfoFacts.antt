@@ -47,7 +47,7 @@ info_bytes text start =
     ∙ first_bytes info rest (line_len rest) (length line - suffix_len is_ascii_white line) refl
 
 -- the length of an info string
-trimmed_length : (bs : List ℕ) → length (trimmed (take (line_len bs) bs)) ≡ line_len bs - suffix_len is_ascii_white (take (line_len bs) bs)
+pub trimmed_length : (bs : List ℕ) → length (trimmed (take (line_len bs) bs)) ≡ line_len bs - suffix_len is_ascii_white (take (line_len bs) bs)
 trimmed_length bs =
     let line : List ℕ = take (line_len bs) bs in
     let whole : length line ≡ line_len bs = length-take-le (line_len bs) bs (line_len-fits bs) in
@@ -76,7 +76,7 @@ info_found text start run white next trailing run_is white_is next_is trailing_i
     ∙ ap (λ n. range_of n (n + length (info_string (drop (fence_end text start) text)))) first
 
 -- a code fence is the run of its first byte
-begins_with : (c : ℕ) (bs : List ℕ) → begins c bs ≡ true → c ≡ slice_index bs 0
+pub begins_with : (c : ℕ) (bs : List ℕ) → begins c bs ≡ true → c ≡ slice_index bs 0
 begins_with c [] h = absurd (true≢false (sym h))
 begins_with c (b ∷ bs) h = sym (eqb-true b c h)
 

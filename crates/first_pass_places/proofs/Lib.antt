@@ -4,7 +4,11 @@ pub mod FootnotePlaces
 pub mod HeadingPlaces
 pub mod InfoFacts
 pub mod LabelPlaces
+pub mod MarkedBlocks
+pub mod MarkedNodes
 pub mod PrefixBytes
+pub mod RangeBoundaries
 pub mod SetextPlaces
 pub mod TokenBraces
+pub mod WordBoundaries
 pub mod WordPlaces

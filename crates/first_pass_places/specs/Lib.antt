@@ -4,3 +4,4 @@ pub mod FootnoteLabels
 pub mod FootnoteNodes
 pub mod InfoStrings
 pub mod NamePlaces
+pub mod RangeEnds

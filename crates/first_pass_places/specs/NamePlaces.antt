@@ -1,5 +1,5 @@
 -- The range in the text of what a node names by an index (this project).
-use Rattle.std.specs.Prelude.{◌≡◌, ℕ, ◌+◌, ◌-◌, false, List, [], ◌∷◌, drop, slice_get, Option, Some, None}
+use Rattle.std.specs.Prelude.{◌≡◌, ℕ, ◌+◌, ◌-◌, false, List, [], ◌∷◌, drop, slice_get, Option, Some, None, IsCharBoundary}
 use Rattle.std.specs.declared.ops.Range.{Range}
 use Rattle.first_pass_items.specs.declared.item.CowIndex.{CowIndex}
 use Rattle.first_pass_items.specs.declared.item.HeadingIndex.{HeadingIndex}
@@ -14,6 +14,7 @@ use Rattle.first_pass_grammar.specs.Names.{Names, NamesText}
 use Rattle.first_pass_places.specs.AttributeBlockPlaces.{attribute_range, block_range}
 use Rattle.first_pass_places.specs.FootnoteLabels.{label_range}
 use Rattle.first_pass_places.specs.InfoStrings.{bytes_in, info_range}
+use Rattle.first_pass_places.specs.RangeEnds.{IsAsciiAt}
 
 -- the range in the text of what a node names, if the node has this body (this project)
 abbrev pub name_range_by : ItemBody → List ℕ → Item → Option (Range ℕ)
@@ -25,6 +26,19 @@ name_range_by _ text x = attribute_range text x
 -- project)
 abbrev pub name_range : List ℕ → Item → Option (Range ℕ)
 name_range text x = name_range_by x.body text x
+
+-- The mark of a node with this body that begins at an offset is ASCII: the first byte of its code fence (CommonMark
+-- 4.5), or the second byte of the `[^` of a footnote definition. Any other node begins between two characters (this
+-- project).
+abbrev pub HasAsciiMark : ItemBody → List ℕ → ℕ → Type 0
+HasAsciiMark (FencedCodeBlock ix) text start = IsAsciiAt text start
+HasAsciiMark (FootnoteDefinition ix) text start = IsAsciiAt text (start + 1)
+HasAsciiMark _ text start = IsCharBoundary text start
+
+-- each of these nodes that starts between two characters has an ASCII mark (this project)
+abbrev pub HaveAsciiMarks : List ℕ → List (ℕ × Item) → Type 0
+HaveAsciiMarks text [] = Unit {0}
+HaveAsciiMarks text (n ∷ nodes) = (IsCharBoundary text n.1.start → HasAsciiMark n.1.body text n.1.start) × HaveAsciiMarks text nodes
 
 -- The index names the label that is read from the start of a range, up to the `]` directly after it. The prefix that
 -- this function finds is left out of each further line (CommonMark 6.3, and this project).

@@ -1,21 +1,25 @@
 //! Where the attribute block of a heading is written (this project).
 
-ghost use Rattle.std.specs.Prelude.{◌≡◌, ◌≤◌, ◌==◌, not, length, IfSome};
+ghost use Rattle.std.specs.Prelude.{◌≡◌, ◌≤◌, ◌==◌, not, length, IfSome, IsCharBoundary};
 ghost use Rattle.std.specs.List.{suffix_len};
 ghost use Rattle.first_pass_places.specs.AttributeBlockPlaces.{attribute_range, upto_last};
+ghost use Rattle.first_pass_places.specs.RangeEnds.{IsBetweenCharacters};
 
 use first_pass_items::item::{Item, ItemBody};
 use std::ops::Range;
 
 /// Returns the range of the bytes between the braces of a heading's attribute block, as byte offsets into the text.
 /// Returns `None` if the node is not a heading, or has no attribute block. The block is at the end of the
-/// heading's line; of a setext heading, at the end of the last line before the underline (this project).
+/// heading's line; of a setext heading, at the end of the last line before the underline (this project). If the heading
+/// starts between two characters, then both ends of the range are between two as well.
 pub fn attribute_block_range(text: &str, heading: &Item) -> Option<Range<usize>>
     requires order { heading.now.start ≤ heading.now.«end» }
     requires within { heading.now.«end» ≤ length text.now }
     ensures value { result ≡ attribute_range text.now heading.now }
     ensures order { IfSome result (λ range. range.start ≤ range.«end») }
     ensures within { IfSome result (λ range. range.«end» ≤ length text.now) }
+    ensures boundary { IsCharBoundary text.now heading.now.start
+        → IfSome result (λ range. IsBetweenCharacters text.now range) }
 {
     attribute_range(text.as_bytes(), heading)
 }

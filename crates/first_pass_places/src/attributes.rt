@@ -1,12 +1,13 @@
 //! Where the attributes in the attribute block of a heading are written (this project).
 
-ghost use Rattle.std.specs.Prelude.{◌≡◌, ◌<◌, ◌≤◌, ◌++◌, ◌==◌, ◌+◌, not, length, map, IfOk, IfSome, OnOk, OnErr};
+ghost use Rattle.std.specs.Prelude.{◌≡◌, ◌<◌, ◌≤◌, ◌++◌, ◌==◌, ◌+◌, not, length, map, IfOk, IfSome, OnOk, OnErr, All, IsCharBoundary};
 ghost use Rattle.std.specs.List.{position, prefix_len};
 ghost use Rattle.first_pass_items.specs.Bytes.{equals_sign};
 ghost use Rattle.first_pass_attributes.specs.Attributes.{is_between_words};
 ghost use Rattle.first_pass_places.specs.AttributePlaces.{attribute_place, attribute_places, key_place, range_of, word_range, word_ranges};
+ghost use Rattle.first_pass_places.specs.RangeEnds.{HasWholeCharacters};
 
-use crate::attribute_block::attribute_block_range;
+use crate::attribute_block::attribute_range;
 use first_pass_items::item::Item;
 use std::alloc::{AllocError, Global};
 use std::ops::Range;
@@ -34,8 +35,8 @@ pub struct AttributePlace {
 
 /// Returns the ranges of each attribute in the attribute block of a heading, in the order of the text. Words of one
 /// byte are left out. An id that a later one replaces is not left out. The result is empty if the node is not a
-/// heading, or has no attribute block. Fails only if an allocation fails. Without an attribute it doesn't fail (this
-/// project).
+/// heading, or has no attribute block. If the heading starts between two characters, then both ends of each range are
+/// between two as well. Fails only if an allocation fails. Without an attribute it doesn't fail (this project).
 pub fn attribute_ranges(
     alloc: Global,
     text: &str,
@@ -44,11 +45,27 @@ pub fn attribute_ranges(
     requires order { heading.now.start ≤ heading.now.«end» }
     requires within { heading.now.«end» ≤ length text.now }
     ensures value { IfOk result (λ places. places.items ≡ attribute_places text.now heading.now) }
+    ensures boundary { IsCharBoundary text.now heading.now.start
+        → IfOk result (λ places. All (HasWholeCharacters text.now) places.items) }
+    ensures err { OnErr result (0 < length (attribute_places text.now heading.now)) }
+{
+    attribute_places(alloc, text.as_bytes(), heading)
+}
+
+// Where the attributes of a heading are written.
+fn attribute_places(
+    alloc: Global,
+    text: &[u8],
+    heading: &Item,
+) -> Result<Vec<AttributePlace>, AllocError>
+    requires order { heading.now.start ≤ heading.now.«end» }
+    requires within { heading.now.«end» ≤ length text.now }
+    ensures value { IfOk result (λ places. places.items ≡ attribute_places text.now heading.now) }
     ensures err { OnErr result (0 < length (attribute_places text.now heading.now)) }
 {
     let mut places = Vec::new(alloc);
-    if let Some(block) = attribute_block_range(text, heading) {
-        add_words(&mut places, text.as_bytes(), block.start, block.end)?;
+    if let Some(block) = attribute_range(text, heading) {
+        add_words(&mut places, text, block.start, block.end)?;
     }
     Ok(places)
 }

@@ -1,8 +1,9 @@
 //! Where the label of a footnote definition is written (this project).
 
-ghost use Rattle.std.specs.Prelude.{◌≡◌, ◌≤◌, length};
+ghost use Rattle.std.specs.Prelude.{◌≡◌, ◌≤◌, ◌+◌, length};
 ghost use Rattle.first_pass_links.specs.Labels.{is_bracket, label_len};
 ghost use Rattle.first_pass_places.specs.FootnoteLabels.{label_range};
+ghost use Rattle.first_pass_places.specs.RangeEnds.{IsAsciiAt, IsBetweenCharacters};
 
 use first_pass_items::item::Item;
 use first_pass_lines::places::rest_of;
@@ -12,12 +13,14 @@ use std::ops::Range;
 /// Returns the range of the label of a footnote definition, as byte offsets into the text: the bytes between its `[^`
 /// and its `]`. In the old form of footnotes a label may cross lines. Then the range includes the prefixes of
 /// containers that begin its further lines. If the text ends before the label, the range is empty, at the end of the
-/// text (this project).
+/// text (this project). If the second byte of the definition is ASCII, as `^` is, then both ends are between two
+/// characters.
 pub fn footnote_label_range(text: &str, definition: &Item) -> Range<usize>
     requires { definition.now.start ≤ length text.now }
     ensures value { result ≡ label_range text.now definition.now.start }
     ensures order { result.start ≤ result.«end» }
     ensures within { result.«end» ≤ length text.now }
+    ensures boundary { IsAsciiAt text.now (definition.now.start + 1) → IsBetweenCharacters text.now result }
 {
     label_range(text.as_bytes(), definition.start)
 }

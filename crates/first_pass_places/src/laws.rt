@@ -11,13 +11,14 @@ ghost use Rattle.first_pass_scan.specs.LeafLines.{code_fence};
 ghost use Rattle.first_pass_grammar.specs.declared.kind.Container.{Container};
 ghost use Rattle.first_pass_grammar.specs.CodeBlocks.{IsFencedCode};
 ghost use Rattle.first_pass_grammar.specs.Completion.{lines_from};
+ghost use Rattle.first_pass_grammar.specs.Derivation.{Derives, Tables};
 ghost use Rattle.first_pass_grammar.specs.Footnotes.{NamesLabel, footnote_head_at, footnote_prefix, label_bytes};
 ghost use Rattle.first_pass_grammar.specs.Kinds.{unindented};
 ghost use Rattle.first_pass_grammar.specs.Leaves.{Document, IsHeading, around, heading_block, heading_text_at};
 ghost use Rattle.first_pass_grammar.specs.Tables.{Taken};
 ghost use Rattle.first_pass_grammar.specs.Texts.{IsPlainText};
 ghost use Rattle.first_pass_places.specs.FootnoteLabels.{label_range};
-ghost use Rattle.first_pass_places.specs.NamePlaces.{FirstIsReadFromText, NamesLabelAt};
+ghost use Rattle.first_pass_places.specs.NamePlaces.{FirstIsReadFromText, HaveAsciiMarks, NamesLabelAt};
 
 /// The info string that a fenced code block names is read from its range. The block begins at an offset with a fence of
 /// this length and byte (CommonMark 4.5).
@@ -54,4 +55,11 @@ pub fn setext_attributes_are_read()
         → IfSome marker (λ x. x.«end» ≤ start) → start ≤ length d.text
         → lines ≡ lines_from d.text (start + line_len (drop start d.text)) → IsPlainText d path start marker lines t
         → FirstIsReadFromText d t.items }
+{}
+
+/// In a derived tree each node that starts between two characters has an ASCII mark. So the range of what it names
+/// begins and ends between two characters as well (this project).
+pub fn nodes_have_ascii_marks()
+    ensures { (d : Document) (nodes : List (ℕ × Item)) (tables : Tables) → Derives d nodes tables
+        → HaveAsciiMarks d.text nodes }
 {}

@@ -1,7 +1,8 @@
 //! The range in the text of what a node names (this project).
 
-ghost use Rattle.std.specs.Prelude.{◌≡◌, ◌≤◌, length, IfSome};
-ghost use Rattle.first_pass_places.specs.NamePlaces.{name_range};
+ghost use Rattle.std.specs.Prelude.{◌≡◌, ◌≤◌, length, IfSome, IsUtf8};
+ghost use Rattle.first_pass_places.specs.NamePlaces.{HasAsciiMark, name_range};
+ghost use Rattle.first_pass_places.specs.RangeEnds.{IsBetweenCharacters};
 
 use crate::attribute_block::attribute_range;
 use crate::footnote_label::label_range;
@@ -11,13 +12,16 @@ use std::ops::Range;
 
 /// Returns the range in the text of what a node names: of the info string of a fenced code block, of the label of a
 /// footnote definition, or of all that is between the braces of a heading's attribute block. Returns `None` for any
-/// other node, and for a heading without an attribute block (this project).
+/// other node, and for a heading without an attribute block (this project). If the mark of the node is ASCII, as in a
+/// tree, then both ends are between two characters.
 pub fn name_range(text: &str, node: &Item) -> Option<Range<usize>>
     requires order { node.now.start ≤ node.now.«end» }
     requires within { node.now.«end» ≤ length text.now }
     ensures value { result ≡ name_range text.now node.now }
     ensures order { IfSome result (λ range. range.start ≤ range.«end») }
     ensures within { IfSome result (λ range. range.«end» ≤ length text.now) }
+    ensures boundary { HasAsciiMark node.now.body text.now node.now.start
+        → IfSome result (λ range. IsBetweenCharacters text.now range) }
 {
     name_range_in(text.as_bytes(), node)
 }
@@ -29,6 +33,8 @@ pub fn name_range_in(text: &[u8], node: &Item) -> Option<Range<usize>>
     ensures value { result ≡ name_range text.now node.now }
     ensures order { IfSome result (λ range. range.start ≤ range.«end») }
     ensures within { IfSome result (λ range. range.«end» ≤ length text.now) }
+    ensures boundary { IsUtf8 text.now → HasAsciiMark node.now.body text.now node.now.start
+        → IfSome result (λ range. IsBetweenCharacters text.now range) }
 {
     match node.body {
         ItemBody::FencedCodeBlock(_) => Some(info_range(text, node.start)),

@@ -1,11 +1,20 @@
-use Rattle.std.proofs.Common.{ℕ, ◌<◌, List, length, sym, subst, ◌∙◌}
-use Rattle.first_pass_links.proofs.Rewritten.{on_err}
-use Rattle.first_pass_places.specs.AttributePlaces.{word_ranges}
-use Rattle.first_pass_places.proofs.WordPlaces.{words_are_places}
+use Rattle.std.proofs.Common.{ℕ, List, All, sym, ap, subst, ◌∙◌}
+use Rattle.std.proofs.lemmas.Result.{IfOk-weaker}
+use Rattle.first_pass_places.specs.declared.attributes.AttributePlace.{AttributePlace}
+use Rattle.first_pass_places.specs.AttributePlaces.{attribute_places}
+use Rattle.first_pass_places.specs.RangeEnds.{HasWholeCharacters}
+use Rattle.first_pass_places.proofs.WordBoundaries.{places_between}
 use Rattle.first_pass_places.proofs.attributes.attribute_ranges.Goals as goal
 
-pub returns-in_err-add_words-clause-err : goal.returns-in_err-add_words-clause-err
-returns-in_err-add_words-clause-err c =
-    on_err c.from_residual.result
-    (words_are_places c.args.text.now c.args.heading.now c.in-Some.block (sym c.attribute_block_range.ensures.value ∙ c.in-Some.is)
-    (subst (λ (bs : List ℕ). 0 < length (word_ranges bs c.in-Some.block.start c.in-Some.block.«end»)) c.as_bytes.ensures.value c.in_err-add_words.ensures.err))
+pub returns-clause-value : goal.returns-clause-value
+returns-clause-value c =
+    IfOk-weaker c.attribute_places.result _ _ (λ places e. e ∙ ap (λ bs. attribute_places bs c.args.heading.now) c.as_bytes.ensures.value)
+    c.attribute_places.ensures.value
+
+pub returns-clause-boundary : goal.returns-clause-boundary
+returns-clause-boundary c =
+    let text : List ℕ = c.args.text.now in
+    λ first. IfOk-weaker c.attribute_places.result _ _
+    (λ places e. subst (λ (l : List AttributePlace). All (HasWholeCharacters text) l)
+    (sym (e ∙ ap (λ bs. attribute_places bs c.args.heading.now) c.as_bytes.ensures.value)) (places_between text c.args.heading.now c.utf8.text first))
+    c.attribute_places.ensures.value

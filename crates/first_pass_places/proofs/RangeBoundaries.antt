@@ -1,0 +1,282 @@
+-- The range of what a node names begins and ends between two characters of a text in UTF-8.
+use Rattle.std.proofs.Common.{◌≡◌, ℕ, zero, suc, ◌+◌, ◌-◌, ◌<◌, ◌≤◌, ◌==◌, not, Bool, true, false, List, [], ◌∷◌, length, take, drop, min, reverse, get_or}
+use Rattle.std.proofs.Common.{◌&&◌, nat_le, slice_index, Option, Some, None, IfSome, IsUtf8, IsCharBoundary, refl, sym, ap, subst, ◌∙◌, arith, inl, inr}
+use Rattle.std.proofs.Common.{if◌then◌else◌}
+use Rattle.std.specs.List.{prefix_len, suffix_len}
+use Rattle.std.specs.declared.ops.Range.{Range}
+use Rattle.std.proofs.lemmas.Bool.{and_parts, cases_lt, eqb-true, not-false}
+use Rattle.std.proofs.lemmas.Bool.Decides.{nat_tests}
+use Rattle.std.proofs.lemmas.List.{drop-drop, get_or-drop, get_or-reverse, get_or-take, length-drop, length-reverse, length-take, length-take-le}
+use Rattle.std.proofs.lemmas.List.Sums.{prefix_len_passes, prefix_len_stops, suffix_len-le-length}
+use Rattle.std.proofs.lemmas.Option.{none-some}
+use Rattle.std.proofs.lemmas.Str.{IsCharBoundary-after_ascii, IsCharBoundary-before_ascii, IsCharBoundary-end}
+use Rattle.first_pass_items.specs.Bytes.{left_bracket, circumflex, left_brace, right_brace}
+use Rattle.first_pass_items.specs.declared.item.CowIndex.{CowIndex}
+use Rattle.first_pass_items.specs.declared.item.Item.{Item}
+use Rattle.first_pass_items.specs.declared.item.ItemBody.{ItemBody}
+use Rattle.first_pass_items.specs.declared.item.ItemBody.TheVariants.{FencedCodeBlock, FootnoteDefinition}
+use Rattle.first_pass_lines.specs.Lines.{is_white, is_ascii_white, begins, line_len}
+use Rattle.first_pass_lines.specs.Places.{line_place}
+use Rattle.first_pass_lines.proofs.LineFacts.{line_len-fits}
+use Rattle.first_pass_lines.proofs.PlaceFacts.{line_end_boundary, line_is_place, prefix_keeps, white_keeps}
+use Rattle.first_pass_scan.specs.LeafLines.{run_len, has_backquote, code_fence}
+use Rattle.first_pass_links.specs.Destinations.{unescaped_upto}
+use Rattle.first_pass_links.specs.Escapes.{begins_escape}
+use Rattle.first_pass_links.specs.Footnotes.{begins_footnote}
+use Rattle.first_pass_links.specs.Labels.{is_bracket, label_len}
+use Rattle.first_pass_grammar.specs.CodeBlocks.{trimmed, info_string}
+use Rattle.first_pass_places.specs.AttributeBlockPlaces.{attribute_range, block_range, has_attributes, upto_last}
+use Rattle.first_pass_places.specs.FootnoteLabels.{label_range}
+use Rattle.first_pass_places.specs.InfoStrings.{fence_end, info_range}
+use Rattle.first_pass_places.specs.NamePlaces.{HasAsciiMark, name_range, name_range_by}
+use Rattle.first_pass_places.specs.RangeEnds.{IsAsciiAt, IsBetweenCharacters}
+use Rattle.first_pass_places.proofs.BlockPlaces.{is_in, part_at, part_short}
+use Rattle.first_pass_places.proofs.InfoFacts.{begins_with, trimmed_length}
+
+-- before a byte of ASCII, and at the end of the text
+ascii_between : (text : List ℕ) (at : ℕ) → at ≤ length text → IsAsciiAt text at → IsCharBoundary text at
+ascii_between text at within small = (within, λ less big. omega (arith, small, big))
+
+-- a code fence begins with ASCII
+first_by : (t v : Bool) (o p : Option (ℕ × ℕ)) (bs : List ℕ) (fence : ℕ × ℕ) → begins 96 bs ≡ t → begins 126 bs ≡ v
+    → (if t then o else (if v then p else None)) ≡ Some fence → slice_index bs 0 < 128
+first_by true v o p bs fence a b h = let byte = begins_with 96 bs a in omega (arith, byte)
+first_by false true o p bs fence a b h = let byte = begins_with 126 bs b in omega (arith, byte)
+first_by false false o p bs fence a b h = absurd (none-some fence h)
+
+pub ascii_fence : (text : List ℕ) (start count byte : ℕ) → code_fence (drop start text) ≡ Some (count, byte) → IsAsciiAt text start
+unfolding code_fence
+ascii_fence text start count byte h =
+    let bs : List ℕ = drop start text in
+    let m : ℕ = run_len 96 bs in
+    let n : ℕ = run_len 126 bs in
+    let small : slice_index bs 0 < 128 =
+    first_by (begins 96 bs) (begins 126 bs) (if nat_le 3 m && not (has_backquote (drop m bs)) then Some (m, 96) else None)
+    (if nat_le 3 n then Some (n, 126) else None) bs (count, byte) refl refl h in
+    let same : start + 0 ≡ start = omega arith in
+    let here : slice_index bs 0 ≡ slice_index text start = get_or-drop start text 0 0 ∙ ap (slice_index text) same in
+    omega (arith, small, here)
+
+-- so does a label with its `[^`
+pub ascii_footnote : (text : List ℕ) (start : ℕ) → begins_footnote (drop start text) ≡ true → IsAsciiAt text (start + 1)
+ascii_footnote text start h =
+    let rest : List ℕ = drop 1 (drop start text) in
+    let byte : circumflex ≡ slice_index rest 0 = begins_with circumflex rest (and_parts (begins left_bracket (drop start text)) (begins circumflex rest) h).1 in
+    let same : start + 1 + 0 ≡ start + 1 = omega arith in
+    let here : slice_index rest 0 ≡ slice_index text (start + 1) =
+    ap (λ l. slice_index l 0) (drop-drop 1 start text) ∙ get_or-drop (start + 1) text 0 0 ∙ ap (slice_index text) same in
+    omega (arith, byte, here)
+
+-- the end of a code fence whose byte is ASCII
+fence_between : (text : List ℕ) (start : ℕ) → IsUtf8 text → start ≤ length text → IsAsciiAt text start → IsCharBoundary text (fence_end text start)
+fence_between text start u within small =
+    let c : ℕ = slice_index (drop start text) 0 in
+    let same : start + 0 ≡ start = omega arith in
+    let here : c ≡ slice_index text start = get_or-drop start text 0 0 ∙ ap (slice_index text) same in
+    let ascii : (k : ℕ) → (k == c) ≡ true → k < 128 = λ k h. let e = eqb-true k c h in omega (arith, e, here, small) in
+    let e : start + (0 + run_len c (drop start text)) ≡ fence_end text start = omega arith in
+    let b = ascii_between text start within small in
+    subst (IsCharBoundary text) e (prefix_keeps (λ k. k == c) ascii text (line_place start (drop start text)) u (line_is_place text start b)).boundary
+
+-- the white space after it
+white_between : (text : List ℕ) (at : ℕ) → IsUtf8 text → IsCharBoundary text at → IsCharBoundary text (at + prefix_len is_white (drop at text))
+white_between text at u b =
+    let e : at + (0 + prefix_len is_white (drop at text)) ≡ at + prefix_len is_white (drop at text) = omega arith in
+    subst (IsCharBoundary text) e (white_keeps text (line_place at (drop at text)) u (line_is_place text at b)).boundary
+
+-- the first of the bytes at the end that pass a test
+first_of_last : (p : ℕ → Bool) (xs : List ℕ) → 0 < suffix_len p xs → p (slice_index xs (length xs - suffix_len p xs)) ≡ true
+first_of_last p xs some =
+    let n : ℕ = suffix_len p xs in
+    let fits : n ≤ length xs = suffix_len-le-length p xs in
+    let place : length xs - 1 - (n - 1) ≡ length xs - n = omega arith in
+    let read : get_or (reverse xs) (n - 1) 0 ≡ slice_index xs (length xs - n) = get_or-reverse xs (n - 1) 0 (omega arith) ∙ ap (slice_index xs) place in
+    ap p (sym read) ∙ prefix_len_passes p (reverse xs) (n - 1) 0 (omega arith)
+
+white_is_ascii : (b : ℕ) → is_ascii_white b ≡ true → b < 128
+white_is_ascii b h = grind (arith, nat_tests, h)
+
+-- the end of a line
+line_between : (text : List ℕ) (at : ℕ) → IsUtf8 text → IsCharBoundary text at → IsCharBoundary text (at + line_len (drop at text))
+line_between text at u b = elim (cases_lt at (length text)) as (λ _. IsCharBoundary text (at + line_len (drop at text))) [
+  | inl less ↦ line_end_boundary text at u b less
+  | inr past ↦ (
+      let fits = line_len-fits (drop at text) in
+      let size = length-drop at text in
+      let e : at ≡ at + line_len (drop at text) = omega (arith, fits, size, past) in
+      subst (IsCharBoundary text) e b)
+]
+
+-- the end of a line without the white space there
+trimmed_between : (text : List ℕ) (at : ℕ) → IsUtf8 text → IsCharBoundary text at
+    → IsCharBoundary text (at + length (trimmed (take (line_len (drop at text)) (drop at text))))
+trimmed_between text at u b =
+    let m : ℕ = line_len (drop at text) in
+    let line : List ℕ = take m (drop at text) in
+    let w : ℕ = suffix_len is_ascii_white line in
+    let size : length (trimmed line) ≡ m - w = trimmed_length (drop at text) in
+    let fits : m ≤ length (drop at text) = line_len-fits (drop at text) in
+    let whole : length line ≡ m = length-take-le m (drop at text) fits in
+    let short : w ≤ length line = suffix_len-le-length is_ascii_white line in
+    let rest : length (drop at text) ≡ length text - at = length-drop at text in
+    elim (cases_lt 0 w) as (λ _. IsCharBoundary text (at + length (trimmed line))) [
+      | inl some ↦ (
+          let k : ℕ = length line - w in
+          let low : k < m = omega (arith, whole, short, some) in
+          let read : slice_index line k ≡ slice_index text (at + k) = part_at text at m k low in
+          let small = white_is_ascii (slice_index text (at + k)) (ap is_ascii_white (sym read) ∙ first_of_last is_ascii_white line some) in
+          let e : at + k ≡ at + length (trimmed line) = omega (arith, size, whole) in
+          subst (IsCharBoundary text) e (IsCharBoundary-before_ascii text (at + k) (omega (arith, low, fits, rest)) small))
+      | inr none ↦ (
+          let e : at + m ≡ at + length (trimmed line) = omega (arith, size, none) in
+          subst (IsCharBoundary text) e (line_between text at u b))
+    ]
+
+-- an info string
+pub info_between : (text : List ℕ) (start : ℕ) → IsUtf8 text → start ≤ length text → IsAsciiAt text start
+    → IsBetweenCharacters text (info_range text start)
+unfolding info_range info_string
+info_between text start u within small =
+    let at : ℕ = fence_end text start in
+    let white : ℕ = prefix_len is_white (drop at text) in
+    let first : IsCharBoundary text (at + white) = white_between text at u (fence_between text start u within small) in
+    let same : drop (at + white) text ≡ drop white (drop at text) = sym (drop-drop white at text) in
+    let last = trimmed_between text (at + white) u first in
+    (first, subst (λ (bs : List ℕ). IsCharBoundary text (at + white + length (trimmed (take (line_len bs) bs)))) same last)
+
+-- bytes end before one that stops them, or at the end of the text
+abbrev StopsAt : (ℕ → Bool) → List ℕ → ℕ → Type 0
+StopsAt stops bs n = (n ≤ length bs) × (n < length bs → stops (slice_index bs n) ≡ true)
+
+stops_later : (stops : ℕ → Bool) (b : ℕ) (bs : List ℕ) (n : ℕ) → StopsAt stops bs n → StopsAt stops (b ∷ bs) (1 + n)
+stops_later stops b bs n h =
+    let fits = h.0 in
+    let one : 1 + n ≡ suc n = omega arith in
+    (omega (arith, fits), λ less. ap (λ k. stops (slice_index (b ∷ bs) k)) one ∙ h.1 (omega (arith, less)))
+
+stops_by : (t v : Bool) (stops : ℕ → Bool) (b : ℕ) (bs : List ℕ) (m n : ℕ) → stops b ≡ v → StopsAt stops bs m → StopsAt stops bs n
+    → StopsAt stops (b ∷ bs) (if t then 1 + m else (if v then 0 else 1 + n))
+stops_by true v stops b bs m n e after next = stops_later stops b bs m after
+stops_by false true stops b bs m n e after next = (omega arith, λ less. e)
+stops_by false false stops b bs m n e after next = stops_later stops b bs n next
+
+upto_stops : (stops : ℕ → Bool) (n : ℕ) (bs : List ℕ) → StopsAt stops bs (unescaped_upto stops n bs)
+unfolding unescaped_upto
+upto_stops stops n [] = (omega arith, λ less. absurd (omega (arith, less)))
+upto_stops stops (suc n) (b ∷ bs) = stops_later stops b bs (unescaped_upto stops n bs) (upto_stops stops n bs)
+upto_stops stops zero (b ∷ bs) =
+    stops_by (begins_escape (b ∷ bs)) (stops b) stops b bs (unescaped_upto stops 1 bs) (unescaped_upto stops zero bs) refl (upto_stops stops 1 bs)
+    (upto_stops stops zero bs)
+
+bracket_is_ascii : (b : ℕ) → is_bracket b ≡ true → b < 128
+bracket_is_ascii b h = grind (arith, nat_tests, h)
+
+-- the label of a footnote
+label_start : (text : List ℕ) (start : ℕ) → IsUtf8 text → IsAsciiAt text (start + 1) → IsCharBoundary text (min (length text) (start + 2))
+label_start text start u small = elim (cases_lt (start + 1) (length text)) as (λ _. IsCharBoundary text (min (length text) (start + 2))) [
+  | inl less ↦ (
+      let e : start + 1 + 1 ≡ min (length text) (start + 2) = omega (arith, less) in
+      subst (IsCharBoundary text) e (IsCharBoundary-after_ascii text (start + 1) u less small))
+  | inr past ↦ (let e : length text ≡ min (length text) (start + 2) = omega (arith, past) in subst (IsCharBoundary text) e (IsCharBoundary-end text))
+]
+
+label_end : (text : List ℕ) (at : ℕ) → at ≤ length text → IsCharBoundary text (at + label_len (drop at text))
+label_end text at within =
+    let bs : List ℕ = drop at text in
+    let k : ℕ = label_len bs in
+    let size : length bs ≡ length text - at = length-drop at text in
+    let stop : StopsAt is_bracket bs k = upto_stops is_bracket 0 bs in
+    let fits = stop.0 in
+    elim (cases_lt k (length bs)) as (λ _. IsCharBoundary text (at + label_len (drop at text))) [
+      | inl less ↦ (
+          let small = bracket_is_ascii (slice_index bs k) (stop.1 less) in
+          let read : slice_index bs k ≡ slice_index text (at + k) = get_or-drop at text k 0 in
+          IsCharBoundary-before_ascii text (at + k) (omega (arith, less, size)) (omega (arith, small, read)))
+      | inr past ↦ (let e : length text ≡ at + k = omega (arith, past, fits, size, within) in subst (IsCharBoundary text) e (IsCharBoundary-end text))
+    ]
+
+pub label_between : (text : List ℕ) (start : ℕ) → IsUtf8 text → IsAsciiAt text (start + 1) → IsBetweenCharacters text (label_range text start)
+unfolding label_range
+label_between text start u small =
+    let first = label_start text start u small in (first, label_end text (min (length text) (start + 2)) first.0)
+
+-- the last byte of a value is there
+last_at : (c : ℕ) (bs : List ℕ) (n : ℕ) → upto_last c bs ≡ suc n → (n < length bs) × (slice_index bs n ≡ c)
+last_at c bs n e =
+    let other : ℕ → Bool = λ b. not (b == c) in
+    let m : ℕ = suffix_len other bs in
+    let fits : m ≤ length bs = suffix_len-le-length other bs in
+    let turned : length (reverse bs) ≡ length bs = length-reverse bs in
+    let size : length bs - m ≡ suc n = e in
+    let place : length bs - 1 - m ≡ n = omega (arith, size) in
+    let read : get_or (reverse bs) m 0 ≡ slice_index bs n = get_or-reverse bs m 0 (omega (arith, size)) ∙ ap (slice_index bs) place in
+    let stop = prefix_len_stops other (reverse bs) 0 (omega (arith, size, turned)) in
+    (omega (arith, size), eqb-true (slice_index bs n) c (not-false (slice_index bs n == c) (ap other (sym read) ∙ stop)))
+
+-- before the last `}` of a part of a text
+before_brace : (text : List ℕ) (start n : ℕ) → IsCharBoundary text start → (m : ℕ) → upto_last right_brace (take n (drop start text)) ≡ m
+    → IsCharBoundary text (start + (m - 1))
+before_brace text start n b zero e = let same : start ≡ start + (0 - 1) = omega arith in subst (IsCharBoundary text) same b
+before_brace text start n b (suc k) e =
+    let last = last_at right_brace (take n (drop start text)) k e in
+    let less = last.0 in
+    let short = part_short text start n in
+    let here : slice_index text (start + k) ≡ right_brace = sym (part_at text start n k (omega (arith, less, short))) ∙ last.1 in
+    let same : start + k ≡ start + (suc k - 1) = omega arith in
+    let there = is_in text (start + k) right_brace here (omega arith) in
+    subst (IsCharBoundary text) same (IsCharBoundary-before_ascii text (start + k) there (omega (arith, here)))
+
+-- after the last `{` in the first bytes of a part of a text
+after_brace : (text : List ℕ) (start n j : ℕ) → IsUtf8 text → IsCharBoundary text start → (m : ℕ)
+    → upto_last left_brace (take j (take n (drop start text))) ≡ m → IsCharBoundary text (start + m)
+after_brace text start n j u b zero e = let same : start ≡ start + 0 = omega arith in subst (IsCharBoundary text) same b
+after_brace text start n j u b (suc k) e =
+    let part : List ℕ = take n (drop start text) in
+    let last = last_at left_brace (take j part) k e in
+    let less = last.0 in
+    let cut = length-take j part in
+    let short = part_short text start n in
+    let read : slice_index (take j part) k ≡ slice_index text (start + k) =
+    get_or-take j part k 0 (omega (arith, less, cut)) ∙ part_at text start n k (omega (arith, less, cut, short)) in
+    let here : slice_index text (start + k) ≡ left_brace = sym read ∙ last.1 in
+    let same : start + k + 1 ≡ start + suc k = omega arith in
+    let there = is_in text (start + k) left_brace here (omega arith) in
+    subst (IsCharBoundary text) same (IsCharBoundary-after_ascii text (start + k) u there (omega (arith, here)))
+
+-- the block of a heading
+block_between : (text : List ℕ) (start e : ℕ) → IsUtf8 text → IsCharBoundary text start → IsBetweenCharacters text (block_range text start e)
+unfolding block_range
+block_between text start e u b =
+    let n : ℕ = e - start in
+    let part : List ℕ = take n (drop start text) in
+    let closing : ℕ = upto_last right_brace part - 1 in
+    (after_brace text start n closing u b (upto_last left_brace (take closing part)) refl, before_brace text start n b (upto_last right_brace part) refl)
+
+range_if : (text : List ℕ) (t : Bool) (range : Range ℕ) → IsBetweenCharacters text range
+    → IfSome (if t then Some range else None) (λ r. IsBetweenCharacters text r)
+range_if text true range h = h
+range_if text false range h = tt
+
+pub attributes_between : (text : List ℕ) (x : Item) → IsUtf8 text → IsCharBoundary text x.start
+    → IfSome (attribute_range text x) (λ range. IsBetweenCharacters text range)
+attributes_between text x u b = range_if text (has_attributes x.body) (block_range text x.start x.«end») (block_between text x.start x.«end» u b)
+
+-- what a node names
+name_by : (body : ItemBody) (text : List ℕ) (x : Item) → IsUtf8 text → x.start ≤ length text → HasAsciiMark body text x.start
+    → IfSome (name_range_by body text x) (λ range. IsBetweenCharacters text range)
+name_by (FencedCodeBlock ix) text x u within mark = info_between text x.start u within mark
+name_by (FootnoteDefinition ix) text x u within mark = label_between text x.start u mark
+name_by _ text x u within mark = attributes_between text x u mark
+
+pub name_between : (text : List ℕ) (x : Item) (found : Option (Range ℕ)) → found ≡ name_range text x → x.start ≤ x.«end» → x.«end» ≤ length text
+    → IsUtf8 text → HasAsciiMark x.body text x.start → IfSome found (λ range. IsBetweenCharacters text range)
+name_between text x found is order within u mark =
+    let starts : x.start ≤ length text = omega (arith, order, within) in
+    subst (λ (o : Option (Range ℕ)). IfSome o (λ range. IsBetweenCharacters text range)) (sym is) (name_by x.body text x u starts mark)
+
+-- a node of another kind
+pub other_name : (body : ItemBody) (text : List ℕ) (x : Item) → ((ix : CowIndex) → body ≡ FencedCodeBlock ix → ⊥)
+    → ((ix : CowIndex) → body ≡ FootnoteDefinition ix → ⊥) → name_range_by body text x ≡ attribute_range text x
+other_name (FencedCodeBlock ix) text x no_code no_footnote = absurd (no_code ix refl)
+other_name (FootnoteDefinition ix) text x no_code no_footnote = absurd (no_footnote ix refl)
+other_name _ text x no_code no_footnote = refl

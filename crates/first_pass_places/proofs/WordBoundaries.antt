@@ -1,0 +1,125 @@
+-- The name and the value of an attribute begin and end between two characters of a text in UTF-8.
+use Rattle.std.proofs.Common.{◌≡◌, ℕ, zero, suc, ◌+◌, ◌-◌, ◌<◌, ◌≤◌, ◌==◌, not, Bool, true, false, List, [], ◌∷◌, ◌++◌, All, length, drop, position}
+use Rattle.std.proofs.Common.{slice_index, slice_index_or, Option, Some, None, IfSome, IsUtf8, IsCharBoundary, refl, sym, ap, subst, ◌∙◌, arith, inl, inr}
+use Rattle.std.proofs.Common.{if◌then◌else◌}
+use Rattle.std.specs.List.{prefix_len, slice_range}
+use Rattle.std.specs.Option.{option_map_or}
+use Rattle.std.specs.declared.ops.Range.{Range}
+use Rattle.std.proofs.lemmas.Bool.{cases_lt, eqb-true, not-false}
+use Rattle.std.proofs.lemmas.Bool.Decides.{nat_tests}
+use Rattle.std.proofs.lemmas.List.{length-drop, length-take}
+use Rattle.std.proofs.lemmas.List.Elements.{All-append, All-cons, All-filter, All-map, All-nil, All-same}
+use Rattle.std.proofs.lemmas.List.Quantifiers.{position-Some}
+use Rattle.std.proofs.lemmas.List.Sums.{prefix_len_stops, prefix_len-le-length}
+use Rattle.std.proofs.lemmas.Str.{IsCharBoundary-after_ascii, IsCharBoundary-before_ascii}
+use Rattle.first_pass_items.specs.Bytes.{number_sign, full_stop, equals_sign}
+use Rattle.first_pass_items.specs.declared.item.Item.{Item}
+use Rattle.first_pass_attributes.specs.Attributes.{is_between_words}
+use Rattle.first_pass_places.specs.declared.attributes.AttributeKind.TheVariants.{Id, Class, Key}
+use Rattle.first_pass_places.specs.AttributeBlockPlaces.{attribute_range}
+use Rattle.first_pass_places.specs.AttributePlaces.{range_of, is_word_range, word_range, word_ranges, place_of, key_with, key_place}
+use Rattle.first_pass_places.specs.AttributePlaces.{attribute_place, places_in, attribute_places}
+use Rattle.first_pass_places.specs.InfoStrings.{bytes_in}
+use Rattle.first_pass_places.specs.RangeEnds.{IsBetweenCharacters, HasWholeCharacters}
+use Rattle.first_pass_places.proofs.BlockPlaces.{is_in, part_at, part_short}
+use Rattle.first_pass_places.proofs.RangeBoundaries.{attributes_between}
+use Rattle.first_pass_places.proofs.WordPlaces.{next_word, no_words}
+
+separator_is_ascii : (b : ℕ) → is_between_words b ≡ true → b < 128
+separator_is_ascii b h = grind (arith, nat_tests, h)
+
+-- a word ends, and the next one begins, between two characters
+word_end : (text : List ℕ) (from end n : ℕ) → IsUtf8 text → IsCharBoundary text end → from < end
+    → n ≡ prefix_len (λ b. not (is_between_words b)) (slice_range text from end)
+    → IsCharBoundary text (from + n) × (from + n + 1 ≤ end → IsCharBoundary text (from + n + 1))
+word_end text from end n u stop order size =
+    let inside : ℕ → Bool = λ b. not (is_between_words b) in
+    let bs : List ℕ = slice_range text from end in
+    let within = stop.0 in
+    let fits = prefix_len-le-length inside bs in
+    let rest = length-drop from text in
+    let whole : length bs ≡ end - from = (let cut = length-take (end - from) (drop from text) in omega (arith, cut, rest, within)) in
+    elim (cases_lt n (length bs)) as (λ _. IsCharBoundary text (from + n) × (from + n + 1 ≤ end → IsCharBoundary text (from + n + 1))) [
+      | inl less ↦ (
+          let low : n < end - from = omega (arith, less, whole) in
+          let read : slice_index bs n ≡ slice_index text (from + n) = part_at text from (end - from) n low in
+          let stops : inside (slice_index bs n) ≡ false =
+          ap (λ k. inside (slice_index bs k)) size ∙ prefix_len_stops inside bs 0 (omega (arith, size, less)) in
+          let small : slice_index text (from + n) < 128 =
+          separator_is_ascii (slice_index text (from + n)) (ap is_between_words (sym read) ∙ not-false (is_between_words (slice_index bs n)) stops) in
+          let there : from + n < length text = omega (arith, low, within) in
+          (IsCharBoundary-before_ascii text (from + n) there small, λ more. IsCharBoundary-after_ascii text (from + n) u there small))
+      | inr past ↦ (
+          let e : end ≡ from + n = omega (arith, past, whole, fits, size, order) in
+          (subst (IsCharBoundary text) e stop, λ more. absurd (omega (arith, e, more))))
+    ]
+
+words_between : (fuel : ℕ) (text : List ℕ) (from end : ℕ) → IsUtf8 text → end ≤ from + fuel → IsCharBoundary text end
+    → (from ≤ end → IsCharBoundary text from) → All (IsBetweenCharacters text) (word_ranges text from end)
+words_between zero text from end u few stop start =
+    All-same (IsBetweenCharacters text) (word_ranges text from end) [] (no_words text from end (omega (arith, few))) (All-nil (IsBetweenCharacters text))
+words_between (suc fuel) text from end u few stop start =
+    elim (cases_lt from end) as (λ _. All (IsBetweenCharacters text) (word_ranges text from end)) [
+      | inl less ↦ (
+          let n : ℕ = prefix_len (λ b. not (is_between_words b)) (slice_range text from end) in
+          let ends = word_end text from end n u stop less refl in
+          let first : All (IsBetweenCharacters text) (word_range from (from + n)) =
+          All-filter is_word_range (IsBetweenCharacters text) (range_of from (from + n) ∷ [])
+          (All-cons (IsBetweenCharacters text) (range_of from (from + n)) [] (start (omega (arith, less)), ends.0) (All-nil (IsBetweenCharacters text))) in
+          let later = words_between fuel text (from + n + 1) end u (omega (arith, few)) stop ends.1 in
+          All-same (IsBetweenCharacters text) (word_ranges text from end) (word_range from (from + n) ++ word_ranges text (from + n + 1) end)
+          (next_word text from end less stop.0)
+          (All-append (IsBetweenCharacters text) (word_range from (from + n)) (word_ranges text (from + n + 1) end) first later))
+      | inr past ↦ All-same (IsBetweenCharacters text) (word_ranges text from end) [] (no_words text from end past) (All-nil (IsBetweenCharacters text))
+    ]
+
+-- a byte of ASCII in a word
+mark_there : (text : List ℕ) (range : Range ℕ) (k c : ℕ) → IsUtf8 text → slice_index text (range.start + k) ≡ c → 0 < c → c < 128
+    → IsCharBoundary text (range.start + k) × IsCharBoundary text (range.start + k + 1)
+mark_there text range k c u here some small =
+    let there = is_in text (range.start + k) c here some in
+    let ascii : slice_index text (range.start + k) < 128 = omega (arith, here, small) in
+    (IsCharBoundary-before_ascii text (range.start + k) there ascii, IsCharBoundary-after_ascii text (range.start + k) u there ascii)
+
+after_mark : (text : List ℕ) (range : Range ℕ) (c : ℕ) → IsUtf8 text → IsBetweenCharacters text range → (slice_index text range.start == c) ≡ true
+    → 0 < c → c < 128 → IsBetweenCharacters text (range_of (range.start + 1) range.«end»)
+after_mark text range c u h e some small =
+    let same : range.start + 0 ≡ range.start = omega arith in
+    let next : range.start + 0 + 1 ≡ range.start + 1 = omega arith in
+    let here = ap (slice_index text) same ∙ eqb-true (slice_index text range.start) c e in
+    (subst (IsCharBoundary text) next (mark_there text range 0 c u here some small).1, h.1)
+
+key_by : (text : List ℕ) (range : Range ℕ) (o : Option ℕ) → IsUtf8 text → IsBetweenCharacters text range
+    → position (λ b. b == equals_sign) (bytes_in text range) ≡ o
+    → HasWholeCharacters text (option_map_or (key_with range) o (place_of Key range))
+key_by text range None u h e = (h, tt)
+key_by text range (Some at) u h e =
+    let found = position-Some (λ b. b == equals_sign) (bytes_in text range) at 0 e in
+    let less = found.0 in
+    let short = part_short text range.start (range.«end» - range.start) in
+    let read = part_at text range.start (range.«end» - range.start) at (omega (arith, less, short)) in
+    let here : slice_index text (range.start + at) ≡ equals_sign = sym read ∙ eqb-true (slice_index (bytes_in text range) at) equals_sign found.1 in
+    let ends = mark_there text range at equals_sign u here (omega arith) (omega arith) in
+    ((h.0, ends.0), (ends.1, h.1))
+
+place_by : (text : List ℕ) (range : Range ℕ) (t v : Bool) → IsUtf8 text → IsBetweenCharacters text range
+    → (slice_index text range.start == number_sign) ≡ t → (slice_index text range.start == full_stop) ≡ v
+    → HasWholeCharacters text (if t then place_of Id (range_of (range.start + 1) range.«end»)
+    else (if v then place_of Class (range_of (range.start + 1) range.«end») else key_place text range))
+place_by text range true v u h e f = (after_mark text range number_sign u h e (omega arith) (omega arith), tt)
+place_by text range false true u h e f = (after_mark text range full_stop u h f (omega arith) (omega arith), tt)
+place_by text range false false u h e f = key_by text range (position (λ b. b == equals_sign) (bytes_in text range)) u h refl
+
+places_by : (text : List ℕ) (o : Option (Range ℕ)) → IsUtf8 text → IfSome o (λ range. IsBetweenCharacters text range)
+    → All (HasWholeCharacters text) (option_map_or (places_in text) o [])
+places_by text None u h = All-nil (HasWholeCharacters text)
+places_by text (Some block) u h =
+    let words : List (Range ℕ) = word_ranges text block.start block.«end» in
+    let between = words_between block.«end» text block.start block.«end» u (omega arith) h.1 (λ order. h.0) in
+    All-map (HasWholeCharacters text) (attribute_place text) words
+    (λ k d less. place_by text (slice_index_or words k d) (slice_index text (slice_index_or words k d).start == number_sign)
+    (slice_index text (slice_index_or words k d).start == full_stop) u (between k d less) refl refl)
+
+-- the attributes of a heading
+pub places_between : (text : List ℕ) (x : Item) → IsUtf8 text → IsCharBoundary text x.start → All (HasWholeCharacters text) (attribute_places text x)
+places_between text x u b = places_by text (attribute_range text x) u (attributes_between text x u b)
