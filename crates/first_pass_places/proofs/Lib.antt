@@ -6,6 +6,7 @@ pub mod InfoFacts
 pub mod LabelPlaces
 pub mod MarkedBlocks
 pub mod MarkedNodes
+pub mod PlacedWords
 pub mod PrefixBytes
 pub mod RangeBoundaries
 pub mod SetextPlaces

@@ -4,4 +4,5 @@ pub mod FootnoteLabels
 pub mod FootnoteNodes
 pub mod InfoStrings
 pub mod NamePlaces
+pub mod PlacedAttributes
 pub mod RangeEnds

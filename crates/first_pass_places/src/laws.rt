@@ -1,6 +1,7 @@
 //! Laws of the ranges: what a node names is what is read from its range in the text.
 
 ghost use Rattle.std.specs.Prelude.{◌≡◌, ◌+◌, ◌≤◌, ℕ, List, Option, Some, IfSome, drop, length};
+ghost use Rattle.std.specs.declared.ops.Range.{Range};
 ghost use Rattle.first_pass_items.specs.declared.item.CowIndex.{CowIndex};
 ghost use Rattle.first_pass_items.specs.declared.item.HeadingIndex.{HeadingIndex};
 ghost use Rattle.first_pass_items.specs.declared.item.HeadingLevel.{HeadingLevel};
@@ -8,6 +9,7 @@ ghost use Rattle.first_pass_items.specs.declared.item.Item.{Item};
 ghost use Rattle.first_pass_lines.specs.Lines.{level_number, line_len};
 ghost use Rattle.first_pass_lines.specs.Places.{Place, offset};
 ghost use Rattle.first_pass_scan.specs.LeafLines.{code_fence};
+ghost use Rattle.first_pass_attributes.specs.Attributes.{attributes_of};
 ghost use Rattle.first_pass_grammar.specs.declared.kind.Container.{Container};
 ghost use Rattle.first_pass_grammar.specs.CodeBlocks.{IsFencedCode};
 ghost use Rattle.first_pass_grammar.specs.Completion.{lines_from};
@@ -17,8 +19,12 @@ ghost use Rattle.first_pass_grammar.specs.Kinds.{unindented};
 ghost use Rattle.first_pass_grammar.specs.Leaves.{Document, IsHeading, around, heading_block, heading_text_at};
 ghost use Rattle.first_pass_grammar.specs.Tables.{Taken};
 ghost use Rattle.first_pass_grammar.specs.Texts.{IsPlainText};
+ghost use Rattle.first_pass_places.specs.AttributeBlockPlaces.{attribute_range};
+ghost use Rattle.first_pass_places.specs.AttributePlaces.{attribute_places};
 ghost use Rattle.first_pass_places.specs.FootnoteLabels.{label_range};
+ghost use Rattle.first_pass_places.specs.InfoStrings.{bytes_in};
 ghost use Rattle.first_pass_places.specs.NamePlaces.{FirstIsReadFromText, HaveAsciiMarks, NamesLabelAt};
+ghost use Rattle.first_pass_places.specs.PlacedAttributes.{attributes_at};
 
 /// The info string that a fenced code block names is read from its range. The block begins at an offset with a fence of
 /// this length and byte (CommonMark 4.5).
@@ -55,6 +61,13 @@ pub fn setext_attributes_are_read()
         → IfSome marker (λ x. x.«end» ≤ start) → start ≤ length d.text
         → lines ≡ lines_from d.text (start + line_len (drop start d.text)) → IsPlainText d path start marker lines t
         → FirstIsReadFromText d t.items }
+{}
+
+/// The attributes at the places that are found are those of the bytes between the braces of the heading's block: the
+/// last id, and the classes and the keys with their values in order (this project).
+pub fn attributes_have_places()
+    ensures { (text : List ℕ) (x : Item) (block : Range ℕ) → attribute_range text x ≡ Some block
+        → attributes_at text (attribute_places text x) ≡ attributes_of (bytes_in text block) }
 {}
 
 /// In a derived tree each node that starts between two characters has an ASCII mark. So the range of what it names

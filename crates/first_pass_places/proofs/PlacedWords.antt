@@ -1,0 +1,268 @@
+-- The attributes at the places that are found are those of the words of the block.
+use Rattle.std.proofs.Common.{◌≡◌, ℕ, suc, ◌+◌, ◌-◌, ◌<◌, ◌≤◌, ◌==◌, ◌||◌, not, cond, Bool, true, false, nat_lt, List, [], ◌∷◌, ◌++◌, All, length}
+use Rattle.std.proofs.Common.{take, drop, map, filter, position, slice_index, Option, Some, None, refl, sym, ap, subst, ◌∙◌, arith, inl, inr, if◌then◌else◌}
+use Rattle.std.specs.List.{slice_range, slice_split, onto_first}
+use Rattle.std.specs.Option.{option_map_or}
+use Rattle.std.specs.declared.ops.Range.{Range}
+use Rattle.std.proofs.lemmas.Bool.{cases_lt, eqb-true, le-ltb, lt-ltb, ltb-false, ltb-true, ne_eqb}
+use Rattle.std.proofs.lemmas.List.{drop-drop, drop-take, take-append-drop, take-take}
+use Rattle.std.proofs.lemmas.List.Elements.{All-head, All-tail, filter_passes}
+use Rattle.std.proofs.lemmas.List.Quantifiers.{position-Some}
+use Rattle.first_pass_items.specs.Bytes.{number_sign, full_stop, equals_sign}
+use Rattle.first_pass_items.specs.declared.item.Item.{Item}
+use Rattle.first_pass_lines.specs.Lines.{begins}
+use Rattle.first_pass_attributes.specs.Attributes.{Attributes, is_between_words, is_attribute_word, words, marked, gives_key, key_and_value, last_or}
+use Rattle.first_pass_attributes.specs.Attributes.{no_attributes, with_words, attributes_of}
+use Rattle.first_pass_places.specs.declared.attributes.AttributeKind.{AttributeKind}
+use Rattle.first_pass_places.specs.declared.attributes.AttributeKind.TheVariants.{Id, Class, Key}
+use Rattle.first_pass_places.specs.declared.attributes.AttributePlace.{AttributePlace}
+use Rattle.first_pass_places.specs.AttributeBlockPlaces.{attribute_range}
+use Rattle.first_pass_places.specs.AttributePlaces.{range_of, is_word_range, ranges_from, word_ranges, place_of, key_with, key_place, attribute_place}
+use Rattle.first_pass_places.specs.AttributePlaces.{places_in, attribute_places}
+use Rattle.first_pass_places.specs.InfoStrings.{bytes_in}
+use Rattle.first_pass_places.specs.PlacedAttributes.{is_id, is_class, is_key, name_at, key_at, attributes_at}
+use Rattle.first_pass_places.proofs.BlockPlaces.{part_at, part_short}
+
+-- the ids, the classes and the keys at places
+abbrev ids_at : List ℕ → List AttributePlace → List (List ℕ)
+ids_at text places = map (name_at text) (filter (λ place. is_id place.kind) places)
+
+abbrev classes_at : List ℕ → List AttributePlace → List (List ℕ)
+classes_at text places = map (name_at text) (filter (λ place. is_class place.kind) places)
+
+abbrev keys_at : List ℕ → List AttributePlace → List (List ℕ × Option (List ℕ))
+keys_at text places = map (key_at text) (filter (λ place. is_key place.kind) places)
+
+-- they are those of words
+record AreSame (text : List ℕ) (places : List AttributePlace) (ws : List (List ℕ)) : Type 0 where
+  ids : ids_at text places ≡ marked number_sign ws
+  classes : classes_at text places ≡ marked full_stop ws
+  keys : keys_at text places ≡ map key_and_value (filter gives_key ws)
+
+-- the last bytes, and the first bytes, of a part of a text
+later_bytes : (text : List ℕ) (s e k : ℕ) → s + k ≤ e → bytes_in text (range_of (s + k) e) ≡ drop k (slice_range text s e)
+later_bytes text s e k fits =
+    let whole : e - s ≡ k + (e - (s + k)) = omega (arith, fits) in
+    sym (ap (λ n. drop k (take n (drop s text))) whole ∙ drop-take k (e - (s + k)) (drop s text) ∙ ap (take (e - (s + k))) (drop-drop k s text))
+
+first_bytes : (text : List ℕ) (s e k : ℕ) → s + k ≤ e → bytes_in text (range_of s (s + k)) ≡ take k (slice_range text s e)
+first_bytes text s e k fits =
+    let size : s + k - s ≡ k = omega arith in
+    ap (λ n. take n (drop s text)) size ∙ sym (take-take k (e - s) (drop s text) (omega (arith, fits)))
+
+-- what a word begins with
+begins_first : (c : ℕ) (word : List ℕ) → 0 < c → begins c word ≡ (slice_index word 0 == c)
+begins_first c [] some = sym (ne_eqb 0 c (λ h. omega (arith, h, some)))
+begins_first c (b ∷ bs) some = refl
+
+-- a word, and what it begins with
+record IsMarked (text : List ℕ) (range : Range ℕ) (sign stop : Bool) : Type 0 where
+  order : range.start + 1 < range.«end»
+  begins_sign : begins number_sign (bytes_in text range) ≡ sign
+  begins_stop : begins full_stop (bytes_in text range) ≡ stop
+
+-- an id
+id_same : (text : List ℕ) (range : Range ℕ) (places : List AttributePlace) (ws : List (List ℕ)) → IsMarked text range true false → AreSame text places ws
+    → AreSame text (place_of Id (range_of (range.start + 1) range.«end») ∷ places) (bytes_in text range ∷ ws)
+id_same text range places ws is same =
+    let word : List ℕ = bytes_in text range in
+    let order = is.order in
+    let name = later_bytes text range.start range.«end» 1 (omega (arith, order)) in
+    record {
+      ids = ap (λ (l : List ℕ). l ∷ ids_at text places) name ∙ ap (λ (ls : List (List ℕ)). drop 1 word ∷ ls) same.ids
+          ∙ sym (ap (λ t. map (drop 1) (cond t (word ∷ filter (begins number_sign) ws) (filter (begins number_sign) ws))) is.begins_sign);
+      classes = same.classes ∙ sym (ap (λ t. map (drop 1) (cond t (word ∷ filter (begins full_stop) ws) (filter (begins full_stop) ws))) is.begins_stop);
+      keys = same.keys
+          ∙ sym (ap (λ t. map key_and_value (cond (not (t || begins full_stop word)) (word ∷ filter gives_key ws) (filter gives_key ws))) is.begins_sign);
+    }
+
+-- a class
+class_same : (text : List ℕ) (range : Range ℕ) (places : List AttributePlace) (ws : List (List ℕ)) → IsMarked text range false true → AreSame text places ws
+    → AreSame text (place_of Class (range_of (range.start + 1) range.«end») ∷ places) (bytes_in text range ∷ ws)
+class_same text range places ws is same =
+    let word : List ℕ = bytes_in text range in
+    let order = is.order in
+    let name = later_bytes text range.start range.«end» 1 (omega (arith, order)) in
+    let no_key : gives_key word ≡ false = ap (λ t. not (t || begins full_stop word)) is.begins_sign ∙ ap not is.begins_stop in
+    record {
+      ids = same.ids ∙ sym (ap (λ t. map (drop 1) (cond t (word ∷ filter (begins number_sign) ws) (filter (begins number_sign) ws))) is.begins_sign);
+      classes = ap (λ (l : List ℕ). l ∷ classes_at text places) name ∙ ap (λ (ls : List (List ℕ)). drop 1 word ∷ ls) same.classes
+          ∙ sym (ap (λ t. map (drop 1) (cond t (word ∷ filter (begins full_stop) ws) (filter (begins full_stop) ws))) is.begins_stop);
+      keys = same.keys ∙ sym (ap (λ t. map key_and_value (cond t (word ∷ filter gives_key ws) (filter gives_key ws))) no_key);
+    }
+
+-- a key, with or without a value
+pair_by : (text : List ℕ) (range : Range ℕ) (o : Option ℕ) → position (λ b. b == equals_sign) (bytes_in text range) ≡ o
+    → let word : List ℕ = bytes_in text range in
+    key_at text (option_map_or (key_with range) o (place_of Key range)) ≡ option_map_or (λ at. (take at word, Some (drop (at + 1) word))) o (word, None)
+pair_by text range None e = refl
+pair_by text range (Some at) e =
+    let word : List ℕ = bytes_in text range in
+    let start : ℕ = range.start in
+    let less = (position-Some (λ b. b == equals_sign) word at 0 e).0 in
+    let short = part_short text start (range.«end» - start) in
+    let next : start + at + 1 ≡ start + (at + 1) = omega arith in
+    let name = first_bytes text start range.«end» at (omega (arith, less, short)) in
+    let value = ap (λ n. bytes_in text (range_of n range.«end»)) next ∙ later_bytes text start range.«end» (at + 1) (omega (arith, less, short)) in
+    ap (λ (l : List ℕ). (l, Some (bytes_in text (range_of (start + at + 1) range.«end»)))) name ∙ ap (λ (l : List ℕ). (take at word, Some l)) value
+
+pair_is : (text : List ℕ) (range : Range ℕ) → key_at text (key_place text range) ≡ key_and_value (bytes_in text range)
+unfolding key_and_value
+pair_is text range = pair_by text range (position (λ b. b == equals_sign) (bytes_in text range)) refl
+
+kind_by : (range : Range ℕ) (o : Option ℕ) → (option_map_or (key_with range) o (place_of Key range)).kind ≡ Key
+kind_by range None = refl
+kind_by range (Some at) = refl
+
+key_same : (text : List ℕ) (range : Range ℕ) (places : List AttributePlace) (ws : List (List ℕ)) → IsMarked text range false false → AreSame text places ws
+    → AreSame text (key_place text range ∷ places) (bytes_in text range ∷ ws)
+key_same text range places ws is same =
+    let word : List ℕ = bytes_in text range in
+    let place : AttributePlace = key_place text range in
+    let kind : place.kind ≡ Key = kind_by range (position (λ b. b == equals_sign) word) in
+    let a_key : gives_key word ≡ true = ap (λ t. not (t || begins full_stop word)) is.begins_sign ∙ ap not is.begins_stop in
+    let ids : List AttributePlace = filter (λ p. is_id p.kind) places in
+    let classes : List AttributePlace = filter (λ p. is_class p.kind) places in
+    let keys : List AttributePlace = filter (λ p. is_key p.kind) places in
+    record {
+      ids = ap (λ (k : AttributeKind). map (name_at text) (cond (is_id k) (place ∷ ids) ids)) kind ∙ same.ids
+          ∙ sym (ap (λ t. map (drop 1) (cond t (word ∷ filter (begins number_sign) ws) (filter (begins number_sign) ws))) is.begins_sign);
+      classes = ap (λ (k : AttributeKind). map (name_at text) (cond (is_class k) (place ∷ classes) classes)) kind ∙ same.classes
+          ∙ sym (ap (λ t. map (drop 1) (cond t (word ∷ filter (begins full_stop) ws) (filter (begins full_stop) ws))) is.begins_stop);
+      keys = ap (λ (k : AttributeKind). map (key_at text) (cond (is_key k) (place ∷ keys) keys)) kind
+          ∙ ap (λ (x : List ℕ × Option (List ℕ)). x ∷ keys_at text places) (pair_is text range)
+          ∙ ap (λ (xs : List (List ℕ × Option (List ℕ))). key_and_value word ∷ xs) same.keys
+          ∙ sym (ap (λ t. map key_and_value (cond t (word ∷ filter gives_key ws) (filter gives_key ws))) a_key);
+    }
+
+-- one word more
+more_by : (text : List ℕ) (range : Range ℕ) (places : List AttributePlace) (ws : List (List ℕ)) (t v : Bool) → IsMarked text range t v
+    → (slice_index text range.start == number_sign) ≡ t → (slice_index text range.start == full_stop) ≡ v → AreSame text places ws
+    → AreSame text ((if t then place_of Id (range_of (range.start + 1) range.«end»)
+    else (if v then place_of Class (range_of (range.start + 1) range.«end») else key_place text range)) ∷ places) (bytes_in text range ∷ ws)
+more_by text range places ws true true is e f same =
+    let sign = eqb-true (slice_index text range.start) number_sign e in
+    let stop = eqb-true (slice_index text range.start) full_stop f in
+    absurd (omega (arith, sign, stop))
+more_by text range places ws true false is e f same = id_same text range places ws is same
+more_by text range places ws false true is e f same = class_same text range places ws is same
+more_by text range places ws false false is e f same = key_same text range places ws is same
+
+more_same : (text : List ℕ) (range : Range ℕ) (places : List AttributePlace) (ws : List (List ℕ)) → range.start + 1 < range.«end» → AreSame text places ws
+    → AreSame text (attribute_place text range ∷ places) (bytes_in text range ∷ ws)
+more_same text range places ws order same =
+    let word : List ℕ = bytes_in text range in
+    let place : range.start + 0 ≡ range.start = omega arith in
+    let first : slice_index word 0 ≡ slice_index text range.start =
+    part_at text range.start (range.«end» - range.start) 0 (omega (arith, order)) ∙ ap (slice_index text) place in
+    more_by text range places ws (slice_index text range.start == number_sign) (slice_index text range.start == full_stop)
+    (record {
+      order = order;
+      begins_sign = begins_first number_sign word (omega arith) ∙ ap (λ b. b == number_sign) first;
+      begins_stop = begins_first full_stop word (omega arith) ∙ ap (λ b. b == full_stop) first;
+    }) refl refl same
+
+all_same : (text : List ℕ) (ranges : List (Range ℕ)) → All (λ range. is_word_range range ≡ true) ranges
+    → AreSame text (map (attribute_place text) ranges) (map (bytes_in text) ranges)
+all_same text [] h = record { ids = refl; classes = refl; keys = refl }
+all_same text (range ∷ ranges) h =
+    let first = All-head (λ r. is_word_range r ≡ true) range ranges h in
+    let later = All-tail (λ r. is_word_range r ≡ true) range ranges h in
+    more_same text range (map (attribute_place text) ranges) (map (bytes_in text) ranges) (ltb-true (range.start + 1) range.«end» first)
+    (all_same text ranges later)
+
+-- parts of a text follow one another from an offset on, with a byte between two parts
+abbrev AreAt : List ℕ → ℕ → List (List ℕ) → Type 0
+AreAt text at [] = Unit {0}
+AreAt text at (part ∷ parts) = (take (length part) (drop at text) ≡ part) × AreAt text (at + length part + 1) parts
+
+step_at : (text rest : List ℕ) (at b : ℕ) (t : Bool) (parts : List (List ℕ)) → drop at text ≡ b ∷ rest → drop (at + 1) text ≡ rest → AreAt text (at + 1) parts
+    → AreAt text at (cond t ([] ∷ parts) (onto_first b parts))
+step_at text rest at b true parts e f h =
+    let next : at + 1 ≡ at + 0 + 1 = omega arith in (refl, subst (λ n. AreAt text n parts) next h)
+step_at text rest at b false [] e f h = (ap (take 1) e, tt)
+step_at text rest at b false (part ∷ parts) e f h =
+    let next : at + 1 + length part + 1 ≡ at + suc (length part) + 1 = omega arith in
+    (ap (take (suc (length part))) e ∙ ap (λ l. b ∷ l) (ap (take (length part)) (sym f) ∙ h.0), subst (λ n. AreAt text n parts) next h.1)
+
+split_at : (text : List ℕ) (at : ℕ) (bs tail : List ℕ) → drop at text ≡ bs ++ tail → AreAt text at (slice_split is_between_words bs)
+split_at text at [] tail e = (refl, tt)
+split_at text at (b ∷ bs) tail e =
+    let next : drop (at + 1) text ≡ bs ++ tail = sym (drop-drop 1 at text) ∙ ap (drop 1) e in
+    step_at text (bs ++ tail) at b (is_between_words b) (slice_split is_between_words bs) e next (split_at text (at + 1) bs tail next)
+
+-- their ranges have their bytes
+chosen : (f : Range ℕ → List ℕ) (range : Range ℕ) (part : List ℕ) (ranges : List (Range ℕ)) (parts : List (List ℕ)) (t : Bool) → f range ≡ part
+    → map f ranges ≡ parts → map f (cond t (range ∷ ranges) ranges) ≡ cond t (part ∷ parts) parts
+chosen f range part ranges parts true e h = ap (λ (l : List ℕ). l ∷ map f ranges) e ∙ ap (λ (ls : List (List ℕ)). part ∷ ls) h
+chosen f range part ranges parts false e h = h
+
+shifted : (at n : ℕ) → nat_lt (at + 1) (at + n) ≡ nat_lt 1 n
+shifted at n = elim (cases_lt 1 n) as (λ _. nat_lt (at + 1) (at + n) ≡ nat_lt 1 n) [
+  | inl less ↦ lt-ltb (at + 1) (at + n) (omega (arith, less)) ∙ sym (lt-ltb 1 n less)
+  | inr past ↦ le-ltb (at + 1) (at + n) (omega (arith, past)) ∙ sym (le-ltb 1 n past)
+]
+
+ranges_have : (text : List ℕ) (at : ℕ) (parts : List (List ℕ)) → AreAt text at parts
+    → map (bytes_in text) (filter is_word_range (ranges_from at parts)) ≡ filter is_attribute_word parts
+ranges_have text at [] h = refl
+ranges_have text at (part ∷ parts) h =
+    let n : ℕ = length part in
+    let range : Range ℕ = range_of at (at + n) in
+    let ranges : List (Range ℕ) = filter is_word_range (ranges_from (at + n + 1) parts) in
+    let size : at + n - at ≡ n = omega arith in
+    let bytes : bytes_in text range ≡ part = ap (λ k. take k (drop at text)) size ∙ h.0 in
+    ap (λ t. map (bytes_in text) (cond t (range ∷ ranges) ranges)) (shifted at n)
+    ∙ chosen (bytes_in text) range part ranges (filter is_attribute_word parts) (is_attribute_word part) bytes (ranges_have text (at + n + 1) parts h.1)
+
+-- the words of two bytes or more are not empty
+kept_by : (t u : Bool) (part : List ℕ) (parts rest : List (List ℕ)) → (t ≡ false → u ≡ false) → is_attribute_word part ≡ u
+    → filter is_attribute_word parts ≡ filter is_attribute_word rest
+    → filter is_attribute_word (cond t (part ∷ parts) parts) ≡ cond u (part ∷ filter is_attribute_word rest) (filter is_attribute_word rest)
+kept_by true u part parts rest none e h =
+    ap (λ v. cond v (part ∷ filter is_attribute_word parts) (filter is_attribute_word parts)) e
+    ∙ ap (λ (ls : List (List ℕ)). cond u (part ∷ ls) ls) h
+kept_by false u part parts rest none e h =
+    h ∙ sym (ap (λ v. cond v (part ∷ filter is_attribute_word rest) (filter is_attribute_word rest)) (none refl))
+
+some_long : (n : ℕ) → nat_lt 0 n ≡ false → nat_lt 1 n ≡ false
+some_long n e = let none = ltb-false 0 n e in le-ltb 1 n (omega (arith, none))
+
+long_words : (parts : List (List ℕ)) → filter is_attribute_word (filter (λ part. nat_lt 0 (length part)) parts) ≡ filter is_attribute_word parts
+long_words [] = refl
+long_words (part ∷ parts) =
+    kept_by (nat_lt 0 (length part)) (is_attribute_word part) part (filter (λ p. nat_lt 0 (length p)) parts) parts (some_long (length part)) refl
+    (long_words parts)
+
+-- the attributes of the words
+abbrev attributes_from : List (List ℕ) → List (List ℕ) → List (List ℕ × Option (List ℕ)) → Attributes
+attributes_from ids classes keys = record { id = last_or None ids; classes = classes; attrs = keys }
+
+same_attributes : (text : List ℕ) (places : List AttributePlace) (ws : List (List ℕ)) → AreSame text places ws
+    → attributes_at text places ≡ with_words no_attributes ws
+unfolding with_words
+same_attributes text places ws same =
+    ap (λ (ids : List (List ℕ)). attributes_from ids (classes_at text places) (keys_at text places)) same.ids
+    ∙ ap (λ (classes : List (List ℕ)). attributes_from (marked number_sign ws) classes (keys_at text places)) same.classes
+    ∙ ap (λ (keys : List (List ℕ × Option (List ℕ))). attributes_from (marked number_sign ws) (marked full_stop ws) keys) same.keys
+
+block_attributes : (text : List ℕ) (block : Range ℕ) → attributes_at text (places_in text block) ≡ attributes_of (bytes_in text block)
+unfolding attributes_of words word_ranges
+block_attributes text block =
+    let bs : List ℕ = bytes_in text block in
+    let rest : List ℕ = drop block.start text in
+    let size : ℕ = block.«end» - block.start in
+    let parts : List (List ℕ) = slice_split is_between_words bs in
+    let ranges : List (Range ℕ) = filter is_word_range (ranges_from block.start parts) in
+    let ws : List (List ℕ) = filter is_attribute_word parts in
+    let at : AreAt text block.start parts = split_at text block.start bs (drop size rest) (sym (take-append-drop size rest)) in
+    let same : AreSame text (map (attribute_place text) ranges) ws =
+    subst (AreSame text (map (attribute_place text) ranges)) (ranges_have text block.start parts at)
+    (all_same text ranges (filter_passes is_word_range (ranges_from block.start parts))) in
+    same_attributes text (map (attribute_place text) ranges) ws same ∙ ap (with_words no_attributes) (sym (long_words parts))
+
+-- the attributes of a heading
+pub placed_attributes : (text : List ℕ) (x : Item) (block : Range ℕ) → attribute_range text x ≡ Some block
+    → attributes_at text (attribute_places text x) ≡ attributes_of (bytes_in text block)
+placed_attributes text x block e =
+    ap (λ (o : Option (Range ℕ)). attributes_at text (option_map_or (places_in text) o [])) e ∙ block_attributes text block

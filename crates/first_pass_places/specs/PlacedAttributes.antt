@@ -1,0 +1,39 @@
+-- The attributes that a text has at the places that are found (this project).
+use Rattle.std.specs.Prelude.{ℕ, Bool, true, false, List, map, filter, Option, None}
+use Rattle.std.specs.Option.{option_map}
+use Rattle.first_pass_attributes.specs.Attributes.{Attributes, last_or}
+use Rattle.first_pass_places.specs.declared.attributes.AttributeKind.{AttributeKind}
+use Rattle.first_pass_places.specs.declared.attributes.AttributeKind.TheVariants.{Id, Class, Key}
+use Rattle.first_pass_places.specs.declared.attributes.AttributePlace.{AttributePlace}
+use Rattle.first_pass_places.specs.InfoStrings.{bytes_in}
+
+-- an attribute of this kind is an id (this project)
+abbrev pub is_id : AttributeKind → Bool
+is_id Id = true
+is_id _ = false
+
+-- an attribute of this kind is a class (this project)
+abbrev pub is_class : AttributeKind → Bool
+is_class Class = true
+is_class _ = false
+
+-- an attribute of this kind is a key, with or without a value (this project)
+abbrev pub is_key : AttributeKind → Bool
+is_key Key = true
+is_key _ = false
+
+-- the bytes of an id, a class or a key (this project)
+abbrev pub name_at : List ℕ → AttributePlace → List ℕ
+name_at text place = bytes_in text place.name
+
+-- the bytes of a key, and those of its value, if it has one (this project)
+abbrev pub key_at : List ℕ → AttributePlace → List ℕ × Option (List ℕ)
+key_at text place = (name_at text place, option_map (bytes_in text) place.value)
+
+-- the attributes at these places: the last id, if there is one, and the classes and the keys in order (this project)
+abbrev pub attributes_at : List ℕ → List AttributePlace → Attributes
+attributes_at text places = record {
+  id = last_or None (map (name_at text) (filter (λ place. is_id place.kind) places));
+  classes = map (name_at text) (filter (λ place. is_class place.kind) places);
+  attrs = map (key_at text) (filter (λ place. is_key place.kind) places);
+}
