@@ -11,7 +11,7 @@ use Rattle.first_pass_labels.specs.LabelTables.{with_first, with_all}
 use Rattle.first_pass_grammar.specs.Names.{Names}
 use Rattle.first_pass_places.specs.FootnoteNodes.{label_in, labels_from, entry_bytes, AreFirstNodes, AddsNode}
 
-all_after : {X : Type 0} (es ds fs : List (CowStr × X)) → with_all es (ds ++ fs) ≡ with_all (with_all es ds) fs
+pub all_after : {X : Type 0} (es ds fs : List (CowStr × X)) → with_all es (ds ++ fs) ≡ with_all (with_all es ds) fs
 unfolding with_all
 all_after es [] fs = refl
 all_after es (d ∷ ds) fs = all_after (with_first es d.0 d.1) ds fs

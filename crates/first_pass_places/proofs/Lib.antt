@@ -1,11 +1,14 @@
 pub mod BlockPlaces
 pub mod FootnoteEntries
 pub mod FootnotePlaces
+pub mod FootnoteTables
 pub mod HeadingPlaces
 pub mod InfoFacts
 pub mod LabelPlaces
+pub mod LabelRows
 pub mod MarkedBlocks
 pub mod MarkedNodes
+pub mod NamedHeads
 pub mod PlacedWords
 pub mod PrefixBytes
 pub mod RangeBoundaries

@@ -23,6 +23,10 @@ labels_from names index (n ∷ nodes) = label_in names index n.1.body ++ labels_
 abbrev pub entry_bytes : CowStr × ℕ → List ℕ × ℕ
 entry_bytes entry = (text_of entry.0, entry.1)
 
+-- the label of an entry as bytes (this project)
+abbrev pub entry_label : CowStr × ℕ → List ℕ
+entry_label entry = text_of entry.0
+
 -- the table has the first of these labels with each folding, with the index of its node (this project)
 pub record AreFirstNodes (names : Names) (nodes : List (ℕ × Item)) (table : List (CowStr × ℕ)) : Type 0 where
   pub definitions : List (CowStr × ℕ)

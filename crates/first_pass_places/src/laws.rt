@@ -1,7 +1,8 @@
-//! Laws of the ranges: what a node names is what is read from its range in the text.
+//! Laws of the ranges: what a node names is what is read from its range in the text. Also a law of the table of nodes.
 
-ghost use Rattle.std.specs.Prelude.{◌≡◌, ◌+◌, ◌≤◌, ℕ, List, Option, Some, IfSome, drop, length};
+ghost use Rattle.std.specs.Prelude.{◌≡◌, ◌+◌, ◌≤◌, ℕ, List, Option, Some, IfSome, drop, length, map};
 ghost use Rattle.std.specs.declared.ops.Range.{Range};
+ghost use Rattle.first_pass_items.specs.declared.cow_str.CowStr.{CowStr};
 ghost use Rattle.first_pass_items.specs.declared.item.CowIndex.{CowIndex};
 ghost use Rattle.first_pass_items.specs.declared.item.HeadingIndex.{HeadingIndex};
 ghost use Rattle.first_pass_items.specs.declared.item.HeadingLevel.{HeadingLevel};
@@ -22,6 +23,7 @@ ghost use Rattle.first_pass_grammar.specs.Texts.{IsPlainText};
 ghost use Rattle.first_pass_places.specs.AttributeBlockPlaces.{attribute_range};
 ghost use Rattle.first_pass_places.specs.AttributePlaces.{attribute_places};
 ghost use Rattle.first_pass_places.specs.FootnoteLabels.{label_range};
+ghost use Rattle.first_pass_places.specs.FootnoteNodes.{AreFirstNodes, entry_label};
 ghost use Rattle.first_pass_places.specs.InfoStrings.{bytes_in};
 ghost use Rattle.first_pass_places.specs.NamePlaces.{FirstIsReadFromText, HaveAsciiMarks, NamesLabelAt};
 ghost use Rattle.first_pass_places.specs.PlacedAttributes.{attributes_at};
@@ -75,4 +77,11 @@ pub fn attributes_have_places()
 pub fn nodes_have_ascii_marks()
     ensures { (d : Document) (nodes : List (ℕ × Item)) (tables : Tables) → Derives d nodes tables
         → HaveAsciiMarks d.text nodes }
+{}
+
+/// In a derived tree, the first nodes of footnote definitions have the labels of its table of footnotes, in the order
+/// of that table (this project).
+pub fn footnotes_have_nodes()
+    ensures { (d : Document) (nodes : List (ℕ × Item)) (tables : Tables) (table : List (CowStr × ℕ))
+        → Derives d nodes tables → AreFirstNodes d.names nodes table → map entry_label table ≡ tables.footnotes }
 {}
