@@ -1,7 +1,8 @@
 -- Records written from the last to the first.
 use Rattle.std.proofs.Common.{◌≡◌, ◌≢◌, ℕ, zero, suc, inl, inr, ◌+◌, ◌-◌, ◌<◌, ◌≤◌, List, [], ◌∷◌, ◌++◌, length, take, drop, get_or, slice_get, Some, All}
-use Rattle.std.proofs.Common.{set, refl, sym, ap, subst, ◌∙◌, add-zero, length-append, length-set, drop-cons, arith}
+use Rattle.std.proofs.Common.{Option, set, refl, sym, ap, subst, ◌∙◌, add-zero, length-append, length-set, drop-cons, unwrap_or, arith}
 use Rattle.std.specs.List.{flat_map}
+use Rattle.std.specs.Option.{option_map}
 use Rattle.std.proofs.lemmas.Bool.{cases_eq}
 use Rattle.std.proofs.lemmas.Grind.{flat_map-append}
 use Rattle.std.proofs.lemmas.List.{append-nil, take_more, drop-set, drop_all, get_or-set_same, get_or-set_other, take_all}
@@ -10,7 +11,8 @@ use Rattle.first_pass_items.specs.declared.item.Item.{Item}
 use Rattle.first_pass_grammar.specs.Names.{Names}
 use Rattle.first_pass_flat.specs.FlatAttributes.{attributes_by}
 use Rattle.first_pass_flat.specs.FlatNodes.{IsShort, deeper_before, first_place, flat_node, flat_nodes, name_by, place_after}
-use Rattle.first_pass_flat.specs.Linked.{AreLinked}
+use Rattle.first_pass_flat.specs.Linked.{AreLinked, depth_at}
+use Rattle.first_pass_flat.specs.Steps.{IsRecordWritten, NeedsMoreBits}
 use Rattle.first_pass_flat.specs.declared.nodes.FlatPlace.{FlatPlace}
 use Rattle.first_pass_flat.specs.declared.records.FlatNode.{FlatNode}
 
@@ -191,28 +193,45 @@ here_before names nodes at before n h within e =
     let same : at.node - 1 ≡ before.node = omega arith in
     subst (λ k. slice_get nodes k ≡ Some (get_or nodes (at.node - 1) n)) same (slice_get-get_or nodes (at.node - 1) n (omega arith))
 
-next_is_so : (names : Names) (nodes : List (ℕ × Item)) (at before : FlatPlace) (n : ℕ × Item) (depth next : ℕ) → at ≡ place_after names n.1.body before
-    → next ≡ at.node + deeper_before depth (drop at.node nodes) → next ≡ (before.node + 1) + deeper_before depth (drop at.node nodes)
-next_is_so names nodes at before n depth next e f = f ∙ ap (λ (p : FlatPlace). p.node + deeper_before depth (drop at.node nodes)) e
+-- The next record is written.
+pub record_written : (names : Names) (nodes : List (ℕ × Item)) (flat new : List FlatNode) (at before : FlatPlace) (n : ℕ × Item) (next : ℕ)
+    → AreFilled names nodes flat at → 0 < at.node → next ≡ at.node + deeper_before (get_or nodes (at.node - 1) n).0 (drop at.node nodes)
+    → IsRecordWritten names (get_or nodes (at.node - 1) n) next flat new at before → AreFilled names nodes new before
+record_written names nodes flat new at before n next f h next_is w =
+    subst (λ l. AreFilled names nodes l before) (sym (w.written (drop at.node nodes) next_is))
+    (one_filled names nodes flat at before (get_or nodes (at.node - 1) n) (flat_node names before (get_or nodes (at.node - 1) n) (drop at.node nodes)) f w.place
+    (here_before names nodes at before n h f.within w.place) refl)
 
--- the next record is written
-pub record_written : (names : Names) (nodes : List (ℕ × Item)) (flat : List FlatNode) (at before : FlatPlace) (n : ℕ × Item) (next : ℕ) (r : FlatNode)
-    → AreFilled names nodes flat at → 0 < at.node → at ≡ place_after names (get_or nodes (at.node - 1) n).1.body before
-    → next ≡ at.node + deeper_before (get_or nodes (at.node - 1) n).0 (drop at.node nodes)
-    → ((later : List (ℕ × Item)) → next ≡ (before.node + 1) + deeper_before (get_or nodes (at.node - 1) n).0 later
-    → r ≡ flat_node names before (get_or nodes (at.node - 1) n) later)
-    → AreFilled names nodes (set flat before.node r) before
-record_written names nodes flat at before n next r f h e next_is made =
-    one_filled names nodes flat at before (get_or nodes (at.node - 1) n) r f e (here_before names nodes at before n h f.within e)
-    (made (drop at.node nodes) (next_is_so names nodes at before (get_or nodes (at.node - 1) n) _ next e next_is))
+-- the depth of the node whose record was written
+pub depth_kept : (names : Names) (nodes : List (ℕ × Item)) (flat new : List FlatNode) (at before : FlatPlace) (n : ℕ × Item) (next : ℕ)
+    → AreFilled names nodes flat at → 0 < at.node → IsRecordWritten names (get_or nodes (at.node - 1) n) next flat new at before
+    → (get_or nodes (at.node - 1) n).0 ≡ depth_at nodes before.node
+depth_kept names nodes flat new at before n next f h w =
+    ap (λ (o : Option (ℕ × Item)). unwrap_or (option_map (λ m. m.0) o) 0) (sym (here_before names nodes at before n h f.within w.place))
 
--- the next record isn't short
-pub record_long : (names : Names) (nodes : List (ℕ × Item)) (flat : List FlatNode) (at before : FlatPlace) (n : ℕ × Item) (next : ℕ)
-    → AreFilled names nodes flat at → 0 < at.node → at ≡ place_after names (get_or nodes (at.node - 1) n).1.body before
-    → next ≡ at.node + deeper_before (get_or nodes (at.node - 1) n).0 (drop at.node nodes)
-    → ((later : List (ℕ × Item)) → next ≡ (before.node + 1) + deeper_before (get_or nodes (at.node - 1) n).0 later
-    → IsShort (flat_node names before (get_or nodes (at.node - 1) n) later) → ⊥)
-    → All IsShort (flat_nodes names first_place nodes) → ⊥
-record_long names nodes flat at before n next f h e next_is long all =
-    long (drop at.node nodes) (next_is_so names nodes at before (get_or nodes (at.node - 1) n) _ next e next_is)
-    (short_before names nodes flat at before (get_or nodes (at.node - 1) n) f e (here_before names nodes at before n h f.within e) all)
+-- the place before the node that is written next
+place_there : (names : Names) (nodes : List (ℕ × Item)) (flat : List FlatNode) (at : FlatPlace) (n : ℕ × Item) → AreFilled names nodes flat at → 0 < at.node
+    → at
+    ≡ place_after names (get_or nodes (at.node - 1) n).1.body
+    (record {
+      node = at.node - 1;
+      name = length (flat_map (name_by names) (take (at.node - 1) nodes));
+      attribute = length (flat_map (attributes_by names) (take (at.node - 1) nodes));
+    })
+place_there names nodes flat at n f h =
+    let m = get_or nodes (at.node - 1) n in
+    let within = f.within in
+    let here : slice_get nodes (at.node - 1) ≡ Some m = slice_get-get_or nodes (at.node - 1) n (omega arith) in
+    let one : at.node ≡ (at.node - 1) + 1 = omega arith in
+    place_by _ _ _ _ _ _ one
+    (f.name_is ∙ ap (λ k. length (flat_map (name_by names) (take k nodes))) one ∙ more_of (name_by names) nodes (at.node - 1) m here)
+    (f.attribute_is ∙ ap (λ k. length (flat_map (attributes_by names) (take k nodes))) one ∙ more_of (attributes_by names) nodes (at.node - 1) m here)
+
+-- The next record isn't short.
+pub record_long : (names : Names) (nodes : List (ℕ × Item)) (flat : List FlatNode) (at : FlatPlace) (n : ℕ × Item) (next : ℕ) → AreFilled names nodes flat at
+    → 0 < at.node → next ≡ at.node + deeper_before (get_or nodes (at.node - 1) n).0 (drop at.node nodes)
+    → NeedsMoreBits names (get_or nodes (at.node - 1) n) next at → All IsShort (flat_nodes names first_place nodes) → ⊥
+record_long names nodes flat at n next f h next_is long all =
+    let e = place_there names nodes flat at n f h in
+    long _ (drop at.node nodes) e next_is
+    (short_before names nodes flat at _ (get_or nodes (at.node - 1) n) f e (here_before names nodes at _ n h f.within e) all)

@@ -1,14 +1,15 @@
 -- The first later node that is not deeper.
-use Rattle.std.proofs.Common.{◌≡◌, ℕ, suc, ◌+◌, ◌-◌, ◌<◌, ◌≤◌, Bool, true, false, cond, List, [], ◌∷◌, length, drop, get_or, slice_get, Some, refl, sym, ap}
-use Rattle.std.proofs.Common.{◌∙◌, zero-add, add_assoc, nat_lt, length-drop, arith}
-use Rattle.std.proofs.lemmas.Bool.{lt-ltb, ltb-true}
+use Rattle.std.proofs.Common.{◌≡◌, ℕ, suc, ◌+◌, ◌-◌, ◌<◌, ◌≤◌, Bool, true, false, cond, List, [], ◌∷◌, length, drop, get_or, slice_get, unwrap_or, Option, Some}
+use Rattle.std.proofs.Common.{inl, inr, refl, sym, ap, ◌∙◌, zero-add, add_assoc, nat_lt, length-drop, arith}
+use Rattle.std.proofs.lemmas.Bool.{cases_lt, le-ltb, lt-ltb, ltb-true}
 use Rattle.std.proofs.lemmas.List.{drop-drop}
-use Rattle.std.proofs.lemmas.Option.{slice_get_within, get_or_from_slice_get, slice_get-get_or}
-use Rattle.std.proofs.lemmas.List.Sums.{prefix_len-drop_yes, prefix_len-le-length}
+use Rattle.std.proofs.lemmas.Option.{slice_get_cases, slice_get_past, slice_get_within, get_or_from_slice_get, slice_get-get_or}
+use Rattle.std.proofs.lemmas.List.Sums.{prefix_len-drop_all, prefix_len-drop_no, prefix_len-drop_yes, prefix_len-le-length}
+use Rattle.std.specs.Option.{option_map}
 use Rattle.std.specs.List.{prefix_len}
 use Rattle.first_pass_items.specs.declared.item.Item.{Item}
 use Rattle.first_pass_flat.specs.FlatNodes.{deeper_before}
-use Rattle.first_pass_flat.specs.Linked.{AreLinked}
+use Rattle.first_pass_flat.specs.Linked.{AreLinked, depth_at}
 use Rattle.first_pass_flat.specs.declared.records.FlatNode.{FlatNode}
 
 module _ {X : Type 0} (p q : X → Bool) where
@@ -82,3 +83,37 @@ fewer_left nodes flat depth from at n r within same deeper linked g =
     let further = passed.0 in
     let inside = passed.1.within in
     omega arith
+
+depth_within : (nodes : List (ℕ × Item)) (at : ℕ) (n : ℕ × Item) → at < length nodes → depth_at nodes at ≡ (get_or nodes at n).0
+depth_within nodes at n h = ap (λ (o : Option (ℕ × Item)). unwrap_or (option_map (λ m. m.0) o) 0) (slice_get-get_or nodes at n h)
+
+pub depth_past : (nodes : List (ℕ × Item)) (at : ℕ) → length nodes ≤ at → depth_at nodes at ≡ 0
+depth_past nodes at h = ap (λ (o : Option (ℕ × Item)). unwrap_or (option_map (λ m. m.0) o) 0) (slice_get_past nodes at h)
+
+-- No node from here on is passed, because the next one is not deeper.
+pub none_passed : (nodes : List (ℕ × Item)) (depth at later : ℕ) → later ≡ depth_at nodes at → later ≤ depth → at ≡ at + deeper_before depth (drop at nodes)
+none_passed nodes depth at later e h =
+    elim (slice_get_cases nodes at).1 [
+      | inl w ↦
+          let is = depth_within nodes at w.0 w.1 in
+          let none = prefix_len-drop_no (λ (m : ℕ × Item). nat_lt depth m.0) nodes at w.0 w.1 (le-ltb depth (get_or nodes at w.0).0 (omega arith)) in
+          omega arith
+      | inr w ↦ let none = prefix_len-drop_all (λ (m : ℕ × Item). nat_lt depth m.0) nodes at w.0 in omega arith
+    ]
+
+-- The node at a place is deeper, so there is one.
+pub some_here : (nodes : List (ℕ × Item)) (depth at later : ℕ) → later ≡ depth_at nodes at → depth < later → at < length nodes
+some_here nodes depth at later e h =
+    elim (cases_lt at (length nodes)) [ inl inside ↦ inside | inr past ↦ let none = depth_past nodes at past in absurd (omega arith) ]
+
+-- The first deeper node and its descendants are passed.
+pub first_passed : (nodes : List (ℕ × Item)) (flat : List FlatNode) (depth from later : ℕ) (r : FlatNode) → later ≡ depth_at nodes from → depth < later
+    → length flat ≡ length nodes → AreLinked nodes flat from → GoesOn nodes depth from (get_or flat from r).next
+first_passed nodes flat depth from later r e h same linked =
+    elim (slice_get_cases nodes from).1 [
+      | inl w ↦
+          let is = depth_within nodes from w.0 w.1 in
+          let start : GoesOn nodes depth from from = record { following = omega arith; within = omega arith; same = refl } in
+          (next_passed nodes flat depth from from w.0 r w.1 same (omega arith) linked start).1
+      | inr w ↦ let none = depth_past nodes from w.0 in absurd (omega arith)
+    ]

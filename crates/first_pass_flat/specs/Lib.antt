@@ -5,5 +5,6 @@ pub mod FlatNodes
 pub mod FlatForm
 pub mod Appended
 pub mod Linked
+pub mod Steps
 pub mod Side
 pub mod Law

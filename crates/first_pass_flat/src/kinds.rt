@@ -16,7 +16,7 @@ pub struct FlatValues {
 }
 
 impl FlatValues {
-    fn of_number(number: u64) -> FlatValues
+    pub(crate) fn of_number(number: u64) -> FlatValues
         ensures { result ≡ of_number number }
     {
         FlatValues {
@@ -27,7 +27,7 @@ impl FlatValues {
         }
     }
 
-    fn of_first(first: u8) -> FlatValues
+    pub(crate) fn of_first(first: u8) -> FlatValues
         ensures { result ≡ of_first first }
     {
         FlatValues {
