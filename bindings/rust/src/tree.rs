@@ -132,7 +132,8 @@ impl<'d> Node<'d> {
     /// Where the text has what the node names: the info string of a fenced code block, the label of a footnote
     /// definition, or the attributes of a heading, between the braces. `None` if it names nothing that the text has.
     ///
-    /// The range has the bytes as they are written, with escapes and references.
+    /// The range has the bytes as they are written, with escapes and references. It begins and ends between two
+    /// characters.
     ///
     /// ```
     /// # use first_pass::Options;
