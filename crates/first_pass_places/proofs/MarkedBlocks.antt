@@ -1,5 +1,5 @@
--- In a derived sequence each fenced code block that starts between two characters begins with ASCII, and so does the
--- label of each footnote definition with its `[^`.
+-- In a derived sequence, the first byte of each fenced code block that starts between two characters is ASCII. So is
+-- the second byte of each footnote definition, the `^`.
 use Rattle.std.proofs.Common.{◌≡◌, ℕ, ◌+◌, nat_lt, Bool, true, false, List, [], ◌∷◌, length, Option, Some, None, MatchOption, IfSome}
 use Rattle.std.proofs.Common.{IsCharBoundary, is_some, inl, inr, refl, sym, ap, subst, ◌∙◌, if◌then◌else◌}
 use Rattle.std.proofs.lemmas.Bool.{true≢false}
@@ -51,26 +51,29 @@ use Rattle.first_pass_places.specs.RangeEnds.{IsAsciiAt}
 use Rattle.first_pass_places.proofs.FootnotePlaces.{head_begins, head_here}
 use Rattle.first_pass_places.proofs.RangeBoundaries.{ascii_fence, ascii_footnote}
 
--- an item that starts between two characters has an ASCII mark; the next definitions: the first of these items has one,
--- and so has the head of each footnote definition in a sequence and each first item of its leaf blocks
+-- an item that starts between two characters has an ASCII mark
 abbrev pub IsMarked : List ℕ → Item → Type 0
 IsMarked text x = IsCharBoundary text x.start → HasAsciiMark x.body text x.start
 
+-- the first of these items has such a mark
 abbrev pub FirstMarked : List ℕ → List (ℕ × Item) → Type 0
 FirstMarked text [] = Unit {0}
 FirstMarked text (x ∷ items) = IsMarked text x.1
 
+-- a footnote definition that begins at this offset has an ASCII mark
 abbrev pub OpenerMarked : List ℕ → ℕ → Opener → Type 0
 OpenerMarked text start (QuoteMarker kind) = Unit {0}
 OpenerMarked text start (ItemMarker byte number columns) = Unit {0}
 OpenerMarked text start (FootnoteMarker columns index label) = IsAsciiAt text (start + 1)
 OpenerMarked text start (DefinitionMarker columns) = Unit {0}
 
+-- each footnote definition in a sequence has one
 unfoldable pub AreMarkedHeads : List ℕ → Skeleton → Type 0
 AreMarkedHeads text Nil = Unit {0}
 AreMarkedHeads text (Then leaf next) = AreMarkedHeads text next
 AreMarkedHeads text (Node head e kids next) = OpenerMarked text head.start head.opener × AreMarkedHeads text kids × AreMarkedHeads text next
 
+-- the first item of each leaf block in a sequence has one
 unfoldable pub AreMarkedLeaves : List ℕ → Skeleton → Type 0
 AreMarkedLeaves text Nil = Unit {0}
 AreMarkedLeaves text (Then leaf next) = HoldsOfLeaf (FirstMarked text) leaf × AreMarkedLeaves text next

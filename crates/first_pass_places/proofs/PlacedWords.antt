@@ -20,7 +20,7 @@ use Rattle.first_pass_places.specs.AttributeBlockPlaces.{attribute_range}
 use Rattle.first_pass_places.specs.AttributePlaces.{range_of, is_word_range, ranges_from, word_ranges, place_of, key_with, key_place, attribute_place}
 use Rattle.first_pass_places.specs.AttributePlaces.{places_in, attribute_places}
 use Rattle.first_pass_places.specs.InfoStrings.{bytes_in}
-use Rattle.first_pass_places.specs.PlacedAttributes.{is_id, is_class, is_key, name_at, key_at, attributes_at}
+use Rattle.first_pass_places.specs.PlacedAttributes.{is_id, is_class, is_key, name_at, key_at, attributes_from_places}
 use Rattle.first_pass_places.proofs.BlockPlaces.{part_at, part_short}
 
 -- the ids, the classes and the keys at places
@@ -239,14 +239,14 @@ abbrev attributes_from : List (List ℕ) → List (List ℕ) → List (List ℕ 
 attributes_from ids classes keys = record { id = last_or None ids; classes = classes; attrs = keys }
 
 same_attributes : (text : List ℕ) (places : List AttributePlace) (ws : List (List ℕ)) → AreSame text places ws
-    → attributes_at text places ≡ with_words no_attributes ws
+    → attributes_from_places text places ≡ with_words no_attributes ws
 unfolding with_words
 same_attributes text places ws same =
     ap (λ (ids : List (List ℕ)). attributes_from ids (classes_at text places) (keys_at text places)) same.ids
     ∙ ap (λ (classes : List (List ℕ)). attributes_from (marked number_sign ws) classes (keys_at text places)) same.classes
     ∙ ap (λ (keys : List (List ℕ × Option (List ℕ))). attributes_from (marked number_sign ws) (marked full_stop ws) keys) same.keys
 
-block_attributes : (text : List ℕ) (block : Range ℕ) → attributes_at text (places_in text block) ≡ attributes_of (bytes_in text block)
+block_attributes : (text : List ℕ) (block : Range ℕ) → attributes_from_places text (places_in text block) ≡ attributes_of (bytes_in text block)
 unfolding attributes_of words word_ranges
 block_attributes text block =
     let bs : List ℕ = bytes_in text block in
@@ -263,6 +263,6 @@ block_attributes text block =
 
 -- the attributes of a heading
 pub placed_attributes : (text : List ℕ) (x : Item) (block : Range ℕ) → attribute_range text x ≡ Some block
-    → attributes_at text (attribute_places text x) ≡ attributes_of (bytes_in text block)
+    → attributes_from_places text (attribute_places text x) ≡ attributes_of (bytes_in text block)
 placed_attributes text x block e =
-    ap (λ (o : Option (Range ℕ)). attributes_at text (option_map_or (places_in text) o [])) e ∙ block_attributes text block
+    ap (λ (o : Option (Range ℕ)). attributes_from_places text (option_map_or (places_in text) o [])) e ∙ block_attributes text block

@@ -1,5 +1,5 @@
 -- The range of what a node names begins and ends between two characters of a text in UTF-8.
-use Rattle.std.proofs.Common.{◌≡◌, ℕ, zero, suc, ◌+◌, ◌-◌, ◌<◌, ◌≤◌, ◌==◌, not, Bool, true, false, List, [], ◌∷◌, length, take, drop, min, reverse, get_or}
+use Rattle.std.proofs.Common.{◌≡◌, ℕ, zero, suc, ◌+◌, ◌-◌, ◌<◌, ◌≤◌, ◌==◌, not, Bool, true, false, List, [], ◌∷◌, All, length, take, drop, min, reverse, get_or}
 use Rattle.std.proofs.Common.{◌&&◌, nat_le, slice_index, Option, Some, None, IfSome, IsUtf8, IsCharBoundary, refl, sym, ap, subst, ◌∙◌, arith, inl, inr}
 use Rattle.std.proofs.Common.{if◌then◌else◌}
 use Rattle.std.specs.List.{prefix_len, suffix_len}
@@ -7,6 +7,7 @@ use Rattle.std.specs.declared.ops.Range.{Range}
 use Rattle.std.proofs.lemmas.Bool.{and_parts, cases_lt, eqb-true, not-false}
 use Rattle.std.proofs.lemmas.Bool.Decides.{nat_tests}
 use Rattle.std.proofs.lemmas.List.{drop-drop, get_or-drop, get_or-reverse, get_or-take, length-drop, length-reverse, length-take, length-take-le}
+use Rattle.std.proofs.lemmas.List.Elements.{All-cons, All-nil}
 use Rattle.std.proofs.lemmas.List.Sums.{prefix_len_passes, prefix_len_stops, suffix_len-le-length}
 use Rattle.std.proofs.lemmas.Option.{none-some}
 use Rattle.std.proofs.lemmas.Str.{IsCharBoundary-after_ascii, IsCharBoundary-before_ascii, IsCharBoundary-end}
@@ -28,7 +29,7 @@ use Rattle.first_pass_grammar.specs.CodeBlocks.{trimmed, info_string}
 use Rattle.first_pass_places.specs.AttributeBlockPlaces.{attribute_range, block_range, has_attributes, upto_last}
 use Rattle.first_pass_places.specs.FootnoteLabels.{label_range}
 use Rattle.first_pass_places.specs.InfoStrings.{fence_end, info_range}
-use Rattle.first_pass_places.specs.NamePlaces.{HasAsciiMark, name_range, name_range_by}
+use Rattle.first_pass_places.specs.NamePlaces.{HasAsciiMark, HasNameBetweenCharacters, HaveAsciiMarks, name_range, name_range_by}
 use Rattle.first_pass_places.specs.RangeEnds.{IsAsciiAt, IsBetweenCharacters}
 use Rattle.first_pass_places.proofs.BlockPlaces.{is_in, part_at, part_short}
 use Rattle.first_pass_places.proofs.InfoFacts.{begins_with, trimmed_length}
@@ -273,6 +274,14 @@ pub name_between : (text : List ℕ) (x : Item) (found : Option (Range ℕ)) →
 name_between text x found is order within u mark =
     let starts : x.start ≤ length text = omega (arith, order, within) in
     subst (λ (o : Option (Range ℕ)). IfSome o (λ range. IsBetweenCharacters text range)) (sym is) (name_by x.body text x u starts mark)
+
+-- what each of these nodes names
+pub names_between : (text : List ℕ) (nodes : List (ℕ × Item)) → IsUtf8 text → HaveAsciiMarks text nodes
+    → All (λ n. HasNameBetweenCharacters text n.1) nodes
+names_between text [] u h = All-nil (λ (n : ℕ × Item). HasNameBetweenCharacters text n.1)
+names_between text (n ∷ nodes) u h =
+    All-cons (λ (m : ℕ × Item). HasNameBetweenCharacters text m.1) n nodes
+    (λ order within start. name_between text n.1 (name_range text n.1) refl order within u (h.0 start)) (names_between text nodes u h.1)
 
 -- a node of another kind
 pub other_name : (body : ItemBody) (text : List ℕ) (x : Item) → ((ix : CowIndex) → body ≡ FencedCodeBlock ix → ⊥)

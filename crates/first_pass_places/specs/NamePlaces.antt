@@ -1,5 +1,5 @@
 -- The range in the text of what a node names by an index (this project).
-use Rattle.std.specs.Prelude.{◌≡◌, ℕ, ◌+◌, ◌-◌, false, List, [], ◌∷◌, drop, slice_get, Option, Some, None, IsCharBoundary}
+use Rattle.std.specs.Prelude.{◌≡◌, ℕ, ◌+◌, ◌-◌, ◌≤◌, false, List, [], ◌∷◌, length, drop, slice_get, Option, Some, None, IfSome, IsCharBoundary}
 use Rattle.std.specs.declared.ops.Range.{Range}
 use Rattle.first_pass_items.specs.declared.item.CowIndex.{CowIndex}
 use Rattle.first_pass_items.specs.declared.item.HeadingIndex.{HeadingIndex}
@@ -14,7 +14,7 @@ use Rattle.first_pass_grammar.specs.Names.{Names, NamesText}
 use Rattle.first_pass_places.specs.AttributeBlockPlaces.{attribute_range, block_range}
 use Rattle.first_pass_places.specs.FootnoteLabels.{label_range}
 use Rattle.first_pass_places.specs.InfoStrings.{bytes_in, info_range}
-use Rattle.first_pass_places.specs.RangeEnds.{IsAsciiAt}
+use Rattle.first_pass_places.specs.RangeEnds.{IsAsciiAt, IsBetweenCharacters}
 
 -- the range in the text of what a node names, if the node has this body (this project)
 abbrev pub name_range_by : ItemBody → List ℕ → Item → Option (Range ℕ)
@@ -39,6 +39,12 @@ HasAsciiMark _ text start = IsCharBoundary text start
 abbrev pub HaveAsciiMarks : List ℕ → List (ℕ × Item) → Type 0
 HaveAsciiMarks text [] = Unit {0}
 HaveAsciiMarks text (n ∷ nodes) = (IsCharBoundary text n.1.start → HasAsciiMark n.1.body text n.1.start) × HaveAsciiMarks text nodes
+
+-- the range of what a node names begins and ends between two characters, if the node is in the text and begins between
+-- two characters (this project)
+abbrev pub HasNameBetweenCharacters : List ℕ → Item → Type 0
+HasNameBetweenCharacters text x =
+    x.start ≤ x.«end» → x.«end» ≤ length text → IsCharBoundary text x.start → IfSome (name_range text x) (λ range. IsBetweenCharacters text range)
 
 -- The index names the label that is read from the start of a range, up to the `]` directly after it. The prefix that
 -- this function finds is left out of each further line (CommonMark 6.3, and this project).

@@ -31,8 +31,8 @@ abbrev pub key_at : List ℕ → AttributePlace → List ℕ × Option (List ℕ
 key_at text place = (name_at text place, option_map (bytes_in text) place.value)
 
 -- the attributes at these places: the last id, if there is one, and the classes and the keys in order (this project)
-abbrev pub attributes_at : List ℕ → List AttributePlace → Attributes
-attributes_at text places = record {
+abbrev pub attributes_from_places : List ℕ → List AttributePlace → Attributes
+attributes_from_places text places = record {
   id = last_or None (map (name_at text) (filter (λ place. is_id place.kind) places));
   classes = map (name_at text) (filter (λ place. is_class place.kind) places);
   attrs = map (key_at text) (filter (λ place. is_key place.kind) places);

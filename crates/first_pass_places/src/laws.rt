@@ -1,6 +1,7 @@
-//! Laws of the ranges: what a node names is what is read from its range in the text. Also a law of the table of nodes.
+//! Laws of the ranges of names: what a node names is what is read from its range in the text, and both ends of the range
+//! are between characters. Also a law of the nodes of footnotes.
 
-ghost use Rattle.std.specs.Prelude.{◌≡◌, ◌+◌, ◌≤◌, ℕ, List, Option, Some, IfSome, drop, length, map};
+ghost use Rattle.std.specs.Prelude.{◌≡◌, ◌+◌, ◌≤◌, ℕ, List, Option, Some, IfSome, IsUtf8, All, drop, length, map};
 ghost use Rattle.std.specs.declared.ops.Range.{Range};
 ghost use Rattle.first_pass_items.specs.declared.cow_str.CowStr.{CowStr};
 ghost use Rattle.first_pass_items.specs.declared.item.CowIndex.{CowIndex};
@@ -25,8 +26,8 @@ ghost use Rattle.first_pass_places.specs.AttributePlaces.{attribute_places};
 ghost use Rattle.first_pass_places.specs.FootnoteLabels.{label_range};
 ghost use Rattle.first_pass_places.specs.FootnoteNodes.{AreFirstNodes, entry_label};
 ghost use Rattle.first_pass_places.specs.InfoStrings.{bytes_in};
-ghost use Rattle.first_pass_places.specs.NamePlaces.{FirstIsReadFromText, HaveAsciiMarks, NamesLabelAt};
-ghost use Rattle.first_pass_places.specs.PlacedAttributes.{attributes_at};
+ghost use Rattle.first_pass_places.specs.NamePlaces.{FirstIsReadFromText, HasNameBetweenCharacters, HaveAsciiMarks, NamesLabelAt};
+ghost use Rattle.first_pass_places.specs.PlacedAttributes.{attributes_from_places};
 
 /// The info string that a fenced code block names is read from its range. The block begins at an offset with a fence of
 /// this length and byte (CommonMark 4.5).
@@ -69,14 +70,20 @@ pub fn setext_attributes_are_read()
 /// last id, and the classes and the keys with their values in order (this project).
 pub fn attributes_have_places()
     ensures { (text : List ℕ) (x : Item) (block : Range ℕ) → attribute_range text x ≡ Some block
-        → attributes_at text (attribute_places text x) ≡ attributes_of (bytes_in text block) }
+        → attributes_from_places text (attribute_places text x) ≡ attributes_of (bytes_in text block) }
 {}
 
-/// In a derived tree each node that starts between two characters has an ASCII mark. So the range of what it names
-/// begins and ends between two characters as well (this project).
+/// In a derived tree each node that starts between two characters has an ASCII mark (CommonMark 4.5, and this project).
 pub fn nodes_have_ascii_marks()
     ensures { (d : Document) (nodes : List (ℕ × Item)) (tables : Tables) → Derives d nodes tables
         → HaveAsciiMarks d.text nodes }
+{}
+
+/// In a derived tree of a text in UTF-8, the range of what a node names begins and ends between two characters, if the
+/// node is in the text and begins between two characters (this project).
+pub fn names_have_whole_characters()
+    ensures { (d : Document) (nodes : List (ℕ × Item)) (tables : Tables) → Derives d nodes tables → IsUtf8 d.text
+        → All (λ n. HasNameBetweenCharacters d.text n.1) nodes }
 {}
 
 /// In a derived tree, the first nodes of footnote definitions have the labels of its table of footnotes, in the order
