@@ -12,7 +12,7 @@ use Rattle.first_pass_grammar.specs.Names.{Names}
 use Rattle.first_pass_flat.specs.FlatAttributes.{attributes_by}
 use Rattle.first_pass_flat.specs.FlatNodes.{IsShort, deeper_before, first_place, flat_node, flat_nodes, name_by, place_after}
 use Rattle.first_pass_flat.specs.Linked.{AreLinked, depth_at}
-use Rattle.first_pass_flat.specs.Steps.{IsRecordWritten, NeedsMoreBits}
+use Rattle.first_pass_flat.specs.WrittenNodes.{IsRecordWritten, NeedsMoreBits}
 use Rattle.first_pass_flat.specs.declared.nodes.FlatPlace.{FlatPlace}
 use Rattle.first_pass_flat.specs.declared.records.FlatNode.{FlatNode}
 
@@ -196,7 +196,7 @@ here_before names nodes at before n h within e =
 -- The next record is written.
 pub record_written : (names : Names) (nodes : List (ℕ × Item)) (flat new : List FlatNode) (at before : FlatPlace) (n : ℕ × Item) (next : ℕ)
     → AreFilled names nodes flat at → 0 < at.node → next ≡ at.node + deeper_before (get_or nodes (at.node - 1) n).0 (drop at.node nodes)
-    → IsRecordWritten names (get_or nodes (at.node - 1) n) next flat new at before → AreFilled names nodes new before
+    → IsRecordWritten names (get_or nodes (at.node - 1) n) next flat new (before, at) → AreFilled names nodes new before
 record_written names nodes flat new at before n next f h next_is w =
     subst (λ l. AreFilled names nodes l before) (sym (w.written (drop at.node nodes) next_is))
     (one_filled names nodes flat at before (get_or nodes (at.node - 1) n) (flat_node names before (get_or nodes (at.node - 1) n) (drop at.node nodes)) f w.place
@@ -204,7 +204,7 @@ record_written names nodes flat new at before n next f h next_is w =
 
 -- the depth of the node whose record was written
 pub depth_kept : (names : Names) (nodes : List (ℕ × Item)) (flat new : List FlatNode) (at before : FlatPlace) (n : ℕ × Item) (next : ℕ)
-    → AreFilled names nodes flat at → 0 < at.node → IsRecordWritten names (get_or nodes (at.node - 1) n) next flat new at before
+    → AreFilled names nodes flat at → 0 < at.node → IsRecordWritten names (get_or nodes (at.node - 1) n) next flat new (before, at)
     → (get_or nodes (at.node - 1) n).0 ≡ depth_at nodes before.node
 depth_kept names nodes flat new at before n next f h w =
     ap (λ (o : Option (ℕ × Item)). unwrap_or (option_map (λ m. m.0) o) 0) (sym (here_before names nodes at before n h f.within w.place))

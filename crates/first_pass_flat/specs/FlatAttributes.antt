@@ -12,10 +12,10 @@ use Rattle.first_pass_flat.specs.declared.attributes.AttributeKind.TheVariants.{
 use Rattle.first_pass_flat.specs.declared.records.FlatAttribute.{FlatAttribute}
 
 -- the number of an attribute's kind (this project)
-abbrev pub kind_of : AttributeKind → ℕ
-kind_of Id = 0
-kind_of Class = 1
-kind_of Key = 2
+abbrev pub attribute_kind : AttributeKind → ℕ
+attribute_kind Id = 0
+attribute_kind Class = 1
+attribute_kind Key = 2
 
 -- one attribute of a heading: an id (0), a class (1) or a key (2), and the value of a key that has one (this project)
 pub record OneAttribute : Type 0 where

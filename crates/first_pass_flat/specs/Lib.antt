@@ -5,6 +5,6 @@ pub mod FlatNodes
 pub mod FlatForm
 pub mod Appended
 pub mod Linked
-pub mod Steps
+pub mod WrittenNodes
 pub mod Side
 pub mod Law

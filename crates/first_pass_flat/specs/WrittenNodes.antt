@@ -1,4 +1,4 @@
--- The steps that write one record (this project).
+-- The record that is written for a node (this project).
 use Rattle.std.specs.Prelude.{◌≡◌, ℕ, ◌+◌, List, [], slice_set}
 use Rattle.first_pass_items.specs.declared.item.Item.{Item}
 use Rattle.first_pass_items.specs.declared.item.ItemBody.{ItemBody}
@@ -16,15 +16,17 @@ pub record NamesNothing (body : ItemBody) : Type 0 where
   pub attributes : (names : Names) → attributes_of_body names body ≡ []
 
 -- the name of a node at a place has this range, and the next node that is not deeper has this index (this project)
-pub record HasPlace (names : Names) (at : FlatPlace) (n : ℕ × Item) (later : List (ℕ × Item)) (range : ℕ × ℕ) (next : ℕ) : Type 0 where
+pub record HasNameAndNext (names : Names) (at : FlatPlace) (n : ℕ × Item) (later : List (ℕ × Item)) (range : ℕ × ℕ) (next : ℕ) : Type 0 where
   pub start : range.0 ≡ named_at at n.1.body
   pub count : range.1 ≡ named_length names n.1.body
   pub next_is : next ≡ (at.node + 1) + deeper_before n.0 later
 
--- the record of the node between two places is written, if the next node that is not deeper has this index (this project)
-pub record IsRecordWritten (names : Names) (n : ℕ × Item) (next : ℕ) (old new : List FlatNode) (after before : FlatPlace) : Type 0 where
-  pub place : after ≡ place_after names n.1.body before
-  pub written : (later : List (ℕ × Item)) → next ≡ after.node + deeper_before n.0 later → new ≡ slice_set old before.node (flat_node names before n later)
+-- The new records are the old ones with that of this node, if the next node that is not deeper has this index. The
+-- places are those before and after the node (this project).
+pub record IsRecordWritten (names : Names) (n : ℕ × Item) (next : ℕ) (old new : List FlatNode) (places : FlatPlace × FlatPlace) : Type 0 where
+  pub place : places.1 ≡ place_after names n.1.body places.0
+  pub written : (later : List (ℕ × Item)) → next ≡ places.1.node + deeper_before n.0 later
+      → new ≡ slice_set old places.0.node (flat_node names places.0 n later)
 
 -- a number of the record of the node before a place needs more than 32 bits, if the next node that is not deeper has this index
 -- (this project)

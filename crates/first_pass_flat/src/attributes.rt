@@ -5,7 +5,7 @@ ghost use Rattle.std.specs.List.{flat_map};
 ghost use Rattle.std.specs.Option.{option_map};
 ghost use Rattle.first_pass_attributes.specs.Attributes.{attributes_in, no_attributes, pair_in};
 ghost use Rattle.first_pass_names.specs.TableEntries.{names_of};
-ghost use Rattle.first_pass_flat.specs.FlatAttributes.{attributes_by, attributes_of_body, class_attribute, heading_index, id_attributes, key_attribute, kind_of, listed};
+ghost use Rattle.first_pass_flat.specs.FlatAttributes.{attributes_by, attributes_of_body, class_attribute, heading_index, id_attributes, key_attribute, attribute_kind, listed};
 ghost use Rattle.first_pass_flat.specs.Kinds.{flag};
 ghost use Rattle.first_pass_flat.specs.Appended.{AppendsAttributes};
 
@@ -33,7 +33,7 @@ pub enum AttributeKind {
 
 // The number of an attribute's kind.
 fn number_of(kind: AttributeKind) -> u32
-    ensures { result ≡ kind_of kind }
+    ensures { result ≡ attribute_kind kind }
 {
     match kind {
         AttributeKind::Id => 0,
@@ -132,7 +132,7 @@ impl NamedAttributes {
         value: Option<&str>,
     ) -> Result<(), AllocError>
         ensures { OnOk result (AppendsAttributes self.old self.new
-            (record { kind = kind_of kind; name = name.now; value = option_map (λ text. text.now) value.entry }
+            (record { kind = attribute_kind kind; name = name.now; value = option_map (λ text. text.now) value.entry }
             ∷ [])) }
     {
         let spelled = append_text(&mut self.names, name)?;

@@ -9,7 +9,7 @@ ghost use Rattle.first_pass_flat.specs.FlatForm.{node_names};
 ghost use Rattle.first_pass_flat.specs.FlatNodes.{IsShort, deeper_before, first_place, flat_node, flat_nodes, name_of, named_at, named_length, place_after};
 ghost use Rattle.first_pass_flat.specs.Kinds.{values_of};
 ghost use Rattle.first_pass_flat.specs.Linked.{AreLinked, depth_at};
-ghost use Rattle.first_pass_flat.specs.Steps.{HasPlace, IsRecordWritten, NamesNothing, NeedsMoreBits};
+ghost use Rattle.first_pass_flat.specs.WrittenNodes.{HasNameAndNext, IsRecordWritten, NamesNothing, NeedsMoreBits};
 ghost use Rattle.first_pass_grammar.specs.Names.{Names};
 
 use crate::attributes::attribute_count;
@@ -104,7 +104,8 @@ fn fill_before(
     requires room { after.node ≤ length flat.old }
     requires name { length (name_of (names_of allocs.now) node.now.1.body) ≤ after.name }
     requires attribute { length (attributes_of_body (names_of allocs.now) node.now.1.body) ≤ after.attribute }
-    ensures ok { IfOk result (IsRecordWritten (names_of allocs.now) node.now next flat.old flat.new after) }
+    ensures ok { IfOk result (λ before.
+        IsRecordWritten (names_of allocs.now) node.now next flat.old flat.new (before, after)) }
     ensures long { IsErr result → NeedsMoreBits (names_of allocs.now) node.now next after }
 {
     let body = &node.1.body;
@@ -148,7 +149,7 @@ fn fill_plain(
     requires nothing { NamesNothing node.now.1.body }
     requires values { values ≡ values_of node.now.1.body }
     ensures ok { IfOk result (λ before. (names : Names)
-        → IsRecordWritten names node.now next flat.old flat.new after before) }
+        → IsRecordWritten names node.now next flat.old flat.new (before, after)) }
     ensures long { IsErr result → (names : Names) → NeedsMoreBits names node.now next after }
 {
     let before = FlatPlace {
@@ -173,7 +174,8 @@ fn fill_named(
     requires room { after.node ≤ length flat.old }
     requires name { length (name_of (names_of allocs.now) node.now.1.body) ≤ after.name }
     requires attribute { length (attributes_of_body (names_of allocs.now) node.now.1.body) ≤ after.attribute }
-    ensures ok { IfOk result (IsRecordWritten (names_of allocs.now) node.now next flat.old flat.new after) }
+    ensures ok { IfOk result (λ before.
+        IsRecordWritten (names_of allocs.now) node.now next flat.old flat.new (before, after)) }
     ensures long { IsErr result → NeedsMoreBits (names_of allocs.now) node.now next after }
 {
     let body = &node.1.body;
@@ -209,9 +211,9 @@ fn flat_node(
 ) -> Result<FlatNode, TooLong>
     requires { values ≡ values_of node.now.1.body }
     ensures value { IfOk result (λ r. (names : Names) (at : FlatPlace) (later : List (ℕ × Item))
-        → HasPlace names at node.now later named next → r ≡ flat_node names at node.now later) }
+        → HasNameAndNext names at node.now later named next → r ≡ flat_node names at node.now later) }
     ensures long { IsErr result → (names : Names) (at : FlatPlace) (later : List (ℕ × Item))
-        → HasPlace names at node.now later named next → IsShort (flat_node names at node.now later) → ⊥ }
+        → HasNameAndNext names at node.now later named next → IsShort (flat_node names at node.now later) → ⊥ }
 {
     let depth = node.0;
     let item = &node.1;
