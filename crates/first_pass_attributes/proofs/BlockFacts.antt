@@ -11,7 +11,8 @@ use Rattle.std.proofs.lemmas.List.{get_or-reverse, get_or-drop, get_or-append-ad
 use Rattle.std.proofs.lemmas.List.Sums.{prefix_len_passes, suffix_len_is, suffix_len-le-length, AllPass-from_list_all, list_all-from_AllPass}
 use Rattle.std.proofs.Math.Seq.{take-append_seam, drop-length, get_or-append_seam}
 use Rattle.first_pass_items.specs.Bytes.{left_brace, right_brace}
-use Rattle.first_pass_attributes.specs.AttributeBlocks.{ends, is_after_block, is_inside_block, Braces, braces, opening_brace, attribute_block}
+use Rattle.first_pass_lines.specs.Lines.{ends}
+use Rattle.first_pass_attributes.specs.AttributeBlocks.{is_after_block, is_inside_block, Braces, braces, opening_brace, attribute_block}
 use Rattle.first_pass_attributes.specs.AttributeBlocks.{IsAttributeBlock}
 
 -- bytes without the trailing ones that pass a test, and these trailing ones

@@ -1,14 +1,10 @@
 -- The attribute block at the end of a heading, for example `{#install .wide}` in `# Install {#install .wide}`
 -- (this project).
-use Rattle.std.specs.Prelude.{◌≡◌, true, ◌∷◌, ◌++◌, ℕ, ◌+◌, ◌-◌, ◌==◌, ◌||◌, not, Bool, List, length, take, Option, Some, None, slice_index, if◌then◌else◌}
+use Rattle.std.specs.Prelude.{◌≡◌, true, ◌∷◌, ◌++◌, ℕ, ◌+◌, ◌-◌, ◌==◌, ◌||◌, not, Bool, List, length, take, Option, Some, None, if◌then◌else◌}
 use Rattle.std.specs.Option.{option_map, option_map_or}
 use Rattle.std.specs.List.{list_all, suffix_len}
 use Rattle.first_pass_items.specs.Bytes.{less_than, greater_than, backslash, left_brace, right_brace}
-use Rattle.first_pass_lines.specs.Lines.{is_line_end, is_space_or_tab}
-
--- the last byte is c, which is not 0 (this project)
-abbrev pub ends : ℕ → List ℕ → Bool
-ends c bs = slice_index bs (length bs - 1) == c
+use Rattle.first_pass_lines.specs.Lines.{is_line_end, is_space_or_tab, ends}
 
 -- a byte that may follow an attribute block: a space, a tab or a line ending (this project)
 abbrev pub is_after_block : ℕ → Bool
@@ -64,10 +60,10 @@ abbrev pub length_before_block : List ℕ → ℕ
 length_before_block bs = option_map_or (λ block. block.opening) (attribute_block bs) (length bs)
 
 -- the offsets of the start and the end of the bytes between two braces (this project)
-abbrev pub enclosed : Braces → ℕ × ℕ
-enclosed block = (block.opening + 1, block.closing)
+abbrev pub between_braces : Braces → ℕ × ℕ
+between_braces block = (block.opening + 1, block.closing)
 
 -- the offsets of the start and the end of the bytes between the braces of a heading's attribute block, if it has one
 -- (this project)
 abbrev pub inside_block : List ℕ → Option (ℕ × ℕ)
-inside_block bs = option_map enclosed (attribute_block bs)
+inside_block bs = option_map between_braces (attribute_block bs)

@@ -4,7 +4,8 @@ ghost use Rattle.std.specs.List.{suffix_len};
 ghost use Rattle.std.specs.Option.{option_map};
 ghost use Rattle.std.specs.Prelude.{◌≡◌, ◌≤◌, ◌<◌, ◌+◌, ◌-◌, length, true, take, slice_index, IfSome, IfOk, OnOk, IsSomeAnd, Some, None, IsUtf8, IsCharBoundary, filter, [], ◌∷◌, ◌++◌};
 ghost use Rattle.first_pass_items.specs.Bytes.{left_brace, right_brace};
-ghost use Rattle.first_pass_attributes.specs.AttributeBlocks.{ends as ends_with, is_after_block, is_inside_block, opening_brace as opening_of, length_before_block, inside_block};
+ghost use Rattle.first_pass_lines.specs.Lines.{ends as ends_with};
+ghost use Rattle.first_pass_attributes.specs.AttributeBlocks.{is_after_block, is_inside_block, opening_brace as opening_of, length_before_block, inside_block};
 ghost use Rattle.first_pass_attributes.specs.Attributes.{is_attribute_word, key_and_value as key_and_value_of, with_words, attributes_of, pair_in, attributes_in};
 
 use first_pass_lines::lines::{is_line_end, is_space_or_tab};

@@ -8,11 +8,11 @@ use Rattle.first_pass_grammar.specs.Names.{Names}
 use Rattle.first_pass_flat.specs.declared.nodes.FlatPlace.{FlatPlace}
 use Rattle.first_pass_flat.specs.FlatNodes.{flat_node}
 use Rattle.first_pass_places.specs.NamePlaces.{name_range}
-use Rattle.first_pass_c.specs.Naming.{item_of, range_named}
+use Rattle.first_pass_c.specs.Naming.{named_item, range_named}
 
 -- the same for each kind
 by_body : (text : List ℕ) (names : Names) (at : FlatPlace) (depth start stop : ℕ) (body : ItemBody) (later : List (ℕ × Item))
-    → name_range text (item_of (flat_node names at (depth, record { start = start; «end» = stop; body = body }) later))
+    → name_range text (named_item (flat_node names at (depth, record { start = start; «end» = stop; body = body }) later))
     ≡ name_range text (record { start = start; «end» = stop; body = body })
 by_body text names at depth start stop (Heading level None) later = refl
 by_body text names at depth start stop (Heading level (Some ix)) later = refl

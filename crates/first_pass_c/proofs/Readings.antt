@@ -9,7 +9,7 @@ use Rattle.first_pass_c.specs.declared.reading.FlatCounts.{FlatCounts}
 use Rattle.first_pass_c.specs.declared.reading.Parsed.{Parsed}
 use Rattle.first_pass_c.specs.Memory.{Memory}
 use Rattle.first_pass_c.specs.Parsed.{IsParsed, form_of}
-use Rattle.first_pass_c.specs.Reading.{HasNoRoom, IsRead, IsTooLong, IsTooSmall, IsWritten, Reading, WriteLeaves, counts_of}
+use Rattle.first_pass_c.specs.Reading.{HasNoRoom, IsTextRead, IsTooLong, IsTooSmall, IsFormWritten, Reading, WriteLeaves, counts_of}
 use Rattle.first_pass_c.specs.Statuses.{status_of}
 
 -- its tree, its tables and the entries that indices name
@@ -18,7 +18,7 @@ reading_of text bits parsed is = record { names = names_of parsed.allocs; nodes 
 
 -- its flat form was written
 pub is_read : (text : List ℕ) (bits : ℕ) (parsed : Parsed) (old new : Memory) (counts : FlatCounts) → IsParsed text bits parsed
-    → counts ≡ counts_of (form_of parsed) → IsWritten (form_of parsed) old new → IsRead text bits old new counts
+    → counts ≡ counts_of (form_of parsed) → IsFormWritten (form_of parsed) old new → IsTextRead text bits old new counts
 is_read text bits parsed old new counts is counted written = record { reading = reading_of text bits parsed is; counted = counted; written = written }
 
 -- its flat form does not fit into the arrays

@@ -20,12 +20,12 @@ body_of r =
     else (if r.kind == 11 then FootnoteDefinition (record { 0 = 0 }) else Root))
 
 -- a node with this record; another index than its own does not change where the text has what it names (this project)
-abbrev pub item_of : FlatNode → Item
-item_of r = record { start = r.start; «end» = r.«end»; body = body_of r }
+abbrev pub named_item : FlatNode → Item
+named_item r = record { start = r.start; «end» = r.«end»; body = body_of r }
 
 -- the range in which a text has what a node names, if the range of the node is in the text (this project)
 abbrev pub range_named : List ℕ → FlatNode → Option (Range ℕ)
-range_named text r = if nat_le r.start r.«end» && nat_le r.«end» (length text) then name_range text (item_of r) else None
+range_named text r = if nat_le r.start r.«end» && nat_le r.«end» (length text) then name_range text (named_item r) else None
 
 -- a range as a record (this project)
 abbrev pub flat_range : Range ℕ → FlatRange

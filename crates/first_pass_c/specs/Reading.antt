@@ -23,7 +23,7 @@ counts_of form = record {
 }
 
 -- the arrays begin with a flat form, and their rests are unchanged (this project)
-pub record IsWritten (form : FlatForm) (old new : Memory) : Type 0 where
+pub record IsFormWritten (form : FlatForm) (old new : Memory) : Type 0 where
   pub nodes : BeginsWith form.nodes old.nodes new.nodes
   pub attributes : BeginsWith form.attributes old.attributes new.attributes
   pub definitions : BeginsWith form.definitions old.definitions new.definitions
@@ -48,10 +48,10 @@ form_read r = flat_form r.names r.nodes r.tables
 
 -- the arrays begin with the flat form of a text's tree and tables, and the counts are those of that form
 -- (this project)
-pub record IsRead (text : List ℕ) (bits : ℕ) (old new : Memory) (counts : FlatCounts) : Type 0 where
+pub record IsTextRead (text : List ℕ) (bits : ℕ) (old new : Memory) (counts : FlatCounts) : Type 0 where
   pub reading : Reading text bits
   pub counted : counts ≡ counts_of (form_read reading)
-  pub written : IsWritten (form_read reading) old new
+  pub written : IsFormWritten (form_read reading) old new
 
 -- the counts are those of the flat form of a text's tree and tables, and one of the arrays is shorter (this project)
 pub record IsTooSmall (text : List ℕ) (bits : ℕ) (arrays : Memory) (counts : FlatCounts) : Type 0 where

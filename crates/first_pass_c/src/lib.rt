@@ -5,7 +5,7 @@ ghost use Rattle.std.specs.Prelude.{◌≡◌, ◌≢◌, ◌≤◌, IsUtf8, Non
 ghost use Rattle.std.specs.declared.ops.Range.{Range};
 ghost use Rattle.first_pass_c.specs.Folding.{HasNoRoomFor, IsFolded};
 ghost use Rattle.first_pass_c.specs.Naming.{flat_range, range_named};
-ghost use Rattle.first_pass_c.specs.Reading.{AreKnown, IsNotUtf8, IsRead, IsReadable, IsTooLong, IsTooSmall};
+ghost use Rattle.first_pass_c.specs.Reading.{AreKnown, IsNotUtf8, IsTextRead, IsReadable, IsTooLong, IsTooSmall};
 ghost use Rattle.first_pass_c.specs.Memory.{memory};
 
 pub mod copying;
@@ -41,7 +41,7 @@ pub extern "C" fn first_pass_read(
     names: &mut [u8],
     counts: &mut FlatCounts,
 ) -> u32
-    ensures read { result ≡ 0 → IsRead text.now bits (memory nodes.old attributes.old definitions.old names.old)
+    ensures read { result ≡ 0 → IsTextRead text.now bits (memory nodes.old attributes.old definitions.old names.old)
         (memory nodes.new attributes.new definitions.new names.new) counts.new }
     ensures out_of_memory { result ≡ 1 → IsReadable text.now bits }
     ensures not_utf8 { result ≡ 2 → IsNotUtf8 text.now bits }

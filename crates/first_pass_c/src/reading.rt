@@ -3,7 +3,7 @@
 ghost use Rattle.std.specs.Prelude.{◌≡◌, IfErr, IfOk, IfSome, IsNone, OnOk};
 ghost use Rattle.first_pass_c.specs.Memory.{memory};
 ghost use Rattle.first_pass_c.specs.Parsed.{IsParsed, HasSides, form_of};
-ghost use Rattle.first_pass_c.specs.Reading.{AreKnown, IsWritten, ReadLeaves, WriteLeaves, counts_of};
+ghost use Rattle.first_pass_c.specs.Reading.{AreKnown, IsFormWritten, ReadLeaves, WriteLeaves, counts_of};
 
 use crate::copying::copy_into;
 use crate::fault::Fault;
@@ -97,7 +97,7 @@ pub(crate) fn write_into(
     names: &mut [u8],
 ) -> Result<(), Fault>
     requires { HasSides parsed.now }
-    ensures ok { OnOk result (IsWritten (form_of parsed.now)
+    ensures ok { OnOk result (IsFormWritten (form_of parsed.now)
         (memory nodes.old attributes.old definitions.old names.old)
         (memory nodes.new attributes.new definitions.new names.new)) }
     ensures fault { IfErr result (λ fault. WriteLeaves fault (form_of parsed.now)

@@ -17,12 +17,12 @@ abbrev pub Calls : Type 0 → Type 1
 Calls A = MutBor (Vec ℕ Global) → A → Result (Unit {0}) AllocError → MutBor (Vec ℕ Global) → Type 0
 
 -- each call that succeeds appends the line of its item
-abbrev pub AppendsLine : {A : Type 0} → Calls A → (A → List ℕ) → Type 0
-AppendsLine {A} calls line = (old new : MutBor (Vec ℕ Global)) (x : A) → calls old x (Ok tt) new → new.now.items ≡ old.now.items ++ line x
+abbrev pub CallsAppendLine : {A : Type 0} → Calls A → (A → List ℕ) → Type 0
+CallsAppendLine {A} calls line = (old new : MutBor (Vec ℕ Global)) (x : A) → calls old x (Ok tt) new → new.now.items ≡ old.now.items ++ line x
 
 -- The lines of the items of an iterator. A call appends the line of its item. The lines of an iterator are the line
 -- of its next item and the lines of the remaining ones.
-pub record AreLines {I A : Type 0} (steps : I → Option A → I → Type 0) (calls : Calls A) (line : A → List ℕ) (lines : I → List ℕ) : Type 0 where
-  pub appended : AppendsLine calls line
+pub record AreItemLines {I A : Type 0} (steps : I → Option A → I → Type 0) (calls : Calls A) (line : A → List ℕ) (lines : I → List ℕ) : Type 0 where
+  pub appended : CallsAppendLine calls line
   pub next : (s t : I) (x : A) → steps s (Some x) t → lines s ≡ line x ++ lines t
   pub none : (s t : I) → steps s None t → lines s ≡ []

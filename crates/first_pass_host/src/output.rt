@@ -4,7 +4,7 @@ ghost use Rattle.std.specs.Iterator.{IsFinite};
 ghost use Rattle.std.specs.Prelude.{◌≡◌, ◌<◌, ℕ, List, [], length, IfErr, OnErr, OnOk};
 ghost use Rattle.std.specs.Io.KnownBytes.{Appends};
 ghost use Rattle.first_pass_host.specs.declared.fault.RunFault.TheVariants.{WriteFailed};
-ghost use Rattle.first_pass_host.specs.Held.{AreLines, IsPartlyWritten};
+ghost use Rattle.first_pass_host.specs.Held.{AreItemLines, IsPartlyWritten};
 ghost use Rattle.first_pass_host.specs.Streams.{AppendsFront, WritesText, stream_between};
 
 use crate::fault::RunFault;
@@ -65,7 +65,7 @@ where
     requires can { I.can_next items }
     requires ends { IsFinite (I.remaining items) }
     requires callable { F.IsAlwaysCallable append }
-    ensures { (line : I.Item → List ℕ) (lines : I → List ℕ) → AreLines I.next_gives (F.post append) line lines
+    ensures { (line : I.Item → List ℕ) (lines : I → List ℕ) → AreItemLines I.next_gives (F.post append) line lines
         → WritesText (lines items) (stream_between (W.contents output.old) (W.contents output.new)) result }
 {
     let mut held = Vec::new(alloc);

@@ -84,8 +84,8 @@ unfoldable pub is_block_name : List ℕ → Bool
 is_block_name name = list_any (bytes_eq (in_lower_case name)) block_names
 
 -- the bytes of a text (this project)
-abbrev pub text_of : Bor (List ℕ) → List ℕ
-text_of t = t.now
+abbrev pub borrowed_bytes : Bor (List ℕ) → List ℕ
+borrowed_bytes t = t.now
 
 -- the bytes begin with the name, in any case (CommonMark 4.6: case-insensitive)
 abbrev pub begins_with_name : List ℕ → List ℕ → Bool

@@ -1,7 +1,7 @@
 //! The names of tags that begin HTML blocks.
 
 ghost use Rattle.std.specs.Prelude.{◌≡◌, ◌↔◌, IsTrue, map};
-ghost use Rattle.first_pass_html.specs.Names.{text_of};
+ghost use Rattle.first_pass_html.specs.Names.{borrowed_bytes};
 ghost use Rattle.first_pass_html.specs.Names as names;
 
 // The tag names of start condition 6 of HTML blocks, by their first letter (CommonMark 4.6). A name comes before its
@@ -88,7 +88,7 @@ pub fn block_name_len(bytes: &[u8]) -> usize
 
 // The length of the first known name with which the bytes begin, in any case, or 0 if there is none.
 fn first_name_len(bytes: &[u8], known: &[&str]) -> usize
-    ensures { result ≡ names.first_name_len (map text_of known.now) bytes.now }
+    ensures { result ≡ names.first_name_len (map borrowed_bytes known.now) bytes.now }
 {
     for name in known {
         if begins_with_name(bytes, name.as_bytes()) {

@@ -5,7 +5,7 @@ use Rattle.first_pass_items.specs.declared.item.Item.{Item}
 use Rattle.first_pass_grammar.specs.Names.{Names}
 use Rattle.first_pass_grammar.specs.LinkTables.{LinkEntry}
 use Rattle.first_pass_grammar.specs.Derivation.{Tables}
-use Rattle.first_pass_printed.specs.Printed.{name_of}
+use Rattle.first_pass_printed.specs.Printed.{kind_name}
 use Rattle.first_pass_json.specs.JsonValues.{decimal, json_string, word, text_or_null}
 use Rattle.first_pass_json.specs.Members.{block_members, token_members}
 
@@ -15,7 +15,7 @@ range_members start e = codes ",\"start\":" ++ decimal start ++ codes ",\"end\":
 
 -- the members that every node has: its kind, its depth and its range
 abbrev pub node_members : ℕ × Item → List ℕ
-node_members node = codes "\"kind\":" ++ word (name_of node.1.body) ++ codes ",\"depth\":" ++ decimal node.0 ++ range_members node.1.start node.1.«end»
+node_members node = codes "\"kind\":" ++ word (kind_name node.1.body) ++ codes ",\"depth\":" ++ decimal node.0 ++ range_members node.1.start node.1.«end»
 
 -- the line of a node: the members that every node has, and those of its kind
 abbrev pub node_line : Names → ℕ × Item → List ℕ

@@ -19,10 +19,10 @@ use Rattle.first_pass_grammar.proofs.Each.EachLeaf.{HoldsOfBlocks, HoldsInBlocks
 use Rattle.first_pass_grammar.proofs.Each.EachRow.{HoldsOfRow, HoldsOfEachRow, derived_rows, tight_nodes}
 use Rattle.first_pass_grammar.proofs.Each.EachCell.{deeper_nodes}
 use Rattle.first_pass_grammar.proofs.Names.TokensNamed.{NamesWithin}
-use Rattle.first_pass_outline.specs.Outline.{level_of}
+use Rattle.first_pass_outline.specs.Outline.{heading_level_of}
 
 abbrev pub IsNoHeading : ItemBody → Type 0
-IsNoHeading body = level_of body ≡ None
+IsNoHeading body = heading_level_of body ≡ None
 
 -- the first of a block's items is at the block's own depth, and no later one is a heading
 abbrev HasOneHeading : List (ℕ × Item) → Type 0

@@ -13,7 +13,7 @@ use Rattle.first_pass_grammar.specs.Names.{Names, only_kind, read}
 use Rattle.first_pass_grammar.specs.Order.{Ranged, extent_of, extents, Siblings, Empty, Node, laid, IsBetween, Within, Elsewhere, InItem, InText, InFirst}
 use Rattle.first_pass_grammar.specs.Order.{below, beyond, Fits, IsOrdered}
 use Rattle.first_pass_grammar.specs.WholeTables.{AreEachNode}
-use Rattle.first_pass_outline.specs.Outline.{Entry, level_of, id_in}
+use Rattle.first_pass_outline.specs.Outline.{Entry, heading_level_of, id_in}
 use Rattle.first_pass_outline.specs.TextOutline.{IsRangeFrom, LieBetween}
 use Rattle.first_pass_outline.proofs.HeadingRows.{IsNoHeading, NoneBelow, NoneInside, derived_inside}
 use Rattle.first_pass_outline.proofs.Outlines.{entries_of, entries_of-append}
@@ -32,7 +32,7 @@ between_both text from mid to [] more h k = between_from text from mid to more h
 between_both text from mid to (e ∷ entries) more h k = (h.0, between_both text e.«end» mid to entries more h.1 k)
 
 -- a node's level does not depend on its index
-kind_level : (b : ItemBody) → level_of (only_kind b) ≡ level_of b
+kind_level : (b : ItemBody) → heading_level_of (only_kind b) ≡ heading_level_of b
 kind_level (Heading level ix) = refl
 kind_level b = refl
 
@@ -42,7 +42,7 @@ module _ (names : Names) where
   entry_with x o =
       option_map (λ level. record { level = level; id = option_and_then id_in (read names x).1; start = x.start; «end» = x.«end» }) o
 
-  entries_first : (n : ℕ × Item) (nodes : List (ℕ × Item)) (o : Option HeadingLevel) → level_of n.1.body ≡ o
+  entries_first : (n : ℕ × Item) (nodes : List (ℕ × Item)) (o : Option HeadingLevel) → heading_level_of n.1.body ≡ o
       → entries_of names (n ∷ nodes) ≡ cons_option (entry_with n.1 o) (entries_of names nodes)
   entries_first n nodes o is = ap (λ (z : Option HeadingLevel). cons_option (entry_with n.1 z) (entries_of names nodes)) (kind_level n.1.body ∙ is)
 
@@ -52,7 +52,7 @@ module _ (names : Names) where
 
   module _ (text : List ℕ) where
     -- the entries of a node, of its descendants and of the nodes after it
-    node_by : (o : Option HeadingLevel) (from to : ℕ) (n : ℕ × Item) (kids next : List (ℕ × Item)) → level_of n.1.body ≡ o
+    node_by : (o : Option HeadingLevel) (from to : ℕ) (n : ℕ × Item) (kids next : List (ℕ × Item)) → heading_level_of n.1.body ≡ o
         → IsRangeFrom text from (n.1.start) (n.1.«end») → LieBetween text from n.1.«end» (entries_of names kids)
         → LieBetween text n.1.«end» to (entries_of names next) → IsNoHeading n.1.body ⊎ AreEachNode IsNoHeading kids
         → LieBetween text from to (entries_of names (n ∷ (kids ++ next)))
@@ -175,7 +175,7 @@ module _ (names : Names) (text : List ℕ) where
       let below : AreDeep (suc n.0) kids = subst (λ (z : ℕ × Ranged). AreDeep (suc z.0) kids) (sym first) deep in
       let leaf = leaf_kids n kids next below (subst (λ (z : List (ℕ × Item)). IsNoHeading n.1.body ⊎ NoneBelow n.0 z) is none.0) in
       subst (λ (z : List (ℕ × Item)). LieBetween text least to (entries_of names (n ∷ z))) (sym is)
-      (node_by names text (level_of n.1.body) least to n kids next refl own.range own.inner own.after leaf)
+      (node_by names text (heading_level_of n.1.body) least to n kids next refl own.range own.inner own.after leaf)
 
   -- the entries of a row
   row_entries : (within : Within) (from to : ℕ) (row : Siblings) (depth : ℕ) (nodes : List (ℕ × Item)) → reach within from ≤ from

@@ -17,9 +17,9 @@ pub record Entry : Type 0 where
   pub «end» : ℕ
 
 -- the level of a heading; no other node has one (CommonMark 4.2, 4.3)
-abbrev pub level_of : ItemBody → Option HeadingLevel
-level_of (Heading level index) = Some level
-level_of _ = None
+abbrev pub heading_level_of : ItemBody → Option HeadingLevel
+heading_level_of (Heading level index) = Some level
+heading_level_of _ = None
 
 -- the id in the entry of an index: only attributes may have one (this project)
 abbrev pub id_in : Named → Option (List ℕ)
@@ -30,7 +30,7 @@ id_in (Alignments columns) = None
 -- the entry of a node with the entry of its index, if it is a heading (this project)
 abbrev pub entry_of : Item × Option Named → Option Entry
 entry_of (x, named) =
-    option_map (λ level. record { level = level; id = option_and_then id_in named; start = x.start; «end» = x.«end» }) (level_of x.body)
+    option_map (λ level. record { level = level; id = option_and_then id_in named; start = x.start; «end» = x.«end» }) (heading_level_of x.body)
 
 -- the outline of nodes with the entries of their indices: the entries of the headings, in the same order
 -- (this project)

@@ -4,7 +4,7 @@ use Rattle.std.specs.List.{flat_map}
 use Rattle.first_pass_items.specs.declared.item.HeadingLevel.{HeadingLevel}
 use Rattle.first_pass_lines.specs.Lines.{level_number}
 use Rattle.first_pass_attributes.specs.Attributes.{Attributes}
-use Rattle.first_pass_printed.specs.Visible.{enclosed, visible}
+use Rattle.first_pass_printed.specs.Visible.{in_parentheses, visible}
 
 -- an id after a comma and `#`, if there is one (this project)
 abbrev pub id_value : Option (List ℕ) → List ℕ
@@ -39,4 +39,4 @@ attribute_values (Some given) = id_value given.id ++ class_values given.classes 
 
 -- the values of a heading in parentheses: its level, then its attributes (this project)
 abbrev pub heading_values : HeadingLevel → Option Attributes → List ℕ
-heading_values level attributes = enclosed (decimal (level_number level) ++ attribute_values attributes)
+heading_values level attributes = in_parentheses (decimal (level_number level) ++ attribute_values attributes)

@@ -21,48 +21,48 @@ use Rattle.first_pass_items.specs.declared.item.ItemBody.TheVariants.{TableHead}
 use Rattle.first_pass_items.specs.declared.item.ItemBody.TheVariants.{TableRow, TableCell, Text, SoftBreak, HardBreak, MaybeEmphasis, MaybeMath}
 use Rattle.first_pass_items.specs.declared.item.ItemBody.TheVariants.{MaybeSmartQuote, MaybeCode, MaybeHtml, MaybeLinkOpen, MaybeLinkClose, MaybeImage, Html}
 use Rattle.first_pass_items.specs.declared.item.ItemBody.TheVariants.{SynthesizeText, SynthesizeChar, TaskListMarker, ListItem, List as ListBody}
-pub use Rattle.first_pass_printed.specs.Visible.{enclosed, visible_byte, visible}
+pub use Rattle.first_pass_printed.specs.Visible.{in_parentheses, visible_byte, visible}
 use Rattle.first_pass_printed.specs.HeadingValues.{heading_values}
 use Rattle.std.specs.Option.{option_and_then}
 
 -- the name of a node's kind
-abbrev pub name_of : ItemBody → List ℕ
-name_of Root = codes "Root"
-name_of Paragraph = codes "Paragraph"
-name_of TightParagraph = codes "TightParagraph"
-name_of Rule = codes "Rule"
-name_of (Heading level attributes) = codes "Heading"
-name_of (FencedCodeBlock info) = codes "FencedCodeBlock"
-name_of IndentCodeBlock = codes "IndentCodeBlock"
-name_of HtmlBlock = codes "HtmlBlock"
-name_of (BlockQuote kind) = codes "BlockQuote"
-name_of (ListBody flags byte number) = codes "List"
-name_of (ListItem indent) = codes "ListItem"
-name_of (FootnoteDefinition label) = codes "FootnoteDefinition"
-name_of (MetadataBlock kind) = codes "MetadataBlock"
-name_of (DefinitionList flags) = codes "DefinitionList"
-name_of MaybeDefinitionListTitle = codes "MaybeDefinitionListTitle"
-name_of DefinitionListTitle = codes "DefinitionListTitle"
-name_of (DefinitionListDefinition indent) = codes "DefinitionListDefinition"
-name_of (Table alignments) = codes "Table"
-name_of TableHead = codes "TableHead"
-name_of TableRow = codes "TableRow"
-name_of TableCell = codes "TableCell"
-name_of (Text escaped) = codes "Text"
-name_of SoftBreak = codes "SoftBreak"
-name_of (HardBreak by_backslash) = codes "HardBreak"
-name_of (MaybeEmphasis left can_open can_close) = codes "MaybeEmphasis"
-name_of (MaybeMath can_open can_close context) = codes "MaybeMath"
-name_of (MaybeSmartQuote byte can_open can_close) = codes "MaybeSmartQuote"
-name_of (MaybeCode count escaped) = codes "MaybeCode"
-name_of MaybeHtml = codes "MaybeHtml"
-name_of MaybeLinkOpen = codes "MaybeLinkOpen"
-name_of (MaybeLinkClose active) = codes "MaybeLinkClose"
-name_of MaybeImage = codes "MaybeImage"
-name_of Html = codes "Html"
-name_of (SynthesizeText text) = codes "SynthesizeText"
-name_of (SynthesizeChar character) = codes "SynthesizeChar"
-name_of (TaskListMarker checked) = codes "TaskListMarker"
+abbrev pub kind_name : ItemBody → List ℕ
+kind_name Root = codes "Root"
+kind_name Paragraph = codes "Paragraph"
+kind_name TightParagraph = codes "TightParagraph"
+kind_name Rule = codes "Rule"
+kind_name (Heading level attributes) = codes "Heading"
+kind_name (FencedCodeBlock info) = codes "FencedCodeBlock"
+kind_name IndentCodeBlock = codes "IndentCodeBlock"
+kind_name HtmlBlock = codes "HtmlBlock"
+kind_name (BlockQuote kind) = codes "BlockQuote"
+kind_name (ListBody flags byte number) = codes "List"
+kind_name (ListItem indent) = codes "ListItem"
+kind_name (FootnoteDefinition label) = codes "FootnoteDefinition"
+kind_name (MetadataBlock kind) = codes "MetadataBlock"
+kind_name (DefinitionList flags) = codes "DefinitionList"
+kind_name MaybeDefinitionListTitle = codes "MaybeDefinitionListTitle"
+kind_name DefinitionListTitle = codes "DefinitionListTitle"
+kind_name (DefinitionListDefinition indent) = codes "DefinitionListDefinition"
+kind_name (Table alignments) = codes "Table"
+kind_name TableHead = codes "TableHead"
+kind_name TableRow = codes "TableRow"
+kind_name TableCell = codes "TableCell"
+kind_name (Text escaped) = codes "Text"
+kind_name SoftBreak = codes "SoftBreak"
+kind_name (HardBreak by_backslash) = codes "HardBreak"
+kind_name (MaybeEmphasis left can_open can_close) = codes "MaybeEmphasis"
+kind_name (MaybeMath can_open can_close context) = codes "MaybeMath"
+kind_name (MaybeSmartQuote byte can_open can_close) = codes "MaybeSmartQuote"
+kind_name (MaybeCode count escaped) = codes "MaybeCode"
+kind_name MaybeHtml = codes "MaybeHtml"
+kind_name MaybeLinkOpen = codes "MaybeLinkOpen"
+kind_name (MaybeLinkClose active) = codes "MaybeLinkClose"
+kind_name MaybeImage = codes "MaybeImage"
+kind_name Html = codes "Html"
+kind_name (SynthesizeText text) = codes "SynthesizeText"
+kind_name (SynthesizeChar character) = codes "SynthesizeChar"
+kind_name (TaskListMarker checked) = codes "TaskListMarker"
 
 -- a truth value as a word
 abbrev pub flag_name : Bool → List ℕ
@@ -88,25 +88,25 @@ metadata_name PlusesStyle = codes "PlusesStyle"
 
 -- the values of a block other than a heading, in parentheses; nothing if it has none
 abbrev pub block_values : ItemBody → List ℕ
-block_values (BlockQuote (Some kind)) = enclosed (quote_name kind)
-block_values (ListBody flags byte number) = enclosed (list_name flags ++ codes "," ++ (byte ∷ []) ++ codes "," ++ decimal number)
-block_values (ListItem indent) = enclosed (decimal indent)
-block_values (MetadataBlock kind) = enclosed (metadata_name kind)
-block_values (DefinitionList flags) = enclosed (list_name flags)
-block_values (DefinitionListDefinition indent) = enclosed (decimal indent)
+block_values (BlockQuote (Some kind)) = in_parentheses (quote_name kind)
+block_values (ListBody flags byte number) = in_parentheses (list_name flags ++ codes "," ++ (byte ∷ []) ++ codes "," ++ decimal number)
+block_values (ListItem indent) = in_parentheses (decimal indent)
+block_values (MetadataBlock kind) = in_parentheses (metadata_name kind)
+block_values (DefinitionList flags) = in_parentheses (list_name flags)
+block_values (DefinitionListDefinition indent) = in_parentheses (decimal indent)
 block_values _ = []
 
 -- the values of a token, in parentheses; nothing if it has none
 abbrev pub token_values : ItemBody → List ℕ
-token_values (Text true) = enclosed (codes "escaped")
-token_values (HardBreak by_backslash) = enclosed (flag_name by_backslash)
-token_values (MaybeEmphasis left can_open can_close) = enclosed (decimal left ++ codes "," ++ flag_name can_open ++ codes "," ++ flag_name can_close)
-token_values (MaybeMath can_open can_close context) = enclosed (flag_name can_open ++ codes "," ++ flag_name can_close ++ codes "," ++ decimal context)
-token_values (MaybeSmartQuote byte can_open can_close) = enclosed ((byte ∷ []) ++ codes "," ++ flag_name can_open ++ codes "," ++ flag_name can_close)
-token_values (MaybeCode count escaped) = enclosed (decimal count ++ codes "," ++ flag_name escaped)
-token_values (MaybeLinkClose active) = enclosed (flag_name active)
-token_values (SynthesizeChar character) = enclosed (encode_utf8 character)
-token_values (TaskListMarker checked) = enclosed (flag_name checked)
+token_values (Text true) = in_parentheses (codes "escaped")
+token_values (HardBreak by_backslash) = in_parentheses (flag_name by_backslash)
+token_values (MaybeEmphasis left can_open can_close) = in_parentheses (decimal left ++ codes "," ++ flag_name can_open ++ codes "," ++ flag_name can_close)
+token_values (MaybeMath can_open can_close context) = in_parentheses (flag_name can_open ++ codes "," ++ flag_name can_close ++ codes "," ++ decimal context)
+token_values (MaybeSmartQuote byte can_open can_close) = in_parentheses ((byte ∷ []) ++ codes "," ++ flag_name can_open ++ codes "," ++ flag_name can_close)
+token_values (MaybeCode count escaped) = in_parentheses (decimal count ++ codes "," ++ flag_name escaped)
+token_values (MaybeLinkClose active) = in_parentheses (flag_name active)
+token_values (SynthesizeChar character) = in_parentheses (encode_utf8 character)
+token_values (TaskListMarker checked) = in_parentheses (flag_name checked)
 token_values _ = []
 
 -- two spaces for each level of depth
@@ -133,34 +133,34 @@ alignment_signs (first ∷ others) = alignment_sign first ++ signs_after others
 -- the entry of a node's index, in parentheses: a text, the signs of a table's columns, or the level of a heading and
 -- its attributes; nothing for other nodes
 abbrev pub named_values : Names → ItemBody → List ℕ
-named_values names (FencedCodeBlock ix) = enclosed (visible (text_named names ix))
-named_values names (FootnoteDefinition ix) = enclosed (visible (text_named names ix))
-named_values names (SynthesizeText ix) = enclosed (visible (text_named names ix))
-named_values names (Table ix) = enclosed (alignment_signs (alignments_named names ix))
+named_values names (FencedCodeBlock ix) = in_parentheses (visible (text_named names ix))
+named_values names (FootnoteDefinition ix) = in_parentheses (visible (text_named names ix))
+named_values names (SynthesizeText ix) = in_parentheses (visible (text_named names ix))
+named_values names (Table ix) = in_parentheses (alignment_signs (alignments_named names ix))
 named_values names (Heading level ix) = heading_values level (option_and_then (λ at. slice_get names.headings at.0) ix)
 named_values names _ = []
 
 -- the kind of a node: its name, its values and the entry of its index
 abbrev pub body_text : Names → ItemBody → List ℕ
-body_text names body = name_of body ++ block_values body ++ token_values body ++ named_values names body
+body_text names body = kind_name body ++ block_values body ++ token_values body ++ named_values names body
 
 -- a range after a space, and a newline
-abbrev pub range_text : ℕ → ℕ → List ℕ
-range_text start e = codes " " ++ decimal start ++ codes ".." ++ decimal e ++ codes "\n"
+abbrev pub written_range : ℕ → ℕ → List ℕ
+written_range start e = codes " " ++ decimal start ++ codes ".." ++ decimal e ++ codes "\n"
 
 -- the line of a node: two spaces for each level of depth, its kind, and its range
 abbrev pub node_line : Names → ℕ × Item → List ℕ
-node_line names node = indentation node.0 ++ body_text names node.1.body ++ range_text node.1.start node.1.«end»
+node_line names node = indentation node.0 ++ body_text names node.1.body ++ written_range node.1.start node.1.«end»
 
 -- a title in quotation marks after a space, if there is one
-abbrev pub title_text : Option (List ℕ) → List ℕ
-title_text None = []
-title_text (Some title) = codes " \"" ++ visible title ++ codes "\""
+abbrev pub quoted_title : Option (List ℕ) → List ℕ
+quoted_title None = []
+quoted_title (Some title) = codes " \"" ++ visible title ++ codes "\""
 
 -- the line of a link definition: its label as it is spelled, its destination, its title if it has one, and its range
 -- (CommonMark 4.7)
 abbrev pub link_line : LinkEntry → List ℕ
-link_line link = codes "[" ++ link.label ++ codes "]: " ++ visible link.dest ++ title_text link.title ++ range_text link.start link.«end»
+link_line link = codes "[" ++ link.label ++ codes "]: " ++ visible link.dest ++ quoted_title link.title ++ written_range link.start link.«end»
 
 -- the lines of a tree's nodes, then those of the link definitions, in the order of their table
 abbrev pub printed_lines : Names → List (ℕ × Item) → Tables → List ℕ

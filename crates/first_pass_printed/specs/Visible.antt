@@ -4,8 +4,8 @@ use Rattle.std.specs.List.{flat_map}
 use Rattle.first_pass_items.specs.Bytes.{line_feed, carriage_return, backslash, small_n, small_r}
 
 -- a text in parentheses
-abbrev pub enclosed : List ℕ → List ℕ
-enclosed text = codes "(" ++ text ++ codes ")"
+abbrev pub in_parentheses : List ℕ → List ℕ
+in_parentheses text = codes "(" ++ text ++ codes ")"
 
 -- a byte of a text; a backslash, a newline and a carriage return are escaped as `\\`, `\n` and `\r`
 abbrev pub visible_byte : ℕ → List ℕ

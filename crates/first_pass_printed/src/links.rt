@@ -3,7 +3,7 @@
 ghost use Rattle.std.specs.Prelude.{◌≡◌, ◌++◌, OnOk, codes};
 ghost use Rattle.first_pass_items.specs.CowText.{text_of};
 ghost use Rattle.first_pass_names.specs.TableEntries.{link_entry};
-ghost use Rattle.first_pass_printed.specs.Printed.{link_line, title_text, visible};
+ghost use Rattle.first_pass_printed.specs.Printed.{link_line, quoted_title, visible};
 ghost use Rattle.std.specs.Option.{option_map};
 
 use crate::node::{append_range, append_visible};
@@ -32,7 +32,7 @@ pub fn append_link(
 
 /// Appends a space and a title in quotation marks, if there is one.
 fn append_title(line: &mut Vec<u8>, title: &Option<CowStr<'_>>) -> Result<(), AllocError>
-    ensures { OnOk result (line.new.items ≡ line.old.items ++ title_text (option_map text_of title.now)) }
+    ensures { OnOk result (line.new.items ≡ line.old.items ++ quoted_title (option_map text_of title.now)) }
 {
     match title {
         Some(text) => append_quoted(line, text.deref()),

@@ -5,7 +5,7 @@ ghost use Rattle.std.specs.Prelude.{◌≡◌, ◌++◌, ◌∷◌, [], OnOk, co
 ghost use Rattle.first_pass_attributes.specs.Attributes.{attributes_in};
 ghost use Rattle.first_pass_items.specs.declared.item.ItemBody.TheVariants.{MaybeEmphasis, MaybeMath, MaybeSmartQuote, MaybeCode, List as ListBody};
 ghost use Rattle.first_pass_names.specs.TableEntries.{names_of};
-ghost use Rattle.first_pass_printed.specs.Printed.{node_line, named_values, visible, visible_byte, name_of, block_values, token_values, body_text, enclosed, flag_name, list_name, quote_name, metadata_name, indentation, range_text};
+ghost use Rattle.first_pass_printed.specs.Printed.{node_line, named_values, visible, visible_byte, kind_name, block_values, token_values, body_text, in_parentheses, flag_name, list_name, quote_name, metadata_name, indentation, written_range};
 
 use crate::heading::append_heading;
 use crate::table::append_alignments;
@@ -34,7 +34,7 @@ pub fn append_node(
 
 /// Appends a space, a range and a newline.
 pub fn append_range(line: &mut Vec<u8>, start: usize, end: usize) -> Result<(), AllocError>
-    ensures { OnOk result (line.new.items ≡ line.old.items ++ range_text start end) }
+    ensures { OnOk result (line.new.items ≡ line.old.items ++ written_range start end) }
 {
     line.push(b' ')?;
     append_number(line, start)?;
@@ -111,7 +111,7 @@ pub fn attributes_at<'a, 'b>(
 
 /// Appends a text in parentheses, with a backslash, a newline and a carriage return escaped as `\\`, `\n` and `\r`.
 fn append_text(line: &mut Vec<u8>, text: &str) -> Result<(), AllocError>
-    ensures { OnOk result (line.new.items ≡ line.old.items ++ enclosed (visible text.now)) }
+    ensures { OnOk result (line.new.items ≡ line.old.items ++ in_parentheses (visible text.now)) }
 {
     line.push(b'(')?;
     append_visible(line, text.as_bytes())?;
@@ -185,7 +185,7 @@ fn append_token_values(line: &mut Vec<u8>, body: ItemBody) -> Result<(), AllocEr
 
 /// Appends a word in parentheses.
 fn append_word(line: &mut Vec<u8>, word: &str) -> Result<(), AllocError>
-    ensures { OnOk result (line.new.items ≡ line.old.items ++ enclosed word.now) }
+    ensures { OnOk result (line.new.items ≡ line.old.items ++ in_parentheses word.now) }
 {
     line.push(b'(')?;
     line.extend_from_slice(word.as_bytes())?;
@@ -195,7 +195,7 @@ fn append_word(line: &mut Vec<u8>, word: &str) -> Result<(), AllocError>
 
 /// Appends a number in parentheses.
 fn append_one(line: &mut Vec<u8>, number: usize) -> Result<(), AllocError>
-    ensures { OnOk result (line.new.items ≡ line.old.items ++ enclosed (decimal number)) }
+    ensures { OnOk result (line.new.items ≡ line.old.items ++ in_parentheses (decimal number)) }
 {
     line.push(b'(')?;
     append_number(line, number)?;
@@ -296,7 +296,7 @@ fn append_code(line: &mut Vec<u8>, count: usize, escaped: bool) -> Result<(), Al
 
 /// Appends a character in parentheses.
 fn append_character(line: &mut Vec<u8>, character: char) -> Result<(), AllocError>
-    ensures { OnOk result (line.new.items ≡ line.old.items ++ enclosed (encode_utf8 character)) }
+    ensures { OnOk result (line.new.items ≡ line.old.items ++ in_parentheses (encode_utf8 character)) }
 {
     let mut buffer = [0; 4];
     append_word(line, character.encode_utf8(&mut buffer))
@@ -345,7 +345,7 @@ pub fn metadata_name(kind: MetadataBlockKind) -> &'static str
 
 /// Returns the name of a node's kind, as `blocks` prints it.
 pub fn body_name(body: ItemBody) -> &'static str
-    ensures { result.now ≡ name_of body }
+    ensures { result.now ≡ kind_name body }
 {
     match body {
         ItemBody::Root => "Root",

@@ -1,14 +1,14 @@
 //! The printed form of the alignments of a table's columns.
 
 ghost use Rattle.std.specs.Prelude.{◌≡◌, ◌++◌, OnOk};
-ghost use Rattle.first_pass_printed.specs.Printed.{alignment_sign, signs_after, alignment_signs, enclosed};
+ghost use Rattle.first_pass_printed.specs.Printed.{alignment_sign, signs_after, alignment_signs, in_parentheses};
 
 use first_pass_items::item::Alignment;
 use std::alloc::AllocError;
 
 /// Appends the signs of a table's columns in parentheses, separated by commas (GFM 4.10).
 pub fn append_alignments(line: &mut Vec<u8>, alignments: &[Alignment]) -> Result<(), AllocError>
-    ensures { OnOk result (line.new.items ≡ line.old.items ++ enclosed (alignment_signs alignments.now)) }
+    ensures { OnOk result (line.new.items ≡ line.old.items ++ in_parentheses (alignment_signs alignments.now)) }
 {
     line.push(b'(')?;
     append_signs(line, alignments)?;

@@ -5,7 +5,7 @@ use Rattle.std.specs.Range.{range_steps}
 use Rattle.first_pass_items.specs.declared.item.Item.{Item}
 use Rattle.first_pass_grammar.specs.Names.{Names}
 use Rattle.first_pass_grammar.specs.LinkTables.{LinkEntry}
-use Rattle.first_pass_host.specs.Held.{Calls, AppendsLine, AreLines}
+use Rattle.first_pass_host.specs.Held.{Calls, CallsAppendLine, AreItemLines}
 use Rattle.first_pass_references.specs.Lines.{first_lines, node_lines}
 
 -- the lines of consecutive numbers from a first one on
@@ -23,8 +23,8 @@ unfolding lines_from
 none_left line i n none = ap (lines_from line i) none
 
 -- the numbers of a range
-pub number_lines : (calls : Calls ℕ) (line : ℕ → List ℕ) → AppendsLine calls line
-    → AreLines (range_steps (λ x y. y - x) (λ x y. y ≡ x + 1)) calls line (λ s. lines_from line s.start (s.«end» - s.start))
+pub number_lines : (calls : Calls ℕ) (line : ℕ → List ℕ) → CallsAppendLine calls line
+    → AreItemLines (range_steps (λ x y. y - x) (λ x y. y ≡ x + 1)) calls line (λ s. lines_from line s.start (s.«end» - s.start))
 number_lines calls line appends = record {
   appended = appends;
   next = λ s t x step. one_more line s.start (s.«end» - s.start) x t.start (t.«end» - t.start) step.1.0 step.1.1 step.1.2

@@ -9,7 +9,7 @@ use Rattle.first_pass_items.specs.declared.item.ItemBody.TheVariants.{FootnoteDe
 use Rattle.first_pass_grammar.specs.Names.{Names, text_named}
 use Rattle.first_pass_grammar.specs.LinkTables.{LinkEntry}
 use Rattle.first_pass_grammar.specs.Derivation.{Tables}
-use Rattle.first_pass_printed.specs.Printed.{visible, link_line, range_text}
+use Rattle.first_pass_printed.specs.Printed.{visible, link_line, written_range}
 use Rattle.first_pass_references.specs.References.{Reference, reference_at}
 
 -- the line of a link definition: its label, its destination, its title if it has one, and its range (CommonMark 4.7)
@@ -23,11 +23,11 @@ footnote_text names _ range = []
 
 -- the line of a footnote definition, with its label and its range; none for another node
 abbrev pub footnote_line : Names → Item → List ℕ
-footnote_line names node = footnote_text names node.body (range_text node.start node.«end»)
+footnote_line names node = footnote_text names node.body (written_range node.start node.«end»)
 
 -- the line of a reference: its destination and its range
 abbrev pub reference_line : Reference → List ℕ
-reference_line reference = codes "reference " ++ visible reference.dest ++ range_text reference.start reference.«end»
+reference_line reference = codes "reference " ++ visible reference.dest ++ written_range reference.start reference.«end»
 
 -- the line of the first of these nodes, if it is a footnote definition or begins a reference
 abbrev pub first_lines : List ℕ → Names → List LinkEntry → List (ℕ × Item) → List ℕ

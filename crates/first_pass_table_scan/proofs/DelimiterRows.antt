@@ -8,11 +8,11 @@ use Rattle.std.proofs.lemmas.Bool.Decides.{nat_tests}
 use Rattle.std.proofs.lemmas.List.Sums.{prefix_len-le-length}
 use Rattle.first_pass_items.specs.Bytes.{hyphen, colon, pipe}
 use Rattle.first_pass_items.specs.declared.item.Alignment.{Alignment}
-use Rattle.first_pass_lines.specs.Lines.{is_space_or_tab, is_content, begins, line_len}
+use Rattle.first_pass_lines.specs.Lines.{is_space_or_tab, is_content, begins, line_len, ends}
 use Rattle.first_pass_scan.specs.LeafLines.{run_len}
 use Rattle.first_pass_lines.specs.Rest.{Rest, indent, after_columns, columns_of}
 use Rattle.first_pass_lines.proofs.PlaceFacts.{all_columns, all_columns_up_to}
-use Rattle.first_pass_table_scan.specs.TableHead.{is_pipe, ends, stripped, without_first, without_last, is_hyphens, alignment_by, delimiter_cell, each_of}
+use Rattle.first_pass_table_scan.specs.TableHead.{is_pipe, stripped, without_first, without_last, is_hyphens, alignment_by, delimiter_cell, each_of}
 use Rattle.first_pass_table_scan.specs.TableHead.{delimiter_cells, delimiter_row, table_head, delimiter_row_of}
 use Rattle.first_pass_table_scan.proofs.TableFacts.{cells-refused, cells-more, cells-last}
 

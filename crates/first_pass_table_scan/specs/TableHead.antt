@@ -1,22 +1,18 @@
 -- The delimiter row of a table, and the number of columns of its header row (GFM 4.10).
 use Rattle.std.specs.Prelude.{ℕ, ◌+◌, ◌-◌, ◌==◌, ◌&&◌, not, Bool, true, false, nat_le, nat_lt, List, [], ◌∷◌, length, map, take, drop, Option, Some, None}
-use Rattle.std.specs.Prelude.{slice_index, if◌then◌else◌}
+use Rattle.std.specs.Prelude.{if◌then◌else◌}
 use Rattle.std.specs.Option.{option_map, option_map_or}
 use Rattle.std.specs.List.{prefix_len, suffix_len, take_while, list_any, slice_split}
 use Rattle.first_pass_items.specs.Bytes.{hyphen, colon, backslash, pipe}
 use Rattle.first_pass_items.specs.declared.item.Alignment.{Alignment}
 use Rattle.first_pass_items.specs.declared.item.Alignment.TheVariants.{None as Unaligned, Left, Center, Right}
-use Rattle.first_pass_lines.specs.Lines.{is_content, is_white, is_space_or_tab, begins, is_blank_line, line_len}
+use Rattle.first_pass_lines.specs.Lines.{is_content, is_white, is_space_or_tab, begins, is_blank_line, line_len, ends}
 use Rattle.first_pass_scan.specs.LeafLines.{run_len}
 use Rattle.first_pass_lines.specs.Rest.{Rest, indent, after_columns, columns_of}
 
 -- a pipe (GFM 4.10)
 abbrev pub is_pipe : ℕ → Bool
 is_pipe b = b == pipe
-
--- the last byte is c, which is not 0 (this project)
-abbrev pub ends : ℕ → List ℕ → Bool
-ends c bs = slice_index bs (length bs - 1) == c
 
 -- the bytes without leading and trailing spaces and tabs (CommonMark 2.1)
 unfoldable pub stripped : List ℕ → List ℕ

@@ -13,7 +13,7 @@ use Rattle.std.proofs.lemmas.Str.{IsCharBoundary-after_ascii}
 use Rattle.first_pass_items.specs.OptionWords.{has, heading_attributes}
 use Rattle.first_pass_items.specs.Bytes.{left_brace, right_brace}
 use Rattle.first_pass_items.specs.declared.option_set.Options.{Options}
-use Rattle.first_pass_attributes.specs.AttributeBlocks.{Braces, attribute_block, length_before_block, enclosed, inside_block}
+use Rattle.first_pass_attributes.specs.AttributeBlocks.{Braces, attribute_block, length_before_block, between_braces, inside_block}
 use Rattle.first_pass_attributes.specs.Attributes.{Attributes, attributes_of, attributes_in}
 use Rattle.first_pass_attributes.specs.declared.attrs.HeadingAttributes.{HeadingAttributes}
 use Rattle.first_pass_attributes.proofs.BlockFacts.{block-found}
@@ -107,14 +107,14 @@ content_before options text bytes start to n on same is =
     ap (λ k. start + k) (is ∙ ap (λ (xs : List ℕ). length_before_block (slice_range xs start to)) same ∙ length_before options (slice_range text start to) on)
 
 -- the bytes that were found between the braces
-none_inside : (o : Option Braces) → None ≡ option_map enclosed o → o ≡ None
+none_inside : (o : Option Braces) → None ≡ option_map between_braces o → o ≡ None
 none_inside None e = refl
 none_inside (Some block) e = cc
 
 some_inside : (r : ℕ × ℕ) (o : Option Braces)
-    → Some r ≡ option_map enclosed o → (block : Braces) × (o ≡ Some block) × (block.opening + 1 ≡ r.0) × (block.closing ≡ r.1)
+    → Some r ≡ option_map between_braces o → (block : Braces) × (o ≡ Some block) × (block.opening + 1 ≡ r.0) × (block.closing ≡ r.1)
 some_inside r None e = absurd cc
-some_inside r (Some block) e = let same : r ≡ enclosed block = cc in (block, refl, sym (ap (λ (p : ℕ × ℕ). p.0) same), sym (ap (λ (p : ℕ × ℕ). p.1) same))
+some_inside r (Some block) e = let same : r ≡ between_braces block = cc in (block, refl, sym (ap (λ (p : ℕ × ℕ). p.0) same), sym (ap (λ (p : ℕ × ℕ). p.1) same))
 
 pub given_not : (options : Options) (bs : List ℕ) → has options heading_attributes ≡ true → None ≡ inside_block bs → heading_attributes_of options bs ≡ None
 given_not options bs h e = given_none options bs (these_braces options bs h ∙ none_inside (attribute_block bs) e)

@@ -11,11 +11,11 @@ use Rattle.std.proofs.lemmas.List.Elements.{All-append, Contains-append_left, Co
 use Rattle.std.proofs.KnownBytes.{Consumes-trans}
 use Rattle.std.specs.Prelude.{All, Contains}
 use Rattle.std.specs.Io.KnownBytes.{Consumes}
-use Rattle.first_pass_timing.specs.Timing.{AreEnough, AreTimed, IsLeast, IsTimed, elapsed, enough, last_end, time_of}
+use Rattle.first_pass_timing.specs.Timing.{AreEnough, AreTimed, IsLeast, IsTimed, elapsed, enough, end_of_runs, time_of}
 
 -- the end of the last run
-last_end-append : (time : ℕ) (runs : List (ℕ × ℕ)) (run : ℕ × ℕ) → last_end time (runs ++ run ∷ []) ≡ run.1
-unfolding last_end
+last_end-append : (time : ℕ) (runs : List (ℕ × ℕ)) (run : ℕ × ℕ) → end_of_runs time (runs ++ run ∷ []) ≡ run.1
+unfolding end_of_runs
 last_end-append time [] run = refl
 last_end-append time (first ∷ runs) run = last_end-append first.1 runs run
 
@@ -40,13 +40,13 @@ least_more l n ns least = record {
 pub record SoFar (asked : Option ℕ) (old new : Option (List ℕ)) (first : ℕ × ℕ) (ended count least : ℕ) : Type 0 where
   pub more : List (ℕ × ℕ)
   pub timed : AreTimed old new (first ∷ more) count least
-  pub last : last_end first.1 more ≡ ended
+  pub last : end_of_runs first.1 more ≡ ended
   pub fewer : (k : ℕ) → 0 < k → k < suc (length more) → enough asked k (elapsed (take k (first ∷ more))) ≡ false
 
 -- one run
 pub first_run : (asked : Option ℕ) (old new : Option (List ℕ)) (began ended least : ℕ)
     → least ≡ ended - began → Consumes old new (began ∷ ended ∷ []) → SoFar asked old new (began, ended) ended 1 least
-unfolding last_end
+unfolding end_of_runs
 first_run asked old new began ended least is read = record {
   more = [];
   timed = record { read = read; counted = refl; shortest = subst (λ n. IsLeast n ((ended - began) ∷ [])) (sym is) (least_one (ended - began)) };
@@ -65,7 +65,7 @@ more_timed old mid new runs run count least timed read = record {
 }
 
 -- the runs before the last one were not enough
-few_at_last : (asked : Option ℕ) (first run : ℕ × ℕ) (more : List (ℕ × ℕ)) (ended count k : ℕ) → last_end first.1 more ≡ ended → count ≡ suc (length more)
+few_at_last : (asked : Option ℕ) (first run : ℕ × ℕ) (more : List (ℕ × ℕ)) (ended count k : ℕ) → end_of_runs first.1 more ≡ ended → count ≡ suc (length more)
     → enough asked count (ended - first.0) ≡ false → k ≡ suc (length more) → enough asked k (elapsed (take k (first ∷ (more ++ run ∷ [])))) ≡ false
 unfolding elapsed
 few_at_last asked first run more ended count k last counted bound whole =
@@ -93,7 +93,7 @@ next_run asked old mid new first run ended count least counted next so_far bound
 
 -- the time of all runs together
 lasts : (asked : Option ℕ) (first : ℕ × ℕ) (more : List (ℕ × ℕ)) (ended count : ℕ)
-    → last_end first.1 more ≡ ended → count ≡ suc (length more) → enough asked count (ended - first.0) ≡ true
+    → end_of_runs first.1 more ≡ ended → count ≡ suc (length more) → enough asked count (ended - first.0) ≡ true
     → enough asked (length (first ∷ more)) (elapsed (first ∷ more)) ≡ true
 unfolding elapsed
 lasts asked first more ended count last counted many =

@@ -13,14 +13,14 @@ abbrev pub time_of : ℕ × ℕ → ℕ
 time_of run = run.1 - run.0
 
 -- the end of the last run, or another time if there are no runs
-unfoldable pub last_end : ℕ → List (ℕ × ℕ) → ℕ
-last_end time [] = time
-last_end time (run ∷ runs) = last_end run.1 runs
+unfoldable pub end_of_runs : ℕ → List (ℕ × ℕ) → ℕ
+end_of_runs time [] = time
+end_of_runs time (run ∷ runs) = end_of_runs run.1 runs
 
 -- the time from the start of the first run to the end of the last
 unfoldable pub elapsed : List (ℕ × ℕ) → ℕ
 elapsed [] = 0
-elapsed (run ∷ runs) = last_end run.1 runs - run.0
+elapsed (run ∷ runs) = end_of_runs run.1 runs - run.0
 
 -- the least of some numbers
 pub record IsLeast (least : ℕ) (numbers : List ℕ) : Type 0 where
