@@ -1,5 +1,5 @@
--- Facts from the first byte of a line, before its containers are read; and the first bytes of an item that interrupts
--- a paragraph.
+-- What the first byte of a line decides before its prefixes are read, and the first bytes of items that interrupt a
+-- paragraph.
 use Rattle.std.proofs.Common.{◌≡◌, inl, inr, ℕ, suc, ◌+◌, ◌==◌, nat_lt, nat_le, ◌&&◌, ◌||◌, not, Bool, true, false, true≢false, List, [], ◌∷◌, drop}
 use Rattle.std.proofs.Common.{Option, Some, None, is_some, if◌then◌else◌, refl, sym, ap, subst, ◌∙◌, arith}
 use Rattle.std.proofs.lemmas.Bool.{cases_eq, ne_eqb, eqb-true}
@@ -25,19 +25,19 @@ use Rattle.first_pass_kinds.specs.NextLines.{next_line_of}
 use Rattle.first_pass_kinds.proofs.PlainLines.{none_either, plain_more}
 
 -- neither a column nor a block quote marker is here
-pub record HasNone (r : Rest) : Type 0 where
+pub record HasNoPrefix (r : Rest) : Type 0 where
   pub column : next_column r ≡ None
   pub quote : past_quote r ≡ None
 
--- Then the prefix of a container takes nothing, whether the line continues it or not;
+-- If `HasNoPrefix` holds, no container prefix takes anything, whether the line continues the container or not.
 if_same : (t : Bool) (r : Rest) → or_shorter (if t then Some r else None) r ≡ r
 if_same true r = refl
 if_same false r = refl
 
-columns_same : (n : ℕ) (r : Rest) → HasNone r → or_shorter (if has_columns n r then Some (after_columns n r) else None) r ≡ r
+columns_same : (n : ℕ) (r : Rest) → HasNoPrefix r → or_shorter (if has_columns n r then Some (after_columns n r) else None) r ≡ r
 columns_same n r h = rw (after-none n r h.column) (if_same _ r)
 
-prefix_same : (c : Container) (r : Rest) → HasNone r → or_shorter (prefix c r) r ≡ r
+prefix_same : (c : Container) (r : Rest) → HasNoPrefix r → or_shorter (prefix c r) r ≡ r
 unfolding prefix
 prefix_same (BlockQuote kind) r h =
     ap (λ (q : Rest). or_shorter (option_map (after_columns 1) (past_quote q)) r) (after-none 3 r h.column)
@@ -46,26 +46,26 @@ prefix_same (ListItem n) r h = columns_same n r h
 prefix_same (FootnoteDefinition n) r h = columns_same n r h
 prefix_same (Definition n) r h = columns_same n r h
 
-after_by : (c : Container) (r : Rest) (o : Option Rest) → HasNone r → or_shorter o r ≡ r → or_shorter (option_and_then (prefix c) o) r ≡ r
+after_by : (c : Container) (r : Rest) (o : Option Rest) → HasNoPrefix r → or_shorter o r ≡ r → or_shorter (option_and_then (prefix c) o) r ≡ r
 after_by c r None h e = refl
 after_by c r (Some q) h e = ap (λ (s : Rest). or_shorter (prefix c s) r) e ∙ prefix_same c r h
 
-after_same : (path : List Container) (r : Rest) → HasNone r → or_shorter (after path r) r ≡ r
+after_same : (path : List Container) (r : Rest) → HasNoPrefix r → or_shorter (after path r) r ≡ r
 unfolding after
 after_same [] r h = refl
 after_same (c ∷ path) r h = after_by c r (after path r) h (after_same path r h)
 
--- a path of containers takes nothing;
-front_same : (path : List Container) (r : Rest) → HasNone r → front path r ≡ r
+-- Then the front of the line is the rest as it is.
+front_same : (path : List Container) (r : Rest) → HasNoPrefix r → front path r ≡ r
 unfolding front
 front_same [] r h = refl
 front_same (c ∷ path) r h = ap (or_shorter (after (c ∷ path) r)) (front_same path r h) ∙ after_same (c ∷ path) r h
 
--- and no columns remain after them.
-text_same : (path : List Container) (r : Rest) → HasNone r → all_taken (front path r) ≡ r
+-- This front has no indentation.
+text_same : (path : List Container) (r : Rest) → HasNoPrefix r → all_taken (front path r) ≡ r
 text_same path r h = ap all_taken (front_same path r h) ∙ after-none (indent r) r h.column
 
--- This holds for a line that begins with no space, tab or `>`.
+-- `HasNoPrefix` holds for a line that begins with no space, tab or `>`.
 column_none : (r : Rest) (bs : List ℕ) → begins 32 bs ≡ false → begins 9 bs ≡ false → column_of_byte r bs ≡ None
 column_none r [] a b = refl
 column_none r (b ∷ bs) s t = rw s (rw t refl)
@@ -74,7 +74,7 @@ quote_none : (r : Rest) (bs : List ℕ) → begins 62 bs ≡ false → past_quot
 quote_none r [] h = refl
 quote_none r (b ∷ bs) h = rw h refl
 
-none_first : (bs : List ℕ) → begins 32 bs ≡ false → begins 9 bs ≡ false → begins 62 bs ≡ false → HasNone (line_rest bs)
+none_first : (bs : List ℕ) → begins 32 bs ≡ false → begins 9 bs ≡ false → begins 62 bs ≡ false → HasNoPrefix (line_rest bs)
 none_first bs s t q = record { column = column_none (line_rest bs) bs s t; quote = quote_none (line_rest bs) bs q }
 
 off_32 : is_plain 32 ≡ false
@@ -89,16 +89,18 @@ off_62 : is_plain 62 ≡ false
 unfolding is_plain
 off_62 = refl
 
-plain_none : (bs : List ℕ) → begins_plain bs ≡ true → HasNone (line_rest bs)
+plain_none : (bs : List ℕ) → begins_plain bs ≡ true → HasNoPrefix (line_rest bs)
 plain_none bs h = none_first bs (plain_begins 32 bs h off_32) (plain_begins 9 bs h off_9) (plain_begins 62 bs h off_62)
 
--- A line whose first byte is plain is one more line of the text before it, from its start on.
+-- A line whose first byte is plain is one more line of the paragraph text before it; its part of that text begins at
+-- its start.
 pub plain_first : (around : Context) (start : ℕ) (bs : List ℕ) → begins_plain bs ≡ true → More start ≡ next_line_of around start (line_rest bs)
 plain_first around start bs h =
     let same : start ≡ start + 0 = omega arith in
     ap More same ∙ plain_more around start (line_rest bs) (line_rest bs) (sym (text_same around.path (line_rest bs) (plain_none bs h))) h
 
--- at the end of a line, the first byte is that of a line ending
+-- At the end of a line, the first byte is that of a line ending; at the end of the text there is none. So no other byte
+-- c comes first.
 eol_begins : (c : ℕ) (bs : List ℕ) → at_line_end bs ≡ true → ((xs : List ℕ) → at_line_end (c ∷ xs) ≡ false) → begins c bs ≡ false
 eol_begins c [] h k = refl
 eol_begins c (b ∷ bs) h k = elim (cases_eq b c) [
@@ -106,14 +108,14 @@ eol_begins c (b ∷ bs) h k = elim (cases_eq b c) [
   | inr other ↦ ne_eqb b c other
 ]
 
-eol_none : (bs : List ℕ) → at_line_end bs ≡ true → HasNone (line_rest bs)
+eol_none : (bs : List ℕ) → at_line_end bs ≡ true → HasNoPrefix (line_rest bs)
 eol_none bs h = none_first bs (eol_begins 32 bs h (λ xs. refl)) (eol_begins 9 bs h (λ xs. refl)) (eol_begins 62 bs h (λ xs. refl))
 
 eol_setext : (bs : List ℕ) → at_line_end bs ≡ true → setext_underline bs ≡ None
 unfolding setext_underline
 eol_setext bs h = rw (eol_begins 61 bs h (λ xs. refl)) (rw (eol_begins 45 bs h (λ xs. refl)) refl)
 
--- such a line is no underline,
+-- A line with nothing after its prefixes and indentation is no underline.
 eol_underline : (path : List Container) (r : Rest) → at_line_end (all_taken (front path r)).left ≡ true → underline_of path r ≡ None
 unfolding underline_of
 eol_underline path r h =
@@ -124,12 +126,12 @@ either : (t : Bool) → (if t then true else true) ≡ true
 either true = refl
 either false = refl
 
--- and it ends a paragraph
+-- A front that is only indentation interrupts a paragraph.
 eol_ends : (around : Context) (c : Continued) (r : Rest) → at_line_end (all_taken r).left ≡ true → interrupts around c r ≡ true
 unfolding interrupts
 eol_ends around c r h = rw h (either (nat_lt (indent r) 4))
 
--- A line that ends at its start is no line of the text before it.
+-- A line that is only a line ending, or the end of the text, is no line of the paragraph text before it.
 pub eol_first : (around : Context) (start : ℕ) (bs : List ℕ) → at_line_end bs ≡ true → Other ≡ next_line_of around start (line_rest bs)
 eol_first around start bs h =
     let ends : at_line_end (all_taken (front around.path (line_rest bs))).left ≡ true =
@@ -149,7 +151,7 @@ blank_more n m bs e h = rw e (blank_by (λ k. m + k) (λ k. suc m + k) (eol_len 
 blank_after : (bs : List ℕ) → begins_plain bs ≡ true → blank_len (32 ∷ bs) ≡ None
 blank_after bs h = blank_more (1 + prefix_len is_white bs) (prefix_len is_white bs) bs (omega arith) (plain_blank bs h)
 
--- an item begins with a bullet and a space,
+-- A bullet and a space begin a list item.
 after_some : (n : ℕ) (r : Rest) → nat_le 1 (indent r) ≡ true → after_marker n r ≡ Some (content_indent (n + 1) (after_columns 1 r))
 unfolding after_marker
 after_some n r h = rw h refl
@@ -169,7 +171,7 @@ unfolding listitem list_marker
 bullet_item b bs t =
     rw t (ap (option_map (λ (content : ℕ × Rest). (1, b, 0, content.0))) (after_some 1 (after_bullet b bs) (has_space (columns_of bs 2))))
 
--- and with a plain byte after these it interrupts a paragraph
+-- With a plain byte after the bullet and the space, the item interrupts a paragraph.
 item_by : (whole : Bool) (b : ℕ) (bs : List ℕ) → is_bullet b ≡ true → begins_plain bs ≡ true
     → item_interrupts whole (b ∷ 32 ∷ bs) (listitem (b ∷ 32 ∷ bs)) ≡ true
 item_by whole b bs t h = rw (bullet_item b bs t) (rw t (rw (blank_after bs h) (or-true (not whole))))
@@ -194,7 +196,7 @@ three true true false h = absurd cc
 three true false c h = absurd cc
 three false b c h = absurd cc
 
--- An item that begins with a plain byte after a space interrupts a paragraph.
+-- An item that begins with a bullet, a space and a plain byte interrupts a paragraph.
 pub item_plain : (whole : Bool) (bs : List ℕ) → (is_some (bullet_marker bs) && begins 32 (drop 1 bs) && begins_plain (drop 2 bs)) ≡ true
     → interrupts_with whole bs ≡ true
 item_plain whole [] h = absurd cc

@@ -18,7 +18,7 @@ use Rattle.first_pass_grammar.specs.Kinds.{Kind, Blank, IndentedCode, Metadata, 
 use Rattle.first_pass_grammar.specs.Kinds.{LinkDefinitions}
 use Rattle.first_pass_grammar.specs.Kinds.{Paragraph, all_taken, is_blank_rest, heading_or, rule_or, fence_or, metadata_or, metadata_at, begins_html_to_end}
 use Rattle.first_pass_grammar.specs.Kinds.{begins_html_to_blank, html_kind, first_kind, later_kind, IsKindBy, IsKind}
-use Rattle.first_pass_kinds.specs.BlockStart.{kind_of, IsFoundWith}
+use Rattle.first_pass_kinds.specs.BlockStart.{kind_of, IsFoundWithCondition}
 use Rattle.first_pass_kinds.specs.declared.kinds.BlockStart.{BlockStart}
 
 -- columns counted up to four
@@ -28,7 +28,7 @@ few_columns n m is bound = (grind (arith, nat_tests, is, bound), omega arith)
 pub many_columns : (n m : ℕ) → n ≡ min 4 m → 4 ≤ n → nat_lt m 4 ≡ false
 many_columns n m is many = grind (arith, nat_tests, is, many)
 
--- the bytes at the start of a block of this kind
+-- what the kind of a block implies for the rest at which it begins
 abbrev pub Says : Rest → Kind → Type 0
 Says r Blank = is_blank_rest r ≡ true
 Says r IndentedCode = (is_blank_rest r ≡ false) × (nat_lt (indent r) 4 ≡ false)
@@ -85,7 +85,7 @@ pub blank_kind : (options : Options) (r : Rest) → is_blank_rest r ≡ true →
 unfolding first_kind
 blank_kind options r h = let first : first_kind options r ≡ Some Blank = rw h refl in subst (λ o. IsKindBy r o Blank) (sym first) refl
 
--- the kind of a place after four columns
+-- a rest that is not blank is indented code at four columns or more
 pub code_kind : (options : Options) (r : Rest) → is_blank_rest r ≡ false → nat_lt (indent r) 4 ≡ false → IsKind options r IndentedCode
 unfolding first_kind
 code_kind options r h u = let first : first_kind options r ≡ Some IndentedCode = rw h (rw u refl) in subst (λ o. IsKindBy r o IndentedCode) (sym first) refl
@@ -95,9 +95,9 @@ early_is : (options : Options) (r : Rest) → is_blank_rest r ≡ false → nat_
 unfolding first_kind
 early_is options r h u = rw h (rw u refl)
 
--- A block was found at a place: the line is not blank, fewer than four columns are before the block, and it is this
--- metadata block, or none.
-pub record FoundEarly (options : Options) (r : Rest) (m : Option ℕ) : Type 0 where
+-- The rest is not blank and is at fewer than four columns. `m` is the mark byte of the metadata block there, or `None`
+-- without one.
+pub record AfterMetadata (options : Options) (r : Rest) (m : Option ℕ) : Type 0 where
   pub some : is_blank_rest r ≡ false
   pub bound : nat_lt (indent r) 4 ≡ true
   pub metadata : metadata_at (indent r) options (all_taken r).left ≡ m
@@ -113,7 +113,7 @@ past_columns text start taken r new u i rest is =
 
 pub found_early : (text bytes : List ℕ) (start taken columns : ℕ) (options : Options) (r new : Rest) (m : Option ℕ)
     → IsUtf8 text → IsPlaceOf text (place_at start r) → is_blank_rest r ≡ false → columns ≡ min 4 (indent r) → new ≡ all_taken r → taken ≡ new.taken
-    → columns < 4 → bytes ≡ text → m ≡ metadata_at columns options (drop (start + taken) bytes) → FoundEarly options r m
+    → columns < 4 → bytes ≡ text → m ≡ metadata_at columns options (drop (start + taken) bytes) → AfterMetadata options r m
 found_early text bytes start taken columns options r new m u i some is rest at bound same m_is =
     let f = few_columns columns (indent r) is bound in
     record {
@@ -124,25 +124,25 @@ found_early text bytes start taken columns options r new m u i some is rest at b
     }
 
 -- metadata
-pub metadata_here : (options : Options) (r : Rest) (byte : ℕ) → FoundEarly options r (Some byte) → IsKind options r (Metadata byte)
+pub metadata_here : (options : Options) (r : Rest) (byte : ℕ) → AfterMetadata options r (Some byte) → IsKind options r (Metadata byte)
 metadata_here options r byte f =
     subst (λ o. IsKindBy r o (Metadata byte))
     (sym (early_is options r f.some f.bound ∙ ap (λ m. metadata_or m (html_kind (all_taken r).left)) f.metadata)) refl
 
-html_first : (options : Options) (r : Rest) → FoundEarly options r None → first_kind options r ≡ html_kind (all_taken r).left
+html_first : (options : Options) (r : Rest) → AfterMetadata options r None → first_kind options r ≡ html_kind (all_taken r).left
 html_first options r f = early_is options r f.some f.bound ∙ ap (λ m. metadata_or m (html_kind (all_taken r).left)) f.metadata
 
 -- an HTML block of types 1 to 6
-pub html_here : (options : Options) (r : Rest) (k : Kind) → FoundEarly options r None → html_kind (all_taken r).left ≡ Some k → IsKind options r k
+pub html_here : (options : Options) (r : Rest) (k : Kind) → AfterMetadata options r None → html_kind (all_taken r).left ≡ Some k → IsKind options r k
 html_here options r k f is = subst (λ o. IsKindBy r o k) (sym (html_first options r f ∙ is)) refl
 
--- one of the seventh kind
+-- an HTML block of type 7
 pub tag_here : (options : Options) (r : Rest) (n : ℕ)
-    → FoundEarly options r None → html_kind (all_taken r).left ≡ None → BeginsTagLine (all_taken r).left n → IsKind options r HtmlToBlank
+    → AfterMetadata options r None → html_kind (all_taken r).left ≡ None → BeginsTagLine (all_taken r).left n → IsKind options r HtmlToBlank
 tag_here options r n f is tag = subst (λ o. IsKindBy r o HtmlToBlank) (sym (html_first options r f ∙ is)) (inl (n, tag, refl))
 
--- one of the other kinds
-pub last_here : (options : Options) (r : Rest) → FoundEarly options r None → html_kind (all_taken r).left ≡ None
+-- one of the kinds of `later_kind`: a thematic break, an ATX heading, fenced code, or `Paragraph`
+pub last_here : (options : Options) (r : Rest) → AfterMetadata options r None → html_kind (all_taken r).left ≡ None
     → ((n : ℕ) → BeginsTagLine (all_taken r).left n → ⊥) → IsKind options r (later_kind (all_taken r).left)
 last_here options r f is no_tag = subst (λ o. IsKindBy r o (later_kind (all_taken r).left)) (sym (html_first options r f ∙ is)) (inr (no_tag, refl))
 
@@ -156,10 +156,10 @@ pub tag_absent : (o : Option ℕ) (bs left : List ℕ)
 tag_absent None bs left h same none = subst (λ z. (n : ℕ) → BeginsTagLine z n → ⊥) (sym same) none
 tag_absent (Some n) bs left h same none = cc
 
--- the parts that were found of an HTML block
+-- the kind and the end condition of an HTML block that was found
 pub found_html : (o : Option BlockStart) (f : BlockStart) (h : Option Kind) (bs left : List ℕ)
-    → o ≡ Some f → option_map kind_of o ≡ h → IfSome o (IsFoundWith bs) → left ≡ bs → (h ≡ Some (kind_of f)) × IsFoundWith left f
+    → o ≡ Some f → option_map kind_of o ≡ h → IfSome o (IsFoundWithCondition bs) → left ≡ bs → (h ≡ Some (kind_of f)) × IsFoundWithCondition left f
 found_html o f h bs left is kind with same = (
   sym kind ∙ ap (option_map kind_of) is,
-  subst (λ z. IsFoundWith z f) (sym same) (subst (λ (z : Option BlockStart). IfSome z (IsFoundWith bs)) is with),
+  subst (λ z. IsFoundWithCondition z f) (sym same) (subst (λ (z : Option BlockStart). IfSome z (IsFoundWithCondition bs)) is with),
 )

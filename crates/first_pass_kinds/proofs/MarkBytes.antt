@@ -1,5 +1,5 @@
--- If no mark is next, only a table, a footnote or a definition interrupts a paragraph; at an ATX heading, no block
--- begins that is tried before it.
+-- If `is_no_interrupt` holds of the first byte, only a table, a footnote or a definition interrupts a paragraph.
+-- Thematic breaks, metadata and HTML blocks do not begin with `#`.
 use Rattle.std.proofs.Common.{◌≡◌, inl, inr, ℕ, ◌==◌, nat_lt, Bool, true, false, true≢false, List, [], ◌∷◌, Option, Some, None, if◌then◌else◌}
 use Rattle.std.proofs.Common.{refl, sym, ap, ◌∙◌, subst, arith}
 use Rattle.std.proofs.lemmas.Bool.{cases_eq, ne_eqb, eqb-true}
@@ -16,10 +16,10 @@ use Rattle.first_pass_metadata.specs.Metadata.{metadata_byte}
 use Rattle.first_pass_html.specs.Tags.{BeginsTagLine}
 use Rattle.first_pass_grammar.specs.Kinds.{AtxHeading, all_taken, is_blank_rest, metadata_at, html_kind, later_kind, IsKind, interrupts_with}
 use Rattle.first_pass_kinds.specs.Marks.{is_no_interrupt, begins_no_interrupt}
-use Rattle.first_pass_kinds.proofs.KindLemmas.{FoundEarly, last_here}
+use Rattle.first_pass_kinds.proofs.KindLemmas.{AfterMetadata, last_here}
 use Rattle.first_pass_kinds.proofs.PlainKinds.{tag_begins}
 
--- a property of all bytes that begin with c holds if c is first
+-- a property holds of `bs` if `bs` begins with c, and the property holds of all bytes that begin with c
 at_first : (P : List ℕ → Type 0) (c : ℕ) (bs : List ℕ) → begins c bs ≡ true → ((xs : List ℕ) → P (c ∷ xs)) → P bs
 at_first P c [] h f = absurd (true≢false (sym h))
 at_first P c (b ∷ bs) h f = subst (λ (x : ℕ). P (x ∷ bs)) (sym (eqb-true b c h)) (f bs)
@@ -33,7 +33,7 @@ unsigned : (b : ℕ) (bs : List ℕ) → b == 35 ≡ false → atx_level (b ∷ 
 unfolding atx_level
 unsigned b bs other = rw other (either (ends_signs (b ∷ bs)) None refl)
 
--- a byte that is no mark differs from each mark
+-- `is_no_interrupt` holds of b and not of c: then the two bytes differ
 isnt : (b c : ℕ) → is_no_interrupt b ≡ true → is_no_interrupt c ≡ false → b == c ≡ false
 isnt b c h k = elim (cases_eq b c) [
   | inl same ↦ absurd (true≢false (sym h ∙ ap is_no_interrupt same ∙ k))
@@ -44,7 +44,8 @@ no_digit : (b : ℕ) → is_no_interrupt b ≡ true → is_ascii_digit b ≡ fal
 unfolding is_no_interrupt
 no_digit b h = grind (arith, nat_tests, h)
 
--- A line that begins with no mark interrupts a paragraph only as a table, a footnote or a definition.
+-- If `is_no_interrupt` holds of its first byte, a line interrupts a paragraph only as a table, a footnote or a
+-- definition.
 unmarked_first : (whole : Bool) (b : ℕ) (bs : List ℕ) → is_no_interrupt b ≡ true → interrupts_with whole (b ∷ bs) ≡ false
 unfolding is_no_interrupt hrule_len code_fence list_marker listitem
 unmarked_first whole b bs h =
@@ -57,7 +58,7 @@ pub unmarked_interrupts : (whole : Bool) (bs : List ℕ) → begins_no_interrupt
 unmarked_interrupts whole [] h = absurd (true≢false (sym h))
 unmarked_interrupts whole (b ∷ bs) h = unmarked_first whole b bs h
 
--- an ATX heading begins with a number sign,
+-- An ATX heading begins with a number sign.
 heading_begins : (bs : List ℕ) (level : HeadingLevel) → atx_level bs ≡ Some level → begins 35 bs ≡ true
 unfolding atx_level
 heading_begins [] level e = absurd cc
@@ -66,7 +67,7 @@ heading_begins (b ∷ bs) level e = elim (cases_eq b 35) [
   | inr other ↦ let none = unsigned b bs (ne_eqb b 35 other) in absurd cc
 ]
 
--- at which no thematic break, no metadata and no HTML begins,
+-- No thematic break, metadata or HTML block begins with a number sign.
 sign_hrule : (bs : List ℕ) → begins 35 bs ≡ true → hrule_len bs ≡ None
 unfolding hrule_len
 sign_hrule bs h = at_first (λ xs. hrule_len xs ≡ None) 35 bs h (λ xs. refl)
@@ -92,12 +93,12 @@ sign_tag bs h n t = true≢false (sym (tag_begins bs n t) ∙ at_first (λ xs. b
 heading_last : (bs : List ℕ) (level : HeadingLevel) → begins 35 bs ≡ true → atx_level bs ≡ Some level → later_kind bs ≡ AtxHeading level
 heading_last bs level h e = rw (sign_hrule bs h) (rw e refl)
 
--- so it is the block if fewer than four columns are before it.
+-- So, if an ATX heading begins at fewer than four columns, it is the block.
 pub heading_kind : (options : Options) (r : Rest) (level : HeadingLevel) → is_blank_rest r ≡ false → nat_lt (indent r) 4 ≡ true
     → atx_level (all_taken r).left ≡ Some level → IsKind options r (AtxHeading level)
 heading_kind options r level some bound e =
     let h = heading_begins (all_taken r).left level e in
-    let early : FoundEarly options r None =
+    let early : AfterMetadata options r None =
     record { some = some; bound = bound; metadata = sign_metadata (indent r) options (all_taken r).left h } in
     subst (IsKind options r) (heading_last (all_taken r).left level h e)
     (last_here options r early (sign_html (all_taken r).left h) (sign_tag (all_taken r).left h))

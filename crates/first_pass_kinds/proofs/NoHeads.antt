@@ -1,4 +1,4 @@
--- The next line begins like no delimiter row: then the line before it heads no table.
+-- If the first byte of the next line rules out a delimiter row, the line before it heads no table.
 use Rattle.std.proofs.Common.{◌≡◌, ℕ, nat_le, ◌&&◌, ◌||◌, not, Bool, true, false, true≢false, List, [], ◌∷◌, drop, Option, Some, None}
 use Rattle.std.proofs.Common.{refl, sym, ap, ◌∙◌, arith}
 use Rattle.std.specs.Option.{option_and_then}

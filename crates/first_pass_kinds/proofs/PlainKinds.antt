@@ -1,4 +1,4 @@
--- If a plain byte is next, the block is a paragraph, and nothing interrupts one.
+-- If a plain byte is next, the kind of the block is `Paragraph`, and nothing begins that interrupts a paragraph.
 use Rattle.std.proofs.Common.{◌≡◌, inl, inr, ℕ, zero, suc, ◌==◌, Bool, true, false, true≢false, List, [], ◌∷◌, take, None, refl, sym, ap, ◌∙◌, subst}
 use Rattle.first_pass_items.specs.declared.option_set.Options.{Options}
 use Rattle.first_pass_items.specs.OptionWords.{has}

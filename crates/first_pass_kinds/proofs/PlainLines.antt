@@ -1,4 +1,5 @@
--- A line whose text begins with a plain byte is one more line of the text before it.
+-- A line with a plain byte directly after its prefixes and indentation is one more line of the paragraph text before
+-- it.
 use Rattle.std.proofs.Common.{◌≡◌, ℕ, ◌+◌, nat_lt, ◌&&◌, Bool, true, false, List, Option, None, is_some, if◌then◌else◌, refl, sym, ap, ◌∙◌}
 use Rattle.first_pass_items.specs.OptionWords.{has, footnotes, definition_list, tables}
 use Rattle.first_pass_lines.specs.Plain.{is_plain, begins_plain}

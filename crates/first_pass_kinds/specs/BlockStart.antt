@@ -1,4 +1,4 @@
--- The kind of the block found at a place, and the end of an HTML block.
+-- The kind of the block found at a place, and the end condition of an HTML block of types 1 to 5.
 use Rattle.std.specs.Prelude.{◌≡◌, ℕ, List, drop, min, Some}
 use Rattle.first_pass_items.specs.declared.option_set.Options.{Options}
 use Rattle.first_pass_lines.specs.Rest.{indent}
@@ -28,19 +28,19 @@ kind_of FoundParagraph = Paragraph
 kind_of FoundHtml = HtmlToBlank
 kind_of (Marked leaf) = marked_kind leaf
 
--- the end found for an HTML block of types 1 to 5 is that of the block which begins here (CommonMark 4.6)
-abbrev pub HasEnd : List ℕ → MarkedLeaf → Type 0
-HasEnd bs (MarkedHtml «end») = html_end (drop 1 bs) ≡ Some (condition_of «end»)
-HasEnd bs _ = Unit {0}
+-- for an HTML block of types 1 to 5, the end condition found is that of the block that begins here (CommonMark 4.6)
+abbrev pub HasEndCondition : List ℕ → MarkedLeaf → Type 0
+HasEndCondition bs (MarkedHtml «end») = html_end (drop 1 bs) ≡ Some (condition_of «end»)
+HasEndCondition bs _ = Unit {0}
 
-abbrev pub IsFoundWith : List ℕ → BlockStart → Type 0
-IsFoundWith bs (Marked leaf) = HasEnd bs leaf
-IsFoundWith bs _ = Unit {0}
+abbrev pub IsFoundWithCondition : List ℕ → BlockStart → Type 0
+IsFoundWithCondition bs (Marked leaf) = HasEndCondition bs leaf
+IsFoundWithCondition bs _ = Unit {0}
 
--- A block was found at a place: its kind and its end are those of the block which begins there. With it come the
--- columns before it, or 4 if there are more, and its offset.
+-- The kind found is that of the block at the place; for an HTML block of types 1 to 5, so is the end condition.
+-- `columns` is the indentation of the place, or 4 if there is more; `at` is the offset after it.
 pub record IsFoundAt (options : Options) (p : Place) (found : BlockStart) (columns at : ℕ) : Type 0 where
   pub kind : IsKind options p.rest (kind_of found)
-  pub «end» : IsFoundWith (unindented p).rest.left found
+  pub «end» : IsFoundWithCondition (unindented p).rest.left found
   pub columns_are : columns ≡ min 4 (indent p.rest)
   pub at_is : at ≡ offset (unindented p)

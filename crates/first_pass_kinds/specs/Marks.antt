@@ -1,4 +1,4 @@
--- Bytes at which nothing that interrupts a paragraph begins, except tables, footnotes and definitions.
+-- First bytes that rule out every interruption of a paragraph except by a table, a footnote or a definition.
 use Rattle.std.specs.Prelude.{ℕ, ◌==◌, ◌||◌, not, Bool, false, List, [], ◌∷◌}
 use Rattle.std.specs.Char.{is_ascii_digit}
 use Rattle.first_pass_items.specs.Bytes.{number_sign, less_than, greater_than, backquote, tilde}

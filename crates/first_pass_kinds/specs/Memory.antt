@@ -1,4 +1,4 @@
--- Lines that may head a table, and so may need memory (this project).
+-- Lines that may head a table, and so may need an allocation (this project).
 use Rattle.std.specs.Prelude.{◌&&◌, ℕ, Bool, List, nat_lt}
 use Rattle.first_pass_items.specs.Bytes.{pipe}
 use Rattle.first_pass_items.specs.OptionWords.{has, tables}
@@ -7,12 +7,12 @@ use Rattle.first_pass_lines.specs.Rest.{Rest, indent}
 use Rattle.first_pass_grammar.specs.Containers.{Context, front}
 use Rattle.first_pass_grammar.specs.Kinds.{all_taken}
 
--- the bytes may head a table that interrupts a paragraph, whose alignments take memory: with tables, they begin with
--- a pipe (GFM 4.10)
+-- With tables, the bytes begin with a pipe: they may be a header row that interrupts a paragraph, and the alignments of
+-- its table need an allocation (this project).
 abbrev pub may_head : Context → List ℕ → Bool
 may_head around bs = has around.options tables && begins pipe bs
 
 -- A line may head a table: tables are on, and the line begins with `|` at fewer than four columns, after the prefixes
--- of the containers that it continues (GFM 4.10).
+-- of the containers that it continues (this project).
 abbrev pub line_may_head : Context → Rest → Bool
 line_may_head around line = nat_lt (indent (front around.path line)) 4 && may_head around (all_taken (front around.path line)).left

@@ -1,7 +1,7 @@
 -- The rest of a text from a place on.
 use Rattle.std.specs.Prelude.{◌≡◌, ◌≤◌, ◌-◌, ℕ, List, length, drop, IsCharBoundary}
 
--- The text ends with these bytes, which begin between two of its characters (this project).
+-- These bytes are the text from a character boundary on (this project).
 pub record IsRestOf (text bytes : List ℕ) : Type 0 where
   pub within : length bytes ≤ length text
   pub are : bytes ≡ drop (length text - length bytes) text

@@ -1,4 +1,4 @@
-//! The lines that end a paragraph before them.
+//! Which lines interrupt a paragraph or end a link reference definition, and the role of a line after paragraph text.
 
 ghost use Rattle.std.specs.Prelude.{◌≡◌, Bool, min, drop, is_some, nat_lt, ◌&&◌, ◌||◌, not, true, IfOk, IfSome, OnErr, OnOk, Some, None, if◌then◌else◌, IsUtf8, IsCharBoundary};
 ghost use Rattle.first_pass_items.specs.Bytes.{space, colon};
@@ -37,7 +37,8 @@ use first_pass_scan::line_start::{LineStart, scan_listitem};
 use first_pass_tree::forest::Tree;
 use std::alloc::AllocError;
 
-// Whether a list item at the start of `bytes` interrupts a paragraph, in a line that continues all containers or not.
+// Whether `bytes` begins with a list item that interrupts a paragraph. `current_container` is as for
+// `interrupts_without_table`.
 fn interrupts_as_item(bytes: &[u8], current_container: bool) -> bool
     ensures { result ≡ item_interrupts current_container bytes.now (listitem bytes.now) }
 {
@@ -58,10 +59,11 @@ fn is_bullet(byte: u8) -> bool
 }
 
 /// Returns whether `bytes` interrupts a paragraph, except as a table, a footnote or a definition. `bytes` is the rest
-/// of a line after its indentation of fewer than four columns. It interrupts if its line ends, or if a thematic
-/// break, an ATX heading, a code fence, a block quote, a list item or an HTML block of types 1 to 6 begins. In a
-/// line that continues all containers, an item interrupts only if it has a bullet or the number 1, and a rest that is
-/// not blank (CommonMark 4.8, 4.1, 4.2, 4.5, 5.1, 5.2, 4.6).
+/// of a line after its indentation: of fewer than four columns after paragraph text, of any width after a table row. It
+/// interrupts if it is empty or begins with a line ending. Otherwise one of these has to begin: a thematic break, an
+/// ATX heading, a code fence, a block quote, a list item, an HTML block of types 1 to 6. `current_container`: the line
+/// continues all open containers, and does not follow a table row. Then an item interrupts only if it has a bullet or
+/// the number 1, and a rest that is not blank (CommonMark 4.8, 4.1, 4.2, 4.5, 5.1, 5.2, 4.6).
 #[inline(always)]
 pub fn interrupts_without_table(bytes: &[u8], current_container: bool) -> bool
     ensures { result ≡ interrupts_with current_container bytes.now }
@@ -75,8 +77,7 @@ pub fn interrupts_without_table(bytes: &[u8], current_container: bool) -> bool
     interrupts_by_mark(bytes, current_container)
 }
 
-// Whether the first byte is no line ending, and nothing that interrupts a paragraph begins with it, except tables,
-// footnotes and definitions.
+// Whether there is a first byte, and it rules out every interruption except by a table, a footnote or a definition.
 #[inline(always)]
 #[tactic(auto, unfolding(crate::specs::Marks::is_no_interrupt))]
 fn begins_no_interrupt(bytes: &[u8]) -> bool
@@ -96,8 +97,8 @@ fn begins_no_interrupt(bytes: &[u8]) -> bool
     }
 }
 
-// Whether a bullet, a space and a letter or a character past ASCII come first: then an item begins, and no thematic
-// break.
+// Whether `bytes` begins with a bullet, a space, and then an ASCII letter or a non-ASCII byte. Such bytes begin a list
+// item, and no thematic break.
 #[inline(always)]
 fn begins_plain_item(bytes: &[u8]) -> bool
     ensures { result
@@ -122,9 +123,9 @@ fn interrupts_by_mark(bytes: &[u8], current_container: bool) -> bool
         || html_kind(bytes).is_some()
 }
 
-/// Returns whether, with footnotes in either form, `bytes` interrupts a paragraph as the head of a footnote
-/// definition whose label has no line ending (this project). It makes no difference that a table drops bytes of a
-/// label.
+/// Returns whether, with footnotes in either form, `bytes` interrupts a paragraph as the head of a footnote definition
+/// whose label has no line ending (this project). The result is the same in a table, although backslashes before pipes
+/// are no part of a label there.
 #[inline(always)]
 pub fn interrupts_as_footnote(bytes: &[u8], has_footnotes: bool) -> bool
     ensures { (in_table : Bool) → result
@@ -173,16 +174,17 @@ pub fn scan_interruption(
 /// The role of a line after paragraph text.
 #[derive(Clone, Copy, Drop)]
 pub enum NextLine {
-    /// One more line of the paragraph text; the own text of the line begins at this offset.
+    /// One more line of the paragraph text. Its part of that text begins at this offset, after its container prefixes
+    /// and its indentation.
     More(usize),
     /// The underline that makes the paragraph text a setext heading of this level.
     Underline(HeadingLevel),
-    /// No line of the paragraph text, which is a paragraph.
+    /// Another line: the paragraph text ends before it, and is no setext heading.
     Other,
 }
 
-// The level of the setext heading whose underline is `rest`, the rest of a line that continues all containers or not.
-// `columns` is the indentation before it, or 4 if there is more (CommonMark 4.3).
+// The level of the setext heading whose underline is `rest`, or `None` if `rest` is no underline. `whole`: the line
+// continues all open containers. `columns` is the indentation before the rest, or 4 if there is more (CommonMark 4.3).
 #[inline(always)]
 fn scan_underline(rest: &LineStart<'_>, whole: bool, columns: usize) -> Option<HeadingLevel>
     ensures { result ≡ option_map (λ found. found.1)
@@ -195,7 +197,7 @@ fn scan_underline(rest: &LineStart<'_>, whole: bool, columns: usize) -> Option<H
     }
 }
 
-// The text of a line after its front.
+// How a line continues the open nodes, the columns of its indentation, and what follows them.
 #[derive(Drop)]
 struct LineText<'a> {
     // How many of the open nodes the line continues, the outermost first.
@@ -208,7 +210,7 @@ struct LineText<'a> {
     rest: LineStart<'a>,
 }
 
-// The text of the line at `start`, an offset into the text.
+// Reads the container prefixes and the indentation of the line at the offset `start`.
 #[inline(always)]
 fn scan_text<'a>(source: &Source<'a>, tree: &Tree<Item>, start: usize) -> LineText<'a>
     requires { IsCharBoundary source.now.text.now start }
@@ -236,11 +238,11 @@ fn scan_text<'a>(source: &Source<'a>, tree: &Tree<Item>, start: usize) -> LineTe
     }
 }
 
-/// Returns the role of the line at `start`, an offset into the text, after paragraph text. It is an underline only if
-/// it continues all open containers. It is no line of the paragraph text if it interrupts a paragraph, or if, with
-/// definition lists, it continues all open containers and begins with a `:`. Otherwise it is one more line, no matter
-/// which open containers it continues (CommonMark 4.3, 4.8, 5.1). Fails only if an allocation fails, which can happen
-/// only if the line may head a table.
+/// Returns the role of a line that follows paragraph text. The line begins at the offset `start`. It is an underline
+/// only if it continues all open containers. It is no line of the paragraph text if it interrupts a paragraph, or if,
+/// with definition lists, it continues all open containers and begins with a `:` at fewer than four columns. Otherwise
+/// it is one more line, no matter which open containers it continues (CommonMark 4.3, 4.8, 5.1). Fails only if an
+/// allocation fails, which can happen only if the line may head a table.
 #[tactic(auto, unfolding(first_pass_grammar::specs::Kinds::interrupts, first_pass_grammar::specs::Kinds::underline_of))]
 pub fn scan_next_line(
     source: &Source<'_>,
@@ -260,8 +262,9 @@ pub fn scan_next_line(
 {
     source.recall_length();
     let bytes = rest_of(source.text.as_bytes(), start);
-    // No container prefix and no mark begins with a letter or a character past ASCII. Such a line is one more of the
-    // paragraph text, and no walk over the open containers is needed.
+    // A line that begins with an ASCII letter or a non-ASCII byte has no bytes of a container prefix, and is no
+    // underline and no interruption. It is one more line of the paragraph text, so no walk over the open containers is
+    // needed.
     if is_plain_front(bytes) {
         return Ok(NextLine::More(start));
     }
@@ -287,10 +290,11 @@ pub fn scan_next_line(
     Ok(NextLine::More(start + text.rest.bytes_scanned()))
 }
 
-/// Returns the first line of `bytes` after its indentation, if it belongs to the innermost block quote, which has a
-/// tag. The line may continue any number of open containers. `bytes` is all the text from the line on. Returns `None`
-/// if the line is read as any other: at fewer than four columns, it would end a paragraph. Fails only if an allocation
-/// fails, which can happen only if the line may head a table.
+/// Returns the rest of the first line of `bytes` after its container prefixes and its indentation. The line follows a
+/// block quote's tag or a link reference definition, and may continue any number of open containers. `bytes` is all the
+/// text from the line on. Returns `None` if the line is at fewer than four columns and would interrupt a paragraph:
+/// then it is read like any other. Fails only if an allocation fails, which can happen only if the line may head a
+/// table.
 #[tactic(auto, unfolding(first_pass_grammar::specs::Kinds::interrupts))]
 pub fn scan_line_after_tag<'b>(
     source: &Source<'_>,
@@ -315,8 +319,8 @@ pub fn scan_line_after_tag<'b>(
     Ok(Some(rest))
 }
 
-// Whether a line with this rest ends a paragraph before it. The line continues the outermost `kept` open nodes;
-// `columns` is its indentation before the rest, or 4 if there is more.
+// Whether a line with this rest interrupts a paragraph. The line continues the outermost `kept` open nodes; `columns`
+// is its indentation before the rest, or 4 if there is more.
 #[inline(always)]
 fn scan_paragraph_end(
     source: &Source<'_>,
@@ -347,7 +351,8 @@ fn is_underline(bytes: &[u8], columns: usize) -> bool
     columns < 4 && scan_setext_heading(bytes).is_some()
 }
 
-// Whether a link reference definition, or with `in_label` its label, ends before a line with this front.
+// Whether a link reference definition ends before a line with this front. `in_label`: the definition would continue in
+// its label.
 fn scan_definition_end(
     source: &Source<'_>,
     tree: &Tree<Item>,
@@ -373,11 +378,11 @@ fn scan_definition_end(
     Ok(is_underline(text.left(), columns))
 }
 
-/// Returns the rest of the line at `start` if a link reference definition, or with `in_label` its label, continues
-/// there. The rest is after the container prefixes on the line, and after up to four columns. Returns `None` if the
-/// line ends a paragraph, or is the underline of a setext heading; in a label, an underline counts only if its line
-/// continues all open containers (CommonMark 4.7). Fails only if an allocation fails, which can happen only if the
-/// line may head a table.
+/// Returns the rest of the line at `start` if a link reference definition continues there. `in_label`: the definition
+/// would continue in its label. The rest is after the container prefixes on the line, and after up to four columns.
+/// Returns `None` if the line interrupts a paragraph, or is the underline of a setext heading; in a label, an underline
+/// counts only if its line continues all open containers (CommonMark 4.7). Fails only if an allocation fails, which can
+/// happen only if the line may head a table.
 #[tactic(auto, unfolding(first_pass_grammar::specs::Definitions::crossed))]
 pub fn scan_line_crossed<'a>(
     source: &Source<'a>,

@@ -6,7 +6,7 @@ ghost use Rattle.first_pass_lines.specs.Rest.{indent};
 ghost use Rattle.first_pass_lines.specs.Places.{IsPlaceOf};
 ghost use Rattle.first_pass_metadata.specs.MetadataSearch.{IsKnownOf};
 ghost use Rattle.first_pass_grammar.specs.Kinds.{html_kind, later_kind, metadata_at, IsKind, unindented};
-ghost use Rattle.first_pass_kinds.specs.BlockStart.{kind_of, IsFoundWith};
+ghost use Rattle.first_pass_kinds.specs.BlockStart.{kind_of, IsFoundWithCondition};
 
 use bitflags::Flags;
 use first_pass_html::ends::HtmlEnd;
@@ -21,12 +21,12 @@ use first_pass_open::place::Place;
 use first_pass_open::source::Source;
 use first_pass_scan::leaf_scan::{scan_code_fence, scan_hrule};
 
-/// The block that begins at a place at which no container begins, with the parts that were found of it.
+/// The block that begins at a place at which no container begins: its kind, and the values that were read with it.
 #[derive(Clone, Copy)]
 pub enum BlockStart {
     /// A blank line (CommonMark 4.9).
     Blank,
-    /// A paragraph (CommonMark 4.8).
+    /// Link reference definitions, a paragraph, a setext heading or a table (CommonMark 4.7, 4.8, 4.3, GFM 4.10).
     Paragraph,
     /// An HTML block that ends before a blank line: type 6 or 7 (CommonMark 4.6).
     HtmlToBlank,
@@ -34,7 +34,8 @@ pub enum BlockStart {
     Marked(MarkedLeaf),
 }
 
-/// A leaf block that is recognized by its indentation or by the mark at its start.
+/// A leaf block that is recognized by its indentation or by the mark at its start. HTML blocks of types 6 and 7 are not
+/// among these: they are `BlockStart::HtmlToBlank`.
 #[derive(Clone, Copy)]
 pub enum MarkedLeaf {
     /// Indented code (CommonMark 4.4).
@@ -55,7 +56,7 @@ pub enum MarkedLeaf {
 #[inline(always)]
 pub fn html_kind(bytes: &[u8]) -> Option<BlockStart>
     ensures kind { option_map kind_of result ≡ html_kind bytes.now }
-    ensures end { IfSome result (λ found. IsFoundWith bytes.now found) }
+    ensures end { IfSome result (λ found. IsFoundWithCondition bytes.now found) }
 {
     let [b'<', rest @ ..] = bytes else {
         return None;
@@ -72,7 +73,7 @@ pub fn html_kind(bytes: &[u8]) -> Option<BlockStart>
 // The thematic break, the ATX heading, the fenced code block or the paragraph that begins here.
 fn later_kind(bytes: &[u8]) -> BlockStart
     ensures kind { kind_of result ≡ later_kind bytes.now }
-    ensures end { IsFoundWith bytes.now result }
+    ensures end { IsFoundWithCondition bytes.now result }
 {
     if let Some(size) = scan_hrule(bytes) {
         return BlockStart::Marked(MarkedLeaf::ThematicBreak(size));
@@ -117,7 +118,7 @@ pub fn kind_at<'a>(
     requires place { IsPlaceOf source.now.text.now place.old }
     requires known { IsKnownOf source.now.text.now ends.old }
     ensures kind { IsKind source.now.options place.old.rest (kind_of result.0) }
-    ensures end { IsFoundWith (unindented place.old).rest.left result.0 }
+    ensures end { IsFoundWithCondition (unindented place.old).rest.left result.0 }
     ensures columns { result.1 ≡ min 4 (indent place.old.rest) }
     ensures place { place.new ≡ unindented place.old }
     ensures known { IsKnownOf source.now.text.now ends.new }
@@ -133,7 +134,8 @@ pub fn kind_at<'a>(
     if columns >= 4 {
         return (BlockStart::Marked(MarkedLeaf::IndentedCode), columns);
     }
-    // An ATX heading is tried first, before kinds that precede it in the grammar: none of those begins with `#`.
+    // An ATX heading is tried before metadata, HTML blocks and thematic breaks, which precede it in the grammar: none
+    // of these begins with `#`.
     if let Some(level) = scan_atx_heading(place.rest.left()) {
         return (BlockStart::Marked(MarkedLeaf::AtxHeading(level)), columns);
     }

@@ -27,13 +27,13 @@ use std::alloc::AllocError;
 pub struct HeadedTable {
     /// The alignments of its columns.
     pub alignments: Vec<Alignment>,
-    /// The length in bytes of its header row and its delimiter row, from the start of the header row on, with their
-    /// line endings.
+    /// The number of bytes from the start of the header row to the end of the delimiter row. It includes both line
+    /// endings, and the container prefixes before the delimiter row.
     pub table_head_len: usize,
 }
 
-// `true` only if the first line of `bytes` is no delimiter row in any container: its first byte is no space, tab, `>`,
-// bullet, digit, `|` or `:`.
+// Whether `bytes` has a first byte, and it is no space, tab, `>`, bullet, digit, `|` or `:`. Then its first line is no
+// delimiter row, whichever containers are open.
 #[inline(always)]
 fn begins_no_row(bytes: &[u8]) -> bool
     ensures { result ≡ (begins_inert bytes.now && not (begins pipe bytes.now || begins colon bytes.now)) }
@@ -41,9 +41,10 @@ fn begins_no_row(bytes: &[u8]) -> bool
     is_inert_front(bytes) && !matches!(bytes, [b'|' | b':', ..])
 }
 
-// The table whose header row is the first line of `bytes`. `bytes` is all the rest of the text. The alignments are
-// those of the delimiter row in the next line, if that line continues all open containers and the header row has as
-// many columns. The next line is tested first: most lines of prose begin like no such row.
+// The table whose header row is the first line of `bytes`. `bytes` extends from there to the end of the text, or to an
+// earlier end that a caller sets. The alignments are those of the delimiter row in the next line, if that line
+// continues all open containers and the header row has as many columns. The next line is tested first: the first byte
+// of most lines of prose rules out a delimiter row.
 #[tactic(auto, unfolding(first_pass_grammar::specs::TableHeads::table_at))]
 fn scan_table_at(
     source: &Source<'_>,
@@ -76,8 +77,10 @@ fn scan_table_at(
     }))
 }
 
-/// Returns whether a table interrupts a paragraph at the first line of `bytes`, its header row. `bytes` is all the
-/// rest of the text. With tables, the line has to begin with a pipe (GFM 4.10). Only such a line takes memory.
+/// Returns whether a table interrupts a paragraph at the first line of `bytes`, its header row (GFM 4.10). `bytes` is
+/// all the rest of the text. Returns `false` without `ENABLE_TABLES`, or if the line does not begin with a pipe (this
+/// project). Fails only if an allocation fails, which can happen only if `ENABLE_TABLES` is set and the line begins
+/// with a pipe.
 #[inline(always)]
 pub fn interrupts_as_table(
     source: &Source<'_>,
@@ -108,9 +111,10 @@ fn ends_in_backslash(bytes: &[u8]) -> bool
 }
 
 /// Returns the table whose header row is the first line of `bytes`, given that no container or other block begins
-/// there. `bytes` is all the rest of the text. Returns `None` if the line is no header row, and begins a paragraph.
-/// With tables, the header row and the delimiter row in the next line have the same number of columns (GFM 4.10).
-/// Fails only if an allocation fails.
+/// there. `bytes` extends from there to the end of the text, or to an earlier end that the caller sets. Returns `None`
+/// if the line is no header row; then it is the first line of paragraph text. A header row needs `ENABLE_TABLES`, has
+/// as many columns as the delimiter row in the next line, and does not end in an odd number of backslashes (GFM 4.10,
+/// and this project). Fails only if an allocation fails.
 #[tactic(auto, unfolding(first_pass_grammar::specs::TableHeads::headed_table))]
 pub fn scan_headed_line(
     source: &Source<'_>,
@@ -136,7 +140,7 @@ pub fn scan_headed_line(
 }
 
 /// Returns the table whose header row begins at `start`, given that no container or other block begins there. `start`
-/// is an offset into the text. Returns `None` if a paragraph begins there (see `scan_headed_line`). Fails only if an
+/// is an offset into the text. Returns `None` if paragraph text begins there (see `scan_headed_line`). Fails only if an
 /// allocation fails.
 pub fn scan_headed_table(
     source: &Source<'_>,

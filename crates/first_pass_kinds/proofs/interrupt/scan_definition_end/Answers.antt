@@ -31,18 +31,19 @@ all_by : (t : Bool) → t ≡ t && true
 all_by true = refl
 all_by false = refl
 
--- the text of a line ends a paragraph
+-- The line interrupts a paragraph, so the definition ends before it.
 ended_by : (said by_text by_line last : Bool) → said ≡ by_text → by_text ≡ by_line → said ≡ true → true ≡ by_line || last
 ended_by said by_text by_line last e f g = let z : by_line ≡ true = sym f ∙ sym e ∙ g in rw z refl
 
--- it does not, and for a label its underline does not count if the line does not continue all containers
+-- The line does not interrupt a paragraph, is read for a label, and does not continue all containers: then an underline
+-- does not count, and the definition continues.
 lazy_by : (said by_text by_line last in_label whole : Bool) → said ≡ by_text → by_text ≡ by_line → said ≡ false → (in_label && not whole) ≡ true → false ≡
     by_line || (last && (not in_label || whole))
 lazy_by said by_text by_line last true false e f g h = let z : by_line ≡ false = sym f ∙ sym e ∙ g in rw z (none_by last)
 lazy_by said by_text by_line last true true e f g h = cc
 lazy_by said by_text by_line last false whole e f g h = cc
 
--- it does not, and its underline counts
+-- The line does not interrupt a paragraph, and an underline counts: the definition ends before the line if it is one.
 whole_by : (said by_text by_line last found in_label whole : Bool) → said ≡ by_text → by_text ≡ by_line → said ≡ false → (in_label && not whole) ≡ false →
     found ≡ last → found ≡ by_line || (last && (not in_label || whole))
 whole_by said by_text by_line last found true true e f g h k = let z : by_line ≡ false = sym f ∙ sym e ∙ g in rw z (k ∙ all_by last)

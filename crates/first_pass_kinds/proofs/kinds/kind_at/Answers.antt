@@ -4,7 +4,7 @@ use Rattle.first_pass_lines.specs.Lines.{blank_len, atx_level}
 use Rattle.first_pass_lines.specs.Rest.{Rest}
 use Rattle.first_pass_lines.specs.Places.{place_at, IsPlaceOf}
 use Rattle.first_pass_grammar.specs.Kinds.{all_taken, html_kind, later_kind, IsKind}
-use Rattle.first_pass_kinds.specs.BlockStart.{kind_of, IsFoundWith}
+use Rattle.first_pass_kinds.specs.BlockStart.{kind_of, IsFoundWithCondition}
 use Rattle.first_pass_kinds.proofs.KindLemmas.{few_columns, many_columns, blank_kind, code_kind, past_columns, found_early, tag_found, tag_absent}
 use Rattle.first_pass_kinds.proofs.KindLemmas.{metadata_here, html_here, tag_here, last_here, found_html}
 use Rattle.first_pass_open.proofs.PlainLemmas.{plain_all, plain_few}
@@ -125,5 +125,5 @@ returns-clause-kind c =
 
 pub returns-clause-end : goal.returns-clause-end
 returns-clause-end c =
-    rw (← c.place.view_is) (subst (λ bs. IsFoundWith bs c.later_kind.result)
+    rw (← c.place.view_is) (subst (λ bs. IsFoundWithCondition bs c.later_kind.result)
     (c.left-left.ensures ∙ ap (λ (q : Rest). q.left) c.scan_indentation-columns.ensures.rest) c.later_kind.ensures.«end»)
