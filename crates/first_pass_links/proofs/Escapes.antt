@@ -169,7 +169,7 @@ pipe_escape_parts (b ∷ []) h i j = cc
 pipe_escape_parts (b ∷ c ∷ []) h i j = cc
 pipe_escape_parts (b ∷ c ∷ d ∷ bs) h i j = rw (eqb-true b 92 h, eqb-true c 92 i, eqb-true d 124 j)
 
--- three bytes: a backslash that escapes a pipe, and the pipe's own backslash, which is dropped
+-- three bytes: a backslash that escapes the pipe, a backslash that is dropped, and the pipe
 pipe_escape : (bs : List ℕ) (n c : ℕ) → begins_pipe_escape bs ≡ true → 3 ≡ n → 124 ≡ c → Changes true bs n c
 pipe_escape bs n c h e f =
     let p = and_parts _ _ h in

@@ -86,7 +86,7 @@ first_taken zero bs = inr refl
 first_taken (suc n) [] = inr refl
 first_taken (suc n) (b ∷ bs) = inl refl
 
--- a test that 0 and the byte of the text fail is also failed by the first joined byte
+-- if 0 and the byte of the text at an offset fail a test, the first joined byte from there on fails it too
 pub first_fails : (p : ℕ → Bool) → p 0 ≡ false → (h : List ℕ → Option ℕ) (text : List ℕ) (at : ℕ) → p (slice_index (drop at text) 0) ≡ false
     → p (slice_index (bytes_of (left_at h text at)) 0) ≡ false
 first_fails p z h text at e = elim (first_of h at (drop at text)) [ inl f ↦ ap p f ∙ e | inr f ↦ ap p f ∙ z ]
@@ -139,7 +139,7 @@ known_as characters solid bytes = record { characters = characters; solid = soli
 abbrev is_label_after : Known → List ℕ → Bool
 is_label_after known bs = nat_le (known.characters + count_by begins_character bs) 999 && (known.solid || list_any is_solid bs)
 
--- the label that these bytes, each with its offset, end
+-- the label that begins with this state and continues in these joined bytes, each with its offset
 pub label_after : Bool → Known → List (ℕ × ℕ) → Option (ℕ × List ℕ)
 label_after in_table known cs =
     let bs = bytes_of cs in

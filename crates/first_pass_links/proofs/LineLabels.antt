@@ -15,11 +15,11 @@ use Rattle.first_pass_links.proofs.Labels.{joined-nil, joined-byte, joined-stop,
 use Rattle.first_pass_links.proofs.Footnotes.{head_of, no_mark}
 
 -- the label continues on no further line
-abbrev pub alone : List ℕ → Option ℕ
-alone bs = None
+abbrev pub no_further_line : List ℕ → Option ℕ
+no_further_line bs = None
 
--- A label of n bytes in the joined text, from an offset on, is that of k bytes without a line ending; or there is
--- none in either.
+-- A `]` is at n in the joined text exactly if one is at k in the bytes. Then n is k, the bytes before the `]` are
+-- equal, and its offset is `at` + k.
 record IsSameLabel (cs : List (ℕ × ℕ)) (xs : List ℕ) (at n k : ℕ) : Type 0 where
   pub ends : begins 93 (drop n (bytes_of cs)) ≡ begins 93 (drop k xs)
   pub len : begins 93 (drop k xs) ≡ true → n ≡ k
@@ -48,14 +48,14 @@ two_more cs xs at b c n k s =
     rw (e, f) (one_further ((at + 1, c) ∷ cs) (c ∷ xs) at b (suc n) (suc k) (one_further cs xs (at + 1) c n k s))
 
 -- nothing is joined if a line feed is first
-nothing_after : (at : ℕ) (bs : List ℕ) → begins 10 bs ≡ true → joined alone at 0 bs ≡ []
-nothing_after at [] h = joined-nil alone at
-nothing_after at (b ∷ bs) h = let e : ends_line b bs ≡ true = rw h refl in joined-stop alone at b bs e refl
+nothing_after : (at : ℕ) (bs : List ℕ) → begins 10 bs ≡ true → joined no_further_line at 0 bs ≡ []
+nothing_after at [] h = joined-nil no_further_line at
+nothing_after at (b ∷ bs) h = let e : ends_line b bs ≡ true = rw h refl in joined-stop no_further_line at b bs e refl
 
 no_line_end : (c : ℕ) (bs : List ℕ) → is_ascii_punctuation c ≡ true → ends_line c bs ≡ false
 no_line_end c bs h = grind (arith, nat_tests, h)
 
--- there is none in either
+-- no `]` is at n, and none at k
 none_in : (cs : List (ℕ × ℕ)) (xs : List ℕ) (at n k : ℕ) → begins 93 (drop n (bytes_of cs)) ≡ false → begins 93 (drop k xs) ≡ false → IsSameLabel cs xs at n k
 none_in cs xs at n k e f = record {
   ends = e ∙ sym f;
@@ -66,11 +66,12 @@ none_in cs xs at n k e f = record {
 
 -- the rest from an offset on
 abbrev SameFrom : ℕ → List ℕ → Type 0
-SameFrom at xs = IsSameLabel (joined alone at 0 xs) xs at (label_len (bytes_of (joined alone at 0 xs))) (unescaped_upto ends_line_label 0 xs)
+SameFrom at xs =
+    IsSameLabel (joined no_further_line at 0 xs) xs at (label_len (bytes_of (joined no_further_line at 0 xs))) (unescaped_upto ends_line_label 0 xs)
 
 same_nil : (at : ℕ) → SameFrom at []
 same_nil at =
-    rw (joined-nil alone at, upto-nil ends_line_label)
+    rw (joined-nil no_further_line at, upto-nil ends_line_label)
     (none_in [] [] at (label_len []) 0 (ap (λ n. begins 93 (drop n [])) (upto-nil is_bracket)) refl)
 
 -- at the end of the line
@@ -80,13 +81,13 @@ at_end at b bs e =
     let g : begins_escape (b ∷ bs) ≡ false = rw f refl in
     let s : ends_line_label b ≡ true = grind (arith, nat_tests, e) in
     let d : (b == 93) ≡ false = grind (arith, nat_tests, e) in
-    let j : joined alone at 0 (b ∷ bs) ≡ [] = joined-stop alone at b bs e refl in
+    let j : joined no_further_line at 0 (b ∷ bs) ≡ [] = joined-stop no_further_line at b bs e refl in
     rw (upto-stop ends_line_label b bs g s, j) (none_in [] (b ∷ bs) at (label_len []) 0 (ap (λ n. begins 93 (drop n [])) (upto-nil is_bracket)) d)
 
 -- no escape begins in the joined text if none begins in the text
-escape_joined : (at b : ℕ) (bs : List ℕ) → begins_escape (b ∷ bs) ≡ false → begins_escape (b ∷ bytes_of (joined alone at 0 bs)) ≡ false
+escape_joined : (at b : ℕ) (bs : List ℕ) → begins_escape (b ∷ bs) ≡ false → begins_escape (b ∷ bytes_of (joined no_further_line at 0 bs)) ≡ false
 escape_joined at b bs e =
-    elim (first_of alone at bs) [
+    elim (first_of no_further_line at bs) [
       | inl f ↦ ap (λ c. (b == 92) && is_ascii_punctuation c) f ∙ e
       | inr f ↦ ap (λ c. (b == 92) && is_ascii_punctuation c) f ∙ grind (arith, nat_tests)
     ]
@@ -97,9 +98,9 @@ at_bracket at b bs e s =
     let f : (b == 92) ≡ false = grind (arith, nat_tests, s) in
     let g : begins_escape (b ∷ bs) ≡ false = rw f refl in
     let s' : ends_line_label b ≡ true = rw s refl in
-    let cs = joined alone (at + 1) 0 bs in
+    let cs = joined no_further_line (at + 1) 0 bs in
     let g' : begins_escape (b ∷ bytes_of cs) ≡ false = rw f refl in
-    rw (upto-stop ends_line_label b bs g s', joined-byte alone at b bs e, upto-stop is_bracket b (bytes_of cs) g' s)
+    rw (upto-stop ends_line_label b bs g s', joined-byte no_further_line at b bs e, upto-stop is_bracket b (bytes_of cs) g' s)
     record { ends = refl; len = λ t. refl; label = λ t. refl; place = λ t. omega arith }
 
 -- at a carriage return before a line feed
@@ -109,7 +110,8 @@ at_return at b bs e s l =
     let d : (b == 93) ≡ false = grind (arith, nat_tests, s) in
     let g : begins_escape (b ∷ bs) ≡ false = rw f refl in
     let i : begins 10 bs ≡ true = grind (arith, nat_tests, e, s, l) in
-    let j : joined alone at 0 (b ∷ bs) ≡ (at, b) ∷ [] = joined-byte alone at b bs e ∙ ap (λ cs. (at, b) ∷ cs) (nothing_after (at + 1) bs i) in
+    let j : joined no_further_line at 0 (b ∷ bs) ≡ (at, b) ∷ [] =
+    joined-byte no_further_line at b bs e ∙ ap (λ cs. (at, b) ∷ cs) (nothing_after (at + 1) bs i) in
     let g' : begins_escape (b ∷ []) ≡ false = rw f refl in
     let n : label_len (b ∷ []) ≡ 1 = upto-byte is_bracket b [] g' s ∙ ap (λ m. 1 + m) (upto-nil is_bracket) in
     rw (upto-stop ends_line_label b bs g l, j) (none_in ((at, b) ∷ []) (b ∷ bs) at (label_len (b ∷ [])) 0 (ap (λ m. begins 93 (drop m (b ∷ []))) n) d)
@@ -118,19 +120,19 @@ at_return at b bs e s l =
 byte_on : (at b : ℕ) (bs : List ℕ)
     → ends_line b bs ≡ false → begins_escape (b ∷ bs) ≡ false → ends_line_label b ≡ false → SameFrom (at + 1) bs → SameFrom at (b ∷ bs)
 byte_on at b bs e g l on =
-    let cs = joined alone (at + 1) 0 bs in
+    let cs = joined no_further_line (at + 1) 0 bs in
     let s : is_bracket b ≡ false = grind (arith, nat_tests, l) in
-    rw (upto-byte ends_line_label b bs g l, joined-byte alone at b bs e, upto-byte is_bracket b (bytes_of cs) (escape_joined (at + 1) b bs g) s)
+    rw (upto-byte ends_line_label b bs g l, joined-byte no_further_line at b bs e, upto-byte is_bracket b (bytes_of cs) (escape_joined (at + 1) b bs g) s)
     (one_more cs bs at b (label_len (bytes_of cs)) (unescaped_upto ends_line_label 0 bs) on)
 
 -- one escape further
 escape_on : (at b c : ℕ) (bs : List ℕ) → begins_escape (b ∷ c ∷ bs) ≡ true → SameFrom (at + 1 + 1) bs → SameFrom at (b ∷ c ∷ bs)
 escape_on at b c bs g on =
-    let cs = joined alone (at + 1 + 1) 0 bs in
+    let cs = joined no_further_line (at + 1 + 1) 0 bs in
     let e : ends_line b (c ∷ bs) ≡ false = rw (eqb-true b 92 (and_parts _ _ g).0) refl in
     let f : ends_line c bs ≡ false = no_line_end c bs (and_parts _ _ g).1 in
-    let j : joined alone at 0 (b ∷ c ∷ bs) ≡ (at, b) ∷ (at + 1, c) ∷ cs =
-    joined-byte alone at b (c ∷ bs) e ∙ ap (λ ds. (at, b) ∷ ds) (joined-byte alone (at + 1) c bs f) in
+    let j : joined no_further_line at 0 (b ∷ c ∷ bs) ≡ (at, b) ∷ (at + 1, c) ∷ cs =
+    joined-byte no_further_line at b (c ∷ bs) e ∙ ap (λ ds. (at, b) ∷ ds) (joined-byte no_further_line (at + 1) c bs f) in
     rw (upto-escape ends_line_label b c bs g, j, upto-escape is_bracket b c (bytes_of cs) g)
     (two_more cs bs at b c (label_len (bytes_of cs)) (unescaped_upto ends_line_label 0 bs) on)
 
@@ -149,10 +151,10 @@ same_label at (b ∷ []) = same_by _ _ _ _ at b [] refl refl refl refl (same_nil
 same_label at (b ∷ c ∷ cs) = same_by _ _ _ _ at b (c ∷ cs) refl refl refl refl (same_label (at + 1) (c ∷ cs)) (same_label (at + 1 + 1) cs)
 
 -- the length of a label without a line ending, after its `[` and before a `]`
-abbrev pub line_len : List ℕ → ℕ
-line_len xs = unescaped_upto ends_line_label 0 xs
+abbrev pub line_label_len : List ℕ → ℕ
+line_label_len xs = unescaped_upto ends_line_label 0 xs
 
-label_none : (t : Bool) (xs : List ℕ) → begins 93 (drop (line_len xs) xs) ≡ false → label_at alone t xs ≡ None
+label_none : (t : Bool) (xs : List ℕ) → begins 93 (drop (line_label_len xs) xs) ≡ false → label_at no_further_line t xs ≡ None
 unfolding label_at
 label_none t xs h = let e = (same_label 0 xs).ends ∙ h in rw e refl
 
@@ -164,14 +166,14 @@ label_form : (t : Bool) (bytes offsets xs : List ℕ) (n k : ℕ) → begins 93 
     ≡ label_if (is_label (take k xs)) (k + 1) (shown t (take k xs))
 label_form t bytes offsets xs n k e f g = rw (e, f, g) refl
 
-label_some : (t : Bool) (xs : List ℕ) → begins 93 (drop (line_len xs) xs) ≡ true
-    → label_at alone t xs ≡ label_if (is_label (take (line_len xs) xs)) (line_len xs + 1) (shown t (take (line_len xs) xs))
+label_some : (t : Bool) (xs : List ℕ) → begins 93 (drop (line_label_len xs) xs) ≡ true
+    → label_at no_further_line t xs ≡ label_if (is_label (take (line_label_len xs) xs)) (line_label_len xs + 1) (shown t (take (line_label_len xs) xs))
 unfolding label_at
 label_some t xs h =
     let s = same_label 0 xs in
-    let cs = joined alone 0 0 xs in
+    let cs = joined no_further_line 0 0 xs in
     let p = s.place h in
-    label_form t (bytes_of cs) (offsets_of cs) xs (label_len (bytes_of cs)) (line_len xs) (s.ends ∙ h) (s.label h) (omega arith)
+    label_form t (bytes_of cs) (offsets_of cs) xs (label_len (bytes_of cs)) (line_label_len xs) (s.ends ∙ h) (s.label h) (omega arith)
 
 head_form : (u c : Bool) (xs label : List ℕ) (m : ℕ)
     → begins 58 (drop m xs) ≡ c → is_some (option_and_then (head_after xs) (label_if u m label)) ≡ (c && u)
@@ -181,18 +183,19 @@ head_form false true xs label m h = refl
 head_form false false xs label m h = refl
 
 -- no head if no `]` ends the label in its line
-pub head_none : (text : List ℕ) → begins_footnote text ≡ true → begins 93 (drop (line_len (drop 2 text)) (drop 2 text)) ≡ false → (t : Bool)
-    → is_some (footnote_head alone t text) ≡ false
-head_none text h e t = ap is_some (head_of alone t text h ∙ ap (option_and_then (head_after (drop 2 text))) (label_none t (drop 2 text) e))
+pub head_none : (text : List ℕ) → begins_footnote text ≡ true → begins 93 (drop (line_label_len (drop 2 text)) (drop 2 text)) ≡ false → (t : Bool)
+    → is_some (footnote_head no_further_line t text) ≡ false
+head_none text h e t = ap is_some (head_of no_further_line t text h ∙ ap (option_and_then (head_after (drop 2 text))) (label_none t (drop 2 text) e))
 
--- the head if one does, by the bytes before and after it
-pub head_some : (text : List ℕ) → begins_footnote text ≡ true → begins 93 (drop (line_len (drop 2 text)) (drop 2 text)) ≡ true → (t : Bool)
-    → is_some (footnote_head alone t text)
-    ≡ (begins 58 (drop (line_len (drop 2 text) + 1) (drop 2 text)) && is_label (take (line_len (drop 2 text)) (drop 2 text)))
+-- if a `]` ends the label in its line: a head is there exactly if a colon follows and `is_label` holds for the bytes
+-- before the `]`
+pub head_some : (text : List ℕ) → begins_footnote text ≡ true → begins 93 (drop (line_label_len (drop 2 text)) (drop 2 text)) ≡ true → (t : Bool)
+    → is_some (footnote_head no_further_line t text)
+    ≡ (begins 58 (drop (line_label_len (drop 2 text) + 1) (drop 2 text)) && is_label (take (line_label_len (drop 2 text)) (drop 2 text)))
 head_some text h e t =
     let xs = drop 2 text in
-    ap is_some (head_of alone t text h ∙ ap (option_and_then (head_after xs)) (label_some t xs e))
-    ∙ head_form (is_label (take (line_len xs) xs)) _ xs (shown t (take (line_len xs) xs)) (line_len xs + 1) refl
+    ap is_some (head_of no_further_line t text h ∙ ap (option_and_then (head_after xs)) (label_some t xs e))
+    ∙ head_form (is_label (take (line_label_len xs) xs)) _ xs (shown t (take (line_label_len xs) xs)) (line_label_len xs + 1) refl
 
-pub head_unmarked : (text : List ℕ) → begins_footnote text ≡ false → (t : Bool) → is_some (footnote_head alone t text) ≡ false
-head_unmarked text h t = ap is_some (no_mark alone t text h)
+pub head_unmarked : (text : List ℕ) → begins_footnote text ≡ false → (t : Bool) → is_some (footnote_head no_further_line t text) ≡ false
+head_unmarked text h t = ap is_some (no_mark no_further_line t text h)

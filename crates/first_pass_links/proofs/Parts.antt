@@ -6,7 +6,7 @@ use Rattle.std.specs.Str.{IsCharBoundary}
 use Rattle.std.proofs.lemmas.List.{drop_more, drop-drop}
 use Rattle.first_pass_lines.specs.Lines.{is_ascii_white}
 use Rattle.first_pass_links.specs.declared.label.Unit.{Unit}
-use Rattle.first_pass_links.specs.Units.{part, weight, read_of, IsUnit, IsRead}
+use Rattle.first_pass_links.specs.Units.{part, weight, read_of, IsUnit, IsLighter}
 
 take_none : (n : ℕ) → let xs : List ℕ = [] in xs ≡ take n xs
 take_none zero = refl
@@ -81,7 +81,7 @@ lighter_weight : (text written : List ℕ) (from : ℕ)
 lighter_weight text written from (inl h) = let e = ap weight h.1 ∙ weight-nil in omega arith
 lighter_weight text written from (inr h) = omega arith
 
-pub unit_kept : (text written : List ℕ) (from at : ℕ) (unit : Unit) → IsRead text written from at → IsUnit text at unit → unit.kept ≡ unit.resumed
+pub unit_kept : (text written : List ℕ) (from at : ℕ) (unit : Unit) → IsLighter text written from at → IsUnit text at unit → unit.kept ≡ unit.resumed
     → written ++ part text from unit.next ≡ (written ++ part text from at) ++ read_of text at unit
 unit_kept text written from at unit r u e =
     let order = r.order in
@@ -94,7 +94,7 @@ unit_kept text written from at unit r u e =
     sym (append_assoc written (part text from at) (read_of text at unit) ∙ ap (λ xs. written ++ (part text from at ++ xs)) a
     ∙ ap (λ xs. written ++ xs) (part-split text from at unit.next order (omega arith)))
 
-pub unit_changed : (text written : List ℕ) (from at : ℕ) (unit : Unit) → IsRead text written from at → IsUnit text at unit
+pub unit_changed : (text written : List ℕ) (from at : ℕ) (unit : Unit) → IsLighter text written from at → IsUnit text at unit
     → ((written ++ part text from unit.kept) ++ (if unit.space then 32 ∷ [] else [])) ++ part text unit.resumed unit.next
     ≡ (written ++ part text from at) ++ read_of text at unit
 unit_changed text written from at unit r u =
@@ -103,9 +103,9 @@ unit_changed text written from at unit r u =
     let p = part-split text from at unit.kept order begins in
     ap (λ xs. ((written ++ xs) ++ (if unit.space then 32 ∷ [] else [])) ++ part text unit.resumed unit.next) (sym p) ∙ simp append_assoc
 
-change_facts : (text written : List ℕ) (from at : ℕ) (unit : Unit) → IsRead text written from at → IsUnit text at unit
+change_facts : (text written : List ℕ) (from at : ℕ) (unit : Unit) → IsLighter text written from at → IsUnit text at unit
     → IsCharBoundary text unit.resumed × (weight (if unit.space then 32 ∷ [] else []) < weight (part text unit.kept unit.resumed))
-    → IsRead text ((written ++ part text from unit.kept) ++ (if unit.space then 32 ∷ [] else [])) unit.resumed unit.next
+    → IsLighter text ((written ++ part text from unit.kept) ++ (if unit.space then 32 ∷ [] else [])) unit.resumed unit.next
 change_facts text written from at unit r u c =
     let order = r.order in
     let begins = u.begins in
@@ -120,24 +120,24 @@ change_facts text written from at unit r u c =
     let e = ap weight (take-part text unit.kept unit.resumed keeps) ∙ weight-append (take unit.kept text) (part text unit.kept unit.resumed) in
     record { order = resumes; within = u.within; boundary = c.0; lighter = inr (omega arith) }
 
-pub unit_read : (text written : List ℕ) (from at : ℕ) (unit : Unit) → IsRead text written from at → IsUnit text at unit → (unit.kept ≡ unit.resumed → ⊥)
-    → IsRead text ((written ++ part text from unit.kept) ++ (if unit.space then 32 ∷ [] else [])) unit.resumed unit.next
+pub unit_read : (text written : List ℕ) (from at : ℕ) (unit : Unit) → IsLighter text written from at → IsUnit text at unit → (unit.kept ≡ unit.resumed → ⊥)
+    → IsLighter text ((written ++ part text from unit.kept) ++ (if unit.space then 32 ∷ [] else [])) unit.resumed unit.next
 unit_read text written from at unit r u n = elim u.change [
   | inl e ↦ absurd (n e)
   | inr c ↦ change_facts text written from at unit r u (c.1, c.2)
 ]
 
-pub read_none : (text : List ℕ) → IsCharBoundary text 0 → IsRead text [] 0 0
+pub read_none : (text : List ℕ) → IsCharBoundary text 0 → IsLighter text [] 0 0
 read_none text b = record { order = omega arith; within = omega arith; boundary = b; lighter = inl (refl, refl) }
 
 -- the text that is read from all of it
-pub whole_kept : (text written : List ℕ) (from at : ℕ) → IsRead text written from at → from ≡ 0 → take at text ≡ written ++ part text from at
+pub whole_kept : (text written : List ℕ) (from at : ℕ) → IsLighter text written from at → from ≡ 0 → take at text ≡ written ++ part text from at
 whole_kept text written from at r e = elim r.lighter [
   | inl h ↦ (sym (ap (λ xs. xs ++ part text from at) h.1 ∙ ap (λ n. part text n at) e ∙ part-start text at))
   | inr h ↦ absurd (let z = ap (λ n. weight (take n text)) e ∙ weight-nil in omega arith)
 ]
 
-pub whole_differs : (text written : List ℕ) (from at : ℕ) → IsRead text written from at → (from ≡ 0 → ⊥) → written ++ part text from at ≡ take at text → ⊥
+pub whole_differs : (text written : List ℕ) (from at : ℕ) → IsLighter text written from at → (from ≡ 0 → ⊥) → written ++ part text from at ≡ take at text → ⊥
 whole_differs text written from at r n e = elim r.lighter [
   | inl h ↦ n h.0
   | inr h ↦ (

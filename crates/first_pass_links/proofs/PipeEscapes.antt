@@ -1,4 +1,5 @@
--- References in the text of a cell: they are those of the text, since they have no backslash and no pipe.
+-- The references of a cell stay the same when backslashes before pipes are dropped: a reference has no backslash and no
+-- pipe.
 use Rattle.std.proofs.Common.{◌≡◌, ℕ, zero, suc, ◌+◌, ◌≤◌, ◌==◌, Bool, true, false, List, [], ◌∷◌, take, drop, refl, sym, ap, ◌∙◌, arith}
 use Rattle.std.specs.List.{prefix_len}
 use Rattle.std.specs.Char.{is_ascii_digit, is_ascii_hexdigit, is_ascii_alphabetic}
@@ -24,7 +25,7 @@ pub cell-dropped : (b : ℕ) (bs : List ℕ) → (b == 92) ≡ true → begins 1
 unfolding without_pipe_escapes
 cell-dropped b bs h h' = rw (h, h')
 
--- a backslash, and the bytes that are kept of it
+-- bytes that begin with a pipe keep it
 pub pipe_after : (bs : List ℕ) → begins 124 bs ≡ true → without_pipe_escapes bs ≡ 124 ∷ without_pipe_escapes (drop 1 bs)
 pipe_after [] h = cc
 pipe_after (b ∷ bs) h =

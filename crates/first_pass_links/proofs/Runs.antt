@@ -77,7 +77,7 @@ run_found deepest n bs h =
     ap (run_len deepest 0 0) (sym parts.0) ∙ counts deepest deepest (take n bs) (drop n bs) h.run 0 (omega arith)
     ∙ ap (longer (length (take n bs))) (ended deepest (drop n bs) h.ends) ∙ ap (λ k. longer k (Some 0)) parts.1 ∙ ap (λ k. Some k) z
 
--- a run that closes this many parentheses opened before it: a run before each `)`, and one after the last
+-- bytes that close k parentheses opened before them: a run before each of these `)`, and one after the last
 abbrev Closes : ℕ → ℕ → List ℕ → List ℕ → Type 0
 Closes zero d run following = IsBare d run following
 Closes (suc k) d run following =

@@ -4,13 +4,13 @@ use Rattle.first_pass_items.specs.Bytes.{backslash, pipe, ascii_end}
 use Rattle.first_pass_lines.specs.Lines.{begins}
 use Rattle.first_pass_links.specs.Escapes.{replaced_at, unescaped}
 
--- in a table, a backslash before one that is dropped: together they escape the pipe that follows (CommonMark 2.4, GFM
--- 4.10)
+-- The bytes begin with two backslashes and a pipe. In a table, the second backslash is dropped, and the first then
+-- escapes the pipe (CommonMark 2.4, GFM 4.10).
 abbrev pub begins_pipe_escape : List ℕ → Bool
 begins_pipe_escape bs = begins backslash bs && begins backslash (drop 1 bs) && begins pipe (drop 2 bs)
 
--- the bytes at the start that one character replaces: their number, and that character (CommonMark 2.4, 2.5, GFM
--- 4.10)
+-- the bytes at the start that unescaping replaces by one character: their number, and that character (CommonMark 2.4,
+-- 2.5, GFM 4.10)
 unfoldable pub change_at : Bool → List ℕ → Option (ℕ × ℕ)
 change_at in_table bs = if in_table && begins_pipe_escape bs then Some (3, pipe) else replaced_at bs
 

@@ -1,4 +1,4 @@
--- Link destinations (CommonMark 6.3). Each definition takes the bytes from a place in the text on.
+-- Link destinations (CommonMark 6.3). Here an argument `bs` has the bytes from an offset up to the end of the text.
 use Rattle.std.specs.Prelude.{ℕ, zero, suc, ◌+◌, ◌-◌, ◌==◌, ◌&&◌, ◌||◌, Bool, List, [], ◌∷◌, take, drop, Option, Some, None, nat_lt, if◌then◌else◌}
 use Rattle.std.specs.Option.{option_map, option_and_then}
 use Rattle.std.specs.Char.{is_ascii_control}
@@ -16,18 +16,19 @@ unescaped_upto stops zero (b ∷ bs) =
     then 1 + unescaped_upto stops 1 bs
     else (if stops b then 0 else 1 + unescaped_upto stops 0 bs)
 
--- a byte that a destination in pointy brackets has only if it is escaped: a line ending, `<` or `>` (CommonMark 6.3)
+-- a byte that ends the search inside `<..>` unless it is escaped: `<`, `>`, or a byte of a line ending, which is never
+-- escaped (CommonMark 6.3)
 abbrev pub ends_brackets : ℕ → Bool
 ends_brackets b = is_line_end b || b == less_than || b == greater_than
 
--- a destination in pointy brackets, after its `<`: its length with both brackets, and the text between them
--- (CommonMark 6.3)
+-- a destination inside `<..>`, after its `<`: its length with both brackets, and the text between them (CommonMark
+-- 6.3)
 unfoldable pub bracketed_at : List ℕ → Option (ℕ × List ℕ)
 bracketed_at bs =
     let n = unescaped_upto ends_brackets 0 bs in
     if begins greater_than (drop n bs) then Some (n + 2, take n bs) else None
 
--- a byte that no destination without brackets has: an ASCII control character or a space (CommonMark 6.3)
+-- a byte that ends a destination outside `<..>`: an ASCII control character or a space (CommonMark 6.3)
 abbrev pub ends_run : ℕ → Bool
 ends_run b = is_ascii_control b || b == space
 
@@ -60,7 +61,7 @@ run_len deepest nesting zero (b ∷ bs) =
     else (if nat_lt deepest (nesting_after b nesting) then None
     else longer 1 (run_len deepest (nesting_after b nesting) 0 bs))))
 
--- a destination without brackets: a run that is not empty (CommonMark 6.3)
+-- a destination outside `<..>`: a run that is not empty (CommonMark 6.3)
 abbrev pub unbracketed : List ℕ → ℕ → Option (ℕ × List ℕ)
 unbracketed bs n = if n == 0 then None else Some (n, take n bs)
 

@@ -26,11 +26,11 @@ unfoldable pub without_pipe_escapes : List ℕ → List ℕ
 without_pipe_escapes [] = []
 without_pipe_escapes (b ∷ bs) = if b == backslash && begins pipe bs then without_pipe_escapes bs else b ∷ without_pipe_escapes bs
 
--- the text as it is read: in a table, that of a cell (GFM 4.10)
+-- the text as it is read: in a table, without each backslash directly before a pipe (GFM 4.10)
 abbrev pub read_in : Bool → List ℕ → List ℕ
 read_in in_table text = if in_table then without_pipe_escapes text else text
 
--- a text without its escapes and references; in a table, backslashes before pipes are dropped first (CommonMark 2.4,
--- 2.5, GFM 4.10)
+-- a text with each escape and reference replaced by its character; in a table, each backslash directly before a pipe is
+-- dropped first (CommonMark 2.4, 2.5, GFM 4.10)
 abbrev pub unescaped : Bool → List ℕ → List ℕ
 unescaped in_table text = unescaped_after 0 (read_in in_table text)

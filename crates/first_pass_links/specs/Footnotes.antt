@@ -13,9 +13,9 @@ begins_footnote bs = begins left_bracket bs && begins circumflex (drop 1 bs)
 abbrev pub head_after : List ℕ → ℕ × List ℕ → Option (ℕ × List ℕ)
 head_after bs label = if begins colon (drop label.0 bs) then Some (label.0 + 3, label.1) else None
 
--- The head of the footnote definition at the start of these bytes: `[^`, a label as a link has it, and a colon; with
--- its length in bytes, and the label as it is read. The label continues after a line ending if `prefix` gives a
--- prefix for the next line (this project).
+-- The head of the footnote definition at the start of these bytes is `[^`, a label like that of a link, `]` and `:`.
+-- The result is its length in bytes, and the label as it is read. The label continues after a line ending if `prefix`
+-- gives a prefix for the next line (this project).
 unfoldable pub footnote_head : (List ℕ → Option ℕ) → Bool → List ℕ → Option (ℕ × List ℕ)
 footnote_head prefix in_table bs =
     if begins_footnote bs then option_and_then (head_after (drop 2 bs)) (label_at prefix in_table (drop 2 bs)) else None

@@ -1,4 +1,5 @@
--- Link labels (CommonMark 6.3). Each definition takes the bytes after a `[`.
+-- Link labels (CommonMark 6.3). Here an argument `text` has the bytes from an offset up to the end of the text;
+-- `label_at` takes those after a `[`.
 use Rattle.std.specs.Prelude.{◌≡◌, ◌≢◌, ◌⊎◌, ℕ, zero, suc, ◌+◌, ◌==◌, ◌&&◌, ◌||◌, not, Bool, List, [], ◌∷◌, map, take, drop, slice_index, Option, Some, None}
 use Rattle.std.specs.Prelude.{Ok, Err, Result, length, true, ◌<◌, IsUtf8, nat_lt, nat_le, if◌then◌else◌}
 use Rattle.std.specs.Option.{option_map_or}
@@ -11,8 +12,8 @@ use Rattle.first_pass_lines.specs.Lines.{begins, is_ascii_white, is_line_end, en
 use Rattle.first_pass_links.specs.Escapes.{read_in}
 use Rattle.first_pass_links.specs.Destinations.{unescaped_upto}
 
--- given the rest of the text from any character on, the handler of line endings returns only what `prefix` has for
--- it: the length of the prefix of the next line, or none if the label may not continue there (this project)
+-- if the handler of line endings succeeds on the bytes from any character of the text on, it returns what `prefix`
+-- gives for them: the length of the next line's prefix, or none if the label may not continue there (this project)
 abbrev pub AnswersWith : List ℕ → (List ℕ → Option ℕ) → (Bor (List ℕ) → Result (Option ℕ) AllocError → Type 0) → Type 0
 AnswersWith text prefix post =
     (following : Bor (List ℕ)) (answer : Option ℕ) (at : ℕ) → IsCharBoundary text at → following.now ≡ drop at text → post following (Ok answer)
@@ -32,8 +33,8 @@ is_bracket b = b == left_bracket || b == right_bracket
 abbrev pub begins_character : ℕ → Bool
 begins_character b = nat_lt b ascii_end || nat_le least_lead b
 
--- The text from an offset on, after its first n bytes, with its lines joined: each byte with its offset, without the
--- prefixes of lines. It ends at a line ending after which the label may not continue (CommonMark 6.3).
+-- The text from the offset `at` on, with its lines joined: each byte with its offset, without the first n bytes and
+-- without the prefixes of lines. It ends at a line ending after which the label may not continue (CommonMark 6.3).
 unfoldable pub joined : (List ℕ → Option ℕ) → ℕ → ℕ → List ℕ → List (ℕ × ℕ)
 joined prefix at n [] = []
 joined prefix at (suc n) (b ∷ bs) = joined prefix (at + 1) n bs
@@ -58,8 +59,7 @@ ends_line_label b = is_bracket b || is_line_end b
 abbrev pub label_len : List ℕ → ℕ
 label_len bs = unescaped_upto is_bracket 0 bs
 
--- each run of white space as one space (CommonMark 6.3, which drops those at both ends; that they stay as one space:
--- this project)
+-- each run of white space as one space (CommonMark 6.3), at both ends too (this project; CommonMark 6.3 drops it there)
 unfoldable pub single_spaced : List ℕ → List ℕ
 single_spaced [] = []
 single_spaced (b ∷ bs) =
@@ -74,8 +74,8 @@ shown in_table bs = single_spaced (read_in in_table bs)
 abbrev pub is_label : List ℕ → Bool
 is_label bs = nat_le (count_by begins_character bs) 999 && list_any (λ b. not (is_ascii_white b)) bs
 
--- the label after a `[`: the joined text before the first bracket that is not escaped, if that bracket is a `]`; with
--- the offset after the `]`, and the label as it is read (CommonMark 6.3)
+-- The label after a `[`: the joined text before the first unescaped bracket, if that bracket is a `]` and `is_label`
+-- holds for this text. The result is the offset after the `]`, and the label as it is read (CommonMark 6.3).
 unfoldable pub label_at : (List ℕ → Option ℕ) → Bool → List ℕ → Option (ℕ × List ℕ)
 label_at prefix in_table text =
     let whole = joined prefix 0 0 text in
@@ -95,11 +95,11 @@ before_bracket prefix text = let bs = bytes_of (joined prefix 0 0 text) in take 
 abbrev pub IsRewritten : (List ℕ → Option ℕ) → Bool → List ℕ → Type 0
 IsRewritten prefix in_table text = shown in_table (before_bracket prefix text) ≢ before_bracket prefix text
 
--- the joined text has no bracket that is not escaped (CommonMark 6.3)
+-- the joined text has no unescaped bracket (CommonMark 6.3)
 abbrev pub HasNoBracket : (List ℕ → Option ℕ) → List ℕ → Type 0
 HasNoBracket prefix text = let bs = bytes_of (joined prefix 0 0 text) in label_len bs ≡ length bs
 
--- the handler fails on the bytes after the line ending whose last byte is at an offset into the text (this project)
+-- the byte at the offset `at` ends a line, and the handler fails on the bytes after it (this project)
 pub record ErrsAfter (text : List ℕ) (at : ℕ) (post : Bor (List ℕ) → Result (Option ℕ) AllocError → Type 0) : Type 0 where
   pub within : at < length text
   pub line_end : ends_line (slice_index text at) (drop (at + 1) text) ≡ true
@@ -109,7 +109,7 @@ pub record ErrsAfter (text : List ℕ) (at : ℕ) (post : Bor (List ℕ) → Res
   pub error : AllocError
   pub errs : post following (Err error)
 
--- reading a label may fail: its text has to be written, or no bracket ends it and the handler fails after a line
--- ending (this project)
+-- reading a label may fail in two cases: its source changes as it is read, or the joined text has no unescaped bracket
+-- and the handler fails after a line ending (this project)
 abbrev pub CanErr : (List ℕ → Option ℕ) → Bool → List ℕ → (Bor (List ℕ) → Result (Option ℕ) AllocError → Type 0) → Type 0
 CanErr prefix in_table text post = IsRewritten prefix in_table text ⊎ (HasNoBracket prefix text × ((at : ℕ) × ErrsAfter text at post))

@@ -1,4 +1,4 @@
--- Destinations without brackets as runs (CommonMark 6.3).
+-- Destinations outside `<..>` as runs (CommonMark 6.3).
 use Rattle.std.specs.Prelude.{◌≡◌, ℕ, suc, ◌==◌, ◌≤◌, ◌||◌, not, Bool, true, false, List, [], ◌∷◌, ◌++◌, length, take, drop}
 use Rattle.std.specs.Char.{is_ascii_punctuation}
 use Rattle.first_pass_items.specs.Bytes.{left_parenthesis, right_parenthesis, backslash}
@@ -9,8 +9,8 @@ use Rattle.first_pass_links.specs.Destinations.{ends_run}
 abbrev pub is_run_byte : ℕ → Bool
 is_run_byte b = not (ends_run b || b == left_parenthesis || b == right_parenthesis)
 
--- A run before the bytes after it, with its parentheses nested at most `deepest` deep. It has no control character
--- and no space, and its parentheses are escaped or balanced (CommonMark 6.3).
+-- A run, given the bytes that follow it. It has no ASCII control character and no space. Its parentheses are escaped,
+-- or balanced and nested at most `deepest` deep (CommonMark 6.3).
 pub data IsBare : ℕ → List ℕ → List ℕ → Type 0 where
   -- the empty run
   nothing : (deepest : ℕ) (following : List ℕ) → IsBare deepest [] following

@@ -32,8 +32,8 @@ space_unit text at next characters =
 abbrev pub dropped_unit : ℕ → ℕ → ℕ → Unit
 dropped_unit next characters place = record { next = next; characters = characters; solid = true; kept = place; resumed = place + 1; space = false }
 
--- a backslash: in a table it is dropped before a pipe; before ASCII punctuation it is an escape (CommonMark 2.4, GFM
--- 4.10)
+-- the unit that begins with a backslash: `\\|` or `\|` in a table, without the backslash directly before the pipe;
+-- otherwise an escape, or a backslash that escapes nothing (CommonMark 2.4, GFM 4.10)
 abbrev pub backslash_unit : Bool → ℕ → List ℕ → Unit
 backslash_unit in_table at bs =
     if in_table && begins_pipe_escape bs then dropped_unit (at + 3) 3 (at + 1)
@@ -49,8 +49,8 @@ read_of text at unit = part text at unit.kept ++ ((if unit.space then space ∷ 
 abbrev pub left_at : (List ℕ → Option ℕ) → List ℕ → ℕ → List (ℕ × ℕ)
 left_at prefix text at = joined prefix at 0 (drop at text)
 
--- the weight of a text: one for each byte, and two for white space other than a space; a text that changes gets
--- lighter (this project)
+-- the weight of a text: two for each byte of white space other than a space, and one for each other byte; a text that
+-- changes gets lighter (this project)
 unfoldable pub weight : List ℕ → ℕ
 weight [] = 0
 weight (b ∷ bs) = (if is_ascii_white b && not (b == space) then 2 else 1) + weight bs
@@ -68,8 +68,8 @@ pub record IsUnit (text : List ℕ) (at : ℕ) (unit : Unit) : Type 0 where
   pub same : unit.kept ≡ unit.resumed → unit.space ≡ false
 
 -- A unit is read. Its bytes are the next of the joined text, and have this many characters. No bracket among them
--- ends the label. The text that is read from them comes before the text that is read from any further bytes of the
--- label (CommonMark 6.3).
+-- ends the label. From this unit on, the label as it is read is the text of this unit, then the text of the remaining
+-- bytes (CommonMark 6.3).
 pub record Reads (prefix : List ℕ → Option ℕ) (in_table : Bool) (text : List ℕ) (at : ℕ) (unit : Unit) : Type 0 where
   pub run : List (ℕ × ℕ)
   pub joins : left_at prefix text at ≡ run ++ left_at prefix text unit.next
@@ -80,9 +80,9 @@ pub record Reads (prefix : List ℕ → Option ℕ) (in_table : Bool) (text : Li
   pub reads : (n : ℕ) → shown in_table (bytes_of run ++ take n (bytes_of (left_at prefix text unit.next)))
       ≡ read_of text at unit ++ shown in_table (take n (bytes_of (left_at prefix text unit.next)))
 
--- the text is read up to the offset `at`: these bytes are written, and those from `from` on are kept as they are
--- (this project)
-pub record IsRead (text : List ℕ) (written : List ℕ) (from at : ℕ) : Type 0 where
+-- `from` is between characters, and at most `at`, which is an offset into the text. Either `from` is 0 and nothing is
+-- written, or `written` is lighter than the bytes before `from` (this project).
+pub record IsLighter (text : List ℕ) (written : List ℕ) (from at : ℕ) : Type 0 where
   pub order : from ≤ at
   pub within : at ≤ length text
   pub boundary : IsCharBoundary text from
@@ -100,8 +100,8 @@ pub record IsWhiteRun (prefix : List ℕ → Option ℕ) (text : List ℕ) (at n
 abbrev pub IsBlankRest : (List ℕ → Option ℕ) → List ℕ → ℕ → Type 0
 IsBlankRest prefix text at = list_all is_ascii_white (bytes_of (left_at prefix text at)) ≡ true
 
--- the end of a run of white space at an offset: it is within the text, between characters, and after the first byte
--- (directly after it for a single space) (CommonMark 6.3)
+-- The end of a run of white space that begins at an offset: within the text, between characters, and after the first
+-- byte. A run of one space ends directly after it (CommonMark 6.3).
 pub record EndsWhiteRun (text : List ℕ) (at next characters : ℕ) : Type 0 where
   pub later : at < next
   pub within : next ≤ length text
@@ -110,7 +110,8 @@ pub record EndsWhiteRun (text : List ℕ) (at next characters : ℕ) : Type 0 wh
   pub bound : characters ≤ next - at
   pub lone : characters ≡ 1 → slice_index text at ≡ space → next ≡ at + 1
 
--- the handler fails at a line ending directly after a run of white space from an offset on (this project)
+-- white space extends from `at` up to `next`; the byte at `next` ends a line, and the handler fails after it (this
+-- project)
 pub record StopsByError (text : List ℕ) (at : ℕ) (post : Bor (List ℕ) → Result (Option ℕ) AllocError → Type 0) : Type 0 where
   pub next : ℕ
   pub characters : ℕ

@@ -11,8 +11,10 @@ use first_pass_lines::lines::begins;
 use first_pass_lines::places::rest_of;
 
 /// Returns the length of the link destination at `start_ix`, and its text. `start_ix` is an offset into `text`; the
-/// length is in bytes. The destination is inside `<..>`, or is a run without white space whose parentheses are
-/// balanced and at most `max_next` deep. Returns `None` if there is none. CommonMark 6.3.
+/// length is in bytes. If the destination is inside `<..>`, the length includes the angle brackets, the text does not.
+/// Otherwise it ends before a space, an ASCII control character or an unescaped `)` that closes no parenthesis, or at
+/// the end; its unescaped parentheses are balanced, and nest at most `max_next` deep. Returns `None` if there is none.
+/// CommonMark 6.3.
 #[tactic(auto, unfolding(crate::specs::Destinations::destination_at, crate::specs::Destinations::bracketed_at))]
 pub fn scan_link_dest(text: &str, start_ix: usize, max_next: usize) -> Option<(usize, &str)>
     requires within { start_ix ≤ length text.now }
@@ -38,7 +40,7 @@ pub fn scan_link_dest(text: &str, start_ix: usize, max_next: usize) -> Option<(u
     }
 }
 
-// The number of bytes before the end of the text inside `<..>`.
+// The number of bytes before the first line ending, the first unescaped `<` or `>`, or the end.
 fn scan_brackets(bytes: &[u8]) -> usize
     ensures value { result ≡ unescaped_upto ends_brackets 0 bytes.now }
     ensures within { result ≤ length bytes.now }
@@ -50,7 +52,8 @@ fn scan_brackets(bytes: &[u8]) -> usize
     at
 }
 
-// The length of a run without brackets, with its parentheses at most `deepest` deep.
+// The length of the run at the start, which is a destination outside `<..>` unless it is empty. `None` if an unescaped
+// `(` is not closed, or if unescaped parentheses nest more than `deepest` deep.
 fn scan_run(bytes: &[u8], deepest: usize) -> Option<usize>
     ensures value { result ≡ run_len deepest 0 0 bytes.now }
     ensures within { IfSome result (λ len. len ≤ length bytes.now) }
@@ -72,7 +75,7 @@ fn scan_run(bytes: &[u8], deepest: usize) -> Option<usize>
     if nesting == 0 { Some(at) } else { None }
 }
 
-// Whether a byte closes a parenthesis that was not opened.
+// Whether the byte is a `)` and no parenthesis is open.
 fn closes_none(byte: u8, nesting: usize) -> bool
     ensures { result ≡ closes_none byte nesting }
 {

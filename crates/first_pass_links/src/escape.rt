@@ -30,7 +30,8 @@ pub fn unescape<'a>(alloc: Global, text: &'a str, in_table: bool) -> Result<CowS
     }
 }
 
-// The same. Most texts have no backslash or `&`, so the string that is written is kept out of the callers.
+// The same, not inlined: most texts have no backslash and no `&`, so the code that writes a string stays out of the
+// callers.
 #[inline(never)]
 fn unescape_marked<'a>(
     alloc: Global,
@@ -55,8 +56,8 @@ fn unescape_marked<'a>(
     Ok(CowStr::Boxed(written.into_boxed_str()))
 }
 
-// The next bytes from the offset `from` on that one character replaces: their offset, their number, and that
-// character.
+// The first bytes at or after the offset `from` that unescaping replaces by one character: their offset, their number,
+// and that character.
 fn next_change(bytes: &[u8], from: usize, in_table: bool) -> Option<(usize, usize, char)>
     requires { from ≤ length bytes.now }
     ensures some { IfSome result (λ change. IsChange in_table bytes.now from change) }
@@ -73,7 +74,8 @@ fn next_change(bytes: &[u8], from: usize, in_table: bool) -> Option<(usize, usiz
     None
 }
 
-// The place of the first backslash or `&`. Most texts are short, and `memchr2` costs more before its first look.
+// The offset of the first backslash or `&`. Most texts are short, and `memchr2` costs more before it tests the first
+// byte.
 #[inline(always)]
 fn next_mark(bytes: &[u8]) -> Option<usize>
     ensures within { IfSome result (λ at. at < length bytes.now) }
@@ -96,7 +98,7 @@ fn next_mark(bytes: &[u8]) -> Option<usize>
     None
 }
 
-// The bytes at the start that one character replaces: their number, and that character.
+// The bytes at the start that unescaping replaces by one character: their number, and that character.
 #[tactic(auto, unfolding(crate::specs::Changes::change_at, crate::specs::Escapes::replaced_at))]
 fn change_at(bytes: &[u8], in_table: bool) -> Option<(usize, char)>
     ensures { result ≡ change_at in_table bytes.now }

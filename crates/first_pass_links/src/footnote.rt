@@ -1,4 +1,4 @@
-//! Heads of footnote definitions (this project; CommonMark 4.7 on their labels).
+//! Heads of footnote definitions (this project; CommonMark 6.3 on their labels).
 
 ghost use Rattle.std.specs.Prelude.{◌≡◌, ◌+◌, ◌-◌, ◌<◌, ℕ, Bool, List, Option, None, is_some, take, drop, IfOk, IfSome, OnErr, true, IsSomeAnd, MatchOption};
 ghost use Rattle.std.specs.Str.{IsCharBoundary};
@@ -17,8 +17,8 @@ use std::alloc::{AllocError, Global};
 /// a label, `]` and `:`. The label is read as `scan_link_label_rest` reads one, and borrowed if nothing in it
 /// changes.
 ///
-/// `linebreak_handler` gets the bytes after each line ending in the label. It returns the length of the prefix of the
-/// next line, which is left out, or `None` if the label may not continue there.
+/// `linebreak_handler` gets the bytes after each line ending in the label. It returns the length of the next line's
+/// prefix, which is not part of the label, or `None` if the label may not continue there.
 ///
 /// Returns `None` if no head is there. Fails only if `scan_link_label_rest` fails after the `[^`.
 pub fn scan_footnote_head<'t, F>(

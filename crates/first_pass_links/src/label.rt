@@ -1,4 +1,4 @@
-//! Link labels (CommonMark 4.7, 6.3).
+//! Link labels (CommonMark 6.3).
 
 ghost use Rattle.std.specs.Prelude.{◌≡◌, ◌≢◌, ◌+◌, ◌-◌, ◌<◌, ◌≤◌, ◌++◌, ◌∷◌, [], ℕ, List, Option, true, false, not, None, Some, length, take, drop, slice_index, nat_lt, IfOk, IfSome, IsUtf8, OnOk, OnErr, IsSomeAnd, MatchOption, if◌then◌else◌};
 ghost use Rattle.std.specs.List.{list_any, count_by};
@@ -10,7 +10,7 @@ ghost use Rattle.first_pass_lines.specs.Lines.{ends_line, is_ascii_white};
 ghost use Rattle.first_pass_links.specs.Destinations.{unescaped_upto};
 ghost use Rattle.first_pass_entities.specs.Texts.{Borrows};
 ghost use Rattle.first_pass_links.specs.Labels.{AnswersWith, AnswersPlaces, CanErr, ErrsAfter, is_bracket, begins_character, ends_line_label, is_label, label_at};
-ghost use Rattle.first_pass_links.specs.Units.{part, read_of, left_at, kept_unit, space_unit, dropped_unit, backslash_unit, IsUnit, Reads, IsRead, IsWhiteRun, EndsWhiteRun, StopsByError, IsBlankRest};
+ghost use Rattle.first_pass_links.specs.Units.{part, read_of, left_at, kept_unit, space_unit, dropped_unit, backslash_unit, IsUnit, Reads, IsLighter, IsWhiteRun, EndsWhiteRun, StopsByError, IsBlankRest};
 
 use crate::destination::unit_len;
 use crate::plain::plain_run;
@@ -19,21 +19,22 @@ use first_pass_lines::lines::{begins, is_ascii_white, is_line_end};
 use first_pass_lines::places::rest_of;
 use std::alloc::{AllocError, Global};
 
-// The most characters that a label may have (CommonMark 4.7).
+// The most characters that a label may have (CommonMark 6.3).
 const MOST_CHARACTERS: usize = 999;
 
 /// Returns the length of the link label at the start of `text`, and the label as it is read. `text` is the bytes
-/// after a `[`; the length is in bytes, with the `]`. Each run of white space is read as one space, and backslashes
-/// stay; in a table, one directly before a pipe is dropped. If nothing changes, the label is borrowed and takes no
-/// memory.
+/// after a `[`; the length is in bytes, with the `]`. Each run of white space is read as one space. In a table, a
+/// backslash directly before a pipe is dropped; all other backslashes stay. If nothing changes, the label is borrowed
+/// and takes no memory.
 ///
-/// `linebreak_handler` gets the bytes after each line ending. It returns the length of the prefix of the next line,
-/// which is left out, or `None` if the label may not continue there.
+/// `linebreak_handler` gets the bytes after each line ending. It returns the length of the next line's prefix, which
+/// is not part of the label, or `None` if the label may not continue there.
 ///
-/// Returns `None` if there is no label: an unescaped `[` or the end comes first, all is white space, or there are
-/// more than 999 characters without the prefixes. Fails only if the handler fails at a line ending before any
-/// bracket, or if an allocation fails. An allocation is needed only if the text before the first bracket changes as
-/// it is read. CommonMark 4.7, 6.3.
+/// Returns `None` if no unescaped `]` comes before an unescaped `[`, the end, or a line on which the label may not
+/// continue. Also returns `None` if the label has only white space, or more than 999 characters; the prefixes of lines
+/// do not count. Fails only if the handler fails at a line ending before any unescaped bracket, or if an allocation
+/// fails. An allocation is needed only if the text before the first unescaped bracket changes as it is read.
+/// CommonMark 6.3.
 pub fn scan_link_label_rest<'t, F>(
     alloc: Global,
     text: &'t str,
@@ -83,8 +84,8 @@ where
     Ok(Some((at + 1, finish(written, text, from, at)?)))
 }
 
-/// Returns the number of bytes before the first bracket or line ending, not counting escaped brackets, or before the
-/// end. If a `]` is there, it is the length of a label without a line ending (CommonMark 4.7).
+/// Returns the number of bytes before the first unescaped bracket, the first line ending, or the end. If a `]` follows
+/// these bytes and `is_label` holds for them, they are a label without a line ending (CommonMark 6.3).
 pub(crate) fn scan_line_label(bytes: &[u8]) -> usize
     ensures value { result ≡ unescaped_upto ends_line_label 0 bytes.now }
     ensures within { result ≤ length bytes.now }
@@ -104,7 +105,7 @@ fn ends_line_label(byte: u8) -> bool
 }
 
 /// Returns whether these bytes may be a label: they have at most 999 characters, one of which is not white space
-/// (CommonMark 4.7).
+/// (CommonMark 6.3).
 pub(crate) fn is_label(bytes: &[u8]) -> bool
     ensures { result ≡ is_label bytes.now }
 {
@@ -125,8 +126,8 @@ fn holds_text(bytes: &[u8]) -> bool
     bytes.iter().any(|b| !is_ascii_white(*b))
 }
 
-// Bytes of a label that are read together, up to the offset `next`. Those from `kept` up to `resumed` are left out,
-// or a space replaces them; if there are none, both are `next`.
+// Bytes of a label that are read together, up to the offset `next`. Those from `kept` up to `resumed` are left out; if
+// `space` is true, a space replaces them. If no bytes are left out, `kept` and `resumed` are both `next`.
 #[derive(Clone, Copy, Drop)]
 struct Unit {
     next: usize,
@@ -261,7 +262,8 @@ fn space_unit(bytes: &[u8], at: usize, next: usize, characters: usize) -> Unit
     }
 }
 
-// A backslash, with the byte that it escapes.
+// The unit that begins with a backslash: `\\|` or `\|` in a table, without the backslash directly before the pipe;
+// otherwise an escape, or a backslash that escapes nothing.
 fn backslash_unit(bytes: &[u8], at: usize, in_table: bool) -> Unit
     requires within { at < length bytes.now }
     requires here { slice_index bytes.now at ≡ backslash }
@@ -303,8 +305,8 @@ fn dropped_unit(next: usize, characters: usize, place: usize) -> Unit
     }
 }
 
-// Writes the bytes from `from` on up to the change in a unit, and its replacement. Returns the offset from which
-// bytes are kept then.
+// If a unit leaves bytes out, writes the bytes from `from` up to these, and their replacement. Returns the offset of
+// the first byte that is not yet written.
 #[inline(always)]
 fn write_unit(
     written: &mut String,
@@ -313,9 +315,9 @@ fn write_unit(
     at: usize,
     unit: Unit,
 ) -> Result<usize, AllocError>
-    requires read { IsRead text.now (string_bytes written.old) from at }
+    requires read { IsLighter text.now (string_bytes written.old) from at }
     requires unit { IsUnit text.now at unit }
-    ensures read { IfOk result (λ next. IsRead text.now (string_bytes written.new) next unit.next) }
+    ensures read { IfOk result (λ next. IsLighter text.now (string_bytes written.new) next unit.next) }
     ensures bytes { IfOk result (λ next. string_bytes written.new ++ part text.now next unit.next
         ≡ (string_bytes written.old ++ part text.now from at) ++ read_of text.now at unit) }
     ensures same { IfOk result (λ next. unit.kept ≡ unit.resumed → next ≡ from) }
@@ -343,7 +345,7 @@ fn finish<'t>(
     from: usize,
     at: usize,
 ) -> Result<CowStr<'t>, AllocError>
-    requires read { IsRead text.now (string_bytes written) from at }
+    requires read { IsLighter text.now (string_bytes written) from at }
     requires boundary { IsCharBoundary text.now at }
     ensures value { IfOk result (λ label. text_of label ≡ string_bytes written ++ part text.now from at) }
     ensures borrowed { IfOk result (λ label. text_of label ≡ take at text.now → Borrows (take at text.now) label) }
@@ -369,14 +371,14 @@ fn begins_character(byte: u8) -> bool
     byte < 0x80 || byte >= 0xc0
 }
 
-// The number of characters that begin with a byte: one, or none within a character.
+// 1 if the byte is the first of a character, otherwise 0.
 fn begun_characters(byte: u8) -> usize
     ensures { result ≡ (if begins_character byte then 1 else 0) }
 {
     if begins_character(byte) { 1 } else { 0 }
 }
 
-// Whether a byte ends a line, before these bytes.
+// Whether a line ends after `byte`, given the bytes that follow it.
 fn ends_line(byte: u8, following: &[u8]) -> bool
     ensures { result ≡ ends_line byte following.now }
 {

@@ -1,4 +1,4 @@
-//! Escapes, and the parts of links: destinations and labels, also those of footnotes.
+//! Backslash escapes, references, link destinations, link labels, and the heads of footnote definitions.
 #![tactic(auto)]
 
 pub mod destination;

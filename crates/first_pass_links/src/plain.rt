@@ -7,9 +7,9 @@ ghost use Rattle.first_pass_links.specs.Plain.{is_ordinary, is_unmarked};
 use first_pass_lines::lanes::{LANES, first_set};
 use std::simd::prelude::*;
 
-/// Returns how many of the first 16 bytes are plain, up to the first that is not; 0 if there are fewer than 16 bytes.
-/// A plain byte is an ASCII character that ends, nests and escapes nothing in a label or in a destination (CommonMark
-/// 4.7, 6.3).
+/// Returns the number of plain bytes at the start of `bytes`, at most 16; 0 if `bytes` has fewer than 16. A plain byte
+/// is an ASCII character from `*` to `~`, except square brackets and the backslash. In a label, or in a destination
+/// outside `<..>`, it ends, nests and escapes nothing, and is no white space (CommonMark 6.3).
 #[inline(always)]
 pub(crate) fn plain_run(bytes: &[u8]) -> usize
     ensures within { result ≤ length bytes.now }
@@ -33,7 +33,7 @@ fn plain_lanes(bytes: &[u8]) -> usize
     first_set((past_capitals & past_letters).to_bitmask())
 }
 
-/// Returns how many of the 16 bytes from an offset on are neither a backslash nor `&`, up to the first that is.
+/// Returns the number of bytes from `at` on that come before the first backslash or `&`, at most 16.
 #[inline(always)]
 pub(crate) fn unmarked_run(bytes: &[u8], at: usize) -> usize
     requires { at + 16 ≤ length bytes.now }

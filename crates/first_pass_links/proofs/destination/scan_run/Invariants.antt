@@ -2,7 +2,7 @@ use Rattle.std.proofs.Common.{◌≡◌, ◌≤◌, ◌-◌, length, drop}
 use Rattle.first_pass_links.specs.Destinations.{run_len, longer}
 use Rattle.first_pass_links.proofs.destination.scan_run.Given as goal
 
--- the length of the run is this offset and the length of the rest
+-- the length of the run is this offset plus the length of the rest
 abbrev pub invariant-loop-at : goal.invariant-loop-at
 invariant-loop-at l = record {
   within : l.at ≤ length l.bytes;

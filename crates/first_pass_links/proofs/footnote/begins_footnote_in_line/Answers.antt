@@ -2,17 +2,17 @@ use Rattle.std.proofs.Common.{◌≡◌, ℕ, ◌+◌, ◌&&◌, Bool, true, fal
 use Rattle.std.proofs.lemmas.Bool.{false≢true}
 use Rattle.first_pass_lines.specs.Lines.{begins}
 use Rattle.first_pass_links.specs.Labels.{is_label}
-use Rattle.first_pass_links.proofs.LineLabels.{line_len, head_unmarked, head_none, head_some}
+use Rattle.first_pass_links.proofs.LineLabels.{line_label_len, head_unmarked, head_none, head_some}
 use Rattle.first_pass_links.proofs.footnote.begins_footnote_in_line.Goals as goal
 
 -- the results of the calls on the bracket after the label, and on the colon after that
-bracket : (text label rest : List ℕ) (n : ℕ) (b : Bool) → label ≡ drop 2 text → n ≡ line_len label → rest ≡ drop n label → b ≡ begins 93 rest
-    → begins 93 (drop (line_len (drop 2 text)) (drop 2 text)) ≡ b
+bracket : (text label rest : List ℕ) (n : ℕ) (b : Bool) → label ≡ drop 2 text → n ≡ line_label_len label → rest ≡ drop n label → b ≡ begins 93 rest
+    → begins 93 (drop (line_label_len (drop 2 text)) (drop 2 text)) ≡ b
 bracket text label rest n b l k r e = sym (e ∙ rw (r, k, l) refl)
 
-colon : (text label rest : List ℕ) (n : ℕ) (u b : Bool) → label ≡ drop 2 text → n ≡ line_len label → rest ≡ drop (n + 1) label → b ≡ begins 58 rest
+colon : (text label rest : List ℕ) (n : ℕ) (u b : Bool) → label ≡ drop 2 text → n ≡ line_label_len label → rest ≡ drop (n + 1) label → b ≡ begins 58 rest
     → u ≡ is_label (take n label)
-    → (b && u) ≡ (begins 58 (drop (line_len (drop 2 text) + 1) (drop 2 text)) && is_label (take (line_len (drop 2 text)) (drop 2 text)))
+    → (b && u) ≡ (begins 58 (drop (line_label_len (drop 2 text) + 1) (drop 2 text)) && is_label (take (line_label_len (drop 2 text)) (drop 2 text)))
 colon text label rest n u b l k r e f = rw (f, e, r, k, l) refl
 
 and_true : (u b : Bool) → b ≡ true → u ≡ (b && u)

@@ -3,7 +3,7 @@ use Rattle.std.specs.String.{string_bytes}
 use Rattle.std.specs.Str.{IsCharBoundary}
 use Rattle.std.proofs.lemmas.Str.{IsCharBoundary-start, IsCharBoundary-after_ascii}
 use Rattle.first_pass_links.specs.Labels.{is_bracket, label_at}
-use Rattle.first_pass_links.specs.Units.{part, left_at, IsRead, Reads, StopsByError, IsBlankRest}
+use Rattle.first_pass_links.specs.Units.{part, left_at, IsLighter, Reads, StopsByError, IsBlankRest}
 use Rattle.first_pass_links.proofs.Parts.{read_none, part-none}
 use Rattle.first_pass_links.proofs.Labels.{too_long, blank_stops, end_stops, open_stops, blank_label, closed, known_as, label_after, nothing_known}
 use Rattle.first_pass_links.proofs.Labels.{unit_known}
@@ -23,7 +23,7 @@ loop-at-init g c =
     let text = c.args.text.now in
     let e : string_bytes c.new-written.result ++ part text 0 0 ≡ [] = ap (λ bs. bs ++ part text 0 0) c.new-written.ensures.bytes ∙ part-none text 0 in
     record {
-      read = subst (λ bs. IsRead text bs 0 0) (sym c.new-written.ensures.bytes) (read_none text (IsCharBoundary-start text c.utf8.text));
+      read = subst (λ bs. IsLighter text bs 0 0) (sym c.new-written.ensures.bytes) (read_none text (IsCharBoundary-start text c.utf8.text));
       bound = omega arith;
       label = λ h a. ap (λ bs. label_after c.args.is_in_table (known_as 0 false bs) (left_at h text 0)) e ∙ nothing_known c.args.is_in_table h text;
       tracked = λ h a. track_none h c.args.is_in_table text (0 ≡ 0) refl;

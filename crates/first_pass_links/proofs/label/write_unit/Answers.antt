@@ -1,6 +1,6 @@
 use Rattle.std.proofs.Common.{◌≡◌, ◌++◌, ◌∷◌, [], sym, ap, subst, ◌∙◌, if◌then◌else◌}
 use Rattle.std.specs.String.{string_bytes}
-use Rattle.first_pass_links.specs.Units.{part, IsRead}
+use Rattle.first_pass_links.specs.Units.{part, IsLighter}
 use Rattle.first_pass_links.proofs.Parts.{unit_kept, unit_changed, unit_read}
 use Rattle.first_pass_links.proofs.label.write_unit.Goals as goal
 use Rattle.first_pass_links.proofs.label.write_unit.Goals.{In_ok-push_str-2}
@@ -15,7 +15,7 @@ written c = c.in_ok-push_str-2.ensures.bytes
     (c.in_ok-push_str.ensures.bytes ∙ ap (λ xs. string_bytes c.args.written.now ++ xs) c.range.ensures.value)
 
 pub returns-clause-read : goal.returns-clause-read
-returns-clause-read c = subst (λ xs. IsRead c.args.text.now xs c.args.unit.resumed c.args.unit.next) (sym (written c))
+returns-clause-read c = subst (λ xs. IsLighter c.args.text.now xs c.args.unit.resumed c.args.unit.next) (sym (written c))
     (unit_read c.args.text.now _ c.args.from c.args.at c.args.unit c.requires.read c.requires.unit c.if-unit.false)
 
 pub returns-clause-bytes : goal.returns-clause-bytes
