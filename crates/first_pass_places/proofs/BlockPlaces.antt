@@ -15,7 +15,7 @@ use Rattle.first_pass_attributes.proofs.BlockFacts.{block-found}
 use Rattle.first_pass_places.specs.AttributeBlockPlaces.{upto_last, block_range}
 use Rattle.first_pass_places.specs.InfoStrings.{bytes_in}
 
--- the last byte of a value
+-- `upto_last` counts up to and including the byte at `n`, if that byte equals `c` and no later byte does
 last_is : (c : ℕ) (bs : List ℕ) (n : ℕ) → n < length bs → slice_index bs n ≡ c
     → ((k : ℕ) → n < k → k < length bs → (slice_index bs k == c) ≡ false) → upto_last c bs ≡ n + 1
 last_is c bs n within here later =
@@ -87,7 +87,7 @@ part_at text start n k h = get_or-take n (drop start text) k 0 h ∙ get_or-drop
 pub part_short : (text : List ℕ) (start n : ℕ) → length (take n (drop start text)) ≤ n
 part_short text start n = let size = length-take n (drop start text) in omega (arith, size)
 
--- a byte other than 0 is in the list
+-- an offset at which a list has a byte other than 0 is less than the length of the list
 pub is_in : (bs : List ℕ) (k c : ℕ) → slice_index bs k ≡ c → 0 < c → k < length bs
 is_in bs k c e h = elim (cases_lt k (length bs)) as (λ _. k < length bs) [
   | inl low ↦ low
@@ -131,7 +131,8 @@ part_of_part text s m a c order within =
     ap (λ n. take (c - a) (drop a (take n rest))) (sym whole) ∙ ap (take (c - a)) (drop-take a (m - a) rest)
     ∙ take-take (c - a) (m - a) (drop a rest) (omega arith) ∙ ap (take (c - a)) (drop-drop a s text) ∙ ap (λ n. take n (drop (s + a) text)) (sym same)
 
--- The block that is found in a part of a heading is between its last braces, if no closing brace follows the part.
+-- If no `}` of a heading follows a part of it, the block that is found in the part is between the last braces of the
+-- heading.
 pub found_between : (text : List ℕ) (start e s m : ℕ) (block : Braces) → start ≤ s → s + m ≤ e → attribute_block (take m (drop s text)) ≡ Some block
     → ((k : ℕ) → s + m ≤ k → k < e → (slice_index text k == right_brace) ≡ false)
     → bytes_in text (block_range text start e) ≡ slice_range (take m (drop s text)) (block.opening + 1) block.closing

@@ -23,7 +23,7 @@ use Rattle.first_pass_places.specs.FootnoteNodes.{AreFirstNodes, entry_bytes, en
 use Rattle.first_pass_places.proofs.FootnoteEntries.{all_after}
 use Rattle.first_pass_places.proofs.LabelRows.{derived_labels, labels_without_places}
 
--- the labels of a table with one more, if a look-up by order finds none with its folding
+-- the labels of a table after one definition is added are those that `with_label` gives
 label_after : (found : Bool) (e : CowStr × ℕ) (es more : List (CowStr × ℕ))
     → map entry_label (cond found (e ∷ es) (e ∷ more)) ≡ entry_label e ∷ map entry_label (cond found es more)
 label_after true e es more = refl

@@ -27,7 +27,7 @@ braces_found : (options : Options) (bs : List ℕ) (block : Braces) → heading_
 unfolding heading_attribute_block
 braces_found options bs block e = braces_if (has options heading_attributes) (attribute_block bs) block e
 
--- the attributes of the bytes that are found are those of the bytes in the range
+-- a heading's index names the attributes of `inside`, if that has the bytes between the braces of the block in `bs`
 pub named_by : (names : Names) (options : Options) (index : Option HeadingIndex) (bs inside : List ℕ) (o : Option Braces)
     → heading_attribute_block options bs ≡ o
     → ((block : Braces) → attribute_block bs ≡ Some block → inside ≡ slice_range bs (block.opening + 1) block.closing)

@@ -98,7 +98,8 @@ module _ (prefix : List ℕ → Option ℕ) (plain : IsPlainPrefix prefix) where
   same_escape b at [] h = h
   same_escape b at (c ∷ cs) h = first_by (ends_line c cs) (prefix cs) b c at (λ n. joined prefix (at + 1) n cs) (joined prefix (at + 1) 0 cs) cs h
 
-  -- a byte that begins no escape, from the places after it
+  -- if `label_len` finds the end of a label in the bytes after a byte that begins no escape, it also finds it from that
+  -- byte on
   abbrev EndsBeyond : ℕ → List ℕ → Type 0
   EndsBeyond at bs = (n : ℕ) → list_all is_prefix_byte (take n bs) ≡ true → IsEndAt at (joined prefix at n bs) (label_len bs)
 
@@ -131,7 +132,7 @@ module _ (prefix : List ℕ → Option ℕ) (plain : IsPlainPrefix prefix) where
   byte_by true at b bs e h beyond = line_by (prefix bs) at b bs refl e beyond
   byte_by false at b bs e h beyond = other_by (is_bracket b) at b bs refl h beyond
 
-  -- an escape, from the place after it
+  -- the same for an escape and the bytes after it
   escape_at : (at b c : ℕ) (bs : List ℕ) → begins_escape (b ∷ c ∷ bs) ≡ true → IsEndAt (at + 1 + 1) (joined prefix (at + 1 + 1) 0 bs) (label_len bs)
       → IsEndAt at (joined prefix at 0 (b ∷ c ∷ bs)) (label_len (b ∷ c ∷ bs))
   escape_at at b c bs h is =

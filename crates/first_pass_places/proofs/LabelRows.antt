@@ -29,10 +29,10 @@ use Rattle.first_pass_grammar.proofs.Each.EachLeaf.{HoldsOfBlocks, HoldsInBlocks
 use Rattle.first_pass_grammar.proofs.Each.EachRow.{IsEnd, HoldsOfRow, HoldsOfEachRow, each_row, tight_nodes}
 use Rattle.first_pass_grammar.proofs.Each.EachToken.{HoldsOfTokens, HoldsOfRaw}
 use Rattle.first_pass_grammar.proofs.Names.TokensNamed.{NamesWithin}
-use Rattle.first_pass_places.specs.FootnoteNodes.{label_in, labels_from}
+use Rattle.first_pass_places.specs.FootnoteNodes.{label_with_index, labels_from}
 use Rattle.first_pass_places.proofs.NamedHeads.{NamesItsLabel, AreNamedHeads, named_heads}
 
--- the label of a node, if it is a footnote definition; and those of nodes
+-- the label of a node, if it is a footnote definition; and the labels of a list of nodes
 abbrev body_label : Names → ItemBody → List (List ℕ)
 body_label names (FootnoteDefinition ix) = text_named names ix ∷ []
 body_label names _ = []
@@ -41,7 +41,7 @@ abbrev pub node_labels : Names → List (ℕ × Item) → List (List ℕ)
 node_labels names [] = []
 node_labels names (n ∷ nodes) = body_label names n.1.body ++ node_labels names nodes
 
-same_label : (names : Names) (index : ℕ) (body : ItemBody) → map (λ (p : List ℕ × ℕ). p.0) (label_in names index body) ≡ body_label names body
+same_label : (names : Names) (index : ℕ) (body : ItemBody) → map (λ (p : List ℕ × ℕ). p.0) (label_with_index names index body) ≡ body_label names body
 same_label names index (FootnoteDefinition ix) = refl
 same_label names index _ = refl
 
@@ -50,7 +50,7 @@ pub labels_without_places : (names : Names) (index : ℕ) (nodes : List (ℕ × 
 unfolding labels_from
 labels_without_places names index [] = refl
 labels_without_places names index (n ∷ nodes) =
-    map-append (λ (p : List ℕ × ℕ). p.0) (label_in names index n.1.body) (labels_from names (index + 1) nodes)
+    map-append (λ (p : List ℕ × ℕ). p.0) (label_with_index names index n.1.body) (labels_from names (index + 1) nodes)
     ∙ ap (λ (l : List (List ℕ)). l ++ map (λ (p : List ℕ × ℕ). p.0) (labels_from names (index + 1) nodes)) (same_label names index n.1.body)
     ∙ ap (λ (l : List (List ℕ)). body_label names n.1.body ++ l) (labels_without_places names (index + 1) nodes)
 
@@ -141,7 +141,7 @@ abbrev row_labels : Names → Rows → List (List ℕ)
 row_labels names End = []
 row_labels names (OneOf row inner next) = what_label names row.what ++ (row_labels names inner ++ row_labels names next)
 
--- they are those of their nodes
+-- the labels of rows are those of the rows' nodes
 row_nodes : (names : Names) (depth : ℕ) (tight loose : Bool) (start : ℕ) (w : What) (inner : Rows) → HoldsOfRow IsSilentBlock w inner
     → node_labels names (row_items depth tight loose start w) ≡ what_label names w
 row_nodes names depth true loose start (ALeaf block) inner h =
@@ -219,7 +219,7 @@ container_labels names last (DefinitionMarker columns) row inner next =
     regrouped (what_label names row.what) (row_labels names inner) (row_labels names (items_after joins next)) (row_labels names (list_after joins next))
     (row_labels names next) (joined_labels names joins next)
 
--- so do definitions that a title takes in
+-- the definitions that a title takes in, and then the rows beside them, have the labels of all rows in order
 abbrev FirstLabels : Names → Rows → Option Definitions → Type 0
 FirstLabels names rows None = Unit {0}
 FirstLabels names rows (Some ds) = row_labels names ds.items ++ row_labels names ds.beside ≡ row_labels names rows

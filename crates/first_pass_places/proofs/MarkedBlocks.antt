@@ -1,4 +1,4 @@
--- In a derived sequence, the first byte of each fenced code block that starts between two characters is ASCII. So is
+-- In a derived sequence, the first byte of each fenced code block that starts on a character boundary is ASCII. So is
 -- the second byte of each footnote definition, the `^`.
 use Rattle.std.proofs.Common.{◌≡◌, ℕ, ◌+◌, nat_lt, Bool, true, false, List, [], ◌∷◌, length, Option, Some, None, MatchOption, IfSome}
 use Rattle.std.proofs.Common.{IsCharBoundary, is_some, inl, inr, refl, sym, ap, subst, ◌∙◌, if◌then◌else◌}
@@ -51,11 +51,11 @@ use Rattle.first_pass_places.specs.RangeEnds.{IsAsciiAt}
 use Rattle.first_pass_places.proofs.FootnotePlaces.{head_begins, head_here}
 use Rattle.first_pass_places.proofs.RangeBoundaries.{ascii_fence, ascii_footnote}
 
--- an item that starts between two characters has an ASCII mark
+-- an item that starts on a character boundary meets `HasAsciiMark`
 abbrev pub IsMarked : List ℕ → Item → Type 0
 IsMarked text x = IsCharBoundary text x.start → HasAsciiMark x.body text x.start
 
--- the first of these items has such a mark
+-- the first of these items, if there is one, meets `IsMarked`
 abbrev pub FirstMarked : List ℕ → List (ℕ × Item) → Type 0
 FirstMarked text [] = Unit {0}
 FirstMarked text (x ∷ items) = IsMarked text x.1
@@ -73,13 +73,14 @@ AreMarkedHeads text Nil = Unit {0}
 AreMarkedHeads text (Then leaf next) = AreMarkedHeads text next
 AreMarkedHeads text (Node head e kids next) = OpenerMarked text head.start head.opener × AreMarkedHeads text kids × AreMarkedHeads text next
 
--- the first item of each leaf block in a sequence has one
+-- the first item of each leaf block in a sequence meets `IsMarked`
 unfoldable pub AreMarkedLeaves : List ℕ → Skeleton → Type 0
 AreMarkedLeaves text Nil = Unit {0}
 AreMarkedLeaves text (Then leaf next) = HoldsOfLeaf (FirstMarked text) leaf × AreMarkedLeaves text next
 AreMarkedLeaves text (Node head e kids next) = AreMarkedLeaves text kids × AreMarkedLeaves text next
 
--- where blocks continue is a place of the text; a task list item marker there is one
+-- If blocks continue at a place, it is a place of the text; if a marker is given there, the marker is a task list item
+-- marker.
 abbrev IsTask : ItemBody → Type 0
 IsTask body = is_task_marker body ≡ true
 

@@ -1,4 +1,4 @@
--- Each node of a derived tree that starts between two characters has an ASCII mark.
+-- Each node of a derived tree that starts on a character boundary meets `HasAsciiMark`.
 use Rattle.std.proofs.Common.{◌≡◌, ℕ, ◌+◌, ◌==◌, suc, Bool, true, false, List, [], ◌∷◌, ◌++◌, length, map, Option, Some, None, IsCharBoundary, sym, subst}
 use Rattle.std.proofs.Common.{if◌then◌else◌}
 use Rattle.std.specs.Option.{option_map, option_map_or}
@@ -39,7 +39,7 @@ IsPlain body = (text : List ℕ) (start : ℕ) → IsCharBoundary text start →
 abbrev IsAny : ItemBody → Type 0
 IsAny body = Unit {0}
 
--- only the first node of a leaf block may have one
+-- No node inside a leaf block has a mark of its own; only the block's first node may.
 markup_plain : (texts : List CowStr) (body : ItemBody) → is_markup body ≡ true → NamesWithin texts body → IsPlain body
 markup_plain texts (FencedCodeBlock ix) h k = absurd (false≢true h)
 markup_plain texts (FootnoteDefinition ix) h k = absurd (false≢true h)

@@ -32,7 +32,7 @@ NamesItsLabel names (ItemMarker byte number columns) = Unit {0}
 NamesItsLabel names (FootnoteMarker columns index label) = text_named names index ≡ label
 NamesItsLabel names (DefinitionMarker columns) = Unit {0}
 
--- the same of each container in a sequence, and of what opens at a place
+-- the same for each footnote definition in a sequence, and for the one that opens at a place
 unfoldable pub AreNamedHeads : Names → Skeleton → Type 0
 AreNamedHeads names Nil = Unit {0}
 AreNamedHeads names (Then leaf next) = AreNamedHeads names next

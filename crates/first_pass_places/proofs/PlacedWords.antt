@@ -1,4 +1,5 @@
--- The attributes at the places that are found are those of the words of the block.
+-- The attributes that `attributes_from_places` reads at the places from `attribute_places` are those of the words of
+-- the block.
 use Rattle.std.proofs.Common.{◌≡◌, ℕ, suc, ◌+◌, ◌-◌, ◌<◌, ◌≤◌, ◌==◌, ◌||◌, not, cond, Bool, true, false, nat_lt, List, [], ◌∷◌, ◌++◌, All, length}
 use Rattle.std.proofs.Common.{take, drop, map, filter, position, slice_index, Option, Some, None, refl, sym, ap, subst, ◌∙◌, arith, inl, inr, if◌then◌else◌}
 use Rattle.std.specs.List.{slice_range, slice_split, onto_first}
@@ -33,7 +34,7 @@ classes_at text places = map (name_at text) (filter (λ place. is_class place.ki
 abbrev keys_at : List ℕ → List AttributePlace → List (List ℕ × Option (List ℕ))
 keys_at text places = map (key_at text) (filter (λ place. is_key place.kind) places)
 
--- they are those of words
+-- the ids, classes and keys at these places are those of these words
 record AreSame (text : List ℕ) (places : List AttributePlace) (ws : List (List ℕ)) : Type 0 where
   ids : ids_at text places ≡ marked number_sign ws
   classes : classes_at text places ≡ marked full_stop ws
@@ -215,7 +216,7 @@ ranges_have text at (part ∷ parts) h =
     ap (λ t. map (bytes_in text) (cond t (range ∷ ranges) ranges)) (shifted at n)
     ∙ chosen (bytes_in text) range part ranges (filter is_attribute_word parts) (is_attribute_word part) bytes (ranges_have text (at + n + 1) parts h.1)
 
--- the words of two bytes or more are not empty
+-- dropping empty parts first does not change which words have two bytes or more
 kept_by : (t u : Bool) (part : List ℕ) (parts rest : List (List ℕ)) → (t ≡ false → u ≡ false) → is_attribute_word part ≡ u
     → filter is_attribute_word parts ≡ filter is_attribute_word rest
     → filter is_attribute_word (cond t (part ∷ parts) parts) ≡ cond u (part ∷ filter is_attribute_word rest) (filter is_attribute_word rest)

@@ -1,4 +1,4 @@
--- The range of what a node names begins and ends between two characters of a text in UTF-8.
+-- In a text in UTF-8, both ends of the range of an info string, a label or attributes are on character boundaries.
 use Rattle.std.proofs.Common.{◌≡◌, ℕ, zero, suc, ◌+◌, ◌-◌, ◌<◌, ◌≤◌, ◌==◌, not, Bool, true, false, List, [], ◌∷◌, All, length, take, drop, min, reverse, get_or}
 use Rattle.std.proofs.Common.{◌&&◌, nat_le, slice_index, Option, Some, None, IfSome, IsUtf8, IsCharBoundary, refl, sym, ap, subst, ◌∙◌, arith, inl, inr}
 use Rattle.std.proofs.Common.{if◌then◌else◌}
@@ -29,12 +29,12 @@ use Rattle.first_pass_grammar.specs.CodeBlocks.{trimmed, info_string}
 use Rattle.first_pass_places.specs.AttributeBlockPlaces.{attribute_range, block_range, has_attributes, upto_last}
 use Rattle.first_pass_places.specs.FootnoteLabels.{label_range}
 use Rattle.first_pass_places.specs.InfoStrings.{fence_end, info_range}
-use Rattle.first_pass_places.specs.NamePlaces.{HasAsciiMark, HasNameBetweenCharacters, HaveAsciiMarks, name_range, name_range_by}
-use Rattle.first_pass_places.specs.RangeEnds.{IsAsciiAt, IsBetweenCharacters}
+use Rattle.first_pass_places.specs.NamePlaces.{HasAsciiMark, HasNameOnBoundaries, HaveAsciiMarks, name_range, name_range_by}
+use Rattle.first_pass_places.specs.RangeEnds.{IsAsciiAt, EndsAreBoundaries}
 use Rattle.first_pass_places.proofs.BlockPlaces.{is_in, part_at, part_short}
 use Rattle.first_pass_places.proofs.InfoFacts.{begins_with, trimmed_length}
 
--- before a byte of ASCII, and at the end of the text
+-- an offset before an ASCII byte, or at the end of the text, is a character boundary
 ascii_between : (text : List ℕ) (at : ℕ) → at ≤ length text → IsAsciiAt text at → IsCharBoundary text at
 ascii_between text at within small = (within, λ less big. omega (arith, small, big))
 
@@ -58,7 +58,7 @@ ascii_fence text start count byte h =
     let here : slice_index bs 0 ≡ slice_index text start = get_or-drop start text 0 0 ∙ ap (slice_index text) same in
     omega (arith, small, here)
 
--- so does a label with its `[^`
+-- the second byte of the `[^` of a footnote definition is ASCII
 pub ascii_footnote : (text : List ℕ) (start : ℕ) → begins_footnote (drop start text) ≡ true → IsAsciiAt text (start + 1)
 ascii_footnote text start h =
     let rest : List ℕ = drop 1 (drop start text) in
@@ -135,7 +135,7 @@ trimmed_between text at u b =
 
 -- an info string
 pub info_between : (text : List ℕ) (start : ℕ) → IsUtf8 text → start ≤ length text → IsAsciiAt text start
-    → IsBetweenCharacters text (info_range text start)
+    → EndsAreBoundaries text (info_range text start)
 unfolding info_range info_string
 info_between text start u within small =
     let at : ℕ = fence_end text start in
@@ -145,7 +145,7 @@ info_between text start u within small =
     let last = trimmed_between text (at + white) u first in
     (first, subst (λ (bs : List ℕ). IsCharBoundary text (at + white + length (trimmed (take (line_len bs) bs)))) same last)
 
--- bytes end before one that stops them, or at the end of the text
+-- `n` is the length of the bytes, or the byte at `n` meets the test
 abbrev StopsAt : (ℕ → Bool) → List ℕ → ℕ → Type 0
 StopsAt stops bs n = (n ≤ length bs) × (n < length bs → stops (slice_index bs n) ≡ true)
 
@@ -196,12 +196,12 @@ label_end text at within =
       | inr past ↦ (let e : length text ≡ at + k = omega (arith, past, fits, size, within) in subst (IsCharBoundary text) e (IsCharBoundary-end text))
     ]
 
-pub label_between : (text : List ℕ) (start : ℕ) → IsUtf8 text → IsAsciiAt text (start + 1) → IsBetweenCharacters text (label_range text start)
+pub label_between : (text : List ℕ) (start : ℕ) → IsUtf8 text → IsAsciiAt text (start + 1) → EndsAreBoundaries text (label_range text start)
 unfolding label_range
 label_between text start u small =
     let first = label_start text start u small in (first, label_end text (min (length text) (start + 2)) first.0)
 
--- the last byte of a value is there
+-- if `upto_last` is not 0, the byte before it is in the list, and equals `c`
 last_at : (c : ℕ) (bs : List ℕ) (n : ℕ) → upto_last c bs ≡ suc n → (n < length bs) × (slice_index bs n ≡ c)
 last_at c bs n e =
     let other : ℕ → Bool = λ b. not (b == c) in
@@ -245,7 +245,7 @@ after_brace text start n j u b (suc k) e =
     subst (IsCharBoundary text) same (IsCharBoundary-after_ascii text (start + k) u there (omega (arith, here)))
 
 -- the block of a heading
-block_between : (text : List ℕ) (start e : ℕ) → IsUtf8 text → IsCharBoundary text start → IsBetweenCharacters text (block_range text start e)
+block_between : (text : List ℕ) (start e : ℕ) → IsUtf8 text → IsCharBoundary text start → EndsAreBoundaries text (block_range text start e)
 unfolding block_range
 block_between text start e u b =
     let n : ℕ = e - start in
@@ -253,34 +253,34 @@ block_between text start e u b =
     let closing : ℕ = upto_last right_brace part - 1 in
     (after_brace text start n closing u b (upto_last left_brace (take closing part)) refl, before_brace text start n b (upto_last right_brace part) refl)
 
-range_if : (text : List ℕ) (t : Bool) (range : Range ℕ) → IsBetweenCharacters text range
-    → IfSome (if t then Some range else None) (λ r. IsBetweenCharacters text r)
+range_if : (text : List ℕ) (t : Bool) (range : Range ℕ) → EndsAreBoundaries text range
+    → IfSome (if t then Some range else None) (λ r. EndsAreBoundaries text r)
 range_if text true range h = h
 range_if text false range h = tt
 
 pub attributes_between : (text : List ℕ) (x : Item) → IsUtf8 text → IsCharBoundary text x.start
-    → IfSome (attribute_range text x) (λ range. IsBetweenCharacters text range)
+    → IfSome (attribute_range text x) (λ range. EndsAreBoundaries text range)
 attributes_between text x u b = range_if text (has_attributes x.body) (block_range text x.start x.«end») (block_between text x.start x.«end» u b)
 
 -- what a node names
 name_by : (body : ItemBody) (text : List ℕ) (x : Item) → IsUtf8 text → x.start ≤ length text → HasAsciiMark body text x.start
-    → IfSome (name_range_by body text x) (λ range. IsBetweenCharacters text range)
+    → IfSome (name_range_by body text x) (λ range. EndsAreBoundaries text range)
 name_by (FencedCodeBlock ix) text x u within mark = info_between text x.start u within mark
 name_by (FootnoteDefinition ix) text x u within mark = label_between text x.start u mark
 name_by _ text x u within mark = attributes_between text x u mark
 
 pub name_between : (text : List ℕ) (x : Item) (found : Option (Range ℕ)) → found ≡ name_range text x → x.start ≤ x.«end» → x.«end» ≤ length text
-    → IsUtf8 text → HasAsciiMark x.body text x.start → IfSome found (λ range. IsBetweenCharacters text range)
+    → IsUtf8 text → HasAsciiMark x.body text x.start → IfSome found (λ range. EndsAreBoundaries text range)
 name_between text x found is order within u mark =
     let starts : x.start ≤ length text = omega (arith, order, within) in
-    subst (λ (o : Option (Range ℕ)). IfSome o (λ range. IsBetweenCharacters text range)) (sym is) (name_by x.body text x u starts mark)
+    subst (λ (o : Option (Range ℕ)). IfSome o (λ range. EndsAreBoundaries text range)) (sym is) (name_by x.body text x u starts mark)
 
 -- what each of these nodes names
 pub names_between : (text : List ℕ) (nodes : List (ℕ × Item)) → IsUtf8 text → HaveAsciiMarks text nodes
-    → All (λ n. HasNameBetweenCharacters text n.1) nodes
-names_between text [] u h = All-nil (λ (n : ℕ × Item). HasNameBetweenCharacters text n.1)
+    → All (λ n. HasNameOnBoundaries text n.1) nodes
+names_between text [] u h = All-nil (λ (n : ℕ × Item). HasNameOnBoundaries text n.1)
 names_between text (n ∷ nodes) u h =
-    All-cons (λ (m : ℕ × Item). HasNameBetweenCharacters text m.1) n nodes
+    All-cons (λ (m : ℕ × Item). HasNameOnBoundaries text m.1) n nodes
     (λ order within start. name_between text n.1 (name_range text n.1) refl order within u (h.0 start)) (names_between text nodes u h.1)
 
 -- a node of another kind

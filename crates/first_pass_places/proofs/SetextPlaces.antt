@@ -41,7 +41,7 @@ use Rattle.first_pass_places.proofs.HeadingPlaces.{named_by}
 use Rattle.first_pass_places.proofs.PrefixBytes.{is_prefix_byte, Skips, line_skips}
 use Rattle.first_pass_places.proofs.TokenBraces.{HasNoBrace, both_none, nothing_none, Reaches, reach_further, tokens_end, line_reaches, later_end}
 
--- a line after some bytes of its content
+-- if a line begins with `n` bytes of content, its length is `n` plus the length of what is left of it
 content_run : (n : ℕ) (bs : List ℕ) → n ≤ length bs → ((k : ℕ) → k < n → is_content (slice_index bs k) ≡ true) → line_len bs ≡ n + line_len (drop n bs)
 content_run zero bs within h = omega arith
 content_run (suc n) [] within h = absurd (omega arith)

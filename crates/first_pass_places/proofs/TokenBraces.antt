@@ -1,4 +1,4 @@
--- No closing brace follows the last token of a line in that line.
+-- In a line, no closing brace follows the last token.
 use Rattle.std.proofs.Common.{◌≡◌, ℕ, zero, suc, ◌+◌, ◌-◌, ◌%◌, ◌<◌, ◌≤◌, ◌==◌, ◌&&◌, ◌||◌, Bool, true, false, nat_lt, nat_le, min, List, [], ◌∷◌, length, drop}
 use Rattle.std.proofs.Common.{get_or, slice_index, Option, refl, sym, ap, subst, ◌∙◌, arith, inl, inr, if◌then◌else◌}
 use mathlib.Core.List.{reverse}
@@ -207,7 +207,7 @@ ending_none : (s : Inline) (end : ℕ) → s.row ≡ false → content_ends_at s
 unfolding content_ends_at line_end_len
 ending_none s end row ended = ending_by (nat_le (length s.text) end) s end refl row ended
 
--- after the last token of a line no closing brace is in the line
+-- in a line, no closing brace follows the last token
 pub line_reaches : (texts : List CowStr) (s : Inline) (tokens : List Item) (answer : ℕ × Option Item) (after : MathBraces) (e : ℕ)
     → AreLineTokens texts s tokens answer after → e ≤ s.start → HasNoBrace s.text e s.start → Reaches s.text e tokens answer.0
 line_reaches texts s tokens answer after e line order none =

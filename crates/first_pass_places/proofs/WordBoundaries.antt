@@ -1,4 +1,4 @@
--- The name and the value of an attribute begin and end between two characters of a text in UTF-8.
+-- In a text in UTF-8, the name and the value of an attribute begin and end on character boundaries.
 use Rattle.std.proofs.Common.{◌≡◌, ℕ, zero, suc, ◌+◌, ◌-◌, ◌<◌, ◌≤◌, ◌==◌, not, Bool, true, false, List, [], ◌∷◌, ◌++◌, All, length, drop, position}
 use Rattle.std.proofs.Common.{slice_index, slice_index_or, Option, Some, None, IfSome, IsUtf8, IsCharBoundary, refl, sym, ap, subst, ◌∙◌, arith, inl, inr}
 use Rattle.std.proofs.Common.{if◌then◌else◌}
@@ -20,7 +20,7 @@ use Rattle.first_pass_places.specs.AttributeBlockPlaces.{attribute_range}
 use Rattle.first_pass_places.specs.AttributePlaces.{range_of, is_word_range, word_range, word_ranges, place_of, key_with, key_place}
 use Rattle.first_pass_places.specs.AttributePlaces.{attribute_place, places_in, attribute_places}
 use Rattle.first_pass_places.specs.InfoStrings.{bytes_in}
-use Rattle.first_pass_places.specs.RangeEnds.{IsBetweenCharacters, HasWholeCharacters}
+use Rattle.first_pass_places.specs.RangeEnds.{EndsAreBoundaries, HasWholeCharacters}
 use Rattle.first_pass_places.proofs.BlockPlaces.{is_in, part_at, part_short}
 use Rattle.first_pass_places.proofs.RangeBoundaries.{attributes_between}
 use Rattle.first_pass_places.proofs.WordPlaces.{next_word, no_words}
@@ -28,7 +28,7 @@ use Rattle.first_pass_places.proofs.WordPlaces.{next_word, no_words}
 separator_is_ascii : (b : ℕ) → is_between_words b ≡ true → b < 128
 separator_is_ascii b h = grind (arith, nat_tests, h)
 
--- a word ends, and the next one begins, between two characters
+-- a word ends on a character boundary, and the next word begins on one
 word_end : (text : List ℕ) (from end n : ℕ) → IsUtf8 text → IsCharBoundary text end → from < end
     → n ≡ prefix_len (λ b. not (is_between_words b)) (slice_range text from end)
     → IsCharBoundary text (from + n) × (from + n + 1 ≤ end → IsCharBoundary text (from + n + 1))
@@ -55,22 +55,22 @@ word_end text from end n u stop order size =
     ]
 
 words_between : (fuel : ℕ) (text : List ℕ) (from end : ℕ) → IsUtf8 text → end ≤ from + fuel → IsCharBoundary text end
-    → (from ≤ end → IsCharBoundary text from) → All (IsBetweenCharacters text) (word_ranges text from end)
+    → (from ≤ end → IsCharBoundary text from) → All (EndsAreBoundaries text) (word_ranges text from end)
 words_between zero text from end u few stop start =
-    All-same (IsBetweenCharacters text) (word_ranges text from end) [] (no_words text from end (omega (arith, few))) (All-nil (IsBetweenCharacters text))
+    All-same (EndsAreBoundaries text) (word_ranges text from end) [] (no_words text from end (omega (arith, few))) (All-nil (EndsAreBoundaries text))
 words_between (suc fuel) text from end u few stop start =
-    elim (cases_lt from end) as (λ _. All (IsBetweenCharacters text) (word_ranges text from end)) [
+    elim (cases_lt from end) as (λ _. All (EndsAreBoundaries text) (word_ranges text from end)) [
       | inl less ↦ (
           let n : ℕ = prefix_len (λ b. not (is_between_words b)) (slice_range text from end) in
           let ends = word_end text from end n u stop less refl in
-          let first : All (IsBetweenCharacters text) (word_range from (from + n)) =
-          All-filter is_word_range (IsBetweenCharacters text) (range_of from (from + n) ∷ [])
-          (All-cons (IsBetweenCharacters text) (range_of from (from + n)) [] (start (omega (arith, less)), ends.0) (All-nil (IsBetweenCharacters text))) in
+          let first : All (EndsAreBoundaries text) (word_range from (from + n)) =
+          All-filter is_word_range (EndsAreBoundaries text) (range_of from (from + n) ∷ [])
+          (All-cons (EndsAreBoundaries text) (range_of from (from + n)) [] (start (omega (arith, less)), ends.0) (All-nil (EndsAreBoundaries text))) in
           let later = words_between fuel text (from + n + 1) end u (omega (arith, few)) stop ends.1 in
-          All-same (IsBetweenCharacters text) (word_ranges text from end) (word_range from (from + n) ++ word_ranges text (from + n + 1) end)
+          All-same (EndsAreBoundaries text) (word_ranges text from end) (word_range from (from + n) ++ word_ranges text (from + n + 1) end)
           (next_word text from end less stop.0)
-          (All-append (IsBetweenCharacters text) (word_range from (from + n)) (word_ranges text (from + n + 1) end) first later))
-      | inr past ↦ All-same (IsBetweenCharacters text) (word_ranges text from end) [] (no_words text from end past) (All-nil (IsBetweenCharacters text))
+          (All-append (EndsAreBoundaries text) (word_range from (from + n)) (word_ranges text (from + n + 1) end) first later))
+      | inr past ↦ All-same (EndsAreBoundaries text) (word_ranges text from end) [] (no_words text from end past) (All-nil (EndsAreBoundaries text))
     ]
 
 -- a byte of ASCII in a word
@@ -81,15 +81,15 @@ mark_there text range k c u here some small =
     let ascii : slice_index text (range.start + k) < 128 = omega (arith, here, small) in
     (IsCharBoundary-before_ascii text (range.start + k) there ascii, IsCharBoundary-after_ascii text (range.start + k) u there ascii)
 
-after_mark : (text : List ℕ) (range : Range ℕ) (c : ℕ) → IsUtf8 text → IsBetweenCharacters text range → (slice_index text range.start == c) ≡ true
-    → 0 < c → c < 128 → IsBetweenCharacters text (range_of (range.start + 1) range.«end»)
+after_mark : (text : List ℕ) (range : Range ℕ) (c : ℕ) → IsUtf8 text → EndsAreBoundaries text range → (slice_index text range.start == c) ≡ true
+    → 0 < c → c < 128 → EndsAreBoundaries text (range_of (range.start + 1) range.«end»)
 after_mark text range c u h e some small =
     let same : range.start + 0 ≡ range.start = omega arith in
     let next : range.start + 0 + 1 ≡ range.start + 1 = omega arith in
     let here = ap (slice_index text) same ∙ eqb-true (slice_index text range.start) c e in
     (subst (IsCharBoundary text) next (mark_there text range 0 c u here some small).1, h.1)
 
-key_by : (text : List ℕ) (range : Range ℕ) (o : Option ℕ) → IsUtf8 text → IsBetweenCharacters text range
+key_by : (text : List ℕ) (range : Range ℕ) (o : Option ℕ) → IsUtf8 text → EndsAreBoundaries text range
     → position (λ b. b == equals_sign) (bytes_in text range) ≡ o
     → HasWholeCharacters text (option_map_or (key_with range) o (place_of Key range))
 key_by text range None u h e = (h, tt)
@@ -102,7 +102,7 @@ key_by text range (Some at) u h e =
     let ends = mark_there text range at equals_sign u here (omega arith) (omega arith) in
     ((h.0, ends.0), (ends.1, h.1))
 
-place_by : (text : List ℕ) (range : Range ℕ) (t v : Bool) → IsUtf8 text → IsBetweenCharacters text range
+place_by : (text : List ℕ) (range : Range ℕ) (t v : Bool) → IsUtf8 text → EndsAreBoundaries text range
     → (slice_index text range.start == number_sign) ≡ t → (slice_index text range.start == full_stop) ≡ v
     → HasWholeCharacters text (if t then place_of Id (range_of (range.start + 1) range.«end»)
     else (if v then place_of Class (range_of (range.start + 1) range.«end») else key_place text range))
@@ -110,7 +110,7 @@ place_by text range true v u h e f = (after_mark text range number_sign u h e (o
 place_by text range false true u h e f = (after_mark text range full_stop u h f (omega arith) (omega arith), tt)
 place_by text range false false u h e f = key_by text range (position (λ b. b == equals_sign) (bytes_in text range)) u h refl
 
-places_by : (text : List ℕ) (o : Option (Range ℕ)) → IsUtf8 text → IfSome o (λ range. IsBetweenCharacters text range)
+places_by : (text : List ℕ) (o : Option (Range ℕ)) → IsUtf8 text → IfSome o (λ range. EndsAreBoundaries text range)
     → All (HasWholeCharacters text) (option_map_or (places_in text) o [])
 places_by text None u h = All-nil (HasWholeCharacters text)
 places_by text (Some block) u h =

@@ -15,7 +15,7 @@ use Rattle.first_pass_attributes.specs.Attributes.{is_between_words}
 use Rattle.first_pass_places.specs.AttributeBlockPlaces.{attribute_range}
 use Rattle.first_pass_places.specs.AttributePlaces.{range_of, is_word_range, word_range, ranges_from, word_ranges, attribute_place, places_in, attribute_places}
 
--- no words are in no bytes
+-- an empty range has no words
 no_word_range : (at : ℕ) → word_range at (at + 0) ≡ []
 no_word_range at = grind (arith, nat_tests)
 
@@ -79,11 +79,11 @@ next_word text from end order within =
           ∙ ap (λ l. word_range from (from + n) ++ l) (sym (no_words text (from + n + 1) end (omega (arith, whole)))))
     ]
 
--- a word that has an attribute is among the words
+-- a range of two bytes or more gives one word range
 pub one_word_range : (from next : ℕ) → from + 1 < next → length (word_range from next) ≡ 1
 one_word_range from next h = grind (arith, nat_tests, h)
 
--- the words of a heading's block have its attributes
+-- if a block has words of two bytes or more, the heading has attributes
 pub words_are_places : (text : List ℕ) (x : Item) (block : Range ℕ) → attribute_range text x ≡ Some block
     → 0 < length (word_ranges text block.start block.«end») → 0 < length (attribute_places text x)
 words_are_places text x block e some =

@@ -7,11 +7,11 @@ use Rattle.first_pass_items.specs.declared.item.Item.{Item}
 use Rattle.first_pass_items.specs.declared.item.ItemBody.{ItemBody}
 use Rattle.first_pass_items.specs.declared.item.ItemBody.TheVariants.{Heading}
 
--- the number of bytes up to the last one of this value, that one included; 0 if there is none (this project)
+-- the number of bytes up to and including the last byte that equals `byte`; 0 if no byte does (this project)
 abbrev pub upto_last : ℕ → List ℕ → ℕ
 upto_last byte bs = length bs - suffix_len (λ b. not (b == byte)) bs
 
--- the range between the last `}` of the bytes from one offset up to another, and the last `{` before it (this project)
+-- in the bytes from one offset up to another: the range between the last `}` and the last `{` before it (this project)
 unfoldable pub block_range : List ℕ → ℕ → ℕ → Range ℕ
 block_range text start «end» =
     let heading : List ℕ = slice_range text start «end» in

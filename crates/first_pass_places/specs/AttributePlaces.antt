@@ -37,8 +37,7 @@ word_ranges text start «end» = filter is_word_range (ranges_from start (slice_
 abbrev pub place_of : AttributeKind → Range ℕ → AttributePlace
 place_of kind range = record { kind = kind; name = range; value = None }
 
--- the place of a key in a range that has a `=` after this number of bytes, and of the value after that `=` (this
--- project)
+-- the ranges of a key and its value in a range; a `=` after `at` bytes separates them (this project)
 abbrev pub key_with : Range ℕ → ℕ → AttributePlace
 key_with range at = record {
   kind = Key;

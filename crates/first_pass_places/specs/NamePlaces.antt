@@ -1,4 +1,4 @@
--- The range in the text of what a node names by an index (this project).
+-- The range that an info string, a footnote's label or a heading's attributes have in the text (this project).
 use Rattle.std.specs.Prelude.{◌≡◌, ℕ, ◌+◌, ◌-◌, ◌≤◌, false, List, [], ◌∷◌, length, drop, slice_get, Option, Some, None, IfSome, IsCharBoundary}
 use Rattle.std.specs.declared.ops.Range.{Range}
 use Rattle.first_pass_items.specs.declared.item.CowIndex.{CowIndex}
@@ -14,40 +14,41 @@ use Rattle.first_pass_grammar.specs.Names.{Names, NamesText}
 use Rattle.first_pass_places.specs.AttributeBlockPlaces.{attribute_range, block_range}
 use Rattle.first_pass_places.specs.FootnoteLabels.{label_range}
 use Rattle.first_pass_places.specs.InfoStrings.{bytes_in, info_range}
-use Rattle.first_pass_places.specs.RangeEnds.{IsAsciiAt, IsBetweenCharacters}
+use Rattle.first_pass_places.specs.RangeEnds.{IsAsciiAt, EndsAreBoundaries}
 
--- the range in the text of what a node names, if the node has this body (this project)
+-- the range that a node's info string, label or attributes have in the text, if the node has this body (this project)
 abbrev pub name_range_by : ItemBody → List ℕ → Item → Option (Range ℕ)
 name_range_by (FencedCodeBlock ix) text x = Some (info_range text x.start)
 name_range_by (FootnoteDefinition ix) text x = Some (label_range text x.start)
 name_range_by _ text x = attribute_range text x
 
--- the range in the text of what a node names: of an info string, of the label of a footnote, or of attributes (this
+-- the range that a node's info string, label or attributes have in the text, if the node names one of these (this
 -- project)
 abbrev pub name_range : List ℕ → Item → Option (Range ℕ)
 name_range text x = name_range_by x.body text x
 
 -- The mark of a node with this body that begins at an offset is ASCII: the first byte of its code fence (CommonMark
--- 4.5), or the second byte of the `[^` of a footnote definition. Any other node begins between two characters (this
+-- 4.5), or the second byte of the `[^` of a footnote definition. Any other node begins on a character boundary (this
 -- project).
 abbrev pub HasAsciiMark : ItemBody → List ℕ → ℕ → Type 0
 HasAsciiMark (FencedCodeBlock ix) text start = IsAsciiAt text start
 HasAsciiMark (FootnoteDefinition ix) text start = IsAsciiAt text (start + 1)
 HasAsciiMark _ text start = IsCharBoundary text start
 
--- each of these nodes that starts between two characters has an ASCII mark (this project)
+-- each of these nodes that starts on a character boundary meets `HasAsciiMark` (this project)
 abbrev pub HaveAsciiMarks : List ℕ → List (ℕ × Item) → Type 0
 HaveAsciiMarks text [] = Unit {0}
 HaveAsciiMarks text (n ∷ nodes) = (IsCharBoundary text n.1.start → HasAsciiMark n.1.body text n.1.start) × HaveAsciiMarks text nodes
 
--- the range of what a node names begins and ends between two characters, if the node is in the text and begins between
--- two characters (this project)
-abbrev pub HasNameBetweenCharacters : List ℕ → Item → Type 0
-HasNameBetweenCharacters text x =
-    x.start ≤ x.«end» → x.«end» ≤ length text → IsCharBoundary text x.start → IfSome (name_range text x) (λ range. IsBetweenCharacters text range)
+-- both ends of the range of a node's info string, label or attributes are on character boundaries, if the node is in
+-- the text and starts on a character boundary (this project)
+abbrev pub HasNameOnBoundaries : List ℕ → Item → Type 0
+HasNameOnBoundaries text x =
+    x.start ≤ x.«end» → x.«end» ≤ length text → IsCharBoundary text x.start → IfSome (name_range text x) (λ range. EndsAreBoundaries text range)
 
--- The index names the label that is read from the start of a range, up to the `]` directly after it. The prefix that
--- this function finds is left out of each further line (CommonMark 6.3, and this project).
+-- The index names the label that is read from the start of a range, up to the `]` directly after the range. For each
+-- further line, `prefix` gives the number of bytes at its start that are not in the label (CommonMark 6.3, and this
+-- project).
 pub record NamesLabelAt (names : Names) (prefix : List ℕ → Option ℕ) (ix : CowIndex) (text : List ℕ) (range : Range ℕ) : Type 0 where
   pub label : List ℕ
   pub reads : label_at prefix false (drop range.start text) ≡ Some (range.«end» + 1 - range.start, label)
@@ -58,19 +59,20 @@ abbrev pub NamesAttributesIn : Names → Option HeadingIndex → List ℕ → Ty
 NamesAttributesIn names None bs = Unit {0}
 NamesAttributesIn names (Some ix) bs = slice_get names.headings ix.0 ≡ Some (attributes_of bs)
 
--- What a node names is what is read from its range in the text: an info string (CommonMark 4.5), the label of a
--- footnote without some prefixes of its further lines, or attributes (this project).
+-- Reading the range that an info string (CommonMark 4.5), a label or attributes have gives what a node with this body
+-- names. Of a label, some prefix of each further line is left out (this project).
 abbrev pub IsNamedBy : Names → List ℕ → Item → ItemBody → Type 0
 IsNamedBy names text x (FencedCodeBlock ix) = NamesInfo names ix (bytes_in text (info_range text x.start))
 IsNamedBy names text x (FootnoteDefinition ix) = (prefix : List ℕ → Option ℕ) × NamesLabelAt names prefix ix text (label_range text x.start)
 IsNamedBy names text x (Heading level index) = NamesAttributesIn names index (bytes_in text (block_range text x.start x.«end»))
 IsNamedBy names text x _ = Unit {0}
 
--- what a node names is what is read from its range in the text (this project)
+-- reading the range that a node's info string, label or attributes have gives what the node names (this project)
 abbrev pub IsReadFromText : Names → List ℕ → Item → Type 0
 IsReadFromText names text x = IsNamedBy names text x x.body
 
--- what the first of these nodes names is what is read from its range in the text (this project)
+-- for the first of these nodes, if there is one, reading the range that its info string, label or attributes have gives
+-- what the node names (this project)
 abbrev pub FirstIsReadFromText : Document → List (ℕ × Item) → Type 0
 FirstIsReadFromText d [] = Unit {0}
 FirstIsReadFromText d (x ∷ items) = IsReadFromText d.names d.text x.1

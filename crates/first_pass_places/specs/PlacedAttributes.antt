@@ -1,4 +1,4 @@
--- The attributes that a text has at the places that are found (this project).
+-- The attributes that the ranges of attribute places give (this project).
 use Rattle.std.specs.Prelude.{ℕ, Bool, true, false, List, map, filter, Option, None}
 use Rattle.std.specs.Option.{option_map}
 use Rattle.first_pass_attributes.specs.Attributes.{Attributes, last_or}

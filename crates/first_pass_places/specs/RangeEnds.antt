@@ -4,14 +4,14 @@ use Rattle.std.specs.declared.ops.Range.{Range}
 use Rattle.first_pass_items.specs.Bytes.{ascii_end}
 use Rattle.first_pass_places.specs.declared.attributes.AttributePlace.{AttributePlace}
 
--- both ends of a range are between two characters (this project)
-abbrev pub IsBetweenCharacters : List ℕ → Range ℕ → Type 0
-IsBetweenCharacters text range = IsCharBoundary text range.start × IsCharBoundary text range.«end»
+-- both ends of a range are on character boundaries (this project)
+abbrev pub EndsAreBoundaries : List ℕ → Range ℕ → Type 0
+EndsAreBoundaries text range = IsCharBoundary text range.start × IsCharBoundary text range.«end»
 
 -- the byte at an offset, if there is one, is a character of ASCII (this project)
 abbrev pub IsAsciiAt : List ℕ → ℕ → Type 0
 IsAsciiAt text at = slice_index text at < ascii_end
 
--- the name of an attribute, and its value, if it has one, begin and end between two characters (this project)
+-- the name of an attribute, and its value, if it has one, begin and end on character boundaries (this project)
 abbrev pub HasWholeCharacters : List ℕ → AttributePlace → Type 0
-HasWholeCharacters text place = IsBetweenCharacters text place.name × IfSome place.value (IsBetweenCharacters text)
+HasWholeCharacters text place = EndsAreBoundaries text place.name × IfSome place.value (EndsAreBoundaries text)

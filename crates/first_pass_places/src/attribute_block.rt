@@ -3,15 +3,16 @@
 ghost use Rattle.std.specs.Prelude.{◌≡◌, ◌≤◌, ◌==◌, not, length, IfSome, IsCharBoundary};
 ghost use Rattle.std.specs.List.{suffix_len};
 ghost use Rattle.first_pass_places.specs.AttributeBlockPlaces.{attribute_range, upto_last};
-ghost use Rattle.first_pass_places.specs.RangeEnds.{IsBetweenCharacters};
+ghost use Rattle.first_pass_places.specs.RangeEnds.{EndsAreBoundaries};
 
 use first_pass_items::item::{Item, ItemBody};
 use std::ops::Range;
 
 /// Returns the range of the bytes between the braces of a heading's attribute block, as byte offsets into the text.
-/// Returns `None` if the node is not a heading, or has no attribute block. The block is at the end of the
-/// heading's line; of a setext heading, at the end of the last line before the underline (this project). If the heading
-/// starts between two characters, then both ends of the range are between two as well.
+/// Returns `None` if the node is not a heading, or has no index of attributes. In a tree, a heading without the index
+/// has no attribute block. In the heading's text, only white space, line endings or a final backslash of a setext
+/// heading follow the block (this project). If the heading starts on a character boundary, both ends of the range are
+/// on character boundaries too.
 pub fn attribute_block_range(text: &str, heading: &Item) -> Option<Range<usize>>
     requires order { heading.now.start ≤ heading.now.«end» }
     requires within { heading.now.«end» ≤ length text.now }
@@ -19,7 +20,7 @@ pub fn attribute_block_range(text: &str, heading: &Item) -> Option<Range<usize>>
     ensures order { IfSome result (λ range. range.start ≤ range.«end») }
     ensures within { IfSome result (λ range. range.«end» ≤ length text.now) }
     ensures boundary { IsCharBoundary text.now heading.now.start
-        → IfSome result (λ range. IsBetweenCharacters text.now range) }
+        → IfSome result (λ range. EndsAreBoundaries text.now range) }
 {
     attribute_range(text.as_bytes(), heading)
 }
@@ -42,7 +43,7 @@ pub(crate) fn attribute_range(text: &[u8], heading: &Item) -> Option<Range<usize
     Some(heading.start + opening..heading.start + closing)
 }
 
-// The number of bytes up to the last one of this value, that one included; 0 if there is none.
+// The number of bytes up to and including the last byte that equals `byte`; 0 if no byte does.
 fn upto_last(bytes: &[u8], byte: u8) -> usize
     ensures value { result ≡ upto_last byte bytes.now }
     ensures within { result ≤ length bytes.now }
@@ -50,7 +51,7 @@ fn upto_last(bytes: &[u8], byte: u8) -> usize
     bytes.len() - scan_after_last(bytes, byte)
 }
 
-// The number of bytes after the last one of this value, or the length of `bytes`.
+// The number of bytes after the last byte that equals `byte`; if no byte does, the length of `bytes`.
 fn scan_after_last(bytes: &[u8], byte: u8) -> usize
     ensures value { result ≡ suffix_len (λ b. not (b == byte)) bytes.now }
     ensures within { result ≤ length bytes.now }

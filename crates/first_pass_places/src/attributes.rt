@@ -34,9 +34,10 @@ pub struct AttributePlace {
 }
 
 /// Returns the ranges of each attribute in the attribute block of a heading, in the order of the text. Words of one
-/// byte are left out. An id that a later one replaces is not left out. The result is empty if the node is not a
-/// heading, or has no attribute block. If the heading starts between two characters, then both ends of each range are
-/// between two as well. Fails only if an allocation fails. Without an attribute it doesn't fail (this project).
+/// byte are left out. The result also has each id that a later id replaces. The result is empty if the node is not a
+/// heading, or has no index of attributes. In a tree, a heading without the index has no attribute block. If the
+/// heading starts on a character boundary, both ends of each range are on character boundaries too. Fails only if an
+/// allocation fails. Without an attribute it doesn't fail (this project).
 pub fn attribute_ranges(
     alloc: Global,
     text: &str,
@@ -70,7 +71,7 @@ fn attribute_places(
     Ok(places)
 }
 
-// Adds where the attributes between two offsets are written.
+// Adds the ranges of the attributes between two offsets to `places`.
 fn add_words(
     places: &mut Vec<AttributePlace>,
     text: &[u8],
@@ -91,7 +92,7 @@ fn add_words(
     Ok(())
 }
 
-// Adds where the attribute of a word is written, if the word has two bytes or more.
+// If the word has two bytes or more, adds the ranges of its attribute to `places`.
 fn add_word(
     places: &mut Vec<AttributePlace>,
     text: &[u8],

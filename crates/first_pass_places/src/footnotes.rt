@@ -2,7 +2,7 @@
 
 ghost use Rattle.std.specs.Prelude.{◌<◌, length, IfOk, OnOk, OnErr};
 ghost use Rattle.first_pass_names.specs.TableEntries.{names_of};
-ghost use Rattle.first_pass_places.specs.FootnoteNodes.{AreFirstNodes, AddsNode, label_in, labels_from};
+ghost use Rattle.first_pass_places.specs.FootnoteNodes.{AreFirstNodes, AddsNode, label_with_index, labels_from};
 
 use first_pass_items::cow_str::CowStr;
 use first_pass_items::item::{Item, ItemBody};
@@ -11,9 +11,9 @@ use first_pass_labels::label_table::LabelTable;
 use first_pass_names::items::Allocations;
 use std::alloc::{AllocError, Global};
 
-/// Returns the labels of the footnote definitions among a tree's nodes, each with the index of its first definition's
-/// node. Labels match by their foldings, as in the table of footnotes. Fails only if an allocation fails. Without a
-/// footnote definition it doesn't fail (this project).
+/// Returns a table of the labels of the footnote definitions in `nodes`. Each label has the position in `nodes` of the
+/// first definition with a matching label. Labels match by their foldings, as in the table of footnotes. Fails only if
+/// an allocation fails. Without a footnote definition it doesn't fail (this project).
 pub fn footnote_nodes<'d>(
     alloc: Global,
     nodes: &[(usize, Item)],
@@ -29,7 +29,8 @@ pub fn footnote_nodes<'d>(
     Ok(table)
 }
 
-// Adds the label of a node with this index, if the node is a footnote definition, unless the table has the label.
+// If the node is a footnote definition, adds its label with this index, unless a label in the table has the same
+// folding.
 fn add_footnote<'d>(
     alloc: Global,
     table: &mut LabelTable<'d, usize>,
@@ -38,7 +39,7 @@ fn add_footnote<'d>(
     allocs: &'d Allocations<'_>,
 ) -> Result<(), AllocError>
     ensures value { OnOk result (AddsNode (names_of allocs.now) index item.now table.old table.new) }
-    ensures err { OnErr result (0 < length (label_in (names_of allocs.now) index item.now.body)) }
+    ensures err { OnErr result (0 < length (label_with_index (names_of allocs.now) index item.now.body)) }
 {
     let ItemBody::FootnoteDefinition(label) = item.body else {
         return Ok(());

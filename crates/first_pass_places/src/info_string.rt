@@ -5,7 +5,7 @@ ghost use Rattle.std.specs.List.{suffix_len};
 ghost use Rattle.first_pass_lines.specs.Lines.{is_ascii_white};
 ghost use Rattle.first_pass_scan.specs.LeafLines.{run_len};
 ghost use Rattle.first_pass_places.specs.InfoStrings.{info_range};
-ghost use Rattle.first_pass_places.specs.RangeEnds.{IsAsciiAt, IsBetweenCharacters};
+ghost use Rattle.first_pass_places.specs.RangeEnds.{IsAsciiAt, EndsAreBoundaries};
 
 use first_pass_items::item::Item;
 use first_pass_lines::lines::{is_ascii_white, scan_whitespace_no_nl};
@@ -15,14 +15,14 @@ use std::ops::Range;
 
 /// Returns the range of the info string of a fenced code block, as byte offsets into the text. White space at both ends
 /// is left out. If the fence has no info string, the range is empty, after the fence and the white space there
-/// (CommonMark 4.5). If the byte at the start of the block is ASCII, as that of a fence is, then both ends are between
-/// two characters.
+/// (CommonMark 4.5). If the byte at the start of the block is ASCII, as that of a fence is, both ends are on character
+/// boundaries.
 pub fn info_string_range(text: &str, block: &Item) -> Range<usize>
     requires { block.now.start ≤ length text.now }
     ensures value { result ≡ info_range text.now block.now.start }
     ensures order { result.start ≤ result.«end» }
     ensures within { result.«end» ≤ length text.now }
-    ensures boundary { IsAsciiAt text.now block.now.start → IsBetweenCharacters text.now result }
+    ensures boundary { IsAsciiAt text.now block.now.start → EndsAreBoundaries text.now result }
 {
     info_range(text.as_bytes(), block.start)
 }

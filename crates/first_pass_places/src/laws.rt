@@ -1,5 +1,6 @@
-//! Laws of the ranges of names: what a node names is what is read from its range in the text, and both ends of the range
-//! are between characters. Also a law of the nodes of footnotes.
+//! Laws of the range that an info string, a footnote's label or a heading's attributes have in the text: reading the
+//! range gives what the node names, and both ends are on character boundaries. Also a law of the table that
+//! `footnote_nodes` returns.
 
 ghost use Rattle.std.specs.Prelude.{◌≡◌, ◌+◌, ◌≤◌, ℕ, List, Option, Some, IfSome, IsUtf8, All, drop, length, map};
 ghost use Rattle.std.specs.declared.ops.Range.{Range};
@@ -26,19 +27,20 @@ ghost use Rattle.first_pass_places.specs.AttributePlaces.{attribute_places};
 ghost use Rattle.first_pass_places.specs.FootnoteLabels.{label_range};
 ghost use Rattle.first_pass_places.specs.FootnoteNodes.{AreFirstNodes, entry_label};
 ghost use Rattle.first_pass_places.specs.InfoStrings.{bytes_in};
-ghost use Rattle.first_pass_places.specs.NamePlaces.{FirstIsReadFromText, HasNameBetweenCharacters, HaveAsciiMarks, NamesLabelAt};
+ghost use Rattle.first_pass_places.specs.NamePlaces.{FirstIsReadFromText, HasNameOnBoundaries, HaveAsciiMarks, NamesLabelAt};
 ghost use Rattle.first_pass_places.specs.PlacedAttributes.{attributes_from_places};
 
-/// The info string that a fenced code block names is read from its range. The block begins at an offset with a fence of
-/// this length and byte (CommonMark 4.5).
+/// The info string that a fenced code block names is what the bytes in `info_range` give, with escapes and references
+/// resolved. The block begins at `start` with a fence of `count` bytes, each equal to `byte` (CommonMark 4.5).
 pub fn info_strings_are_read()
     ensures { (d : Document) (start count byte : ℕ) (places : List Place) (stop : ℕ) (items : List (ℕ × Item))
         → code_fence (drop start d.text) ≡ Some (count, byte) → IsFencedCode d start count places stop items
         → FirstIsReadFromText d items }
 {}
 
-/// The label that a footnote definition names is read from its range, without the prefixes of containers that begin its
-/// further lines. The head of the definition begins at a place in the text, after the indentation (this project).
+/// Reading the range of the label, without the prefixes and the dropped columns at the start of each further line,
+/// gives the label that the footnote definition names. The head of the definition begins after the indentation at the
+/// place `p` of the text (this project).
 pub fn footnote_labels_are_read()
     ensures { (d : Document) (path : List Container) (p : Place) (index : CowIndex) (head : ℕ × List ℕ)
         → (unindented p).rest.left ≡ drop (offset (unindented p)) d.text
@@ -48,17 +50,18 @@ pub fn footnote_labels_are_read()
         (label_range d.text (offset (unindented p))) }
 {}
 
-/// The attributes that an ATX heading names are read from the range of its block. The heading begins at an offset with
-/// the number signs of its level (CommonMark 4.2, and this project).
+/// The attributes that an ATX heading names are those of the bytes in the range of its block. The heading begins at
+/// `start` with the number signs of its level (CommonMark 4.2, and this project).
 pub fn heading_attributes_are_read()
     ensures { (d : Document) (start : ℕ) (level : HeadingLevel) (index : Option HeadingIndex) (chain : List Item)
         (stop : ℕ) → IsHeading d (heading_text_at d.text start (level_number level)) index chain stop
         → FirstIsReadFromText d (heading_block start stop level index chain) }
 {}
 
-/// The attributes that a setext heading names are read from the range of its block. The text of the heading begins at
-/// an offset, and the lines after its first line follow. A task list item marker may be before it (CommonMark 4.3, GFM
-/// 5.3, and this project).
+/// The attributes that a setext heading names are those of the bytes in the range of its block. The text of the heading
+/// begins at `start`; `lines` are the lines of the document after the line that `start` is in. A task list item marker
+/// may be before the text. The clause also covers a paragraph, which names no attributes (CommonMark 4.3, GFM 5.3, and
+/// this project).
 pub fn setext_attributes_are_read()
     ensures { (d : Document) (path : List Container) (start : ℕ) (marker : Option Item) (lines : List Place) (t : Taken)
         → IfSome marker (λ x. x.«end» ≤ start) → start ≤ length d.text
@@ -66,28 +69,30 @@ pub fn setext_attributes_are_read()
         → FirstIsReadFromText d t.items }
 {}
 
-/// The attributes at the places that are found are those of the bytes between the braces of the heading's block: the
-/// last id, and the classes and the keys with their values in order (this project).
-pub fn attributes_have_places()
+/// The attributes that `attributes_from_places` reads at the places from `attribute_places` are those of the bytes
+/// between the braces of the heading's block: the last id, and the classes and the keys with their values in order
+/// (this project).
+pub fn attributes_are_read()
     ensures { (text : List ℕ) (x : Item) (block : Range ℕ) → attribute_range text x ≡ Some block
         → attributes_from_places text (attribute_places text x) ≡ attributes_of (bytes_in text block) }
 {}
 
-/// In a derived tree each node that starts between two characters has an ASCII mark (CommonMark 4.5, and this project).
+/// In a derived tree, if a fenced code block or a footnote definition starts on a character boundary, its mark is ASCII
+/// (CommonMark 4.5, and this project).
 pub fn nodes_have_ascii_marks()
     ensures { (d : Document) (nodes : List (ℕ × Item)) (tables : Tables) → Derives d nodes tables
         → HaveAsciiMarks d.text nodes }
 {}
 
-/// In a derived tree of a text in UTF-8, the range of what a node names begins and ends between two characters, if the
-/// node is in the text and begins between two characters (this project).
+/// In a derived tree of a text in UTF-8, both ends of the range of a node's info string, label or attributes are on
+/// character boundaries, if the node is in the text and starts on a character boundary (this project).
 pub fn names_have_whole_characters()
     ensures { (d : Document) (nodes : List (ℕ × Item)) (tables : Tables) → Derives d nodes tables → IsUtf8 d.text
-        → All (λ n. HasNameBetweenCharacters d.text n.1) nodes }
+        → All (λ n. HasNameOnBoundaries d.text n.1) nodes }
 {}
 
-/// In a derived tree, the first nodes of footnote definitions have the labels of its table of footnotes, in the order
-/// of that table (this project).
+/// For the nodes of a derived tree, a table that meets `AreFirstNodes` has the same labels as the tree's table of
+/// footnotes, in the same order (this project).
 pub fn footnotes_have_nodes()
     ensures { (d : Document) (nodes : List (ℕ × Item)) (tables : Tables) (table : List (CowStr × ℕ))
         → Derives d nodes tables → AreFirstNodes d.names nodes table → map entry_label table ≡ tables.footnotes }

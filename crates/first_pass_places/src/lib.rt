@@ -1,5 +1,5 @@
-//! The range in the text of what a node names by an index: an info string, the label of a footnote, or the attributes
-//! of a heading. Also the node of each footnote's first definition.
+//! The range that an info string, a footnote's label or a heading's attributes have in the text. A node names each of
+//! these by an index. Also the node of each footnote's first definition.
 #![tactic(auto)]
 
 pub mod attribute_block;

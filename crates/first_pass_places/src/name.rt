@@ -1,8 +1,8 @@
-//! The range in the text of what a node names (this project).
+//! The range that an info string, a footnote's label or a heading's attributes have in the text (this project).
 
 ghost use Rattle.std.specs.Prelude.{◌≡◌, ◌≤◌, length, IfSome, IsUtf8};
 ghost use Rattle.first_pass_places.specs.NamePlaces.{HasAsciiMark, name_range};
-ghost use Rattle.first_pass_places.specs.RangeEnds.{IsBetweenCharacters};
+ghost use Rattle.first_pass_places.specs.RangeEnds.{EndsAreBoundaries};
 
 use crate::attribute_block::attribute_range;
 use crate::footnote_label::label_range;
@@ -10,10 +10,11 @@ use crate::info_string::info_range;
 use first_pass_items::item::{Item, ItemBody};
 use std::ops::Range;
 
-/// Returns the range in the text of what a node names: of the info string of a fenced code block, of the label of a
-/// footnote definition, or of all that is between the braces of a heading's attribute block. Returns `None` for any
-/// other node, and for a heading without an attribute block (this project). If the mark of the node is ASCII, as in a
-/// tree, then both ends are between two characters.
+/// Returns the range of the info string of a fenced code block, of the label of a footnote definition, or of all bytes
+/// between the braces of a heading's attribute block, as byte offsets into the text. Returns `None` for any other node,
+/// and for a heading without an index of attributes. In a tree, such a heading has no attribute block (this project).
+/// Both ends are on character boundaries if the node meets `HasAsciiMark`, as each node of a tree from `run_first_pass`
+/// does.
 pub fn name_range(text: &str, node: &Item) -> Option<Range<usize>>
     requires order { node.now.start ≤ node.now.«end» }
     requires within { node.now.«end» ≤ length text.now }
@@ -21,7 +22,7 @@ pub fn name_range(text: &str, node: &Item) -> Option<Range<usize>>
     ensures order { IfSome result (λ range. range.start ≤ range.«end») }
     ensures within { IfSome result (λ range. range.«end» ≤ length text.now) }
     ensures boundary { HasAsciiMark node.now.body text.now node.now.start
-        → IfSome result (λ range. IsBetweenCharacters text.now range) }
+        → IfSome result (λ range. EndsAreBoundaries text.now range) }
 {
     name_range_in(text.as_bytes(), node)
 }
@@ -34,7 +35,7 @@ pub fn name_range_in(text: &[u8], node: &Item) -> Option<Range<usize>>
     ensures order { IfSome result (λ range. range.start ≤ range.«end») }
     ensures within { IfSome result (λ range. range.«end» ≤ length text.now) }
     ensures boundary { IsUtf8 text.now → HasAsciiMark node.now.body text.now node.now.start
-        → IfSome result (λ range. IsBetweenCharacters text.now range) }
+        → IfSome result (λ range. EndsAreBoundaries text.now range) }
 {
     match node.body {
         ItemBody::FencedCodeBlock(_) => Some(info_range(text, node.start)),
