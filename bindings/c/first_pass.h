@@ -255,7 +255,7 @@ struct first_pass_range {
  * Of a fenced code block it is the info string, of a footnote definition the label, and of a heading what is between
  * the braces of its attribute block. The range has the bytes as they are written, with escapes and references. A label
  * that crosses lines includes the prefixes of containers. If the node is one of the text's tree, both ends of the
- * range are between two characters. Nothing is allocated.
+ * range are on character boundaries. Nothing is allocated.
  *
  * @param[in] text the text that the node is of; not NULL, also if `length` is 0
  * @param[in] length how many bytes it has
