@@ -211,29 +211,34 @@ module _ (text : List ℕ) (w : Within) (from to e d low : ℕ) (n : ℕ × Item
             }),
       )
 
--- the case of a token that starts before the cut, and of one that does not
-cut_by : (t : Bool) (text : List ℕ) (w : Within) (from to e d low : ℕ) (n : ℕ × Item) (nodes : List (ℕ × Item)) (next : Siblings)
-    → IsCharBoundary text e → from ≤ low → n.0 ≡ d → Fits text w from to (Node (extent_of n.1) Empty next) → StandsAfterBackslash text low n.1
-    → ((v : Within) (f : ℕ) → f ≤ max low n.1.«end» → Fits text v f to next → CutFits text v f to e d (cut_tokens e d nodes))
-    → nat_lt n.1.start e ≡ t → CutFits text w from to e d (cut_tokens e d (n ∷ nodes))
-cut_by true text w from to e d low n nodes next b later depth fits stands rest is =
-    let plain : nat_lt d n.0 ≡ false = le-ltb d n.0 (omega arith) in
-    let same : cut_tokens e d (n ∷ nodes) ≡ (n.0, cut_item e n.1) ∷ cut_tokens e d nodes = cond-false _ _ _ plain ∙ cond-true _ _ _ is in
-    subst (CutFits text w from to e d) (sym same)
-    (stays text w from to e d low n nodes next b later depth fits rest (ltb-true n.1.start e is))
-cut_by false text w from to e d low n nodes next b later depth fits stands rest is =
-    let plain : nat_lt d n.0 ≡ false = le-ltb d n.0 (omega arith) in
-    let v : Bool = is_escaped n.1.body && (n.1.start == e) in
-    let same : cut_tokens e d (n ∷ nodes) ≡ (if v then (n.0, record { start = e - 1; «end» = e; body = Text false }) ∷ [] else []) =
-    cond-false _ _ _ plain ∙ cond-false _ _ _ is in
-    subst (CutFits text w from to e d) (sym same) (goes text w from to e d low n nodes next b later depth fits rest v refl stands)
+  -- the case of a token that starts before the cut, and of one that does not
+  pub cut_by : (t : Bool) → StandsAfterBackslash text low n.1 → nat_lt n.1.start e ≡ t → CutFits text w from to e d (cut_tokens e d (n ∷ nodes))
+  cut_by true stands is =
+      let plain : nat_lt d n.0 ≡ false = le-ltb d n.0 (omega arith) in
+      let same : cut_tokens e d (n ∷ nodes) ≡ (n.0, cut_item e n.1) ∷ cut_tokens e d nodes = cond-false _ _ _ plain ∙ cond-true _ _ _ is in
+      subst (CutFits text w from to e d) (sym same) (stays (ltb-true n.1.start e is))
+  cut_by false stands is =
+      let plain : nat_lt d n.0 ≡ false = le-ltb d n.0 (omega arith) in
+      let v : Bool = is_escaped n.1.body && (n.1.start == e) in
+      let same : cut_tokens e d (n ∷ nodes) ≡ (if v then (n.0, record { start = e - 1; «end» = e; body = Text false }) ∷ [] else []) =
+      cond-false _ _ _ plain ∙ cond-false _ _ _ is in
+      subst (CutFits text w from to e d) (sym same) (goes v refl stands)
 
-cut_row : (text : List ℕ) (w : Within) (from to e d low : ℕ) (nodes : List (ℕ × Item)) (row : Siblings) → IsCharBoundary text e → from ≤ low
-    → extents nodes ≡ laid d row → AreTokens text d low nodes → Fits text w from to row → CutFits text w from to e d (cut_tokens e d nodes)
+-- Tokens at a depth, after an offset, form a row that fits between two others. The first of these is not after it.
+record TokenRow (text : List ℕ) (w : Within) (from to d low : ℕ) (nodes : List (ℕ × Item)) (row : Siblings) : Type 0 where
+  later : from ≤ low
+  extents_are : extents nodes ≡ laid d row
+  tokens : AreTokens text d low nodes
+  fits : Fits text w from to row
+
+cut_row : (text : List ℕ) (w : Within) (from to e d low : ℕ) (nodes : List (ℕ × Item)) (row : Siblings) → IsCharBoundary text e
+    → TokenRow text w from to d low nodes row → CutFits text w from to e d (cut_tokens e d nodes)
 unfolding laid Fits
-cut_row text w from to e d low [] row b later is h fits = (let all = fits-order text w from to row fits in (Empty, refl, omega arith))
-cut_row text w from to e d low (n ∷ nodes) Empty b later is h fits = absurd cc
-cut_row text w from to e d low (n ∷ nodes) (Node x kids next) b later is h fits =
+cut_row text w from to e d low [] row b t = (let all = fits-order text w from to row t.fits in (Empty, refl, omega arith))
+cut_row text w from to e d low (n ∷ nodes) Empty b t = (let is : extents (n ∷ nodes) ≡ laid d Empty = t.extents_are in absurd cc)
+cut_row text w from to e d low (n ∷ nodes) (Node x kids next) b t =
+    let is : extents (n ∷ nodes) ≡ laid d (Node x kids next) = t.extents_are in
+    let h : AreTokens text d low (n ∷ nodes) = t.tokens in
     let first : (n.0, extent_of n.1) ≡ (d, x) = cc in
     let tail : extents nodes ≡ laid (suc d) kids ++ laid d next = cc in
     let none : kids ≡ Empty = only_leaf text d (max low n.1.«end») nodes kids next tail h.2 in
@@ -241,9 +246,10 @@ cut_row text w from to e d low (n ∷ nodes) (Node x kids next) b later is h fit
     let x_is : extent_of n.1 ≡ x = ap (λ (z : ℕ × Ranged). z.1) first in
     let own : Fits text w from to (Node (extent_of n.1) Empty next) =
     subst (λ (k : Siblings). Fits text w from to (Node (extent_of n.1) k next)) none
-    (subst (λ (y : Ranged). Fits text w from to (Node y kids next)) (sym x_is) fits) in
-    cut_by (nat_lt n.1.start e) text w from to e d low n nodes next b later h.0 own h.1
-    (λ v f low' k. cut_row text v f to e d (max low n.1.«end») nodes next b low' next_is h.2 k) refl
+    (subst (λ (y : Ranged). Fits text w from to (Node y kids next)) (sym x_is) t.fits) in
+    cut_by text w from to e d low n nodes next b t.later h.0 own
+    (λ v f low' k. cut_row text v f to e d (max low n.1.«end») nodes next b
+    (record { later = low'; extents_are = next_is; tokens = h.2; fits = k })) (nat_lt n.1.start e) h.1 refl
 
 -- the children of the innermost open node
 open_as : (s : List TreeIndex) (block : TreeIndex) → slice_get s 0 ≡ Some block → (rest : List TreeIndex) × (s ≡ block ∷ rest)
@@ -274,7 +280,8 @@ module _ (text : List ℕ) (f : Forest Item) (at e : ℕ) (block : TreeIndex) (r
       subst (λ k. AreTokens text d x.start (drop k f.nodes)) next
       (subst (λ k. AreTokens text k x.start (drop (block.0 + 1) f.nodes)) depth tokens) in
       let w : Within = below (open_within levels) from level.1 in
-      let (cut, is, fits) = cut_row text w level.1.start at e d x.start (drop (suc block.0) f.nodes) row b (omega arith) parts.1 here inside in
+      let (cut, is, fits) = cut_row text w level.1.start at e d x.start (drop (suc block.0) f.nodes) row b
+      (record { later = omega arith; extents_are = parts.1; tokens = here; fits = inside }) in
       let first : min level.1.start e ≡ level.1.start = omega arith in
       let all : (cut_siblings f e).nodes ≡ take (suc block.0) f.nodes ++ cut_tokens e d (drop (suc block.0) f.nodes) =
       ap (λ k. take k f.nodes ++ cut_tokens e (length f.spine + 1) (drop k f.nodes)) place

@@ -23,14 +23,13 @@ use Rattle.first_pass_order.proofs.RowSplits.{last_child, fits_open_last}
 use Rattle.first_pass_lists.specs.declared.state.PassState.{PassState}
 use Rattle.first_pass_order.specs.Ordered.{reached, IsOrderedAt}
 use Rattle.first_pass_order.proofs.OrderLemmas.{ordered_later, ordered_appended, ordered_none}
-use Rattle.first_pass_items.specs.declared.option_set.Options.{Options}
 
 -- the last child of the innermost open node ends later; it is not a task list item marker
 pub ordered_ended : (text : List ℕ) (f : Forest Item) (a e : ℕ) (c : TreeIndex) (y : Item) → IsLastAt (depths f.nodes) (length f.spine + 1) c.0
-    → item_at f c ≡ Some y → is_task_marker y.body ≡ false → y.«end» ≤ e → e ≤ length text → IsCharBoundary text e
+    → item_at f c ≡ Some y → is_task_marker y.body ≡ false → y.«end» ≤ e → IsCharBoundary text e
     → IsOrderedTo text f a → IsOrderedTo text (with_end_at f c e) e
 unfolding laid
-ordered_ended text f a e c y last here plain later high b o =
+ordered_ended text f a e c y last here plain later b o =
     let root = o.root in
     let levels = o.levels in
     let d : ℕ = suc (length levels) in
@@ -48,7 +47,7 @@ ordered_ended text f a e c y last here plain later high b o =
           ∙ sym (laid_open-beside root levels l.before (Node (ended_at x e) l.kids Empty));
       places = o.places;
       fits = fits_open_last text a e levels l.before x l.kids plain later b (subst (FitsOpen text a levels) l.row_is o.fits);
-      within = high;
+      within = b.0;
       whole = o.whole;
     }
 
@@ -62,14 +61,14 @@ found_by f at c None is h = cc
 found_by f at c (Some y) is h = (let p = and_parts (is_text y.body) (y.«end» == at) h in (y, is, p.0, eqb-true y.«end» at p.1))
 
 joined_by : (text : List ℕ) (f : Forest Item) (a at e : ℕ) (o : Option TreeIndex) → f.current ≡ o → IsForest f → joins_at f at o ≡ true → at ≤ e
-    → e ≤ length text → IsCharBoundary text e → IsOrderedTo text f a → IsOrderedTo text (with_end f e o) e
-joined_by text f a at e None is forest joins low high b o = cc
-joined_by text f a at e (Some c) is forest joins low high b o =
+    → IsCharBoundary text e → IsOrderedTo text f a → IsOrderedTo text (with_end f e o) e
+joined_by text f a at e None is forest joins low b o = cc
+joined_by text f a at e (Some c) is forest joins low b o =
     let y = found_by f at c (item_at f c) refl joins in
     let last : IsLastAt (depths f.nodes) (length f.spine + 1) c.0 =
     subst (λ z. IfSome z (λ c. IsLastAt (depths f.nodes) (length f.spine + 1) c.0)) is forest.at_current in
     let ends = y.3 in
-    ordered_ended text f a e c y.0 last y.1 (text_unmarked y.0.body y.2) (omega arith) high b o
+    ordered_ended text f a e c y.0 last y.1 (text_unmarked y.0.body y.2) (omega arith) b o
 
 ended_forest : (f : Forest Item) (e : ℕ) (o : Option TreeIndex) → IsForest f → IsForest (with_end f e o)
 ended_forest f e None forest = forest
@@ -80,7 +79,7 @@ token_by : (t : Bool) (text : List ℕ) (f : Forest Item) (a : ℕ) (x : Item)
     → (let g : Forest Item = if t then with_end f x.«end» f.current else appended f x in IsForest g × IsOrderedTo text g x.«end»)
 token_by true text f a x is forest between high o =
     let p = and_parts (is_text x.body) (joins_at f x.start f.current) is in
-    (ended_forest f x.«end» f.current forest, joined_by text f a x.start x.«end» f.current refl forest p.1 between.order high between.ends o)
+    (ended_forest f x.«end» f.current forest, joined_by text f a x.start x.«end» f.current refl forest p.1 between.order between.ends o)
 token_by false text f a x is forest between high o = (appended-is f x forest, ordered_appended text f a x.«end» x between high o)
 
 -- tokens in order are added; the first of them may be joined
@@ -93,52 +92,60 @@ ordered_tokens text f from to (x ∷ xs) forest h high o =
     (record { following = h.0; order = h.1; before = omega arith; starts = h.2; ends = h.3 }) (omega arith) o in
     ordered_tokens text (with_token f x) x.«end» to xs one.0 h.4 high one.1
 
--- the tokens of a line that begins at an offset are added, of a text that may be cut at another
-pub ordered_line : {texts : List CowStr} {after : MathBraces} (d : Document) (braces : MathBraces) (start : ℕ)
-    (end : Option ℕ) (old new : Forest Item) (next : ℕ) (line_break : Option Item) (from : ℕ)
-    → IsUtf8 d.text → IfSome end (λ e. (start ≤ e) × IsCharBoundary d.text e) → IsCharBoundary d.text start → IsForest old
+-- A range of a text, which may be cut off at an offset, begins at a character boundary. The cut is one too, and not before
+-- that.
+pub record IsRange (text : List ℕ) (start : ℕ) (end : Option ℕ) : Type 0 where
+  pub utf8 : IsUtf8 text
+  pub boundary : IsCharBoundary text start
+  pub cut : IfSome end (λ e. (start ≤ e) × IsCharBoundary text e)
+
+-- a tree is in order up to an offset that is not after another
+pub record IsOrderedBefore (text : List ℕ) (f : Forest Item) (start : ℕ) : Type 0 where
+  pub from : ℕ
+  pub low : from ≤ start
+  pub forest : IsForest f
+  pub order : IsOrderedTo text f from
+
+-- the tokens of a line in a range of a text are added
+pub ordered_line : {texts : List CowStr} {after : MathBraces} (d : Document) (braces : MathBraces) (start : ℕ) (end : Option ℕ) (old new : Forest Item)
+    (answer : ℕ × Option Item) → IsRange d.text start end → IsOrderedBefore d.text old start
     → AppendsLine texts (record { options = d.options; whole = d.text; text = text_upto d.text end; start = start; row = false; braces = braces }) old new
-    (next, line_break) after → from ≤ start → IsOrderedTo d.text old from → IsOrderedTo d.text new next
-ordered_line d braces start None old new next line_break from u ends boundary forest h low o =
-    let l = line_in_order u boundary boundary.0 h.line in
+    answer after → IsOrderedTo d.text new answer.0
+ordered_line d braces start None old new (next, line_break) r o h =
+    let l = line_in_order r.utf8 r.boundary r.boundary.0 h.line in
     let tokens : AreInOrder d.text start next h.tokens = order_to d.text start _ next h.tokens l.tokens_fit l.before in
     subst (λ f. IsOrderedTo d.text f next) (sym h.tree_is)
-    (ordered_tokens d.text old from next h.tokens forest (order_from d.text from start next h.tokens tokens low) l.ends.0 o)
-ordered_line d braces start (Some e) old new next line_break from u ends boundary forest h low o =
-    let first = place_in_front d.text e u ends.1 start ends.0 boundary in
-    let l = line_in_order (front_utf8 d.text e u ends.1) first first.0 h.line in
+    (ordered_tokens d.text old o.from next h.tokens o.forest (order_from d.text o.from start next h.tokens tokens o.low) l.ends.0 o.order)
+ordered_line d braces start (Some e) old new (next, line_break) r o h =
+    let first = place_in_front d.text e r.utf8 r.cut.1 start r.cut.0 r.boundary in
+    let l = line_in_order (front_utf8 d.text e r.utf8 r.cut.1) first first.0 h.line in
     let tokens : AreInOrder d.text start next h.tokens =
-    order_in_text d.text e u ends.1 start next h.tokens (order_to (take e d.text) start _ next h.tokens l.tokens_fit l.before) in
-    subst (λ f. IsOrderedTo d.text f next) (sym h.tree_is) (ordered_tokens d.text old from next h.tokens forest
-    (order_from d.text from start next h.tokens tokens low) (place_in_text d.text e u ends.1 next l.ends).0 o)
+    order_in_text d.text e r.utf8 r.cut.1 start next h.tokens (order_to (take e d.text) start _ next h.tokens l.tokens_fit l.before) in
+    subst (λ f. IsOrderedTo d.text f next) (sym h.tree_is) (ordered_tokens d.text old o.from next h.tokens o.forest
+    (order_from d.text o.from start next h.tokens tokens o.low) (place_in_text d.text e r.utf8 r.cut.1 next l.ends).0 o.order)
 
 -- tokens are added to a state in order: the item to which they are added is no longer empty
-pub tokens_ordered : (text : List ℕ) (old new : PassState) (at start to : ℕ) (tokens : List Item)
-    → IsForest old.tree → IsOrderedAt text old at → at ≤ start → AreInOrder text start to tokens → to ≤ length text → new.tree ≡ with_tokens old.tree tokens
-    → new.begin_list_item ≡ None → IsOrderedAt text new to
-tokens_ordered text old new at start to tokens forest o low order within is none =
-    let before = o.later in
+pub tokens_ordered : (text : List ℕ) (old new : PassState) (at to : ℕ) (tokens : List Item) → IsForest old.tree → IsOrderedAt text old at
+    → AreInOrder text at to tokens → to ≤ length text → new.tree ≡ with_tokens old.tree tokens → new.begin_list_item ≡ None → IsOrderedAt text new to
+tokens_ordered text old new at to tokens forest o order within is none =
     let e : ℕ = reached old.begin_list_item at in
-    let low' : e ≤ at = before in
     ordered_none text new to none within
     (subst (λ f. IsOrderedTo text f to) (sym is)
-    (ordered_tokens text old.tree e to tokens forest (order_from text e start to tokens order (omega arith)) within o.ordered))
+    (ordered_tokens text old.tree e to tokens forest (order_from text e at to tokens order o.later) within o.ordered))
 
--- the tokens of a cell that begins at an offset are added, of such a text
-pub ordered_cell : {texts : List CowStr} {after : MathBraces} (text : List ℕ) (options : Options) (braces : MathBraces) (start : ℕ) (end : Option ℕ)
-    (old new : Forest Item) (stop from : ℕ) → IsUtf8 text
-    → IfSome end (λ e. (start ≤ e) × IsCharBoundary text e) → IsCharBoundary text start → IsForest old
-    → AppendsCell texts (record { options = options; whole = text; text = text_upto text end; start = start; row = true; braces = braces }) old new stop after
-    → from ≤ start → IsOrderedTo text old from
-    → IsOrderedTo text new stop
-ordered_cell text options braces start None old new stop from u ends boundary forest h low o =
-    let tokens = cell_in_order u boundary boundary.0 h.cell in
-    let place = cell_end_place boundary.0 h.cell in
-    subst (λ f. IsOrderedTo text f stop) (sym h.tree_is)
-    (ordered_tokens text old from stop h.tokens forest (order_from text from start stop h.tokens tokens low) place.0 o)
-ordered_cell text options braces start (Some e) old new stop from u ends boundary forest h low o =
-    let first = place_in_front text e u ends.1 start ends.0 boundary in
-    let tokens = order_in_text text e u ends.1 start stop h.tokens (cell_in_order (front_utf8 text e u ends.1) first first.0 h.cell) in
-    let place = place_in_text text e u ends.1 stop (cell_end_place first.0 h.cell) in
-    subst (λ f. IsOrderedTo text f stop) (sym h.tree_is)
-    (ordered_tokens text old from stop h.tokens forest (order_from text from start stop h.tokens tokens low) place.0 o)
+-- the tokens of a cell in a range of a text are added
+pub ordered_cell : {texts : List CowStr} {after : MathBraces} (d : Document) (braces : MathBraces) (start : ℕ) (end : Option ℕ) (old new : Forest Item)
+    (stop : ℕ) → IsRange d.text start end → IsOrderedBefore d.text old start
+    → AppendsCell texts (record { options = d.options; whole = d.text; text = text_upto d.text end; start = start; row = true; braces = braces }) old new
+    stop after → IsOrderedTo d.text new stop
+ordered_cell d braces start None old new stop r o h =
+    let tokens = cell_in_order r.utf8 r.boundary r.boundary.0 h.cell in
+    let place = cell_end_place r.boundary.0 h.cell in
+    subst (λ f. IsOrderedTo d.text f stop) (sym h.tree_is)
+    (ordered_tokens d.text old o.from stop h.tokens o.forest (order_from d.text o.from start stop h.tokens tokens o.low) place.0 o.order)
+ordered_cell d braces start (Some e) old new stop r o h =
+    let first = place_in_front d.text e r.utf8 r.cut.1 start r.cut.0 r.boundary in
+    let tokens = order_in_text d.text e r.utf8 r.cut.1 start stop h.tokens (cell_in_order (front_utf8 d.text e r.utf8 r.cut.1) first first.0 h.cell) in
+    let place = place_in_text d.text e r.utf8 r.cut.1 stop (cell_end_place first.0 h.cell) in
+    subst (λ f. IsOrderedTo d.text f stop) (sym h.tree_is)
+    (ordered_tokens d.text old o.from stop h.tokens o.forest (order_from d.text o.from start stop h.tokens tokens o.low) place.0 o.order)

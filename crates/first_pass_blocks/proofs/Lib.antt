@@ -4,3 +4,4 @@ pub mod LinkDefinitions
 pub mod LineByLine
 pub mod Order
 pub mod ReadyStates
+pub mod StateAt

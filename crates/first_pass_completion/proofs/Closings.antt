@@ -1,10 +1,9 @@
 -- Lists that are closed before a block that ends them.
 use Rattle.std.proofs.Common.{◌≡◌, ℕ, suc, Bool, true, false, not, ◌||◌, ◌==◌, List, ◌∷◌, ◌++◌, length, Option, Some, None, refl}
-use Rattle.std.proofs.Common.{sym, ap, ◌∙◌, if◌then◌else◌}
+use Rattle.std.proofs.Common.{sym, ap, ◌∙◌, if◌then◌else◌, subst}
 use Rattle.std.specs.Option.{option_map_or}
 use Rattle.std.proofs.lemmas.Bool.{true≢false}
 use Rattle.std.proofs.Math.Bool.{or-false}
-use Rattle.first_pass_items.specs.declared.item.Item.{Item}
 use Rattle.first_pass_lines.specs.Places.{Place}
 use Rattle.first_pass_grammar.specs.declared.kind.Container.{Container}
 use Rattle.first_pass_grammar.specs.Containers.{in_quote}
@@ -18,22 +17,23 @@ use Rattle.first_pass_grammar.specs.Kinds.{Kind}
 use Rattle.first_pass_grammar.specs.Rows.{ALeaf, Joins, ItemsOf, DefinitionsTo, Rows, End, OneOf, Definitions, any_gap, is_loose, is_paragraph}
 use Rattle.first_pass_grammar.specs.Rows.{closing_place, list_until, items_after, list_after, what_of, row_of, row_of_leaf, titled, gap_before}
 use Rattle.first_pass_grammar.specs.Rows.{container_row, rows_of, definitions_first}
-use Rattle.first_pass_grammar.specs.Derivation.{Tables, items_of}
-use Rattle.first_pass_grammar.specs.Completion.{title_left, list_closed, OtherClosed, ParagraphAt, DefinitionClosed, TitleAt, Pending, NoList, OneList}
-use Rattle.first_pass_grammar.specs.Completion.{OneTitle, rows_beyond, rendered, Frame, InList, InDefinitions, containers_of}
+use Rattle.first_pass_grammar.specs.Derivation.{items_of}
+use Rattle.first_pass_grammar.specs.Completion.{list_closed, OtherClosed, ParagraphAt, DefinitionClosed, TitleAt, Pending, NoList, OneList}
+use Rattle.first_pass_grammar.specs.Completion.{OneTitle, rows_beyond, rendered, InList, InDefinitions, containers_of}
 use Rattle.first_pass_grammar.specs.Completion.{IsPlain}
 use Rattle.first_pass_grammar.proofs.Uniqueness.Alike.{only_opener, only_head, AlikeOpening}
-use Rattle.first_pass_completion.proofs.Extending.{tail, lvl, finish_moved, loosened_in-false, stands_after, plain_before}
-use Rattle.first_pass_completion.proofs.Extending.{extend, StaysAt}
-use Rattle.first_pass_grammar.proofs.Sequences.Finishes.{Finish, Tail, CompletesAt, FinishesAt, finish_derives, whole_by}
+use Rattle.first_pass_completion.proofs.Extending.{stepped, tail, lvl, stands_after, plain_before}
+use Rattle.first_pass_completion.proofs.Extending.{OpensAtPlace, extend_same}
+use Rattle.first_pass_grammar.proofs.Sequences.Finishes.{Finish, Tail}
 use Rattle.first_pass_completion.proofs.FlatBlocks.{OwnParagraph}
 use Rattle.first_pass_completion.proofs.Moved.{is_definition, opens_definition, OpensAlike, takes_alike, other_alike, SameAfter, seq_moved, SameFirst}
 use Rattle.first_pass_completion.proofs.Moved.{same_after}
 use Rattle.first_pass_completion.proofs.Moved.{same_back}
 use Rattle.first_pass_completion.proofs.Moved.{rows_moved, counts_moved, Known, FirstHas, known_first, OpensBlock, FirstIsOther, first_is_other}
-use Rattle.first_pass_completion.proofs.PoppedLists.{last_in, closed_below, title_below}
+use Rattle.first_pass_completion.proofs.PoppedLists.{last_in, closed_below, title_below, list_popped, title_popped}
 use Rattle.first_pass_grammar.proofs.Uniqueness.RowsAlike.{begins_alike}
 use Rattle.first_pass_completion.proofs.Titles.{BeginsOther, title_stays, titled_by}
+use Rattle.first_pass_completion.proofs.States.{CompletesFrom, IsCompleted, IsStep, OpenDefinitions, OpenNodes, Reading, reading, reading_at, with_inner}
 
 -- where a list of items ends before a leaf block; the next definition: before a container (this project)
 abbrev pub leaf_closes : LeafBlock → ℕ
@@ -199,71 +199,64 @@ alike_away d path (ItemsOf byte) at run blanks p lines o away opens = takes_alik
 alike_away d path (DefinitionsTo e) at run blanks p lines o away opens = other_alike d path _ _ p lines o (away_other e at o away) refl opens
 
 -- a list that is closed before a block that ends it
-close_step : (d : Document) (defined : Tables) (frames : List Frame) (list : Joins) (run blanks loose : Bool) (nodes : List (ℕ × Item)) (o : ℕ) (os : List ℕ)
-    (p : Place) (lines : List Place) (at : ℕ) (opening : Opening) (forest : List (ℕ × Item)) (tables : Tables)
-    → IsPlain frames → StaysAt d (containers_of frames) p
-    → Opens d (level (containers_of frames) (stands_after (last_in list blanks) run)) p lines opening → OpensAway list at opening
-    → FinishesAt d defined (tail OtherClosed run) frames (list_closed nodes o (suc (suc (suc (length os)))) loose at) os (Inside p) lines forest tables
-    → Finish d defined (OneList o list loose) (stands_after (last_in list blanks) run) frames nodes os (Inside p) lines forest tables
+close_step : (d : Document) (w : OpenNodes) (list : Joins) (run blanks loose : Bool) (o at : ℕ)
+    (b : OpensAtPlace d (level (containers_of w.frames) (stands_after (last_in list blanks) run)))
+    → IsPlain w.frames → OpensAway list at b.opening
+    → IsStep d (reading w (OneList o list loose) (stands_after (last_in list blanks) run) (Inside b.place) b.lines)
+    (reading_at (list_popped w o loose at) (tail OtherClosed run) (Inside b.place) b.lines)
 unfolding items_of is_loose rendered
-close_step d defined frames list run blanks loose nodes o os p lines at opening forest tables plain stays opens away fin =
-    let k : ℕ = suc (length os) in
-    let path : List Container = containers_of frames in
+close_step d w list run blanks loose o at b plain away forest tables fin =
+    let k : ℕ = suc (length w.places) in
+    let path : List Container = containers_of w.frames in
     let q : Bool = in_quote path in
-    let nodes' : List (ℕ × Item) = list_closed nodes o (suc (suc k)) loose at in
     let here : Before = stands_after (last_in list blanks) run in
     let closed : Before = stands_after LastOther run in
-    let alike : OpensAlike d path here closed p = alike_away d path list at run blanks p lines opening away opens in
-    extend d defined defined frames (OneList o list loose) (NoList OtherClosed) here closed false nodes nodes' os (Inside p) (Inside p) lines lines
-    forest tables (λ s. s) plain (λ path mid. refl)
-    (λ s mid seq. let u = ends_list d list at opening s away
-    (known_first d path closed p lines mid opening s stays (alike.to lines opening opens) seq) in
-    let r : ℕ → Rows = λ last. rows_of q closed last s in
-    let w = λ (last : ℕ). rows_away q list at last closed s u in
-    let same = same_away list at run blanks s u in
-    let first : SameAfter here closed s = same_after here closed s same in
-    record {
-      seq = seq_moved d s path closed here p lines mid (record { to = alike.back; back = alike.to }) (same_back here closed s first) seq;
-      items = λ last is. ap (rendered k last nodes (OneList o list loose)) (rows_moved q here closed last s same)
-          ∙ ap (λ z. list_closed nodes o (suc (suc k)) (loose || is_loose z) (list_until list last (r last))
-          ++ (items_of (suc k) (not (loose || is_loose z)) z ++ items_of k false (list_after list (r last)))) (w last).none
-          ∙ ap (λ z. list_closed nodes o (suc (suc k)) (loose || false) z ++ items_of k false (list_after list (r last))) (w last).until
-          ∙ ap (λ z. list_closed nodes o (suc (suc k)) (loose || false) at ++ items_of k false z) (w last).past
-          ∙ ap (λ z. list_closed nodes o (suc (suc k)) z at ++ items_of k false (r last)) (or-false loose);
-      counts = counts_moved q here closed s first;
-      gaps = λ last. ap (λ z. any_gap (list_after list z)) (rows_moved q here closed last s same) ∙ ap any_gap (w last).past;
-    })
-    (λ s. refl)
-    (finish_moved d _ _ _ _ _ _ _ _ _ os (Inside p) lines forest tables refl (plain_before (tail OtherClosed run) frames plain)
-    (sym (loosened_in-false frames)) refl fin)
+    let alike : OpensAlike d path here closed b.place = alike_away d path list at run blanks b.place b.lines b.opening away b.opens in
+    let next : Reading = reading (list_popped w o loose at) (NoList OtherClosed) closed (Inside b.place) b.lines in
+    extend_same d (reading w (OneList o list loose) here (Inside b.place) b.lines) next (λ s. s) (record {
+      plain = plain;
+      ends = λ path mid. refl;
+      adds = λ s mid seq.
+          let u = ends_list d list at b.opening s away
+          (known_first d path closed b.place b.lines mid b.opening s b.stays (alike.to b.lines b.opening b.opens) seq) in
+          let r : ℕ → Rows = λ last. rows_of q closed last s in
+          let v = λ (last : ℕ). rows_away q list at last closed s u in
+          let same = same_away list at run blanks s u in
+          let first : SameAfter here closed s = same_after here closed s same in
+          record {
+            seq = seq_moved d s path closed here b.place b.lines mid (record { to = alike.back; back = alike.to }) (same_back here closed s first) seq;
+            items = λ last is. ap (rendered k last w.nodes (OneList o list loose)) (rows_moved q here closed last s same)
+                ∙ ap (λ z. list_closed w.nodes o (suc (suc k)) (loose || is_loose z) (list_until list last (r last))
+                ++ (items_of (suc k) (not (loose || is_loose z)) z ++ items_of k false (list_after list (r last)))) (v last).none
+                ∙ ap (λ z. list_closed w.nodes o (suc (suc k)) (loose || false) z ++ items_of k false (list_after list (r last))) (v last).until
+                ∙ ap (λ z. list_closed w.nodes o (suc (suc k)) (loose || false) at ++ items_of k false z) (v last).past
+                ∙ ap (λ z. list_closed w.nodes o (suc (suc k)) z at ++ items_of k false (r last)) (or-false loose);
+            counts = counts_moved q here closed s first;
+            gaps = λ last. ap (λ z. any_gap (list_after list z)) (rows_moved q here closed last s same) ∙ ap any_gap (v last).past;
+          };
+      defines = λ s. refl;
+    }) forest tables (subst (λ z. IsCompleted d (record next { before = z }) forest tables) (plain_before (tail OtherClosed run) w.frames plain) fin)
 
 -- a list that is closed before a block that ends it
-pub completes-close : (d : Document) (defined : Tables) (t : Tail) (byte : ℕ) (loose : Bool) (frames : List Frame) (nodes : List (ℕ × Item)) (o : ℕ)
-    (os : List ℕ) (p : Place) (lines : List Place) (at : ℕ) (opening : Opening)
-    → StaysAt d (containers_of frames) p → Opens d (lvl (InList byte loose ∷ frames) t) p lines opening → OpensAway (ItemsOf byte) at opening
-    → CompletesAt d defined t (InList byte loose ∷ frames) nodes (o ∷ os) (Inside p) lines
-    → CompletesAt d defined (tail OtherClosed t.run) frames (list_closed nodes o (suc (suc (suc (length os)))) loose at) os (Inside p) lines
+pub completes-close : (d : Document) (w : OpenNodes) (t : Tail) (byte : ℕ) (loose : Bool) (o at : ℕ)
+    (b : OpensAtPlace d (lvl (InList byte loose ∷ w.frames) t))
+    → OpensAway (ItemsOf byte) at b.opening → CompletesFrom d (with_inner w (InList byte loose) o) t (Inside b.place) b.lines
+    → CompletesFrom d (list_popped w o loose at) (tail OtherClosed t.run) (Inside b.place) b.lines
 unfolding Finish
-completes-close d defined t byte loose frames nodes o os p lines at opening stays opens away k = record {
-  below = closed_below nodes o os (suc (suc (suc (length os)))) loose at k.below;
-  shape = k.shape.1;
-  whole = whole_by _ _ _ _ _ _ _ _ (λ forest tables fin. finish_derives _ _ _ _ _ _ _ _ k forest tables
-      (close_step d defined frames (ItemsOf byte) t.run false loose nodes o os p lines at opening forest tables k.shape.0 stays opens away fin));
-}
+completes-close d w t byte loose o at b away k =
+    stepped d _ _ _ _ _ _ _ _ k (close_step d w (ItemsOf byte) t.run false loose o at b k.shape.0 away)
+    (closed_below w.nodes o w.places (suc (suc (suc (length w.places)))) loose at k.below, k.shape.1)
 
-pub completes-close_definitions : (d : Document) (defined : Tables) (e : ℕ) (blanks run loose : Bool) (frames : List Frame) (nodes : List (ℕ × Item)) (o : ℕ)
-    (os : List ℕ) (p : Place) (lines : List Place) (at : ℕ) (opening : Opening)
-    → StaysAt d (containers_of frames) p → Opens d (lvl (InDefinitions loose ∷ frames) (tail (DefinitionClosed e blanks) run)) p lines opening
-    → OpensAway (DefinitionsTo e) at opening
-    → CompletesAt d defined (tail (DefinitionClosed e blanks) run) (InDefinitions loose ∷ frames) nodes (o ∷ os) (Inside p) lines
-    → CompletesAt d defined (tail OtherClosed run) frames (list_closed nodes o (suc (suc (suc (length os)))) loose at) os (Inside p) lines
+-- a definition list that is closed before a block that ends it, after a definition
+pub completes-close_definitions : (d : Document) (w : OpenNodes) (l : OpenDefinitions) (blanks run : Bool) (at : ℕ)
+    (b : OpensAtPlace d (lvl (InDefinitions l.loose ∷ w.frames) (tail (DefinitionClosed l.«end» blanks) run)))
+    → OpensAway (DefinitionsTo l.«end») at b.opening
+    → CompletesFrom d (with_inner w (InDefinitions l.loose) l.place) (tail (DefinitionClosed l.«end» blanks) run) (Inside b.place) b.lines
+    → CompletesFrom d (list_popped w l.place l.loose at) (tail OtherClosed run) (Inside b.place) b.lines
 unfolding Finish
-completes-close_definitions d defined e blanks run loose frames nodes o os p lines at opening stays opens away k = record {
-  below = closed_below nodes o os (suc (suc (suc (length os)))) loose at k.below;
-  shape = k.shape.1;
-  whole = whole_by _ _ _ _ _ _ _ _ (λ forest tables fin. finish_derives _ _ _ _ _ _ _ _ k forest tables
-      (close_step d defined frames (DefinitionsTo e) run blanks loose nodes o os p lines at opening forest tables k.shape.0 stays opens away fin));
-}
+completes-close_definitions d w l blanks run at b away k =
+    stepped d _ _ _ _ _ _ _ _ k (close_step d w (DefinitionsTo l.«end») run blanks l.loose l.place at b k.shape.0 away)
+    (closed_below w.nodes l.place w.places (suc (suc (suc (length w.places)))) l.loose at k.below, k.shape.1)
 
 container_other : (last : ℕ) (o : Opener) (line start e : ℕ) (gap : Bool) (inner next : Rows) → is_definition o ≡ false
     → BeginsOther (container_row last o (row_of (record { opener = o; line = line; start = start }) e gap) inner next)
@@ -291,51 +284,46 @@ title_same run (Then (Block b) next) other = (refl, refl)
 title_same run (Node head e kids next) other = refl
 
 -- a definition list that is closed before a block, with a possible title as its last child
-close_title_step : (d : Document) (defined : Tables) (frames : List Frame) (run loose : Bool) (nodes : List (ℕ × Item)) (o at e : ℕ) (os : List ℕ)
-    (p : Place) (lines : List Place) (opening : Opening) (forest : List (ℕ × Item)) (tables : Tables)
-    → IsPlain frames → StaysAt d (containers_of frames) p
-    → Opens d (level (containers_of frames) (stands_after (LastParagraph true) run)) p lines opening → OpensBlock opening → opens_definition opening ≡ false
-    → FinishesAt d defined (tail (ParagraphAt at) run) frames (title_left (list_closed nodes o (suc (suc (suc (length os)))) loose e) at) os (Inside p) lines
-    forest tables
-    → Finish d defined (OneTitle o at e loose) (stands_after (LastParagraph true) run) frames nodes os (Inside p) lines forest tables
-close_title_step d defined frames run loose nodes o at e os p lines opening forest tables plain stays opens block other fin =
-    let k : ℕ = suc (length os) in
-    let path : List Container = containers_of frames in
+close_title_step : (d : Document) (w : OpenNodes) (l : OpenDefinitions) (at : ℕ) (run : Bool)
+    (b : OpensAtPlace d (level (containers_of w.frames) (stands_after (LastParagraph true) run)))
+    → IsPlain w.frames → OpensBlock b.opening → opens_definition b.opening ≡ false
+    → IsStep d (reading w (OneTitle l.place at l.«end» l.loose) (stands_after (LastParagraph true) run) (Inside b.place) b.lines)
+    (reading_at (title_popped w l at) (tail (ParagraphAt at) run) (Inside b.place) b.lines)
+close_title_step d w l at run b plain block other forest tables fin =
+    let k : ℕ = suc (length w.places) in
+    let path : List Container = containers_of w.frames in
     let q : Bool = in_quote path in
-    let nodes' : List (ℕ × Item) = title_left (list_closed nodes o (suc (suc k)) loose e) at in
     let here : Before = stands_after (LastParagraph true) run in
     let closed : Before = stands_after (LastParagraph false) run in
-    let alike : OpensAlike d path here closed p = takes_alike d path here closed p refl in
-    let list : Pending = OneTitle o at e loose in
-    extend d defined defined frames list (NoList (ParagraphAt at)) here closed false nodes nodes' os (Inside p) (Inside p) lines lines
-    forest tables (λ s. s) plain (λ path mid. refl)
-    (λ s mid seq. let u = first_is_other d opening s block other
-    (known_first d path closed p lines mid opening s stays (alike.to lines opening opens) seq) in
-    let same = title_same run s u in
-    let first : SameAfter here closed s = same_after here closed s same in
-    record {
-      seq = seq_moved d s path closed here p lines mid (record { to = alike.back; back = alike.to }) (same_back here closed s first) seq;
-      items = λ last is. ap (rendered k last nodes list) (rows_moved q here closed last s same)
-          ∙ title_stays k last nodes o at e loose (rows_of q closed last s) (rows_other q closed last s u);
-      counts = counts_moved q here closed s first;
-      gaps = λ last. ap (λ z. any_gap (rows_beyond list z)) (rows_moved q here closed last s same);
-    })
-    (λ s. refl)
-    (finish_moved d _ _ _ _ _ _ _ _ _ os (Inside p) lines forest tables refl (plain_before (tail (ParagraphAt at) run) frames plain)
-    (sym (loosened_in-false frames)) refl fin)
+    let alike : OpensAlike d path here closed b.place = takes_alike d path here closed b.place refl in
+    let list : Pending = OneTitle l.place at l.«end» l.loose in
+    let next : Reading = reading (title_popped w l at) (NoList (ParagraphAt at)) closed (Inside b.place) b.lines in
+    extend_same d (reading w list here (Inside b.place) b.lines) next (λ s. s) (record {
+      plain = plain;
+      ends = λ path mid. refl;
+      adds = λ s mid seq.
+          let u = first_is_other d b.opening s block other
+          (known_first d path closed b.place b.lines mid b.opening s b.stays (alike.to b.lines b.opening b.opens) seq) in
+          let same = title_same run s u in
+          let first : SameAfter here closed s = same_after here closed s same in
+          record {
+            seq = seq_moved d s path closed here b.place b.lines mid (record { to = alike.back; back = alike.to }) (same_back here closed s first) seq;
+            items = λ last is. ap (rendered k last w.nodes list) (rows_moved q here closed last s same)
+                ∙ title_stays k last w.nodes l.place at l.«end» l.loose (rows_of q closed last s) (rows_other q closed last s u);
+            counts = counts_moved q here closed s first;
+            gaps = λ last. ap (λ z. any_gap (rows_beyond list z)) (rows_moved q here closed last s same);
+          };
+      defines = λ s. refl;
+    }) forest tables (subst (λ z. IsCompleted d (record next { before = z }) forest tables) (plain_before (tail (ParagraphAt at) run) w.frames plain) fin)
 
 -- a definition list that is closed before a block other than a definition; its last child, a possible title, becomes a
 -- paragraph
-pub completes-close_title : (d : Document) (defined : Tables) (e at : ℕ) (run loose : Bool) (frames : List Frame) (nodes : List (ℕ × Item)) (o : ℕ)
-    (os : List ℕ) (p : Place) (lines : List Place) (opening : Opening)
-    → StaysAt d (containers_of frames) p → Opens d (lvl (InDefinitions loose ∷ frames) (tail (TitleAt e at) run)) p lines opening
-    → OpensBlock opening → opens_definition opening ≡ false
-    → CompletesAt d defined (tail (TitleAt e at) run) (InDefinitions loose ∷ frames) nodes (o ∷ os) (Inside p) lines
-    → CompletesAt d defined (tail (ParagraphAt at) run) frames (title_left (list_closed nodes o (suc (suc (suc (length os)))) loose e) at) os (Inside p) lines
+pub completes-close_title : (d : Document) (w : OpenNodes) (l : OpenDefinitions) (at : ℕ) (run : Bool)
+    (b : OpensAtPlace d (lvl (InDefinitions l.loose ∷ w.frames) (tail (TitleAt l.«end» at) run)))
+    → OpensBlock b.opening → opens_definition b.opening ≡ false
+    → CompletesFrom d (with_inner w (InDefinitions l.loose) l.place) (tail (TitleAt l.«end» at) run) (Inside b.place) b.lines
+    → CompletesFrom d (title_popped w l at) (tail (ParagraphAt at) run) (Inside b.place) b.lines
 unfolding Finish
-completes-close_title d defined e at run loose frames nodes o os p lines opening stays opens block other k = record {
-  below = title_below nodes o os (suc (suc (suc (length os)))) loose e at k.below;
-  shape = k.shape.1;
-  whole = whole_by _ _ _ _ _ _ _ _ (λ forest tables fin. finish_derives _ _ _ _ _ _ _ _ k forest tables
-      (close_title_step d defined frames run loose nodes o at e os p lines opening forest tables k.shape.0 stays opens block other fin));
-}
+completes-close_title d w l at run b block other k =
+    stepped d _ _ _ _ _ _ _ _ k (close_title_step d w l at run b k.shape.0 block other)
+    (title_below w.nodes l.place w.places (suc (suc (suc (length w.places)))) l.loose l.«end» at k.below, k.shape.1)

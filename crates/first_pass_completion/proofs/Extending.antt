@@ -9,7 +9,7 @@ use Rattle.first_pass_grammar.specs.Containers.{taken, is_quote, in_quote, in_fo
 use Rattle.first_pass_grammar.specs.Footnotes.{footnote_head_at, ends_footnote}
 use Rattle.first_pass_grammar.specs.Openers.{start_at}
 use Rattle.first_pass_grammar.specs.Leaves.{Document, around}
-use Rattle.first_pass_grammar.specs.Blocks.{LeafBlock, Block, label_of, Skeleton, Nil, Then, Node}
+use Rattle.first_pass_grammar.specs.Blocks.{LeafBlock, Block, Head, label_of, Skeleton, Nil, Then, Node}
 use Rattle.first_pass_grammar.specs.Before.{Last, Before, last_container, after_container, before_end}
 use Rattle.first_pass_grammar.specs.Skeleton.{Continues, Line, Inside, Opening, OpensLeaf, OpensNode, OpensBy, OpensFootnote, Opens, Level, level, Remaining, Lines}
 use Rattle.first_pass_grammar.specs.Skeleton.{InLine}
@@ -18,9 +18,10 @@ use Rattle.first_pass_grammar.specs.Rows.{ItemsOf, Rows, any_gap, rows_of}
 use Rattle.first_pass_grammar.specs.LinkTables.{LinkEntry, with_link, with_links, with_label, with_labels}
 use Rattle.first_pass_grammar.specs.Derivation.{Tables, with_definitions, definitions_of, footnotes_of, with_all_of}
 use Rattle.first_pass_grammar.specs.Completion.{ended, Closed, Pending, NoList, OneList, rows_beyond, rendered, Frame, InContainer, InList, InDefinitions}
-use Rattle.first_pass_grammar.specs.Completion.{closed_as, definitions_open, containers_of, loosened, AreBelow, IsPlain, last_plain, last_of}
-use Rattle.first_pass_grammar.proofs.Sequences.Finishes.{Finish, containers-loosened, Tail, before_of}
+use Rattle.first_pass_grammar.specs.Completion.{closed_as, definitions_open, containers_of, loosened, AreBelow, IsPlain, IsShaped, last_plain, last_of}
+use Rattle.first_pass_grammar.proofs.Sequences.Finishes.{Finish, containers-loosened, Tail, before_of, finish_derives, whole_by}
 use Rattle.first_pass_grammar.proofs.Sequences.Goings.{begins_inside, enters}
+use Rattle.first_pass_completion.proofs.States.{OpenNodes, open_nodes, CompletesFrom, Reading, reading, reading_at, IsCompleted, IsStep}
 use Rattle.first_pass_tokens.proofs.BytesLemmas.{length-modify}
 
 -- blank lines that include a counting one or not, after the last child
@@ -31,16 +32,13 @@ tail closed run = record { closed = closed; run = run }
 abbrev pub lvl : List Frame → Tail → Level
 lvl frames t = level (containers_of frames) (before_of frames t)
 
--- completions of equal states are the same
-pub finish_moved : (d : Document) (defined : Tables) (list list' : Pending) (before before' : Before) (frames frames' : List Frame)
-    (nodes nodes' : List (ℕ × Item)) (os : List ℕ) (from : Continues) (lines : List Place) (forest : List (ℕ × Item)) (tables : Tables)
-    → list ≡ list' → before ≡ before' → frames ≡ frames' → nodes ≡ nodes'
-    → Finish d defined list before frames nodes os from lines forest tables → Finish d defined list' before' frames' nodes' os from lines forest tables
-finish_moved d defined list list' before before' frames frames' nodes nodes' os from lines forest tables opened stand same alike fin =
-    subst (λ z. Finish d defined list' before' frames' z os from lines forest tables) alike
-    (subst (λ z. Finish d defined list' before' z nodes os from lines forest tables) same
-    (subst (λ z. Finish d defined list' z frames nodes os from lines forest tables) stand
-    (subst (λ z. Finish d defined z before frames nodes os from lines forest tables) opened fin)))
+-- Completions of equal states are the same.
+pub finish_moved : (d : Document) (r : Reading) (before : Before) (frames : List Frame) (nodes : List (ℕ × Item))
+    → r.before ≡ before → r.frames ≡ frames → r.nodes ≡ nodes → IsStep d (record r { before = before; frames = frames; nodes = nodes }) r
+finish_moved d r before frames nodes stand same alike forest tables fin =
+    subst (λ z. Finish d r.defined r.list before frames z r.places r.from r.lines forest tables) alike
+    (subst (λ z. Finish d r.defined r.list before z r.nodes r.places r.from r.lines forest tables) same
+    (subst (λ z. Finish d r.defined r.list z r.frames r.nodes r.places r.from r.lines forest tables) stand fin))
 
 -- A blank line before a block in the innermost container makes the list around that container loose.
 abbrev pub loosened_in : Bool → List Frame → List Frame
@@ -105,14 +103,14 @@ end_anywhere n path (InLine p lines) = refl
 
 -- What a block, or the end of a list, adds: the same items, the same count for blank lines at the end, and the same
 -- gaps together with one that is noted.
-pub record Adds (d : Document) (depth : ℕ) (path : List Container) (list list' : Pending) (before before' : Before) (gap : Bool)
-    (nodes nodes' : List (ℕ × Item)) (from : Continues) (lines : List Place) (s t : Skeleton) (mid : Remaining) : Type 0 where
-  pub seq : IsSequence d t (level path before) from lines mid
-  pub items : (last : ℕ) → EndsAt (length d.text) from mid last
-      → rendered depth last nodes list (rows_of (in_quote path) before last t) ≡ rendered depth last nodes' list' (rows_of (in_quote path) before' last s)
-  pub counts : (before_end (in_quote path) before t).counted ≡ (before_end (in_quote path) before' s).counted
-  pub gaps : (last : ℕ) → any_gap (rows_beyond list (rows_of (in_quote path) before last t))
-      ≡ (gap || any_gap (rows_beyond list' (rows_of (in_quote path) before' last s)))
+pub record Adds (d : Document) (old new : Reading) (gap : Bool) (s t : Skeleton) (mid : Remaining) : Type 0 where
+  pub seq : IsSequence d t (level (containers_of old.frames) old.before) old.from old.lines mid
+  pub items : (last : ℕ) → EndsAt (length d.text) old.from mid last
+      → rendered (suc (length old.places)) last old.nodes old.list (rows_of (in_quote (containers_of old.frames)) old.before last t)
+      ≡ rendered (suc (length old.places)) last new.nodes new.list (rows_of (in_quote (containers_of old.frames)) new.before last s)
+  pub counts : (before_end (in_quote (containers_of old.frames)) old.before t).counted ≡ (before_end (in_quote (containers_of old.frames)) new.before s).counted
+  pub gaps : (last : ℕ) → any_gap (rows_beyond old.list (rows_of (in_quote (containers_of old.frames)) old.before last t))
+      ≡ (gap || any_gap (rows_beyond new.list (rows_of (in_quote (containers_of old.frames)) new.before last s)))
 
 -- a container ends at the same place, wherever the blocks in it continue
 abbrev pub EndsAlike : ℕ → Continues → Continues → Type 0
@@ -155,56 +153,78 @@ told_kids defined kids s =
     ∙ ap (λ z. tables_with z (with_links defined.links (definitions_of kids ++ definitions_of s)))
     (sym (told_labels defined.footnotes (footnotes_of kids) (footnotes_of s)))
 
-finish_told : (d : Document) (defined defined' : Tables) (list : Pending) (before : Before) (frames : List Frame) (nodes : List (ℕ × Item)) (os : List ℕ)
-    (from : Continues) (lines : List Place) (forest : List (ℕ × Item)) (tables : Tables) → defined ≡ defined'
-    → Finish d defined list before frames nodes os from lines forest tables → Finish d defined' list before frames nodes os from lines forest tables
-finish_told d defined defined' list before frames nodes os from lines forest tables is fin =
-    subst (λ z. Finish d z list before frames nodes os from lines forest tables) is fin
+-- Blocks that lead from one state to another: with them before it, each sequence of the second state is a sequence of
+-- the first, and both have the same nodes, gaps and definitions.
+pub record AddsBlocks (d : Document) (old new : Reading) (gap : Bool) (f : Skeleton → Skeleton) : Type 0 where
+  pub plain : IsPlain old.frames
+  pub ends : EndsAlike (length d.text) old.from new.from
+  pub adds : (s : Skeleton) (mid : Remaining) → IsSequence d s (level (containers_of old.frames) new.before) new.from new.lines mid
+      → Adds d old new gap s (f s) mid
+  pub defines : (s : Skeleton) → with_all_of new.defined s ≡ with_all_of old.defined (f s)
 
-pub extend : (d : Document) (defined defined' : Tables) (frames : List Frame) (list list' : Pending) (before before' : Before) (gap : Bool)
-    (nodes nodes' : List (ℕ × Item)) (os : List ℕ) (from there : Continues) (lines left : List Place) (forest : List (ℕ × Item)) (tables : Tables)
-    (f : Skeleton → Skeleton)
-    → IsPlain frames → EndsAlike (length d.text) from there
-    → ((s : Skeleton) (mid : Remaining) → IsSequence d s (level (containers_of frames) before') there left mid
-    → Adds d (suc (length os)) (containers_of frames) list list' before before' gap nodes nodes' from lines s (f s) mid)
-    → ((s : Skeleton) → with_all_of defined' s ≡ with_all_of defined (f s))
-    → Finish d defined' list' before' (loosened_in gap frames) nodes' os there left forest tables
-    → Finish d defined list before frames nodes os from lines forest tables
+-- the step, by the innermost open node
+extend_by : (d : Document) (frames : List Frame) (os : List ℕ) (old new : Reading) (gap : Bool) (f : Skeleton → Skeleton)
+    → AddsBlocks d (record old { frames = frames; places = os }) new gap f
+    → IsStep d (record old { frames = frames; places = os }) (record new { frames = loosened_in gap frames; places = os })
 unfolding Finish
-extend d defined defined' [] list list' before before' gap nodes nodes' [] from there lines left forest tables f plain ends adds tells
-    (s, seq, is, tables_are) =
-    let a = adds s (Lines []) seq in (f s, a.seq, is ∙ sym (a.items (length d.text) (λ line. refl)), tables_are ∙ tells s)
-extend d defined defined' [] list list' before before' gap nodes nodes' (o ∷ os) from there lines left forest tables f plain ends adds tells fin = fin
-extend d defined defined' (InContainer c ∷ frames) list list' before before' gap nodes nodes' [] from there lines left forest tables f plain ends
-    adds tells fin = fin
-extend d defined defined' (InList byte loose ∷ frames) list list' before before' gap nodes nodes' os from there lines left forest tables f plain ends
-    adds tells fin = absurd plain
-extend d defined defined' (InDefinitions loose ∷ frames) list list' before before' gap nodes nodes' os from there lines left forest tables f plain ends
-    adds tells fin = absurd plain
-extend d defined defined' (InContainer c ∷ frames) list list' before before' gap nodes nodes' (o ∷ os) from there lines left forest tables f plain ends
-    adds tells (s, mid, seq, fin) =
+extend_by d [] [] old new gap f h forest tables (s, seq, is, tables_are) =
+    let a = h.adds s (Lines []) seq in (f s, a.seq, is ∙ sym (a.items (length d.text) (λ line. refl)), tables_are ∙ h.defines s)
+extend_by d [] (o ∷ os) old new gap f h forest tables fin = fin
+extend_by d (InContainer c ∷ frames) [] old new gap f h forest tables fin = fin
+extend_by d (InList byte loose ∷ frames) os old new gap f h forest tables fin = absurd h.plain
+extend_by d (InDefinitions loose ∷ frames) os old new gap f h forest tables fin = absurd h.plain
+extend_by d (InContainer c ∷ frames) (o ∷ os) old new gap f h forest tables (s, mid, seq, fin) =
     let path : List Container = containers_of frames in
-    let a = adds s mid (subst (λ p. IsSequence d s (level (c ∷ p) before') there left mid) (containers-loosened gap frames) seq) in
-    let same : end_before (length d.text) (containers_of (loosened gap frames)) there mid ≡ end_before (length d.text) path from mid =
-    ap (λ p. end_before (length d.text) p there mid) (containers-loosened gap frames) ∙ sym (ends path mid) in
-    let e : ℕ = end_before (length d.text) path from mid in
-    let at : EndsAt (length d.text) from mid e = λ none. ap (λ z. end_of_left (length d.text) path z mid) none ∙ end_anywhere (length d.text) path mid in
+    let a = h.adds s mid (subst (λ p. IsSequence d s (level (c ∷ p) new.before) new.from new.lines mid) (containers-loosened gap frames) seq) in
+    let same : end_before (length d.text) (containers_of (loosened gap frames)) new.from mid ≡ end_before (length d.text) path old.from mid =
+    ap (λ p. end_before (length d.text) p new.from mid) (containers-loosened gap frames) ∙ sym (h.ends path mid) in
+    let e : ℕ = end_before (length d.text) path old.from mid in
+    let at : EndsAt (length d.text) old.from mid e =
+    λ none. ap (λ z. end_of_left (length d.text) path z mid) none ∙ end_anywhere (length d.text) path mid in
     let depth : ℕ = suc (length (o ∷ os)) in
-    let rows : ℕ → Rows = λ last. rows_of (is_quote c) before' last s in
-    let now : Before = after_container c (before_end (is_quote c) before' s) in
-    let g : loosened (any_gap (rows_beyond list' (rows e))) (loosened gap frames)
-    ≡ loosened (any_gap (rows_beyond list (rows_of (is_quote c) before e (f s)))) frames =
+    let rows : ℕ → Rows = λ last. rows_of (is_quote c) new.before last s in
+    let now : Before = after_container c (before_end (is_quote c) new.before s) in
+    let outer : Tables → ℕ → Reading = λ defined z.
+    reading (open_nodes defined (loosened (any_gap (rows_beyond new.list (rows z))) (loosened gap frames))
+    (ended (rendered depth z new.nodes new.list (rows z)) o z) os) (NoList (closed_as c z)) now (onward mid).0 (onward mid).1 in
+    let g : loosened (any_gap (rows_beyond new.list (rows e))) (loosened gap frames)
+    ≡ loosened (any_gap (rows_beyond old.list (rows_of (is_quote c) old.before e (f s)))) frames =
     loosened-twice gap _ frames ∙ ap (λ z. loosened z frames) (sym (a.gaps e)) in (
       f s,
       mid,
       a.seq,
-      finish_moved d _ _ _ _ _ _ _ _ _ os (onward mid).0 (onward mid).1 forest tables refl
-          (ap (λ z. record { last = last_container c; counted = z }) (sym a.counts)) g (ap (λ z. ended z o e) (sym (a.items e at)))
-          (finish_told d _ _ _ _ _ _ os (onward mid).0 (onward mid).1 forest tables (tells s)
-          (subst (λ z. Finish d (with_all_of defined' s) (NoList (closed_as c z)) now
-          (loosened (any_gap (rows_beyond list' (rows z))) (loosened gap frames))
-          (ended (rendered depth z nodes' list' (rows z)) o z) os (onward mid).0 (onward mid).1 forest tables) same fin)),
+      finish_moved d (outer (with_all_of old.defined (f s)) e) _ _ _ (ap (λ z. record { last = last_container c; counted = z }) (sym a.counts)) g
+          (ap (λ z. ended z o e) (sym (a.items e at))) forest tables
+          (subst (λ z. IsCompleted d (outer z e) forest tables) (h.defines s)
+          (subst (λ z. IsCompleted d (outer (with_all_of new.defined s) z) forest tables) same fin)),
     )
+
+-- A step that adds blocks, and may note a gap before them.
+pub extend : (d : Document) (old new : Reading) (gap : Bool) (f : Skeleton → Skeleton) → AddsBlocks d old new gap f
+    → IsStep d old (record new { frames = loosened_in gap old.frames; places = old.places })
+extend d old new gap f h = extend_by d old.frames old.places old new gap f h
+
+-- the same if it notes none
+pub extend_same : (d : Document) (old new : Reading) (f : Skeleton → Skeleton) → AddsBlocks d old new false f
+    → IsStep d old (record new { frames = old.frames; places = old.places })
+extend_same d old new f h forest tables fin =
+    extend d old new false f h forest tables
+    (subst (λ z. IsCompleted d (record new { frames = z; places = old.places }) forest tables) (sym (loosened_in-false old.frames)) fin)
+
+-- each open node is before the one inside it, and may be directly in the one around it
+abbrev pub AreNested : OpenNodes → Type 0
+AreNested w = AreBelow (length w.nodes) w.places × IsShaped w.frames
+
+-- A step keeps what completes the open nodes.
+pub stepped : (d : Document) (w now : OpenNodes) (t u : Tail) (from there : Continues) (lines left : List Place)
+    → CompletesFrom d w t from lines → IsStep d (reading_at w t from lines) (reading_at now u there left)
+    → AreNested now → CompletesFrom d now u there left
+stepped d w now t u from there lines left k step nested = record {
+  below = nested.0;
+  shape = nested.1;
+  whole = whole_by d now.defined u now.frames now.nodes now.places there left (λ forest tables fin.
+      finish_derives d w.defined t w.frames w.nodes w.places from lines k forest tables (step forest tables fin));
+}
 
 -- A block that begins inside a line also begins at the line.
 enter_first : (d : Document) (l : Level) (line q : Place) (lines : List Place) (opening : Opening) → taken l.path line ≡ Some q
@@ -221,22 +241,23 @@ enter_seq d (Then leaf next) l line q lines left is old (there, mid, first, seq)
 enter_seq d (Node head e kids next) l line q lines left is old (inside, following, mid, first, inner, ends, seq) =
     (inside, following, mid, enter_first d l line q lines (OpensNode head inside following) is old first, inner, ends, seq)
 
+-- The open nodes are completed at the start of a line as after the markers of the containers that it continues.
 pub enter_step : (d : Document) (defined : Tables) (frames : List Frame) (list : Pending) (before : Before) (nodes : List (ℕ × Item)) (os : List ℕ)
-    (line q : Place) (lines : List Place) (forest : List (ℕ × Item)) (tables : Tables) → taken (containers_of frames) line ≡ Some q
-    → ends_old_footnote (level (containers_of frames) before) ≡ false → Finish d defined list before frames nodes os (Inside q) lines forest tables
-    → Finish d defined list before frames nodes os Line (line ∷ lines) forest tables
+    (line q : Place) (lines : List Place) → taken (containers_of frames) line ≡ Some q → ends_old_footnote (level (containers_of frames) before) ≡ false
+    → (let w : OpenNodes = open_nodes defined frames nodes os in
+    IsStep d (reading w list before Line (line ∷ lines)) (reading w list before (Inside q) lines))
 unfolding Finish
-enter_step d defined [] list before nodes [] line q lines forest tables is old (s, seq, forest_is, tables_are) =
+enter_step d defined [] list before nodes [] line q lines is old forest tables (s, seq, forest_is, tables_are) =
     (s, enter_seq d s (level [] before) line q lines (Lines []) is old seq, forest_is, tables_are)
-enter_step d defined [] list before nodes (o ∷ os) line q lines forest tables is old fin = fin
-enter_step d defined (InContainer c ∷ frames) list before nodes [] line q lines forest tables is old fin = fin
-enter_step d defined (InList byte loose ∷ frames) list before nodes [] line q lines forest tables is old fin = fin
-enter_step d defined (InDefinitions loose ∷ frames) list before nodes [] line q lines forest tables is old fin = fin
-enter_step d defined (InList byte loose ∷ frames) list before nodes (o ∷ os) line q lines forest tables is old fin =
-    enter_step d defined frames (OneList o (ItemsOf byte) loose) before nodes os line q lines forest tables is old fin
-enter_step d defined (InDefinitions loose ∷ frames) list before nodes (o ∷ os) line q lines forest tables is old fin =
-    enter_step d defined frames (definitions_open o loose list) before nodes os line q lines forest tables is old fin
-enter_step d defined (InContainer c ∷ frames) list before nodes (o ∷ os) line q lines forest tables is old (s, mid, seq, fin) =
+enter_step d defined [] list before nodes (o ∷ os) line q lines is old forest tables fin = fin
+enter_step d defined (InContainer c ∷ frames) list before nodes [] line q lines is old forest tables fin = fin
+enter_step d defined (InList byte loose ∷ frames) list before nodes [] line q lines is old forest tables fin = fin
+enter_step d defined (InDefinitions loose ∷ frames) list before nodes [] line q lines is old forest tables fin = fin
+enter_step d defined (InList byte loose ∷ frames) list before nodes (o ∷ os) line q lines is old forest tables fin =
+    enter_step d defined frames (OneList o (ItemsOf byte) loose) before nodes os line q lines is old forest tables fin
+enter_step d defined (InDefinitions loose ∷ frames) list before nodes (o ∷ os) line q lines is old forest tables fin =
+    enter_step d defined frames (definitions_open o loose list) before nodes os line q lines is old forest tables fin
+enter_step d defined (InContainer c ∷ frames) list before nodes (o ∷ os) line q lines is old forest tables (s, mid, seq, fin) =
     (s, mid, enter_seq d s (level (c ∷ containers_of frames) before) line q lines mid is old seq, fin)
 
 -- no innermost footnote definition ends at a place
@@ -273,6 +294,30 @@ pub first_here : (d : Document) (l : Level) (p : Place) (lines : List Place) (op
     → StaysAt d l.path p → Opens d l p lines opening → IsFirst d l (Inside p) lines opening
 first_here d l p lines opening stays opens =
     record { place = p; following = lines; begins = begins_inside d.options l p lines stays; opens = opens }
+
+-- a block that opens inside a line: the place, the lines after its line, and what opens
+pub record OpensAtPlace (d : Document) (l : Level) : Type 0 where
+  pub place : Place
+  pub lines : List Place
+  pub opening : Opening
+  pub stays : StaysAt d l.path place
+  pub opens : Opens d l place lines opening
+
+-- a container with this head opens inside a line: the place and the lines after its line, and where its blocks begin
+-- and the lines from there on
+pub record OpensContainer (d : Document) (l : Level) (head : Head) : Type 0 where
+  pub place : Place
+  pub lines : List Place
+  pub inside : Continues
+  pub following : List Place
+  pub opens : Opens d l place lines (OpensNode head inside following)
+
+-- such a container is the first block there
+pub container_first : (d : Document) (l : Level) (head : Head) (b : OpensContainer d l head)
+    → label_of head.opener ≡ [] → IsFirst d l (Inside b.place) b.lines (OpensNode head b.inside b.following)
+container_first d l head b none =
+    let opening : Opening = OpensNode head b.inside b.following in
+    first_here d l b.place b.lines opening (opens_stays d l b.place b.lines opening none b.opens) b.opens
 
 pub alike_onward : (n : ℕ) (p : Place) (left : Remaining) → EndsAlike n (Inside p) (onward left).0
 alike_onward n p (Lines lines) path mid = refl

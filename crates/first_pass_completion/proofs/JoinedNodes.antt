@@ -5,14 +5,15 @@ use Rattle.first_pass_items.specs.declared.item.Item.{Item}
 use Rattle.first_pass_items.specs.declared.item.ItemBody.TheVariants.{DefinitionListDefinition}
 use Rattle.first_pass_grammar.specs.declared.kind.Container.TheVariants.{Definition}
 use Rattle.first_pass_grammar.specs.Before.{Before, nothing, after_container, before_end}
-use Rattle.first_pass_grammar.specs.Blocks.{DefinitionMarker, Head, Skeleton, Node}
+use Rattle.first_pass_grammar.specs.Blocks.{Skeleton, Node}
 use Rattle.first_pass_grammar.specs.Rows.{Joins, DefinitionsTo, Rows, OneOf, Definitions, definitions_first}
 use Rattle.first_pass_grammar.specs.Rows.{Row, row_of, any_gap, is_loose, list_until}
 use Rattle.first_pass_grammar.specs.Rows.{items_after, list_after, rows_of}
 use Rattle.first_pass_grammar.specs.Derivation.{node_of, items_of}
 use Rattle.first_pass_grammar.specs.Completion.{ended, with_title, title_taken, title_left, list_closed, ParagraphAt, NoList, OneList}
-use Rattle.first_pass_grammar.specs.Completion.{OneTitle, rows_beyond, after_paragraph, after_title, rendered}
+use Rattle.first_pass_grammar.specs.Completion.{Pending, OneTitle, rows_beyond, after_paragraph, after_title, rendered}
 use Rattle.first_pass_grammar.proofs.Sequences.Tightening.{list_closed-append, closed_item}
+use Rattle.first_pass_completion.proofs.States.{DefinitionHead, definition_head_of, OpenDefinitions}
 use Rattle.first_pass_completion.proofs.TitleNodes.{reflagged}
 use Rattle.first_pass_completion.proofs.TitleNodes.{length-with_title, length-taken, closed-ended, closed-reflagged, taken-ended}
 
@@ -50,67 +51,67 @@ joined k last o e joins loose row x nodes kids next h f =
     ∙ ap (λ z. closed ++ (suc k, x) ∷ z) (sym (append_assoc a b c)))
 
 -- the row of a definition
-abbrev marked : ℕ → ℕ → ℕ → ℕ → Bool → Row
-marked columns line start e gap = row_of (record { opener = DefinitionMarker columns; start = start; line = line }) e gap
+abbrev marked : DefinitionHead → ℕ → Bool → Row
+marked m e gap = row_of (definition_head_of m) e gap
+
+-- what precedes the block after a definition
+abbrev pub after_definition : DefinitionHead → Skeleton → Before
+after_definition m kids = after_container (Definition m.columns) (before_end false nothing kids)
+
+-- the nodes with a definition, which ends at an offset
+abbrev pub with_definition : ℕ → List (ℕ × Item) → DefinitionHead → ℕ → Skeleton → List (ℕ × Item)
+with_definition k nodes m e kids =
+    nodes ++ (suc k, node_of m.start e (DefinitionListDefinition m.columns)) ∷ items_of (suc (suc k)) false (rows_of false nothing e kids)
 
 -- the first definition after a paragraph
-pub first_definition : (quoted : Bool) (k last e start columns line at : ℕ) (before : Before) (nodes : List (ℕ × Item)) (kids s : Skeleton)
+pub first_definition : (quoted : Bool) (k last e : ℕ) (m : DefinitionHead) (at : ℕ) (before : Before) (nodes : List (ℕ × Item)) (kids s : Skeleton)
     → at < length nodes
-    → (let head : Head = record { opener = DefinitionMarker columns; start = start; line = line } in
-    let inner : Rows = rows_of false nothing e kids in
-    let now : Before = after_container (Definition columns) (before_end false nothing kids) in
-    let rows : Rows = rows_of quoted before last (Node head e kids s) in
-    let next : Rows = rows_of quoted now last s in
+    → (let rows : Rows = rows_of quoted before last (Node (definition_head_of m) e kids s) in
+    let next : Rows = rows_of quoted (after_definition m kids) last s in
     (rendered k last nodes (NoList (ParagraphAt at)) rows
-    ≡ rendered k last (with_title nodes at ++ (suc k, node_of start e (DefinitionListDefinition columns)) ∷ items_of (suc (suc k)) false inner)
-    (OneList at (DefinitionsTo e) (before.counted || any_gap inner)) next)
+    ≡ rendered k last (with_definition k (with_title nodes at) m e kids)
+    (OneList at (DefinitionsTo e) (before.counted || any_gap (rows_of false nothing e kids))) next)
     × (any_gap (rows_beyond (NoList (ParagraphAt at)) rows) ≡ any_gap (list_after (DefinitionsTo e) next)))
 unfolding items_of rows_of rendered definitions_first
-first_definition quoted k last e start columns line at before nodes kids s h =
-    let next : Rows = rows_of quoted (after_container (Definition columns) (before_end false nothing kids)) last s in
-    let x : Item = node_of start e (DefinitionListDefinition columns) in
+first_definition quoted k last e m at before nodes kids s h =
+    let next : Rows = rows_of quoted (after_definition m kids) last s in
+    let x : Item = node_of m.start e (DefinitionListDefinition m.columns) in
     let within : at < length (with_title nodes at) = let n = length-with_title nodes at h in omega arith in
-    (joined k last at e (DefinitionsTo e) false (marked columns line start e before.counted) x (with_title nodes at) kids next within (λ tight. refl), refl)
+    (joined k last at e (DefinitionsTo e) false (marked m e before.counted) x (with_title nodes at) kids next within (λ tight. refl), refl)
 
 -- a definition after a possible title
-pub title_definition : (quoted : Bool) (k last e start columns line place at e0 : ℕ) (before : Before) (loose : Bool) (nodes : List (ℕ × Item))
+pub title_definition : (quoted : Bool) (k last e : ℕ) (m : DefinitionHead) (l : OpenDefinitions) (at : ℕ) (before : Before) (nodes : List (ℕ × Item))
     (kids s : Skeleton)
-    → place < length nodes
-    → (let head : Head = record { opener = DefinitionMarker columns; start = start; line = line } in
-    let inner : Rows = rows_of false nothing e kids in
-    let now : Before = after_container (Definition columns) (before_end false nothing kids) in
-    let rows : Rows = rows_of quoted before last (Node head e kids s) in
-    let next : Rows = rows_of quoted now last s in
-    (rendered k last nodes (OneTitle place at e0 loose) rows
-    ≡ rendered k last (title_taken nodes at ++ (suc k, node_of start e (DefinitionListDefinition columns)) ∷ items_of (suc (suc k)) false inner)
-    (OneList place (DefinitionsTo e) ((loose || before.counted) || any_gap inner)) next)
-    × (any_gap (rows_beyond (OneTitle place at e0 loose) rows) ≡ any_gap (list_after (DefinitionsTo e) next)))
+    → l.place < length nodes
+    → (let list : Pending = OneTitle l.place at l.«end» l.loose in
+    let rows : Rows = rows_of quoted before last (Node (definition_head_of m) e kids s) in
+    let next : Rows = rows_of quoted (after_definition m kids) last s in
+    (rendered k last nodes list rows
+    ≡ rendered k last (with_definition k (title_taken nodes at) m e kids)
+    (OneList l.place (DefinitionsTo e) ((l.loose || before.counted) || any_gap (rows_of false nothing e kids))) next)
+    × (any_gap (rows_beyond list rows) ≡ any_gap (list_after (DefinitionsTo e) next)))
 unfolding items_of rows_of rendered definitions_first
-title_definition quoted k last e start columns line place at e0 before loose nodes kids s h =
-    let next : Rows = rows_of quoted (after_container (Definition columns) (before_end false nothing kids)) last s in
-    let x : Item = node_of start e (DefinitionListDefinition columns) in
-    let within : place < length (title_taken nodes at) = let n = length-taken nodes at in omega arith in
-    let row : Row = marked columns line start e before.counted in
-    (joined k last place e (DefinitionsTo e) loose row x (title_taken nodes at) kids next within (λ tight. refl), refl)
+title_definition quoted k last e m l at before nodes kids s h =
+    let next : Rows = rows_of quoted (after_definition m kids) last s in
+    let x : Item = node_of m.start e (DefinitionListDefinition m.columns) in
+    let within : l.place < length (title_taken nodes at) = let n = length-taken nodes at in omega arith in
+    (joined k last l.place e (DefinitionsTo e) l.loose (marked m e before.counted) x (title_taken nodes at) kids next within (λ tight. refl), refl)
 
 -- a definition after a definition
-pub joined_definition : (quoted : Bool) (k last e start columns line place e0 : ℕ) (before : Before) (loose : Bool) (nodes : List (ℕ × Item))
+pub joined_definition : (quoted : Bool) (k last e : ℕ) (m : DefinitionHead) (l : OpenDefinitions) (before : Before) (nodes : List (ℕ × Item))
     (kids s : Skeleton)
-    → place < length nodes
-    → (let head : Head = record { opener = DefinitionMarker columns; start = start; line = line } in
-    let inner : Rows = rows_of false nothing e kids in
-    let now : Before = after_container (Definition columns) (before_end false nothing kids) in
-    let rows : Rows = rows_of quoted before last (Node head e kids s) in
-    let next : Rows = rows_of quoted now last s in
-    (rendered k last nodes (OneList place (DefinitionsTo e0) loose) rows
-    ≡ rendered k last (nodes ++ (suc k, node_of start e (DefinitionListDefinition columns)) ∷ items_of (suc (suc k)) false inner)
-    (OneList place (DefinitionsTo e) ((loose || before.counted) || any_gap inner)) next)
-    × (any_gap (list_after (DefinitionsTo e0) rows) ≡ any_gap (list_after (DefinitionsTo e) next)))
+    → l.place < length nodes
+    → (let rows : Rows = rows_of quoted before last (Node (definition_head_of m) e kids s) in
+    let next : Rows = rows_of quoted (after_definition m kids) last s in
+    (rendered k last nodes (OneList l.place (DefinitionsTo l.«end») l.loose) rows
+    ≡ rendered k last (with_definition k nodes m e kids)
+    (OneList l.place (DefinitionsTo e) ((l.loose || before.counted) || any_gap (rows_of false nothing e kids))) next)
+    × (any_gap (list_after (DefinitionsTo l.«end») rows) ≡ any_gap (list_after (DefinitionsTo e) next)))
 unfolding items_of rows_of rendered
-joined_definition quoted k last e start columns line place e0 before loose nodes kids s h =
-    let next : Rows = rows_of quoted (after_container (Definition columns) (before_end false nothing kids)) last s in
-    let x : Item = node_of start e (DefinitionListDefinition columns) in
-    (joined k last place e (DefinitionsTo e) loose (marked columns line start e before.counted) x nodes kids next h (λ tight. refl), refl)
+joined_definition quoted k last e m l before nodes kids s h =
+    let next : Rows = rows_of quoted (after_definition m kids) last s in
+    let x : Item = node_of m.start e (DefinitionListDefinition m.columns) in
+    (joined k last l.place e (DefinitionsTo e) l.loose (marked m e before.counted) x nodes kids next h (λ tight. refl), refl)
 
 -- The end and the flags in a list's node do not matter after the list is closed.
 title_same : (k : ℕ) (nodes nodes' : List (ℕ × Item)) (o at e : ℕ) (loose : Bool) (r : Rows) (ds : Option Definitions)

@@ -12,5 +12,6 @@ pub mod Notes
 pub mod PoppedLists
 pub mod SilentNodes
 pub mod SilentTexts
+pub mod States
 pub mod TitleNodes
 pub mod Titles

@@ -2,7 +2,6 @@
 use Rattle.std.proofs.Common.{◌≡◌, ℕ, suc, Bool, true, false, not, ◌||◌, ◌&&◌, List, [], ◌∷◌, ◌++◌, length, None, refl, sym, ap, ◌∙◌, subst}
 use Rattle.std.proofs.lemmas.Bool.{true≢false}
 use Rattle.first_pass_items.specs.declared.item.Item.{Item}
-use Rattle.first_pass_lines.specs.Places.{Place}
 use Rattle.first_pass_grammar.specs.declared.kind.Container.{Container}
 use Rattle.first_pass_grammar.specs.declared.kind.Container.TheVariants.{BlockQuote, ListItem, FootnoteDefinition, Definition}
 use Rattle.first_pass_grammar.specs.Containers.{in_quote}
@@ -11,19 +10,20 @@ use Rattle.first_pass_grammar.specs.Blocks.{LeafBlock, BlankLine, Block, Head, O
 use Rattle.first_pass_grammar.specs.Blocks.{Nil}
 use Rattle.first_pass_grammar.specs.Blocks.{Then, Node}
 use Rattle.first_pass_grammar.specs.Before.{Before, is_after_definition, begins_paragraph, after_block}
-use Rattle.first_pass_grammar.specs.Skeleton.{Inside, Opening, Opens, level}
+use Rattle.first_pass_grammar.specs.Skeleton.{Inside, Opens, level, Continues}
 use Rattle.first_pass_grammar.specs.Rows.{Rows, any_gap, row_of, leaf_row, gap_before, container_row, definitions_first, rows_of}
-use Rattle.first_pass_grammar.specs.Derivation.{Tables, items_of}
+use Rattle.first_pass_grammar.specs.Derivation.{items_of}
 use Rattle.first_pass_grammar.specs.Completion.{Closed, OtherClosed, ParagraphAt, DefinitionClosed, TitleAt, NoList, rows_beyond, rendered, Frame}
 use Rattle.first_pass_grammar.specs.Completion.{InContainer}
 use Rattle.first_pass_grammar.specs.Completion.{InList, InDefinitions, containers_of, loosened, IsPlain, last_plain, StandsIn, IsShaped}
 use Rattle.first_pass_completion.proofs.Completions.{beside_all}
-use Rattle.first_pass_completion.proofs.Extending.{tail, lvl, loosened_in, stands_after, plain_before, extend, StaysAt}
-use Rattle.first_pass_grammar.proofs.Sequences.Finishes.{Finish, Tail, before_of, CompletesAt, FinishesAt, finish_derives, whole_by}
+use Rattle.first_pass_completion.proofs.Extending.{stepped, tail, lvl, loosened_in, stands_after, plain_before, extend, OpensAtPlace}
+use Rattle.first_pass_grammar.proofs.Sequences.Finishes.{Tail, before_of}
 use Rattle.first_pass_completion.proofs.FlatBlocks.{FlatBlock, OwnParagraph}
 use Rattle.first_pass_completion.proofs.Moved.{is_definition, opens_definition, OpensAlike, takes_alike, SameAfter, seq_moved, counts_moved, known_first}
 use Rattle.first_pass_completion.proofs.Moved.{OpensBlock, FirstIsOther, first_is_other}
 use Rattle.first_pass_completion.proofs.Titles.{leaf_nodes, leaf_gaps}
+use Rattle.first_pass_completion.proofs.States.{CompletesFrom, IsCompleted, IsStep, OpenNodes, reading, reading_at}
 
 -- if no list is innermost, the last block is no definition
 no_definition : (closed : Closed) → is_after_definition (last_plain closed) ≡ false
@@ -107,31 +107,33 @@ plain_in gap (InContainer c ∷ frames) plain = plain
 plain_in gap (InList byte loose ∷ frames) plain = absurd plain
 plain_in gap (InDefinitions loose ∷ frames) plain = absurd plain
 
-note_step : (d : Document) (defined : Tables) (frames : List Frame) (closed : Closed) (run : Bool) (nodes : List (ℕ × Item)) (os : List ℕ) (p : Place)
-    (lines : List Place) (opening : Opening) (forest : List (ℕ × Item)) (tables : Tables)
-    → IsPlain frames → StaysAt d (containers_of frames) p
-    → Opens d (level (containers_of frames) (stands_after (last_plain closed) run)) p lines opening → OpensBlock opening → opens_definition opening ≡ false
-    → Finish d defined (NoList closed) (stands_after (last_plain closed) false) (loosened_in run frames) nodes os (Inside p) lines forest tables
-    → Finish d defined (NoList closed) (stands_after (last_plain closed) run) frames nodes os (Inside p) lines forest tables
-note_step d defined frames closed run nodes os p lines opening forest tables plain stays opens block other fin =
-    let path : List Container = containers_of frames in
+-- a gap that is noted, given what precedes the block
+note_step : (d : Document) (w : OpenNodes) (closed : Closed) (run : Bool)
+    (b : OpensAtPlace d (level (containers_of w.frames) (stands_after (last_plain closed) run)))
+    → IsPlain w.frames → OpensBlock b.opening → opens_definition b.opening ≡ false
+    → IsStep d (reading w (NoList closed) (stands_after (last_plain closed) run) (Inside b.place) b.lines)
+    (reading (record w { frames = loosened_in run w.frames }) (NoList closed) (stands_after (last_plain closed) false) (Inside b.place) b.lines)
+note_step d w closed run b plain block other =
+    let path : List Container = containers_of w.frames in
     let q : Bool = in_quote path in
     let here : Before = stands_after (last_plain closed) run in
     let now : Before = stands_after (last_plain closed) false in
-    let alike : OpensAlike d path here now p = takes_alike d path here now p refl in
-    extend d defined defined frames (NoList closed) (NoList closed) here now run nodes nodes os (Inside p) (Inside p) lines lines
-    forest tables (λ s. s) plain (λ path mid. refl)
-    (λ s mid seq.
-    let noted = is_noted q run closed s (first_is_other d opening s block other
-    (known_first d path now p lines mid opening s stays (alike.to lines opening opens) seq)) in
-    record {
-      seq = seq_moved d s path now here p lines mid (record { to = alike.back; back = alike.to }) noted.1 seq;
-      items = λ last is. noted.0.items (suc (length os)) last nodes;
-      counts = sym (counts_moved q now here s noted.1);
-      gaps = noted.0.gaps;
+    let from : Continues = Inside b.place in
+    let alike : OpensAlike d path here now b.place = takes_alike d path here now b.place refl in
+    extend d (reading w (NoList closed) here from b.lines) (reading w (NoList closed) now from b.lines) run (λ s. s) (record {
+      plain = plain;
+      ends = λ path mid. refl;
+      adds = λ s mid seq.
+          let noted = is_noted q run closed s (first_is_other d b.opening s block other
+          (known_first d path now b.place b.lines mid b.opening s b.stays (alike.to b.lines b.opening b.opens) seq)) in
+          record {
+            seq = seq_moved d s path now here b.place b.lines mid (record { to = alike.back; back = alike.to }) noted.1 seq;
+            items = λ last is. noted.0.items (suc (length w.places)) last w.nodes;
+            counts = sym (counts_moved q now here s noted.1);
+            gaps = noted.0.gaps;
+          };
+      defines = λ s. refl;
     })
-    (λ s. refl)
-    fin
 
 plain-loosened : (gap : Bool) (frames : List Frame) → IsPlain frames → IsPlain (loosened gap frames)
 plain-loosened gap [] h = h
@@ -163,28 +165,30 @@ shaped-loosened_in gap (InContainer c ∷ frames) h = (stands-loosened gap c fra
 shaped-loosened_in gap (InList byte loose ∷ frames) h = (plain-loosened gap frames h.0, shaped-loosened gap frames h.1)
 shaped-loosened_in gap (InDefinitions loose ∷ frames) h = (plain-loosened gap frames h.0, shaped-loosened gap frames h.1)
 
-note_whole : (d : Document) (defined : Tables) (frames : List Frame) (t : Tail) (nodes : List (ℕ × Item)) (os : List ℕ) (p : Place)
-    (lines : List Place) (opening : Opening) (forest : List (ℕ × Item)) (tables : Tables)
-    → IsPlain frames → StaysAt d (containers_of frames) p → Opens d (lvl frames t) p lines opening → OpensBlock opening → opens_definition opening ≡ false
-    → FinishesAt d defined (tail t.closed false) (loosened_in t.run frames) nodes os (Inside p) lines forest tables
-    → FinishesAt d defined t frames nodes os (Inside p) lines forest tables
-note_whole d defined frames t nodes os p lines opening forest tables plain stays opens block other fin =
-    let is : before_of frames t ≡ stands_after (last_plain t.closed) t.run = plain_before t frames plain in
-    subst (λ z. Finish d defined (NoList t.closed) z frames nodes os (Inside p) lines forest tables) (sym is)
-    (note_step d defined frames t.closed t.run nodes os p lines opening forest tables plain stays
-    (subst (λ z. Opens d (level (containers_of frames) z) p lines opening) is opens) block other
-    (subst (λ z. Finish d defined (NoList t.closed) z (loosened_in t.run frames) nodes os (Inside p) lines forest tables)
-    (plain_before (tail t.closed false) (loosened_in t.run frames) (plain_in t.run frames plain)) fin))
+-- a gap that is noted before a block that is no definition
+note_whole : (d : Document) (w : OpenNodes) (t : Tail) (b : OpensAtPlace d (lvl w.frames t))
+    → IsPlain w.frames → OpensBlock b.opening → opens_definition b.opening ≡ false
+    → IsStep d (reading_at w t (Inside b.place) b.lines)
+    (reading_at (record w { frames = loosened_in t.run w.frames }) (tail t.closed false) (Inside b.place) b.lines)
+note_whole d w t b plain block other forest tables fin =
+    let is : before_of w.frames t ≡ stands_after (last_plain t.closed) t.run = plain_before t w.frames plain in
+    let from : Continues = Inside b.place in
+    let now : OpenNodes = record w { frames = loosened_in t.run w.frames } in
+    subst (λ z. IsCompleted d (reading w (NoList t.closed) z from b.lines) forest tables) (sym is)
+    (note_step d w t.closed t.run (record {
+      place = b.place;
+      lines = b.lines;
+      opening = b.opening;
+      stays = b.stays;
+      opens = subst (λ z. Opens d (level (containers_of w.frames) z) b.place b.lines b.opening) is b.opens;
+    }) plain block other forest tables
+    (subst (λ z. IsCompleted d (reading now (NoList t.closed) z from b.lines) forest tables)
+    (plain_before (tail t.closed false) now.frames (plain_in t.run w.frames plain)) fin))
 
 -- a gap is noted before a block that is no definition
-pub completes-note : (d : Document) (defined : Tables) (t : Tail) (frames : List Frame) (nodes : List (ℕ × Item)) (os : List ℕ) (p : Place)
-    (lines : List Place) (opening : Opening)
-    → IsPlain frames → StaysAt d (containers_of frames) p → Opens d (lvl frames t) p lines opening → OpensBlock opening → opens_definition opening ≡ false
-    → CompletesAt d defined t frames nodes os (Inside p) lines
-    → CompletesAt d defined (tail t.closed false) (loosened_in t.run frames) nodes os (Inside p) lines
-completes-note d defined t frames nodes os p lines opening plain stays opens block other k = record {
-  below = k.below;
-  shape = shaped-loosened_in t.run frames k.shape;
-  whole = whole_by _ _ _ _ _ _ _ _ (λ forest tables fin. finish_derives _ _ _ _ _ _ _ _ k forest tables
-      (note_whole d defined frames t nodes os p lines opening forest tables plain stays opens block other fin));
-}
+pub completes-note : (d : Document) (w : OpenNodes) (t : Tail) (b : OpensAtPlace d (lvl w.frames t))
+    → IsPlain w.frames → OpensBlock b.opening → opens_definition b.opening ≡ false
+    → CompletesFrom d w t (Inside b.place) b.lines
+    → CompletesFrom d (record w { frames = loosened_in t.run w.frames }) (tail t.closed false) (Inside b.place) b.lines
+completes-note d w t b plain block other k =
+    stepped d _ _ _ _ _ _ _ _ k (note_whole d w t b plain block other) (k.below, (shaped-loosened_in t.run w.frames k.shape))

@@ -3,7 +3,7 @@ use Rattle.std.proofs.Common.{◌≡◌, ℕ, suc, ◌<◌, Bool, true, false, L
 use Rattle.std.proofs.Common.{sym, ap, ◌∙◌, subst, arith}
 use Rattle.std.proofs.Math.Bool.{or-false}
 use Rattle.first_pass_items.specs.declared.item.Item.{Item}
-use Rattle.first_pass_lines.specs.Places.{Place, offset, start_of}
+use Rattle.first_pass_lines.specs.Places.{Place}
 use Rattle.first_pass_grammar.specs.declared.kind.Container.{Container}
 use Rattle.first_pass_grammar.specs.Containers.{next_goes_on}
 use Rattle.first_pass_grammar.specs.Footnotes.{ends_footnote}
@@ -12,77 +12,116 @@ use Rattle.first_pass_grammar.specs.Before.{Last, LastParagraph, LastItem, LastD
 use Rattle.first_pass_grammar.specs.Before.{before_end}
 use Rattle.first_pass_grammar.specs.Skeleton.{Continues, Line, Inside, level, Remaining, Lines, InLine, Ends, next_block, only_blanks}
 use Rattle.first_pass_grammar.specs.Skeleton.{end_of_left, IsSequence}
-use Rattle.first_pass_grammar.specs.Kinds.{unindented}
 use Rattle.first_pass_grammar.specs.Rows.{Joins, ItemsOf, DefinitionsTo, End, any_gap, is_loose}
 use Rattle.first_pass_grammar.specs.Rows.{definitions_first, rows_of}
-use Rattle.first_pass_grammar.specs.Derivation.{Tables, items_of}
+use Rattle.first_pass_grammar.specs.Derivation.{items_of}
 use Rattle.first_pass_grammar.specs.Completion.{title_left, list_closed, OtherClosed, ParagraphAt, DefinitionClosed, TitleAt, Pending, NoList, OneList}
-use Rattle.first_pass_grammar.specs.Completion.{OneTitle, rows_beyond, rendered, Frame, InList, InDefinitions, containers_of}
+use Rattle.first_pass_grammar.specs.Completion.{OneTitle, rows_beyond, rendered, InList, InDefinitions, containers_of}
 use Rattle.first_pass_grammar.specs.Completion.{AreBelow, IsPlain}
-use Rattle.first_pass_completion.proofs.Extending.{tail, AreBelow-more, loosened_in-false, stands_after}
-use Rattle.first_pass_completion.proofs.Extending.{Adds, extend}
-use Rattle.first_pass_grammar.proofs.Sequences.Finishes.{Finish, Tail, before_of, CompletesAt, FinishesAt, finish_derives, whole_by}
+use Rattle.first_pass_completion.proofs.Extending.{stepped, tail, AreBelow-more, stands_after}
+use Rattle.first_pass_completion.proofs.Extending.{Adds, extend_same}
+use Rattle.first_pass_grammar.proofs.Sequences.Finishes.{Finish, Tail, before_of}
 use Rattle.first_pass_grammar.proofs.Sequences.Goings.{ends_inside, stops}
 use Rattle.first_pass_grammar.proofs.Sequences.Tightening.{length-closed}
 use Rattle.first_pass_completion.proofs.TitleNodes.{length-left}
 use Rattle.first_pass_grammar.proofs.Uniqueness.Unique.{ends_at_once}
+use Rattle.first_pass_completion.proofs.States.{CompletesFrom, IsStep, OpenDefinitions, OpenNodes, Reading, reading, reading_at, with_inner}
 
 -- the last block in a list that may continue
 abbrev pub last_in : Joins → Bool → Last
 last_in (ItemsOf byte) blanks = LastItem
 last_in (DefinitionsTo e) blanks = LastDefinition blanks
 
+-- the open nodes after the list at a place is closed, which ends at an offset
+abbrev pub list_popped : OpenNodes → ℕ → Bool → ℕ → OpenNodes
+list_popped w o loose e = record w { nodes = list_closed w.nodes o (suc (suc (suc (length w.places)))) loose e }
+
+-- the open nodes after a definition list is closed, and the possible title after it becomes a paragraph
+abbrev pub title_popped : OpenNodes → OpenDefinitions → ℕ → OpenNodes
+title_popped w l at = record w { nodes = title_left (list_closed w.nodes l.place (suc (suc (suc (length w.places)))) l.loose l.«end») at }
+
+-- The containers of a path end here after any block: where a further block would begin, the lines from there on, and
+-- what is left for the blocks around them.
+pub record EndHere (d : Document) (path : List Container) : Type 0 where
+  pub from : Continues
+  pub lines : List Place
+  pub left : Remaining
+  pub none : only_blanks from ≡ None
+  pub ends : (before : Before) → next_block d.options (level path before) from lines ≡ Ends left
+
+-- the end of a list in such containers
+abbrev pub list_end : (d : Document) (path : List Container) → EndHere d path → ℕ
+list_end d path h = end_of_left (length d.text) [] None h.left
+
+-- they end before a line that does not continue them
+abbrev pub end_before_line : (d : Document) (path : List Container) (lines : List Place) → next_goes_on path lines ≡ false → EndHere d path
+end_before_line d path lines ends = record {
+  from = Line;
+  lines = lines;
+  left = Lines lines;
+  none = refl;
+  ends = λ before. stops d.options (level path before) lines ends;
+}
+
+-- they end where a footnote definition begins after the one in which they end
+abbrev pub end_in_line : (d : Document) (path : List Container) (p : Place) (lines : List Place) → ends_footnote (around d path) p ≡ true → EndHere d path
+end_in_line d path p lines ends = record {
+  from = Inside p;
+  lines = lines;
+  left = InLine p lines;
+  none = refl;
+  ends = λ before. ends_inside d.options (level path before) p lines ends;
+}
+
 -- A list that may continue is closed before the end of the container around it.
-shut_step : (d : Document) (defined : Tables) (frames : List Frame) (list : Pending) (t : Tail) (last : Last) (run : Bool) (nodes nodes' : List (ℕ × Item))
-    (os : List ℕ) (from : Continues) (lines : List Place) (left : Remaining) (forest : List (ℕ × Item)) (tables : Tables)
-    → IsPlain frames → t.run ≡ run → ((before : Before) → next_block d.options (level (containers_of frames) before) from lines ≡ Ends left)
-    → ((e : ℕ) → (only_blanks from ≡ None → e ≡ end_of_left (length d.text) [] None left)
-    → rendered (suc (length os)) e nodes list End ≡ rendered (suc (length os)) e nodes' (NoList t.closed) End)
+shut_step : (d : Document) (w : OpenNodes) (list : Pending) (t : Tail) (last : Last) (nodes : List (ℕ × Item)) (h : EndHere d (containers_of w.frames))
+    → IsPlain w.frames
+    → ((e : ℕ) → (only_blanks h.from ≡ None → e ≡ list_end d (containers_of w.frames) h)
+    → rendered (suc (length w.places)) e w.nodes list End ≡ rendered (suc (length w.places)) e nodes (NoList t.closed) End)
     → any_gap (rows_beyond list End) ≡ any_gap (rows_beyond (NoList t.closed) End)
-    → FinishesAt d defined t frames nodes' os from lines forest tables
-    → Finish d defined list (stands_after last run) frames nodes os from lines forest tables
+    → IsStep d (reading w list (stands_after last t.run) h.from h.lines) (reading_at (record w { nodes = nodes }) t h.from h.lines)
 unfolding IsSequence rows_of before_end
-shut_step d defined frames list t last run nodes nodes' os from lines left forest tables plain counted ends same gaps fin =
+shut_step d w list t last nodes h plain same gaps =
     let n : ℕ = length d.text in
-    let k : ℕ = suc (length os) in
-    let path : List Container = containers_of frames in
-    let here : Before = stands_after last run in
-    let closed : Before = before_of frames t in
-    extend d defined defined frames list (NoList t.closed) here closed false nodes nodes' os from from lines lines forest tables (λ s. s) plain
-    (λ path mid. refl)
-    (λ s mid seq. let over = ends_at_once d s (level path closed) from lines left mid (ends closed) seq in
-    subst (λ z. Adds d k path list (NoList t.closed) here closed false nodes nodes' from lines z z mid) (sym over.0) (record {
-      seq = ends here ∙ ap (λ (z : Remaining). Ends z) (sym over.1);
-      items = λ e is. same e (λ none. is none ∙ ap (end_of_left n [] None) over.1);
-      counts = sym counted;
-      gaps = λ e. gaps;
-    }))
-    (λ s. refl)
-    (subst (λ z. Finish d defined (NoList t.closed) closed z nodes' os from lines forest tables) (sym (loosened_in-false frames)) fin)
+    let path : List Container = containers_of w.frames in
+    let here : Before = stands_after last t.run in
+    let closed : Before = before_of w.frames t in
+    let old : Reading = reading w list here h.from h.lines in
+    let next : Reading = reading (record w { nodes = nodes }) (NoList t.closed) closed h.from h.lines in
+    extend_same d old next (λ s. s) (record {
+      plain = plain;
+      ends = λ path mid. refl;
+      adds = λ s mid seq.
+          let over = ends_at_once d s (level path closed) h.from h.lines h.left mid (h.ends closed) seq in
+          subst (λ z. Adds d old next false z z mid) (sym over.0) (record {
+            seq = h.ends here ∙ ap (λ (z : Remaining). Ends z) (sym over.1);
+            items = λ e is. same e (λ none. is none ∙ ap (end_of_left n [] None) over.1);
+            counts = refl;
+            gaps = λ e. gaps;
+          });
+      defines = λ s. refl;
+    })
 
-pop_list_step : (d : Document) (defined : Tables) (frames : List Frame) (list : Joins) (loose run blanks : Bool) (nodes : List (ℕ × Item)) (o : ℕ)
-    (os : List ℕ) (from : Continues) (lines : List Place) (left : Remaining) (forest : List (ℕ × Item)) (tables : Tables)
-    → IsPlain frames → only_blanks from ≡ None → ((before : Before) → next_block d.options (level (containers_of frames) before) from lines ≡ Ends left)
-    → FinishesAt d defined (tail OtherClosed run) frames
-    (list_closed nodes o (suc (suc (suc (length os)))) loose (end_of_left (length d.text) [] None left)) os from lines forest tables
-    → Finish d defined (OneList o list loose) (stands_after (last_in list blanks) run) frames nodes os from lines forest tables
+-- the same for a list of items or of definitions
+pop_list_step : (d : Document) (w : OpenNodes) (list : Joins) (loose run blanks : Bool) (o : ℕ) (h : EndHere d (containers_of w.frames))
+    → IsPlain w.frames
+    → IsStep d (reading w (OneList o list loose) (stands_after (last_in list blanks) run) h.from h.lines)
+    (reading_at (list_popped w o loose (list_end d (containers_of w.frames) h)) (tail OtherClosed run) h.from h.lines)
 unfolding is_loose items_of rendered
-pop_list_step d defined frames list loose run blanks nodes o os from lines left forest tables plain none ends fin =
-    let k : ℕ = suc (length os) in
-    shut_step d defined frames (OneList o list loose) (tail OtherClosed run) (last_in list blanks) run nodes _ os from lines left forest tables plain refl ends
-    (λ e is. ap (λ z. list_closed nodes o (suc (suc k)) z e ++ []) (or-false loose) ∙ ap (λ z. list_closed nodes o (suc (suc k)) loose z ++ []) (is none))
-    refl fin
+pop_list_step d w list loose run blanks o h plain =
+    let k : ℕ = suc (length w.places) in
+    shut_step d w (OneList o list loose) (tail OtherClosed run) (last_in list blanks) _ h plain
+    (λ e is. ap (λ z. list_closed w.nodes o (suc (suc k)) z e ++ []) (or-false loose) ∙ ap (λ z. list_closed w.nodes o (suc (suc k)) loose z ++ []) (is h.none))
+    refl
 
-pop_title_step : (d : Document) (defined : Tables) (frames : List Frame) (loose run : Bool) (nodes : List (ℕ × Item)) (o at e : ℕ)
-    (os : List ℕ) (from : Continues) (lines : List Place) (left : Remaining) (forest : List (ℕ × Item)) (tables : Tables)
-    → IsPlain frames → ((before : Before) → next_block d.options (level (containers_of frames) before) from lines ≡ Ends left)
-    → FinishesAt d defined (tail (ParagraphAt at) run) frames (title_left (list_closed nodes o (suc (suc (suc (length os)))) loose e) at) os from lines
-    forest tables
-    → Finish d defined (OneTitle o at e loose) (stands_after (LastParagraph true) run) frames nodes os from lines forest tables
+-- the same for a definition list with a possible title after it
+pop_title_step : (d : Document) (w : OpenNodes) (l : OpenDefinitions) (at : ℕ) (run : Bool) (h : EndHere d (containers_of w.frames))
+    → IsPlain w.frames
+    → IsStep d (reading w (OneTitle l.place at l.«end» l.loose) (stands_after (LastParagraph true) run) h.from h.lines)
+    (reading_at (title_popped w l at) (tail (ParagraphAt at) run) h.from h.lines)
 unfolding definitions_first rendered
-pop_title_step d defined frames loose run nodes o at e os from lines left forest tables plain ends fin =
-    shut_step d defined frames (OneTitle o at e loose) (tail (ParagraphAt at) run) (LastParagraph true) run nodes _ os from lines left forest tables plain refl
-    ends (λ last is. refl) refl fin
+pop_title_step d w l at run h plain =
+    shut_step d w (OneTitle l.place at l.«end» l.loose) (tail (ParagraphAt at) run) (LastParagraph true) _ h plain (λ last is. refl) refl
 
 pub closed_below : (nodes : List (ℕ × Item)) (o : ℕ) (os : List ℕ) (depth : ℕ) (loose : Bool) (e : ℕ) → AreBelow (length nodes) (o ∷ os)
     → AreBelow (length (list_closed nodes o depth loose e)) os
@@ -95,103 +134,29 @@ title_below nodes o os depth loose e at below =
     AreBelow-more (length (list_closed nodes o depth loose e)) _ os
     (let l = length-left (list_closed nodes o depth loose e) at in omega arith) (closed_below nodes o os depth loose e below)
 
--- a list is closed with the container around it, wherever that ends
-completes-pop_any : (d : Document) (defined : Tables) (t : Tail) (byte : ℕ) (loose : Bool) (frames : List Frame) (nodes : List (ℕ × Item)) (o : ℕ)
-    (os : List ℕ) (from : Continues) (lines : List Place) (left : Remaining)
-    → only_blanks from ≡ None → ((before : Before) → next_block d.options (level (containers_of frames) before) from lines ≡ Ends left)
-    → CompletesAt d defined t (InList byte loose ∷ frames) nodes (o ∷ os) from lines
-    → CompletesAt d defined (tail OtherClosed t.run) frames
-    (list_closed nodes o (suc (suc (suc (length os)))) loose (end_of_left (length d.text) [] None left)) os from lines
+-- a list is closed with the container around it
+pub completes-pop_list : (d : Document) (w : OpenNodes) (t : Tail) (byte : ℕ) (loose : Bool) (o : ℕ) (h : EndHere d (containers_of w.frames))
+    → CompletesFrom d (with_inner w (InList byte loose) o) t h.from h.lines
+    → CompletesFrom d (list_popped w o loose (list_end d (containers_of w.frames) h)) (tail OtherClosed t.run) h.from h.lines
 unfolding Finish
-completes-pop_any d defined t byte loose frames nodes o os from lines left none ends k = record {
-  below = closed_below nodes o os (suc (suc (suc (length os)))) loose (end_of_left (length d.text) [] None left) k.below;
-  shape = k.shape.1;
-  whole = whole_by _ _ _ _ _ _ _ _ (λ forest tables fin. finish_derives _ _ _ _ _ _ _ _ k forest tables
-      (pop_list_step d defined frames (ItemsOf byte) loose t.run false nodes o os from lines left forest tables k.shape.0 none ends fin));
-}
+completes-pop_list d w t byte loose o h k =
+    stepped d _ _ _ _ _ _ _ _ k (pop_list_step d w (ItemsOf byte) loose t.run false o h k.shape.0)
+    (closed_below w.nodes o w.places (suc (suc (suc (length w.places)))) loose (list_end d (containers_of w.frames) h) k.below, k.shape.1)
 
-completes-pop_definitions_any : (d : Document) (defined : Tables) (e : ℕ) (blanks run loose : Bool) (frames : List Frame) (nodes : List (ℕ × Item)) (o : ℕ)
-    (os : List ℕ) (from : Continues) (lines : List Place) (left : Remaining)
-    → only_blanks from ≡ None → ((before : Before) → next_block d.options (level (containers_of frames) before) from lines ≡ Ends left)
-    → CompletesAt d defined (tail (DefinitionClosed e blanks) run) (InDefinitions loose ∷ frames) nodes (o ∷ os) from lines
-    → CompletesAt d defined (tail OtherClosed run) frames
-    (list_closed nodes o (suc (suc (suc (length os)))) loose (end_of_left (length d.text) [] None left)) os from lines
+-- a definition list is closed in this way, after a definition
+pub completes-pop_definitions : (d : Document) (w : OpenNodes) (l : OpenDefinitions) (blanks run : Bool) (h : EndHere d (containers_of w.frames))
+    → CompletesFrom d (with_inner w (InDefinitions l.loose) l.place) (tail (DefinitionClosed l.«end» blanks) run) h.from h.lines
+    → CompletesFrom d (list_popped w l.place l.loose (list_end d (containers_of w.frames) h)) (tail OtherClosed run) h.from h.lines
 unfolding Finish
-completes-pop_definitions_any d defined e blanks run loose frames nodes o os from lines left none ends k = record {
-  below = closed_below nodes o os (suc (suc (suc (length os)))) loose (end_of_left (length d.text) [] None left) k.below;
-  shape = k.shape.1;
-  whole = whole_by _ _ _ _ _ _ _ _ (λ forest tables fin. finish_derives _ _ _ _ _ _ _ _ k forest tables
-      (pop_list_step d defined frames (DefinitionsTo e) loose run blanks nodes o os from lines left forest tables k.shape.0 none ends fin));
-}
+completes-pop_definitions d w l blanks run h k =
+    stepped d _ _ _ _ _ _ _ _ k (pop_list_step d w (DefinitionsTo l.«end») l.loose run blanks l.place h k.shape.0)
+    (closed_below w.nodes l.place w.places (suc (suc (suc (length w.places)))) l.loose (list_end d (containers_of w.frames) h) k.below, k.shape.1)
 
-completes-pop_title_any : (d : Document) (defined : Tables) (e at : ℕ) (run loose : Bool) (frames : List Frame) (nodes : List (ℕ × Item)) (o : ℕ)
-    (os : List ℕ) (from : Continues) (lines : List Place) (left : Remaining)
-    → ((before : Before) → next_block d.options (level (containers_of frames) before) from lines ≡ Ends left)
-    → CompletesAt d defined (tail (TitleAt e at) run) (InDefinitions loose ∷ frames) nodes (o ∷ os) from lines
-    → CompletesAt d defined (tail (ParagraphAt at) run) frames (title_left (list_closed nodes o (suc (suc (suc (length os)))) loose e) at) os from lines
+-- a definition list is closed in this way; the possible title after it becomes a paragraph
+pub completes-pop_title : (d : Document) (w : OpenNodes) (l : OpenDefinitions) (at : ℕ) (run : Bool) (h : EndHere d (containers_of w.frames))
+    → CompletesFrom d (with_inner w (InDefinitions l.loose) l.place) (tail (TitleAt l.«end» at) run) h.from h.lines
+    → CompletesFrom d (title_popped w l at) (tail (ParagraphAt at) run) h.from h.lines
 unfolding Finish
-completes-pop_title_any d defined e at run loose frames nodes o os from lines left ends k = record {
-  below = title_below nodes o os (suc (suc (suc (length os)))) loose e at k.below;
-  shape = k.shape.1;
-  whole = whole_by _ _ _ _ _ _ _ _ (λ forest tables fin. finish_derives _ _ _ _ _ _ _ _ k forest tables
-      (pop_title_step d defined frames loose run nodes o at e os from lines left forest tables k.shape.0 ends fin));
-}
-
--- a list is closed with the container around it, before a line that does not continue that container
-pub completes-pop_list : (d : Document) (defined : Tables) (t : Tail) (byte : ℕ) (loose : Bool) (frames : List Frame) (nodes : List (ℕ × Item)) (o : ℕ)
-    (os : List ℕ) (lines : List Place)
-    → next_goes_on (containers_of frames) lines ≡ false → CompletesAt d defined t (InList byte loose ∷ frames) nodes (o ∷ os) Line lines
-    → CompletesAt d defined (tail OtherClosed t.run) frames
-    (list_closed nodes o (suc (suc (suc (length os)))) loose (start_of (length d.text) lines)) os Line lines
-completes-pop_list d defined t byte loose frames nodes o os lines ends k =
-    completes-pop_any d defined t byte loose frames nodes o os Line lines (Lines lines) refl
-    (λ before. stops d.options (level (containers_of frames) before) lines ends) k
-
-pub completes-pop_definitions : (d : Document) (defined : Tables) (e : ℕ) (blanks run loose : Bool) (frames : List Frame) (nodes : List (ℕ × Item)) (o : ℕ)
-    (os : List ℕ) (lines : List Place)
-    → next_goes_on (containers_of frames) lines ≡ false
-    → CompletesAt d defined (tail (DefinitionClosed e blanks) run) (InDefinitions loose ∷ frames) nodes (o ∷ os) Line lines
-    → CompletesAt d defined (tail OtherClosed run) frames
-    (list_closed nodes o (suc (suc (suc (length os)))) loose (start_of (length d.text) lines)) os Line lines
-completes-pop_definitions d defined e blanks run loose frames nodes o os lines ends k =
-    completes-pop_definitions_any d defined e blanks run loose frames nodes o os Line lines (Lines lines) refl
-    (λ before. stops d.options (level (containers_of frames) before) lines ends) k
-
--- a definition list is closed in this way; its last child, a possible title, becomes a paragraph
-pub completes-pop_title : (d : Document) (defined : Tables) (e at : ℕ) (run loose : Bool) (frames : List Frame) (nodes : List (ℕ × Item)) (o : ℕ)
-    (os : List ℕ) (lines : List Place)
-    → next_goes_on (containers_of frames) lines ≡ false
-    → CompletesAt d defined (tail (TitleAt e at) run) (InDefinitions loose ∷ frames) nodes (o ∷ os) Line lines
-    → CompletesAt d defined (tail (ParagraphAt at) run) frames (title_left (list_closed nodes o (suc (suc (suc (length os)))) loose e) at) os Line lines
-completes-pop_title d defined e at run loose frames nodes o os lines ends k =
-    completes-pop_title_any d defined e at run loose frames nodes o os Line lines (Lines lines)
-    (λ before. stops d.options (level (containers_of frames) before) lines ends) k
-
--- a list is closed with the footnote definition around it, where another one begins
-pub completes-pop_list_in_line : (d : Document) (defined : Tables) (t : Tail) (byte : ℕ) (loose : Bool) (frames : List Frame) (nodes : List (ℕ × Item))
-    (o : ℕ) (os : List ℕ) (p : Place) (lines : List Place)
-    → ends_footnote (around d (containers_of frames)) p ≡ true → CompletesAt d defined t (InList byte loose ∷ frames) nodes (o ∷ os) (Inside p) lines
-    → CompletesAt d defined (tail OtherClosed t.run) frames
-    (list_closed nodes o (suc (suc (suc (length os)))) loose (offset (unindented p))) os (Inside p) lines
-completes-pop_list_in_line d defined t byte loose frames nodes o os p lines ends k =
-    completes-pop_any d defined t byte loose frames nodes o os (Inside p) lines (InLine p lines) refl
-    (λ before. ends_inside d.options (level (containers_of frames) before) p lines ends) k
-
-pub completes-pop_definitions_in_line : (d : Document) (defined : Tables) (e : ℕ) (blanks run loose : Bool) (frames : List Frame)
-    (nodes : List (ℕ × Item)) (o : ℕ) (os : List ℕ) (p : Place) (lines : List Place)
-    → ends_footnote (around d (containers_of frames)) p ≡ true
-    → CompletesAt d defined (tail (DefinitionClosed e blanks) run) (InDefinitions loose ∷ frames) nodes (o ∷ os) (Inside p) lines
-    → CompletesAt d defined (tail OtherClosed run) frames
-    (list_closed nodes o (suc (suc (suc (length os)))) loose (offset (unindented p))) os (Inside p) lines
-completes-pop_definitions_in_line d defined e blanks run loose frames nodes o os p lines ends k =
-    completes-pop_definitions_any d defined e blanks run loose frames nodes o os (Inside p) lines (InLine p lines) refl
-    (λ before. ends_inside d.options (level (containers_of frames) before) p lines ends) k
-
-pub completes-pop_title_in_line : (d : Document) (defined : Tables) (e at : ℕ) (run loose : Bool) (frames : List Frame) (nodes : List (ℕ × Item)) (o : ℕ)
-    (os : List ℕ) (p : Place) (lines : List Place)
-    → ends_footnote (around d (containers_of frames)) p ≡ true
-    → CompletesAt d defined (tail (TitleAt e at) run) (InDefinitions loose ∷ frames) nodes (o ∷ os) (Inside p) lines
-    → CompletesAt d defined (tail (ParagraphAt at) run) frames (title_left (list_closed nodes o (suc (suc (suc (length os)))) loose e) at) os (Inside p) lines
-completes-pop_title_in_line d defined e at run loose frames nodes o os p lines ends k =
-    completes-pop_title_any d defined e at run loose frames nodes o os (Inside p) lines (InLine p lines)
-    (λ before. ends_inside d.options (level (containers_of frames) before) p lines ends) k
+completes-pop_title d w l at run h k =
+    stepped d _ _ _ _ _ _ _ _ k (pop_title_step d w l at run h k.shape.0)
+    (title_below w.nodes l.place w.places (suc (suc (suc (length w.places)))) l.loose l.«end» at k.below, k.shape.1)

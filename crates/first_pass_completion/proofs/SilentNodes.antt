@@ -19,6 +19,7 @@ use Rattle.first_pass_grammar.specs.WholeTables.{Mark, shown, marks, TableRows, 
 use Rattle.first_pass_grammar.proofs.Each.EachRow.{HoldsOfFirst, first_rows, items_rows, list_rows}
 use Rattle.first_pass_grammar.proofs.WholeTables.TableMarks.{marks-append}
 use Rattle.first_pass_grammar.proofs.WholeTables.WholeForests.{table_marks-append, whole_both, tight_shows, marks-tightened, WholeRows, forest_whole}
+use Rattle.first_pass_completion.proofs.States.{OpenDefinitions}
 use Rattle.first_pass_grammar.specs.WholeTables.{AreEachNode, ShowsNothing, SilentClosed, SilentFrom}
 
 -- there is a node at a place, and it is no part of a table
@@ -293,17 +294,18 @@ unless_apart : (names : Names) (o : Option Definitions) → HoldsOfFirst (AreWho
 unless_apart names None h = tt
 unless_apart names (Some ds) h = apart_by names ds.apart ds h
 
-title_shows : (names : Names) (depth : ℕ) (nodes : List (ℕ × Item)) (place title e : ℕ) (loose : Bool) (o : Option Definitions) (rows : Rows)
-    → IsSilent nodes place → SilentFrom nodes title → HoldsOfFirst (AreWholeTables names) o → WholeRows names rows
-    → ShowsMore names nodes (after_title depth nodes (place, title, e) loose o rows)
-title_shows names depth nodes place title e loose (Some ds) rows silent from f h =
-    closed_shows names depth nodes (title_taken nodes title) place (loose || is_loose ds.items) ds (marks_taken names nodes title from)
-    (silent_taken nodes title place silent) f
-title_shows names depth nodes place title e loose None rows silent from f h =
-    let closed : List (ℕ × Item) = list_closed nodes place (suc (suc depth)) loose e in
-    let still = from_closed nodes place (suc (suc depth)) loose e title from in
+-- A definition list with a possible title after it, and the rows that follow, add only whole tables.
+title_shows : (names : Names) (depth : ℕ) (nodes : List (ℕ × Item)) (l : OpenDefinitions) (title : ℕ) (o : Option Definitions) (rows : Rows)
+    → IsSilent nodes l.place → SilentFrom nodes title → HoldsOfFirst (AreWholeTables names) o → WholeRows names rows
+    → ShowsMore names nodes (after_title depth nodes (l.place, title, l.«end») l.loose o rows)
+title_shows names depth nodes l title (Some ds) rows silent from f h =
+    closed_shows names depth nodes (title_taken nodes title) l.place (l.loose || is_loose ds.items) ds (marks_taken names nodes title from)
+    (silent_taken nodes title l.place silent) f
+title_shows names depth nodes l title None rows silent from f h =
+    let closed : List (ℕ × Item) = list_closed nodes l.place (suc (suc depth)) l.loose l.«end» in
+    let still = from_closed nodes l.place (suc (suc depth)) l.loose l.«end» title from in
     paragraph_shows names depth nodes (title_left closed title) title (definitions_first rows) rows
-    (marks_left names closed title still ∙ marks_closed names nodes place (suc (suc depth)) loose e silent) (from_left closed title title still)
+    (marks_left names closed title still ∙ marks_closed names nodes l.place (suc (suc depth)) l.loose l.«end» silent) (from_left closed title title still)
     (first_rows (AreWholeTables names) rows h) h
 
 pub rendered_shows : (names : Names) (depth last : ℕ) (nodes : List (ℕ × Item)) (list : Pending) (rows : Rows) → SilentList nodes list → WholeRows names rows
@@ -318,7 +320,7 @@ rendered_shows names depth last nodes (OneList place joins loose) rows silent h 
     (forest_whole names (suc depth) (not now) (items_after joins rows) (items_rows (AreWholeTables names) joins rows h))
     (forest_whole names depth false (list_after joins rows) (list_rows (AreWholeTables names) joins rows h)))
 rendered_shows names depth last nodes (OneTitle place title e loose) rows silent h =
-    title_shows names depth nodes place title e loose (not_apart (definitions_first rows)) rows silent.0 silent.1
+    title_shows names depth nodes (record { place = place; «end» = e; loose = loose }) title (not_apart (definitions_first rows)) rows silent.0 silent.1
     (unless_apart names (definitions_first rows) (first_rows (AreWholeTables names) rows h)) h
 
 -- the nodes that are still open are no part of a table afterwards

@@ -19,6 +19,7 @@ use Rattle.first_pass_grammar.specs.Completion.{NoList, OneList, OneTitle, besid
 use Rattle.first_pass_grammar.specs.Completion.{after_paragraph, after_title, rendered}
 use Rattle.first_pass_completion.proofs.FlatBlocks.{FlatBlock, OwnParagraph}
 use Rattle.first_pass_grammar.proofs.Sequences.Tightening.{length-closed}
+use Rattle.first_pass_completion.proofs.States.{OpenDefinitions}
 use Rattle.first_pass_completion.proofs.TitleNodes.{as_possible, titled_closed, closed-kept, title-flat, taken-mid, left-closed}
 
 -- the last child after a leaf block whose node is at a place
@@ -186,19 +187,19 @@ other_gaps closed b gap r is run =
 
 -- one more leaf block
 leaf_nodes_by : (k last : ℕ) (nodes : List (ℕ × Item)) (closed : Closed) (b : LeafBlock) (gap : Bool) (r : Rows) (p t : Bool)
-    → begins_paragraph b.items ≡ p → is_run b.kind ≡ t → FlatBlock b → OwnParagraph b
+    → begins_paragraph b.items ≡ p → is_run b.kind ≡ t → FlatBlock b × OwnParagraph b
     → rendered k last nodes (NoList closed) (leaf_row b gap r)
     ≡ rendered k last (nodes ++ block_items k false b) (NoList (if p then ParagraphAt (length nodes) else (if t then closed else OtherClosed))) r
-leaf_nodes_by k last nodes closed b gap r true t is run flat own = paragraph_nodes k last nodes closed b gap r is flat own
-leaf_nodes_by k last nodes closed b gap r false true is run flat own =
+leaf_nodes_by k last nodes closed b gap r true t is run (flat, own) = paragraph_nodes k last nodes closed b gap r is flat own
+leaf_nodes_by k last nodes closed b gap r false true is run (flat, own) =
     run_nodes k last nodes closed b gap r run (flat.none run)
     ∙ ap (λ z. rendered k last z (NoList closed) r) (sym (ap (λ z. nodes ++ at_depth k z) (flat.none run) ∙ append-nil nodes))
-leaf_nodes_by k last nodes closed b gap r false false is run flat own = other_nodes k last nodes closed b gap r is run
+leaf_nodes_by k last nodes closed b gap r false false is run (flat, own) = other_nodes k last nodes closed b gap r is run
 
 pub leaf_nodes : (k last : ℕ) (nodes : List (ℕ × Item)) (closed : Closed) (b : LeafBlock) (gap : Bool) (r : Rows) → FlatBlock b → OwnParagraph b
     → rendered k last nodes (NoList closed) (leaf_row b gap r)
     ≡ rendered k last (nodes ++ block_items k false b) (NoList (closed_after (length nodes) b closed)) r
-leaf_nodes k last nodes closed b gap r flat own = leaf_nodes_by k last nodes closed b gap r _ _ refl refl flat own
+leaf_nodes k last nodes closed b gap r flat own = leaf_nodes_by k last nodes closed b gap r _ _ refl refl (flat, own)
 
 leaf_gaps_by : (place : ℕ) (closed : Closed) (b : LeafBlock) (gap : Bool) (r : Rows) (p t : Bool)
     → begins_paragraph b.items ≡ p → is_run b.kind ≡ t → FlatBlock b
@@ -246,55 +247,67 @@ possible_left : (k : ℕ) (nodes : List (ℕ × Item)) (place e : ℕ) (loose : 
     ≡ title_left (list_closed (nodes ++ at_depth (suc k) (as_possible b.items)) place (suc (suc k)) loose e) (length nodes)
 possible_left k nodes place e loose b is flat h = sym (left-closed k nodes b.items place (suc (suc k)) loose e is (flat.tokens is) h)
 
-possible_none : (k last : ℕ) (nodes : List (ℕ × Item)) (place e : ℕ) (loose : Bool) (b : LeafBlock) (r : Rows)
-    → begins_paragraph b.items ≡ true → FlatBlock b → OwnParagraph b → place < length nodes → definitions_first r ≡ None
-    → rendered k last nodes (OneList place (DefinitionsTo e) loose) (OneOf (row_of_leaf b false) End r)
-    ≡ after_title k (nodes ++ at_depth (suc k) (as_possible b.items)) (place, length nodes, e) loose None r
+-- a leaf block that begins with a paragraph, which starts where the block does, and in which nothing is nested
+pub record IsParagraphBlock (b : LeafBlock) : Type 0 where
+  pub begins : begins_paragraph b.items ≡ true
+  pub flat : FlatBlock b
+  pub own : OwnParagraph b
+
+-- a possible title without definitions after it
+possible_none : (k last : ℕ) (nodes : List (ℕ × Item)) (l : OpenDefinitions) (b : LeafBlock) (r : Rows)
+    → IsParagraphBlock b → l.place < length nodes → definitions_first r ≡ None
+    → rendered k last nodes (OneList l.place (DefinitionsTo l.«end») l.loose) (OneOf (row_of_leaf b false) End r)
+    ≡ after_title k (nodes ++ at_depth (suc k) (as_possible b.items)) (l.place, length nodes, l.«end») l.loose None r
 unfolding items_of
-possible_none k last nodes place e loose b r is flat own h first =
-    let closed : List (ℕ × Item) = list_closed nodes place (suc (suc k)) loose e in
+possible_none k last nodes l b r is h first =
+    let closed : List (ℕ × Item) = list_closed nodes l.place (suc (suc k)) l.loose l.«end» in
     let left : List (ℕ × Item) =
-    title_left (list_closed (nodes ++ at_depth (suc k) (as_possible b.items)) place (suc (suc k)) loose e) (length nodes) in
-    left_row k last nodes place e loose (row_of_leaf b false) End r refl (own.kind is)
+    title_left (list_closed (nodes ++ at_depth (suc k) (as_possible b.items)) l.place (suc (suc k)) l.loose l.«end») (length nodes) in
+    left_row k last nodes l.place l.«end» l.loose (row_of_leaf b false) End r refl (is.own.kind is.begins)
     ∙ sym (append_assoc closed (block_items k false b) (items_of k false r))
-    ∙ ap (λ z. z ++ items_of k false r) (possible_left k nodes place e loose b is flat h)
+    ∙ ap (λ z. z ++ items_of k false r) (possible_left k nodes l.place l.«end» l.loose b is.begins is.flat h)
     ∙ sym (ap (λ z. after_paragraph k left (length nodes) z r) first)
 
-possible_by : (t : Bool) (k last : ℕ) (nodes : List (ℕ × Item)) (place e : ℕ) (loose : Bool) (b : LeafBlock) (r : Rows) (ds : Definitions)
-    → ds.apart ≡ t → begins_paragraph b.items ≡ true → FlatBlock b → OwnParagraph b → place < length nodes → definitions_first r ≡ Some ds
-    → rendered k last nodes (OneList place (DefinitionsTo e) loose) (titled b false ds)
-    ≡ after_title k (nodes ++ at_depth (suc k) (as_possible b.items)) (place, length nodes, e) loose (if t then None else Some ds) r
+-- a possible title before definitions, with link reference definitions between or not
+possible_by : (t : Bool) (k last : ℕ) (nodes : List (ℕ × Item)) (l : OpenDefinitions) (b : LeafBlock) (r : Rows) (ds : Definitions)
+    → ds.apart ≡ t → IsParagraphBlock b → l.place < length nodes → definitions_first r ≡ Some ds
+    → rendered k last nodes (OneList l.place (DefinitionsTo l.«end») l.loose) (titled b false ds)
+    ≡ after_title k (nodes ++ at_depth (suc k) (as_possible b.items)) (l.place, length nodes, l.«end») l.loose (if t then None else Some ds) r
 unfolding rendered items_of is_loose any_gap
-possible_by true k last nodes place e loose b r ds apart is flat own h first =
-    let closed : List (ℕ × Item) = list_closed nodes place (suc (suc k)) loose e in
+possible_by true k last nodes l b r ds apart is h first =
+    let closed : List (ℕ × Item) = list_closed nodes l.place (suc (suc k)) l.loose l.«end» in
     let left : List (ℕ × Item) =
-    title_left (list_closed (nodes ++ at_depth (suc k) (as_possible b.items)) place (suc (suc k)) loose e) (length nodes) in
-    left_row k last nodes place e loose (titled_row b ds) (titled_inner b ds) ds.beside (apart_by ds.apart ∙ ap not apart) refl
-    ∙ titled_nodes k closed b false ds is flat own
-    ∙ ap (λ z. closed_with k (with_title (closed ++ block_items k false b) z) z (is_loose ds.items) ds) (length-closed nodes place (suc (suc k)) loose e)
-    ∙ ap (λ z. closed_with k (with_title z (length nodes)) (length nodes) (is_loose ds.items) ds) (possible_left k nodes place e loose b is flat h)
+    title_left (list_closed (nodes ++ at_depth (suc k) (as_possible b.items)) l.place (suc (suc k)) l.loose l.«end») (length nodes) in
+    left_row k last nodes l.place l.«end» l.loose (titled_row b ds) (titled_inner b ds) ds.beside (apart_by ds.apart ∙ ap not apart) refl
+    ∙ titled_nodes k closed b false ds is.begins is.flat is.own
+    ∙ ap (λ z. closed_with k (with_title (closed ++ block_items k false b) z) z (is_loose ds.items) ds)
+    (length-closed nodes l.place (suc (suc k)) l.loose l.«end»)
+    ∙ ap (λ z. closed_with k (with_title z (length nodes)) (length nodes) (is_loose ds.items) ds)
+    (possible_left k nodes l.place l.«end» l.loose b is.begins is.flat h)
     ∙ sym (ap (λ z. after_paragraph k left (length nodes) z r) first)
-possible_by false k last nodes place e loose b r ds apart is flat own h first =
-    let now : Bool = loose || is_loose ds.items in
-    let list : List (ℕ × Item) = list_closed nodes place (suc (suc k)) now ds.«end» in
+possible_by false k last nodes l b r ds apart is h first =
+    let now : Bool = l.loose || is_loose ds.items in
+    let list : List (ℕ × Item) = list_closed nodes l.place (suc (suc k)) now ds.«end» in
     let a : List (ℕ × Item) = at_depth (suc k) (as_title b.items) in
     let c : List (ℕ × Item) = items_of (suc k) (not now) ds.items in
     let f : List (ℕ × Item) = items_of k false ds.beside in
-    let joins : continues_list (DefinitionsTo e) (ADefinitionList (if ds.apart then Apart else WithTitle) ds.«end») ≡ true = apart_by ds.apart ∙ ap not apart in
-    let taken : title_taken (nodes ++ at_depth (suc k) (as_possible b.items)) (length nodes) ≡ nodes ++ a = taken-mid (suc k) nodes b.items is in
+    let joins : continues_list (DefinitionsTo l.«end») (ADefinitionList (if ds.apart then Apart else WithTitle) ds.«end») ≡ true =
+    apart_by ds.apart ∙ ap not apart in
+    let taken : title_taken (nodes ++ at_depth (suc k) (as_possible b.items)) (length nodes) ≡ nodes ++ a = taken-mid (suc k) nodes b.items is.begins in
     rw joins
     (ap (λ z. list ++ z) (append_assoc a c f)
     ∙ sym (append_assoc list a (c ++ f))
-    ∙ sym (ap (λ z. z ++ (c ++ f)) (closed-kept nodes a place (suc (suc k)) now ds.«end» h (title-flat (suc k) b.items (flat.tokens is))))
-    ∙ sym (ap (λ z. closed_with k z place now ds) taken))
+    ∙ sym (ap (λ z. z ++ (c ++ f))
+    (closed-kept nodes a l.place (suc (suc k)) now ds.«end» h (title-flat (suc k) b.items (is.flat.tokens is.begins))))
+    ∙ sym (ap (λ z. closed_with k z l.place now ds) taken))
 
-possible_any : (k last : ℕ) (nodes : List (ℕ × Item)) (place e : ℕ) (loose : Bool) (b : LeafBlock) (r : Rows) (o : Option Definitions)
-    → begins_paragraph b.items ≡ true → FlatBlock b → OwnParagraph b → place < length nodes → definitions_first r ≡ o
-    → rendered k last nodes (OneList place (DefinitionsTo e) loose) (before_definitions b false o r)
-    ≡ after_title k (nodes ++ at_depth (suc k) (as_possible b.items)) (place, length nodes, e) loose (not_apart o) r
-possible_any k last nodes place e loose b r None is flat own h first = possible_none k last nodes place e loose b r is flat own h first
-possible_any k last nodes place e loose b r (Some ds) is flat own h first =
-    possible_by ds.apart k last nodes place e loose b r ds refl is flat own h first
+-- a possible title, with definitions after it or not
+possible_any : (k last : ℕ) (nodes : List (ℕ × Item)) (l : OpenDefinitions) (b : LeafBlock) (r : Rows) (o : Option Definitions)
+    → IsParagraphBlock b → l.place < length nodes → definitions_first r ≡ o
+    → rendered k last nodes (OneList l.place (DefinitionsTo l.«end») l.loose) (before_definitions b false o r)
+    ≡ after_title k (nodes ++ at_depth (suc k) (as_possible b.items)) (l.place, length nodes, l.«end») l.loose (not_apart o) r
+possible_any k last nodes l b r None is h first = possible_none k last nodes l b r is h first
+possible_any k last nodes l b r (Some ds) is h first = possible_by ds.apart k last nodes l b r ds refl is h first
 
 after_titled : (t : Bool) (e : ℕ) (b : LeafBlock) (ds : Definitions) → ds.apart ≡ t
     → any_gap (list_after (DefinitionsTo e) (titled b false ds)) ≡ any_gap ds.beside
@@ -309,14 +322,14 @@ after_any e b r None = refl
 after_any e b r (Some ds) = after_titled _ e b ds refl
 
 -- a possible title after a definition
-pub possible_title : (k last : ℕ) (nodes : List (ℕ × Item)) (place e : ℕ) (loose : Bool) (b : LeafBlock) (r : Rows)
-    → begins_paragraph b.items ≡ true → FlatBlock b → OwnParagraph b → place < length nodes
-    → rendered k last nodes (OneList place (DefinitionsTo e) loose) (leaf_row b false r)
-    ≡ rendered k last (nodes ++ at_depth (suc k) (as_possible b.items)) (OneTitle place (length nodes) e loose) r
+pub possible_title : (k last : ℕ) (nodes : List (ℕ × Item)) (l : OpenDefinitions) (b : LeafBlock) (r : Rows)
+    → IsParagraphBlock b → l.place < length nodes
+    → rendered k last nodes (OneList l.place (DefinitionsTo l.«end») l.loose) (leaf_row b false r)
+    ≡ rendered k last (nodes ++ at_depth (suc k) (as_possible b.items)) (OneTitle l.place (length nodes) l.«end» l.loose) r
 unfolding rendered
-possible_title k last nodes place e loose b r is flat own h =
-    ap (λ z. rendered k last nodes (OneList place (DefinitionsTo e) loose) z) (paragraph_row b false r is)
-    ∙ possible_any k last nodes place e loose b r (definitions_first r) is flat own h refl
+possible_title k last nodes l b r is h =
+    ap (λ z. rendered k last nodes (OneList l.place (DefinitionsTo l.«end») l.loose) z) (paragraph_row b false r is.begins)
+    ∙ possible_any k last nodes l b r (definitions_first r) is h refl
 
 pub possible_gaps : (place at e : ℕ) (loose : Bool) (b : LeafBlock) (r : Rows) → begins_paragraph b.items ≡ true
     → any_gap (list_after (DefinitionsTo e) (leaf_row b false r)) ≡ any_gap (rows_beyond (OneTitle place at e loose) r)

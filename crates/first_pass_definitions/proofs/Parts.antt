@@ -1,5 +1,5 @@
 -- The places of the parts of a definition.
-use Rattle.std.proofs.Common.{◌≡◌, ℕ, ◌+◌, ◌-◌, ◌<◌, ◌≤◌, Bool, true, List, length, drop, slice_index, Option, Some, None, IsCharBoundary, refl, sym, ap}
+use Rattle.std.proofs.Common.{◌≡◌, ℕ, ◌+◌, ◌-◌, ◌<◌, Bool, true, List, drop, slice_index, Option, Some, None, IsCharBoundary, sym, ap}
 use Rattle.std.proofs.Common.{subst}
 use Rattle.std.proofs.Common.{◌∙◌, arith}
 use Rattle.std.proofs.lemmas.List.{get_or-drop}
@@ -29,21 +29,21 @@ label_ends prefix in_table text start n label h colon =
     (omega arith, IsCharBoundary-before_ascii text (start + n) (omega arith) (omega (arith, byte)))
 
 -- where a target is said to begin
-target_from : (in_table : Bool) (from start m : ℕ) (o : Option (ℕ × Target)) (definition : LinkDef)
-    → IsTargetAnswer in_table from start o (Some (m, definition))
-    → (definition.span.start ≡ from) × (definition.places.label_end ≡ start - 2)
-target_from in_table from start m None definition h = cc
-target_from in_table from start m (Some t) definition h =
+target_from : (in_table : Bool) (from start : ℕ) (o : Option (ℕ × Target)) (found : ℕ × LinkDef) → IsTargetAnswer in_table from start o (Some found)
+    → (found.1.span.start ≡ from) × (found.1.places.label_end ≡ start - 2)
+target_from in_table from start None found h = cc
+target_from in_table from start (Some t) found h =
     (h.definition.start_is, ap (λ places. places.label_end) h.definition.places_are)
 
 -- All parts have their places where those of the target have.
-pub has_parts : (prefix : List ℕ → Option ℕ) (in_table : Bool) (text : List ℕ) (start n m : ℕ) (label : CowStr) (definition : LinkDef) (o : Option (ℕ × Target))
+pub has_parts : (prefix : List ℕ → Option ℕ) (in_table : Bool) (text : List ℕ) (start n : ℕ) (label : CowStr) (o : Option (ℕ × Target)) (found : ℕ × LinkDef)
     → IsLabelAnswer (label_at prefix in_table (drop (start + 1) text)) (Some (n, label)) → begins 58 (drop (start + 1 + n) text) ≡ true
-    → IsTargetAnswer in_table start (start + 1 + n + 1) o (Some (m, definition)) → AreInOrder text (start + 1 + n + 1) definition → HasParts text definition
-has_parts prefix in_table text start n m label definition o h colon target order =
+    → IsTargetAnswer in_table start (start + 1 + n + 1) o (Some found) → AreInOrder text (start + 1 + n + 1) found.1 → HasParts text found.1
+has_parts prefix in_table text start n label o found h colon target order =
+    let definition : LinkDef = found.1 in
     let ends = label_ends prefix in_table text start n label h colon in
     let some = ends.0 in
-    let from = target_from in_table start (start + 1 + n + 1) m o definition target in
+    let from = target_from in_table start (start + 1 + n + 1) o found target in
     let begin = from.0 in
     let closes = from.1 in
     let end_is : start + n ≡ definition.places.label_end = omega arith in

@@ -110,8 +110,12 @@ Inside zero bs = ⊤
 Inside (suc zero) bs = is_line_end (slice_index bs 0) ≡ false
 Inside (suc (suc m)) bs = ⊥
 
+-- The bytes before a place, if there is one, are no line endings.
+abbrev ArePlain : Option ℕ → List ℕ → Type 0
+ArePlain o bs = (k i : ℕ) → o ≡ Some k → i < k → Plain bs i
+
 abbrev RunPlain : ℕ → ℕ → ℕ → List ℕ → Type 0
-RunPlain deepest nesting m bs = (k i : ℕ) → run_len deepest nesting m bs ≡ Some k → i < k → Plain bs i
+RunPlain deepest nesting m bs = ArePlain (run_len deepest nesting m bs) bs
 
 closed_by : (t : Bool) (k i : ℕ) → (if t then Some zero else None) ≡ Some k → i < k → ⊥
 closed_by true k i h l = let e : 0 ≡ k = some_same 0 k h in absurd (omega arith)
@@ -126,20 +130,21 @@ one_more (Some n) b bs k (suc j) h l p f = let e : 1 + n ≡ k = some_same (1 + 
 no_control : (b : ℕ) → ends_run b ≡ false → is_line_end b ≡ false
 no_control b h = grind (arith, nat_tests, h)
 
-run_by : (e x c d : Bool) (deepest nesting b : ℕ) (bs : List ℕ) (k i : ℕ) → ends_run b ≡ e → begins_escape (b ∷ bs) ≡ x
-    → (if e then if_closed nesting
+run_by : (e x c d : Bool) (deepest nesting b : ℕ) (bs : List ℕ) → ends_run b ≡ e → begins_escape (b ∷ bs) ≡ x
+    → RunPlain deepest nesting 1 bs ⊎ (begins_escape (b ∷ bs) ≡ false) → RunPlain deepest (nesting_after b nesting) 0 bs
+    → ArePlain (if e then if_closed nesting
     else (if x then longer 1 (run_len deepest nesting 1 bs)
     else (if c then Some 0
     else (if d then None
-    else longer 1 (run_len deepest (nesting_after b nesting) 0 bs))))) ≡ Some k → i < k → RunPlain deepest nesting 1 bs ⊎ (begins_escape (b ∷ bs) ≡ false)
-    → RunPlain deepest (nesting_after b nesting) 0 bs → Plain (b ∷ bs) i
-run_by true x c d deepest nesting b bs k i h g f l p q = absurd (closed_by (nesting == 0) k i f l)
-run_by false true c d deepest nesting b bs k i h g f l (inl p) q = one_more (run_len deepest nesting 1 bs) b bs k i f l (no_control b h) (λ n j. p n j)
-run_by false true c d deepest nesting b bs k i h g f l (inr p) q = cc
-run_by false false true d deepest nesting b bs k i h g f l p q = let e : 0 ≡ k = some_same 0 k f in absurd (omega arith)
-run_by false false false true deepest nesting b bs k i h g f l p q = cc
-run_by false false false false deepest nesting b bs k i h g f l p q =
-    one_more (run_len deepest (nesting_after b nesting) 0 bs) b bs k i f l (no_control b h) (λ n j. q n j)
+    else longer 1 (run_len deepest (nesting_after b nesting) 0 bs))))) (b ∷ bs)
+run_by true x c d deepest nesting b bs h g p q = λ k i f l. absurd (closed_by (nesting == 0) k i f l)
+run_by false true c d deepest nesting b bs h g (inl p) q =
+    λ k i f l. one_more (run_len deepest nesting 1 bs) b bs k i f l (no_control b h) (λ n j. p n j)
+run_by false true c d deepest nesting b bs h g (inr p) q = cc
+run_by false false true d deepest nesting b bs h g p q = λ k i f l. (let e : 0 ≡ k = some_same 0 k f in absurd (omega arith))
+run_by false false false true deepest nesting b bs h g p q = λ k i f l. cc
+run_by false false false false deepest nesting b bs h g p q =
+    λ k i f l. one_more (run_len deepest (nesting_after b nesting) 0 bs) b bs k i f l (no_control b h) (λ n j. q n j)
 
 nothing_by : (m deepest nesting k i : ℕ) → run_len deepest nesting m [] ≡ Some k → i < k → Plain [] i
 nothing_by m deepest nesting k i h l = refl
@@ -159,8 +164,9 @@ run_plain : (deepest nesting m : ℕ) (bs : List ℕ) → Inside m bs → RunPla
 unfolding run_len
 run_plain deepest nesting m [] p = λ k i h l. nothing_by m deepest nesting k i h l
 run_plain deepest nesting zero (b ∷ bs) p = λ k i h l.
-    run_by (ends_run b) (begins_escape (b ∷ bs)) (closes_none b nesting) (nat_lt deepest (nesting_after b nesting)) deepest nesting b bs k i refl refl h l
+    run_by (ends_run b) (begins_escape (b ∷ bs)) (closes_none b nesting) (nat_lt deepest (nesting_after b nesting)) deepest nesting b bs refl refl
     (aside_by (begins_escape (b ∷ bs)) deepest nesting b bs refl (run_plain deepest nesting 1 bs)) (run_plain deepest (nesting_after b nesting) 0 bs tt)
+    k i h l
 run_plain deepest nesting (suc zero) (b ∷ bs) p =
     λ k i h l. one_more (run_len deepest nesting 0 bs) b bs k i h l p (λ n j. run_plain deepest nesting 0 bs tt n j)
 run_plain deepest nesting (suc (suc m)) (b ∷ bs) p = absurd p

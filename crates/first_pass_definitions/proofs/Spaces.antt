@@ -49,7 +49,7 @@ pub space_plain : (around : Context) (text : List ℕ) (s n : ℕ) → n ≡ pre
 space_plain around text s n e f = ap (shifted s) (sym (space_is around (drop s text) n None (sym e) (ap eol_len (drop-drop n s text) ∙ f)))
 
 -- after a line ending
-crossed_space : (around : Context) (text : List ℕ) (s n e : ℕ) (o : Option Rest) → n ≡ prefix_len is_white (drop s text)
+pub crossed_space : (around : Context) (text : List ℕ) (s n e : ℕ) (o : Option Rest) → n ≡ prefix_len is_white (drop s text)
     → eol_len (drop (s + n) text) ≡ Some e → o ≡ crossed false around (line_rest (drop (s + n + e) text))
     → space_at around (drop s text) ≡ option_and_then (space_beyond (n + e) (drop (s + n + e) text)) (option_map (λ (r : Rest). r.taken) o)
 crossed_space around text s n e o h f g =
@@ -76,10 +76,10 @@ over_by : (t : Bool) (s n e m k : ℕ) → (if t then None else Some (s + n + e 
 over_by true s n e m k = refl
 over_by false s n e m k = let i : s + n + e + k + m ≡ s + (n + e + (k + m)) = omega arith in ap (λ j. Some (j, 1)) i
 
-pub space_over : (t : Bool) (around : Context) (text : List ℕ) (s n e m : ℕ) (r : Rest) → n ≡ prefix_len is_white (drop s text)
-    → eol_len (drop (s + n) text) ≡ Some e → Some r ≡ crossed false around (line_rest (drop (s + n + e) text))
+pub space_over : (t : Bool) (around : Context) (text : List ℕ) (s n e m : ℕ) (r : Rest)
+    → space_at around (drop s text) ≡ space_beyond (n + e) (drop (s + n + e) text) r.taken
     → m ≡ prefix_len is_white (drop (s + n + e + r.taken) text) → at_line_end (drop (s + n + e + r.taken + m) text) ≡ t
     → (if t then None else Some (s + n + e + r.taken + m, 1)) ≡ shifted s (space_at around (drop s text))
-space_over t around text s n e m r h f g i j =
-    let k = crossed_space around text s n e (Some r) h f g ∙ beyond t text (s + n + e) r.taken m (n + e) i j in
+space_over t around text s n e m r h i j =
+    let k = h ∙ beyond t text (s + n + e) r.taken m (n + e) i j in
     over_by t s n e m r.taken ∙ ap (shifted s) (sym k)

@@ -73,27 +73,31 @@ none_at : (m start at : ℕ) → start ≡ at + m → (start ≡ at → ⊥) →
 none_at zero start at there apart = absurd (apart (omega arith))
 none_at (suc m) start at there apart = grind (arith, nat_tests)
 
+-- A title with this length is read at an offset. Its text is borrowed if it has no line ending, and the rest of its line
+-- is blank.
+pub record TitleRead (around : Context) (text : List ℕ) (start len : ℕ) (title : CowStr) : Type 0 where
+  pub read : IsTitleRead (title_at around (drop start text)) (read_to len title)
+  pub borrows : list_any is_line_end (text_of title) ≡ false → Borrows (text_of title) title
+  pub blank : is_some (blank_len (drop (start + len) text)) ≡ true
+
 space_read_by : (around : Context) (text : List ℕ) (at start k len : ℕ) (title : CowStr) (o : Option (ℕ × ℕ))
-    → space_to start k ≡ option_map (λ s. (at + s.0, s.1)) o → (start ≡ at → ⊥) → IsTitleRead (title_at around (drop start text)) (read_to len title)
-    → (list_any is_line_end (text_of title) ≡ false → Borrows (text_of title) title) → is_some (blank_len (drop (start + len) text)) ≡ true
+    → space_to start k ≡ option_map (λ s. (at + s.0, s.1)) o → (start ≡ at → ⊥) → TitleRead around text start len title
     → IsTitleAfter at (white_len o) (option_and_then (title_beyond around (drop at text)) o) (Some (start, start + len, title))
-space_read_by around text at start k len title None is apart read borrows blank = absurd (no_space_to start k is)
-space_read_by around text at start k len title (Some s) is apart read borrows blank =
+space_read_by around text at start k len title None is apart t = absurd (no_space_to start k is)
+space_read_by around text at start k len title (Some s) is apart t =
     let there : start ≡ at + s.0 = space_is start k at s.0 s.1 is in
     let some : (s.0 == 0) ≡ false = none_at s.0 start at there apart in
     let following : IsTitleRead (title_at around (drop s.0 (drop at text))) (read_to len title) =
-    subst (λ bs. IsTitleRead (title_at around bs) (read_to len title)) (ap (λ n. drop n text) there ∙ sym (drop-drop s.0 at text)) read in
+    subst (λ bs. IsTitleRead (title_at around bs) (read_to len title)) (ap (λ n. drop n text) there ∙ sym (drop-drop s.0 at text)) t.read in
     let rest : is_some (blank_len (drop (s.0 + len) (drop at text))) ≡ true =
-    subst (λ bs. is_some (blank_len bs) ≡ true) (ap (λ n. drop n text) (let e = there in omega arith) ∙ sym (drop-drop (s.0 + len) at text)) blank in
+    subst (λ bs. is_some (blank_len bs) ≡ true) (ap (λ n. drop n text) (let e = there in omega arith) ∙ sym (drop-drop (s.0 + len) at text)) t.blank in
     rw some (subst (λ e. IsTitleAfter at s.0 (option_and_then (alone_after s.0 (drop at text)) (title_at around (drop s.0 (drop at text))))
     (Some (e, e + len, title))) (sym there)
-    (read_by (drop at text) at s.0 len title (title_at around (drop s.0 (drop at text))) following borrows rest))
+    (read_by (drop at text) at s.0 len title (title_at around (drop s.0 (drop at text))) following t.borrows rest))
 
 -- the title after a destination and white space, with a blank rest of its line after it
 pub title_read : (around : Context) (text : List ℕ) (at start k len : ℕ) (title : CowStr)
-    → space_to start k ≡ option_map (λ s. (at + s.0, s.1)) (space_at around (drop at text)) → (start ≡ at → ⊥)
-    → IsTitleRead (title_at around (drop start text)) (read_to len title)
-    → (list_any is_line_end (text_of title) ≡ false → Borrows (text_of title) title) → is_some (blank_len (drop (start + len) text)) ≡ true
+    → space_to start k ≡ option_map (λ s. (at + s.0, s.1)) (space_at around (drop at text)) → (start ≡ at → ⊥) → TitleRead around text start len title
     → IsTitleAfter at (white_len (space_at around (drop at text))) (title_after around (drop at text)) (Some (start, start + len, title))
 title_read around text at start k len title is = space_read_by around text at start k len title (space_at around (drop at text)) is
 
@@ -219,12 +223,12 @@ pub record TargetFound (around : Context) (text : List ℕ) (start : ℕ) (to : 
   pub dest_is : b.now ≡ target.dest
   pub title_is : IsReadTitle target.title title
 
-pub target_found : (around : Context) (text : List ℕ) (start at lines n from e : ℕ) (b : Bor (List ℕ)) (title : Option CowStr)
+pub target_found : (around : Context) (text : List ℕ) (start at lines n : ℕ) (b : Bor (List ℕ)) (found : ℕ × ℕ × Option CowStr)
     → Some (at, lines) ≡ shifted start (space_at around (drop start text))
     → IsDest (destination_at deepest_nesting (drop at text)) (Some (n, b))
-    → IsFurther around (drop (at + n) text) (at + n) (after_destination around (drop (at + n) text)) (Some (from, e, title))
-    → TargetFound around text start (e, placed start at (at + n) from) b title
-target_found around text start at lines n from e b title h k f =
+    → IsFurther around (drop (at + n) text) (at + n) (after_destination around (drop (at + n) text)) (Some found)
+    → TargetFound around text start (found.1, placed start at (at + n) found.0) b found.2
+target_found around text start at lines n b (from, e, title) h k f =
     let s = space_found (space_at around (drop start text)) start at lines h in
     let d = dest_found (destination_at deepest_nesting (drop at text)) n b k in
     let following = drop (at + n) text in
@@ -253,13 +257,12 @@ target_found around text start at lines n from e b title h k f =
 abbrev pub IsTargetAnswer : Bool → ℕ → ℕ → Option (ℕ × Target) → Option (ℕ × LinkDef) → Type 0
 IsTargetAnswer in_table from start o answer = MatchOption o (answer ≡ None) (λ target. IsSomeAnd answer (IsTarget in_table from start target))
 
-pub is_target : (around : Context) (text : List ℕ) (start from : ℕ) (to : ℕ × LinkPlaces) (b : Bor (List ℕ)) (title : Option CowStr) (in_table : Bool)
-    (found : LinkDef)
-    → TargetFound around text start to b title → IsUnescaped in_table b.now found.dest
-    → ((t : Option (List ℕ)) → IsReadTitle t title → HasTitle in_table t found.title) → found.span.start ≡ from → found.span.«end» ≡ to.0
-    → found.places ≡ to.1
-    → IsTargetAnswer in_table from start (target_at around (drop start text)) (Some (to.0 - start, found))
-is_target around text start from to b title in_table found t dest read h k l =
+-- A definition with the parts of a target is the result for it.
+pub is_target : (around : Context) (text : List ℕ) (start from : ℕ) (b : Bor (List ℕ)) (title : Option CowStr) (in_table : Bool) (found : LinkDef)
+    → TargetFound around text start (found.span.«end», found.places) b title → IsUnescaped in_table b.now found.dest
+    → ((t : Option (List ℕ)) → IsReadTitle t title → HasTitle in_table t found.title) → found.span.start ≡ from
+    → IsTargetAnswer in_table from start (target_at around (drop start text)) (Some (found.span.«end» - start, found))
+is_target around text start from b title in_table found t dest read h =
     let i = t.end_is in
     rw t.is (record {
       size = omega arith;
@@ -267,8 +270,8 @@ is_target around text start from to b title in_table found t dest read h k l =
         dest = subst (λ xs. IsUnescaped in_table xs found.dest) t.dest_is dest;
         title = read t.target.title t.title_is;
         start_is = h;
-        end_is = k ∙ t.end_is;
-        places_are = l ∙ t.places_are;
+        end_is = t.end_is;
+        places_are = t.places_are;
       };
     })
 

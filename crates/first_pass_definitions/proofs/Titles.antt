@@ -1,5 +1,5 @@
 -- Titles line by line.
-use Rattle.std.proofs.Common.{◌≡◌, inl, inr, ℕ, suc, ◌+◌, ◌-◌, ◌<◌, ◌≤◌, ◌==◌, ◌&&◌, ◌||◌, Bool, true, false, List, [], ◌∷◌, ◌++◌, length, take, drop}
+use Rattle.std.proofs.Common.{◌≡◌, ◌⊎◌, inl, inr, ℕ, suc, ◌+◌, ◌-◌, ◌<◌, ◌≤◌, ◌==◌, ◌&&◌, ◌||◌, Bool, true, false, List, [], ◌∷◌, ◌++◌, length, take, drop}
 use Rattle.std.proofs.Common.{slice_index, slice_get, IsUtf8, MatchOption, IsSomeAnd, length-drop, Option, Some, None, refl, sym, ap, subst, ◌∙◌, arith}
 use Rattle.std.proofs.Common.{append_assoc, IsCharBoundary, if◌then◌else◌}
 use Rattle.std.specs.Bool.{⊤}
@@ -217,12 +217,11 @@ stands_escape prefix close at b p bs e f =
     ∙ ap (after_text (b ∷ p ∷ [])) f
     ∙ after_following (b ∷ p ∷ []) (take n bs) (title_of close (left_of prefix (at + 1 + 1 + n) (drop n bs)))))
 
-stands_by : (s e : Bool) (prefix : List ℕ → Option ℕ) (close at b p : ℕ) (bs : List ℕ) → ClosesTitle close → stops_title_line close b ≡ s
-    → begins_escape (b ∷ p ∷ bs) ≡ e → AsItStands prefix close (at + 1) (p ∷ bs) → AsItStands prefix close (at + 1 + 1) bs
-    → AsItStands prefix close at (b ∷ p ∷ bs)
-stands_by s true prefix close at b p bs c h k f g = stands_escape prefix close at b p bs k g
-stands_by false false prefix close at b p bs c h k f g = stands_byte prefix close at b (p ∷ bs) k h f
-stands_by true false prefix close at b p bs c h k f g = stands_stopped prefix close at (b ∷ p ∷ bs) (upto-stop (stops_title_line close) b (p ∷ bs) k h)
+stands_by : (s e : Bool) (prefix : List ℕ → Option ℕ) (close at b p : ℕ) (bs : List ℕ) → stops_title_line close b ≡ s → begins_escape (b ∷ p ∷ bs) ≡ e
+    → AsItStands prefix close (at + 1) (p ∷ bs) → AsItStands prefix close (at + 1 + 1) bs → AsItStands prefix close at (b ∷ p ∷ bs)
+stands_by s true prefix close at b p bs h k f g = stands_escape prefix close at b p bs k g
+stands_by false false prefix close at b p bs h k f g = stands_byte prefix close at b (p ∷ bs) k h f
+stands_by true false prefix close at b p bs h k f g = stands_stopped prefix close at (b ∷ p ∷ bs) (upto-stop (stops_title_line close) b (p ∷ bs) k h)
 
 alone : (b : ℕ) → begins_escape (b ∷ []) ≡ false
 alone b = last_by (b == 92)
@@ -236,7 +235,7 @@ pub as_it_stands : (prefix : List ℕ → Option ℕ) (close at : ℕ) (bs : Lis
 as_it_stands prefix close at [] c = stands_stopped prefix close at [] (upto-nil (stops_title_line close))
 as_it_stands prefix close at (b ∷ []) c = stands_last (stops_title_line close b) prefix close at b refl (as_it_stands prefix close (at + 1) [] c)
 as_it_stands prefix close at (b ∷ p ∷ bs) c =
-    stands_by (stops_title_line close b) (begins_escape (b ∷ p ∷ bs)) prefix close at b p bs c refl refl (as_it_stands prefix close (at + 1) (p ∷ bs) c)
+    stands_by (stops_title_line close b) (begins_escape (b ∷ p ∷ bs)) prefix close at b p bs refl refl (as_it_stands prefix close (at + 1) (p ∷ bs) c)
     (as_it_stands prefix close (at + 1 + 1) bs c)
 
 -- no line feed comes first if none is first in the bytes
@@ -282,29 +281,44 @@ GoesOn prefix close at n bs e =
     prefix (drop e bs) ≡ Some n → begins 10 (drop n (drop e bs)) ≡ false
     → title_of close (left_of prefix at bs) ≡ after_text (10 ∷ []) (title_of close (left_of prefix (at + e + n) (drop n (drop e bs))))
 
-goes_on_by : (t u v : Bool) (prefix : List ℕ → Option ℕ) (close at n e b : ℕ) (bs : List ℕ) → ClosesTitle close → (b == 10) ≡ t → (b == 13) ≡ u
-    → begins 10 bs ≡ v
-    → (if t then Some 1 else (if u then Some (if v then 2 else 1) else None)) ≡ Some e → GoesOn prefix close at n (b ∷ bs) e
-goes_on_by true u v prefix close at n e b bs c h k l f =
+-- These bytes begin with a line ending of this length: a line feed, a carriage return, or both.
+abbrev IsEnding : List ℕ → ℕ → Type 0
+IsEnding bs e =
+    ((rest : List ℕ) × (bs ≡ 10 ∷ rest) × (1 ≡ e)) ⊎ ((rest : List ℕ) × (bs ≡ 13 ∷ rest) × (begins 10 rest ≡ false) × (1 ≡ e))
+    ⊎ ((rest : List ℕ) × (bs ≡ 13 ∷ 10 ∷ rest) × (2 ≡ e))
+
+ending_by : (t u v : Bool) (b e : ℕ) (bs : List ℕ) → (b == 10) ≡ t → (b == 13) ≡ u → begins 10 bs ≡ v
+    → (if t then Some 1 else (if u then Some (if v then 2 else 1) else None)) ≡ Some e → IsEnding (b ∷ bs) e
+ending_by true u v b e bs h k l f =
     let d : b ≡ 10 = eqb-true b 10 h in
     let i : 1 ≡ e = cc in
-    subst (GoesOn prefix close at n (b ∷ bs)) i (λ p q. rw d (fed_title close at _ _ c (fed_10 prefix at n bs p)))
-goes_on_by false true false prefix close at n e b bs c h k l f =
+    inl (bs, ap (λ x. x ∷ bs) d, i)
+ending_by false true false b e bs h k l f =
     let d : b ≡ 13 = eqb-true b 13 k in
     let i : 1 ≡ e = cc in
-    subst (GoesOn prefix close at n (b ∷ bs)) i (λ p q. rw d (fed_title close at _ _ c (fed_13 prefix at n bs l p q)))
-goes_on_by false true true prefix close at n e b [] c h k l f = cc
-goes_on_by false true true prefix close at n e b (x ∷ bs) c h k l f =
+    inr (inl (bs, ap (λ x. x ∷ bs) d, l, i))
+ending_by false true true b e [] h k l f = cc
+ending_by false true true b e (x ∷ bs) h k l f =
     let d : b ≡ 13 = eqb-true b 13 k in
     let y : x ≡ 10 = eqb-true x 10 l in
     let i : 2 ≡ e = cc in
-    subst (GoesOn prefix close at n (b ∷ x ∷ bs)) i (λ p q. rw d (rw y (fed_title close (at + 1) _ _ c (fed_both prefix at n bs p))))
-goes_on_by false false v prefix close at n e b bs c h k l f = cc
+    inr (inr (bs, ap (λ z. z ∷ x ∷ bs) d ∙ ap (λ z. 13 ∷ z ∷ bs) y, i))
+ending_by false false v b e bs h k l f = cc
 
-continues : (prefix : List ℕ → Option ℕ) (close at n e : ℕ) (bs : List ℕ) → ClosesTitle close → eol_len bs ≡ Some e → 0 < length bs
-    → GoesOn prefix close at n bs e
-continues prefix close at n e [] c h l = absurd (omega arith)
-continues prefix close at n e (b ∷ bs) c h l = goes_on_by (b == 10) (b == 13) (begins 10 bs) prefix close at n e b bs c refl refl refl h
+ending : (bs : List ℕ) (e : ℕ) → eol_len bs ≡ Some e → 0 < length bs → IsEnding bs e
+ending [] e h l = absurd (omega arith)
+ending (b ∷ bs) e h l = ending_by (b == 10) (b == 13) (begins 10 bs) b e bs refl refl refl h
+
+continues : (prefix : List ℕ → Option ℕ) (close at n e : ℕ) (bs : List ℕ) → ClosesTitle close → IsEnding bs e → GoesOn prefix close at n bs e
+continues prefix close at n e bs c (inl (rest, is, i)) =
+    subst (λ xs. GoesOn prefix close at n xs e) (sym is)
+    (subst (GoesOn prefix close at n (10 ∷ rest)) i (λ p q. fed_title close at _ _ c (fed_10 prefix at n rest p)))
+continues prefix close at n e bs c (inr (inl (rest, is, l, i))) =
+    subst (λ xs. GoesOn prefix close at n xs e) (sym is)
+    (subst (GoesOn prefix close at n (13 ∷ rest)) i (λ p q. fed_title close at _ _ c (fed_13 prefix at n rest l p q)))
+continues prefix close at n e bs c (inr (inr (rest, is, i))) =
+    subst (λ xs. GoesOn prefix close at n xs e) (sym is)
+    (subst (GoesOn prefix close at n (13 ∷ 10 ∷ rest)) i (λ p q. fed_title close (at + 1) _ _ c (fed_both prefix at n rest p)))
 
 -- the title does not continue
 abbrev StopsThere : (List ℕ → Option ℕ) → ℕ → ℕ → List ℕ → ℕ → Type 0
@@ -322,28 +336,21 @@ stopped_both : (prefix : List ℕ → Option ℕ) (at : ℕ) (bs : List ℕ) →
 unfolding left_of joined with_line_feeds
 stopped_both prefix at bs f = rw f refl
 
-stops_by : (t u v : Bool) (prefix : List ℕ → Option ℕ) (close at e b : ℕ) (bs : List ℕ) → ClosesTitle close → (b == 10) ≡ t → (b == 13) ≡ u → begins 10 bs ≡ v
-    → (if t then Some 1 else (if u then Some (if v then 2 else 1) else None)) ≡ Some e → StopsThere prefix close at (b ∷ bs) e
-stops_by true u v prefix close at e b bs c h k l f =
-    let d : b ≡ 10 = eqb-true b 10 h in
-    let i : 1 ≡ e = cc in
-    subst (StopsThere prefix close at (b ∷ bs)) i (λ p. rw d (ap (title_of close) (stopped_10 prefix at bs p) ∙ title-nil close))
-stops_by false true false prefix close at e b bs c h k l f =
-    let d : b ≡ 13 = eqb-true b 13 k in
-    let i : 1 ≡ e = cc in
-    subst (StopsThere prefix close at (b ∷ bs)) i (λ p. rw d (ap (title_of close) (stopped_13 prefix at bs l p) ∙ title-nil close))
-stops_by false true true prefix close at e b [] c h k l f = cc
-stops_by false true true prefix close at e b (x ∷ bs) c h k l f =
-    let d : b ≡ 13 = eqb-true b 13 k in
-    let y : x ≡ 10 = eqb-true x 10 l in
-    let i : 2 ≡ e = cc in
-    subst (StopsThere prefix close at (b ∷ x ∷ bs)) i (λ p. rw d (rw y (
-    fed_title close at _ [] c (stopped_both prefix at bs p) ∙ past_none (10 ∷ []) (title_of close []) (title-nil close))))
-stops_by false false v prefix close at e b bs c h k l f = cc
+stops_by : (prefix : List ℕ → Option ℕ) (close at e : ℕ) (bs : List ℕ) → ClosesTitle close → IsEnding bs e → StopsThere prefix close at bs e
+stops_by prefix close at e bs c (inl (rest, is, i)) =
+    subst (λ xs. StopsThere prefix close at xs e) (sym is)
+    (subst (StopsThere prefix close at (10 ∷ rest)) i (λ p. ap (title_of close) (stopped_10 prefix at rest p) ∙ title-nil close))
+stops_by prefix close at e bs c (inr (inl (rest, is, l, i))) =
+    subst (λ xs. StopsThere prefix close at xs e) (sym is)
+    (subst (StopsThere prefix close at (13 ∷ rest)) i (λ p. ap (title_of close) (stopped_13 prefix at rest l p) ∙ title-nil close))
+stops_by prefix close at e bs c (inr (inr (rest, is, i))) =
+    subst (λ xs. StopsThere prefix close at xs e) (sym is)
+    (subst (StopsThere prefix close at (13 ∷ 10 ∷ rest)) i (λ p.
+    fed_title close at _ [] c (stopped_both prefix at rest p) ∙ past_none (10 ∷ []) (title_of close []) (title-nil close)))
 
 stops_there : (prefix : List ℕ → Option ℕ) (close at e : ℕ) (bs : List ℕ) → ClosesTitle close → eol_len bs ≡ Some e → StopsThere prefix close at bs e
 stops_there prefix close at e [] c h = λ p. ap (title_of close) (left-nil prefix at) ∙ title-nil close
-stops_there prefix close at e (b ∷ bs) c h = stops_by (b == 10) (b == 13) (begins 10 bs) prefix close at e b bs c refl refl refl h
+stops_there prefix close at e (b ∷ bs) c h = stops_by prefix close at e (b ∷ bs) c (ending (b ∷ bs) e h (omega arith))
 
 -- the first byte where a line of a title stops, if there is one
 abbrev FirstStops : ℕ → List ℕ → Type 0
@@ -440,14 +447,14 @@ no_break prefix close from at text c is g k =
     (sym is)) (first_stops close (drop from text)) in
     break_by (eol_len (drop at text)) prefix close at text c s g refl (sym k)
 
-some_by_break : (o q : Option ℕ) (prefix : List ℕ → Option ℕ) (close at next e : ℕ) (text : List ℕ) → ClosesTitle close → 0 < length (drop at text)
-    → eol_len (drop at text) ≡ Some e → prefix (drop (at + e) text) ≡ q → option_map (λ n. at + e + n) q ≡ Some next → begins 10 (drop next text) ≡ false
+some_by_break : (q : Option ℕ) (prefix : List ℕ → Option ℕ) (close at next e : ℕ) (text : List ℕ) → ClosesTitle close → IsEnding (drop at text) e
+    → prefix (drop (at + e) text) ≡ q → option_map (λ n. at + e + n) q ≡ Some next → begins 10 (drop next text) ≡ false
     → title_of close (left_of prefix at (drop at text)) ≡ after_text (10 ∷ []) (title_of close (left_of prefix next (drop next text)))
-some_by_break o None prefix close at next e text c l h p k g = cc
-some_by_break o (Some n) prefix close at next e text c l h p k g =
+some_by_break None prefix close at next e text c h p k g = cc
+some_by_break (Some n) prefix close at next e text c h p k g =
     let i : at + e + n ≡ next = cc in
     let d : drop n (drop e (drop at text)) ≡ drop (at + e + n) text = ap (drop n) (drop-drop e at text) ∙ drop-drop n (at + e) text in
-    let a = continues prefix close at n e (drop at text) c h l (ap prefix (drop-drop e at text) ∙ p)
+    let a = continues prefix close at n e (drop at text) c h (ap prefix (drop-drop e at text) ∙ p)
     (ap (begins 10) d ∙ ap (λ k. begins 10 (drop k text)) i ∙ g) in
     a ∙ ap (λ xs. after_text (10 ∷ []) (title_of close (left_of prefix (at + e + n) xs))) d
     ∙ ap (λ k. after_text (10 ∷ []) (title_of close (left_of prefix k (drop k text)))) i
@@ -457,7 +464,8 @@ some_break_by : (o : Option ℕ) (prefix : List ℕ → Option ℕ) (close at ne
     → option_and_then (λ e. option_map (λ n. at + e + n) (prefix (drop (at + e) text))) o ≡ Some next → begins 10 (drop next text) ≡ false
     → title_of close (left_of prefix at (drop at text)) ≡ after_text (10 ∷ []) (title_of close (left_of prefix next (drop next text)))
 some_break_by None prefix close at next text c l h k g = cc
-some_break_by (Some e) prefix close at next text c l h k g = some_by_break (Some e) (prefix (drop (at + e) text)) prefix close at next e text c l h refl k g
+some_break_by (Some e) prefix close at next text c l h k g =
+    some_by_break (prefix (drop (at + e) text)) prefix close at next e text c (ending (drop at text) e h l) refl k g
 
 pub some_break : (prefix : List ℕ → Option ℕ) (close at next : ℕ) (text : List ℕ) → ClosesTitle close → at < length text
     → Some next ≡ goes_on_at prefix text at → begins 10 (drop next text) ≡ false
@@ -505,35 +513,40 @@ stop_place close from at text c is l =
           omega arith),
     )
 
+-- A line of a title from one offset up to another, at which it stops. The title consists of the bytes before the line
+-- and of what follows.
+pub record TitleLine (prefix : List ℕ → Option ℕ) (close from at : ℕ) (w text : List ℕ) : Type 0 where
+  pub closes : ClosesTitle close
+  pub title : after_text w (title_of close (left_of prefix from (drop from text))) ≡ title_text prefix close text
+  pub stop : at ≡ from + unescaped_upto (stops_title_line close) 0 (drop from text)
+
 -- the title that a line ends
-pub title_found : (prefix : List ℕ → Option ℕ) (close from at : ℕ) (w text : List ℕ) → ClosesTitle close
-    → after_text w (title_of close (left_of prefix from (drop from text))) ≡ title_text prefix close text
-    → at ≡ from + unescaped_upto (stops_title_line close) 0 (drop from text) → begins close (drop at text) ≡ true
-    → title_text prefix close text ≡ Some (at + 1, w ++ part text from at)
-title_found prefix close from at w text c so is g =
-    sym so ∙ ap (after_text w) (line_is prefix close from at text c is ∙ ap (after_text (part text from at)) (ends_there prefix close at (drop at text) c g))
+pub title_found : (prefix : List ℕ → Option ℕ) (close from at : ℕ) (w text : List ℕ) → TitleLine prefix close from at w text
+    → begins close (drop at text) ≡ true → title_text prefix close text ≡ Some (at + 1, w ++ part text from at)
+title_found prefix close from at w text t g =
+    sym t.title
+    ∙ ap (after_text w) (line_is prefix close from at text t.closes t.stop
+    ∙ ap (after_text (part text from at)) (ends_there prefix close at (drop at text) t.closes g))
     ∙ ap (λ xs. Some (at + 1, w ++ xs)) (append-nil (part text from at))
 
-pub no_title : (prefix : List ℕ → Option ℕ) (close from at : ℕ) (w text : List ℕ) → ClosesTitle close
-    → after_text w (title_of close (left_of prefix from (drop from text))) ≡ title_text prefix close text
-    → at ≡ from + unescaped_upto (stops_title_line close) 0 (drop from text) → begins close (drop at text) ≡ false → None ≡ goes_on_at prefix text at
-    → title_text prefix close text ≡ None
-no_title prefix close from at w text c so is g k =
-    sym so ∙ ap (after_text w) (line_is prefix close from at text c is ∙ ap (after_text (part text from at)) (no_break prefix close from at text c is g k))
+pub no_title : (prefix : List ℕ → Option ℕ) (close from at : ℕ) (w text : List ℕ) → TitleLine prefix close from at w text
+    → begins close (drop at text) ≡ false → None ≡ goes_on_at prefix text at → title_text prefix close text ≡ None
+no_title prefix close from at w text t g k =
+    sym t.title
+    ∙ ap (after_text w) (line_is prefix close from at text t.closes t.stop
+    ∙ ap (after_text (part text from at)) (no_break prefix close from at text t.closes t.stop g k))
 
 -- one more line
-pub title_further : (prefix : List ℕ → Option ℕ) (close from at next : ℕ) (v w text : List ℕ) → ClosesTitle close
-    → after_text w (title_of close (left_of prefix from (drop from text))) ≡ title_text prefix close text
-    → at ≡ from + unescaped_upto (stops_title_line close) 0 (drop from text) → at < length text → Some next ≡ goes_on_at prefix text at
-    → begins 10 (drop next text) ≡ false → v ≡ (w ++ part text from at) ++ 10 ∷ []
-    → after_text v (title_of close (left_of prefix next (drop next text))) ≡ title_text prefix close text
-title_further prefix close from at next v w text c so is l k g e =
+pub title_further : (prefix : List ℕ → Option ℕ) (close from at next : ℕ) (w text : List ℕ) → TitleLine prefix close from at w text
+    → at < length text → Some next ≡ goes_on_at prefix text at → begins 10 (drop next text) ≡ false
+    → after_text ((w ++ part text from at) ++ 10 ∷ []) (title_of close (left_of prefix next (drop next text))) ≡ title_text prefix close text
+title_further prefix close from at next w text t l k g =
     let x = title_of close (left_of prefix next (drop next text)) in
-    ap (λ ys. after_text ys x) (e ∙ append_assoc w (part text from at) (10 ∷ []))
+    ap (λ ys. after_text ys x) (append_assoc w (part text from at) (10 ∷ []))
     ∙ sym (after_following w (part text from at ++ 10 ∷ []) x)
-    ∙ ap (after_text w) (sym (after_following (part text from at) (10 ∷ []) x) ∙ sym (line_is prefix close from at text c is ∙ ap
-    (after_text (part text from at)) (some_break prefix close at next text c l k g)))
-    ∙ so
+    ∙ ap (after_text w) (sym (after_following (part text from at) (10 ∷ []) x)
+    ∙ sym (line_is prefix close from at text t.closes t.stop ∙ ap (after_text (part text from at)) (some_break prefix close at next text t.closes l k g)))
+    ∙ t.title
 
 pub any_last : (w : List ℕ) → list_any is_line_end (w ++ 10 ∷ []) ≡ true
 any_last [] = refl

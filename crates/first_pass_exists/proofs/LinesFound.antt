@@ -6,10 +6,9 @@ use Rattle.first_pass_items.specs.declared.option_set.Options.{Options}
 use Rattle.first_pass_lines.specs.Lines.{line_len}
 use Rattle.first_pass_lines.specs.Places.{Place, offset}
 use Rattle.first_pass_tokens.specs.Pieces.{Inline}
-use Rattle.first_pass_tokens.proofs.LineFound.{line_found}
+use Rattle.first_pass_tokens.proofs.LineFound.{FoundLine, line_found}
 use Rattle.first_pass_tokens.specs.Chains.{add_tokens, close_break}
-use Rattle.first_pass_tokens.specs.Braces.{MathBraces}
-use Rattle.first_pass_tokens.specs.LineTokens.{Spot, spot, AreLineTokens}
+use Rattle.first_pass_tokens.specs.LineTokens.{Spot, spot}
 use Rattle.first_pass_grammar.specs.declared.kind.Container.{Container}
 use Rattle.first_pass_grammar.specs.Names.{Names, Extends}
 use Rattle.first_pass_grammar.specs.Containers.{context, at_rest, front}
@@ -33,27 +32,31 @@ pub record LinesFrom (names : Names) (text : List ℕ) (options : Options) (path
 source_at : List ℕ → Options → Spot → Inline
 source_at text options p = record { options = options; whole = text; text = text; start = p.at; row = false; braces = p.braces }
 
-lines_by : (names mid : Names) (text : List ℕ) (options : Options) (path : List Container) (p : Spot) (chain tokens : List Item)
-    (answer : ℕ × Option Item) (after : MathBraces) (line : Place) (lines : List Place) (t : Bool) → Extends mid names
-    → ends_text (context options path) line.rest ≡ t → AreLineTokens mid.texts (source_at text options p) tokens answer after
-    → LinesFrom mid text options path (spot (offset (unindented (at_rest line (front path line.rest)))) after) (add_break answer.1 (add_tokens chain tokens))
-    lines
+-- the lines of a text after its first line has tokens: the text ends there, or continues with these lines
+lines_by : (names : Names) (text : List ℕ) (options : Options) (path : List Container) (p : Spot) (chain : List Item)
+    (first : FoundLine names.texts (source_at text options p)) (line : Place) (lines : List Place) (t : Bool)
+    → ends_text (context options path) line.rest ≡ t
+    → LinesFrom (with_texts names first.named) text options path (spot (offset (unindented (at_rest line (front path line.rest)))) first.after)
+    (add_break first.answer.1 (add_tokens chain first.tokens)) lines
     → LinesFrom names text options path p chain (line ∷ lines)
 unfolding AreTextLines source_at
-lines_by names mid text options path p chain tokens answer after line lines true e h is further = record {
-  given = text_lines (add_tokens chain tokens) answer.1 (line ∷ lines);
-  more = mid;
-  extends = e;
-  are = (tokens, answer, after, is, inl (h, refl));
+lines_by names text options path p chain first line lines true h further = record {
+  given = text_lines (add_tokens chain first.tokens) first.answer.1 (line ∷ lines);
+  more = with_texts names first.named;
+  extends = extends_texts names first.named first.more;
+  are = (first.tokens, first.answer, first.after, first.line, inl (h, refl));
   shorter = omega arith;
 }
-lines_by names mid text options path p chain tokens answer after line lines false e h is further = record {
-  given = further.given;
-  more = further.more;
-  extends = extends_both further.more mid names further.extends e;
-  are = (tokens, answer, after, line_later further.more mid _ tokens answer further.extends is, inr (h, further.are));
-  shorter = let less = further.shorter in omega arith;
-}
+lines_by names text options path p chain first line lines false h further =
+    let mid : Names = with_texts names first.named in
+    let later = line_later further.more mid _ first.tokens first.answer further.extends first.line in
+    record {
+      given = further.given;
+      more = further.more;
+      extends = extends_both further.more mid names further.extends (extends_texts names first.named first.more);
+      are = (first.tokens, first.answer, first.after, later, inr (h, further.are));
+      shorter = let less = further.shorter in omega arith;
+    }
 
 pub lines_found : (names : Names) (text : List ℕ) (options : Options) (path : List Container) (lines : List Place) (p : Spot) (chain : List Item)
     → LinesFrom names text options path p chain lines
@@ -70,8 +73,7 @@ lines_found names text options path [] p chain =
 lines_found names text options path (line ∷ lines) p chain =
     let first = line_found names.texts (source_at text options p) refl in
     let mid : Names = with_texts names first.named in
-    lines_by names mid text options path p chain first.tokens first.answer first.after line lines (ends_text (context options path) line.rest)
-    (extends_texts names first.named first.more) refl first.line
+    lines_by names text options path p chain first line lines (ends_text (context options path) line.rest) refl
     (lines_found mid text options path lines (spot (offset (unindented (at_rest line (front path line.rest)))) first.after)
     (add_break first.answer.1 (add_tokens chain first.tokens)))
 

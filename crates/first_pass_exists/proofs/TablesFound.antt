@@ -157,21 +157,26 @@ abbrev row_with : (names : Names) (text : List ℕ) (options : Options) (start :
     → CellsFrom names text options (spot start braces) → FoundRow
 row_with names text options start braces found = record { start = start; cells = found.cells; row_end = found.to.at; after = found.to.braces }
 
-row_by : (names mid : Names) (text : List ℕ) (options : Options) (path : List Container) (table : TableSoFar) (line : Place) (lines : List Place)
-    (row : FoundRow) (t : Bool) → Extends mid names → HasCells (document text options mid) path line table.braces row → is_row table row.cells ≡ t
-    → RowsFrom mid text options path (with_row table row) lines → RowsFrom names text options path table (line ∷ lines)
+-- the rows of a table from a line on whose cells were found: the line is the next row, or ends the table
+row_by : (d : Document) (path : List Container) (table : TableSoFar) (line : Place) (lines : List Place) (start : ℕ)
+    (found : CellsFrom d.names d.text d.options (spot start table.braces)) (t : Bool)
+    → (let row : FoundRow = row_with d.names d.text d.options start table.braces found in
+    HasCells (document d.text d.options found.more) path line table.braces row → is_row table row.cells ≡ t
+    → RowsFrom found.more d.text d.options path (with_row table row) lines → RowsFrom d.names d.text d.options path table (line ∷ lines))
 unfolding RowsWithRoom
-row_by names mid text options path table line lines row true e has h more =
-    let still = row_more text options mid more.more path line table.braces row more.extends has in
+row_by d path table line lines start found true has h more =
+    let row : FoundRow = row_with d.names d.text d.options start table.braces found in
+    let still = row_more d.text d.options found.more more.more path line table.braces row more.extends has in
     record {
       rows = taking (row_block TableRow table.columns row.start row.cells row.row_end ++ more.rows.items) more.rows.left;
       more = more.more;
-      extends = extends_both more.more mid names more.extends e;
+      extends = extends_both more.more found.more d.names more.extends found.extends;
       are = inr (row, still, inr (h, more.rows, more.are, refl));
       shorter = let less = more.shorter in omega arith;
     }
-row_by names mid text options path table line lines row false e has h more =
-    record { rows = taking [] (line ∷ lines); more = mid; extends = e; are = inr (row, has, inl (h, refl)); shorter = omega arith }
+row_by d path table line lines start found false has h more =
+    let row : FoundRow = row_with d.names d.text d.options start table.braces found in
+    record { rows = taking [] (line ∷ lines); more = found.more; extends = found.extends; are = inr (row, has, inl (h, refl)); shorter = omega arith }
 
 rows_by : (names : Names) (text : List ℕ) (options : Options) (path : List Container) (table : TableSoFar) (line : Place) (lines : List Place)
     (o : Option ℕ) → row_text (context options path) line ≡ o → ((mid : Names) (further : TableSoFar) → RowsFrom mid text options path further lines)
@@ -182,7 +187,7 @@ rows_by names text options path table line lines None e f =
 rows_by names text options path table line lines (Some start) e f =
     let found = cells_found names text options (spot start table.braces) in
     let row : FoundRow = row_with names text options start table.braces found in
-    row_by names found.more text options path table line lines row (is_row table row.cells) found.extends (record { begins = e; are_cells = found.are }) refl
+    row_by (document text options names) path table line lines start found (is_row table row.cells) (record { begins = e; are_cells = found.are }) refl
     (f found.more (with_row table row))
 
 pub rows_found : (names : Names) (text : List ℕ) (options : Options) (path : List Container) (lines : List Place) (table : TableSoFar)

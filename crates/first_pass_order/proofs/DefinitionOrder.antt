@@ -16,7 +16,7 @@ use Rattle.first_pass_tree.specs.declared.tree_index.TreeIndex.{TreeIndex}
 use Rattle.first_pass_tree.specs.Forest.{Forest, IsForest, IsLastAt, depths, modify, with_body_at, with_end_at, body_at, item_at, at_depth, added}
 use Rattle.first_pass_tree.specs.Forest.{with_end}
 use Rattle.first_pass_tree.proofs.BodyLemmas.{body-kept, body-changed}
-use Rattle.first_pass_grammar.specs.Order.{Ranged, extent_of, extents, is_task_marker, Siblings, laid, IsBetween, Elsewhere}
+use Rattle.first_pass_grammar.specs.Order.{Ranged, extent_of, extents, is_task_marker, Siblings, laid, Elsewhere}
 use Rattle.first_pass_grammar.specs.Order.{InItem, Fits, FitsBetween}
 use Rattle.first_pass_grammar.specs.OpenOrder.{laid_open, AreAt, open_within, FitsOpen, item_on_top, within_top, IsOrderedTo}
 use Rattle.first_pass_grammar.proofs.Order.Orders.{ended_at, extents-append, length-extents, extents-at_depth, laid-at_depth, laid_open-level}
@@ -31,7 +31,7 @@ use Rattle.first_pass_order.specs.Ordered.{top_of, AreNested, EndsBeforeLast, En
 use Rattle.first_pass_order.proofs.Nests.{classes_body, classes_ended, nested_same}
 use Rattle.first_pass_order.proofs.Nests.{title_there, definitions_closed_outside, noted_outside, outside_closes, nested_front, top_front}
 use Rattle.first_pass_order.proofs.OrderLemmas.{ordered_same, ordered_added, ordered_none}
-use Rattle.first_pass_order.proofs.OrderLemmas.{extents-body}
+use Rattle.first_pass_order.proofs.OrderLemmas.{LiesIn, lies_in, extents-body}
 use Rattle.first_pass_order.proofs.PopOrder.{ordered_gap_noted, noted_empty}
 use Rattle.first_pass_order.proofs.AlikeNodes.{LooksAlike, like_itself}
 use Rattle.first_pass_order.proofs.PropertyKept.{IsLeft, is_left}
@@ -66,29 +66,34 @@ ordered_to_last text f a c y forest current here plain h =
     )
 
 -- the innermost open node has another end
-reended_by : (text : List ℕ) (f : Forest Item) (a e : ℕ) (ix : TreeIndex) (rest : List TreeIndex) (root : Ranged) (levels : List (Siblings × Ranged))
-    (row : Siblings) → extents f.nodes ≡ laid_open root levels row → f.spine ≡ ix ∷ rest → AreAt root levels (ix ∷ rest) → FitsOpen text a levels row
-    → a ≤ length text
-    → IsBetween text 0 (length text) root × (root.start ≡ 0) × (root.«end» ≡ length text) → IsOrderedTo text (with_end_at f ix e) a
+reended_by : (text : List ℕ) (f : Forest Item) (a e : ℕ) (ix : TreeIndex) (rest : List TreeIndex) (levels : List (Siblings × Ranged))
+    → LiesIn text f a (ix ∷ rest) levels → f.spine ≡ ix ∷ rest → a ≤ length text → IsOrderedTo text (with_end_at f ix e) a
 unfolding FitsOpen
-reended_by text f a e ix rest root [] row is spine places fits within whole = absurd places
-reended_by text f a e ix rest root (level ∷ levels) row is spine places (before, low, h, starts, outer) within whole = record {
-  root = root;
-  levels = (level.0, ended_at level.1 e) ∷ levels;
-  row = row;
-  nodes = extents-ended f.nodes (laid_open root levels level.0) (suc (length levels), level.1) (laid (suc (suc (length levels))) row) ix.0 e
-      (is ∙ laid_open-level root level levels row) places.0
-      ∙ sym (laid_open-level root (level.0, ended_at level.1 e) levels row);
-  places = subst (AreAt root ((level.0, ended_at level.1 e) ∷ levels)) (sym spine) places;
-  fits = (before, low, subst (λ w. Fits text w level.1.start a row) (sym (below_ended (open_within levels) before level.1 e)) h, starts, outer);
-  within = within;
-  whole = whole;
-}
+reended_by text f a e ix rest [] h spine within = absurd h.places
+reended_by text f a e ix rest (level ∷ levels) h spine within =
+    let (before, low, fits, starts, outer) = h.fits in
+    record {
+      root = h.root;
+      levels = (level.0, ended_at level.1 e) ∷ levels;
+      row = h.row;
+      nodes = extents-ended f.nodes (laid_open h.root levels level.0) (suc (length levels), level.1) (laid (suc (suc (length levels))) h.row) ix.0 e
+          (h.nodes ∙ laid_open-level h.root level levels h.row) h.places.0
+          ∙ sym (laid_open-level h.root (level.0, ended_at level.1 e) levels h.row);
+      places = subst (AreAt h.root ((level.0, ended_at level.1 e) ∷ levels)) (sym spine) h.places;
+      fits = (
+        before,
+        low,
+        subst (λ w. Fits text w level.1.start a h.row) (sym (below_ended (open_within levels) before level.1 e)) fits,
+        starts,
+        outer,
+      );
+      within = within;
+      whole = h.whole;
+    }
 
 pub ordered_reended : (text : List ℕ) (f : Forest Item) (a e : ℕ) (ix : TreeIndex) (rest : List TreeIndex) → f.spine ≡ ix ∷ rest → IsOrderedTo text f a
     → IsOrderedTo text (with_end_at f ix e) a
-ordered_reended text f a e ix rest spine h =
-    reended_by text f a e ix rest h.root h.levels h.row h.nodes spine (subst (AreAt h.root h.levels) spine h.places) h.fits h.within h.whole
+ordered_reended text f a e ix rest spine h = reended_by text f a e ix rest h.levels (lies_in text f a (ix ∷ rest) h spine) spine h.within
 
 -- a possible title is last
 kept_some : (f : Forest Item) {i : ℕ} → body_at f.nodes i ≡ Some MaybeDefinitionListTitle → f.current ≡ Some (record { 0 = i })

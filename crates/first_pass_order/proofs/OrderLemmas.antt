@@ -170,30 +170,48 @@ ordered_first text tree root utf8 top tree_is =
     let e : tree ≡ with_end_at empty_forest (at_top 0) (length text) = tree_is ∙ ap (λ n. with_end_at empty_forest (at_top n) (length text)) top in
     subst (λ (f : Forest Item). IsOrderedTo text f 0) (sym e) (first_at text utf8)
 
+-- the open nodes of a tree, which are in order up to an offset, as levels of siblings, innermost first
+pub record LiesIn (text : List ℕ) (f : Forest Item) (at : ℕ) (spine : List TreeIndex) (levels : List (Siblings × Ranged)) : Type 0 where
+  pub root : Ranged
+  pub row : Siblings
+  pub nodes : extents f.nodes ≡ laid_open root levels row
+  pub places : AreAt root levels spine
+  pub fits : FitsOpen text at levels row
+  pub whole : IsBetween text 0 (length text) root × (root.start ≡ 0) × (root.«end» ≡ length text)
+
+-- a tree in order up to an offset has such levels
+pub lies_in : (text : List ℕ) (f : Forest Item) (at : ℕ) (spine : List TreeIndex) (h : IsOrderedTo text f at) → f.spine ≡ spine
+    → LiesIn text f at spine h.levels
+lies_in text f at spine h is = record {
+  root = h.root;
+  row = h.row;
+  nodes = h.nodes;
+  places = subst (λ (s : List TreeIndex). AreAt h.root h.levels s) is h.places;
+  fits = h.fits;
+  whole = h.whole;
+}
+
 -- the innermost open node is closed
-closed_levels : (text : List ℕ) (f : Forest Item) (at e : ℕ) (ix : TreeIndex) (rest : List TreeIndex) (root : Ranged) (levels : List (Siblings × Ranged))
-    (row : Siblings) → extents f.nodes ≡ laid_open root levels row → AreAt root levels (ix ∷ rest)
-    → FitsOpen text at levels row → IsBetween text 0 (length text) root × (root.start ≡ 0) × (root.«end» ≡ length text) → at ≤ e → e ≤ length text
-    → IsCharBoundary text e → IsOrderedTo text (closed_by f e (ix ∷ rest)) e
-closed_levels text f at e ix rest root [] row is places fits whole later within ends = absurd places
-closed_levels text f at e ix rest root (level ∷ levels) row is places fits whole later within ends = record {
-  root = root;
+closed_levels : (text : List ℕ) (f : Forest Item) (at e : ℕ) (ix : TreeIndex) (rest : List TreeIndex) (levels : List (Siblings × Ranged))
+    → LiesIn text f at (ix ∷ rest) levels → at ≤ e → e ≤ length text → IsCharBoundary text e → IsOrderedTo text (closed_by f e (ix ∷ rest)) e
+closed_levels text f at e ix rest [] h later within ends = absurd h.places
+closed_levels text f at e ix rest (level ∷ levels) h later within ends = record {
+  root = h.root;
   levels = levels;
-  row = beside level.0 (Node (ended_at level.1 e) row Empty);
-  nodes = extents-ended f.nodes (laid_open root levels level.0) (suc (length levels), level.1) (laid (suc (suc (length levels))) row) ix.0 e
-      (is ∙ laid_open-level root level levels row) places.0
-      ∙ sym (laid_open-popped root (ended_at level.1 e) levels level.0 row);
-  places = places.1;
-  fits = fits_open-popped text at e level levels row later ends fits;
+  row = beside level.0 (Node (ended_at level.1 e) h.row Empty);
+  nodes = extents-ended f.nodes (laid_open h.root levels level.0) (suc (length levels), level.1) (laid (suc (suc (length levels))) h.row) ix.0 e
+      (h.nodes ∙ laid_open-level h.root level levels h.row) h.places.0
+      ∙ sym (laid_open-popped h.root (ended_at level.1 e) levels level.0 h.row);
+  places = h.places.1;
+  fits = fits_open-popped text at e level levels h.row later ends h.fits;
   within = within;
-  whole = whole;
+  whole = h.whole;
 }
 
 pub ordered_closed : (text : List ℕ) (f : Forest Item) (at e : ℕ) (ix : TreeIndex) (rest : List TreeIndex)
     → f.spine ≡ ix ∷ rest → at ≤ e → e ≤ length text → IsCharBoundary text e → IsOrderedTo text f at → IsOrderedTo text (closed_by f e (ix ∷ rest)) e
 ordered_closed text f at e ix rest spine later within ends h =
-    closed_levels text f at e ix rest h.root h.levels h.row h.nodes
-    (subst (λ (s : List TreeIndex). AreAt h.root h.levels s) spine h.places) h.fits h.whole later within ends
+    closed_levels text f at e ix rest h.levels (lies_in text f at (ix ∷ rest) h spine) later within ends
 
 pub popped_empty : (r : PassState) (f : Forest Item) (ix : TreeIndex) (b : Option ItemBody)
     → (r.begin_list_item ≡ None) ⊎ (is_item b ≡ true) → (popped_by r f ix b).begin_list_item ≡ None

@@ -190,27 +190,32 @@ in_stands : (w : Within) (from : ℕ) (x : Ranged) (v : Within) → x.item ≡ t
 in_stands w from x v is (inl e) = e ∙ in_item w from x is
 in_stands w from x v is (inr e) = e ∙ ap beyond (in_item w from x is)
 
+-- a paragraph or another text block, and no item
+record IsTextBlock (x : Ranged) : Type 0 where
+  pub other : x.item ≡ false
+  pub block : x.text_block ≡ true
+
 -- The last child of the innermost open node, a paragraph, becomes a title: the first child of a definition list that
 -- is open in its place. The open nodes are then in order.
-titled_in : (text : List ℕ) (to mid : ℕ) (item : Bool) (x : Ranged) (kids : Siblings) (v : Within) → x.item ≡ false → x.text_block ≡ true
-    → (item ≡ true → v ≡ InItem) → (item ≡ false → IsPlainWithin v) → IsBetween text mid to x → Fits text (below v mid x) x.start x.«end» kids
+titled_in : (text : List ℕ) (to mid : ℕ) (item : Bool) (x : Ranged) (kids : Siblings) (v : Within)
+    → IsTextBlock x → (item ≡ true → v ≡ InItem) → (item ≡ false → IsPlainWithin v) → IsBetween text mid to x → Fits text (below v mid x) x.start x.«end» kids
     → Fits text (below (if item then InItem else Elsewhere) mid (as_list x)) x.start to (Node x kids Empty)
 unfolding Fits
-titled_in text to mid true x kids v other block inner outer between h =
+titled_in text to mid true x kids v is inner outer between h =
     let start : x.start ≤ x.start = omega arith in
-    let e : below v mid x ≡ InText mid = ap (λ w. below w mid x) (inner refl) ∙ (let f : below InItem mid x ≡ InText mid = rw (other, block) refl in f) in
-    let g : below (InFirst mid) x.start x ≡ InText mid = rw (other, block) refl in
+    let e : below v mid x ≡ InText mid = ap (λ w. below w mid x) (inner refl) ∙ (let f : below InItem mid x ≡ InText mid = rw (is.other, is.block) refl in f) in
+    let g : below (InFirst mid) x.start x ≡ InText mid = rw (is.other, is.block) refl in
     inl (
       record { following = start; order = between.order; before = between.before; starts = between.starts; ends = between.ends },
       subst (λ w. Fits text w x.start x.«end» kids) (e ∙ sym g) h,
       between.before,
     )
-titled_in text to mid false x kids v other block inner outer between h =
+titled_in text to mid false x kids v is inner outer between h =
     let start : x.start ≤ x.start = omega arith in
-    let g : below Elsewhere x.start x ≡ Elsewhere = rw other refl in
+    let g : below Elsewhere x.start x ≡ Elsewhere = rw is.other refl in
     inl (
       record { following = start; order = between.order; before = between.before; starts = between.starts; ends = between.ends },
-      subst (λ w. Fits text w x.start x.«end» kids) (sym g) (plain_by text v mid x.start x.«end» x kids other (outer refl) h),
+      subst (λ w. Fits text w x.start x.«end» kids) (sym g) (plain_by text v mid x.start x.«end» x kids is.other (outer refl) h),
       between.before,
     )
 
@@ -223,7 +228,7 @@ fits_open_titled text to [] before x kids plain other block none h =
     let stands = which_plain Elsewhere r.stands (inl refl) r.which in (
       r.mid,
       r.between.following,
-      titled_in text to r.mid false x kids r.stands other block (λ e. cc) (λ e. stands) r.between r.inside,
+      titled_in text to r.mid false x kids r.stands (record { other = other; block = block }) (λ e. cc) (λ e. stands) r.between r.inside,
       r.between.starts,
       r.front,
     )
@@ -232,7 +237,8 @@ fits_open_titled text to (level ∷ levels) before x kids plain other block none
     let r = fits_apart text w level.1.start to before x kids plain h in (
       r.mid,
       r.between.following,
-      titled_in text to r.mid level.1.item x kids r.stands other block (λ item. in_stands (open_within levels) from level.1 r.stands item r.which)
+      titled_in text to r.mid level.1.item x kids r.stands (record { other = other; block = block })
+          (λ item. in_stands (open_within levels) from level.1 r.stands item r.which)
           (λ item. which_plain w r.stands (open_plain levels from level.1 item none) r.which) r.between r.inside,
       r.between.starts,
       (from, low, r.front, starts, rest),

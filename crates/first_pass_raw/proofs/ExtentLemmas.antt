@@ -13,7 +13,7 @@ use Rattle.first_pass_tokens.specs.Chains.{add_tokens}
 use Rattle.first_pass_tokens.proofs.ChainLemmas.{with_tokens-chained}
 use Rattle.first_pass_grammar.specs.declared.kind.Container.{Container}
 use Rattle.first_pass_grammar.specs.Names.{Names, Extends}
-use Rattle.first_pass_grammar.specs.Leaves.{document, block_with}
+use Rattle.first_pass_grammar.specs.Leaves.{Document, document, block_with}
 use Rattle.first_pass_grammar.specs.RawLines.{Ranges, IsRawLine, AreRawLines}
 use Rattle.first_pass_grammar.specs.Extents.{Extent, with_line, extent_to, Verdict, extent_by, extent, judged, in_containers}
 use Rattle.first_pass_grammar.specs.Completion.{lines_from}
@@ -37,81 +37,83 @@ use Rattle.first_pass_names.proofs.NameLemmas.{extends_both}
 
 -- The raw lines of an extent are read up to those of its rest. The chain so far, followed by the lines of the rest,
 -- is the chain of the whole extent.
-pub record LinesSoFar (range : Ranges) (text : List ℕ) (options : Options) (names : Names) (whole rest : Extent) (old now : Forest Item) : Type 0 where
+pub record LinesSoFar (range : Ranges) (d : Document) (whole rest : Extent) (old now : Forest Item) : Type 0 where
   pub chain : List Item
   pub tree_is : now ≡ chained old chain
-  pub continues : (more : Names) (last : List Item) → Extends more names → AreRawLines range (document text options more) chain rest.places last
-      → AreRawLines range (document text options more) [] whole.places last
+  pub continues : (more : Names) (last : List Item)
+      → Extends more d.names → AreRawLines range (document d.text d.options more) chain rest.places last
+      → AreRawLines range (document d.text d.options more) [] whole.places last
   pub end_is : whole.«end» ≡ rest.«end»
   pub left_is : whole.left ≡ rest.left
 
 -- before the first line
-pub lines_start : (range : Ranges) (text : List ℕ) (options : Options) (names : Names) (whole : Extent) (old : Forest Item)
-    → LinesSoFar range text options names whole whole old old
-lines_start range text options names whole old = record { chain = []; tree_is = refl; continues = λ more last e lines. lines; end_is = refl; left_is = refl }
+pub lines_start : (range : Ranges) (d : Document) (whole : Extent) (old : Forest Item) → LinesSoFar range d whole whole old old
+lines_start range d whole old = record { chain = []; tree_is = refl; continues = λ more last e lines. lines; end_is = refl; left_is = refl }
 
-lines_after : (range : Ranges) (text : List ℕ) (options : Options) (names named : Names) (whole rest further : Extent) (p : Place) (chain line : List Item)
-    → rest ≡ with_line p further
-    → ((more : Names) (last : List Item) → Extends more names → AreRawLines range (document text options more) chain rest.places last
-    → AreRawLines range (document text options more) [] whole.places last)
-    → Extends named names → ((more : Names) → Extends more named → IsRawLine range (document text options more) p.rest.owed (offset p) (line_end p) line)
-    → (more : Names) (last : List Item) → Extends more named → AreRawLines range (document text options more) (add_tokens chain line) further.places last
-    → AreRawLines range (document text options more) [] whole.places last
-unfolding AreRawLines
-lines_after range text options names named whole rest further p chain line is continues e are more last f lines =
-    continues more last (extends_both more named names f e)
-    (subst (λ (x : Extent). AreRawLines range (document text options more) chain x.places last) (sym is) (line, are more f, lines))
+-- The raw line at a place is appended after the nodes of a tree. It begins at an offset, with columns owed there, and
+-- ends at another.
+pub record LineAppended (range : Ranges) (d : Document) (p : Place) (now : Forest Item) : Type 0 where
+  pub new : Forest Item
+  pub named : Names
+  pub owed : ℕ
+  pub from : ℕ
+  pub to : ℕ
+  pub extends : Extends named d.names
+  pub line : AppendsRaw range d.text named owed from to now new
+  pub owed_is : owed ≡ p.rest.owed
+  pub from_is : from ≡ offset p
+  pub to_is : to ≡ line_end p
+
+-- Its items stay what they are if more is named later.
+pub line_under : {range : Ranges} {d : Document} {p : Place} {now : Forest Item} (l : LineAppended range d p now) (more : Names)
+    → Extends more l.named → IsRawLine range (document d.text d.options more) p.rest.owed (offset p) (line_end p) l.line.items
+line_under {range} {d} {p} {now} l more f =
+    let later : Document = document d.text d.options more in
+    subst (λ k. IsRawLine range later p.rest.owed (offset p) k l.line.items) l.to_is
+    (subst (λ k. IsRawLine range later p.rest.owed k l.to l.line.items) l.from_is
+    (subst (λ k. IsRawLine range later k l.from l.to l.line.items) l.owed_is (l.line.are d.options more f)))
 
 -- after a line
-pub lines_more : (range : Ranges) (text : List ℕ) (options : Options) (names named : Names) (whole rest further : Extent) (p : Place)
-    (old now new : Forest Item) (owed from to : ℕ) → JoinsNone old
-    → LinesSoFar range text options names whole rest old now → rest ≡ with_line p further → Extends named names
-    → AppendsRaw range text named owed from to now new
-    → owed ≡ p.rest.owed → from ≡ offset p → to ≡ line_end p → LinesSoFar range text options named whole further old new
-lines_more range text options names named whole rest further p old now new owed from to apart s is e line owed_is from_is to_is =
+pub lines_more : (range : Ranges) (d : Document) (whole rest further : Extent) (p : Place) (old now : Forest Item) → JoinsNone old
+    → LinesSoFar range d whole rest old now → rest ≡ with_line p further → (l : LineAppended range d p now)
+    → LinesSoFar range (document d.text d.options l.named) whole further old l.new
+unfolding AreRawLines
+lines_more range d whole rest further p old now apart s is l =
     record {
-      chain = add_tokens s.chain line.items;
-      tree_is = line.tree_is ∙ ap (λ f. with_tokens f line.items) s.tree_is ∙ with_tokens-chained old s.chain line.items apart;
-      continues = lines_after range text options names named whole rest further p s.chain line.items is s.continues e (λ more f.
-          subst (λ k. IsRawLine range (document text options more) p.rest.owed (offset p) k line.items) to_is
-          (subst (λ k. IsRawLine range (document text options more) p.rest.owed k to line.items) from_is
-          (subst (λ k. IsRawLine range (document text options more) k from to line.items) owed_is (line.are options more f))));
+      chain = add_tokens s.chain l.line.items;
+      tree_is = l.line.tree_is ∙ ap (λ f. with_tokens f l.line.items) s.tree_is ∙ with_tokens-chained old s.chain l.line.items apart;
+      continues = λ more last f lines. s.continues more last (extends_both more l.named d.names f l.extends)
+          (subst (λ (x : Extent). AreRawLines range (document d.text d.options more) s.chain x.places last) (sym is)
+          (l.line.items, line_under l more f, lines));
       end_is = s.end_is ∙ ap (λ (x : Extent). x.«end») is;
       left_is = s.left_is ∙ ap (λ (x : Extent). x.left) is;
     }
 
-lines_last : (range : Ranges) (text : List ℕ) (options : Options) (names : Names) (whole rest : Extent) (chain : List Item) → rest.places ≡ []
-    → ((more : Names) (last : List Item) → Extends more names → AreRawLines range (document text options more) chain rest.places last
-    → AreRawLines range (document text options more) [] whole.places last)
-    → (more : Names) → Extends more names → AreRawLines range (document text options more) [] whole.places chain
-unfolding AreRawLines
-lines_last range text options names whole rest chain none continues more e =
-    continues more chain e (subst (λ ps. AreRawLines range (document text options more) chain ps chain) (sym none) refl)
-
 -- after the last line
-pub lines_end : (range : Ranges) (text : List ℕ) (options : Options) (names : Names) (whole rest : Extent) (old now : Forest Item) (e next : ℕ)
-    → LinesSoFar range text options names whole rest old now → rest ≡ extent_to e (lines_from text next)
-    → AppendsLines range (document text options names) whole old now e next
-lines_end range text options names whole rest old now e next s is =
+pub lines_end : (range : Ranges) (d : Document) (whole rest : Extent) (old now : Forest Item) (e next : ℕ)
+    → LinesSoFar range d whole rest old now → rest ≡ extent_to e (lines_from d.text next) → AppendsLines range d whole old now e next
+unfolding AreRawLines
+lines_end range d whole rest old now e next s is =
     record {
       chain = s.chain;
       tree_is = s.tree_is;
-      lines = lines_last range text options names whole rest s.chain (ap (λ (x : Extent). x.places) is) s.continues;
+      lines = λ more f. s.continues more s.chain f
+          (subst (λ ps. AreRawLines range (document d.text d.options more) s.chain ps s.chain) (sym (ap (λ (x : Extent). x.places) is)) refl);
       end_is = sym (s.end_is ∙ ap (λ (x : Extent). x.«end») is);
       left_is = sym (s.left_is ∙ ap (λ (x : Extent). x.left) is);
     }
 
 -- the containers around the block are the same while its lines are read
-pub lines_path : (range : Ranges) (text : List ℕ) (options : Options) (names : Names) (whole rest : Extent) (old now : Forest Item)
-    → LinesSoFar range text options names whole rest old now → AreIn (length old.nodes) old.spine → path_of options now ≡ path_of options old
-lines_path range text options names whole rest old now s there = ap (path_of options) s.tree_is ∙ path_of-chained options old s.chain there
+pub lines_path : (range : Ranges) (d : Document) (whole rest : Extent) (old now : Forest Item)
+    → LinesSoFar range d whole rest old now → AreIn (length old.nodes) old.spine → path_of d.options now ≡ path_of d.options old
+lines_path range d whole rest old now s there = ap (path_of d.options) s.tree_is ∙ path_of-chained d.options old s.chain there
 
 -- no block quote is open further inside
-pub lines_quotes : (range : Ranges) (text : List ℕ) (options : Options) (names : Names) (whole rest : Extent) (old now : Forest Item) (n : ℕ)
-    → LinesSoFar range text options names whole rest old now → AreIn (length old.nodes) old.spine → has_quote_after options old n ≡ false
-    → has_quote_after options now n ≡ false
-lines_quotes range text options names whole rest old now n s there none =
-    ap (λ f. has_quote_after options f n) s.tree_is ∙ quote_after-chained options old s.chain n there ∙ none
+pub lines_quotes : (range : Ranges) (d : Document) (whole rest : Extent) (old now : Forest Item) (n : ℕ)
+    → LinesSoFar range d whole rest old now → AreIn (length old.nodes) old.spine → has_quote_after d.options old n ≡ false
+    → has_quote_after d.options now n ≡ false
+lines_quotes range d whole rest old now n s there none =
+    ap (λ f. has_quote_after d.options f n) s.tree_is ∙ quote_after-chained d.options old s.chain n there ∙ none
 
 -- a line of the text, from its start up to the start of the next one
 pub record IsLineAt (text : List ℕ) (at next : ℕ) : Type 0 where
@@ -187,71 +189,84 @@ goes_by (Closes e) f g h = absurd (g e refl)
 goes_by (Stops e) f g h = absurd (f e refl)
 
 -- the lines of a block are read from one offset up to another
-abbrev pub ReadSoFar : Ranges → List ℕ → Options → Names → (Place → Place → Verdict) → ℕ → ℕ → Forest Item → Forest Item → Type 0
-ReadSoFar range text options names judge start at old now =
-    LinesSoFar range text options names (extent_from text (path_of options old) judge start) (extent_from text (path_of options old) judge at) old now
+abbrev pub ReadSoFar : Ranges → Document → (Place → Place → Verdict) → ℕ → ℕ → Forest Item → Forest Item → Type 0
+ReadSoFar range d judge start at old now =
+    LinesSoFar range d (extent_from d.text (path_of d.options old) judge start) (extent_from d.text (path_of d.options old) judge at) old now
 
-module _ (range : Ranges) (text : List ℕ) (options : Options) (names : Names) (judge : Place → Place → Verdict) (start at : ℕ) (old now : Forest Item)
-    (s : ReadSoFar range text options names judge start at old now) where
+-- the text ends
+pub read_end : (range : Ranges) (d : Document) (judge : Place → Place → Verdict) (start at : ℕ) (old now : Forest Item)
+    → ReadSoFar range d judge start at old now → at ≡ length d.text
+    → AppendsLines range d (extent_from d.text (path_of d.options old) judge start) old now at at
+read_end range d judge start at old now s past = lines_end range d (extent_from d.text (path_of d.options old) judge start)
+    (extent_from d.text (path_of d.options old) judge at) old now at at s (extent_at_end d.text (path_of d.options old) judge at past)
+
+-- the line does not continue the containers
+pub read_left : (range : Ranges) (d : Document) (judge : Place → Place → Verdict) (start at next : ℕ) (old now : Forest Item)
+    → ReadSoFar range d judge start at old now → AreIn (length old.nodes) old.spine → IsLineAt d.text at next
+    → None ≡ after (path_of d.options now) (line_rest (drop at d.text))
+    → AppendsLines range d (extent_from d.text (path_of d.options old) judge start) old now at at
+read_left range d judge start at next old now s there line none =
+    let whole : Extent = extent_from d.text (path_of d.options old) judge start in
+    let rest : Extent = extent_from d.text (path_of d.options old) judge at in
+    lines_end range d whole rest old now at at s
+    (extent_here d.text (path_of d.options old) judge at next None (Judged.Stops at) line
+    (ap (λ path. after path (line_rest (drop at d.text))) (sym (lines_path range d whole rest old now s there)) ∙ sym none) refl
+    ∙ ap (extent_to at) (sym line.lines))
+
+-- The lines of a block are read up to a line that continues the containers, and that line is judged. It has one rest
+-- before the call, and another after it.
+pub record LineJudged (range : Ranges) (d : Document) (judge : Place → Place → Verdict) (start at : ℕ) (old now : Forest Item) : Type 0 where
+  pub next : ℕ
+  pub before : Rest
+  pub following : Rest
+  pub answer : Answer
+  pub so_far : ReadSoFar range d judge start at old now
+  pub there : AreIn (length old.nodes) old.spine
+  pub line : IsLineAt d.text at next
+  pub taken : Some before ≡ after (path_of d.options now) (line_rest (drop at d.text))
+  pub is : judge (line_place at (drop at d.text)) (place_at at before) ≡ said answer (place_at at following)
+
+module _ {range : Ranges} {d : Document} {judge : Place → Place → Verdict} {start at : ℕ} {old now : Forest Item}
+    (j : LineJudged range d judge start at old now) where
   abbrev whole : Extent
-  whole = extent_from text (path_of options old) judge start
+  whole = extent_from d.text (path_of d.options old) judge start
 
   abbrev rest : Extent
-  rest = extent_from text (path_of options old) judge at
+  rest = extent_from d.text (path_of d.options old) judge at
 
-  -- the text ends
-  pub read_end : at ≡ length text → AppendsLines range (document text options names) (extent_from text (path_of options old) judge start) old now at at
-  read_end past = lines_end range text options names whole rest old now at at s (extent_at_end text (path_of options old) judge at past)
+  -- the place of the text of the line
+  abbrev text_place : Place
+  text_place = place_at at j.following
 
-  module _ (next : ℕ) (there : AreIn (length old.nodes) old.spine) (line : IsLineAt text at next) where
-    same_path : path_of options now ≡ path_of options old
-    same_path = lines_path range text options names whole rest old now s there
+  rest_by : (v : Answer) → j.answer ≡ v → rest
+      ≡ extent_by (said v text_place) (line_place at (drop at d.text)) (lines_from d.text j.next) (extent_from d.text (path_of d.options old) judge j.next)
+  rest_by v e =
+      extent_here d.text (path_of d.options old) judge at j.next (Some j.before) (said v text_place) j.line
+      (ap (λ path. after path (line_rest (drop at d.text))) (sym (lines_path range d whole rest old now j.so_far j.there)) ∙ sym j.taken)
+      (j.is ∙ ap (λ (a : Answer). said a text_place) e)
 
-    -- the line does not continue the containers
-    pub read_left : (found : Option Rest) → found ≡ None → found ≡ after (path_of options now) (line_rest (drop at text))
-        → AppendsLines range (document text options names) (extent_from text (path_of options old) judge start) old now at at
-    read_left found none is =
-        lines_end range text options names whole rest old now at at s
-        (extent_here text (path_of options old) judge at next None (Judged.Stops at) line
-        (ap (λ path. after path (line_rest (drop at text))) (sym same_path) ∙ sym is ∙ none) refl ∙ ap (extent_to at) (sym line.lines))
+  -- the line does not belong to the block
+  pub read_stops : (e : ℕ) → j.answer ≡ Stops e → AppendsLines range d (extent_from d.text (path_of d.options old) judge start) old now e at
+  read_stops e stops = lines_end range d whole rest old now e at j.so_far (rest_by (Stops e) stops ∙ ap (extent_to e) (sym j.line.lines))
 
-    module _ (r q : Rest) (taken : Some r ≡ after (path_of options now) (line_rest (drop at text))) (answer : Answer)
-        (is : judge (line_place at (drop at text)) (place_at at r) ≡ said answer (place_at at q)) where
-      rest_by : (v : Answer) → answer ≡ v
-          → rest ≡ extent_by (said v (place_at at q)) (line_place at (drop at text)) (lines_from text next) (extent_from text (path_of options old) judge next)
-      rest_by v e =
-          extent_here text (path_of options old) judge at next (Some r) (said v (place_at at q)) line
-          (ap (λ path. after path (line_rest (drop at text))) (sym same_path) ∙ sym taken) (is ∙ ap (λ (a : Answer). said a (place_at at q)) e)
+  -- it closes the block
+  pub read_closes : (e : ℕ) → j.answer ≡ Closes e → AppendsLines range d (extent_from d.text (path_of d.options old) judge start) old now e j.next
+  read_closes e closes = lines_end range d whole rest old now e j.next j.so_far (rest_by (Closes e) closes)
 
-      -- the line does not belong to the block
-      pub read_stops : (e : ℕ)
-          → answer ≡ Stops e → AppendsLines range (document text options names) (extent_from text (path_of options old) judge start) old now e at
-      read_stops e stops = lines_end range text options names whole rest old now e at s (rest_by (Stops e) stops ∙ ap (extent_to e) (sym line.lines))
+  -- it belongs to the block
+  pub read_more : JoinsNone old → (l : LineAppended range d (place_at at j.following) now) → j.answer ≡ GoesOn
+      → ReadSoFar range (document d.text d.options l.named) judge start j.next old l.new
+  read_more apart l goes =
+      lines_more range d whole rest (extent_from d.text (path_of d.options old) judge j.next) text_place old now apart j.so_far (rest_by GoesOn goes) l
 
-      -- it closes the block
-      pub read_closes : (e : ℕ)
-          → answer ≡ Closes e → AppendsLines range (document text options names) (extent_from text (path_of options old) judge start) old now e next
-      read_closes e closes = lines_end range text options names whole rest old now e next s (rest_by (Closes e) closes)
-
-      module _ (named : Names) (owed from : ℕ) (new : Forest Item) (apart : JoinsNone old) (extends : Extends named names)
-          (appends : AppendsRaw range text named owed from next now new) (owed_is : owed ≡ q.owed) (from_is : from ≡ at + q.taken)
-          (next_is : next ≡ line_end (place_at at q)) where
-        -- it belongs to the block
-        pub read_more : answer ≡ GoesOn → ReadSoFar range text options named judge start next old new
-        read_more goes =
-            lines_more range text options names named whole rest (extent_from text (path_of options old) judge next)
-            (place_at at q) old now new owed from next apart s
-            (rest_by GoesOn goes) extends appends owed_is from_is next_is
-
-        -- it is the last
-        pub read_last : answer ≡ IsLast
-            → AppendsLines range (document text options named) (extent_from text (path_of options old) judge start) old new next next
-        read_last last =
-            let ends : Extent = extent_to next (lines_from text next) in
-            lines_end range text options named whole ends old new next next
-            (lines_more range text options names named whole rest ends (place_at at q) old now new owed from next apart s
-            (rest_by IsLast last ∙ ap (λ k. with_line (place_at at q) (extent_to k (lines_from text next))) (sym next_is)) extends appends owed_is from_is
-            next_is) refl
+  -- it is the last
+  pub read_last : JoinsNone old → (l : LineAppended range d (place_at at j.following) now) → j.next ≡ line_end (place_at at j.following) → j.answer ≡ IsLast
+      → AppendsLines range (document d.text d.options l.named) (extent_from d.text (path_of d.options old) judge start) old l.new j.next j.next
+  read_last apart l next_is last =
+      let ends : Extent = extent_to j.next (lines_from d.text j.next) in
+      lines_end range (document d.text d.options l.named) whole ends old l.new j.next j.next
+      (lines_more range d whole rest ends text_place old now apart j.so_far
+      (rest_by IsLast last ∙ ap (λ k. with_line text_place (extent_to k (lines_from d.text j.next))) (sym next_is)) l) refl
 
 -- a raw line, by a kind equal to its own
 pub line_as : (text : List ℕ) (names : Names) (kind named : RawKind) (owed from to : ℕ) (old new : Forest Item) → kind ≡ named
@@ -272,30 +287,56 @@ opened_path options g opened start body is leaf there =
     ap (path_of options) is ∙ path_of-opened options g (begun_item start body) (record { 0 = length g.nodes }) refl there
     ∙ ap (λ c. with_container c (path_of options g)) leaf
 
--- the lines after the first of a block that was just opened
-pub lines_of : (range : Ranges) (text : List ℕ) (options : Options) (names : Names) (g opened filled : Forest Item) (start first e next : ℕ) (body : ItemBody)
-    (judge : Place → Place → Verdict) → AreIn (length g.nodes) g.spine
-    → opened ≡ opened_block g start body → container_of options body ≡ None → first ≡ after_line_at text start
-    → AppendsLines range (document text options names) (extent_from text (path_of options opened) judge first) opened filled e next
-    → AppendsLines range (document text options names) (extent_from text (path_of options g) judge (after_line_at text start)) opened filled e next
-lines_of range text options names g opened filled start first e next body judge there is leaf first_is lines =
-    subst (λ y. AppendsLines range (document text options names) y opened filled e next)
-    (ap (λ path. extent_from text path judge first) (opened_path options g opened start body is leaf there)
-    ∙ ap (extent_from text (path_of options g) judge) first_is) lines
+-- A block is open in a tree, with the raw lines of an extent. It ends at an offset, and the lines from another on
+-- remain.
+pub record Filled (range : Ranges) (d : Document) (whole : Extent) (g : Forest Item) (start : ℕ) (body : ItemBody) : Type 0 where
+  pub opened : Forest Item
+  pub filled : Forest Item
+  pub stop : ℕ
+  pub next : ℕ
+  pub is : opened ≡ opened_block g start body
+  pub lines : AppendsLines range d whole opened filled stop next
 
--- a block that was opened, and then filled with its lines
-module _ (range : Ranges) (text : List ℕ) (options : Options) (names : Names) (whole : Extent) (g opened filled : Forest Item) (start : ℕ) (body : ItemBody)
-    (e next : ℕ)
-    (is : opened ≡ opened_block g start body) (lines : AppendsLines range (document text options names) whole opened filled e next) where
-  filled_is : filled ≡ chained (opened_block g start body) lines.chain
-  filled_is = lines.tree_is ∙ ap (λ f. chained f lines.chain) is
+module _ {range : Ranges} {d : Document} {whole : Extent} {g : Forest Item} {start : ℕ} {body : ItemBody} (b : Filled range d whole g start body) where
+  -- its chain
+  filled_is : b.filled ≡ chained (opened_block g start body) b.lines.chain
+  filled_is = b.lines.tree_is ∙ ap (λ f. chained f b.lines.chain) b.is
 
   -- it is open
-  pub block_open : IsSome (slice_get filled.spine 0)
-  block_open = still_open g filled (begun_item start body) lines.chain (record { 0 = length g.nodes }) refl filled_is
+  pub block_open : IsSome (slice_get b.filled.spine 0)
+  block_open = still_open g b.filled (begun_item start body) b.lines.chain (record { 0 = length g.nodes }) refl filled_is
 
   -- and closed at its end
-  pub block_done : (new : Forest Item) → new ≡ closed_by filled e filled.spine → new ≡ added g (block_with start whole.«end» body lines.chain)
+  pub block_done : (new : Forest Item)
+      → new ≡ closed_by b.filled b.stop b.filled.spine → new ≡ added g (block_with start whole.«end» body b.lines.chain)
   block_done new new_is =
-      block_closed g filled (begun_item start body) lines.chain (record { 0 = length g.nodes }) refl filled_is new e new_is
-      ∙ ap (λ k. added g (block_with start k body lines.chain)) lines.end_is
+      block_closed g b.filled (begun_item start body) b.lines.chain (record { 0 = length g.nodes }) refl filled_is new b.stop new_is
+      ∙ ap (λ k. added g (block_with start k body b.lines.chain)) b.lines.end_is
+
+-- A block is opened in a tree at its first line, which is no raw line of it. The lines after that one, which are judged
+-- in this way, are appended.
+pub record OpenedAt (range : Ranges) (d : Document) (judge : Place → Place → Verdict) (g : Forest Item) (start : ℕ) (body : ItemBody) : Type 0 where
+  pub opened : Forest Item
+  pub filled : Forest Item
+  pub first : ℕ
+  pub stop : ℕ
+  pub next : ℕ
+  pub there : AreIn (length g.nodes) g.spine
+  pub is : opened ≡ opened_block g start body
+  pub leaf : container_of d.options body ≡ None
+  pub first_is : first ≡ after_line_at d.text start
+  pub lines : AppendsLines range d (extent_from d.text (path_of d.options opened) judge first) opened filled stop next
+
+-- the lines after the first, in the containers around the block
+abbrev pub lines_of : {range : Ranges} {d : Document} {judge : Place → Place → Verdict} {g : Forest Item} {start : ℕ} {body : ItemBody}
+    → OpenedAt range d judge g start body → Filled range d (extent_from d.text (path_of d.options g) judge (after_line_at d.text start)) g start body
+lines_of {range} {d} {judge} {g} {start} {body} b = record {
+  opened = b.opened;
+  filled = b.filled;
+  stop = b.stop;
+  next = b.next;
+  is = b.is;
+  lines = subst (λ y. AppendsLines range d y b.opened b.filled b.stop b.next)
+      (ap (λ path. extent_from d.text path judge b.first) (opened_path d.options g b.opened start body b.is b.leaf b.there)
+      ∙ ap (extent_from d.text (path_of d.options g) judge) b.first_is) b.lines;
+}

@@ -14,7 +14,6 @@ use Rattle.std.proofs.lemmas.Str.{IsCharBoundary-before_ascii}
 use Rattle.first_pass_items.specs.declared.item.CowIndex.{CowIndex}
 use Rattle.first_pass_items.specs.declared.item.Item.{Item}
 use Rattle.first_pass_items.specs.declared.item.ItemBody.TheVariants.{FencedCodeBlock}
-use Rattle.first_pass_items.specs.declared.option_set.Options.{Options}
 use Rattle.first_pass_tree.specs.Forest.{Forest}
 use Rattle.first_pass_lines.specs.Lines.{is_white, is_ascii_white, begins, line_len}
 use Rattle.first_pass_scan.specs.LeafLines.{run_len, has_backquote, code_fence, closing_fence_len}
@@ -24,35 +23,32 @@ use Rattle.first_pass_lines.proofs.LineFacts.{line_len-fits}
 use Rattle.first_pass_lines.proofs.PlaceFacts.{line_is_place, white_keeps, prefix_keeps}
 use Rattle.first_pass_grammar.specs.Names.{Names, Extends}
 use Rattle.first_pass_grammar.specs.Kinds.{all_taken, unindented}
-use Rattle.first_pass_grammar.specs.Leaves.{document, block_with}
+use Rattle.first_pass_grammar.specs.Leaves.{Document, block_with}
 use Rattle.first_pass_grammar.specs.CodeBlocks.{closing_fence_end, fence_judge, trimmed, info_string, NamesInfo, IsFencedCode}
 use Rattle.first_pass_grammar.specs.Extents.{Extent}
 use Rattle.first_pass_grammar.specs.RawLines.{range_text}
-use Rattle.first_pass_open.specs.OpenBlock.{opened_block, closed_by}
+use Rattle.first_pass_open.specs.OpenBlock.{closed_by}
 use Rattle.first_pass_open.specs.Path.{path_of}
-use Rattle.first_pass_raw.specs.RawBlocks.{AppendsLines, AddsRaw, fenced_after, after_line_at}
-use Rattle.first_pass_raw.proofs.ExtentLemmas.{extent_from, lines_of, block_done}
-use Rattle.first_pass_names.proofs.NameLemmas.{extends_both}
-use Rattle.first_pass_open.proofs.PathLemmas.{AreIn}
+use Rattle.first_pass_raw.specs.RawBlocks.{AddsRaw, fenced_after}
+use Rattle.first_pass_raw.proofs.ExtentLemmas.{Filled, OpenedAt, lines_of, block_done}
 use Rattle.first_pass_open.proofs.PlaceLemmas.{all_keep, place_end, line_start_end}
 
 -- a place after the columns of a line
-pub indented_place : (text : List ℕ) (start n : ℕ) (r s : Rest) → IsUtf8 text → s ≡ all_taken r → n ≡ s.taken → IsPlaceOf text (place_at start r)
+pub indented_place : (text : List ℕ) (start n : ℕ) (r : Rest) → IsUtf8 text → n ≡ (all_taken r).taken → IsPlaceOf text (place_at start r)
     → (start + n ≡ offset (unindented (place_at start r))) × IsPlaceOf text (unindented (place_at start r))
-indented_place text start n r s u e f i = (ap (λ k. start + k) (f ∙ ap (λ (z : Rest). z.taken) e), all_keep text start r u i)
+indented_place text start n r u f i = (ap (λ k. start + k) f, all_keep text start r u i)
 
 -- the result of a search for a closing fence in the rest after the columns
-pub closing_end : (text bytes rest : List ℕ) (start n at byte count : ℕ) (r s : Rest) (o : Option ℕ)
-    → nat_lt (indent r) 4 ≡ true → IsUtf8 text → s ≡ all_taken r → n ≡ s.taken → IsPlaceOf text (place_at start r)
-    → bytes ≡ text → at ≡ start + n → rest ≡ drop at bytes → o ≡ closing_fence_len byte count rest
-    → closing_fence_end byte count (place_at start r) ≡ option_map (λ k. at + k) o
-closing_end text bytes rest start n at byte count r s o node_bound u e f i g h j k =
-    let p = indented_place text start n r s u e f i in
-    let same : at ≡ offset (unindented (place_at start r)) = h ∙ p.0 in
-    let left : rest ≡ (all_taken r).left = j ∙ ap (λ xs. drop at xs) g ∙ ap (λ m. drop m text) same ∙ sym (p.1).left in
+pub closing_end : (text : List ℕ) (start n byte count : ℕ) (r : Rest) (o : Option ℕ)
+    → nat_lt (indent r) 4 ≡ true → IsUtf8 text → n ≡ (all_taken r).taken → IsPlaceOf text (place_at start r)
+    → o ≡ closing_fence_len byte count (drop (start + n) text)
+    → closing_fence_end byte count (place_at start r) ≡ option_map (λ k. start + n + k) o
+closing_end text start n byte count r o node_bound u f i k =
+    let (same, p) = indented_place text start n r u f i in
+    let left : drop (start + n) text ≡ (all_taken r).left = ap (λ m. drop m text) same ∙ sym p.left in
     ap (λ t. if t then option_map (λ m. offset (unindented (place_at start r)) + m) (closing_fence_len byte count (all_taken r).left) else None) node_bound
     ∙ ap (λ m. option_map (λ l. m + l) (closing_fence_len byte count (all_taken r).left)) (sym same)
-    ∙ ap (λ bs. option_map (λ l. at + l) (closing_fence_len byte count bs)) (sym left) ∙ ap (option_map (λ l. at + l)) (sym k)
+    ∙ ap (λ bs. option_map (λ l. start + n + l) (closing_fence_len byte count bs)) (sym left) ∙ ap (option_map (λ l. start + n + l)) (sym k)
 
 -- an info string after an offset: the white space before it, the end of its line, and the white space before that end
 pub record IsInfo (text : List ℕ) (start from next white : ℕ) : Type 0 where
@@ -60,14 +56,14 @@ pub record IsInfo (text : List ℕ) (start from next white : ℕ) : Type 0 where
   pub next_is : next ≡ from + line_len (drop from text)
   pub white_is : white ≡ suffix_len is_ascii_white (take (next - from) (drop from text))
 
-pub info_read : (text bytes rest : List ℕ) (start n from next white : ℕ)
-    → bytes ≡ text → rest ≡ drop start bytes → n ≡ prefix_len is_white rest → from ≡ start + n → next ≡ from + line_len (drop from bytes)
-    → white ≡ suffix_len is_ascii_white (take (next - from) (drop from bytes)) → IsInfo text start from next white
-info_read text bytes rest start n from next white e f g h j k =
+pub info_read : (text bytes : List ℕ) (start n next white : ℕ)
+    → bytes ≡ text → n ≡ prefix_len is_white (drop start bytes) → next ≡ start + n + line_len (drop (start + n) bytes)
+    → white ≡ suffix_len is_ascii_white (take (next - (start + n)) (drop (start + n) bytes)) → IsInfo text start (start + n) next white
+info_read text bytes start n next white e g j k =
     record {
-      from_is = h ∙ ap (λ m. start + m) (g ∙ ap (prefix_len is_white) (f ∙ ap (drop start) e));
-      next_is = j ∙ ap (λ bs. from + line_len (drop from bs)) e;
-      white_is = k ∙ ap (λ bs. suffix_len is_ascii_white (take (next - from) (drop from bs))) e;
+      from_is = ap (λ m. start + m) (g ∙ ap (λ bs. prefix_len is_white (drop start bs)) e);
+      next_is = j ∙ ap (λ bs. start + n + line_len (drop (start + n) bs)) e;
+      white_is = k ∙ ap (λ bs. suffix_len is_ascii_white (take (next - (start + n)) (drop (start + n) bs))) e;
     }
 
 -- the first of the bytes at the end that pass a test
@@ -175,29 +171,26 @@ fence_end text start n c u b h =
     let e : start + (0 + run_len c (drop start text)) ≡ start + n = omega (arith, f.0) in
     subst (IsCharBoundary text) e (prefix_keeps (λ k. k == c) ascii text (line_place start (drop start text)) u (line_is_place text start b)).boundary
 
--- a fenced code block, its info string, its lines and its end
-pub fenced_added : (text : List ℕ) (options : Options) (named names : Names) (g opened filled new : Forest Item) (start columns byte count first e next : ℕ)
-    (info : CowIndex) → AreIn (length g.nodes) g.spine
-    → opened ≡ opened_block g start (FencedCodeBlock info) → first ≡ after_line_at text start
-    → ((more : Names) → Extends more named → NamesInfo more info (info_string (drop (start + count) text))) → Extends names named
-    → AppendsLines range_text (document text options names)
-    (extent_from text (path_of options opened) (fence_judge columns byte count) first) opened filled e next → new ≡ closed_by filled e filled.spine
+-- A fenced code block with its info string and its lines is added.
+pub fenced_added : (d : Document) (g new : Forest Item) (start columns byte count : ℕ) (info : CowIndex)
+    (b : OpenedAt range_text d (fence_judge columns byte count) g start (FencedCodeBlock info))
+    → ((more : Names) → Extends more d.names → NamesInfo more info (info_string (drop (start + count) d.text)))
+    → new ≡ closed_by b.filled b.stop b.filled.spine
     → (
-    let x = fenced_after text (path_of options g) columns byte count start in
-    AddsRaw (document text options names) (λ d. IsFencedCode d start count x.places x.«end») x.left g new next)
-fenced_added text options named names g opened filled new start columns byte count first e next info there is first_is names_info extends lines new_is =
-    let x : Extent = fenced_after text (path_of options g) columns byte count start in
-    let all = lines_of range_text text options names g opened filled start first e next (FencedCodeBlock info)
-    (fence_judge columns byte count) there is refl first_is lines in
+    let x = fenced_after d.text (path_of d.options g) columns byte count start in
+    AddsRaw d (λ e. IsFencedCode e start count x.places x.«end») x.left g new b.next)
+fenced_added d g new start columns byte count info b names_info new_is =
+    let x : Extent = fenced_after d.text (path_of d.options g) columns byte count start in
+    let all : Filled range_text d x g start (FencedCodeBlock info) = lines_of b in
     record {
-      items = block_with start x.«end» (FencedCodeBlock info) all.chain;
-      tree_is = block_done range_text text options names x g opened filled start (FencedCodeBlock info) e next is all new new_is;
+      items = block_with start x.«end» (FencedCodeBlock info) all.lines.chain;
+      tree_is = block_done all new new_is;
       are = λ more f. record {
-        chain = all.chain;
+        chain = all.lines.chain;
         info = info;
-        names = names_info more (extends_both more names named f extends);
-        lines = all.lines more f;
+        names = names_info more f;
+        lines = all.lines.lines more f;
         items_are = refl;
       };
-      left_is = all.left_is;
+      left_is = all.lines.left_is;
     }

@@ -37,7 +37,7 @@ use Rattle.first_pass_open.specs.Path.{path_of}
 use Rattle.first_pass_open.proofs.PathLemmas.{AreIn}
 use Rattle.first_pass_raw.specs.RawBlocks.{IsPlaceAt, AppendsRaw, AppendsLines, AddsRaw, after_line_at, html_to_end, html_to_blank}
 use Rattle.first_pass_raw.proofs.IndentedLemmas.{first_at, first_is}
-use Rattle.first_pass_raw.proofs.ExtentLemmas.{LinesSoFar, lines_start, lines_more, lines_end, lines_path, opened_path, extent_from, block_open, block_done}
+use Rattle.first_pass_raw.proofs.ExtentLemmas.{LinesSoFar, Filled, lines_start, lines_more, lines_end, lines_path, opened_path, extent_from, block_open, block_done}
 
 -- a text at the start of bytes is part of them
 begun : (text bs : List ℕ) → Decides (begins_with text bs) ((b : List ℕ) × (bs ≡ text ++ b))
@@ -95,17 +95,17 @@ some_left [] e = absurd (e refl)
 some_left (b ∷ bs) e = refl
 
 -- the verdict on a line for an HTML block of types 1 to 5, if there are bytes at its place
-pub tag_here : (text : List ℕ) (until : BlockEnd) (line p : Place) (at next : ℕ) (found : Bool) (piece : List ℕ)
-    → IsPlaceOf text p → at ≡ offset p → ¬ (at ≡ length text) → next ≡ line_end p → piece ≡ slice_range text at next
-    → found ≡ holds_end until piece → {v : Bool} → found ≡ v
-    → tag_judge until line p ≡ (if v then IsLast p else GoesOn p)
-tag_here text until line p at next found piece i at_is some next_is piece_is m {v} is =
+pub tag_here : (text : List ℕ) (until : BlockEnd) (line p : Place) (at next : ℕ) (found : Bool)
+    → IsPlaceOf text p → at ≡ offset p → ¬ (at ≡ length text) → next ≡ line_end p → found ≡ holds_end until (slice_range text at next)
+    → tag_judge until line p ≡ (if found then IsLast p else GoesOn p)
+tag_here text until line p at next found i at_is some next_is m =
     let l = place_length text p i in
     let left = some_left p.rest.left (λ e. some (omega arith)) in
     let held =
-    held_is text until p at next found piece (record { offset_is = sym at_is; left_is = i.left ∙ ap (λ k. drop k text) (sym at_is) }) next_is piece_is m in
+    held_is text until p at next found (slice_range text at next)
+    (record { offset_is = sym at_is; left_is = i.left ∙ ap (λ k. drop k text) (sym at_is) }) next_is refl m in
     ap (λ t. if t then Closes (offset p) else (if holds_end until (line_of p) then IsLast p else GoesOn p)) left
-    ∙ ap (λ t. if t then IsLast p else GoesOn p) (held ∙ is)
+    ∙ ap (λ t. if t then IsLast p else GoesOn p) held
 
 -- items that are no texts, so nothing is joined to one
 abbrev pub ArePlain : List Item → Type 0
@@ -164,6 +164,19 @@ module _ (text : List ℕ) (options : Options) (named : Names) (start columns ne
   apart : JoinsNone opened
   apart = joins_none-fresh opened refl
 
+  -- the block with the lines of an extent
+  abbrev block_filled : (names : Names) (whole : Extent) (filled : Forest Item) (stop left : ℕ)
+      → AppendsLines range_html (document text options names) whole opened filled stop left
+      → Filled range_html (document text options names) whole g start HtmlBlock
+  block_filled names whole filled stop left lines = record {
+    opened = opened;
+    filled = filled;
+    stop = stop;
+    next = left;
+    is = refl;
+    lines = lines;
+  }
+
   -- the following tokens are not joined to it
   pub first_apart : JoinsNone one
   first_apart = subst JoinsNone (sym first.tree_is) (plain_apart opened first.items apart
@@ -173,19 +186,30 @@ module _ (text : List ℕ) (options : Options) (named : Names) (start columns ne
     pub first_end : next ≡ line_end p
     first_end = next_is ∙ ap (after_line_at text) (sym i.offset_is) ∙ ap (λ bs. offset p + line_len bs) (ap (λ k. drop k text) i.offset_is ∙ sym i.left_is)
 
-    first_read : (further : Extent) → LinesSoFar range_html text options named (with_line (owing columns p) further) further opened one
+    first_read : (further : Extent) → LinesSoFar range_html (document text options named) (with_line (owing columns p) further) further opened one
     first_read further =
+        let d : Document = document text options named in
         let whole : Extent = with_line (owing columns p) further in
-        lines_more range_html text options named named whole whole further (owing columns p) opened opened one columns start next apart
-        (lines_start range_html text options named whole opened) refl (extends_none named) first refl
-        (sym i.offset_is) first_end
+        lines_more range_html d whole whole further (owing columns p) opened opened apart (lines_start range_html d whole opened) refl
+        (record {
+          new = one;
+          named = named;
+          owed = columns;
+          from = start;
+          to = next;
+          extends = extends_none named;
+          line = first;
+          owed_is = refl;
+          from_is = sym i.offset_is;
+          to_is = first_end;
+        })
 
     -- a block with only this line
     only_first : AppendsLines range_html (document text options named)
         (with_line (owing columns p) (extent_to next (lines_from text next))) opened one next next
     only_first =
         let further : Extent = extent_to next (lines_from text next) in
-        lines_end range_html text options named (with_line (owing columns p) further) further opened one next next (first_read further) refl
+        lines_end range_html (document text options named) (with_line (owing columns p) further) further opened one next next (first_read further) refl
 
     -- a block with more lines after it
     first_then : (names : Names) (further : Extent) (two : Forest Item) (e stop : ℕ)
@@ -211,7 +235,7 @@ module _ (text : List ℕ) (options : Options) (named : Names) (start columns ne
         subst (λ (x : Extent). AddsRaw (document text options names) (λ d. IsHtml d start columns x.places x.«end») x.left g new left) (sym e_is)
         (record {
           items = block_with start further.«end» HtmlBlock lines.chain;
-          tree_is = block_done range_html text options names (with_line (owing columns p) further) g opened two start HtmlBlock stop left refl lines new new_is;
+          tree_is = block_done (block_filled names (with_line (owing columns p) further) two stop left lines) new new_is;
           are = λ more f. record { chain = lines.chain; lines = lines.lines more f; items_are = refl };
           left_is = lines.left_is;
         })
@@ -244,7 +268,7 @@ module _ (text : List ℕ) (options : Options) (named : Names) (start columns ne
     -- the containers around the block are those around its lines
     path_by : AreIn (length g.nodes) g.spine → AreIn (length opened.nodes) opened.spine → path_of options one ≡ path_of options g
     path_by there in_opened =
-        lines_path range_html text options named (with_line (owing columns p) (extent_to next [])) (extent_to next []) opened one
+        lines_path range_html (document text options named) (with_line (owing columns p) (extent_to next [])) (extent_to next []) opened one
         (first_read (extent_to next [])) in_opened ∙ opened_path options g opened start HtmlBlock refl refl there
 
     -- the block has one line
@@ -270,15 +294,14 @@ module _ (text : List ℕ) (options : Options) (named : Names) (start columns ne
   pub one_open : IsSome (slice_get one.spine 0)
   one_open =
       let p : Place = first_at text start 0 in
-      block_open range_html text options named (with_line (owing columns p) (extent_to next (lines_from text next))) g opened one start HtmlBlock next next refl
-      (only_first p (first_is text start 0))
+      block_open (block_filled named (with_line (owing columns p) (extent_to next (lines_from text next))) one next next (only_first p (first_is text start 0)))
 
   pub more_open : (names : Names) (further : Extent) (two : Forest Item) (stop left : ℕ)
       → Extends names named → AppendsLines range_html (document text options names) further one two stop left → IsSome (slice_get two.spine 0)
   more_open names further two stop left extends lines =
       let p : Place = first_at text start 0 in
-      block_open range_html text options names (with_line (owing columns p) further) g opened two start HtmlBlock stop left refl
-      (first_then p (first_is text start 0) names further two stop left extends lines)
+      block_open (block_filled names (with_line (owing columns p) further) two stop left
+      (first_then p (first_is text start 0) names further two stop left extends lines))
 
   pub first_path : AreIn (length g.nodes) g.spine → AreIn (length opened.nodes) opened.spine → path_of options one ≡ path_of options g
   first_path there in_opened = path_by (first_at text start 0) (first_is text start 0) there in_opened

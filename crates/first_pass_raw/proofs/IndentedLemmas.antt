@@ -9,7 +9,6 @@ use Rattle.std.proofs.lemmas.Option.{cond_some, none-some}
 use Rattle.std.proofs.Math.Seq.{take-append_seam}
 use Rattle.first_pass_items.specs.declared.item.Item.{Item}
 use Rattle.first_pass_items.specs.declared.item.ItemBody.TheVariants.{Root, IndentCodeBlock}
-use Rattle.first_pass_items.specs.declared.option_set.Options.{Options}
 use Rattle.first_pass_tree.specs.declared.tree_index.TreeIndex.{TreeIndex}
 use Rattle.first_pass_tree.specs.Forest.{Forest, IsForest, IsChild, appended, at_depth, depths, end_of, is_text, kept_after, open_place, with_end_at}
 use Rattle.first_pass_tree.proofs.Blocks.{forest-eq, modify-at}
@@ -34,13 +33,14 @@ use Rattle.first_pass_grammar.specs.CodeBlocks.{code_place, code_by, code_lines,
 use Rattle.first_pass_raw.specs.declared.indented_code.Kept.{Kept}
 use Rattle.first_pass_open.specs.OpenBlock.{IsJustPushed, begun_item, closed_by, opened_block}
 use Rattle.first_pass_open.specs.Path.{path_of, has_quote_after}
-use Rattle.first_pass_raw.specs.RawBlocks.{AppendsRaw, AddsIndented, IsPlaceAt, code_rest, code_rest_at, after_line_at, code_after}
+use Rattle.first_pass_raw.specs.RawBlocks.{AddsIndented, IsPlaceAt, code_rest, code_rest_at, after_line_at, code_after}
 use Rattle.first_pass_open.proofs.BlockLemmas.{just_pushed, still_open, block_closed}
 use Rattle.first_pass_open.proofs.PathLemmas.{open_are_in, path_of-chained, path_of-opened}
 use Rattle.first_pass_open.proofs.QuoteLemmas.{quote_after-chained}
 use Rattle.first_pass_open.proofs.PlaceLemmas.{after_keeps, line_start_end, read_end}
 use Rattle.first_pass_names.proofs.NameLemmas.{extends_none, extends_both}
 use Rattle.first_pass_raw.proofs.RawLineLemmas.{raw_one, raw_two}
+use Rattle.first_pass_raw.proofs.ExtentLemmas.{LineAppended, line_under}
 
 -- a chain ends with a text that ends at an offset
 pub record EndsWithText (chain : List Item) (to : ℕ) : Type 0 where
@@ -360,42 +360,32 @@ pub record IsJustOpened (f : Forest Item) : Type 0 where
 
 -- The lines of indented code are appended after the nodes of a tree, and stay what they are if more is named later.
 -- The text of its first line is at a place. The block ends at an offset; the lines from another offset on remain.
-pub record AppendsIndented (text : List ℕ) (options : Options) (names : Names) (p : Place) (old new : Forest Item) («end» next : ℕ)
-    (blank : Bool) : Type 0 where
+pub record AppendsIndented (d : Document) (p : Place) (old new : Forest Item) («end» next : ℕ) (blank : Bool) : Type 0 where
   pub chain : List Item
   pub tree_is : new ≡ chained old chain
-  pub lines : (more : Names) → Extends more names
-      → AreRawLines range_text (document text options more) [] (without_blanks (p ∷ (code_after text (path_of options old) (offset p)).0)) chain
-  pub end_is : «end» ≡ last_end (offset p) (without_blanks (p ∷ (code_after text (path_of options old) (offset p)).0))
-  pub blank_is : blank ≡ last_is_blank (code_after text (path_of options old) (offset p)).0
-  pub left_is : lines_from text next ≡ (code_after text (path_of options old) (offset p)).1
+  pub lines : (more : Names) → Extends more d.names
+      → AreRawLines range_text (document d.text d.options more) [] (without_blanks (p ∷ (code_after d.text (path_of d.options old) (offset p)).0)) chain
+  pub end_is : «end» ≡ last_end (offset p) (without_blanks (p ∷ (code_after d.text (path_of d.options old) (offset p)).0))
+  pub blank_is : blank ≡ last_is_blank (code_after d.text (path_of d.options old) (offset p)).0
+  pub left_is : lines_from d.text next ≡ (code_after d.text (path_of d.options old) (offset p)).1
 
 -- The lines of indented code, the first at a place, are read up to the start of another. The chain of those up to the
 -- last that is not blank ends with a text; then come the tokens of the blank ones.
-pub record IndentedSoFar (text : List ℕ) (options : Options) (names : Names) (p : Place) (old now : Forest Item) (next : ℕ) (kept : Kept)
-    (blank : Bool) : Type 0 where
+pub record IndentedSoFar (d : Document) (p : Place) (old now : Forest Item) (next : ℕ) (kept : Kept) (blank : Bool) : Type 0 where
   pub read : List Place
   pub chain : List Item
   pub more : List Item
   pub last : EndsWithText chain kept.«end»
   pub place : kept.last ≡ Some (record { 0 = length old.nodes + length last.front })
   pub tree_is : now ≡ chained old (add_tokens chain more)
-  pub lines : (further : Names) → Extends further names → AreRawLines range_text (document text options further) [] (without_blanks (p ∷ read)) chain
-  pub all : (further : Names) → Extends further names → AreRawLines range_text (document text options further) [] (p ∷ read) (add_tokens chain more)
+  pub lines : (further : Names) → Extends further d.names → AreRawLines range_text (document d.text d.options further) [] (without_blanks (p ∷ read)) chain
+  pub all : (further : Names) → Extends further d.names → AreRawLines range_text (document d.text d.options further) [] (p ∷ read) (add_tokens chain more)
   pub end_is : kept.«end» ≡ last_end (offset p) (without_blanks (p ∷ read))
   pub blank_is : blank ≡ last_is_blank read
-  pub following : code_after text (path_of options old) (offset p) ≡ put_before read (code_lines (path_of options old) (lines_from text next))
+  pub following : code_after d.text (path_of d.options old) (offset p) ≡ put_before read (code_lines (path_of d.options old) (lines_from d.text next))
 
--- a raw line from a place on
-line_at : (text : List ℕ) (options : Options) (names : Names) (p : Place) (owed from to : ℕ) (old new : Forest Item)
-    (a : AppendsRaw range_text text names owed from to old new) → p.rest.owed ≡ owed → offset p ≡ from → line_end p ≡ to
-    → (further : Names) → Extends further names → IsRawLine range_text (document text options further) p.rest.owed (offset p) (line_end p) a.items
-line_at text options names p owed from to old new a o f t further e =
-    subst (λ k. IsRawLine range_text (document text options further) k (offset p) (line_end p) a.items) (sym o)
-    (subst (λ k. IsRawLine range_text (document text options further) owed k (line_end p) a.items) (sym f)
-    (subst (λ k. IsRawLine range_text (document text options further) owed from k a.items) (sym t) (a.are options further e)))
-
-place_line_end : (text : List ℕ) (start : ℕ) (p : Place) → IsPlaceAt text start p → line_end p ≡ after_line_at text start
+-- It ends at the end of its line.
+pub place_line_end : (text : List ℕ) (start : ℕ) (p : Place) → IsPlaceAt text start p → line_end p ≡ after_line_at text start
 place_line_end text start p at = ap (λ bs. offset p + line_len bs) at.left_is ∙ ap (λ k. k + line_len (drop start text)) at.offset_is
 
 -- its current node, if a chain ends with a text
@@ -404,135 +394,148 @@ current_is : (old now : Forest Item) (chain : List Item) (to : ℕ) (e : EndsWit
 current_is old now chain to e is = ap (λ (f : Forest Item). f.current) (is ∙ ap (chained old) e.is) ∙ last_current old e.front e.last
 
 -- after the first line
-pub so_far_first : (text : List ℕ) (options : Options) (names : Names) (p : Place) (old now : Forest Item) (start owed next : ℕ) (current : Option TreeIndex)
-    → IsPlaceAt text start p → p.rest.owed ≡ owed → is_blank_line (drop start text) ≡ false → JoinsNone old
-    → next ≡ after_line_at text start → AppendsRaw range_text text names owed start next old now → current ≡ now.current
-    → IndentedSoFar text options names p old now next (record { last = current; «end» = next }) false
-so_far_first text options names p old now start owed next current at o some apart next_is a c =
+pub so_far_first : (d : Document) (p : Place) (old : Forest Item) (start : ℕ) (current : Option TreeIndex) (l : LineAppended range_text d p old)
+    → IsPlaceAt d.text start p → is_blank_line (drop start d.text) ≡ false → JoinsNone old → current ≡ l.new.current
+    → IndentedSoFar (document d.text d.options l.named) p old l.new l.to (record { last = current; «end» = l.to }) false
+so_far_first d p old start current l at some apart c =
+    let text : List ℕ = d.text in
+    let a = l.line in
     let chain : List Item = add_tokens [] a.items in
-    let e : line_end p ≡ next = place_line_end text start p at ∙ sym next_is in
-    let later : start < next = (let l = line_len-some (drop start text) (some_bytes (drop start text) some) in omega arith) in
-    let last = ends_line (document text options names) [] owed start next a.items later (a.are options names (extends_none names)) in
-    let tree : now ≡ chained old chain = a.tree_is ∙ with_tokens-chained old [] a.items apart in
+    let next_is : l.to ≡ after_line_at text start = l.to_is ∙ place_line_end text start p at in
+    let from_is : l.from ≡ start = l.from_is ∙ at.offset_is in
+    let later : l.from < l.to = (let k = line_len-some (drop start text) (some_bytes (drop start text) some) in omega arith) in
+    let last = ends_line (document text d.options l.named) [] l.owed l.from l.to a.items later (a.are d.options l.named (extends_none l.named)) in
+    let tree : l.new ≡ chained old chain = a.tree_is ∙ with_tokens-chained old [] a.items apart in
     let full : is_blank_rest p.rest ≡ false = ap is_blank_line at.left_is ∙ some in
     let one = some_after [] p full in
-    let are : (further : Names) → Extends further names → AreRawLines range_text (document text options further) [] (p ∷ []) chain =
-    λ further f. one_line (document text options further) [] p a.items (line_at text options names p owed start next old now a o at.offset_is e further f) in
+    let are : (further : Names) → Extends further l.named → AreRawLines range_text (document text d.options further) [] (p ∷ []) chain =
+    λ further f. one_line (document text d.options further) [] p a.items (line_under l further f) in
     record {
       read = [];
       chain = chain;
       more = [];
       last = last;
-      place = c ∙ current_is old now chain next last tree;
+      place = c ∙ current_is old l.new chain l.to last tree;
       tree_is = tree;
-      lines = λ further f. subst (λ ps. AreRawLines range_text (document text options further) [] ps chain) (sym one) (are further f);
+      lines = λ further f. subst (λ ps. AreRawLines range_text (document text d.options further) [] ps chain) (sym one) (are further f);
       all = are;
-      end_is = sym e ∙ sym (last_line_end (offset p) [] p) ∙ ap (last_end (offset p)) (sym one);
+      end_is = l.to_is ∙ sym (last_line_end (offset p) [] p) ∙ ap (last_end (offset p)) (sym one);
       blank_is = sym no_last;
-      following = ap (λ k. code_lines (path_of options old) (lines_from text k)) (ap (after_line_at text) at.offset_is ∙ sym next_is);
+      following = ap (λ k. code_lines (path_of d.options old) (lines_from text k)) (ap (after_line_at text) at.offset_is ∙ sym next_is);
     }
 
-module _ (text : List ℕ) (options : Options) (names more_names : Names) (p : Place) (old now new : Forest Item) (next last owed taken : ℕ) (kept : Kept)
-    (blank : Bool) (r : Rest) (u : IsUtf8 text) (b : IsCharBoundary text next) (apart : JoinsNone old)
-    (s : IndentedSoFar text options names p old now next kept blank) (goes : code_rest_at text (path_of options old) next ≡ Some r)
-    (i : IsPlaceOf text (place_at next r)) (e : Extends more_names names)
-    (owed_is : owed ≡ r.owed) (taken_is : taken ≡ r.taken) (a : AppendsRaw range_text text more_names owed (next + taken) last now new)
-    (last_is : last ≡ after_line_at text (next + taken)) where
-  -- the start of the text of the next line
+-- A line of the text continues indented code. After its columns it has this rest.
+pub record ContinuesCode (d : Document) (old : Forest Item) (next : ℕ) (r : Rest) : Type 0 where
+  pub utf8 : IsUtf8 d.text
+  pub boundary : IsCharBoundary d.text next
+  pub goes : code_rest_at d.text (path_of d.options old) next ≡ Some r
+  pub place : IsPlaceOf d.text (place_at next r)
+
+-- the line is appended
+module _ {d : Document} {p : Place} {old now : Forest Item} {next : ℕ} {kept : Kept} {blank : Bool} {r : Rest} (apart : JoinsNone old)
+    (s : IndentedSoFar d p old now next kept blank) (c : ContinuesCode d old next r) (l : LineAppended range_text d (place_at next r) now) where
+  -- the start of its text
   abbrev q : Place
   q = place_at next r
 
-  q_end : line_end q ≡ last
-  q_end = sym (last_is ∙ ap (λ k. after_line_at text (next + k)) taken_is ∙ read_end text next r i)
+  -- its items
+  abbrev line_items : List Item
+  line_items = l.line.items
 
-  last_place : last ≡ after_line_at text next
-  last_place = sym q_end ∙ next_end text (path_of options old) next r u b goes
+  -- the document with the names after it
+  abbrev later_document : Document
+  later_document = document d.text d.options l.named
 
-  tree : new ≡ chained old (add_tokens (add_tokens s.chain s.more) a.items)
-  tree = a.tree_is ∙ ap (λ f. with_tokens f a.items) s.tree_is ∙ with_tokens-chained old (add_tokens s.chain s.more) a.items apart
+  last_place : l.to ≡ after_line_at d.text next
+  last_place = l.to_is ∙ next_end d.text (path_of d.options old) next r c.utf8 c.boundary c.goes
 
-  lines_too : (further : Names) → Extends further more_names
-      → AreRawLines range_text (document text options further) [] (p ∷ s.read ++ q ∷ []) (add_tokens (add_tokens s.chain s.more) a.items)
+  tree : l.new ≡ chained old (add_tokens (add_tokens s.chain s.more) line_items)
+  tree = l.line.tree_is ∙ ap (λ f. with_tokens f line_items) s.tree_is ∙ with_tokens-chained old (add_tokens s.chain s.more) line_items apart
+
+  lines_too : (further : Names) → Extends further l.named
+      → AreRawLines range_text (document d.text d.options further) [] (p ∷ s.read ++ q ∷ []) (add_tokens (add_tokens s.chain s.more) line_items)
   lines_too further f =
-      more_lines (document text options further) [] (p ∷ s.read) q (add_tokens s.chain s.more) a.items
-      (s.all further (extends_both further more_names names f e))
-      (line_at text options more_names q owed (next + taken) last now new a (sym owed_is) (ap (λ k. next + k) (sym taken_is)) q_end further f)
+      more_lines (document d.text d.options further) [] (p ∷ s.read) q (add_tokens s.chain s.more) line_items
+      (s.all further (extends_both further l.named d.names f l.extends)) (line_under l further f)
 
-  after_too : code_after text (path_of options old) (offset p) ≡ put_before (s.read ++ q ∷ []) (code_lines (path_of options old) (lines_from text last))
+  after_too : code_after d.text (path_of d.options old) (offset p)
+      ≡ put_before (s.read ++ q ∷ []) (code_lines (path_of d.options old) (lines_from d.text l.to))
   after_too =
-      let further : List Place × List Place = code_lines (path_of options old) (lines_from text (after_line_at text next)) in
-      s.following ∙ ap (put_before s.read) (lines_more text (path_of options old) next r b.0 goes)
+      let further : List Place × List Place = code_lines (path_of d.options old) (lines_from d.text (after_line_at d.text next)) in
+      s.following ∙ ap (put_before s.read) (lines_more d.text (path_of d.options old) next r c.boundary.0 c.goes)
       ∙ ap (λ ps. (ps, further.1)) (sym (append_assoc s.read (q ∷ []) further.0))
-      ∙ ap (λ k. put_before (s.read ++ q ∷ []) (code_lines (path_of options old) (lines_from text k))) (sym last_place)
+      ∙ ap (λ k. put_before (s.read ++ q ∷ []) (code_lines (path_of d.options old) (lines_from d.text k))) (sym last_place)
 
   -- after a blank line, and after one that is not blank
-  blank_next : is_blank_rest r ≡ true → IndentedSoFar text options more_names p old new last kept true
+  blank_next : is_blank_rest r ≡ true → IndentedSoFar later_document p old l.new l.to kept true
   blank_next h =
-      let same : add_tokens s.chain (s.more ++ a.items) ≡ add_tokens (add_tokens s.chain s.more) a.items = add_tokens-append s.chain s.more a.items in
+      let same : add_tokens s.chain (s.more ++ line_items) ≡ add_tokens (add_tokens s.chain s.more) line_items = add_tokens-append s.chain s.more line_items in
       let kept_lines : without_blanks (p ∷ s.read ++ q ∷ []) ≡ without_blanks (p ∷ s.read) = blank_after (p ∷ s.read) q h in
       record {
         read = s.read ++ q ∷ [];
         chain = s.chain;
-        more = s.more ++ a.items;
+        more = s.more ++ line_items;
         last = s.last;
         place = s.place;
         tree_is = tree ∙ ap (chained old) (sym same);
-        lines = λ further f. subst (λ ps. AreRawLines range_text (document text options further) [] ps s.chain) (sym kept_lines)
-            (s.lines further (extends_both further more_names names f e));
-        all = λ further f. subst (λ c. AreRawLines range_text (document text options further) [] (p ∷ s.read ++ q ∷ []) c) (sym same) (lines_too further f);
+        lines = λ further f. subst (λ ps. AreRawLines range_text (document d.text d.options further) [] ps s.chain) (sym kept_lines)
+            (s.lines further (extends_both further l.named d.names f l.extends));
+        all = λ further f. subst (λ c. AreRawLines range_text (document d.text d.options further) [] (p ∷ s.read ++ q ∷ []) c) (sym same) (lines_too further f);
         end_is = s.end_is ∙ ap (last_end (offset p)) (sym kept_lines);
         blank_is = sym h ∙ sym (last_blank s.read q);
         following = after_too;
       }
 
-  some_next : is_blank_rest r ≡ false → IndentedSoFar text options more_names p old new last (record { last = new.current; «end» = last }) false
+  some_next : is_blank_rest r ≡ false → IndentedSoFar later_document p old l.new l.to (record { last = l.new.current; «end» = l.to }) false
   some_next h =
-      let chain : List Item = add_tokens (add_tokens s.chain s.more) a.items in
+      let chain : List Item = add_tokens (add_tokens s.chain s.more) line_items in
       let full : without_blanks (p ∷ s.read ++ q ∷ []) ≡ p ∷ s.read ++ q ∷ [] = some_after (p ∷ s.read) q h in
       let from : 0 < length r.left = some_bytes r.left h in
-      let later : next + taken < last = (let l = line_len-some r.left from in let z = q_end in omega arith) in
-      let text_last = ends_line (document text options more_names) (add_tokens s.chain s.more) owed (next + taken) last a.items later
-      (a.are options more_names (extends_none more_names)) in
+      let starts : l.from ≡ offset q = l.from_is in
+      let ends : l.to ≡ line_end q = l.to_is in
+      let later : l.from < l.to = (let k = line_len-some r.left from in omega arith) in
+      let text_last = ends_line later_document (add_tokens s.chain s.more) l.owed l.from l.to line_items later
+      (l.line.are d.options l.named (extends_none l.named)) in
       record {
         read = s.read ++ q ∷ [];
         chain = chain;
         more = [];
         last = text_last;
-        place = current_is old new chain last text_last tree;
+        place = current_is old l.new chain l.to text_last tree;
         tree_is = tree;
-        lines = λ further f. subst (λ ps. AreRawLines range_text (document text options further) [] ps chain) (sym full) (lines_too further f);
+        lines = λ further f. subst (λ ps. AreRawLines range_text (document d.text d.options further) [] ps chain) (sym full) (lines_too further f);
         all = lines_too;
-        end_is = sym q_end ∙ sym (last_line_end (offset p) (p ∷ s.read) q) ∙ ap (last_end (offset p)) (sym full);
+        end_is = l.to_is ∙ sym (last_line_end (offset p) (p ∷ s.read) q) ∙ ap (last_end (offset p)) (sym full);
         blank_is = sym h ∙ sym (last_blank s.read q);
         following = after_too;
       }
 
-  next_by : (t : Bool) (kept_now : Kept) → is_blank_rest r ≡ t → kept_now ≡ (if t then kept else record { last = new.current; «end» = last })
-      → IndentedSoFar text options more_names p old new last kept_now t
-  next_by true kept_now h k = subst (λ x. IndentedSoFar text options more_names p old new last x true) (sym k) (blank_next h)
-  next_by false kept_now h k = subst (λ x. IndentedSoFar text options more_names p old new last x false) (sym k) (some_next h)
+  next_by : (t : Bool) (kept_now : Kept) → is_blank_rest r ≡ t → kept_now ≡ (if t then kept else record { last = l.new.current; «end» = l.to })
+      → IndentedSoFar later_document p old l.new l.to kept_now t
+  next_by true kept_now h k = subst (λ x. IndentedSoFar later_document p old l.new l.to x true) (sym k) (blank_next h)
+  next_by false kept_now h k = subst (λ x. IndentedSoFar later_document p old l.new l.to x false) (sym k) (some_next h)
 
   -- after the next line
   pub so_far_next : (blank_now : Bool) (kept_now : Kept)
-      → blank_now ≡ is_blank_rest r → kept_now ≡ (if blank_now then kept else record { last = new.current; «end» = last })
-      → IndentedSoFar text options more_names p old new last kept_now blank_now
+      → blank_now ≡ is_blank_rest r → kept_now ≡ (if blank_now then kept else record { last = l.new.current; «end» = l.to })
+      → IndentedSoFar (document d.text d.options l.named) p old l.new l.to kept_now blank_now
   so_far_next blank_now kept_now h k = next_by blank_now kept_now (sym h) k
 
 -- The lines open and close nothing, so the next line is read in the containers that were open before.
-pub next_rest : (text : List ℕ) (options : Options) (names : Names) (p : Place) (old now : Forest Item) (next : ℕ) (kept : Kept) (blank : Bool)
-    (found : Option Rest) → IndentedSoFar text options names p old now next kept blank → IsForest old
-    → found ≡ code_rest_at text (path_of options now) next → found ≡ code_rest_at text (path_of options old) next
-next_rest text options names p old now next kept blank found s f e =
-    let path : path_of options now ≡ path_of options old =
-    ap (path_of options) s.tree_is ∙ path_of-chained options old (add_tokens s.chain s.more) (open_are_in old.nodes old.spine f.opened) in
-    e ∙ ap (λ c. code_rest_at text c next) path
+pub next_rest : (d : Document) (p : Place) (old now : Forest Item) (next : ℕ) (kept : Kept) (blank : Bool) (found : Option Rest)
+    → IndentedSoFar d p old now next kept blank → IsForest old
+    → found ≡ code_rest_at d.text (path_of d.options now) next → found ≡ code_rest_at d.text (path_of d.options old) next
+next_rest d p old now next kept blank found s f e =
+    let path : path_of d.options now ≡ path_of d.options old =
+    ap (path_of d.options) s.tree_is ∙ path_of-chained d.options old (add_tokens s.chain s.more) (open_are_in old.nodes old.spine f.opened) in
+    e ∙ ap (λ c. code_rest_at d.text c next) path
 
 -- and no block quote is open further inside than before
-pub next_quotes : (text : List ℕ) (options : Options) (names : Names) (p : Place) (old now : Forest Item) (next : ℕ) (kept : Kept) (blank : Bool) (n : ℕ)
-    → IndentedSoFar text options names p old now next kept blank → IsForest old → has_quote_after options old n ≡ false → has_quote_after options now n ≡ false
-next_quotes text options names p old now next kept blank n s f none =
-    ap (λ g. has_quote_after options g n) s.tree_is
-    ∙ quote_after-chained options old (add_tokens s.chain s.more) n (open_are_in old.nodes old.spine f.opened) ∙ none
+pub next_quotes : (d : Document) (p : Place) (old now : Forest Item) (next : ℕ) (kept : Kept) (blank : Bool) (n : ℕ)
+    → IndentedSoFar d p old now next kept blank → IsForest old → has_quote_after d.options old n ≡ false → has_quote_after d.options now n ≡ false
+next_quotes d p old now next kept blank n s f none =
+    ap (λ g. has_quote_after d.options g n) s.tree_is
+    ∙ quote_after-chained d.options old (add_tokens s.chain s.more) n (open_are_in old.nodes old.spine f.opened) ∙ none
 
 -- a node that was just opened is the last one
 pub opened_last : (f : Forest Item) → IsJustOpened f → open_place f.spine + 1 ≡ length f.nodes
@@ -548,8 +551,8 @@ first_at text start owed = record { line = start; rest = record { left = drop st
 pub first_is : (text : List ℕ) (start owed : ℕ) → IsPlaceAt text start (first_at text start owed)
 first_is text start owed = record { offset_is = omega arith; left_is = refl }
 
-module _ (text : List ℕ) (options : Options) (names : Names) (p : Place) (old now : Forest Item) (next : ℕ) (kept : Kept) (blank : Bool)
-    (opened : open_place old.spine + 1 ≡ length old.nodes) (s : IndentedSoFar text options names p old now next kept blank) where
+module _ {d : Document} {p : Place} {old now : Forest Item} {next : ℕ} {kept : Kept} {blank : Bool}
+    (opened : open_place old.spine + 1 ≡ length old.nodes) (s : IndentedSoFar d p old now next kept blank) where
   stays : Stays s.last.front s.last.last (add_tokens s.chain s.more)
   stays = last_stays s.chain s.more kept.«end» s.last
 
@@ -577,16 +580,18 @@ module _ (text : List ℕ) (options : Options) (names : Names) (p : Place) (old 
 
   -- after the last line
   pub so_far_stop : (new : Forest Item)
-      → code_rest_at text (path_of options old) next ≡ None → IfSome kept.last (λ child. new ≡ with_end_at (kept_after now child) child kept.«end»)
-      → AppendsIndented text options names p old new kept.«end» next blank
+      → code_rest_at d.text (path_of d.options old) next ≡ None → IfSome kept.last (λ child. new ≡ with_end_at (kept_after now child) child kept.«end»)
+      → AppendsIndented d p old new kept.«end» next blank
   so_far_stop new stops cut =
-      let following : code_after text (path_of options old) (offset p) ≡ (s.read, lines_from text next) =
-      s.following ∙ ap (put_before s.read) (lines_stop text (path_of options old) next stops) ∙ ap (λ ps. (ps, lines_from text next)) (append-nil s.read) in
-      let read : s.read ≡ (code_after text (path_of options old) (offset p)).0 = sym (ap (λ (l : List Place × List Place). l.0) following) in
+      let following : code_after d.text (path_of d.options old) (offset p) ≡ (s.read, lines_from d.text next) =
+      s.following ∙ ap (put_before s.read) (lines_stop d.text (path_of d.options old) next stops)
+      ∙ ap (λ ps. (ps, lines_from d.text next)) (append-nil s.read) in
+      let read : s.read ≡ (code_after d.text (path_of d.options old) (offset p)).0 = sym (ap (λ (l : List Place × List Place). l.0) following) in
       record {
         chain = s.chain;
         tree_is = cut_is new cut;
-        lines = λ further f. subst (λ ps. AreRawLines range_text (document text options further) [] (without_blanks (p ∷ ps)) s.chain) read (s.lines further f);
+        lines = λ further f.
+            subst (λ ps. AreRawLines range_text (document d.text d.options further) [] (without_blanks (p ∷ ps)) s.chain) read (s.lines further f);
         end_is = s.end_is ∙ ap (λ ps. last_end (offset p) (without_blanks (p ∷ ps))) read;
         blank_is = s.blank_is ∙ ap last_is_blank read;
         left_is = sym (ap (λ (l : List Place × List Place). l.1) following);
@@ -602,8 +607,8 @@ just_opened old now start e = record {
   pushed = just_pushed old now (code_item start) (place_in (length old.nodes)) refl e;
 }
 
-module _ (text : List ℕ) (options : Options) (names : Names) (p : Place) (old opened now : Forest Item) (start «end» next : ℕ) (blank : Bool)
-    (opened_is : opened ≡ opened_block old start IndentCodeBlock) (a : AppendsIndented text options names p opened now «end» next blank) where
+module _ {d : Document} {p : Place} {opened now : Forest Item} {«end» next : ℕ} {blank : Bool} (old : Forest Item) (start : ℕ)
+    (opened_is : opened ≡ opened_block old start IndentCodeBlock) (a : AppendsIndented d p opened now «end» next blank) where
   block_filled : now ≡ chained (opened_block old start IndentCodeBlock) a.chain
   block_filled = a.tree_is ∙ ap (λ f. chained f a.chain) opened_is
 
@@ -613,20 +618,20 @@ module _ (text : List ℕ) (options : Options) (names : Names) (p : Place) (old 
 
   -- it is closed
   pub code_added : (new : Forest Item)
-      → IsForest old → offset p ≡ start → new ≡ closed_by now «end» now.spine → AddsIndented (document text options names) p old new next blank
+      → IsForest old → offset p ≡ start → new ≡ closed_by now «end» now.spine → AddsIndented d p old new next blank
   code_added new f at closed =
-      let path : path_of options opened ≡ path_of options old = ap (path_of options) opened_is
-      ∙ path_of-opened options old (code_item start) (place_in (length old.nodes)) refl (open_are_in old.nodes old.spine f.opened) in
-      let same = ap (λ c. code_after text c (offset p)) path in
+      let path : path_of d.options opened ≡ path_of d.options old = ap (path_of d.options) opened_is
+      ∙ path_of-opened d.options old (code_item start) (place_in (length old.nodes)) refl (open_are_in old.nodes old.spine f.opened) in
+      let same = ap (λ c. code_after d.text c (offset p)) path in
       let further = ap (λ (l : List Place × List Place). l.0) same in
-      let ends : «end» ≡ last_end (offset p) (without_blanks (p ∷ (code_after text (path_of options old) (offset p)).0)) =
+      let ends : «end» ≡ last_end (offset p) (without_blanks (p ∷ (code_after d.text (path_of d.options old) (offset p)).0)) =
       a.end_is ∙ ap (λ ps. last_end (offset p) (without_blanks (p ∷ ps))) further in
       record {
         items = block_with start «end» IndentCodeBlock a.chain;
         tree_is = block_closed old now (code_item start) a.chain (place_in (length old.nodes)) refl block_filled new «end» closed;
         is = λ more e. record {
           chain = a.chain;
-          lines = subst (λ ps. AreRawLines range_text (document text options more) [] (without_blanks (p ∷ ps)) a.chain) further (a.lines more e);
+          lines = subst (λ ps. AreRawLines range_text (document d.text d.options more) [] (without_blanks (p ∷ ps)) a.chain) further (a.lines more e);
           items_are = ap (λ s. block_with s «end» IndentCodeBlock a.chain) (sym at) ∙ ap (λ e. block_with (offset p) e IndentCodeBlock a.chain) ends;
         };
         blank_is = a.blank_is ∙ ap last_is_blank further;

@@ -1,5 +1,5 @@
 -- Raw lines after the nodes of a tree: the owed columns, and the bytes.
-use Rattle.std.proofs.Common.{◌≡◌, ℕ, zero, suc, ◌+◌, ◌-◌, ◌<◌, ◌≤◌, Bool, true, false, List, ◌∷◌, ◌++◌, length, refl, sym, ap, ◌∙◌, arith, []}
+use Rattle.std.proofs.Common.{◌≡◌, ℕ, zero, suc, ◌+◌, ◌-◌, ◌≤◌, true, false, List, ◌∷◌, ◌++◌, length, refl, sym, ap, ◌∙◌, arith, []}
 use Rattle.std.specs.List.{slice_range}
 use Rattle.std.proofs.lemmas.Bool.{cond-true, cond-false}
 use Rattle.first_pass_items.specs.declared.cow_str.CowStr.{CowStr}
@@ -37,15 +37,12 @@ some_columns : (names : Names) (n at : ℕ) (ix : CowIndex) → ¬ (n ≡ 0) →
 some_columns names zero at ix h named = absurd (h refl)
 some_columns names (suc n) at ix h named = (ix, named, refl)
 
-pub columns_appended : (old_names names : Names) (cow : CowStr) (ix : CowIndex) (n at : ℕ) (old new : Forest Item)
-    → ¬ (n ≡ 0) → n ≤ 3 → text_of cow ≡ slice_range (32 ∷ 32 ∷ 32 ∷ []) 0 n → names ≡ with_named old_names cow → ix.0 ≡ length old_names.texts
+-- Owed columns are appended as one text.
+pub columns_appended : (names : Names) (ix : CowIndex) (n at : ℕ) (old new : Forest Item)
+    → ¬ (n ≡ 0) → ((more : Names) → Extends more names → NamesText more ix (spaces n))
     → new ≡ appended old (record { start = at; «end» = at; body = SynthesizeText ix }) → AppendsColumns names n at old new
-columns_appended old_names names cow ix n at old new some small text e place new_is =
-    record {
-      items = columns_item at ix ∷ [];
-      tree_is = new_is;
-      are = λ more h. some_columns more n at ix some (named_last old_names names more cow ix (spaces n) e place (text ∙ spaces_taken n small) h);
-    }
+columns_appended names ix n at old new some named new_is =
+    record { items = columns_item at ix ∷ []; tree_is = new_is; are = λ more h. some_columns more n at ix some (named more h) }
 
 -- columns are no text, so nothing is joined to them
 columns_plain : (names : Names) (n at : ℕ) (items : List Item) (f : Forest Item) → AreColumns names n at items → chained f items ≡ with_tokens f items
@@ -77,18 +74,15 @@ raw_appended range text names owed from to old mid new c e =
     }
 
 -- a raw line that does not end with `\r\n`, and one that does
-pub line_one : (range : Ranges) (text bytes : List ℕ) (names : Names) (owed from to : ℕ) (old mid new : Forest Item) (both : Bool)
-    → AppendsColumns names owed from old mid → bytes ≡ text → both ≡ ends_with_both bytes from to → both ≡ false
-    → new ≡ with_tokens mid (range from to) → AppendsRaw range text names owed from to old new
-line_one range text bytes names owed from to old mid new both c same is h e =
-    let t : ends_with_both text from to ≡ false = ap (λ bs. ends_with_both bs from to) (sym same) ∙ sym is ∙ h in
-    raw_appended range text names owed from to old mid new c (e ∙ ap (with_tokens mid) (sym (raw_one range text from to t)))
+pub line_one : (range : Ranges) (text : List ℕ) (names : Names) (owed from to : ℕ) (old mid new : Forest Item)
+    → AppendsColumns names owed from old mid → ends_with_both text from to ≡ false → new ≡ with_tokens mid (range from to)
+    → AppendsRaw range text names owed from to old new
+line_one range text names owed from to old mid new c h e =
+    raw_appended range text names owed from to old mid new c (e ∙ ap (with_tokens mid) (sym (raw_one range text from to h)))
 
-pub line_two : (range : Ranges) (text bytes : List ℕ) (names : Names) (owed from to : ℕ) (old mid line new : Forest Item) (both : Bool)
-    → AppendsColumns names owed from old mid → bytes ≡ text → both ≡ ends_with_both bytes from to → both ≡ true
-    → line ≡ with_tokens mid (range from (to - 2)) → new ≡ with_tokens line (range (to - 1) to) → AppendsRaw range text names owed from to old new
-line_two range text bytes names owed from to old mid line new both c same is h d e =
-    let t : ends_with_both text from to ≡ true = ap (λ bs. ends_with_both bs from to) (sym same) ∙ sym is ∙ h in
+pub line_two : (range : Ranges) (text : List ℕ) (names : Names) (owed from to : ℕ) (old mid new : Forest Item)
+    → AppendsColumns names owed from old mid → ends_with_both text from to ≡ true
+    → new ≡ with_tokens (with_tokens mid (range from (to - 2))) (range (to - 1) to) → AppendsRaw range text names owed from to old new
+line_two range text names owed from to old mid new c h e =
     raw_appended range text names owed from to old mid new c
-    (e ∙ ap (λ f. with_tokens f (range (to - 1) to)) d ∙ sym (with_tokens-append mid (range from (to - 2)) (range (to - 1) to))
-    ∙ ap (with_tokens mid) (sym (raw_two range text from to t)))
+    (e ∙ sym (with_tokens-append mid (range from (to - 2)) (range (to - 1) to)) ∙ ap (with_tokens mid) (sym (raw_two range text from to h)))

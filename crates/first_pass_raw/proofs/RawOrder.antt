@@ -214,11 +214,22 @@ bytes_few text from to (p ∷ ps) some placed =
     let f = bytes_few text (line_end p) to ps some.1 placed.2 in
     omega arith
 
+-- Two offsets around a block that begins and ends at two others.
+pub record Around (start stop : ℕ) : Type 0 where
+  pub from : ℕ
+  pub to : ℕ
+  pub following : from ≤ start
+  pub before : stop ≤ to
+
 -- So a block of raw lines has at most four items for each byte between two offsets around it.
-few_by : (text : List ℕ) (from to start stop n : ℕ) (ps : List Place)
-    → n ≤ 0 + 3 * length ps → AreFew start ps → ArePlaced text start ps stop → from ≤ start → stop ≤ to → from < to → suc n ≤ 4 * (to - from)
-few_by text from to start stop n ps least (inl one) placed following before apart = omega arith
-few_by text from to start stop n ps least (inr some) placed following before apart = (let k = bytes_few text start stop ps some placed in omega arith)
+few_by : (text : List ℕ) (start stop n : ℕ) (ps : List Place) (w : Around start stop)
+    → n ≤ 0 + 3 * length ps → AreFew start ps → ArePlaced text start ps stop → w.from < w.to → suc n ≤ 4 * (w.to - w.from)
+few_by text start stop n ps w least (inl one) placed apart = omega arith
+few_by text start stop n ps w least (inr some) placed apart =
+    let following = w.following in
+    let before = w.before in
+    let k = bytes_few text start stop ps some placed in
+    omega arith
 
 -- A raw line is in order, in code and metadata or in HTML.
 pub text_line_in_order : (d : Document) (owed from to : ℕ) (items : List Item)
@@ -229,17 +240,34 @@ pub html_line_in_order : (d : Document) (owed from to : ℕ) (items : List Item)
     → from ≤ to → IsCharBoundary d.text from → IsCharBoundary d.text to → IsRawLine range_html d owed from to items → AreInOrder d.text from to items
 html_line_in_order d owed from to items order b c line = bytes_in_order range_html html_range d owed from to items order b c line
 
--- A block of raw lines fits between its start and its end.
-raw_fits : (range : Ranges) → IsRange range → (d : Document) (from to start stop : ℕ) (body : ItemBody) (ps : List Place) (chain : List Item)
-    (items : List (ℕ × Item)) → IsUtf8 d.text → items ≡ block_with start stop body chain
-    → AreRawLines range d [] ps chain → IsCharBoundary d.text start → IsCharBoundary d.text stop → ArePlaced d.text start ps stop → AreFew start ps
-    → from ≤ start → stop ≤ to → FitsBetween d.text Elsewhere from to items
-raw_fits range r d from to start stop body ps chain items u is lines b c placed node_bound following before =
-    subst (FitsBetween d.text Elsewhere from to) (sym is)
-    (block_fits d.text Elsewhere from to (record { start = start; «end» = stop; body = body }) chain
-    (record { following = following; order = placed_bound d.text start stop ps placed; before = before; starts = b; ends = c })
-    (lines_in_order range r d ps start start stop [] chain u placed (omega arith) lines)
-    (few_by d.text from to start stop (length chain) ps (lines_few range r d ps [] chain lines) node_bound placed following before))
+-- A block of raw lines with their chain. It begins and ends between characters, and its lines are placed in the text.
+record RawBlock (range : Ranges) (d : Document) : Type 0 where
+  start : ℕ
+  stop : ℕ
+  body : ItemBody
+  lines : List Place
+  chain : List Item
+  are : AreRawLines range d [] lines chain
+  starts : IsCharBoundary d.text start
+  ends : IsCharBoundary d.text stop
+  placed : ArePlaced d.text start lines stop
+  few : AreFew start lines
+
+-- It fits between two offsets around it.
+raw_fits : (range : Ranges) → IsRange range → (d : Document) (b : RawBlock range d) (items : List (ℕ × Item)) (w : Around b.start b.stop)
+    → IsUtf8 d.text → items ≡ block_with b.start b.stop b.body b.chain → FitsBetween d.text Elsewhere w.from w.to items
+raw_fits range r d b items w u is =
+    subst (FitsBetween d.text Elsewhere w.from w.to) (sym is)
+    (block_fits d.text Elsewhere w.from w.to (record { start = b.start; «end» = b.stop; body = b.body }) b.chain
+    (record {
+      following = w.following;
+      order = placed_bound d.text b.start b.stop b.lines b.placed;
+      before = w.before;
+      starts = b.starts;
+      ends = b.ends;
+    })
+    (lines_in_order range r d b.lines b.start b.start b.stop [] b.chain u b.placed (omega arith) b.are)
+    (few_by d.text b.start b.stop (length b.chain) b.lines w (lines_few range r d b.lines [] b.chain b.are) b.few b.placed))
 
 -- the lines without the blank ones at the end
 kept_by : (text : List ℕ) (from to : ℕ) (p : Place) (t : Bool) (qs : List Place)
@@ -305,28 +333,53 @@ kept_few from ps (inr some) = inr (kept_bytes from ps some)
 -- Indented code fits where its lines do.
 pub indented_fits : (d : Document) (p : Place) (further : List Place) (items : List (ℕ × Item)) (limit : ℕ)
     → IsUtf8 d.text → IsIndentedCode d p further items → ArePlaced d.text (offset p) (p ∷ further) limit → AreFew (offset p) (p ∷ further)
-    → (from to : ℕ) → from ≤ offset p → last_end (offset p) (without_blanks (p ∷ further)) ≤ to → FitsBetween d.text Elsewhere from to items
+    → (w : Around (offset p) (last_end (offset p) (without_blanks (p ∷ further)))) → FitsBetween d.text Elsewhere w.from w.to items
 unfolding ArePlaced
-indented_fits d p further items limit u is placed node_bound from to following before =
+indented_fits d p further items limit u is placed node_bound w =
     let all : List Place = without_blanks (p ∷ further) in
     let k = kept_placed d.text (offset p) limit (p ∷ further) u placed.1.boundary placed in
-    raw_fits range_text text_range d from to (offset p) (last_end (offset p) all) IndentCodeBlock all is.chain items u is.items_are is.lines placed.1.boundary
-    k.1 k.0 (kept_few (offset p) (p ∷ further) node_bound) following before
+    raw_fits range_text text_range d (record {
+      start = offset p;
+      stop = last_end (offset p) all;
+      body = IndentCodeBlock;
+      lines = all;
+      chain = is.chain;
+      are = is.lines;
+      starts = placed.1.boundary;
+      ends = k.1;
+      placed = k.0;
+      few = kept_few (offset p) (p ∷ further) node_bound;
+    }) items w u is.items_are
+
+-- the block with the lines of an extent
+abbrev placed_block : (range : Ranges) (d : Document) (start : ℕ) (body : ItemBody) (e : Lines) (chain : List Item) → AreRawLines range d [] e.places chain
+    → IsCharBoundary d.text start → IsPlaced d.text start e → RawBlock range d
+placed_block range d start body e chain are b placed = record {
+  start = start;
+  stop = e.«end»;
+  body = body;
+  lines = e.places;
+  chain = chain;
+  are = are;
+  starts = b;
+  ends = placed.boundary;
+  placed = placed.places;
+  few = placed.node_bound;
+}
 
 -- So do a fenced code block, a metadata block and an HTML block.
 pub fenced_fits : (d : Document) (start count : ℕ) (e : Lines) (items : List (ℕ × Item))
     → IsUtf8 d.text → IsFencedCode d start count e.places e.«end» items → IsCharBoundary d.text start → IsPlaced d.text start e
-    → (from to : ℕ) → from ≤ start → e.«end» ≤ to → FitsBetween d.text Elsewhere from to items
-fenced_fits d start count e items u is b placed from to following before =
-    raw_fits range_text text_range d from to start e.«end»
-    (FencedCodeBlock is.info) e.places is.chain items u is.items_are is.lines b placed.boundary placed.places placed.node_bound following before
+    → (w : Around start e.«end») → FitsBetween d.text Elsewhere w.from w.to items
+fenced_fits d start count e items u is b placed w =
+    raw_fits range_text text_range d (placed_block range_text d start (FencedCodeBlock is.info) e is.chain is.lines b placed) items w u is.items_are
 
 pub metadata_fits : (d : Document) (start byte : ℕ) (e : Lines) (items : List (ℕ × Item))
     → IsUtf8 d.text → IsMetadata d start byte e.places e.«end» items → IsCharBoundary d.text start → IsPlaced d.text start e
-    → (from to : ℕ) → from ≤ start → e.«end» ≤ to → FitsBetween d.text Elsewhere from to items
-metadata_fits d start byte e items u is b placed from to following before =
-    raw_fits range_text text_range d from to start e.«end»
-    (MetadataBlock (metadata_kind byte)) e.places is.chain items u is.items_are is.lines b placed.boundary placed.places placed.node_bound following before
+    → (w : Around start e.«end») → FitsBetween d.text Elsewhere w.from w.to items
+metadata_fits d start byte e items u is b placed w =
+    raw_fits range_text text_range d (placed_block range_text d start (MetadataBlock (metadata_kind byte)) e is.chain is.lines b placed) items w u
+    is.items_are
 
 -- the lines do not move if columns are owed at the first
 owing_placed : (text : List ℕ) (columns from to : ℕ) (ps : List Place) → ArePlaced text from ps to → ArePlaced text from (first_owing columns ps) to
@@ -342,21 +395,30 @@ owing_few columns from (p ∷ ps) (inr some) = inr some
 
 pub html_fits : (d : Document) (start columns : ℕ) (e : Lines) (items : List (ℕ × Item))
     → IsUtf8 d.text → IsHtml d start columns e.places e.«end» items → IsCharBoundary d.text start → IsPlaced d.text start e
-    → (from to : ℕ) → from ≤ start → e.«end» ≤ to → FitsBetween d.text Elsewhere from to items
-html_fits d start columns e items u is b placed from to following before =
-    raw_fits range_html html_range d from to start e.«end» HtmlBlock (first_owing columns e.places) is.chain items u is.items_are is.lines b placed.boundary
-    (owing_placed d.text columns start e.«end» e.places placed.places) (owing_few columns start e.places placed.node_bound) following before
+    → (w : Around start e.«end») → FitsBetween d.text Elsewhere w.from w.to items
+html_fits d start columns e items u is b placed w =
+    raw_fits range_html html_range d (record {
+      start = start;
+      stop = e.«end»;
+      body = HtmlBlock;
+      lines = first_owing columns e.places;
+      chain = is.chain;
+      are = is.lines;
+      starts = b;
+      ends = placed.boundary;
+      placed = owing_placed d.text columns start e.«end» e.places placed.places;
+      few = owing_few columns start e.places placed.node_bound;
+    }) items w u is.items_are
 
 -- Up to the start of the first remaining line, an HTML block has at most four items for each byte, all of its own.
 pub html_few : (d : Document) (start columns stop : ℕ) (e : Lines) (items : List (ℕ × Item))
     → IsHtml d start columns e.places e.«end» items → ArePlaced d.text start e.places stop → AreFew start e.places
-    → (from to : ℕ) → from ≤ start → stop ≤ to → from < to → counted_nodes items ≤ 4 * (to - from)
-html_few d start columns stop e items is placed node_bound from to following before apart =
+    → (w : Around start stop) → w.from < w.to → counted_nodes items ≤ 4 * (w.to - w.from)
+html_few d start columns stop e items is placed node_bound w apart =
     let ps : List Place = first_owing columns e.places in
     let more =
-    few_by d.text from to start stop (length is.chain) ps (lines_few range_html html_range d ps [] is.chain is.lines)
-    (owing_few columns start e.places node_bound)
-    (owing_placed d.text columns start stop e.places placed) following before apart in
+    few_by d.text start stop (length is.chain) ps w (lines_few range_html html_range d ps [] is.chain is.lines)
+    (owing_few columns start e.places node_bound) (owing_placed d.text columns start stop e.places placed) apart in
     let size = length-block (record { start = start; «end» = e.«end»; body = HtmlBlock }) is.chain in
     let same = ap length is.items_are in
     let most = own_at_most None items in

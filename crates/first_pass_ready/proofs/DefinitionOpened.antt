@@ -29,6 +29,7 @@ use Rattle.first_pass_completion.proofs.Extending.{tail, lvl}
 use Rattle.first_pass_grammar.proofs.Sequences.Finishes.{CompletesAt}
 use Rattle.first_pass_completion.proofs.Flags.{completes-reflag_definition}
 use Rattle.first_pass_grammar.proofs.Sequences.Tightening.{modify-append}
+use Rattle.first_pass_completion.proofs.States.{open_nodes}
 use Rattle.first_pass_completion.proofs.TitleNodes.{reflagged, length-with_title}
 use Rattle.first_pass_open.specs.Path.{path_of}
 use Rattle.first_pass_lists.specs.Closing.{with_tree, loosened_by, top_body, top_end, is_definition_list, is_list, possible_title, title_by}
@@ -182,8 +183,9 @@ module _ (d : Document) (defined : Tables) (f : Forest Item) (run : Bool) (p : P
       let deep : slice_index (depths f.nodes) c.0 + 1 ≡ length f.spine + 2 = (let e = last.depth in omega arith) in
       let nodes : g.nodes ≡ with_title f.nodes c.0 = titled_nodes f.nodes c.0 (c.0 + 1) (length f.spine + 2) x here (omega arith) deep in
       let longer : length (with_title f.nodes c.0) ≡ suc (length f.nodes) = length-with_title f.nodes c.0 within in
-      let k = completes-first_definition d defined run ready.frames f.nodes c.0 os p lines following columns (offset p) p.line 0 from
-      (plain_open d.options f ready.frames ready.are_open outside) within below (opens_at (ParagraphAt c.0) closed) (completes_at (ParagraphAt c.0) closed) in
+      let k = completes-first_definition d (open_nodes defined ready.frames f.nodes os) run c.0 (record { columns = columns; start = offset p; line = p.line })
+      (record { place = p; lines = lines; inside = from; following = following; opens = opens_at (ParagraphAt c.0) closed })
+      (plain_open d.options f ready.frames ready.are_open outside) within below (completes_at (ParagraphAt c.0) closed) in
       record {
         ix = c;
         rest = f.spine;
@@ -250,8 +252,9 @@ module _ (d : Document) (defined : Tables) (f : Forest Item) (run : Bool) (p : P
             (λ i h. ap (option_and_then (frame_of d.options)) (body-other f.nodes c.0 i (λ y. record y { body = DefinitionListTitle }) h)) below (list_open l);
         below = subst (λ n. AreBelow n (l.ix.0 ∷ os)) (sym size) k.below;
         same = list_path l;
-        completes = completes-title_definition d defined e c.0 run l.loose l.outer f.nodes l.ix.0 os p lines following columns (offset p) p.line 0 from
-            (list_opens l (TitleAt e c.0) closed) k;
+        completes = completes-title_definition d (open_nodes defined l.outer f.nodes os) (record { place = l.ix.0; «end» = e; loose = l.loose }) c.0 run
+            (record { columns = columns; start = offset p; line = p.line })
+            (record { place = p; lines = lines; inside = from; following = following; opens = list_opens l (TitleAt e c.0) closed }) k;
       }
 
   -- after a definition
@@ -273,8 +276,15 @@ module _ (d : Document) (defined : Tables) (f : Forest Item) (run : Bool) (p : P
         are_open = list_open l;
         below = k.below;
         same = list_path l;
-        completes = completes-definition d defined closed.0 closed.1 run l.loose l.outer f.nodes l.ix.0 (map (λ (i : TreeIndex). i.0) l.rest) p lines following
-            columns (offset p) p.line 0 from (list_opens l (DefinitionClosed closed.0 closed.1) closed.2) k;
+        completes = completes-definition d (open_nodes defined l.outer f.nodes (map (λ (i : TreeIndex). i.0) l.rest))
+            (record { place = l.ix.0; «end» = closed.0; loose = l.loose }) closed.1 run
+            (record { columns = columns; start = offset p; line = p.line }) (record {
+              place = p;
+              lines = lines;
+              inside = from;
+              following = following;
+              opens = list_opens l (DefinitionClosed closed.0 closed.1) closed.2;
+            }) k;
       }
 
   opened_by : (c : TreeIndex) (x : Item) (b : ItemBody) → f.current ≡ Some c → item_at f c ≡ Some x → x.body ≡ b
@@ -339,7 +349,7 @@ loosened d defined true path g columns start from lines l =
     let k : CompletesAt d defined fresh frames (h.nodes ++ x ∷ []) (length h.nodes ∷ ix.0 ∷ os) from lines =
     subst (λ n. CompletesAt d defined fresh frames (h.nodes ++ x ∷ []) (n ∷ ix.0 ∷ os) from lines) (sym size)
     (subst (λ z. CompletesAt d defined fresh frames z (length g.nodes ∷ ix.0 ∷ os) from lines) nodes
-    (completes-reflag_definition d defined fresh columns (l.loose || true) true l.frames (g.nodes ++ x ∷ []) (length g.nodes) ix.0 os from lines tt
+    (completes-reflag_definition d (open_nodes defined l.frames (g.nodes ++ x ∷ []) os) fresh columns (l.loose || true) (length g.nodes) ix.0 from lines tt
     l.completes)) in
     let body : body_at h.nodes ix.0 ≡ Some now = body-changed g.nodes ix.0 change (DefinitionList b.0) now b.1 (λ y e. refl) in
     let top : frame_at d.options h.nodes ix.0 ≡ Some (InDefinitions (l.loose || true)) =

@@ -36,6 +36,7 @@ use Rattle.first_pass_grammar.proofs.Sequences.Finishes.{CompletesAt, Tail}
 use Rattle.first_pass_completion.proofs.Extending.{tail, lvl}
 use Rattle.first_pass_grammar.proofs.Sequences.Goings.{stops_blank}
 use Rattle.first_pass_kinds.proofs.KindLemmas.{blank_kind}
+use Rattle.first_pass_completion.proofs.States.{open_nodes}
 use Rattle.first_pass_completion.proofs.Completions.{counted_after, completes-enter, completes-blank_line, completes-only_blank}
 use Rattle.first_pass_open.specs.OpenBlock.{closed_by}
 use Rattle.first_pass_lists.specs.Closing.{top_body, is_item, popped_by, popped, item_finished_by, item_finished, emptied, emptied_definition, blank_read_by}
@@ -359,8 +360,8 @@ only_blank_by d defined f t e ix rest c line lines (InContainer a ∷ frames) is
     let k' : CompletesAt d defined t (InContainer c ∷ frames) f.nodes os (Blanks e) (line ∷ lines) =
     subst (λ z. CompletesAt d defined t (InContainer z ∷ frames) f.nodes os (Blanks e) (line ∷ lines)) (sym same) k in
     subst (λ z. CompletesAt d defined (tail t.closed true) (InContainer z ∷ frames) f.nodes os (Blanks e) lines) same
-    (completes-only_blank d defined t c frames f.nodes os e line (at_rest line b.0) lines quote
-    (ap (option_map (at_rest line)) b.1) b.2
+    (completes-only_blank d (open_nodes defined frames f.nodes os) t c e line (at_rest line b.0) lines quote
+    (record { continues = ap (option_map (at_rest line)) b.1; blank = b.2 })
     (opens_blank d (lvl (InContainer c ∷ frames) t) (at_rest line b.0) lines b.2) k')
 
 -- a blank line in an item or a definition that takes only blank lines

@@ -24,6 +24,7 @@ use Rattle.first_pass_completion.proofs.Extending.{tail, StaysAt, loosened_in}
 use Rattle.first_pass_completion.proofs.EarlierNodes.{IsBefore}
 use Rattle.first_pass_completion.proofs.Moved.{OpensBlock, opens_definition}
 use Rattle.first_pass_completion.proofs.Notes.{completes-note}
+use Rattle.first_pass_completion.proofs.States.{open_nodes}
 use Rattle.first_pass_completion.proofs.TitleNodes.{reflagged}
 use Rattle.first_pass_completion.proofs.Flags.{completes-reflag, completes-reflag_definition}
 use Rattle.first_pass_completion.proofs.SilentNodes.{from_modified}
@@ -286,9 +287,9 @@ reflag_around : (d : Document) (defined : Tables) (closed : Closed) (c : Contain
     → CompletesAt d defined (tail closed false) (InContainer c ∷ frame ∷ frames) (reflagged nodes o true) (x ∷ o ∷ os) (Inside p) lines
 reflag_around d defined closed c (InContainer b) frames nodes x o os p lines none before k = absurd (none b refl)
 reflag_around d defined closed c (InList byte loose) frames nodes x o os p lines none before k =
-    completes-reflag d defined (tail closed false) c byte loose true frames nodes x o os (Inside p) lines before k
+    completes-reflag d (open_nodes defined frames nodes os) (tail closed false) c byte loose x o (Inside p) lines before k
 reflag_around d defined closed (Definition columns) (InDefinitions loose) frames nodes x o os p lines none before k =
-    completes-reflag_definition d defined (tail closed false) columns loose true frames nodes x o os (Inside p) lines before k
+    completes-reflag_definition d (open_nodes defined frames nodes os) (tail closed false) columns loose x o (Inside p) lines before k
 reflag_around d defined closed (BlockQuote kind) (InDefinitions loose) frames nodes x o os p lines none before k = absurd k.shape.0
 reflag_around d defined closed (ListItem columns) (InDefinitions loose) frames nodes x o os p lines none before k = absurd k.shape.0
 reflag_around d defined closed (FootnoteDefinition columns) (InDefinitions loose) frames nodes x o os p lines none before k = absurd k.shape.0
@@ -346,9 +347,13 @@ module _ (d : Document) (defined : Tables) (f : Forest Item) (p : Place) (lines 
       → CompletesAt d defined t frames f.nodes (map (λ (i : TreeIndex). i.0) f.spine) (Inside p) lines
       → CompletesAt d defined (tail (closed_in f) false) (loosened_in true frames) f.nodes (map (λ (i : TreeIndex). i.0) f.spine) (Inside p) lines
   noted_at frames plain o k =
-      completes-note d defined t frames f.nodes (map (λ (i : TreeIndex). i.0) f.spine) p lines opening plain
-      (subst (λ z. StaysAt d z p) (open_path d.options f.nodes f.spine frames o) stays)
-      (subst (λ z. Opens d z p lines opening) (open_level d.options f frames true o) opens) block other k
+      completes-note d (open_nodes defined frames f.nodes (map (λ (i : TreeIndex). i.0) f.spine)) t (record {
+        place = p;
+        lines = lines;
+        opening = opening;
+        stays = subst (λ z. StaysAt d z p) (open_path d.options f.nodes f.spine frames o) stays;
+        opens = subst (λ z. Opens d z p lines opening) (open_level d.options f frames true o) opens;
+      }) plain block other k
 
   -- if the innermost open node is not in a list
   noted_still : (frames : List Frame) → SilentClosed f.nodes (closed_in f) → loosened_in true frames ≡ frames → IsPlain frames

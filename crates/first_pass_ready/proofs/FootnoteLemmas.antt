@@ -33,6 +33,7 @@ use Rattle.first_pass_grammar.specs.Completion.{containers_of, IsPlain}
 use Rattle.first_pass_completion.proofs.ContainerSteps.{completes-footnote}
 use Rattle.first_pass_completion.proofs.EarlierNodes.{IsBefore}
 use Rattle.first_pass_completion.proofs.Extending.{stays_outside}
+use Rattle.first_pass_completion.proofs.States.{open_nodes}
 use Rattle.first_pass_grammar.proofs.Sequences.FootnoteHeads.{head_around}
 use Rattle.first_pass_open.specs.OpenBlock.{closed_by}
 use Rattle.first_pass_open.specs.Path.{container_of, with_container, path_in, path_of}
@@ -254,8 +255,9 @@ module _ (d : Document) (defined : Tables) (r : PassState) (p : Place) (lines : 
       let out' : in_footnote (containers_of frames) ≡ false = ap in_footnote (sym path) ∙ out in
       let opens = subst (λ z. Opens d z p lines opening) (open_level d.options f frames false ready.are_open)
       (opens_in (path_of d.options f) (level_of d.options f false).before begins) in
-      let k = completes-footnote d defined (closed_in f) frames f.nodes (map (λ (i : TreeIndex). i.0) f.spine) p lines there.1 columns index head.1 start
-      p.line 0 (Inside there.0) plain (stays_outside d (containers_of frames) p out') opens ready.completes in
+      let k = completes-footnote d (open_nodes defined frames f.nodes (map (λ (i : TreeIndex). i.0) f.spine)) (closed_in f) columns index head.1 start p.line
+      (record { place = p; lines = lines; inside = Inside there.0; following = there.1; opens = opens }) plain
+      (stays_outside d (containers_of frames) p out') ready.completes in
       (begun_ready d (with_footnote_label defined head.1) f (node_of start 0 (FootnoteDefinitionBody index)) (FootnoteDefinition columns) frames
       (Inside there.0)
       there.1 refl out' ready.are_open ready.completes.below k).ready

@@ -28,8 +28,8 @@ use Rattle.first_pass_grammar.specs.Completion.{closed_as, containers_of, AreBel
 use Rattle.first_pass_grammar.proofs.Sequences.Finishes.{CompletesAt}
 use Rattle.first_pass_completion.proofs.Extending.{tail, lvl, StaysAt}
 use Rattle.first_pass_completion.proofs.Completions.{completes-pop, completes-pop_in_line}
-use Rattle.first_pass_completion.proofs.PoppedLists.{completes-pop_list, completes-pop_definitions, completes-pop_list_in_line}
-use Rattle.first_pass_completion.proofs.PoppedLists.{completes-pop_definitions_in_line}
+use Rattle.first_pass_completion.proofs.PoppedLists.{end_before_line, end_in_line, completes-pop_list, completes-pop_definitions}
+use Rattle.first_pass_completion.proofs.States.{open_nodes}
 use Rattle.first_pass_completion.proofs.Closings.{OpensAway, completes-close, completes-close_definitions}
 use Rattle.first_pass_completion.proofs.SilentNodes.{silent_as}
 use Rattle.first_pass_open.specs.OpenBlock.{closed_by}
@@ -110,7 +110,7 @@ closed_container d defined f closed run from lines e ix rest c (InContainer b �
     ready_as d defined g run Line lines frames (closed_as c e) (closed_popped d.options f e ix rest c frames is o' stands) o' (silent_as g.nodes c e)
     (subst (λ z. CompletesAt d defined (tail (closed_as z e) run) frames (ended f.nodes ix.0 e) (map (λ (i : TreeIndex). i.0) rest) Line lines) (sym same)
     (subst (λ z. CompletesAt d defined (tail (closed_as b z) run) frames (ended f.nodes ix.0 z) (map (λ (i : TreeIndex). i.0) rest) Line lines) e'
-    (completes-pop d defined (tail closed run) b frames f.nodes ix.0 (map (λ (i : TreeIndex). i.0) rest) from lines (Lines lines) ends' k))) in
+    (completes-pop d (open_nodes defined frames f.nodes (map (λ (i : TreeIndex). i.0) rest)) (tail closed run) b ix.0 from lines (Lines lines) ends' k))) in
     record { ready = q; stands = stands; apart = ap (λ z. is_footnote_in_another (InContainer z) frames) same ∙ o.2 }
 
 -- a container is closed
@@ -295,14 +295,16 @@ module _ (d : Document) (defined : Tables) (f : Forest Item) (run : Bool) (lines
       let path : path_in d.options f.nodes rest ≡ containers_of frames = open_path d.options f.nodes rest frames o.1 in
       list_left_open loose Line frames set o.1 k.below.1 k.shape.0
       (subst (λ z. CompletesAt d defined (tail OtherClosed run) frames (list_closed f.nodes ix.0 (suc (suc (suc (length os)))) loose z) os Line lines) e_is
-      (completes-pop_list d defined (tail closed run) byte loose frames f.nodes ix.0 os lines (subst (λ p. next_goes_on p lines ≡ false) path ends) k))
+      (completes-pop_list d (open_nodes defined frames f.nodes os) (tail closed run) byte loose ix.0
+      (end_before_line d (containers_of frames) lines (subst (λ p. next_goes_on p lines ≡ false) path ends)) k))
   popped_list closed (InDefinitions loose ∷ frames) has e_is ends o k =
       let set = definitions_set d.options b flags loose listed (framed (InDefinitions loose) o.0) in
       let path : path_in d.options f.nodes rest ≡ containers_of frames = open_path d.options f.nodes rest frames o.1 in
       let c = definition_last d.options b loose closed (framed (InDefinitions loose) o.0) has in
       list_left_open loose Line frames set o.1 k.below.1 k.shape.0
       (subst (λ z. CompletesAt d defined (tail OtherClosed run) frames (list_closed f.nodes ix.0 (suc (suc (suc (length os)))) loose z) os Line lines) e_is
-      (completes-pop_definitions d defined c.0 c.1 run loose frames f.nodes ix.0 os lines (subst (λ p. next_goes_on p lines ≡ false) path ends)
+      (completes-pop_definitions d (open_nodes defined frames f.nodes os) (record { place = ix.0; «end» = c.0; loose = loose }) c.1 run
+      (end_before_line d (containers_of frames) lines (subst (λ p. next_goes_on p lines ≡ false) path ends))
       (subst (λ z. CompletesAt d defined (tail z run) (InDefinitions loose ∷ frames) f.nodes (ix.0 ∷ os) Line lines) c.2 k)))
 
   -- the same for ready nodes
@@ -332,14 +334,20 @@ module _ (d : Document) (defined : Tables) (f : Forest Item) (run : Bool) (lines
   left_list closed p opening (InList byte loose ∷ frames) has stays opens away o k =
       let set = items_set d.options b flags byte loose listed (framed (InList byte loose) o.0) in
       list_left_open loose (Inside p) frames set o.1 k.below.1 k.shape.0
-      (completes-close d defined (tail closed run) byte loose frames f.nodes ix.0 os p lines e opening stays opens
+      (completes-close d (open_nodes defined frames f.nodes os) (tail closed run) byte loose ix.0 e
+      (record { place = p; lines = lines; opening = opening; stays = stays; opens = opens })
       (away_items d.options b byte loose closed e opening (framed (InList byte loose) o.0) away) k)
   left_list closed p opening (InDefinitions loose ∷ frames) has stays opens away o k =
       let set = definitions_set d.options b flags loose listed (framed (InDefinitions loose) o.0) in
       let c = definition_last d.options b loose closed (framed (InDefinitions loose) o.0) has in
       list_left_open loose (Inside p) frames set o.1 k.below.1 k.shape.0
-      (completes-close_definitions d defined c.0 c.1 run loose frames f.nodes ix.0 os p lines e opening stays
-      (subst (λ z. Opens d (lvl (InDefinitions loose ∷ frames) (tail z run)) p lines opening) c.2 opens)
+      (completes-close_definitions d (open_nodes defined frames f.nodes os) (record { place = ix.0; «end» = c.0; loose = loose }) c.1 run e (record {
+        place = p;
+        lines = lines;
+        opening = opening;
+        stays = stays;
+        opens = subst (λ z. Opens d (lvl (InDefinitions loose ∷ frames) (tail z run)) p lines opening) c.2 opens;
+      })
       (away_definitions d.options b loose closed c.0 c.1 e opening (framed (InDefinitions loose) o.0) c.2 away)
       (subst (λ z. CompletesAt d defined (tail z run) (InDefinitions loose ∷ frames) f.nodes (ix.0 ∷ os) (Inside p) lines) c.2 k))
 
@@ -365,14 +373,15 @@ module _ (d : Document) (defined : Tables) (f : Forest Item) (run : Bool) (lines
       list_left_open loose (Inside p) frames set o.1 k.below.1 k.shape.0
       (subst (λ z. CompletesAt d defined (tail OtherClosed run) frames (list_closed f.nodes ix.0 (suc (suc (suc (length os)))) loose z) os
       (Inside p) lines) e_is
-      (completes-pop_list_in_line d defined (tail closed run) byte loose frames f.nodes ix.0 os p lines ends k))
+      (completes-pop_list d (open_nodes defined frames f.nodes os) (tail closed run) byte loose ix.0 (end_in_line d (containers_of frames) p lines ends) k))
   ended_list closed p (InDefinitions loose ∷ frames) has ends e_is o k =
       let set = definitions_set d.options b flags loose listed (framed (InDefinitions loose) o.0) in
       let c = definition_last d.options b loose closed (framed (InDefinitions loose) o.0) has in
       list_left_open loose (Inside p) frames set o.1 k.below.1 k.shape.0
       (subst (λ z. CompletesAt d defined (tail OtherClosed run) frames (list_closed f.nodes ix.0 (suc (suc (suc (length os)))) loose z) os
       (Inside p) lines) e_is
-      (completes-pop_definitions_in_line d defined c.0 c.1 run loose frames f.nodes ix.0 os p lines ends
+      (completes-pop_definitions d (open_nodes defined frames f.nodes os) (record { place = ix.0; «end» = c.0; loose = loose }) c.1 run
+      (end_in_line d (containers_of frames) p lines ends)
       (subst (λ z. CompletesAt d defined (tail z run) (InDefinitions loose ∷ frames) f.nodes (ix.0 ∷ os) (Inside p) lines) c.2 k)))
 
   -- a list is closed with the footnote definition around it, where another begins
@@ -417,7 +426,7 @@ module _ (d : Document) (defined : Tables) (f : Forest Item) (run : Bool) (p : P
       open_below d.options f.nodes (ended f.nodes ix.0 e) ix.0 rest frames (λ i h. frame-ended d.options f.nodes ix.0 e i) k.below.1 o.1 in
       let q : ReadyAt d defined g run (Inside p) lines =
       ready_as d defined g run (Inside p) lines frames OtherClosed (closed_popped d.options f e ix rest c frames is o' k'.shape.0) o' tt
-      (completes-pop_in_line d defined (tail closed run) columns frames f.nodes ix.0 (map (λ (i : TreeIndex). i.0) rest) p lines head
+      (completes-pop_in_line d (open_nodes defined frames f.nodes (map (λ (i : TreeIndex). i.0) rest)) (tail closed run) columns ix.0 p lines head
       (subst (λ z. footnote_head_at (around d (c ∷ z)) p ≡ Some head) path begins) k') in
       (q, k'.shape.0, apart)
 

@@ -26,7 +26,8 @@ use Rattle.first_pass_grammar.specs.WholeTables.{SilentFrom, SilentClosed}
 use Rattle.first_pass_grammar.proofs.Sequences.Finishes.{CompletesAt}
 use Rattle.first_pass_completion.proofs.Extending.{tail, lvl, StaysAt}
 use Rattle.first_pass_completion.proofs.Moved.{OpensBlock, opens_definition}
-use Rattle.first_pass_completion.proofs.PoppedLists.{completes-pop_title, completes-pop_title_in_line}
+use Rattle.first_pass_completion.proofs.PoppedLists.{end_before_line, end_in_line, completes-pop_title}
+use Rattle.first_pass_completion.proofs.States.{open_nodes}
 use Rattle.first_pass_completion.proofs.Closings.{completes-close_title}
 use Rattle.first_pass_completion.proofs.SilentNodes.{from_closed, from_left}
 use Rattle.first_pass_grammar.proofs.Sequences.Tightening.{length-closed}
@@ -214,8 +215,8 @@ module _ (d : Document) (defined : Tables) (f : Forest Item) (run : Bool) (lines
       let o' = subst Open v.is o in
       let k' = subst (Becoming Line) v.is k in
       title_left_open v.loose v.set Line v.outer o'.1 k'.below.1 k'.shape.0 silent
-      (completes-pop_title d defined e title.0 run v.loose v.outer f.nodes ix.0 os lines
-      (subst (λ z. next_goes_on (containers_of z) lines ≡ false) v.is ends) k')
+      (completes-pop_title d (open_nodes defined v.outer f.nodes os) (record { place = ix.0; «end» = e; loose = v.loose }) title.0 run
+      (end_before_line d (containers_of v.outer) lines (subst (λ z. next_goes_on (containers_of z) lines ≡ false) v.is ends)) k')
 
   -- such a list is closed, with the node around it
   pub pop_title : next_goes_on (path_of d.options f) lines ≡ false → ReadyAt d defined f run Line lines → ReadyAt d defined now run Line lines
@@ -233,9 +234,13 @@ module _ (d : Document) (defined : Tables) (f : Forest Item) (run : Bool) (lines
       let o' = subst Open v.is o in
       let k' = subst (Becoming (Inside p)) v.is k in
       title_left_open v.loose v.set (Inside p) v.outer o'.1 k'.below.1 k'.shape.0 silent
-      (completes-close_title d defined e title.0 run v.loose v.outer f.nodes ix.0 os p lines opening
-      (subst (λ z. StaysAt d (containers_of z) p) v.is stays)
-      (subst (λ z. Opens d (lvl z (tail (TitleAt e title.0) run)) p lines opening) v.is opens) block other k')
+      (completes-close_title d (open_nodes defined v.outer f.nodes os) (record { place = ix.0; «end» = e; loose = v.loose }) title.0 run (record {
+        place = p;
+        lines = lines;
+        opening = opening;
+        stays = subst (λ z. StaysAt d (containers_of z) p) v.is stays;
+        opens = subst (λ z. Opens d (lvl z (tail (TitleAt e title.0) run)) p lines opening) v.is opens;
+      }) block other k')
 
   -- such a list is closed before a block that is no definition
   pub leave_title : (p : Place) (opening : Opening)
@@ -256,8 +261,8 @@ module _ (d : Document) (defined : Tables) (f : Forest Item) (run : Bool) (lines
       let o' = subst Open v.is o in
       let k' = subst (Becoming (Inside p)) v.is k in
       title_left_open v.loose v.set (Inside p) v.outer o'.1 k'.below.1 k'.shape.0 silent
-      (completes-pop_title_in_line d defined e title.0 run v.loose v.outer f.nodes ix.0 os p lines
-      (subst (λ z. ends_footnote (around d (containers_of z)) p ≡ true) v.is ends) k')
+      (completes-pop_title d (open_nodes defined v.outer f.nodes os) (record { place = ix.0; «end» = e; loose = v.loose }) title.0 run
+      (end_in_line d (containers_of v.outer) p lines (subst (λ z. ends_footnote (around d (containers_of z)) p ≡ true) v.is ends)) k')
 
   -- such a list is closed with the footnote definition around it, where another begins
   pub end_title : (p : Place) → ends_footnote (around d (path_of d.options f)) p ≡ true

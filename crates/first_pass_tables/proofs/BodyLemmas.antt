@@ -1,11 +1,9 @@
 -- The rows of a table's body, one after the other.
-use Rattle.std.proofs.Common.{◌≡◌, inl, inr, ℕ, ◌+◌, ◌-◌, ◌<◌, ◌≤◌, ◌==◌, ◌&&◌, Bool, true, false, nat_lt, nat_le, List, [], ◌∷◌, ◌++◌, append_assoc}
-use Rattle.std.proofs.Common.{append-nil, length, drop, Option, Some, None, is_some, Less, Equal, Greater, IsUtf8, IsCharBoundary, refl, sym, ap, subst, ◌∙◌}
-use Rattle.std.proofs.Common.{arith, if◌then◌else◌}
-use Rattle.std.specs.Ordering.{is_lt, nat_cmp, ord_min}
+use Rattle.std.proofs.Common.{◌≡◌, inl, inr, ℕ, ◌+◌, ◌-◌, ◌<◌, Bool, true, false, List, [], ◌∷◌, ◌++◌, append_assoc}
+use Rattle.std.proofs.Common.{append-nil, length, drop, Option, Some, None, is_some, IsUtf8, IsCharBoundary, refl, sym, ap, subst, ◌∙◌}
+use Rattle.std.proofs.Common.{arith}
 use Rattle.std.proofs.lemmas.Bool.{cases_lt}
 use Rattle.std.proofs.lemmas.Option.{none-some}
-use Rattle.std.proofs.lemmas.Bool.Decides.{nat_tests}
 use Rattle.first_pass_items.specs.declared.item.Item.{Item}
 use Rattle.first_pass_items.specs.declared.item.ItemBody.TheVariants.{TableHead, TableRow}
 use Rattle.first_pass_tree.specs.declared.tree_index.TreeIndex.{TreeIndex}
@@ -32,7 +30,7 @@ use Rattle.first_pass_open.specs.OpenBlock.{IsJustPushed, closed_by}
 use Rattle.first_pass_open.specs.Path.{path_of, path_in}
 use Rattle.first_pass_open.proofs.PathLemmas.{AreIn, path_in-append}
 use Rattle.first_pass_open.proofs.PlaceLemmas.{line_start_end}
-use Rattle.first_pass_tables.specs.Appends.{with_below, AddsHead, keeps_row, OpenTable, open_table, so_far, ReadsRow, ReadsRowLine, AppendsRows}
+use Rattle.first_pass_tables.specs.Appends.{with_below, AddsHead, keeps_row, OpenTable, so_far, ReadsRow, ReadsRowLine, AppendsRows}
 use Rattle.first_pass_tables.specs.RowsRead.{AppendsBody}
 use Rattle.first_pass_tables.proofs.BodySoFar.{BodySoFar}
 use Rattle.first_pass_tables.proofs.RowPlaces.{begins_row, row_within}
@@ -210,13 +208,26 @@ closed_as : (f g : Forest Item) (e : ℕ) (ix : TreeIndex) (rest s : List TreeIn
 closed_as f g e ix rest [] nodes is = cc
 closed_as f g e ix rest (i ∷ is) nodes same = ap (λ (ns : List (ℕ × Item)). with_end_at (record { nodes = ns; spine = is; current = Some i }) i e) nodes
 
-pub rows_closed : (d : Document) (before : Names) (columns head_start body_start next : ℕ) (old : Forest Item) (headed_table : OpenTable)
-    (bodied new : Forest Item)
-    → Extends d.names before → (ix : TreeIndex) × IsJustPushed old ix → AreIn (length old.nodes) old.spine
-    → AddsHead (document d.text d.options before) columns (spot head_start no_braces) old headed_table
-    → AppendsBody d columns body_start headed_table bodied next → new ≡ closed_by bodied next bodied.spine
-    → AppendsRows d columns head_start body_start old new next
-rows_closed d before columns head_start body_start next old headed_table bodied new grown (ix, pushed) there head body new_is =
+-- The header row of a table is added, and then the rows of its body.
+pub record TableRead (d : Document) (columns head_start body_start : ℕ) (old : Forest Item) : Type 0 where
+  pub before : Names
+  pub headed : OpenTable
+  pub bodied : Forest Item
+  pub next : ℕ
+  pub grown : Extends d.names before
+  pub head : AddsHead (document d.text d.options before) columns (spot head_start no_braces) old headed
+  pub body : AppendsBody d columns body_start headed bodied next
+
+pub rows_closed : (d : Document) (columns head_start body_start : ℕ) (old new : Forest Item) (r : TableRead d columns head_start body_start old)
+    → (ix : TreeIndex) × IsJustPushed old ix → AreIn (length old.nodes) old.spine → new ≡ closed_by r.bodied r.next r.bodied.spine
+    → AppendsRows d columns head_start body_start old new r.next
+rows_closed d columns head_start body_start old new r (ix, pushed) there new_is =
+    let before : Names = r.before in
+    let next : ℕ = r.next in
+    let headed_table : OpenTable = r.headed in
+    let bodied : Forest Item = r.bodied in
+    let head = r.head in
+    let body = r.body in
     let headed : Forest Item = headed_table.tree in
     let after : MathBraces = headed_table.braces in
     let row : List (ℕ × Item) = row_block TableHead columns head_start head.cells head.row_end in
@@ -233,7 +244,7 @@ rows_closed d before columns head_start body_start next old headed_table bodied 
       cells = head.cells;
       head_end = head.row_end;
       after = after;
-      are_cells = cells_more d.text d.options before d.names (spot head_start no_braces) head.cells (spot head.row_end after) grown head.are_cells;
+      are_cells = cells_more d.text d.options before d.names (spot head_start no_braces) head.cells (spot head.row_end after) r.grown head.are_cells;
       body = body.body;
       are_rows = subst (λ most. AreRows d (path_of d.options old) (table_so_far columns most after) (lines_from d.text body_start)
           (taking body.body (lines_from d.text next))) budget

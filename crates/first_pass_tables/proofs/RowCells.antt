@@ -11,6 +11,7 @@ use Rattle.first_pass_items.specs.declared.item.Item.{Item}
 use Rattle.first_pass_tree.specs.Forest.{Forest, at_depth, added}
 use Rattle.first_pass_tree.proofs.Callers.{more-added}
 use Rattle.first_pass_lines.specs.Lines.{is_white, is_line_end, begins, eol_len, at_line_end}
+use Rattle.first_pass_tokens.specs.Braces.{MathBraces}
 use Rattle.first_pass_tokens.specs.LineTokens.{Spot, spot, content_ends_at, IsCell}
 use Rattle.first_pass_tokens.proofs.LineLemmas.{cell_ends}
 use Rattle.first_pass_grammar.specs.Names.{Names, Extends}
@@ -31,13 +32,31 @@ side_more (block ∷ blocks) more =
 side_one : (block : List (ℕ × Item)) → side_by_side (block ∷ []) ≡ block
 side_one block = append-nil block
 
--- the scanners' findings on a cell: the start of its content, and whether a line ends there
-pub content_found : (text bytes rest : List ℕ) (at cell white : ℕ)
-    → bytes ≡ text → cell ≡ cell_start bytes at → rest ≡ drop cell bytes → white ≡ prefix_len is_white rest
-    → cell + white ≡ cell_text text at
-content_found text bytes rest at cell white same begins rest_is white_is =
-    let here : cell ≡ cell_start text at = begins ∙ ap (λ (bs : List ℕ). cell_start bs at) same in
-    ap (λ (k : ℕ). cell + k) (white_is ∙ ap (prefix_len is_white) (rest_is ∙ ap (drop cell) same)) ∙ ap (λ (k : ℕ). k + prefix_len is_white (drop k text)) here
+-- The next cell of a row, searched for from an offset on: its start, and the start of its content.
+pub record CellPlace (d : Document) (at : ℕ) : Type 0 where
+  pub cell : ℕ
+  pub text : ℕ
+  pub cell_is : cell ≡ cell_start d.text at
+  pub text_is : text ≡ cell_text d.text at
+  pub from : at ≤ cell
+  pub order : cell ≤ text
+  pub within : text ≤ length d.text
+
+-- the scanners' findings on a cell: its place, and whether a line ends there
+abbrev pub place_found : (d : Document) (bytes rest : List ℕ) (at cell white : ℕ) → bytes ≡ d.text → cell ≡ cell_start bytes at → rest ≡ drop cell bytes
+    → white ≡ prefix_len is_white rest → at ≤ cell → cell + white ≤ length d.text → CellPlace d at
+place_found d bytes rest at cell white same begins rest_is white_is from within =
+    let here : cell ≡ cell_start d.text at = begins ∙ ap (λ (bs : List ℕ). cell_start bs at) same in
+    record {
+      cell = cell;
+      text = cell + white;
+      cell_is = here;
+      text_is = ap (λ (k : ℕ). cell + k) (white_is ∙ ap (prefix_len is_white) (rest_is ∙ ap (drop cell) same))
+          ∙ ap (λ (k : ℕ). k + prefix_len is_white (drop k d.text)) here;
+      from = from;
+      order = omega arith;
+      within = within;
+    }
 
 pub end_found : (text bytes rest : List ℕ) (at : ℕ) (found : Option ℕ)
     → bytes ≡ text → rest ≡ drop at bytes → found ≡ eol_len rest → eol_len (drop at text) ≡ found
@@ -86,24 +105,34 @@ not_empty d text none other =
     none_of (has d.options tables) _ _ _ (lt-leb (length d.text) text.at on.0) on.1 other
 
 -- a cell ends after the start of the search for it
-further : (d : Document) (at cell : ℕ) (text stop : Spot) (tokens : List Item) (t : Bool) → (slice_index d.text at == pipe) ≡ t
-    → cell ≡ (if t then at + 1 else at)
-    → cell ≤ text.at → text.at ≤ length d.text → eol_len (drop text.at d.text) ≡ None → IsCell d.names.texts (cell_content d text) tokens stop.at stop.braces
-    → (at < stop.at) × (stop.at ≤ length d.text)
-further d at cell text stop tokens true here begins order within none is =
-    let ends = cell_ends within is in
-    let from : text.at ≤ stop.at = ends.from in
+further : (d : Document) (at : ℕ) (p : CellPlace d at) (braces : MathBraces) (stop : Spot) (tokens : List Item) (t : Bool)
+    → (slice_index d.text at == pipe) ≡ t → eol_len (drop p.text d.text) ≡ None
+    → IsCell d.names.texts (cell_content d (spot p.text braces)) tokens stop.at stop.braces → (at < stop.at) × (stop.at ≤ length d.text)
+further d at p braces stop tokens true here none is =
+    let begins : p.cell ≡ at + 1 = p.cell_is ∙ ap (λ (t : Bool). if t then at + 1 else at) here in
+    let order = p.order in
+    let ends = cell_ends p.within is in
+    let from : p.text ≤ stop.at = ends.from in
     (omega arith, ends.within)
-further d at cell text stop tokens false here begins order within none is =
-    let ends = cell_ends within is in
-    let from : text.at ≤ stop.at = ends.from in
-    elim (cases_lt at text.at) [
+further d at p braces stop tokens false here none is =
+    let begins : p.cell ≡ at = p.cell_is ∙ ap (λ (t : Bool). if t then at + 1 else at) here in
+    let order = p.order in
+    let ends = cell_ends p.within is in
+    let from : p.text ≤ stop.at = ends.from in
+    elim (cases_lt at p.text) [
       | inl following ↦ (omega arith, ends.within)
       | inr same ↦
-          let place : text.at ≡ at = omega arith in
-          let later : text.at < stop.at = ends.later (not_empty d text none (ap (λ (k : ℕ). slice_index d.text k == pipe) place ∙ here)) in
+          let place : p.text ≡ at = omega arith in
+          let text : Spot = spot p.text braces in
+          let later : p.text < stop.at = ends.later (not_empty d text none (ap (λ (k : ℕ). slice_index d.text k == pipe) place ∙ here)) in
           (omega arith, ends.within)
     ]
+
+-- The cells of a row before a place are appended, with names that were extended since then.
+pub record AppendedBefore (d : Document) (start : Spot) (old tree : Forest Item) (at : Spot) (count : ℕ) : Type 0 where
+  pub before : Names
+  pub grown : Extends d.names before
+  pub far : AreAppended (document d.text d.options before) start old tree at count
 
 -- the cells extended by one that is not at the end of the line
 one_more : (d : Document) (before : Names) (start at stop : Spot) (cells : List (List (ℕ × Item))) (tokens : List Item) → Extends d.names before
@@ -119,25 +148,25 @@ one_more d before start at stop cells tokens grown go_on none is later e more to
     (go_on later (extends_both later d.names before e grown) (cell ∷ more) to (on, tokens, stop, still, refl, h))
 
 -- one more cell is appended
-pub cell_read : (d : Document) (before : Names) (start at : Spot) (count cell text : ℕ) (stop : Spot) (old tree new : Forest Item) → Extends d.names before
-    → AreAppended (document d.text d.options before) start old tree at count → cell ≡ cell_start d.text at.at
-    → text ≡ cell_text d.text at.at → cell ≤ text → text ≤ length d.text → eol_len (drop text d.text) ≡ None
-    → AddsCell d cell (spot text at.braces) tree new stop → AreAppended d start old new stop (count + 1) × (at.at < stop.at)
-cell_read d before start at count cell text stop old tree new grown far cell_is text_is order within none adds =
+pub cell_read : (d : Document) (start at : Spot) (count : ℕ) (p : CellPlace d at.at) (stop : Spot) (old tree new : Forest Item)
+    → AppendedBefore d start old tree at count → eol_len (drop p.text d.text) ≡ None → AddsCell d p.cell (spot p.text at.braces) tree new stop
+    → AreAppended d start old new stop (count + 1) × (at.at < stop.at)
+cell_read d start at count p stop old tree new b none adds =
+    let far = b.far in
     let is : IsCell d.names.texts (begun_there d at) adds.tokens stop.at stop.braces =
-    subst (λ (k : ℕ). IsCell d.names.texts (cell_content d (spot k at.braces)) adds.tokens stop.at stop.braces) text_is adds.cell in
-    let here : eol_len (drop (cell_text d.text at.at) d.text) ≡ None = ap (λ (k : ℕ). eol_len (drop k d.text)) (sym text_is) ∙ none in
-    let end = further d at.at cell (spot text at.braces) stop adds.tokens (slice_index d.text at.at == pipe) refl cell_is order within none adds.cell in
+    subst (λ (k : ℕ). IsCell d.names.texts (cell_content d (spot k at.braces)) adds.tokens stop.at stop.braces) p.text_is adds.cell in
+    let here : eol_len (drop (cell_text d.text at.at) d.text) ≡ None = ap (λ (k : ℕ). eol_len (drop k d.text)) (sym p.text_is) ∙ none in
+    let end = further d at.at p at.braces stop adds.tokens (slice_index d.text at.at == pipe) refl none adds.cell in
     let block = cell_block (cell_start d.text at.at) stop.at adds.tokens in
     let cells = far.cells ++ block ∷ [] in
-    let tree_is : new ≡ added tree block = adds.tree_is ∙ ap (λ (k : ℕ). added tree (cell_block k stop.at adds.tokens)) cell_is in
+    let tree_is : new ≡ added tree block = adds.tree_is ∙ ap (λ (k : ℕ). added tree (cell_block k stop.at adds.tokens)) p.cell_is in
     let count_is = far.count_is in
     let later = far.later in
     let further : at.at < stop.at = end.0 in (
       record {
         cells = cells;
         count_is = omega (arith, length-append far.cells (block ∷ []));
-        go_on = one_more d before start at stop far.cells adds.tokens grown far.go_on here is;
+        go_on = one_more d b.before start at stop far.cells adds.tokens b.grown far.go_on here is;
         nodes = more-added old tree new (side_by_side far.cells) block far.nodes far.spine tree_is
             ∙ ap (λ (items : List (ℕ × Item)). old.nodes ++ at_depth (length old.spine + 1) items)
             (ap (λ (items : List (ℕ × Item)). side_by_side far.cells ++ items) (sym (side_one block)) ∙ sym (side_more far.cells (block ∷ [])));
@@ -150,18 +179,20 @@ cell_read d before start at count cell text stop old tree new grown far cell_is 
     )
 
 -- all cells are appended
-pub all_read : (d : Document) (start at : Spot) (count text n : ℕ) (old tree : Forest Item) → AreAppended d start old tree at count
-    → text ≡ cell_text d.text at.at
-    → at.at ≤ text → text + n ≤ length d.text → eol_len (drop text d.text) ≡ Some n → AreAllAppended d start old tree (spot (text + n) at.braces) count
+pub all_read : (d : Document) (start at : Spot) (count : ℕ) (p : CellPlace d at.at) (n : ℕ) (old tree : Forest Item)
+    → AreAppended d start old tree at count → p.text + n ≤ length d.text → eol_len (drop p.text d.text) ≡ Some n
+    → AreAllAppended d start old tree (spot (p.text + n) at.braces) count
 unfolding AreCells
-all_read d start at count text n old tree far text_is order within some =
-    let here : eol_len (drop (cell_text d.text at.at) d.text) ≡ Some n = ap (λ (k : ℕ). eol_len (drop k d.text)) (sym text_is) ∙ some in
+all_read d start at count p n old tree far within some =
+    let here : eol_len (drop (cell_text d.text at.at) d.text) ≡ Some n = ap (λ (k : ℕ). eol_len (drop k d.text)) (sym p.text_is) ∙ some in
     let later = far.later in
+    let from = p.from in
+    let order = p.order in
     record {
       cells = far.cells;
       count_is = far.count_is;
-      are_cells = subst (λ (all : List (List (ℕ × Item))). AreCells d start all (spot (text + n) at.braces)) (append-nil far.cells)
-          (far.go_on d.names (extends_none d.names) [] (spot (text + n) at.braces) (n, here, ap (λ (k : ℕ). spot (k + n) at.braces) text_is));
+      are_cells = subst (λ (all : List (List (ℕ × Item))). AreCells d start all (spot (p.text + n) at.braces)) (append-nil far.cells)
+          (far.go_on d.names (extends_none d.names) [] (spot (p.text + n) at.braces) (n, here, ap (λ (k : ℕ). spot (k + n) at.braces) p.text_is));
       nodes = far.nodes;
       spine = far.spine;
       later = omega arith;

@@ -39,45 +39,54 @@ empty_blocks : (n «end» : ℕ) → leaves (replicate n (empty_cell «end»)) �
 empty_blocks zero stop = refl
 empty_blocks (suc n) stop = ap (λ (items : List (ℕ × Item)). (0, empty_cell stop) ∷ items) (empty_blocks n stop)
 
-module _ (d : Document) (columns : ℕ) (start stop : Spot) (count missing : ℕ) (body : ItemBody) (old opened read full : Forest Item)
-    (opened_is : opened ≡ opened_block old start.at body) (adds : AppendsCells d columns start opened read (stop, count))
-    (missing_is : missing ≡ columns - count) (full_is : full ≡ chained read (replicate missing (empty_cell stop.at))) where
-  spine_is : full.spine ≡ opened.spine
-  spine_is = ap (λ (f : Forest Item). f.spine) full_is ∙ chained-spine read (replicate missing (empty_cell stop.at)) ∙ adds.spine
+-- A row is open, with the cells that are kept.
+pub record OpenRow (d : Document) (columns : ℕ) (start : Spot) (body : ItemBody) (old : Forest Item) : Type 0 where
+  pub opened : Forest Item
+  pub read : Forest Item
+  pub stop : Spot
+  pub count : ℕ
+  pub opened_is : opened ≡ opened_block old start.at body
+  pub adds : AppendsCells d columns start opened read (stop, count)
+
+module _ {d : Document} {columns : ℕ} {start : Spot} {body : ItemBody} {old : Forest Item} (o : OpenRow d columns start body old) (missing : ℕ)
+    (full : Forest Item) (missing_is : missing ≡ columns - o.count) (full_is : full ≡ chained o.read (replicate missing (empty_cell o.stop.at))) where
+  spine_is : full.spine ≡ o.opened.spine
+  spine_is = ap (λ (f : Forest Item). f.spine) full_is ∙ chained-spine o.read (replicate missing (empty_cell o.stop.at)) ∙ o.adds.spine
 
   pub spine_of_row : full.spine ≡ row_place old ∷ old.spine
-  spine_of_row = spine_is ∙ ap (λ (f : Forest Item). f.spine) opened_is
+  spine_of_row = spine_is ∙ ap (λ (f : Forest Item). f.spine) o.opened_is
 
   pub row_is_open : IsSome (slice_get full.spine 0)
   row_is_open = subst (λ (s : List TreeIndex). IsSome (slice_get s 0)) (sym spine_of_row) refl
 
-  pub missing_are : missing ≡ filled columns adds.cells
-  missing_are = missing_is ∙ ap (λ (n : ℕ). columns - n) adds.count
+  pub missing_are : missing ≡ filled columns o.adds.cells
+  missing_are = missing_is ∙ ap (λ (n : ℕ). columns - n) o.adds.count
 
-  nodes_are : full.nodes ≡ opened.nodes ++ at_depth (length opened.spine + 1) (row_cells columns adds.cells stop.at)
+  nodes_are : full.nodes ≡ o.opened.nodes ++ at_depth (length o.opened.spine + 1) (row_cells columns o.adds.cells o.stop.at)
   nodes_are =
-      let depth = length opened.spine + 1 in
-      let first = side_by_side (take columns adds.cells) in
-      let empty = replicate missing (empty_cell stop.at) in
-      ap (λ (f : Forest Item). f.nodes) full_is ∙ chained-nodes read empty
-      ∙ ap (λ (s : List TreeIndex). read.nodes ++ at_depth (length s + 1) (leaves empty)) adds.spine
-      ∙ ap (λ (ns : List (ℕ × Item)). ns ++ at_depth depth (leaves empty)) adds.nodes
-      ∙ append_assoc opened.nodes (at_depth depth first) (at_depth depth (leaves empty))
-      ∙ ap (λ (ns : List (ℕ × Item)). opened.nodes ++ ns) (sym (at_depth-append depth first (leaves empty)))
-      ∙ ap (λ (items : List (ℕ × Item)). opened.nodes ++ at_depth depth (first ++ items)) (empty_blocks missing stop.at)
-      ∙ ap (λ (items : List (ℕ × Item)). opened.nodes ++ at_depth depth items)
-      (sym (side_more (take columns adds.cells) (replicate missing (cell_block stop.at stop.at []))))
-      ∙ ap (λ (n : ℕ). opened.nodes ++ at_depth depth (side_by_side (take columns adds.cells ++ replicate n (cell_block stop.at stop.at [])))) missing_are
+      let depth = length o.opened.spine + 1 in
+      let first = side_by_side (take columns o.adds.cells) in
+      let empty = replicate missing (empty_cell o.stop.at) in
+      ap (λ (f : Forest Item). f.nodes) full_is ∙ chained-nodes o.read empty
+      ∙ ap (λ (s : List TreeIndex). o.read.nodes ++ at_depth (length s + 1) (leaves empty)) o.adds.spine
+      ∙ ap (λ (ns : List (ℕ × Item)). ns ++ at_depth depth (leaves empty)) o.adds.nodes
+      ∙ append_assoc o.opened.nodes (at_depth depth first) (at_depth depth (leaves empty))
+      ∙ ap (λ (ns : List (ℕ × Item)). o.opened.nodes ++ ns) (sym (at_depth-append depth first (leaves empty)))
+      ∙ ap (λ (items : List (ℕ × Item)). o.opened.nodes ++ at_depth depth (first ++ items)) (empty_blocks missing o.stop.at)
+      ∙ ap (λ (items : List (ℕ × Item)). o.opened.nodes ++ at_depth depth items)
+      (sym (side_more (take columns o.adds.cells) (replicate missing (cell_block o.stop.at o.stop.at []))))
+      ∙ ap (λ (n : ℕ). o.opened.nodes
+      ++ at_depth depth (side_by_side (take columns o.adds.cells ++ replicate n (cell_block o.stop.at o.stop.at [])))) missing_are
 
   -- the row is closed at its end
-  pub row_closed : (new : Forest Item) → new ≡ closed_by full stop.at full.spine → new ≡ added old (row_block body columns start.at adds.cells stop.at)
+  pub row_closed : (new : Forest Item) → new ≡ closed_by full o.stop.at full.spine → new ≡ added old (row_block body columns start.at o.adds.cells o.stop.at)
   row_closed new new_is =
       let x = begun_item start.at body in
       let place = row_place old in
-      new_is ∙ ap (closed_by full stop.at) spine_of_row
-      ∙ block-built old (appended old x) opened full (popped full place old.spine) x (λ (y : Item). record y { «end» = stop.at })
-      (row_cells columns adds.cells stop.at) place
-      refl opened_is nodes_are spine_is spine_of_row refl refl
+      new_is ∙ ap (closed_by full o.stop.at) spine_of_row
+      ∙ block-built old (appended old x) o.opened full (popped full place old.spine) x (λ (y : Item). record y { «end» = o.stop.at })
+      (row_cells columns o.adds.cells o.stop.at) place
+      refl o.opened_is nodes_are spine_is spine_of_row refl refl
 
 -- the numbers of a row's cells and of the missing ones decide whether it is kept
 pub same_test : (following : Bool) (columns most count missing : ℕ) (cells : List (List (ℕ × Item))) → count ≡ length cells → missing ≡ filled columns cells
@@ -93,37 +102,36 @@ no_spine : (s v : List TreeIndex) (i : TreeIndex) → s ≡ i ∷ v → s ≡ []
 no_spine s v i a b = cc
 
 -- the row is closed, and about to be dropped
-pub row_after : (d : Document) (columns : ℕ) (start : Spot) (body : ItemBody) (old opened read back : Forest Item) (answer : Spot × ℕ) (r : Option TreeIndex)
-    → opened ≡ opened_block old start.at body → AppendsCells d columns start opened read answer
-    → MatchOption r ((read.spine ≡ []) × (back ≡ read)) (λ ix. (read.spine ≡ ix ∷ back.spine) × (back ≡ popped read ix back.spine)) → HasMore old back
-row_after d columns start body old opened read back answer None opened_is adds h =
-    absurd (no_spine read.spine old.spine (row_place old) (adds.spine ∙ ap (λ (f : Forest Item). f.spine) opened_is) h.0)
-row_after d columns start body old opened read back answer (Some ix) opened_is adds h =
+pub row_after : {d : Document} {columns : ℕ} {start : Spot} {body : ItemBody} {old : Forest Item} (o : OpenRow d columns start body old) (back : Forest Item)
+    (r : Option TreeIndex)
+    → MatchOption r ((o.read.spine ≡ []) × (back ≡ o.read)) (λ ix. (o.read.spine ≡ ix ∷ back.spine) × (back ≡ popped o.read ix back.spine)) → HasMore old back
+row_after {d} {columns} {start} {body} {old} o back None h =
+    absurd (no_spine o.read.spine old.spine (row_place old) (o.adds.spine ∙ ap (λ (f : Forest Item). f.spine) o.opened_is) h.0)
+row_after {d} {columns} {start} {body} {old} o back (Some ix) h =
     let x = begun_item start.at body in
-    let rest = at_depth (length opened.spine + 1) (side_by_side (take columns adds.cells)) in
+    let rest = at_depth (length o.opened.spine + 1) (side_by_side (take columns o.adds.cells)) in
     record {
       x = x;
       rest = rest;
-      nodes = ap (λ (f : Forest Item). f.nodes) h.1 ∙ adds.nodes ∙ ap (λ (f : Forest Item). f.nodes ++ rest) opened_is
+      nodes = ap (λ (f : Forest Item). f.nodes) h.1 ∙ o.adds.nodes ∙ ap (λ (f : Forest Item). f.nodes ++ rest) o.opened_is
           ∙ append_assoc old.nodes ((length old.spine + 1, x) ∷ []) rest;
-      spine = same_spine read.spine old.spine back.spine (row_place old) ix (adds.spine ∙ ap (λ (f : Forest Item). f.spine) opened_is) h.0;
+      spine = same_spine o.read.spine old.spine back.spine (row_place old) ix (o.adds.spine ∙ ap (λ (f : Forest Item). f.spine) o.opened_is) h.0;
     }
 
 -- the row is read
-pub row_read : (d : Document) (columns start stop : ℕ) (old new : OpenTable) (cells : List (List (ℕ × Item)))
-    (current : Option TreeIndex) (answer : Option (ℕ × TreeIndex)) → AreCells d (spot start old.braces) cells (spot stop new.braces)
-    → keeps_row (is_some old.tree.current) columns (most_filled - old.filled_in) cells ≡ true
-    → new.tree ≡ added old.tree (row_block TableRow columns start cells stop)
-    → new.filled_in ≡ old.filled_in + filled columns cells → current ≡ new.tree.current → answer ≡ option_map (λ (row : TreeIndex). (stop, row)) current
-    → ReadsRow d columns start old new answer
-row_read d columns start stop old new cells current answer are kept new_is after_is current_is answer_is =
-    let row : FoundRow = record { start = start; cells = cells; row_end = stop; after = new.braces } in
-    let here : current ≡ Some (row_place old.tree) = current_is ∙ ap (λ (f : Forest Item). f.current) new_is in
-    let is : answer ≡ Some (stop, row_place old.tree) = answer_is ∙ ap (option_map (λ (row : TreeIndex). (stop, row))) here in
+pub row_read : (d : Document) (columns : ℕ) (row : FoundRow) (old new : OpenTable) (answer : Option (ℕ × TreeIndex))
+    → AreCells d (spot row.start old.braces) row.cells (spot row.row_end row.after) → new.braces ≡ row.after
+    → keeps_row (is_some old.tree.current) columns (most_filled - old.filled_in) row.cells ≡ true
+    → new.tree ≡ added old.tree (row_block TableRow columns row.start row.cells row.row_end)
+    → new.filled_in ≡ old.filled_in + filled columns row.cells → answer ≡ option_map (λ (ix : TreeIndex). (row.row_end, ix)) new.tree.current
+    → ReadsRow d columns row.start old new answer
+row_read d columns row old new answer are braces_is kept new_is after_is answer_is =
+    let here : new.tree.current ≡ Some (row_place old.tree) = ap (λ (f : Forest Item). f.current) new_is in
+    let is : answer ≡ Some (row.row_end, row_place old.tree) = answer_is ∙ ap (option_map (λ (ix : TreeIndex). (row.row_end, ix))) here in
     record {
-      cells = cells;
-      row_end = stop;
-      after = new.braces;
+      cells = row.cells;
+      row_end = row.row_end;
+      after = row.after;
       are_cells = are;
-      adds = subst (AddsRow columns row old new) (sym is) (kept, new_is, after_is, refl, refl, refl);
+      adds = subst (AddsRow columns row old new) (sym is) (kept, new_is, after_is, refl, refl, braces_is);
     }

@@ -12,14 +12,14 @@ use Rattle.first_pass_tree.proofs.Callers.{child-kept}
 use Rattle.first_pass_tokens.specs.TreeTokens.{leaves}
 use Rattle.first_pass_tokens.specs.Braces.{MathBraces}
 use Rattle.first_pass_tokens.specs.LineTokens.{Spot, spot}
-use Rattle.first_pass_grammar.specs.Names.{Names, Extends}
-use Rattle.first_pass_grammar.specs.Leaves.{Document, document}
+use Rattle.first_pass_grammar.specs.Leaves.{Document}
 use Rattle.first_pass_grammar.specs.Tables.{cell_start, AreCells, side_by_side}
 use Rattle.first_pass_open.specs.OpenBlock.{IsJustPushed}
 use Rattle.first_pass_tables.specs.declared.row.CellsRead.{CellsRead}
 use Rattle.first_pass_tables.specs.Appends.{IsOpenNode, without_after, without_children, AppendsCells}
 use Rattle.first_pass_tables.specs.Reading.{AreAppended, AreAllAppended, AppendsSome}
 use Rattle.first_pass_tables.proofs.DropLemmas.{kept_back, childless_back}
+use Rattle.first_pass_tables.proofs.RowCells.{AppendedBefore}
 
 -- the current node is a child of the innermost open one
 current_child : {T : Type 0} (f : Forest T) (c : TreeIndex) → IsForest f → f.current ≡ Some c → IsChild f c
@@ -98,19 +98,26 @@ still_open_node d start at count old tree ix pushed far =
 abbrev pub HaveSame : Forest Item → Forest Item → Type 0
 HaveSame f g = (f.nodes ≡ g.nodes) × (f.spine ≡ g.spine)
 
+-- The cells of a row after a place are appended, up to its end.
+pub record Excess (d : Document) (at : Spot) (tree : Forest Item) : Type 0 where
+  pub stop : Spot
+  pub count : ℕ
+  pub over : Forest Item
+  pub all : AreAllAppended d at tree over stop count
+
 -- the first cells of the row are kept, as many as there are columns
-pub first_kept : (d : Document) (before : Names) (columns : ℕ) (start at : Spot) (count : ℕ) (stop : Spot) (excess : ℕ) (old tree over new : Forest Item)
-    → Extends d.names before
-    → AreAppended (document d.text d.options before) start old tree at count → count ≡ columns
-    → AreAllAppended d at tree over stop excess → HaveSame new tree → AppendsCells d columns start old new (stop, count + excess)
-first_kept d before columns start at count stop excess old tree over new grown far full all same =
+pub first_kept : (d : Document) (columns : ℕ) (start at : Spot) (count : ℕ) (old tree new : Forest Item) → AppendedBefore d start old tree at count
+    → count ≡ columns → (e : Excess d at tree) → HaveSame new tree → AppendsCells d columns start old new (e.stop, count + e.count)
+first_kept d columns start at count old tree new b full e same =
+    let far = b.far in
+    let all = e.all in
     let count_is = far.count_is in
     let more_is = all.count_is in
     let first : take columns (far.cells ++ all.cells) ≡ far.cells =
     ap (λ (n : ℕ). take n (far.cells ++ all.cells)) (sym full ∙ count_is) ∙ take-append_seam far.cells all.cells in
     record {
       cells = far.cells ++ all.cells;
-      are_cells = far.go_on d.names grown all.cells stop all.are_cells;
+      are_cells = far.go_on d.names b.grown all.cells e.stop all.are_cells;
       count = omega (arith, length-append far.cells all.cells);
       nodes = same.0 ∙ far.nodes ∙ ap (λ (cells : List (List (ℕ × Item))). old.nodes ++ at_depth (length old.spine + 1) (side_by_side cells)) (sym first);
       spine = same.1 ∙ far.spine;

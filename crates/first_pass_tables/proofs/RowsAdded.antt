@@ -26,8 +26,8 @@ use Rattle.first_pass_open.specs.Path.{path_of}
 use Rattle.first_pass_open.specs.Between.{line_end_at}
 use Rattle.first_pass_open.specs.Between.{AddsBetween}
 use Rattle.first_pass_tables.specs.Appends.{OpenTable, ReadsRow, ReadsRowLine, AppendsRows, ClosesBetween}
-use Rattle.first_pass_tables.proofs.CellsFit.{OneRow, between-order, between-join, between-wider, row_fits}
-use Rattle.first_pass_tables.proofs.RowsFit.{row_place, RowsBetween, rows_fit}
+use Rattle.first_pass_tables.proofs.CellsFit.{between-order, between-join, between-wider, row_fits}
+use Rattle.first_pass_tables.proofs.RowsFit.{row_place, HeadAndBody, RowsBetween, rows_fit}
 
 -- a row fits at any place after an offset before it
 row_fits_after : (d : Document) (body : ItemBody) (columns : ℕ) (p : Spot) (cells : List (List (ℕ × Item))) (to : Spot) (w : Within) (from : ℕ)
@@ -89,36 +89,44 @@ line_row_none d columns n old new answer (inl (none, nothing, same)) is = ap (λ
 line_row_none d columns n old new answer (inr (start, begins, r)) is = row_none d columns start old new answer r is
 
 -- a header row and the rows after it, if the header row has a byte or there are none after it
-both_between : (text : List ℕ) (from start mid following next : ℕ) (head body : List (ℕ × Item))
-    → from ≤ start → mid ≤ following → (start < mid) ⊎ (next ≤ start)
-    → OneRow text start mid head → RowsBetween text following next body → FitsBetween text Elsewhere from next (head ++ body)
-both_between text from start mid following next head body low apart some row rows =
-    let header = between-order text start mid head row.between in
-    let others = between-order text following next body rows.between in
+both_between : (text : List ℕ) (from start next : ℕ) (head body : List (ℕ × Item)) (r : HeadAndBody text start next head body)
+    → from ≤ start → (start < r.mid) ⊎ (next ≤ start) → FitsBetween text Elsewhere from next (head ++ body)
+both_between text from start next head body r low some =
+    let mid : ℕ = r.mid in
+    let following : ℕ = r.following in
+    let apart = r.apart in
+    let header = between-order text start mid head r.row.between in
+    let others = between-order text following next body r.rows.between in
     let join = own_join None head body in
-    let few_row = row.node_bound in
-    let few_rows = rows.node_bound in
-    let kids = between-join text from mid next head body (between-wider text from start mid mid head low (omega arith) row.between)
-    (between-wider text mid following next next body apart (omega arith) rows.between) in
+    let few_row = r.row.node_bound in
+    let few_rows = r.rows.node_bound in
+    let kids = between-join text from mid next head body (between-wider text from start mid mid head low (omega arith) r.row.between)
+    (between-wider text mid following next next body apart (omega arith) r.rows.between) in
     (kids.0, kids.1, kids.2, λ room. elim some [ inl more ↦ omega arith | inr none ↦ omega arith ])
 
--- The rows of a table are between an offset before its header row and the first line that is no row, if those of its
--- body are after the header row's line.
-pub rows_between : (d : Document) (columns head_start body_start next from : ℕ) (old new : Forest Item) → IsUtf8 d.text → IsCharBoundary d.text head_start
-    → IsCharBoundary d.text body_start → AppendsRows d columns head_start body_start old new next → from ≤ head_start
-    → line_end_at d.text head_start ≤ body_start → ClosesBetween d.text from next old new
-rows_between d columns head_start body_start next from old new utf8 head_begins body_begins r low following =
+-- The header row of a table and the lines of its body begin at character boundaries, the body after the line of the
+-- header row.
+pub record RowStarts (text : List ℕ) (head_start body_start : ℕ) : Type 0 where
+  pub head : IsCharBoundary text head_start
+  pub body : IsCharBoundary text body_start
+  pub apart : line_end_at text head_start ≤ body_start
+
+-- The rows of a table are between an offset before its header row and the first line that is no row.
+pub rows_between : (d : Document) (columns head_start body_start next from : ℕ) (old new : Forest Item) → IsUtf8 d.text
+    → RowStarts d.text head_start body_start → AppendsRows d columns head_start body_start old new next → from ≤ head_start
+    → ClosesBetween d.text from next old new
+rows_between d columns head_start body_start next from old new utf8 starts r low =
     let text = d.text in
     let head : List (ℕ × Item) = row_block TableHead columns head_start r.cells r.head_end in
     let ends : r.head_end ≡ line_end_at text head_start =
-    row_ends_its_line d (spot head_start no_braces) r.cells (spot r.head_end r.after) head_begins.0 r.are_cells in
-    let row = row_fits d TableHead columns (spot head_start no_braces) r.cells (spot r.head_end r.after) utf8 head_begins r.are_cells in
+    row_ends_its_line d (spot head_start no_braces) r.cells (spot r.head_end r.after) starts.head.0 r.are_cells in
+    let row = row_fits d TableHead columns (spot head_start no_braces) r.cells (spot r.head_end r.after) utf8 starts.head r.are_cells in
     let stop : start_of (length text) (lines_from text next) ≡ next = start_of-lines text next r.boundary.0 in
     let rows = subst (λ (k : ℕ). RowsBetween text body_start k r.body) stop
     (rows_fit d (path_of d.options old) (table_so_far columns (most_filled - filled columns r.cells) r.after) (lines_from text body_start) body_start
-    (taking r.body (lines_from text next)) utf8 body_begins
-    refl r.are_rows) in
+    (taking r.body (lines_from text next)) utf8 starts.body refl r.are_rows) in
     let within = r.boundary.0 in
+    let apart = starts.apart in
     let some : (head_start < r.head_end) ⊎ (next ≤ head_start) = elim (cases_lt head_start (length text)) [
       | inl inside ↦ let size = line_len-within text head_start inside in let byte = size.0 in inl (omega arith)
       | inr past ↦ inr (omega arith)
@@ -127,5 +135,6 @@ rows_between d columns head_start body_start next from old new utf8 head_begins 
       items = head ++ r.body;
       tree_is = r.tree_is;
       fits = between-any text (within_top old) from next (head ++ r.body)
-          (both_between text from head_start r.head_end body_start next head r.body low (omega arith) some row rows);
+          (both_between text from head_start next head r.body
+          (record { mid = r.head_end; following = body_start; apart = omega arith; row = row; rows = rows }) low some);
     }

@@ -23,7 +23,7 @@ use Rattle.first_pass_grammar.proofs.Count.RowsWithRoom.{with_row, RowsWithRoom,
 use Rattle.first_pass_grammar.proofs.Count.CountedNodes.{own_at_most, own_join}
 use Rattle.first_pass_grammar.proofs.Order.RowEnds.{row_ends_at_place}
 use Rattle.first_pass_open.proofs.PlaceLemmas.{all_keep, after_keeps, line_start_end}
-use Rattle.first_pass_tables.proofs.CellsFit.{AreBetween, between-none, between-order, between-join, between-wider, some_cells, row_boundary, row_fits}
+use Rattle.first_pass_tables.proofs.CellsFit.{AreBetween, OneRow, between-none, between-order, between-join, between-wider, some_cells, row_boundary, row_fits}
 
 -- the start of a row's text in its line
 pub record RowPlace (text : List ℕ) (n start : ℕ) : Type 0 where
@@ -74,6 +74,14 @@ pub record RowsBetween (text : List ℕ) (from to : ℕ) (items : List (ℕ × I
   pub between : AreBetween text from to items
   pub node_bound : counted_nodes items ≤ 4 * (to - from)
 
+-- The header row of a table that begins at an offset is in order, and so are the rows after its line up to another.
+pub record HeadAndBody (text : List ℕ) (start next : ℕ) (head body : List (ℕ × Item)) : Type 0 where
+  pub mid : ℕ
+  pub following : ℕ
+  pub apart : mid ≤ following
+  pub row : OneRow text start mid head
+  pub rows : RowsBetween text following next body
+
 no_rows : (text : List ℕ) (n : ℕ) (lines : List Place) (t : Taken) → n ≤ length text → lines ≡ lines_from text n → t ≡ taking [] lines
     → RowsBetween text n (start_of (length text) t.left) t.items
 no_rows text n lines t within is e =
@@ -82,15 +90,25 @@ no_rows text n lines t within is e =
     subst (λ (z : Taken). RowsBetween text n (start_of (length text) z.left) z.items) (sym e)
     (record { between = between-none text n (start_of (length text) lines) (omega arith); node_bound = omega arith })
 
-one_more_row : (d : Document) (columns n : ℕ) (begin : Spot) (cells : List (List (ℕ × Item))) («end» : Spot) (to : ℕ) (more : List (ℕ × Item)) → IsUtf8 d.text
-    → IsCharBoundary d.text begin.at → AreCells d begin cells «end» → n ≤ begin.at → 0 < length cells → RowsBetween d.text «end».at to more
-    → RowsBetween d.text n to (row_block TableRow columns begin.at cells «end».at ++ more)
-one_more_row d columns n begin cells ended to more utf8 boundary are following some rest =
-    let start : ℕ = begin.at in
-    let stop : ℕ = ended.at in
-    let row = row_fits d TableRow columns begin cells ended utf8 boundary are in
-    let byte = some_cells d begin cells ended utf8 boundary are some in
-    let block : List (ℕ × Item) = row_block TableRow columns start cells stop in
+-- A row with a cell. Its text begins after an offset, between characters.
+record SomeRow (d : Document) (n : ℕ) : Type 0 where
+  begin : Spot
+  cells : List (List (ℕ × Item))
+  ended : Spot
+  boundary : IsCharBoundary d.text begin.at
+  are : AreCells d begin cells ended
+  following : n ≤ begin.at
+  some : 0 < length cells
+
+one_more_row : (d : Document) (columns n : ℕ) (r : SomeRow d n) (to : ℕ) (more : List (ℕ × Item)) → IsUtf8 d.text → RowsBetween d.text r.ended.at to more
+    → RowsBetween d.text n to (row_block TableRow columns r.begin.at r.cells r.ended.at ++ more)
+one_more_row d columns n r to more utf8 rest =
+    let start : ℕ = r.begin.at in
+    let stop : ℕ = r.ended.at in
+    let following = r.following in
+    let row = row_fits d TableRow columns r.begin r.cells r.ended utf8 r.boundary r.are in
+    let byte = some_cells d r.begin r.cells r.ended utf8 r.boundary r.are r.some in
+    let block : List (ℕ × Item) = row_block TableRow columns start r.cells stop in
     let later = between-order d.text stop to more rest.between in
     let own = own_join None block more in
     let own_row = row.node_bound in
@@ -123,7 +141,9 @@ counted_fit d path table (line ∷ lines) n t utf8 boundary is (inr (row, has, i
     (first.1 ∙ ap (lines_from d.text) (sym ends)) rest in
     let some = ltb-true 0 (length cells) (and_parts (nat_lt 0 (length cells)) (nat_le (filled table.columns cells) table.room) kept).0 in
     subst (λ (z : Taken). RowsBetween d.text n (start_of (length d.text) z.left) z.items) (sym e)
-    (one_more_row d table.columns n begin cells ended (start_of (length d.text) more.left) more.items utf8 starts are p.following some further)
+    (one_more_row d table.columns n
+    (record { begin = begin; cells = cells; ended = ended; boundary = starts; are = are; following = p.following; some = some })
+    (start_of (length d.text) more.left) more.items utf8 further)
 
 pub rows_fit : (d : Document) (path : List Container) (table : TableSoFar) (lines : List Place) (n : ℕ) (t : Taken) → IsUtf8 d.text
     → IsCharBoundary d.text n → lines ≡ lines_from d.text n → AreRows d path table lines t

@@ -124,17 +124,18 @@ is_given : (o : Option HeadingAttributes) (given : Attributes)
 is_given None given h = absurd h
 is_given (Some a) given h = ap Some h
 
-pub given_some : (options : Options) (text : List ℕ) (start to : ℕ) (bs block : List ℕ) (r : ℕ × ℕ) (found : Option HeadingAttributes)
-    → has options heading_attributes ≡ true
-    → bs ≡ slice_range text start to → to ≤ length text → Some r ≡ inside_block bs → block ≡ slice_range text (start + r.0) (start + r.1)
-    → IsSomeAnd found (λ (h : HeadingAttributes). attributes_in h ≡ attributes_of block)
-    → option_map attributes_in found ≡ heading_attributes_of options bs
-given_some options text start to bs block r found h bs_is within e block_is is =
+-- The attributes that were found between the braces are those of the text.
+pub given_some : (options : Options) (text : List ℕ) (start to : ℕ) (block : List ℕ) (r : ℕ × ℕ) (found : Option HeadingAttributes)
+    → has options heading_attributes ≡ true → to ≤ length text → Some r ≡ inside_block (slice_range text start to)
+    → block ≡ slice_range text (start + r.0) (start + r.1) → IsSomeAnd found (λ (h : HeadingAttributes). attributes_in h ≡ attributes_of block)
+    → option_map attributes_in found ≡ heading_attributes_of options (slice_range text start to)
+given_some options text start to block r found h within e block_is is =
+    let bs : List ℕ = slice_range text start to in
     let (braces, found_is, opens, closes) = some_inside r (attribute_block bs) e in
     let inside = block_within bs braces found_is in
-    let long : length bs ≡ to - start = ap length bs_is ∙ length_between text start to within in
+    let long : length bs ≡ to - start = length_between text start to within in
     let same : slice_range bs (braces.opening + 1) braces.closing ≡ block =
-    ap (λ n. slice_range bs n braces.closing) opens ∙ ap (slice_range bs r.0) closes ∙ ap (λ xs. slice_range xs r.0 r.1) bs_is
+    ap (λ n. slice_range bs n braces.closing) opens ∙ ap (slice_range bs r.0) closes
     ∙ between_both text start to r.0 r.1 (omega (arith, inside.0, inside.1)) ∙ sym block_is in
     is_given found (attributes_of block) is
     ∙ sym (ap (option_map (λ (b : Braces). attributes_of (slice_range bs (b.opening + 1) b.closing))) (these_braces options bs h ∙ found_is)
@@ -203,22 +204,23 @@ cut_place false start opening content_end white bs content e f g =
     let short = length-take opening bs in
     omega arith
 
-pub cut_by : (text : List ℕ) (options : Options) (start : ℕ) (broken : Bool) (chain : List Item) (block : Braces) (content_end white : ℕ) (content : List ℕ)
+-- A chain is cut off before the white space that its content ends with.
+pub cut_by : (text : List ℕ) (options : Options) (start : ℕ) (broken : Bool) (chain : List Item) (block : Braces) (content_end white : ℕ)
     → heading_attribute_block options (chain_bytes text start chain) ≡ Some block
     → content_end ≡ start + length (before_attributes options (chain_bytes text start chain))
-    → content ≡ slice_range text start content_end → white ≡ (if broken then 0 else suffix_len is_white content)
+    → white ≡ (if broken then 0 else suffix_len is_white (slice_range text start content_end))
     → cut_chain text options start broken chain ≡ cut (content_end - white) chain
-cut_by text options start broken chain block content_end white content h e f g =
+cut_by text options start broken chain block content_end white h e g =
     let bs : List ℕ = chain_bytes text start chain in
     let ends : content_end ≡ start + block.opening = e ∙ ap (λ n. start + n) (length_some options bs block h) in
     let inside = braces_within options bs block h in
     let most = length-take (chain_end start chain - start) (drop start text) in
     let size : content_end - start ≡ block.opening = omega arith in
-    let content_is : content ≡ take block.opening bs =
-    f ∙ ap (λ n. take n (drop start text)) size
+    let content_is : slice_range text start content_end ≡ take block.opening bs =
+    ap (λ n. take n (drop start text)) size
     ∙ sym (take-take block.opening (chain_end start chain - start) (drop start text) (omega (arith, inside.0, inside.1))) in
     ap (λ (o : Option Braces). option_map_or (λ (b : Braces). cut (start + kept_before broken b.opening bs) chain) o chain) h
-    ∙ ap (λ n. cut n chain) (cut_place broken start block.opening content_end white bs content ends content_is g)
+    ∙ ap (λ n. cut n chain) (cut_place broken start block.opening content_end white bs (slice_range text start content_end) ends content_is g)
 
 pub cut_none : (text : List ℕ) (options : Options) (start : ℕ) (broken : Bool) (chain : List Item)
     → heading_attribute_block options (chain_bytes text start chain) ≡ None

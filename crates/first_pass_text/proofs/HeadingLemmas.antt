@@ -19,10 +19,9 @@ use Rattle.first_pass_tokens.proofs.ChainLemmas.{with_tokens-chained, joins_none
 use Rattle.first_pass_grammar.specs.Headings.{heading_attribute_block, before_attributes, heading_attributes_of, text_before_attributes}
 use Rattle.first_pass_items.specs.declared.cow_str.CowStr.{CowStr}
 use Rattle.first_pass_grammar.specs.Names.{Names, NamesAttributes, Extends}
-use Rattle.first_pass_grammar.proofs.Names.MoreNames.{extends_both}
 use Rattle.first_pass_tokens.proofs.NamedTexts.{line_more}
 use Rattle.first_pass_tokens.specs.Braces.{MathBraces, no_braces}
-use Rattle.first_pass_grammar.specs.Leaves.{document, kept_len, heading_chain, heading_text_at, IsHeading}
+use Rattle.first_pass_grammar.specs.Leaves.{Document, document, kept_len, heading_chain, heading_text_at, IsHeading}
 use Rattle.first_pass_items.specs.declared.item.HeadingIndex.{HeadingIndex}
 use Rattle.first_pass_items.specs.declared.option_set.Options.{Options}
 use Rattle.first_pass_lines.proofs.LineFacts.{line_len-fits}
@@ -117,37 +116,38 @@ cut_content options text start next (Some block) h e =
     content_read options text start (line_len (drop start text)) (start + block.opening) (line_len-fits (drop start text))
     (ap (λ n. start + n) (sym (length_some options (heading_line text start) block h)))
 
--- The chain of an ATX heading's line that was read, and the attributes that were found.
-pub heading_read : (text : List ℕ) (options : Options) (before names : Names) (start next : ℕ) (cut : Option ℕ)
-    (index : Option HeadingIndex) (front content : List ℕ) (old new : Forest Item)
-    → cut ≡ cut_by start (heading_attribute_block options (heading_line text start))
-    → front ≡ text_upto text cut → next ≡ line_end_at front start → content ≡ slice_range text start (unwrap_or cut next)
-    → AppendsHeading names.texts (record { options = options; whole = text; text = front; start = start; row = false; braces = no_braces }) content old new
-    → Extends names before → ((more : Names) → Extends more before → NamesAttributes more index (heading_attributes_of options (heading_line text start)))
+-- The chain of an ATX heading's line that was read, up to the attribute block, and the attributes that were found.
+pub heading_read : (d : Document) (start next : ℕ) (cut : Option ℕ) (index : Option HeadingIndex) (old new : Forest Item)
+    → cut ≡ cut_by start (heading_attribute_block d.options (heading_line d.text start)) → next ≡ line_end_at (text_upto d.text cut) start
+    → AppendsHeading d.names.texts
+    (record { options = d.options; whole = d.text; text = text_upto d.text cut; start = start; row = false; braces = no_braces })
+    (slice_range d.text start (unwrap_or cut next)) old new
+    → ((more : Names) → Extends more d.names → NamesAttributes more index (heading_attributes_of d.options (heading_line d.text start)))
     → (chain : List Item) × (new ≡ chained old chain)
-    × ((more : Names) → Extends more names → (next : ℕ) → next ≡ start + line_len (drop start text)
-    → IsHeading (document text options more) start index chain next)
-heading_read text options before names start next cut index front content old new cut_is front_is next_is content_is a grown named =
+    × ((more : Names) → Extends more d.names → (next : ℕ) → next ≡ start + line_len (drop start d.text)
+    → IsHeading (document d.text d.options more) start index chain next)
+heading_read d start next cut index old new cut_is next_is a named =
+    let text : List ℕ = d.text in
     let line : List ℕ = heading_line text start in
-    let o : Option Braces = heading_attribute_block options line in
-    let upto : front ≡ text_upto text (cut_by start o) = front_is ∙ ap (text_upto text) cut_is in
-    let text_is : front ≡ text_before_attributes options text start line = upto ∙ cut_text text start o in
-    let whole : content ≡ before_attributes options line =
-    content_is ∙ ap (λ c. slice_range text start (unwrap_or c next)) cut_is
-    ∙ cut_content options text start next o refl (next_is ∙ ap (λ xs. line_end_at xs start) upto) in (
-      heading_chain (kept_len (before_attributes options line)) start (close_break a.answer.1 (add_tokens [] a.tokens)),
+    let o : Option Braces = heading_attribute_block d.options line in
+    let upto : text_upto text cut ≡ text_upto text (cut_by start o) = ap (text_upto text) cut_is in
+    let text_is : text_upto text cut ≡ text_before_attributes d.options text start line = upto ∙ cut_text text start o in
+    let whole : slice_range text start (unwrap_or cut next) ≡ before_attributes d.options line =
+    ap (λ c. slice_range text start (unwrap_or c next)) cut_is
+    ∙ cut_content d.options text start next o refl (next_is ∙ ap (λ xs. line_end_at xs start) upto) in (
+      heading_chain (kept_len (before_attributes d.options line)) start (close_break a.answer.1 (add_tokens [] a.tokens)),
       a.tree_is ∙ ap (λ xs. chained old (heading_chain (kept_len xs) start (close_break a.answer.1 (add_tokens [] a.tokens)))) whole,
       λ more e next next_is. record {
         tokens = a.tokens;
         answer = a.answer;
         after = a.after;
         line = subst (λ t.
-            AreLineTokens more.texts (record { options = options; whole = text; text = t; start = start; row = false; braces = no_braces }) a.tokens a.answer
+            AreLineTokens more.texts (record { options = d.options; whole = text; text = t; start = start; row = false; braces = no_braces }) a.tokens a.answer
             a.after)
             text_is
             (line_more (e.more_texts, e.texts) a.line);
         chain_is = refl;
-        named = named more (extends_both more names before e grown);
+        named = named more e;
         end_is = next_is;
       },
     )

@@ -26,14 +26,12 @@ use Rattle.first_pass_tokens.proofs.LineLemmas.{ends_line as line_ends}
 use Rattle.first_pass_tokens.proofs.OrderLemmas.{order_bound, order_from, order_to, order_adds, line_in_order, closed_line_in_order, suffix_first}
 use Rattle.first_pass_tokens.proofs.Escapes.{EscapesStand, cut_escaped, escapes_adds, escapes_closed, line_escapes}
 use Rattle.first_pass_grammar.specs.Headings.{heading_attribute_block, before_attributes, text_before_attributes}
-use Rattle.first_pass_grammar.specs.Leaves.{Document, document, is_space_or_line_end, kept_len, heading_chain, heading_text_at, heading_block, line_bytes, rule_block}
+use Rattle.first_pass_grammar.specs.Leaves.{Document, is_space_or_line_end, kept_len, heading_chain, heading_text_at, heading_block, line_bytes, rule_block}
 use Rattle.first_pass_grammar.specs.Leaves.{IsHeading, content_at}
-use Rattle.first_pass_grammar.specs.Names.{Names}
 use Rattle.first_pass_grammar.proofs.Names.MoreNames.{extends_none}
 use Rattle.first_pass_attributes.specs.AttributeBlocks.{Braces}
 use Rattle.first_pass_items.specs.Bytes.{left_brace}
 use Rattle.first_pass_items.specs.declared.item.HeadingIndex.{HeadingIndex}
-use Rattle.first_pass_items.specs.declared.option_set.Options.{Options}
 use Rattle.first_pass_tokens.specs.Pieces.{Inline}
 use Rattle.first_pass_tokens.specs.LineTokens.{AreLineTokens, text_end}
 use Rattle.first_pass_text.proofs.KeptBytes.{run_none, space_aside, kept_counted}
@@ -218,29 +216,37 @@ kept_less content n (inl none) = omega arith
 kept_less content n (inr (inl aside)) = (let inside = aside.0 in omega arith)
 kept_less content n (inr (inr whole)) = (let all = whole.0 in omega arith)
 
--- the escaped texts of a whole line, with its last backslash
-line_stands : {texts : List CowStr} {after : MathBraces} (s : Inline) (tokens : List Item) (answer : ℕ × Option Item)
-    → IsUtf8 s.text → IsCharBoundary s.text s.start → AreLineTokens texts s tokens answer after
-    → EscapesStand s.text s.start (close_break answer.1 (add_tokens [] tokens))
-line_stands s tokens answer utf8 boundary line =
-    let stop : ℕ = text_end s line.content_end in
-    let order = (line_in_order utf8 boundary boundary.0 line).tokens_fit in
-    escapes_closed s.text s.start stop answer.1 (add_tokens [] tokens) (order_adds s.text s.start s.start stop [] tokens (omega arith) order)
-    (escapes_adds s.text s.start s.start stop [] tokens (omega arith) tt order (line_escapes line))
+-- A line whose content begins at a character boundary, with its tokens.
+record TokensOf (s : Inline) : Type 0 where
+  texts : List CowStr
+  tokens : List Item
+  answer : ℕ × Option Item
+  after : MathBraces
+  utf8 : IsUtf8 s.text
+  boundary : IsCharBoundary s.text s.start
+  are : AreLineTokens texts s tokens answer after
 
--- The chain of a heading's line without its closing sequence is in order up to an offset that is not before the line's end, and has at most as many tokens as
--- there are bytes up to there.
-line_fits : {texts : List CowStr} {after : MathBraces} (s : Inline) (tokens : List Item) (answer : ℕ × Option Item) (content : List ℕ) (next : ℕ)
-    → IsUtf8 s.text → IsCharBoundary s.text s.start → AreLineTokens texts s tokens answer after → IsContent s.text s.start content
-    → answer.0 ≤ next → s.start + length content ≤ next
-    → (let chain : List Item = heading_chain (kept_len content) s.start (close_break answer.1 (add_tokens [] tokens)) in
+-- the escaped texts of a whole line, with its last backslash
+line_stands : (s : Inline) (l : TokensOf s) → EscapesStand s.text s.start (close_break l.answer.1 (add_tokens [] l.tokens))
+line_stands s l =
+    let stop : ℕ = text_end s l.are.content_end in
+    let order = (line_in_order l.utf8 l.boundary l.boundary.0 l.are).tokens_fit in
+    escapes_closed s.text s.start stop l.answer.1 (add_tokens [] l.tokens) (order_adds s.text s.start s.start stop [] l.tokens (omega arith) order)
+    (escapes_adds s.text s.start s.start stop [] l.tokens (omega arith) tt order (line_escapes l.are))
+
+-- The chain of a heading's line without its closing sequence is in order up to an offset that is not before the line's
+-- end, and has at most as many tokens as there are bytes up to there.
+line_fits : (s : Inline) (l : TokensOf s) (content : List ℕ) (next : ℕ) → IsContent s.text s.start content
+    → l.answer.0 ≤ next → s.start + length content ≤ next
+    → (let chain : List Item = heading_chain (kept_len content) s.start (close_break l.answer.1 (add_tokens [] l.tokens)) in
     AreInOrder s.text s.start next chain × (length chain + s.start ≤ next))
-line_fits s tokens answer content next utf8 boundary line is ends reach =
-    let whole : List Item = close_break answer.1 (add_tokens [] tokens) in
+line_fits s l content next is ends reach =
+    let whole : List Item = close_break l.answer.1 (add_tokens [] l.tokens) in
     let n : ℕ = kept_len content in
-    let order : AreInOrder s.text s.start next whole = order_to s.text s.start answer.0 next whole (closed_line_in_order utf8 boundary boundary.0 line) ends in
+    let order : AreInOrder s.text s.start next whole =
+    order_to s.text s.start l.answer.0 next whole (closed_line_in_order l.utf8 l.boundary l.boundary.0 l.are) ends in
     let node_bound = few_in_order s.text s.start next whole order
-    (bytes_closed answer.1 (add_tokens [] tokens) (bytes_adds [] tokens (line_has_bytes line) tt)) in
+    (bytes_closed l.answer.1 (add_tokens [] l.tokens) (bytes_adds [] l.tokens (line_has_bytes l.are) tt)) in
     let less = kept_few n s.start whole in
     let most = kept_less content n (kept_at content) in (
       chain_kept s.text s.start next n whole order
@@ -248,8 +254,7 @@ line_fits s tokens answer content next utf8 boundary line is ends reach =
             | inl none ↦ inl none
             | inr some ↦
                 let at = small_boundary s.text (s.start + n) some.0 some.1 in
-                inr
-                (omega arith, at, cut_escaped s.text s.start next (s.start + n) whole order (line_stands s tokens answer utf8 boundary line) at (omega arith))
+                inr (omega arith, at, cut_escaped s.text s.start next (s.start + n) whole order (line_stands s l) at (omega arith))
           ]),
       omega arith,
     )
@@ -273,7 +278,9 @@ heading_by d start index chain end_of_line None none utf8 boundary h =
     let same : chain ≡ heading_chain (kept_len (line_bytes d start)) start (close_break h.answer.1 (add_tokens [] h.tokens)) =
     h.chain_is
     ∙ ap (λ xs. heading_chain (kept_len xs) start (close_break h.answer.1 (add_tokens [] h.tokens))) (before_none d.options (line_bytes d start) none) in
-    let fits = line_fits (content_at d (spot start no_braces)) h.tokens h.answer (line_bytes d start) end_of_line utf8 boundary line
+    let fits = line_fits (content_at d (spot start no_braces))
+    (record { texts = d.names.texts; tokens = h.tokens; answer = h.answer; after = h.after; utf8 = utf8; boundary = boundary; are = line })
+    (line_bytes d start) end_of_line
     (line_content d.text start boundary.0) (omega arith) (omega arith) in
     (subst (AreInOrder d.text start end_of_line) (sym same) fits.0, subst (λ (xs : List Item). length xs + start ≤ end_of_line) (sym same) fits.1)
 heading_by d start index chain end_of_line (Some block) some utf8 boundary h =
@@ -305,8 +312,17 @@ heading_by d start index chain end_of_line (Some block) some utf8 boundary h =
     let same : chain ≡ heading_chain (kept_len (take block.opening bs)) start (close_break h.answer.1 (add_tokens [] h.tokens)) =
     h.chain_is ∙ ap (λ xs. heading_chain (kept_len xs) start (close_break h.answer.1 (add_tokens [] h.tokens))) content in
     let last : h.answer.0 ≤ length front = ended.within in
-    let all = line_fits (record { options = d.options; whole = d.text; text = front; start = start; row = false; braces = no_braces }) h.tokens h.answer
-    (take block.opening bs) (start + block.opening) (front_utf8 d.text (start + block.opening) utf8 stop) first line
+    let all = line_fits (record { options = d.options; whole = d.text; text = front; start = start; row = false; braces = no_braces })
+    (record {
+      texts = d.names.texts;
+      tokens = h.tokens;
+      answer = h.answer;
+      after = h.after;
+      utf8 = front_utf8 d.text (start + block.opening) utf8 stop;
+      boundary = first;
+      are = line;
+    })
+    (take block.opening bs) (start + block.opening)
     (block_content d.text start (line_len (drop start d.text)) block.opening fits (omega arith) within) (omega arith) (omega arith) in
     let order = order_in_text d.text (start + block.opening) utf8 stop start (start + block.opening) _ all.0 in
     let node_bound = all.1 in (
@@ -348,15 +364,14 @@ line_stops text start u b =
     subst (IsCharBoundary text) (line_start_end text start) (place_end text (line_place start (drop start text)) u (line_is_place text start b))
 
 -- An ATX heading fits in its line.
-pub heading_fits : (text : List ℕ) (options : Options) (names : Names) (start : ℕ) (level : HeadingLevel) (old new : Forest Item) (next : ℕ)
-    → IsUtf8 text → IsCharBoundary text start
-    → atx_level (drop start text) ≡ Some level → AddsHeading (document text options names) start level old new next → (from : ℕ) → from ≤ start
-    → AddsBetween text from next old new
-heading_fits text options names start level old new next u b is h from following =
+pub heading_fits : (d : Document) (start : ℕ) (level : HeadingLevel) (old new : Forest Item) (next : ℕ)
+    → IsUtf8 d.text → IsCharBoundary d.text start → atx_level (drop start d.text) ≡ Some level → AddsHeading d start level old new next
+    → (from : ℕ) → from ≤ start → AddsBetween d.text from next old new
+heading_fits d start level old new next u b is h from following =
+    let text : List ℕ = d.text in
     let text_at : ℕ = heading_text_at text start (level_number level) in
     let ends : IsCharBoundary text next = subst (IsCharBoundary text) (sym h.end_is) (line_stops text start u b) in
-    let fits = heading_in_order (document text options names) text_at h.index h.chain next u (heading_text_boundary text start level u b is)
-    (h.line names (extends_none names)) in
+    let fits = heading_in_order d text_at h.index h.chain next u (heading_text_boundary text start level u b is) (h.line d.names (extends_none d.names)) in
     let span = order_bound text text_at next h.chain fits.0 in
     let node_bound = fits.1 in
     record {

@@ -12,7 +12,7 @@ use Rattle.first_pass_tokens.specs.Chains.{close_break, cut}
 use Rattle.first_pass_tokens.proofs.InOrder.{AreInOrder, HaveBytes}
 use Rattle.first_pass_tokens.proofs.BytesLemmas.{few_in_order, bytes_closed}
 use Rattle.first_pass_tokens.proofs.OrderLemmas.{order_bound, order_to, order_closed, suffix_first}
-use Rattle.first_pass_grammar.specs.Leaves.{Document, document, marker_items, TextLines, block_with}
+use Rattle.first_pass_grammar.specs.Leaves.{Document, marker_items, TextLines, block_with}
 use Rattle.first_pass_grammar.specs.Completion.{lines_from}
 use Rattle.first_pass_grammar.specs.Counting.{counted_nodes}
 use Rattle.first_pass_grammar.proofs.Count.CountedNodes.{own_at_most}
@@ -41,7 +41,6 @@ use Rattle.first_pass_lines.specs.Lines.{is_white}
 use Rattle.first_pass_attributes.specs.AttributeBlocks.{Braces, attribute_block}
 use Rattle.first_pass_attributes.proofs.BlockFacts.{block-found}
 use Rattle.first_pass_grammar.specs.Headings.{heading_attribute_block, chain_end, kept_before}
-use Rattle.first_pass_grammar.specs.Names.{Names}
 use Rattle.first_pass_grammar.proofs.Names.MoreNames.{extends_none}
 use Rattle.first_pass_text.proofs.AttributeEnds.{length_between, braces_within}
 use Rattle.first_pass_text.proofs.OrderParagraph.{TextInOrder, text_is_in_order, cut_text_in_order, chain_end_place, text_later}
@@ -94,24 +93,6 @@ unfolding laid
 block_laid start next body chain =
     ap (λ (row : List (ℕ × Ranged)). (0, extent_of (text_node start next body)) ∷ row) (row_of-laid 1 chain ∙ sym (append-nil (laid 1 (row_of chain))))
 
-block_between : (text : List ℕ) (w : Within) (from start next : ℕ) (body : ItemBody) (marker : Option Item) (chain : List Item)
-    → extent_of (text_node start next body) ≡ text_extent start next
-    → IsCharBoundary text start → IsCharBoundary text next → AreInOrder text start next chain → HaveBytes chain → StandsBefore text from start marker
-    → StandsIn w marker
-    → FitsBetween text w from next (block_with start next body (marker_items marker ++ chain))
-unfolding Fits
-block_between text w from start next body marker chain extent starts ends h bytes stands inside =
-    let kids = kids_fit text w from start next marker chain h stands inside in
-    let order = order_bound text start next chain h in
-    let kids_row = row_of (marker_items marker ++ chain) in
-    let fits : Fits text w from next (Node (text_extent start next) kids_row Empty) =
-    inl (record { following = kids.0; order = order; before = omega arith; starts = starts; ends = ends }, kids.1, omega arith) in (
-      Node (extent_of (text_node start next body)) kids_row Empty,
-      block_laid start next body (marker_items marker ++ chain),
-      subst (λ x. Fits text w from next (Node x kids_row Empty)) (sym extent) fits,
-      block_few from start next body marker chain kids.0 (few_in_order text start next chain h bytes),
-    )
-
 inside_top : (t : Bool) → t ≡ true → (if t then InItem else Elsewhere) ≡ InItem
 inside_top t h = rw h refl
 
@@ -134,13 +115,30 @@ record ChildrenStand (text : List ℕ) (w : Within) (from start to : ℕ) (kids 
   stands : StandsBefore text from start lead
   inside : StandsIn w lead
 
+-- A block with such children is a paragraph or a heading, from one character boundary to another.
+record IsTextBlock (text : List ℕ) (start next : ℕ) (body : ItemBody) : Type 0 where
+  extent : extent_of (text_node start next body) ≡ text_extent start next
+  starts : IsCharBoundary text start
+  ends : IsCharBoundary text next
+
+-- It fits between an offset before its marker or its text and its end.
 children_between : (text : List ℕ) (w : Within) (from start to next : ℕ) (body : ItemBody) (kids : List Item)
-    → extent_of (text_node start next body) ≡ text_extent start next
-    → IsCharBoundary text start → IsCharBoundary text next → to ≤ next → ChildrenStand text w from start to kids
+    → IsTextBlock text start next body → to ≤ next → ChildrenStand text w from start to kids
     → FitsBetween text w from next (block_with start next body kids)
-children_between text w from start to next body kids extent starts ends less c =
-    subst (λ ks. FitsBetween text w from next (block_with start next body ks)) (sym c.is)
-    (block_between text w from start next body c.lead c.chain extent starts ends (order_to text start to next c.chain c.order less) c.bytes c.stands c.inside)
+unfolding Fits
+children_between text w from start to next body kids is less c =
+    let h = order_to text start to next c.chain c.order less in
+    let fitting = kids_fit text w from start next c.lead c.chain h c.stands c.inside in
+    let order = order_bound text start next c.chain h in
+    let kids_row = row_of (marker_items c.lead ++ c.chain) in
+    let fits : Fits text w from next (Node (text_extent start next) kids_row Empty) =
+    inl (record { following = fitting.0; order = order; before = omega arith; starts = is.starts; ends = is.ends }, fitting.1, omega arith) in
+    subst (λ ks. FitsBetween text w from next (block_with start next body ks)) (sym c.is) (
+      Node (extent_of (text_node start next body)) kids_row Empty,
+      block_laid start next body (marker_items c.lead ++ c.chain),
+      subst (λ x. Fits text w from next (Node x kids_row Empty)) (sym is.extent) fits,
+      block_few from start next body c.lead c.chain fitting.0 (few_in_order text start next c.chain h c.bytes),
+    )
 
 -- the first of the white space that bytes end with
 white_first : (bs : List ℕ) → 0 < suffix_len is_white bs → get_or bs (length bs - suffix_len is_white bs) 0 < 128
@@ -280,54 +278,64 @@ module _ (d : Document) (w : Within) (from start : ℕ) (l : TextLines) (h : Tex
       subst (ChildrenStand d.text w from start next_start) (sym (children_by d start marker l (Some block) some))
       (cut_stand (start + kept_before (by_backslash l.break) block.opening (heading_bytes d start marker l)) marker stands inside p.0 (omega (arith, p.1)) p.2)
 
+-- The lines of a text are in order after an offset, with the marker before them: as the children of a paragraph, and of
+-- a heading. The line after the next one is not before the next one.
+record TextStands (d : Document) (w : Within) (from start : ℕ) (marker : Option Item) (l : TextLines) : Type 0 where
+  starts : IsCharBoundary d.text start
+  later : start_of (length d.text) l.left ≤ start_of (length d.text) (drop 1 l.left)
+  paragraph : ChildrenStand d.text w from start (start_of (length d.text) l.left) (text_children marker l)
+  heading : ChildrenStand d.text w from start (start_of (length d.text) l.left) (heading_children d start marker l)
+
 -- A paragraph or a setext heading is between an offset before its marker or its text, and the line after it.
 ended_between : (d : Document) (w : Within) (from start : ℕ) (marker : Option Item) (l : TextLines) (items : List (ℕ × Item)) (next : ℕ)
-    (o : Option (ℕ × HeadingLevel))
-    → IsCharBoundary d.text start → IsCharBoundary d.text next → start_of (length d.text) l.left ≤ start_of (length d.text) (drop 1 l.left)
-    → ChildrenStand d.text w from start (start_of (length d.text) l.left) (text_children marker l)
-    → ChildrenStand d.text w from start (start_of (length d.text) l.left) (heading_children d start marker l)
+    (o : Option (ℕ × HeadingLevel)) → IsCharBoundary d.text next → TextStands d w from start marker l
     → MatchOption o (taking items (lines_from d.text next) ≡ plain_text d start marker l)
     (λ underline. IsUnderlined d start marker l underline.1 (taking items (lines_from d.text next)))
     → FitsBetween d.text w from next items
-ended_between d w from start marker l items next None starts ends later paragraph heading e =
+ended_between d w from start marker l items next None ends s e =
     let left : lines_from d.text next ≡ l.left = ap (λ (z : Taken). z.left) e in
     let stop : start_of (length d.text) l.left ≡ next = ap (start_of (length d.text)) (sym left) ∙ start_of-lines d.text next ends.0 in
     let is : items ≡ block_with start next ParagraphBody (text_children marker l) =
     ap (λ (z : Taken). z.items) e ∙ ap (λ k. block_with start k ParagraphBody (text_children marker l)) stop in
     subst (FitsBetween d.text w from next) (sym is)
-    (children_between d.text w from start (start_of (length d.text) l.left) next ParagraphBody (text_children marker l) refl starts ends
-    (omega arith) paragraph)
-ended_between d w from start marker l items next (Some underline) starts ends later paragraph heading (index, named, e) =
+    (children_between d.text w from start (start_of (length d.text) l.left) next ParagraphBody (text_children marker l)
+    (record { extent = refl; starts = s.starts; ends = ends }) (omega arith) s.paragraph)
+ended_between d w from start marker l items next (Some underline) ends s (index, named, e) =
     let left : lines_from d.text next ≡ drop 1 l.left = ap (λ (z : Taken). z.left) e in
     let stop : start_of (length d.text) (drop 1 l.left) ≡ next = ap (start_of (length d.text)) (sym left) ∙ start_of-lines d.text next ends.0 in
     let body : ItemBody = HeadingBody underline.1 index in
     let is : items ≡ block_with start next body (heading_children d start marker l) =
     ap (λ (z : Taken). z.items) e ∙ ap (λ k. block_with start k body (heading_children d start marker l)) stop in
+    let later = s.later in
     subst (FitsBetween d.text w from next) (sym is)
-    (children_between d.text w from start (start_of (length d.text) l.left) next body (heading_children d start marker l) refl starts ends
-    (omega arith) heading)
+    (children_between d.text w from start (start_of (length d.text) l.left) next body (heading_children d start marker l)
+    (record { extent = refl; starts = s.starts; ends = ends }) (omega arith) s.heading)
 
--- the text is after an offset before its marker
+-- The text is after an offset before its marker.
 low_start : (text : List ℕ) (from start : ℕ) (marker : Option Item) → StandsBefore text from start marker → from ≤ start
 low_start text from start None stands = stands
 low_start text from start (Some m) stands = let b : IsBetween text from start (extent_of m) = stands.1 in omega (arith, b.following, b.order, b.before)
 
-pub plain_fits : (text : List ℕ) (options : Options) (names : Names) (start : ℕ) (marker : Option Item) (old new : Forest Item) (next : ℕ)
-    → AddsPlainText (document text options names) start marker old new next
-    → IsUtf8 text → IsCharBoundary text start → IsInItem old marker → (from : ℕ) → StandsBefore text from start marker → AddsBetween text from next old new
-plain_fits text options names start marker old new next adds utf8 boundary inside from stands =
-    let d : Document = document text options names in
-    let (l, are, ended) = adds.is names (extends_none names) in
-    let h = text_is_in_order d (path_of options old) start l utf8 boundary are in
+pub plain_fits : (d : Document) (start : ℕ) (marker : Option Item) (old new : Forest Item) (next : ℕ)
+    → AddsPlainText d start marker old new next
+    → IsUtf8 d.text → IsCharBoundary d.text start → IsInItem old marker → (from : ℕ) → StandsBefore d.text from start marker
+    → AddsBetween d.text from next old new
+plain_fits d start marker old new next adds utf8 boundary inside from stands =
+    let (l, are, ended) = adds.is d.names (extends_none d.names) in
+    let h = text_is_in_order d (path_of d.options old) start l utf8 boundary are in
     let w : Within = within_top old in
     let within = top_stands old marker inside in
-    let low = low_start text from start marker stands in
+    let low = low_start d.text from start marker stands in
     record {
       items = adds.items;
       tree_is = adds.tree_is;
-      fits = ended_between d w from start marker l adds.items next (underline_first (path_of options old) l.left) boundary adds.boundary
-          (text_later text l.left h.left_at h.left_is h.left_within)
-          (text_stand d w from start l h low marker stands within)
-          (heading_stand d w from start l h low marker (heading_attribute_block options (heading_bytes d start marker l)) refl boundary stands within)
+      fits = ended_between d w from start marker l adds.items next (underline_first (path_of d.options old) l.left) adds.boundary
+          (record {
+            starts = boundary;
+            later = text_later d.text l.left h.left_at h.left_is h.left_within;
+            paragraph = text_stand d w from start l h low marker stands within;
+            heading =
+                heading_stand d w from start l h low marker (heading_attribute_block d.options (heading_bytes d start marker l)) refl boundary stands within;
+          })
           ended;
     }

@@ -12,16 +12,13 @@ use Rattle.first_pass_lines.specs.Rest.{Rest}
 use Rattle.first_pass_lines.specs.Places.{Place, offset, line_rest, line_place, place_at, IsPlaceOf}
 use Rattle.first_pass_lines.proofs.LineFacts.{lines_at-line, lines_at-end}
 use Rattle.first_pass_lines.proofs.PlaceFacts.{line_end_boundary}
-use Rattle.first_pass_names.specs.TableEntries.{no_names}
 use Rattle.first_pass_grammar.specs.declared.kind.Container.{Container}
-use Rattle.first_pass_tokens.specs.Pieces.{Inline}
 use Rattle.first_pass_tokens.specs.LineTokens.{AreLineTokens, EndsLine, IsBreak}
 use Rattle.first_pass_tokens.specs.Chains.{text_token, add_text, add_token, add_tokens, close_break, is_backslash_break}
 use Rattle.first_pass_tokens.specs.TreeTokens.{chained, with_tokens, JoinsNone, AppendsLine}
 use Rattle.first_pass_tokens.proofs.ChainLemmas.{add_text-some, with_tokens-chained, with_text-chained, appended-chained}
 use Rattle.first_pass_grammar.specs.Containers.{Context, context, after, front}
 use Rattle.first_pass_grammar.specs.Kinds.{unindented, Continued, continued, interrupts, ends_paragraph, colon_ends, ends_text, underline_left, underline_of}
-use Rattle.first_pass_items.specs.declared.cow_str.CowStr.{CowStr}
 use Rattle.first_pass_grammar.specs.Names.{Names, Extends}
 use Rattle.first_pass_grammar.proofs.Names.MoreNames.{extends_both}
 use Rattle.first_pass_tokens.proofs.NamedTexts.{line_more}
@@ -107,54 +104,65 @@ line_end-text path text n u b =
     let e = p.1 in
     omega arith
 
--- one more line of a text
-lines_more : (path : List Container) (d : Document) (ix : Spot) (n : ℕ) (after : MathBraces) (chain tokens : List Item) (line_break : Option Item)
-    (t : TextLines) → AreLineTokens d.names.texts (content_at d ix) tokens (n, line_break) after → n ≡ line_end_at d.text ix.at
-    → ends_text (around d path) (line_rest (drop n d.text)) ≡ false → IsUtf8 d.text → IsCharBoundary d.text n
+-- The content of a line begins at a spot and has these tokens. The next line begins at another offset.
+record LineOf (d : Document) (ix : Spot) : Type 0 where
+  next : ℕ
+  line_break : Option Item
+  braces : MathBraces
+  tokens : List Item
+  are : AreLineTokens d.names.texts (content_at d ix) tokens (next, line_break) braces
+  place : next ≡ line_end_at d.text ix.at
+
+-- If the next line continues the text, the lines from that one on complete the chain with the tokens of this line.
+lines_more : (path : List Container) (d : Document) (ix : Spot) (chain : List Item) (t : TextLines) (l : LineOf d ix)
+    → ends_text (around d path) (line_rest (drop l.next d.text)) ≡ false → IsUtf8 d.text → IsCharBoundary d.text l.next
     → (
-    let at : ℕ = offset (unindented (place_at n (front path (line_rest (drop n d.text))))) in
-    AreTextLines d path (spot at after) (add_break line_break (add_tokens chain tokens)) (lines_from d.text (line_end_at d.text at)) t)
+    let at : ℕ = offset (unindented (place_at l.next (front path (line_rest (drop l.next d.text))))) in
+    AreTextLines d path (spot at l.braces) (add_break l.line_break (add_tokens chain l.tokens)) (lines_from d.text (line_end_at d.text at)) t)
     → AreTextLines d path ix chain (lines_from d.text (line_end_at d.text ix.at)) t
 unfolding AreTextLines front
-lines_more path d ix n after chain tokens line_break t line place goes u b more =
+lines_more path d ix chain t l goes u b more =
+    let n : ℕ = l.next in
     let within = text_within (around d path) d.text n goes in
     let first : lines_from d.text n ≡ line_place n (drop n d.text) ∷ lines_from d.text (line_end_at d.text n) = lines_at-line d.text n within in
-    let rest : AreTextLines d path (spot (offset (unindented (place_at n (front path (line_rest (drop n d.text)))))) after)
-    (add_break line_break (add_tokens chain tokens)) (lines_from d.text (line_end_at d.text n)) t =
-    subst (λ e. AreTextLines d path (spot (offset (unindented (place_at n (front path (line_rest (drop n d.text)))))) after)
-    (add_break line_break (add_tokens chain tokens)) (lines_from d.text e) t) (line_end-text path d.text n u b) more in
+    let rest : AreTextLines d path (spot (offset (unindented (place_at n (front path (line_rest (drop n d.text)))))) l.braces)
+    (add_break l.line_break (add_tokens chain l.tokens)) (lines_from d.text (line_end_at d.text n)) t =
+    subst (λ e. AreTextLines d path (spot (offset (unindented (place_at n (front path (line_rest (drop n d.text)))))) l.braces)
+    (add_break l.line_break (add_tokens chain l.tokens)) (lines_from d.text e) t) (line_end-text path d.text n u b) more in
     let all : AreTextLines d path ix chain (line_place n (drop n d.text) ∷ lines_from d.text (line_end_at d.text n)) t =
-    (tokens, (n, line_break), after, line, inr (goes, rest)) in
-    subst (λ lines. AreTextLines d path ix chain lines t) (sym first ∙ ap (lines_from d.text) place) all
+    (l.tokens, (n, l.line_break), l.braces, l.are, inr (goes, rest)) in
+    subst (λ lines. AreTextLines d path ix chain lines t) (sym first ∙ ap (lines_from d.text) l.place) all
 
--- the last line of a text
-last_by : (path : List Container) (d : Document) (ix : Spot) (n : ℕ) (after : MathBraces) (chain tokens : List Item) (line_break : Option Item)
-    (lines : List Place) → AreLineTokens d.names.texts (content_at d ix) tokens (n, line_break) after
-    → (lines ≡ []) ⊎ ((more : List Place) × (lines ≡ line_place n (drop n d.text) ∷ more)) → ends_text (around d path) (line_rest (drop n d.text)) ≡ true
-    → AreTextLines d path ix chain lines (text_lines (add_tokens chain tokens) line_break lines)
+-- If the next line does not continue the text, the line is the last.
+last_by : (path : List Container) (d : Document) (ix : Spot) (chain : List Item) (l : LineOf d ix) (lines : List Place)
+    → (lines ≡ []) ⊎ ((more : List Place) × (lines ≡ line_place l.next (drop l.next d.text) ∷ more))
+    → ends_text (around d path) (line_rest (drop l.next d.text)) ≡ true
+    → AreTextLines d path ix chain lines (text_lines (add_tokens chain l.tokens) l.line_break lines)
 unfolding AreTextLines front
-last_by path d ix n after chain tokens line_break lines line (inl none) ends =
-    let given : TextLines = text_lines (add_tokens chain tokens) line_break [] in
-    let p : AreTextLines d path ix chain [] given = (tokens, (n, line_break), after, line, refl) in
-    subst (λ ls. AreTextLines d path ix chain ls (text_lines (add_tokens chain tokens) line_break ls)) (sym none) p
-last_by path d ix n after chain tokens line_break lines line (inr (more, some)) ends =
-    let here : List Place = line_place n (drop n d.text) ∷ more in
-    let given : TextLines = text_lines (add_tokens chain tokens) line_break here in
-    let p : AreTextLines d path ix chain here given = (tokens, (n, line_break), after, line, inl (ends, refl)) in
-    subst (λ ls. AreTextLines d path ix chain ls (text_lines (add_tokens chain tokens) line_break ls)) (sym some) p
+last_by path d ix chain l lines (inl none) ends =
+    let given : TextLines = text_lines (add_tokens chain l.tokens) l.line_break [] in
+    let p : AreTextLines d path ix chain [] given = (l.tokens, (l.next, l.line_break), l.braces, l.are, refl) in
+    subst (λ ls. AreTextLines d path ix chain ls (text_lines (add_tokens chain l.tokens) l.line_break ls)) (sym none) p
+last_by path d ix chain l lines (inr (more, some)) ends =
+    let here : List Place = line_place l.next (drop l.next d.text) ∷ more in
+    let given : TextLines = text_lines (add_tokens chain l.tokens) l.line_break here in
+    let p : AreTextLines d path ix chain here given = (l.tokens, (l.next, l.line_break), l.braces, l.are, inl (ends, refl)) in
+    subst (λ ls. AreTextLines d path ix chain ls (text_lines (add_tokens chain l.tokens) l.line_break ls)) (sym some) p
 
-lines_last : (path : List Container) (d : Document) (ix : Spot) (n : ℕ) (after : MathBraces) (chain tokens : List Item) (line_break : Option Item)
-    → AreLineTokens d.names.texts (content_at d ix) tokens (n, line_break) after → n ≡ line_end_at d.text ix.at
-    → ends_text (around d path) (line_rest (drop n d.text)) ≡ true
-    → AreTextLines d path ix chain (lines_from d.text (line_end_at d.text ix.at)) (text_lines (add_tokens chain tokens) line_break (lines_from d.text n))
-lines_last path d ix n after chain tokens line_break line place ends =
+-- the same for the lines from the next one on
+lines_last : (path : List Container) (d : Document) (ix : Spot) (chain : List Item) (l : LineOf d ix)
+    → ends_text (around d path) (line_rest (drop l.next d.text)) ≡ true
+    → AreTextLines d path ix chain (lines_from d.text (line_end_at d.text ix.at))
+    (text_lines (add_tokens chain l.tokens) l.line_break (lines_from d.text l.next))
+lines_last path d ix chain l ends =
+    let n : ℕ = l.next in
     let lines : (lines_from d.text n ≡ []) ⊎ ((more : List Place) × (lines_from d.text n ≡ line_place n (drop n d.text) ∷ more)) =
     elim (cases_lt n (length d.text)) [
       | inl within ↦ inr (lines_from d.text (line_end_at d.text n), lines_at-line d.text n within)
       | inr past ↦ inl (lines_at-end d.text n past)
     ] in
-    subst (λ e. AreTextLines d path ix chain (lines_from d.text e) (text_lines (add_tokens chain tokens) line_break (lines_from d.text n))) place
-    (last_by path d ix n after chain tokens line_break (lines_from d.text n) line lines ends)
+    subst (λ e. AreTextLines d path ix chain (lines_from d.text e) (text_lines (add_tokens chain l.tokens) l.line_break (lines_from d.text n))) l.place
+    (last_by path d ix chain l (lines_from d.text n) lines ends)
 
 -- the break after a chain in the tree
 pub with_child-chained : (f : Forest Item) (chain : List Item) (line_break : Option Item)
@@ -205,76 +213,6 @@ next_boundary d ix n b line_break utf8 boundary ends =
       | inr past ↦ let e : n ≡ length d.text = omega arith in subst (IsCharBoundary d.text) (sym e) (IsCharBoundary-end d.text)
     ]
 
--- The tokens of a line open and close nothing.
-read_path : {texts : List CowStr} {after : MathBraces} (d : Document) (start : ℕ) (ix : Spot) (old now read : Forest Item) (answer : ℕ × Option Item)
-    → LinesSoFar d start old now ix → JoinsNone old
-    → AppendsLine texts (content_at d ix) now read answer after → AreIn (length old.nodes) old.spine → path_of d.options read ≡ path_of d.options old
-read_path d start ix old now read answer s apart line there =
-    ap (path_of d.options) (line.tree_is ∙ ap (λ f. with_tokens f line.tokens) s.tree_is ∙ with_tokens-chained old s.chain line.tokens apart)
-    ∙ path_of-chained d.options old (add_tokens s.chain line.tokens) there
-
--- after a line, if the text continues
-pub so_far_more : (path : List Container) (d : Document) (names : Names) (after : MathBraces) (start : ℕ) (ix : Spot) (n at : ℕ)
-    (old now read new : Forest Item) (line_break : Option Item) → path ≡ path_of d.options old → IsUtf8 d.text → LinesSoFar d start old now ix → JoinsNone old
-    → Extends names d.names → AppendsLine names.texts (content_at d ix) now read (n, line_break) after → EndsLine (content_at d ix) (n, line_break)
-    → ends_text (around d path) (line_rest (drop n d.text)) ≡ false → at ≡ offset (unindented (place_at n (front path (line_rest (drop n d.text)))))
-    → IsPlaceOf d.text (unindented (place_at n (front path (line_rest (drop n d.text)))))
-    → new ≡ with_child read line_break → (LinesSoFar (document d.text d.options names) start old new (spot at after)) × (ix.at < at)
-so_far_more path d names after start ix n at old now read new line_break path_is u s apart grown line ends goes at_is i new_is =
-    let b = next_boundary d ix.at n ix.braces line_break u s.boundary ends in
-    let within = text_within (around d path) d.text n goes in
-    let later : ix.at < length d.text → ix.at < n = ends.later in
-    let from : ix.at ≤ n = ends.from in
-    let chain : List Item = add_tokens s.chain line.tokens in
-    let tree : read ≡ chained old chain = line.tree_is ∙ ap (λ f. with_tokens f line.tokens) s.tree_is ∙ with_tokens-chained old s.chain line.tokens apart in (
-      record {
-        chain = add_break line_break chain;
-        tree_is = new_is ∙ ap (λ f. with_child f line_break) tree ∙ with_child-chained old chain line_break;
-        boundary = subst (IsCharBoundary d.text) (sym at_is) i.boundary;
-        from = inr (elim s.from [
-          | inl same ↦ (let e = ap (line_end_at d.text) same in let p : n ≡ line_end_at d.text ix.at = ends.place in omega arith)
-          | inr past ↦ omega arith
-        ]);
-        continues = λ more e t p.
-            let later : Document = document d.text d.options more in
-            s.continues more (extends_both more names d.names e grown) t
-            (subst (λ c. AreTextLines later c ix s.chain (lines_from d.text (line_end_at d.text ix.at)) t) path_is
-            (lines_more path later ix n after s.chain line.tokens line_break t (line_more (e.more_texts, e.texts) line.line) ends.place goes u b
-            (subst (λ z. AreTextLines later path (spot z after) (add_break line_break chain) (lines_from d.text (line_end_at d.text z)) t) at_is
-            (subst (λ c. AreTextLines later c (spot at after) (add_break line_break chain) (lines_from d.text (line_end_at d.text at)) t) (sym path_is) p))));
-      },
-      omega arith,
-    )
-
--- after the last line
-pub so_far_end : (path : List Container) (d : Document) (names : Names) (after : MathBraces) (start : ℕ) (ix : Spot) (n : ℕ) (old now read : Forest Item)
-    (line_break : Option Item) (underline : Option HeadingLevel) → path ≡ path_of d.options old → LinesSoFar d start old now ix → JoinsNone old
-    → Extends names d.names → AppendsLine names.texts (content_at d ix) now read (n, line_break) after → EndsLine (content_at d ix) (n, line_break)
-    → ends_text (around d path) (line_rest (drop n d.text)) ≡ true → IsCharBoundary d.text n → IfSome line_break (λ x. x.start < 2 ^ 63)
-    → underline ≡ option_map (λ (found : ℕ × HeadingLevel). found.1) (underline_of path (line_rest (drop n d.text)))
-    → AppendsLines (document d.text d.options names) start old read (record { next = n; line_break = line_break; underline = underline })
-so_far_end path d names after start ix n old now read line_break underline path_is s apart grown line ends stops boundary short said =
-    let chain : List Item = add_tokens s.chain line.tokens in
-    let tree : read ≡ chained old chain = line.tree_is ∙ ap (λ f. with_tokens f line.tokens) s.tree_is ∙ with_tokens-chained old s.chain line.tokens apart in
-    let given : TextLines = text_lines chain line_break (lines_from d.text n) in
-    record {
-      chain = chain;
-      are = λ more e.
-          let later : Document = document d.text d.options more in
-          s.continues more (extends_both more names d.names e grown) given
-          (subst (λ c. AreTextLines later c ix s.chain (lines_from d.text (line_end_at d.text ix.at)) given) path_is
-          (lines_last path later ix n after s.chain line.tokens line_break (line_more (e.more_texts, e.texts) line.line) ends.place stops));
-      tree_is = tree;
-      underline = said ∙ ap (option_map (λ (found : ℕ × HeadingLevel). found.1))
-          (sym (underline_there path d.text n) ∙ ap (λ c. underline_first c (lines_from d.text n)) path_is);
-      later = elim s.from [
-        | inl same ↦ (let e = ap (line_end_at d.text) same in let p : n ≡ line_end_at d.text ix.at = ends.place in omega arith)
-        | inr past ↦ (let from : ix.at ≤ n = ends.from in omega arith)
-      ];
-      boundary = boundary;
-      short = short;
-    }
-
 -- the next line
 pub goes_by : (o : Option (ℕ × HeadingLevel)) (t : Bool) (v at : ℕ) (next : NextLine)
     → next ≡ next_by o t v → next ≡ More at → ((is_some o || t) ≡ false) × (at ≡ v)
@@ -305,61 +243,116 @@ break_fits d ix n (Some x) small ends =
     let q = b.to in
     omega arith
 
--- the content of a line from a place on
-abbrev pub line_source : Options → List ℕ → Spot → Inline
-line_source options text p = record { options = options; whole = text; text = text; start = p.at; row = false; braces = p.braces }
+-- A line of a text is read after the lines so far. Its content begins at a spot, and its tokens are added to the tree,
+-- without the break after it. The next line begins at another offset.
+pub record LineRead (d : Document) (start : ℕ) (old : Forest Item) : Type 0 where
+  pub ix : Spot
+  pub now : Forest Item
+  pub read : Forest Item
+  pub names : Names
+  pub next : ℕ
+  pub line_break : Option Item
+  pub braces : MathBraces
+  pub utf8 : IsUtf8 d.text
+  pub so_far : LinesSoFar d start old now ix
+  pub apart : JoinsNone old
+  pub opened : AreIn (length old.nodes) old.spine
+  pub grown : Extends names d.names
+  pub line : AppendsLine names.texts (content_at d ix) now read (next, line_break) braces
+  pub ends : EndsLine (content_at d ix) (next, line_break)
 
--- the same source, with the same text and options
-pub same_line : (texts : List CowStr) (after : MathBraces) (t u : List ℕ) (o w : Options) (ix : Spot) (old new : Forest Item) (answer : ℕ × Option Item)
-    → t ≡ u → o ≡ w
-    → AppendsLine texts (line_source o t ix) old new answer after → AppendsLine texts (content_at (document u w no_names) ix) old new answer after
-same_line texts after t u o w ix old new answer e f line =
-    subst (λ z. AppendsLine texts (line_source z u ix) old new answer after) f (subst (λ z. AppendsLine texts (line_source o z ix) old new answer after) e line)
+module _ {d : Document} {start : ℕ} {old : Forest Item} (l : LineRead d start old) where
+  -- the containers that are open after the line
+  abbrev line_path : List Container
+  line_path = path_of d.options l.read
 
-pub same_end : (t u : List ℕ) (o w : Options) (ix : Spot) (answer : ℕ × Option Item) → t ≡ u → o ≡ w
-    → EndsLine (line_source o t ix) answer → EndsLine (content_at (document u w no_names) ix) answer
-same_end t u o w ix answer e f ends =
-    subst (λ z. EndsLine (line_source z u ix) answer) f (subst (λ z. EndsLine (line_source o z ix) answer) e ends)
+  -- the chain up to the end of the line
+  abbrev chain_read : List Item
+  chain_read = add_tokens l.so_far.chain l.line.tokens
 
--- the two steps, for a text that has other names before and after the line is read
-pub so_far_next : (names later : Names) (after : MathBraces) (first text now_text : List ℕ) (o w : Options) (start : ℕ) (ix : Spot) (n at : ℕ)
-    (old now read new : Forest Item) (line_break : Option Item) (found : NextLine) (path : List Container)
-    → text ≡ first → o ≡ w → now_text ≡ text → path ≡ path_of w read → AreIn (length old.nodes) old.spine → IsUtf8 first
-    → LinesSoFar (document first w names) start old now ix → JoinsNone old
-    → Extends later names → AppendsLine later.texts (line_source o text ix) now read (n, line_break) after → EndsLine (line_source o text ix) (n, line_break)
-    → found ≡ next_line_of (context w path) n (line_rest (drop n now_text)) → found ≡ More at
-    → IsPlaceOf now_text (unindented (place_at n (front path (line_rest (drop n now_text))))) → new ≡ with_child read line_break
-    → (LinesSoFar (document first w later) start old new (spot at after)) × (ix.at < at)
-so_far_next names later after first text now_text o w start ix n at old now read new line_break found path same same_options kept path_is there u s apart grown
-    line ends value is place new_is =
-    let e : now_text ≡ first = kept ∙ same in
-    let goes = goes_by _ _ _ _ _ (subst (λ t. found ≡ next_line_of (context w path) n (line_rest (drop n t))) e value) is in
-    let line_is = same_line later.texts after text first o w ix now read (n, line_break) same same_options line in
-    so_far_more path (document first w names) later after start ix n at old now read new line_break
-    (path_is ∙ read_path (document first w names) start ix old now read (n, line_break) s apart line_is there) u s apart grown line_is
-    (same_end text first o w ix (n, line_break) same same_options ends) goes.0 goes.1
-    (subst (λ t. IsPlaceOf t (unindented (place_at n (front path (line_rest (drop n t)))))) e place) new_is
+  -- the chain in the tree
+  chain_is : l.read ≡ chained old chain_read
+  chain_is = l.line.tree_is ∙ ap (λ f. with_tokens f l.line.tokens) l.so_far.tree_is ∙ with_tokens-chained old l.so_far.chain l.line.tokens l.apart
 
-pub so_far_stop : (names later : Names) (after : MathBraces) (first text now_text : List ℕ) (o w : Options) (start : ℕ) (ix : Spot) (n : ℕ)
-    (old now read : Forest Item) (line_break : Option Item) (underline : Option HeadingLevel) (path : List Container)
-    → text ≡ first → o ≡ w → now_text ≡ text → path ≡ path_of w read → AreIn (length old.nodes) old.spine → IsUtf8 first
-    → LinesSoFar (document first w names) start old now ix → JoinsNone old
-    → Extends later names → AppendsLine later.texts (line_source o text ix) now read (n, line_break) after → EndsLine (line_source o text ix) (n, line_break)
-    → length first < 2 ^ 63
-    → (ends_text (context w path) (line_rest (drop n now_text)) ≡ true)
-    × (underline ≡ option_map (λ (u : ℕ × HeadingLevel). u.1) (underline_of path (line_rest (drop n now_text))))
-    → IsCharBoundary text n
-    → AppendsLines (document first w later) start old read (record { next = n; line_break = line_break; underline = underline })
-so_far_stop names later after first text now_text o w start ix n old now read line_break underline path same same_options kept path_is there u s apart grown
-    line ends small said boundary =
-    let e : now_text ≡ first = kept ∙ same in
-    let stops = subst (λ t. (ends_text (context w path) (line_rest (drop n t)) ≡ true)
-    × (underline ≡ option_map (λ (u : ℕ × HeadingLevel). u.1) (underline_of path (line_rest (drop n t))))) e said in
-    let ended = same_end text first o w ix (n, line_break) same same_options ends in
-    let line_is = same_line later.texts after text first o w ix now read (n, line_break) same same_options line in
-    so_far_end path (document first w names) later after start ix n old now read line_break underline
-    (path_is ∙ read_path (document first w names) start ix old now read (n, line_break) s apart line_is there) s apart grown line_is
-    ended stops.0 (subst (λ t. IsCharBoundary t n) same boundary) (break_fits (document first w names) ix n line_break small ended) stops.1
+  -- The tokens of the line open and close nothing.
+  same_path : line_path ≡ path_of d.options old
+  same_path = ap (path_of d.options) chain_is ∙ path_of-chained d.options old chain_read l.opened
+
+  -- the line, if names are added
+  abbrev line_under : (more : Names) → Extends more l.names → LineOf (document d.text d.options more) l.ix
+  line_under more e = record {
+    next = l.next;
+    line_break = l.line_break;
+    braces = l.braces;
+    tokens = l.line.tokens;
+    are = line_more (e.more_texts, e.texts) l.line.line;
+    place = l.ends.place;
+  }
+
+  -- The line ends at a character boundary.
+  line_boundary : IsCharBoundary d.text l.next
+  line_boundary = next_boundary d l.ix.at l.next l.ix.braces l.line_break l.utf8 l.so_far.boundary l.ends
+
+  -- If the next line continues the text, the lines so far include this line, and the next one begins after it.
+  pub so_far_next : (at : ℕ) (new : Forest Item) (found : NextLine)
+      → found ≡ next_line_of (context d.options line_path) l.next (line_rest (drop l.next d.text)) → found ≡ More at
+      → IsPlaceOf d.text (unindented (place_at l.next (front line_path (line_rest (drop l.next d.text))))) → new ≡ with_child l.read l.line_break
+      → (LinesSoFar (document d.text d.options l.names) start old new (spot at l.braces)) × (l.ix.at < at)
+  so_far_next at new found value is i new_is =
+      let path : List Container = line_path in
+      let ix : Spot = l.ix in
+      let n : ℕ = l.next in
+      let step = goes_by _ _ _ _ _ value is in
+      let goes : ends_text (around d path) (line_rest (drop n d.text)) ≡ false = step.0 in
+      let at_is : at ≡ offset (unindented (place_at n (front path (line_rest (drop n d.text))))) = step.1 in
+      let within = text_within (around d path) d.text n goes in
+      let later : ix.at < length d.text → ix.at < n = l.ends.later in
+      let from : ix.at ≤ n = l.ends.from in (
+        record {
+          chain = add_break l.line_break chain_read;
+          tree_is = new_is ∙ ap (λ f. with_child f l.line_break) chain_is ∙ with_child-chained old chain_read l.line_break;
+          boundary = subst (IsCharBoundary d.text) (sym at_is) i.boundary;
+          from = inr (elim l.so_far.from [
+            | inl same ↦ (let e = ap (line_end_at d.text) same in let p : n ≡ line_end_at d.text ix.at = l.ends.place in omega arith)
+            | inr past ↦ omega arith
+          ]);
+          continues = λ more e t p.
+              let later : Document = document d.text d.options more in
+              l.so_far.continues more (extends_both more l.names d.names e l.grown) t
+              (subst (λ c. AreTextLines later c ix l.so_far.chain (lines_from d.text (line_end_at d.text ix.at)) t) same_path
+              (lines_more path later ix l.so_far.chain t (line_under more e) goes l.utf8 line_boundary
+              (subst (λ z. AreTextLines later path (spot z l.braces) (add_break l.line_break chain_read) (lines_from d.text (line_end_at d.text z)) t) at_is
+              (subst (λ c. AreTextLines later c (spot at l.braces) (add_break l.line_break chain_read) (lines_from d.text (line_end_at d.text at)) t)
+              (sym same_path) p))));
+        },
+        omega arith,
+      )
+
+  -- If the next line does not continue the text, the chain of all lines is in the tree.
+  pub so_far_stop : (underline : Option HeadingLevel) → length d.text < 2 ^ 63
+      → (ends_text (context d.options line_path) (line_rest (drop l.next d.text)) ≡ true)
+      × (underline ≡ option_map (λ (u : ℕ × HeadingLevel). u.1) (underline_of line_path (line_rest (drop l.next d.text))))
+      → AppendsLines (document d.text d.options l.names) start old l.read (record { next = l.next; line_break = l.line_break; underline = underline })
+  so_far_stop underline small said =
+      let n : ℕ = l.next in
+      let given : TextLines = text_lines chain_read l.line_break (lines_from d.text n) in
+      record {
+        chain = chain_read;
+        are = λ more e.
+            let later : Document = document d.text d.options more in
+            l.so_far.continues more (extends_both more l.names d.names e l.grown) given
+            (subst (λ c. AreTextLines later c l.ix l.so_far.chain (lines_from d.text (line_end_at d.text l.ix.at)) given) same_path
+            (lines_last line_path later l.ix l.so_far.chain (line_under more e) said.0));
+        tree_is = chain_is;
+        underline = said.1 ∙ ap (option_map (λ (found : ℕ × HeadingLevel). found.1))
+            (sym (underline_there line_path d.text n) ∙ ap (λ c. underline_first c (lines_from d.text n)) same_path);
+        later = elim l.so_far.from [
+          | inl same ↦ (let e = ap (line_end_at d.text) same in let p : n ≡ line_end_at d.text l.ix.at = l.ends.place in omega arith)
+          | inr past ↦ (let from : l.ix.at ≤ n = l.ends.from in omega arith)
+        ];
+        boundary = line_boundary;
+        short = break_fits d l.ix n l.line_break small l.ends;
+      }
 
 -- a paragraph that was just opened, with the marker of its task list item
 pub path_of-paragraph : (options : Options) (g p m : Forest Item) (x : Item) (ix : TreeIndex) (marker : Option Item)

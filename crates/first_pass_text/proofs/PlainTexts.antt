@@ -3,7 +3,7 @@ use Rattle.std.proofs.Common.{◌≡◌, Bool, ◌≤◌, ℕ, ◌+◌, List, []
 use Rattle.std.proofs.Common.{IsCharBoundary, refl, sym, ap, subst, ◌∙◌, arith, false, IsSome, slice_get}
 use Rattle.first_pass_items.specs.declared.item.Item.{Item}
 use Rattle.first_pass_items.specs.declared.item.HeadingLevel.{HeadingLevel}
-use Rattle.first_pass_tree.specs.Forest.{Forest, added, appended, pushed, is_text, item_at, IsForest}
+use Rattle.first_pass_tree.specs.Forest.{Forest, added, appended, pushed, is_text, item_at}
 use Rattle.first_pass_lines.specs.Places.{Place, start_of}
 use Rattle.first_pass_lines.proofs.LineFacts.{lines_at-line}
 use Rattle.first_pass_lines.proofs.PlaceFacts.{start_of-lines}
@@ -22,8 +22,8 @@ use Rattle.first_pass_grammar.specs.Tables.{Taken, taking}
 use Rattle.first_pass_grammar.specs.Completion.{lines_from}
 use Rattle.first_pass_open.specs.Path.{path_of}
 use Rattle.first_pass_open.specs.Between.{line_end_at}
-use Rattle.first_pass_text.specs.Appends.{AddsPlainText, with_closed_break, AppendsLines}
-use Rattle.first_pass_text.proofs.ParagraphLemmas.{underline_there, underline_within, with_closed_break-chained, closed_past, path_of-paragraph}
+use Rattle.first_pass_text.specs.Appends.{AddsPlainText, with_closed_break}
+use Rattle.first_pass_text.proofs.ParagraphLemmas.{underline_there, underline_within, with_closed_break-chained, closed_past}
 use Rattle.std.proofs.lemmas.Option.{same_Some}
 use Rattle.first_pass_tree.specs.declared.tree_index.TreeIndex.{TreeIndex}
 use Rattle.first_pass_tokens.specs.Braces.{no_braces}
@@ -31,10 +31,9 @@ use Rattle.first_pass_tokens.specs.LineTokens.{spot}
 use Rattle.first_pass_tokens.specs.TreeTokens.{chained}
 use Rattle.first_pass_tokens.specs.Chains.{close_break, cut}
 use Rattle.first_pass_tokens.proofs.ChainLemmas.{joins_none-fresh, pushed-fresh}
-use Rattle.first_pass_open.specs.OpenBlock.{with_child, closed_by, opened_block}
-use Rattle.first_pass_open.proofs.BlockLemmas.{marked_chain, opened_is, still_open, block_closed, open_place_of, open_item_of, open_named}
+use Rattle.first_pass_open.specs.OpenBlock.{closed_by}
+use Rattle.first_pass_open.proofs.BlockLemmas.{still_open, block_closed, open_place_of, open_item_of, open_named}
 use Rattle.first_pass_items.specs.declared.item.ItemBody.TheVariants.{Paragraph, Heading}
-use Rattle.first_pass_open.proofs.PathLemmas.{open_are_in}
 use Rattle.first_pass_text.specs.declared.paragraph.TextEnd.{TextEnd}
 use Rattle.first_pass_text.proofs.OrderHeading.{line_stops}
 use Rattle.first_pass_text.specs.CutTexts.{cut_chain, CutsBlock, BecomesHeading}
@@ -69,7 +68,7 @@ unfolding heading_children
 children_by d start marker l o e = ap (children_without d start marker l) e
 
 -- the result for the lines of a text, with the remaining lines from an offset on
-abbrev given : List ℕ → ℕ → List Item → Option Item → TextLines
+abbrev pub given : List ℕ → ℕ → List Item → Option Item → TextLines
 given text next chain line_break = text_lines chain line_break (lines_from text next)
 
 module _ (text : List ℕ) (options : Options) (names : Names) (start n : ℕ) (marker : Option Item) (old new : Forest Item) (chain : List Item)
@@ -154,28 +153,6 @@ pub record StandsOpen (text : List ℕ) (options : Options) (names : Names) (sta
   pub said : end.underline ≡ option_map (λ (found : ℕ × HeadingLevel). found.1) (underline_first (path_of options g) (lines_from text end.next))
   pub later : line_end_at text start ≤ end.next
   pub boundary : IsCharBoundary text end.next
-
-pub stands_open : (text : List ℕ) (options : Options) (names : Names) (start : ℕ) (marker : Option Item) (g p m r : Forest Item) (ix : TreeIndex)
-    (end : TextEnd) → IsForest g → ix.0 ≡ length g.nodes → p ≡ opened_block g start Paragraph → m ≡ with_child p marker
-    → IfSome marker (λ y. is_text y.body ≡ false)
-    → AppendsLines (document text options names) start m r end → StandsOpen text options names start marker g r ix end
-stands_open text options names start marker g p m r ix end forest at p_is m_is plain read =
-    let x : Item = opened_item start in
-    let opened = opened_is g p x ix at p_is in
-    let there : m ≡ with_child (pushed (appended g x) ix) marker = m_is ∙ ap (λ f. with_child f marker) opened in
-    let same : path_of options m ≡ path_of options g =
-    path_of-paragraph options g p m x ix marker refl opened m_is at (open_are_in g.nodes g.spine forest.opened) in
-    record {
-      chain = read.chain;
-      at = at;
-      tree_is = marked_chain (pushed (appended g x) ix) m r marker read.chain there read.tree_is;
-      plain = plain;
-      are = λ more e. subst (λ path. AreTextLines (document text options more) path (spot start no_braces) [] (lines_from text (line_end_at text start))
-          (given text end.next read.chain end.line_break)) same (read.are more e);
-      said = read.underline ∙ ap (λ path. option_map (λ (found : ℕ × HeadingLevel). found.1) (underline_first path (lines_from text end.next))) same;
-      later = read.later;
-      boundary = read.boundary;
-    }
 
 module _ {text : List ℕ} {options : Options} {read_names : Names} {start : ℕ} {marker : Option Item} {g r : Forest Item} {ix : TreeIndex} {end : TextEnd}
     (t : StandsOpen text options read_names start marker g r ix end) where

@@ -1,18 +1,17 @@
 -- A pass read an HTML block that a blank line ends, after it ended what a new block ends (CommonMark 4.6).
-use Rattle.std.proofs.Common.{◌≡◌, inl, ℕ, ◌≤◌, min, false, List, length, drop, None, IsUtf8, IsCharBoundary, refl, sym, ap, subst, ◌∙◌, arith}
+use Rattle.std.proofs.Common.{◌≡◌, inl, ℕ, ◌≤◌, List, length, drop, IsUtf8, IsCharBoundary, refl, sym, ap, subst, ◌∙◌, arith, Bool}
 use Rattle.first_pass_items.specs.declared.item.Item.{Item}
 use Rattle.first_pass_tree.specs.Forest.{Forest, IsForest}
-use Rattle.first_pass_lines.specs.Rest.{indent}
 use Rattle.first_pass_lines.specs.Places.{Place, offset, line_end, IsPlaceOf}
-use Rattle.first_pass_grammar.specs.Kinds.{HtmlToBlank, unindented, IsKind}
+use Rattle.first_pass_grammar.specs.Kinds.{HtmlToBlank, unindented}
 use Rattle.first_pass_grammar.specs.Extents.{Extent}
 use Rattle.first_pass_grammar.specs.Leaves.{document}
 use Rattle.first_pass_grammar.specs.Completion.{lines_from}
-use Rattle.first_pass_names.specs.TableEntries.{tables_of, tables_in, names_of, NamesMore}
+use Rattle.first_pass_names.specs.TableEntries.{tables_in, names_of, NamesMore}
 use Rattle.first_pass_open.specs.Path.{path_of}
 use Rattle.first_pass_open.proofs.PlaceLemmas.{all_keep}
 use Rattle.first_pass_raw.specs.RawBlocks.{IsPlaceAt, after_line_at, html_to_blank}
-use Rattle.first_pass_lists.specs.Closing.{top_body, is_list, list_finished}
+use Rattle.first_pass_lists.specs.Closing.{top_body, is_list, list_finished, with_tree}
 use Rattle.first_pass_lists.specs.declared.state.PassState.{PassState}
 use Rattle.first_pass_kinds.proofs.KindLemmas.{kind_says}
 use Rattle.first_pass_blocks.specs.declared.state.BlockPass.{BlockPass}
@@ -22,7 +21,7 @@ use Rattle.first_pass_ready.specs.State.{Ready}
 use Rattle.first_pass_order.proofs.CountLemmas.{list_finished_count, leaf_left, left_before}
 use Rattle.first_pass_order.specs.Ordered.{AreNested}
 use Rattle.first_pass_blocks.proofs.Leaves.FirstItems.{kind_silent}
-use Rattle.first_pass_blocks.proofs.LineByLine.HandedOn.{path_added, html_stops, read_stopped, list_finished_blank}
+use Rattle.first_pass_blocks.proofs.LineByLine.HandedOn.{path_added, html_stops, read_stopped, list_finished_blank, ordered_stopped}
 use Rattle.first_pass_blocks.proofs.Leaves.KindBlocks.{AddsHtml, columns_are, html_blank_added, ready_kind}
 use Rattle.first_pass_blocks.proofs.Leaves.LeafAdded.{found_boundary}
 use Rattle.first_pass_blocks.proofs.Leaves.LeafLemmas.{line_end_of}
@@ -33,22 +32,30 @@ use Rattle.first_pass_blocks.proofs.Order.OrderSteps.{block_ordered, ordered_fin
 use Rattle.first_pass_blocks.proofs.Leaves.RawFits.{to_blank_between, to_blank_ends, to_blank_few}
 use Rattle.first_pass_order.proofs.WholeKept.{kept_of, list_finished_whole, block_whole, kind_whole}
 use Rattle.first_pass_blocks.proofs.LinkDefinitions.WrittenLemmas.{written_stay}
+use Rattle.first_pass_blocks.proofs.StateAt.{IsAt}
+use Rattle.first_pass_order.specs.LeafBlocks.{AddsKind}
+use Rattle.first_pass_kinds.specs.BlockStart.{IsFoundAt}
+use Rattle.first_pass_kinds.specs.declared.kinds.BlockStart.TheVariants.{HtmlToBlank as FoundHtml}
 
 -- the block's place, at the offset after the indentation
 pub html_stands : (text : List ℕ) (p : Place) (at : ℕ) → IsUtf8 text → IsPlaceOf text p → at ≡ offset (unindented p) → IsPlaceAt text at (unindented p)
 html_stands text p at u i at_is =
     let j = all_keep text p.line p.rest u i in record { offset_is = sym at_is; left_is = j.left ∙ ap (λ n. drop n text) (sym at_is) }
 
-pub html_read : (old new : BlockPass) (p : Place) (at columns next : ℕ) → IsUtf8 (source_text old) → IsPlaceOf (source_text old) p
-    → (state_of old).begin_list_item ≡ None → IsForest (tree_of old) → IsForest (list_finished p.line (state_of old)).tree
-    → IsKind (source_options old) p.rest HtmlToBlank → columns ≡ min 4 (indent p.rest) → at ≡ offset (unindented p)
-    → source_of new ≡ source_of old → NamesMore (allocs_of old) (allocs_of new)
-    → (state_of new).begin_list_item ≡ (list_finished p.line (state_of old)).begin_list_item
-    → (state_of new).blank ≡ (list_finished p.line (state_of old)).blank
-    → (after_line_at (source_text old) at ≤ next) × IsCharBoundary (source_text old) next
-    → AddsHtml (source_text old) (source_options old) (names_of (allocs_of new)) at columns (unindented p) (list_finished p.line (state_of old)).tree
-    (tree_of new) next → ReadsLeaf old new p next
-html_read old new p at columns next u i empty forest forest_after kind columns_is at_is source adds empty_is blank_is following block =
+-- A pass added an HTML block that a blank line ends, after it ended what a new block ends. Reading continues at a character
+-- boundary after the first line of the block.
+pub record HtmlAdded (old new : BlockPass) (p : Place) (at columns next : ℕ) : Type 0 where
+  pub source : source_of new ≡ source_of old
+  pub more : NamesMore (allocs_of old) (allocs_of new)
+  pub state : state_of new ≡ with_tree (list_finished p.line (state_of old)) (tree_of new)
+  pub following : (after_line_at (source_text old) at ≤ next) × IsCharBoundary (source_text old) next
+  pub block : AddsHtml (source_text old) (source_options old) (names_of (allocs_of new)) at columns (unindented p)
+      (list_finished p.line (state_of old)).tree (tree_of new) next
+
+pub html_read : (old new : BlockPass) (p : Place) (at columns next : ℕ) → IsAt (source_text old) (state_of old) p
+    → IsForest (list_finished p.line (state_of old)).tree → IsFoundAt (source_options old) p FoundHtml columns at → HtmlAdded old new p at columns next
+    → ReadsLeaf old new p next
+html_read old new p at columns next is_at forest_after found h =
     let text = source_text old in
     let options = source_options old in
     let now = names_of (allocs_of new) in
@@ -56,45 +63,56 @@ html_read old new p at columns next u i empty forest forest_after kind columns_i
     let q : PassState = list_finished p.line r in
     let z : Place = unindented p in
     let tree : Forest Item = tree_of new in
+    let u = is_at.utf8 in
+    let i = is_at.place in
+    let at_is = found.at_is in
+    let kind = found.kind in
+    let block = h.block in
     let e : Extent = html_to_blank text (path_of options q.tree) z in
     let j = all_keep text p.line p.rest u i in
     let low = unindented_later text p.line p.rest u i in
     let begins = found_boundary text p at u i at_is in
     let there = html_stands text p at u i at_is in
     let here : after_line_at text at ≡ line_end p = ap (after_line_at text) at_is ∙ line_end_of text p j in
+    let following = h.following in
     let later = following.0 in
-    let width = (columns_are _ _ columns_is (kind_says options p.rest HtmlToBlank kind)).0 in
-    let none = empty_is ∙ list_finished_none p.line r in
-    let blank = blank_is ∙ list_finished_blank p.line r in
-    let added = html_blank_added text options now p q.tree tree at next at_is j columns width block in
+    let width = (columns_are _ _ found.columns_are (kind_says options p.rest HtmlToBlank kind)).0 in
+    let none = ap (λ (z : PassState). z.begin_list_item) h.state ∙ list_finished_none p.line r in
+    let blank = ap (λ (z : PassState). z.blank) h.state ∙ list_finished_blank p.line r in
+    let gap : Bool = (state_of new).blank in
+    let added : AddsKind (document text options now) p HtmlToBlank gap q.tree tree next =
+    subst (λ t. AddsKind (document text options now) p HtmlToBlank t q.tree tree next) (sym blank)
+    (html_blank_added text options now p q.tree tree at next at_is j columns width block) in
     let some = left_before p (leaf_left options p.rest HtmlToBlank kind (λ b. cc)) in
     let grows = to_blank_few text options now q.tree tree at next u begins following.1.0 columns z there block (offset p) (omega arith) (omega arith) in
     let same = list_finished_count p.line r in
     let path : path_of options tree ≡ path_of options q.tree = ap (path_of options) block.tree_is ∙ path_added options q.tree block.items forest_after in
     record {
-      source = source;
-      names = adds.names;
+      source = h.source;
+      names = h.more.names;
       later = omega arith;
       boundary = following.1;
-      ready = λ more extends ready. subst (λ t. Ready (document text options more) t (state_of new) (lines_from text next)) (sym (ap tables_in adds.entries))
-          (ready_kind text options (tables_of (allocs_of old)) now more r tree p HtmlToBlank false next forest kind refl refl extends added empty ready
-          (state_of new).begin_list_item (state_of new).blank none blank);
-      named = λ h. block_added now (names_of (allocs_of old)) q.tree tree added.items adds.names added.tree_is
-          (kind_named text options now p HtmlToBlank false q.tree tree next added) (list_finished_named (names_of (allocs_of old)) p.line r h);
-      written = written_stay text (allocs_of old) (allocs_of new) adds.entries;
+      ready = λ more extends ready. subst (λ t. Ready (document text options more) t (state_of new) (lines_from text next)) (sym (ap tables_in h.more.entries))
+          (ready_kind old new p HtmlToBlank next more is_at (record { is_kind = kind; some = λ b. cc; other = refl; no_run = refl }) extends added none ready);
+      named = λ before. block_added now (names_of (allocs_of old)) q.tree tree added.items h.more.names added.tree_is
+          (kind_named text options now p HtmlToBlank gap q.tree tree next added) (list_finished_named (names_of (allocs_of old)) p.line r before);
+      written = written_stay text (allocs_of old) (allocs_of new) h.more.entries;
       order = λ o. let outside = list_finished_outside p.line r o.1.1.nested in
           let after = added_outside q.tree block.items outside.0 outside.1 in
-          let read = ordered_finished text r p.line (offset p) p.line at (omega arith) (omega arith) (inl (refl, o.0)) begins.0 begins empty o.1 in
-          read_stopped options text (state_of new) (path_of options q.tree) e next following.1 none (λ old. blank) path
+          let read = ordered_finished text r p.line (offset p) p.line at
+          (record { low = omega arith; later = omega arith; ends = inl (refl, o.0); boundary = begins; none = is_at.none; order = o.1 }) in
+          read_stopped options text (state_of new) next
+          (ordered_stopped options text (state_of new) (path_of options q.tree) e next following.1 none path
           (html_stops (length text) (path_of options q.tree) z (lines_from text (after_line_at text (offset z)))) block.left_is
-          (subst (λ f. AreNested f.nodes f.spine) (sym block.tree_is) after.0) (ap (λ f. is_list (top_body f)) block.tree_is ∙ after.1)
           (block_ordered text q (state_of new) at at e.«end» read.0 (omega arith)
           (to_blank_between text options now q.tree tree at next u begins following.1.0 columns z there block)
-          (to_blank_ends text options now q.tree tree at next u begins following.1.0 z there).0 none);
-      tables = λ h k. block_whole now (names_of (allocs_of old)) q.tree tree added.items adds.names added.tree_is
-          (kind_whole text options now p HtmlToBlank false q.tree tree next i added)
-          (kind_silent text options now p HtmlToBlank false q.tree tree next added)
-          (list_finished_named (names_of (allocs_of old)) p.line r h)
-          (kept_of (names_of (allocs_of old)) (list_finished p.line r).tree (list_finished_whole (names_of (allocs_of old)) p.line r forest k));
+          (to_blank_ends text options now q.tree tree at next u begins following.1.0 z there).0 none))
+          (λ old. blank)
+          (subst (λ f. AreNested f.nodes f.spine) (sym block.tree_is) after.0) (ap (λ f. is_list (top_body f)) block.tree_is ∙ after.1);
+      tables = λ before k. block_whole now (names_of (allocs_of old)) q.tree tree added.items h.more.names added.tree_is
+          (kind_whole text options now p HtmlToBlank gap q.tree tree next i added)
+          (kind_silent text options now p HtmlToBlank gap q.tree tree next added)
+          (list_finished_named (names_of (allocs_of old)) p.line r before)
+          (kept_of (names_of (allocs_of old)) (list_finished p.line r).tree (list_finished_whole (names_of (allocs_of old)) p.line r is_at.forest k));
       node_bound = omega arith;
     }

@@ -1,23 +1,22 @@
 -- An added leaf block is the one that its kind opens at its place.
-use Rattle.std.proofs.Common.{◌≡◌, ℕ, ◌+◌, ◌<◌, ◌≤◌, nat_lt, Bool, true, false, List, length, drop, Option, Some, None, refl, sym, ap, subst, ◌∙◌, arith, min}
+use Rattle.std.proofs.Common.{◌≡◌, ℕ, ◌+◌, ◌<◌, ◌≤◌, nat_lt, Bool, true, false, List, length, drop, Some, None, refl, sym, ap, subst, ◌∙◌, arith, min}
 use Rattle.std.proofs.Common.{if◌then◌else◌}
 use Rattle.std.proofs.lemmas.Bool.Decides.{nat_tests}
 use Rattle.first_pass_items.specs.declared.option_set.Options.{Options}
 use Rattle.first_pass_items.specs.declared.item.Item.{Item}
 use Rattle.first_pass_items.specs.declared.item.HeadingLevel.{HeadingLevel}
-use Rattle.first_pass_tree.specs.Forest.{Forest, IsForest, added}
-use Rattle.first_pass_lines.specs.Lines.{line_len}
+use Rattle.first_pass_tree.specs.Forest.{Forest, added}
+use Rattle.first_pass_lines.specs.Lines.{line_len, level_number}
 use Rattle.first_pass_lines.specs.Rest.{indent}
 use Rattle.first_pass_lines.specs.Places.{Place, offset, line_end, moved_columns, IsPlaceOf}
 use Rattle.first_pass_lines.proofs.PlaceFacts.{columns_line_end}
 use Rattle.first_pass_html.specs.Ends.{BlockEnd}
 use Rattle.first_pass_html.specs.Starts.{html_end}
-use Rattle.first_pass_grammar.specs.Derivation.{Tables}
 use Rattle.first_pass_grammar.specs.declared.kind.Container.{Container}
 use Rattle.first_pass_grammar.specs.Names.{Names, Extends}
 use Rattle.first_pass_grammar.specs.Kinds.{Kind, Blank, IndentedCode, Metadata, HtmlToEnd, HtmlToBlank, ThematicBreak, AtxHeading, FencedCode, all_taken}
 use Rattle.first_pass_grammar.specs.Kinds.{unindented, IsKind}
-use Rattle.first_pass_grammar.specs.Leaves.{Document, document, rule_block, heading_block}
+use Rattle.first_pass_grammar.specs.Leaves.{Document, document, rule_block, heading_block, IsHeading, heading_text_at}
 use Rattle.first_pass_grammar.specs.Extents.{Extent}
 use Rattle.first_pass_grammar.specs.CodeBlocks.{code_lines, last_is_blank, IsIndentedCode, metadata_lines, IsMetadata, fenced_lines, IsFencedCode}
 use Rattle.first_pass_grammar.specs.HtmlBlocks.{until_end, until_blank, IsHtml}
@@ -36,12 +35,17 @@ use Rattle.first_pass_kinds.specs.declared.kinds.MarkedLeaf.TheVariants.{Indente
 use Rattle.first_pass_kinds.specs.declared.kinds.MarkedLeaf.TheVariants.{ThematicBreak as MarkedBreak, AtxHeading as MarkedHeading, FencedCode as MarkedFence}
 use Rattle.first_pass_text.specs.Appends.{AddsHeading}
 use Rattle.first_pass_completion.proofs.Closings.{leaf_closes}
-use Rattle.first_pass_lists.specs.Closing.{state_with, top_body, list_finished}
+use Rattle.first_pass_lists.specs.Closing.{top_body, list_finished}
 use Rattle.first_pass_lists.specs.declared.state.PassState.{PassState}
 use Rattle.first_pass_blocks.specs.Positions.{ReadyLeaf}
 use Rattle.first_pass_ready.specs.State.{closed_in, Ready}
 use Rattle.first_pass_ready.proofs.FinishLemmas.{path_finished}
-use Rattle.first_pass_blocks.proofs.Leaves.LeafLemmas.{told_none, kind_in_other, kind_away, line_end_of, opens_heading, opens_rule, ready_added}
+use Rattle.first_pass_blocks.proofs.Leaves.LeafLemmas.{told_none, kind_in_other, kind_away, line_end_of, opens_rule, ready_added, LeafBegins}
+use Rattle.first_pass_blocks.proofs.StateAt.{IsAt}
+use Rattle.first_pass_blocks.specs.declared.state.BlockPass.{BlockPass}
+use Rattle.first_pass_blocks.specs.Views.{allocs_of, state_of, source_options, source_text, tree_of}
+use Rattle.first_pass_names.specs.TableEntries.{tables_of, names_of}
+use Rattle.first_pass_open.specs.Between.{line_end_at}
 
 -- indented code
 pub code_added : (text : List ℕ) (options : Options) (names : Names) (p : Place) (old new : Forest Item) (next : ℕ) (blank : Bool)
@@ -184,39 +188,61 @@ module _ (text : List ℕ) (options : Options) (names : Names) (p : Place) (old 
   -- an ATX heading
   pub heading_added : (level : HeadingLevel)
       → AddsHeading (document text options names) at level old new next → AddsKind (document text options names) p (AtxHeading level) false old new next
-  heading_added level h = record {
-    items = heading_block at next level h.index h.chain;
-    tree_is = h.tree_is;
-    opens = λ more extends. opens_heading text options names more (path_of options old) old new p at next level at_is place h extends;
-  }
+  unfolding OpensAs
+  heading_added level h =
+      let next_is : next ≡ line_end p = h.end_is ∙ ap (line_end_at text) at_is ∙ line_end_of text p place in
+      let opening : ℕ → ℕ → Opening =
+      λ k n. OpensLeaf (leaf_block (AtxHeading level) p (heading_block k next level h.index h.chain) false) Line (lines_from text n) in
+      record {
+        items = heading_block at next level h.index h.chain;
+        tree_is = h.tree_is;
+        opens = λ more e. (
+          h.index,
+          h.chain,
+          next,
+          subst (λ k. IsHeading (document text options more) (heading_text_at text k (level_number level)) h.index h.chain next) at_is (h.line more e),
+          ap (λ k. opening k next) at_is ∙ ap (opening (offset (unindented p))) next_is,
+        );
+      }
 
--- after a leaf block of a kind
-pub ready_kind : (text : List ℕ) (options : Options) (defined : Tables) (own names : Names) (r : PassState) (new : Forest Item) (p : Place) (kind : Kind)
-    (gap : Bool) (next : ℕ) → IsForest r.tree → IsKind options p.rest kind → is_paragraph kind ≡ false → is_run kind ≡ false → Extends names own
-    → AddsKind (document text options own) p kind gap (list_finished p.line r).tree new next → r.begin_list_item ≡ None
-    → ReadyLeaf (document text options names) defined r p (lines_from text (line_end p))
-    → (empty : Option ℕ) (blank : Bool) → empty ≡ None → blank ≡ gap
-    → Ready (document text options names) defined (state_with new empty blank) (lines_from text next)
-ready_kind text options defined own names r new p kind gap next forest is other no_run extends a none ready empty blank e b =
-    let d : Document = document text options names in
-    let lines : List Place = lines_from text (line_end p) in
-    let left : List Place = lines_from text next in
-    let o : Opening = OpensLeaf (leaf_block kind p a.items gap) Line left in
-    let opens = subst (λ path. OpensAs d path p lines kind o) (path_finished options p.line r none) (a.opens names extends) in
+-- A leaf block of a kind begins at a place. It is no blank line, paragraph or link reference definition.
+pub record IsOtherLeaf (options : Options) (p : Place) (kind : Kind) : Type 0 where
+  pub is_kind : IsKind options p.rest kind
+  pub some : kind ≡ Blank → ⊥
+  pub other : is_paragraph kind ≡ false
+  pub no_run : is_run kind ≡ false
+
+-- after such a block
+pub ready_kind : (old new : BlockPass) (p : Place) (kind : Kind) (next : ℕ) (names : Names) → IsAt (source_text old) (state_of old) p
+    → IsOtherLeaf (source_options old) p kind → Extends names (names_of (allocs_of new))
+    → AddsKind (document (source_text old) (source_options old) (names_of (allocs_of new))) p kind (state_of new).blank
+    (list_finished p.line (state_of old)).tree (tree_of new) next
+    → (state_of new).begin_list_item ≡ None
+    → (let d : Document = document (source_text old) (source_options old) names in
+    ReadyLeaf d (tables_of (allocs_of old)) (state_of old) p (lines_from (source_text old) (line_end p))
+    → Ready d (tables_of (allocs_of old)) (state_of new) (lines_from (source_text old) next))
+ready_kind old new p kind next names here leaf extends a none ready =
+    let d : Document = document (source_text old) (source_options old) names in
+    let r : PassState = state_of old in
+    let path : List Container = path_of d.options r.tree in
+    let lines : List Place = lines_from d.text (line_end p) in
+    let left : List Place = lines_from d.text next in
+    let gap : Bool = (state_of new).blank in
+    let opening : Opening = OpensLeaf (leaf_block kind p a.items gap) Line left in
+    let opens = subst (λ z. OpensAs d z p lines kind opening) (path_finished d.options p.line r here.none) (a.opens names extends) in
     let block : LeafBlock = block_at kind p a.items gap in
-    let closes : leaf_closes block ≡ p.line = ap (λ (t : Bool). if t then offset (unindented p) else p.line) other in
-    subst (λ z. Ready d z (state_with new empty blank) left) (told_none defined)
-    (ready_added d defined r new p lines left p.line block no_run kind
-    (λ begins. kind_away (top_body r.tree) (closed_in r.tree) p.line block left other (begins other) closes) forest is
-    (subst (λ k. OpensAs d (path_of options r.tree) p lines k o) (sym (kind_in_other (context_of options r.tree) p kind other)) opens) a.tree_is none ready
-    empty blank e b)
-
--- the same for a kind that equals this one, with blank lines at its end or none
-pub adds_so : (text : List ℕ) (options : Options) (names : Names) (p : Place) (k kind : Kind) (gap blank : Bool) (old new : Forest Item) (next : ℕ)
-    → kind ≡ k → blank ≡ gap → AddsKind (document text options names) p k gap old new next → AddsKind (document text options names) p kind blank old new next
-adds_so text options names p k kind gap blank old new next is same a =
-    subst (λ z. AddsKind (document text options names) p z blank old new next) (sym is)
-    (subst (λ g. AddsKind (document text options names) p k g old new next) (sym same) a)
+    let closes : leaf_closes block ≡ p.line = ap (λ (t : Bool). if t then offset (unindented p) else p.line) leaf.other in
+    let begins : LeafBegins d r p left p.line block = record {
+      forest = here.forest;
+      none = here.none;
+      kind = kind;
+      is_kind = leaf.is_kind;
+      opens = subst (λ k. OpensAs d path p lines k opening) (sym (kind_in_other (context_of d.options r.tree) p kind leaf.other)) opens;
+      away = λ begins. kind_away (top_body r.tree) (closed_in r.tree) p.line block left leaf.other (begins leaf.other) closes;
+    } in
+    subst (λ z. Ready d z (state_of new) left) (told_none (tables_of (allocs_of old)))
+    (ready_added d (tables_of (allocs_of old)) r (state_of new) p left p.line block leaf.no_run begins
+    (record { tree_is = a.tree_is; none = none; blank = refl }) ready)
 
 -- counted columns under four
 pub columns_are : (n m : ℕ) → n ≡ min 4 m → nat_lt m 4 ≡ true → (n ≡ m) × (n ≤ 3)

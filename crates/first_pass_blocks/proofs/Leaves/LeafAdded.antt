@@ -1,5 +1,5 @@
 -- A leaf block that a pass added at a place, from the contract of its parser for the offset after the indentation.
-use Rattle.std.proofs.Common.{◌≡◌, ℕ, ◌≤◌, drop, Some, false, List, IsUtf8, IsCharBoundary, refl, sym, ap, subst, ◌∙◌, arith}
+use Rattle.std.proofs.Common.{◌≡◌, ℕ, ◌≤◌, drop, Some, false, List, IsUtf8, IsCharBoundary, sym, ap, subst, ◌∙◌, arith}
 use Rattle.first_pass_items.specs.declared.option_set.Options.{Options}
 use Rattle.first_pass_lines.specs.Places.{Place, offset, line_end, IsPlaceOf}
 use Rattle.first_pass_grammar.specs.Leaves.{document}
@@ -22,7 +22,6 @@ use Rattle.first_pass_blocks.specs.Adding.{AddsLeaf, IsFoundIn}
 use Rattle.first_pass_order.specs.LeafBlocks.{AddsKind}
 use Rattle.first_pass_blocks.proofs.Order.OrderSteps.{unindented_later}
 use Rattle.first_pass_blocks.proofs.Leaves.LeafLemmas.{line_end_of}
-use Rattle.first_pass_blocks.proofs.Leaves.KindBlocks.{adds_so}
 
 -- the bytes at which a marked leaf block was found
 pub found_says : (options : Options) (p : Place) (leaf : MarkedLeaf) (columns at : ℕ) → IsFoundAt options p (Marked leaf) columns at
@@ -72,8 +71,8 @@ module _ (old new : BlockPass) (p : Place) (leaf : MarkedLeaf) (columns at next 
         source = source;
         more = more;
         begin_list_item = empty ∙ f.no_empty;
-        block = adds_so (source_text old) (source_options old) (names_of (allocs_of new)) p (marked_kind leaf) (marked_kind leaf) false
-            (state_of new).blank (tree_of old) (tree_of new) next refl (blank ∙ f.not_blank) block;
+        block = subst (λ gap. AddsKind (document (source_text old) (source_options old) (names_of (allocs_of new))) p (marked_kind leaf) gap
+            (tree_of old) (tree_of new) next) (sym (blank ∙ f.not_blank)) block;
         later = omega arith;
         boundary = following.1;
         fits = λ from before. fits from (omega arith);

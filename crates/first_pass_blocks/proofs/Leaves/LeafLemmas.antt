@@ -4,11 +4,10 @@ use Rattle.std.proofs.Common.{map, Option, Some, None, refl, sym, ap, subst, ◌
 use Rattle.first_pass_items.specs.declared.item.Item.{Item}
 use Rattle.first_pass_items.specs.declared.item.ItemBody.{ItemBody}
 use Rattle.first_pass_items.specs.declared.item.ItemBody.TheVariants.{BlockQuote as BlockQuoteBody, List as ListBody, DefinitionList}
-use Rattle.first_pass_items.specs.declared.item.HeadingLevel.{HeadingLevel}
 use Rattle.first_pass_items.specs.OptionWords.{has, definition_list}
 use Rattle.first_pass_tree.specs.declared.tree_index.TreeIndex.{TreeIndex}
 use Rattle.first_pass_tree.specs.Forest.{Forest, IsForest, added, at_depth}
-use Rattle.first_pass_lines.specs.Lines.{level_number, line_len}
+use Rattle.first_pass_lines.specs.Lines.{line_len}
 use Rattle.first_pass_scan.specs.LeafLines.{hrule_len}
 use Rattle.first_pass_lines.specs.Rest.{indent}
 use Rattle.first_pass_lines.specs.Places.{Place, offset, line_end, IsPlaceOf}
@@ -22,13 +21,11 @@ use Rattle.first_pass_grammar.specs.Rows.{is_paragraph}
 use Rattle.std.proofs.lemmas.Bool.{true≢false}
 use Rattle.first_pass_grammar.specs.declared.kind.Container.{Container}
 use Rattle.first_pass_grammar.specs.Containers.{Context}
-use Rattle.first_pass_grammar.specs.Kinds.{Kind, Blank, ThematicBreak, AtxHeading, LinkDefinitions, Paragraph, unindented, IsKind}
-use Rattle.first_pass_grammar.specs.Names.{Names, Extends}
-use Rattle.first_pass_items.specs.declared.option_set.Options.{Options}
-use Rattle.first_pass_grammar.specs.Leaves.{Document, document, around, IsHeading, heading_text_at, rule_block, heading_block}
+use Rattle.first_pass_grammar.specs.Kinds.{Kind, Blank, ThematicBreak, LinkDefinitions, Paragraph, unindented, IsKind}
+use Rattle.first_pass_grammar.specs.Leaves.{Document, around, rule_block}
 use Rattle.first_pass_grammar.specs.Blocks.{BlankLine, LeafBlock, Block, run_block, flowing_block, block_at, leaf_block}
 use Rattle.first_pass_grammar.specs.Openers.{start_at}
-use Rattle.first_pass_grammar.specs.Skeleton.{OpensBeyond, OpensRun, Line, Inside, AtPlace, OnlyALeaf, TextOf, IsFirst, Opening, OpensLeaf, OpensText, OpensAs}
+use Rattle.first_pass_grammar.specs.Skeleton.{OpensBeyond, OpensRun, Line, AtPlace, OnlyALeaf, TextOf, IsFirst, Opening, OpensLeaf, OpensText, OpensAs}
 use Rattle.first_pass_grammar.specs.Skeleton.{OpensBlockAt, OpensBy, Opens, Level, next_block, may_define as may_begin}
 use Rattle.first_pass_grammar.specs.Tables.{taking}
 use Rattle.first_pass_grammar.specs.Texts.{IsText}
@@ -43,11 +40,10 @@ use Rattle.first_pass_completion.proofs.Completions.{completes-leaf, completes-b
 use Rattle.first_pass_completion.proofs.FlatBlocks.{OwnParagraph, kind_holds}
 use Rattle.first_pass_completion.proofs.SilentTexts.{text_silent, opened_silent}
 use Rattle.first_pass_grammar.proofs.WholeTables.TableMarks.{tokens_show}
+use Rattle.first_pass_completion.proofs.States.{open_nodes}
 use Rattle.first_pass_completion.proofs.Titles.{closed_after}
 use Rattle.first_pass_open.specs.Between.{line_end_at}
-use Rattle.first_pass_text.specs.Appends.{AddsHeading}
-use Rattle.first_pass_blocks.specs.TextsAdded.{IsTextAt}
-use Rattle.first_pass_lists.specs.Closing.{state_with, top_body, top_end, is_list, is_definition_list, possible_title, is_after_definition, list_finished}
+use Rattle.first_pass_lists.specs.Closing.{top_body, top_end, is_list, is_definition_list, possible_title, is_after_definition, list_finished}
 use Rattle.first_pass_lists.specs.Closing.{blank_read_by, blank_read}
 use Rattle.first_pass_lists.specs.declared.state.PassState.{PassState}
 use Rattle.first_pass_open.specs.Path.{path_of, context_of}
@@ -178,39 +174,26 @@ run_ready d defined f q xs left is =
           (append-nil f.nodes) is.completes;
     }
 
--- the state then, with no empty item
-remembered_so : (d : Document) (defined : Tables) (new : Forest Item) (empty : Option ℕ) (blank gap : Bool) (left : List Place)
-    → empty ≡ None → blank ≡ gap → ReadyAt d defined new gap Line left → Ready d defined (state_with new empty blank) left
-remembered_so d defined new empty blank gap left none same ready =
-    ready_plain d defined (state_with new empty blank) left none (subst (λ t. ReadyAt d defined new t Line left) (sym same) ready)
+-- A leaf block begins at the place of a state: it is the one that a kind opens there. As a new block it ends an innermost
+-- list at an offset. No item is empty.
+pub record LeafBegins (d : Document) (r : PassState) (p : Place) (left : List Place) (at : ℕ) (block : LeafBlock) : Type 0 where
+  pub forest : IsForest r.tree
+  pub none : r.begin_list_item ≡ None
+  pub kind : Kind
+  pub is_kind : IsKind d.options p.rest kind
+  pub opens : OpensAs d (path_of d.options r.tree) p (lines_from d.text (line_end p)) (kind_in (context_of d.options r.tree) p kind)
+      (OpensLeaf (Block block) Line left)
+  pub away : (is_paragraph block.kind ≡ false → begins_paragraph block.items ≡ false)
+      → EndsListAt at (top_body r.tree) (closed_in r.tree) (OpensLeaf (Block block) Line left)
 
--- the reading of a leaf block after a new block ended what it ends
-finished_read : (d : Document) (defined : Tables) (r : PassState) (p : Place) (lines left : List Place) (at : ℕ) (block : LeafBlock)
-    → (begins_paragraph block.items ≡ true → AreEachNode ShowsNothing block.items)
-    → EndsListAt at (top_body r.tree) (closed_in r.tree) (OpensLeaf (Block block) Line left) → IsForest r.tree
-    → Opens d (level_of d.options r.tree r.blank) p lines (OpensLeaf (Block block) Line left)
-    → r.begin_list_item ≡ None → ReadyAt d defined r.tree r.blank (Inside p) lines → IsRead d defined (list_finished at r).tree block left
-finished_read d defined r p lines left at block shows away forest opens none ready =
-    let opening : Opening = OpensLeaf (Block block) Line left in
-    let stays = opens_stays d (level_of d.options r.tree r.blank) p lines opening refl opens in
-    let done = ready_finished d defined r p lines at opening forest stays opens tt refl away none ready in
-    let f : Forest Item = (list_finished at r).tree in
-    let now = done.ready.0 in
-    let frames : List Frame = now.frames in
-    let os : List ℕ = map (λ (i : TreeIndex). i.0) f.spine in
-    let opens' : Opens d (lvl frames (tail (closed_in f) false)) p lines opening =
-    subst (λ z. Opens d z p lines opening) (open_level d.options f frames false now.are_open) done.opens in
-    record {
-      frames = frames;
-      are_open = now.are_open;
-      plain = done.ready.1;
-      silent = now.silent;
-      shows = shows;
-      below = now.completes.below;
-      completes = completes-block d defined (closed_in f) frames f.nodes os p lines left block done.ready.1 opens' now.completes;
-    }
+-- A block is added to a tree: a state has its items as last nodes, and whether a blank line at its end counts. No item is
+-- empty.
+pub record BlockAdded (old : Forest Item) (new : PassState) (items : List (ℕ × Item)) (gap : Bool) : Type 0 where
+  pub tree_is : new.tree ≡ added old items
+  pub none : new.begin_list_item ≡ None
+  pub blank : new.blank ≡ gap
 
--- the same after the tag of a block quote, where a new block ends nothing
+-- the reading of a leaf block after the tag of a block quote, where a new block ends nothing
 lazy_read : (d : Document) (defined : Tables) (r : PassState) (p : Place) (lines left : List Place) (at : ℕ) (block : LeafBlock)
     → (begins_paragraph block.items ≡ true → AreEachNode ShowsNothing block.items)
     → OpensBlockAt d (path_of d.options r.tree) p lines (OpensLeaf (Block block) Line left) → r.begin_list_item ≡ None → ReadyLazy d defined r p lines
@@ -237,8 +220,8 @@ lazy_read d defined r p lines left at block shows opens none lazy =
       silent = ready.silent;
       shows = shows;
       below = ready.completes.below;
-      completes = completes-leaf d defined (closed_in f) frames f.nodes os (AtPlace p OnlyALeaf) lines left block plain (λ path mid. refl) tt first
-          ready.completes;
+      completes = completes-leaf d (open_nodes defined frames f.nodes os) (closed_in f) (AtPlace p OnlyALeaf) lines left block plain (λ path mid. refl) tt
+          first ready.completes;
     } in
     subst (λ (z : PassState). IsRead d defined z.tree block left) (sym (finishes_nothing at r lazy.kind lazy.quote lazy.blank none)) is
 
@@ -247,44 +230,53 @@ begins_by : (block : LeafBlock) (t : Bool) → begins_paragraph block.items ≡ 
 begins_by block true begins own other = absurd (true≢false (sym (own.kind begins) ∙ other))
 begins_by block false begins own other = refl
 
-leaf_read_by : (d : Document) (defined : Tables) (r : PassState) (p : Place) (lines left : List Place) (at : ℕ) (block : LeafBlock) (k : Kind)
-    → (begins_paragraph block.items ≡ true → AreEachNode ShowsNothing block.items)
-    → EndsListAt at (top_body r.tree) (closed_in r.tree) (OpensLeaf (Block block) Line left) → IsForest r.tree → IsKind d.options p.rest k
-    → OpensAs d (path_of d.options r.tree) p lines (kind_in (context_of d.options r.tree) p k) (OpensLeaf (Block block) Line left)
-    → r.begin_list_item ≡ None → ReadyLeaf d defined r p lines → IsRead d defined (list_finished at r).tree block left
-leaf_read_by d defined r p lines left at block k shows away forest kind opens none (inl (bare, no_start, ready)) =
-    finished_read d defined r p lines left at block shows away forest
-    (no_container d r.tree r.blank p lines k (OpensLeaf (Block block) Line left) bare no_start kind opens) none ready
-leaf_read_by d defined r p lines left at block k shows away forest kind opens none (inr lazy) =
-    lazy_read d defined r p lines left at block shows (k, kind, opens) none lazy
+leaf_read_by : (d : Document) (defined : Tables) (r : PassState) (p : Place) (left : List Place) (at : ℕ) (block : LeafBlock)
+    → LeafBegins d r p left at block → (begins_paragraph block.items ≡ true → AreEachNode ShowsNothing block.items)
+    → EndsListAt at (top_body r.tree) (closed_in r.tree) (OpensLeaf (Block block) Line left) → ReadyLeaf d defined r p (lines_from d.text (line_end p))
+    → IsRead d defined (list_finished at r).tree block left
+leaf_read_by d defined r p left at block b shows away (inl (bare, no_start, ready)) =
+    let lines : List Place = lines_from d.text (line_end p) in
+    let opening : Opening = OpensLeaf (Block block) Line left in
+    let opens = no_container d r.tree r.blank p lines b.kind opening bare no_start b.is_kind b.opens in
+    let stays = opens_stays d (level_of d.options r.tree r.blank) p lines opening refl opens in
+    let done = ready_finished d defined r p lines at opening b.forest stays opens tt refl away b.none ready in
+    let f : Forest Item = (list_finished at r).tree in
+    let now = done.ready.0 in
+    let frames : List Frame = now.frames in
+    let os : List ℕ = map (λ (i : TreeIndex). i.0) f.spine in
+    let opens' : Opens d (lvl frames (tail (closed_in f) false)) p lines opening =
+    subst (λ z. Opens d z p lines opening) (open_level d.options f frames false now.are_open) done.opens in
+    record {
+      frames = frames;
+      are_open = now.are_open;
+      plain = done.ready.1;
+      silent = now.silent;
+      shows = shows;
+      below = now.completes.below;
+      completes = completes-block d (open_nodes defined frames f.nodes os) (closed_in f) p lines left block done.ready.1 opens' now.completes;
+    }
+leaf_read_by d defined r p left at block b shows away (inr lazy) =
+    lazy_read d defined r p (lines_from d.text (line_end p)) left at block shows (b.kind, b.is_kind, b.opens) b.none lazy
 
--- A leaf block that a kind opens at its place ends at an offset what a new block ends.
-leaf_is_read : (d : Document) (defined : Tables) (r : PassState) (p : Place) (lines left : List Place) (at : ℕ) (block : LeafBlock) (k : Kind)
-    → ((is_paragraph block.kind ≡ false → begins_paragraph block.items ≡ false)
-    → EndsListAt at (top_body r.tree) (closed_in r.tree) (OpensLeaf (Block block) Line left)) → IsForest r.tree → IsKind d.options p.rest k
-    → OpensAs d (path_of d.options r.tree) p lines (kind_in (context_of d.options r.tree) p k) (OpensLeaf (Block block) Line left)
-    → r.begin_list_item ≡ None → ReadyLeaf d defined r p lines → IsRead d defined (list_finished at r).tree block left
-leaf_is_read d defined r p lines left at block k away forest kind opens none ready =
-    let o : Opening = OpensLeaf (Block block) Line left in
-    let holds = kind_holds ShowsNothing d (tokens_show d.names.texts) (path_of d.options r.tree) p lines (kind_in (context_of d.options r.tree) p k) o opens in
+-- A leaf block that begins at a place was read.
+leaf_is_read : (d : Document) (defined : Tables) (r : PassState) (p : Place) (left : List Place) (at : ℕ) (block : LeafBlock)
+    → LeafBegins d r p left at block → ReadyLeaf d defined r p (lines_from d.text (line_end p)) → IsRead d defined (list_finished at r).tree block left
+leaf_is_read d defined r p left at block b ready =
+    let holds = kind_holds ShowsNothing d (tokens_show d.names.texts) (path_of d.options r.tree) p (lines_from d.text (line_end p))
+    (kind_in (context_of d.options r.tree) p b.kind) (OpensLeaf (Block block) Line left) b.opens in
     let begins : is_paragraph block.kind ≡ false → begins_paragraph block.items ≡ false =
     λ other. begins_by block (begins_paragraph block.items) refl holds.1 other in
-    leaf_read_by d defined r p lines left at block k (λ begins. text_silent block.items begins holds.0.tokens) (away begins) forest kind opens none ready
+    leaf_read_by d defined r p left at block b (λ begins. text_silent block.items begins holds.0.tokens) (b.away begins) ready
 
 -- a leaf block is added at its place
-pub ready_added : (d : Document) (defined : Tables) (r : PassState) (new : Forest Item) (p : Place) (lines left : List Place) (at : ℕ) (block : LeafBlock)
-    → is_run block.kind ≡ false → (k : Kind)
-    → ((is_paragraph block.kind ≡ false → begins_paragraph block.items ≡ false)
-    → EndsListAt at (top_body r.tree) (closed_in r.tree) (OpensLeaf (Block block) Line left)) → IsForest r.tree → IsKind d.options p.rest k
-    → OpensAs d (path_of d.options r.tree) p lines (kind_in (context_of d.options r.tree) p k) (OpensLeaf (Block block) Line left)
-    → new ≡ added (list_finished at r).tree block.items → r.begin_list_item ≡ None → ReadyLeaf d defined r p lines
-    → (empty : Option ℕ) (blank : Bool) → empty ≡ None → blank ≡ block.gap
-    → Ready d (with_definitions defined block.definitions) (state_with new empty blank) left
-ready_added d defined r new p lines left at block other k away forest kind opens new_is none ready empty blank e b =
-    let is = leaf_is_read d defined r p lines left at block k away forest kind opens none ready in
-    remembered_so d (with_definitions defined block.definitions) new empty blank block.gap left e b
-    (subst (λ z. ReadyAt d (with_definitions defined block.definitions) z block.gap Line left) (sym new_is)
-    (block_ready d defined (list_finished at r).tree block left other is))
+pub ready_added : (d : Document) (defined : Tables) (r new : PassState) (p : Place) (left : List Place) (at : ℕ) (block : LeafBlock)
+    → is_run block.kind ≡ false → LeafBegins d r p left at block → BlockAdded (list_finished at r).tree new block.items block.gap
+    → ReadyLeaf d defined r p (lines_from d.text (line_end p)) → Ready d (with_definitions defined block.definitions) new left
+ready_added d defined r new p left at block other b now ready =
+    let known : Tables = with_definitions defined block.definitions in
+    let is = leaf_is_read d defined r p left at block b ready in
+    ready_plain d known new left now.none (subst (λ t. ReadyAt d known new.tree t Line left) (sym now.blank)
+    (subst (λ z. ReadyAt d known z block.gap Line left) (sym now.tree_is) (block_ready d defined (list_finished at r).tree block left other is)))
 
 kind_blank_is : (r : PassState) (b : Option ItemBody) (kind : Option BlockQuoteKind) → b ≡ Some (BlockQuoteBody kind) → blank_read_by r b ≡ r
 kind_blank_is r b kind is = ap (blank_read_by r) is
@@ -319,25 +311,6 @@ ready_blank_leaf d defined r p lines kind none (inr lazy) =
     subst (λ q. Ready d defined q lines) (sym (kind_blank_is r (top_body r.tree) lazy.kind lazy.quote))
     (ready_plain d defined r lines none (subst (λ t. ReadyAt d defined f t Line lines) (sym lazy.blank) now))
 
--- an added heading is the one that opens at its place
-pub opens_heading : (text : List ℕ) (options : Options) (names more : Names) (path : List Container) (old new : Forest Item) (p : Place) (at next : ℕ)
-    (level : HeadingLevel) → at ≡ offset (unindented p)
-    → IsPlaceOf text (unindented p) → (h : AddsHeading (document text options names) at level old new next) → Extends more names
-    → OpensAs (document text options more) path p (lines_from text (line_end p)) (AtxHeading level)
-    (OpensLeaf (leaf_block (AtxHeading level) p (heading_block at next level h.index h.chain) false) Line (lines_from text next))
-unfolding OpensAs
-opens_heading text options names more path old new p at next level at_is place h e =
-    let next_is : next ≡ line_end p = h.end_is ∙ ap (line_end_at text) at_is ∙ line_end_of text p place in (
-      h.index,
-      h.chain,
-      next,
-      subst (λ k. IsHeading (document text options more) (heading_text_at text k (level_number level)) h.index h.chain next) at_is (h.line more e),
-      ap (λ k. OpensLeaf (leaf_block (AtxHeading level) p (heading_block k next level h.index h.chain) false) Line (lines_from text next)) at_is
-          ∙ ap
-          (λ n. OpensLeaf (leaf_block (AtxHeading level) p (heading_block (offset (unindented p)) next level h.index h.chain) false) Line (lines_from text n))
-          next_is,
-    )
-
 -- a thematic break
 pub opens_rule : (d : Document) (path : List Container) (p : Place) (at next size : ℕ) → at ≡ offset (unindented p) → next ≡ line_end p
     → OpensAs d path p (lines_from d.text (line_end p)) (ThematicBreak size)
@@ -348,14 +321,13 @@ opens_rule d path p at next size at_is next_is =
     ∙ ap (λ n. OpensLeaf (leaf_block (ThematicBreak size) p (rule_block (offset (unindented p)) size) false) Line (lines_from d.text n)) next_is
 
 -- a paragraph, heading or table, after a task list item marker or not, is the one that opens at its place
-opens_text : (d : Document) (path : List Container) (p : Place) (at next : ℕ) (marker : Option Item) (items : List (ℕ × Item))
-    → at ≡ offset (unindented p) → IsPlaceOf d.text (unindented p) → IsTextAt d path at marker items next
+opens_text : (d : Document) (path : List Container) (p : Place) (next : ℕ) (marker : Option Item) (items : List (ℕ × Item))
+    → IsText d path (unindented p) marker (lines_from d.text (line_end (unindented p))) (taking items (lines_from d.text next))
     → OpensText d path p (lines_from d.text (line_end p)) marker (OpensLeaf (leaf_block Paragraph p items false) Line (lines_from d.text next))
 unfolding OpensText
-opens_text d path p at next marker items at_is place is = (
+opens_text d path p next marker items is = (
   taking items (lines_from d.text next),
-  subst (λ n. IsText d path (unindented p) marker (lines_from d.text n) (taking items (lines_from d.text next))) (columns_line_end (indent p.rest) p)
-      (is (unindented p) place (sym at_is)),
+  subst (λ n. IsText d path (unindented p) marker (lines_from d.text n) (taking items (lines_from d.text next))) (columns_line_end (indent p.rest) p) is,
   refl,
 )
 
@@ -387,27 +359,10 @@ text_opens d path p lines (x ∷ xs) b o (here, more) opens =
     subst (λ k. OpensAs d path p lines k o) (sym (kind_in_run (around d path) p x here)) (x ∷ xs, b, (here, more), opens)
 
 -- the paragraph, heading or table at a place, after link reference definitions or none
-pub opens_flow : (d : Document) (path : List Container) (q : Place) (at next : ℕ) (xs : List LinkEntry) (items : List (ℕ × Item))
-    → at ≡ offset q → IsPlaceOf d.text q → IsTextAt d path at None items next
+pub opens_flow : (d : Document) (path : List Container) (q : Place) (next : ℕ) (xs : List LinkEntry) (items : List (ℕ × Item))
+    → IsText d path q None (lines_from d.text (line_end q)) (taking items (lines_from d.text next))
     → OpensBeyond d path xs (FlowsOn q (lines_from d.text (line_end q))) (OpensLeaf (Block (flowing_block q xs items)) Line (lines_from d.text next))
-opens_flow d path q at next xs items at_is place is = (taking items (lines_from d.text next), is q place (sym at_is), refl)
-
--- after such a text, which ends any list at an offset
-pub ready_flows : (d : Document) (defined : Tables) (r : PassState) (new : Forest Item) (p q : Place) (ends at next : ℕ) (xs : List LinkEntry)
-    (items : List (ℕ × Item)) → IsForest r.tree → IsKind d.options p.rest Paragraph → IsPlaceOf d.text q → at ≡ offset q
-    → IsRun (context_of d.options r.tree) (unindented p) (lines_from d.text (line_end p)) xs (FlowsOn q (lines_from d.text (line_end q)))
-    → IsTextAt d (path_of d.options r.tree) at None items next
-    → EndsListAt ends (top_body r.tree) (closed_in r.tree) (OpensLeaf (Block (flowing_block q xs items)) Line (lines_from d.text next))
-    → new ≡ added (list_finished ends r).tree items → r.begin_list_item ≡ None
-    → ReadyLeaf d defined r p (lines_from d.text (line_end p)) → (empty : Option ℕ) (blank : Bool) → empty ≡ None → blank ≡ false
-    → Ready d (with_definitions defined xs) (state_with new empty blank) (lines_from d.text next)
-ready_flows d defined r new p q ends at next xs items forest kind place at_is run is away new_is none ready =
-    let lines : List Place = lines_from d.text (line_end p) in
-    let left : List Place = lines_from d.text next in
-    let block : LeafBlock = flowing_block q xs items in
-    let opens = text_opens d (path_of d.options r.tree) p lines xs (FlowsOn q (lines_from d.text (line_end q))) (OpensLeaf (Block block) Line left) run
-    (opens_flow d (path_of d.options r.tree) q at next xs items at_is place is) in
-    ready_added d defined r new p lines left ends block refl Paragraph (λ begins. away) forest kind opens new_is none ready
+opens_flow d path q next xs items is = (taking items (lines_from d.text next), is, refl)
 
 -- after link reference definitions without a paragraph after them, the last of which begins at a place
 pub ready_ended : (d : Document) (defined : Tables) (r : PassState) (p q : Place) (next : ℕ) (xs : List LinkEntry)
@@ -420,19 +375,26 @@ ready_ended d defined r p q next xs forest kind run none ready =
     let now : PassState = list_finished q.line r in
     let block : LeafBlock = run_block q xs in
     let opens = text_opens d (path_of d.options r.tree) p lines xs (Ended q left) (OpensLeaf (Block block) Line left) run refl in
-    let is = leaf_is_read d defined r p lines left q.line block Paragraph
-    (λ begins. kind_away (top_body r.tree) (closed_in r.tree) q.line block left refl refl refl) forest kind opens none ready in
+    let begins : LeafBegins d r p left q.line block = record {
+      forest = forest;
+      none = none;
+      kind = Paragraph;
+      is_kind = kind;
+      opens = opens;
+      away = λ begins. kind_away (top_body r.tree) (closed_in r.tree) q.line block left refl refl refl;
+    } in
+    let is = leaf_is_read d defined r p left q.line block begins ready in
     ready_plain d (with_definitions defined xs) now left (list_finished_none q.line r)
     (subst (λ t. ReadyAt d (with_definitions defined xs) now.tree t Line left) (sym (list_finished_blank q.line r))
     (run_ready d defined now.tree q xs left is))
 
 -- after the text of a task list item
-pub ready_text : (d : Document) (defined : Tables) (r : PassState) (new : Forest Item) (p : Place) (at next : ℕ) (marker : Item) (items : List (ℕ × Item))
-    → is_task_marker marker.body ≡ true → at ≡ offset (unindented p) → IsPlaceOf d.text (unindented p)
-    → IsTextAt d (path_of d.options r.tree) at (Some marker) items next → new ≡ added r.tree items → r.begin_list_item ≡ None
-    → ReadyText d defined r marker p (lines_from d.text (line_end p)) → Ready d defined (state_with new r.begin_list_item r.blank) (lines_from d.text next)
+pub ready_text : (d : Document) (defined : Tables) (r new : PassState) (p : Place) (next : ℕ) (marker : Item) (items : List (ℕ × Item))
+    → is_task_marker marker.body ≡ true
+    → IsText d (path_of d.options r.tree) (unindented p) (Some marker) (lines_from d.text (line_end (unindented p))) (taking items (lines_from d.text next))
+    → BlockAdded r.tree new items r.blank → ReadyText d defined r marker p (lines_from d.text (line_end p)) → Ready d defined new (lines_from d.text next)
 unfolding next_block
-ready_text d defined r new p at next marker items mark at_is place is new_is none text =
+ready_text d defined r new p next marker items mark is result text =
     let ready = text.ready in
     let f : Forest Item = r.tree in
     let frames : List Frame = ready.frames in
@@ -440,9 +402,9 @@ ready_text d defined r new p at next marker items mark at_is place is new_is non
     let lines : List Place = lines_from d.text (line_end p) in
     let left : List Place = lines_from d.text next in
     let block : LeafBlock = block_at Paragraph p items false in
-    let here : IsTextAt d (containers_of frames) at (Some marker) items next =
-    subst (λ path. IsTextAt d path at (Some marker) items next) (open_path d.options f.nodes f.spine frames ready.are_open) is in
-    let opens = opens_text d (containers_of frames) p at next (Some marker) items at_is place here in
+    let opens = opens_text d (containers_of frames) p next (Some marker) items
+    (subst (λ path. IsText d path (unindented p) (Some marker) (lines_from d.text (line_end (unindented p))) (taking items left))
+    (open_path d.options f.nodes f.spine frames ready.are_open) is) in
     let l : Level = lvl frames (tail (closed_in f) false) in
     let first : IsFirst d l (AtPlace p (TextOf marker)) lines (OpensLeaf (Block block) Line left) =
     record { place = p; following = lines; begins = refl; opens = opens } in
@@ -453,12 +415,13 @@ ready_text d defined r new p at next marker items mark at_is place is new_is non
       silent = ready.silent;
       shows = opened_silent d l (AtPlace p (TextOf marker)) lines block Line left (task_shows marker.body mark) first;
       below = ready.completes.below;
-      completes = completes-text d defined (closed_in f) frames f.nodes os marker p lines left block text.plain (mark_by marker.body mark) opens
-          ready.completes;
+      completes = completes-text d (open_nodes defined frames f.nodes os) (closed_in f) marker p lines left block text.plain (mark_by marker.body mark)
+          opens ready.completes;
     } in
     let now : ReadyAt d (with_definitions defined []) (added f items) false Line left = block_ready d defined f block left refl read in
-    ready_plain d defined (state_with new r.begin_list_item r.blank) left none
-    (subst (λ t. ReadyAt d defined new t Line left) (sym text.blank) (subst (λ z. ReadyAt d defined z false Line left) (sym new_is)
+    ready_plain d defined new left result.none
+    (subst (λ t. ReadyAt d defined new.tree t Line left) (sym (result.blank ∙ text.blank))
+    (subst (λ z. ReadyAt d defined z false Line left) (sym result.tree_is)
     (subst (λ z. ReadyAt d z (added f items) false Line left) (told_none defined) now)))
 
 -- a thematic break ends where its line ends

@@ -51,7 +51,8 @@ module _ (text : List ℕ) (options : Options) (names : Names) (old new : Forest
         items = a.items;
         tree_is = a.tree_is;
         fits = between-any text (within_top old) from _ a.items (fenced_fits (document text options names) start count e a.items u
-            (a.are names (extends_none names)) b (fenced_after_placed text u (path_of options old) columns byte count start b) from next low before);
+            (a.are names (extends_none names)) b (fenced_after_placed text u (path_of options old) columns byte count start b)
+            (record { from = from; to = next; following = low; before = before }));
       }
 
   pub metadata_between : (byte : ℕ) → is_content byte ≡ true → (
@@ -65,7 +66,8 @@ module _ (text : List ℕ) (options : Options) (names : Names) (old new : Forest
         items = a.items;
         tree_is = a.tree_is;
         fits = between-any text (within_top old) from _ a.items (metadata_fits (document text options names) start byte e a.items u
-            (a.are names (extends_none names)) b (metadata_after_placed text u (path_of options old) byte start b) from next low before);
+            (a.are names (extends_none names)) b (metadata_after_placed text u (path_of options old) byte start b)
+            (record { from = from; to = next; following = low; before = before }));
       }
 
   pub to_end_between : (until : BlockEnd) (columns : ℕ) → ((p : Place) → IsPlaceAt text start p → let e : Extent = html_to_end text
@@ -82,7 +84,8 @@ module _ (text : List ℕ) (options : Options) (names : Names) (old new : Forest
         tree_is = a.tree_is;
         fits = between-any text
             (within_top old) from _ a.items (html_fits (document text options names) start columns e a.items u (a.are names (extends_none names)) b
-            (subst (λ n. IsPlaced text n e) i.offset_is (to_end_placed text u (path_of options old) until p (place_of text start p b i))) from next low before);
+            (subst (λ n. IsPlaced text n e) i.offset_is (to_end_placed text u (path_of options old) until p (place_of text start p b i)))
+            (record { from = from; to = next; following = low; before = before }));
       }
 
   pub to_blank_between : (columns : ℕ) (p : Place) → IsPlaceAt text start p → (
@@ -96,8 +99,8 @@ module _ (text : List ℕ) (options : Options) (names : Names) (old new : Forest
         tree_is = a.tree_is;
         fits = between-any text
             (within_top old) from _ a.items (html_fits (document text options names) start columns e a.items u (a.are names (extends_none names)) b
-            (subst (λ n. IsPlaced text n e) i.offset_is (to_blank_placed text u (path_of options old) p (place_of text start p b i))) from e.«end» low
-            (omega arith));
+            (subst (λ n. IsPlaced text n e) i.offset_is (to_blank_placed text u (path_of options old) p (place_of text start p b i)))
+            (record { from = from; to = e.«end»; following = low; before = omega arith }));
       }
 
   -- up to the start of the remaining lines, at most four nodes of the tree's own are new for each byte
@@ -113,8 +116,8 @@ module _ (text : List ℕ) (options : Options) (names : Names) (old new : Forest
       (subst (λ n. ArePlaced text n e.places (start_of (length text) e.left)) i.offset_is (to_blank_left text u (path_of options old) p stands)) in
       let node_bound = subst (λ n. AreFew n e.places) i.offset_is (to_blank_placed text u (path_of options old) p stands).node_bound in
       let some =
-      html_few (document text options names) start columns next e a.items (a.are names (extends_none names)) placed node_bound from next low
-      (omega arith) apart in
+      html_few (document text options names) start columns next e a.items (a.are names (extends_none names)) placed node_bound
+      (record { from = from; to = next; following = low; before = omega arith }) apart in
       let tree = ap (λ (f : Forest Item). counted_nodes f.nodes) a.tree_is in
       let more = own_added old.nodes a.items (length old.spine + 1) in
       omega arith
@@ -140,5 +143,6 @@ module _ (text : List ℕ) (options : Options) (names : Names) (old new : Forest
         tree_is = a.tree_is;
         fits = between-any text (within_top old) from _ a.items
             (indented_fits (document text options names) p all.0 a.items (start_of (length text) all.1) u (a.is names (extends_none names)) placed
-            (indented_after_few text u (path_of options old) p (place_of text start p b i)) from next (omega arith) (omega arith));
+            (indented_after_few text u (path_of options old) p (place_of text start p b i))
+            (record { from = from; to = next; following = omega arith; before = omega arith }));
       }

@@ -1,6 +1,6 @@
 -- A pass read the link reference definitions at a place and the text that follows them, or the text that begins
 -- there.
-use Rattle.std.proofs.Common.{◌≡◌, inl, inr, ℕ, ◌+◌, ◌≤◌, ◌<◌, Bool, true, false, List, [], ◌∷◌, length, Option, Some, None, IsUtf8, IsCharBoundary, refl}
+use Rattle.std.proofs.Common.{◌≡◌, inl, inr, ℕ, ◌+◌, ◌≤◌, ◌<◌, Bool, true, false, List, [], ◌∷◌, length, Option, Some, None, IsCharBoundary, refl}
 use Rattle.std.proofs.Common.{sym, ap, subst, ◌∙◌, arith, if◌then◌else◌}
 use Rattle.std.specs.Option.{option_map_or}
 use Rattle.first_pass_items.specs.declared.item.Item.{Item}
@@ -40,7 +40,7 @@ use Rattle.first_pass_ready.specs.State.{closed_in, Ready}
 use Rattle.first_pass_order.specs.Ordered.{IsReadTo}
 use Rattle.first_pass_blocks.specs.Positions.{ReadyLeaf, OrderedUpTo, line_or}
 use Rattle.first_pass_blocks.specs.Progress.{ReadsLeaf}
-use Rattle.first_pass_blocks.specs.Runs.{IsLater, ReadsRun}
+use Rattle.first_pass_blocks.specs.Runs.{IsLater, ReadsRun, PutsDefinitions}
 use Rattle.first_pass_blocks.specs.TextsAdded.{AddsText, IsTextAt}
 use Rattle.first_pass_blocks.specs.Titles.{current_end, is_paragraph_last, title_read, ReadsTitle}
 use Rattle.first_pass_ready.proofs.AddedLemmas.{body_after}
@@ -50,7 +50,7 @@ use Rattle.first_pass_order.proofs.DefinitionOrder.{read_definitions_left, read_
 use Rattle.first_pass_ready.proofs.FinishLemmas.{EndsListAt, path_finished}
 use Rattle.first_pass_blocks.proofs.Leaves.FirstItems.{text_silent_first}
 use Rattle.first_pass_blocks.proofs.LineByLine.HandedOn.{list_finished_blank}
-use Rattle.first_pass_blocks.proofs.Leaves.LeafLemmas.{ready_ended, ready_flows, text_away}
+use Rattle.first_pass_blocks.proofs.Leaves.LeafLemmas.{ready_ended, text_away, LeafBegins, opens_flow, ready_added, text_opens}
 use Rattle.first_pass_ready.proofs.LeftBlocks.{left_is}
 use Rattle.first_pass_lists.proofs.NoEmptyItem.{list_finished_none}
 use Rattle.first_pass_order.proofs.NamedLemmas.{block_added, list_finished_named, title_kept_named}
@@ -60,6 +60,8 @@ use Rattle.first_pass_blocks.proofs.Leaves.TitleLemmas.{ready_kept, away_left}
 use Rattle.first_pass_order.proofs.DefinitionsWhole.{title_kept_whole}
 use Rattle.first_pass_order.proofs.WholeKept.{IsReadWhole, list_finished_whole, kept_of, block_whole, added_text_whole}
 use Rattle.first_pass_blocks.proofs.LinkDefinitions.WrittenLemmas.{written_stay}
+use Rattle.first_pass_blocks.proofs.StateAt.{IsAt}
+use Rattle.first_pass_blocks.specs.declared.definition.RunEnd.{RunEnd}
 
 pub leaf_plain : (d : Document) (defined : Tables) (r : PassState) (p : Place) (lines : List Place)
     → ReadyLeaf d defined r p lines → in_table r.tree.nodes r.tree.spine ≡ false
@@ -105,22 +107,26 @@ run_from : (text : List ℕ) (around : Context) (p : Place) (xs : List LinkEntry
     → IsRun around (unindented p) (lines_from text (line_end (unindented p))) xs b → IsRun around (unindented p) (lines_from text (line_end p)) xs b
 run_from text around p xs b run = subst (λ n. IsRun around (unindented p) (lines_from text n) xs b) (columns_line_end (indent p.rest) p) run
 
+-- A pass read the link reference definitions at a place, or none, and put them into its table. This follows them.
+pub record RunRead (old mid : BlockPass) (p : Place) (following : RunEnd) : Type 0 where
+  pub kept : PutsDefinitions old mid
+  pub run : ReadsRun (source_text old) (context_in old) (in_table (tree_of old).nodes (tree_of old).spine) (unindented p) (tables_of (allocs_of old))
+      (tables_of (allocs_of mid)) following
+
 -- link reference definitions without a paragraph after them
-pub run_line : (old mid new : BlockPass) (p : Place) (nested : Bool) (line next : ℕ) → IsUtf8 (source_text old) → IsPlaceOf (source_text old) p
-    → (state_of old).begin_list_item ≡ None → IsForest (tree_of old) → IsKind (source_options old) p.rest Paragraph
-    → nested ≡ in_table (tree_of old).nodes (tree_of old).spine → source_of mid ≡ source_of old → names_of (allocs_of mid) ≡ names_of (allocs_of old)
-    → (TablesAreWritten (source_text old) (allocs_of old) → TablesAreWritten (source_text old) (allocs_of mid))
-    → ReadsRun (source_text old) (context_in old) nested (unindented p) (tables_of (allocs_of old)) (tables_of (allocs_of mid)) (NextLine line next)
-    → source_of new ≡ source_of mid → allocs_of new ≡ allocs_of mid → state_of new ≡ list_finished line (state_of old) → ReadsLeaf old new p next
-run_line old mid new p nested line next u i empty forest kind nest source names written w source' allocs state =
+pub run_line : (old mid new : BlockPass) (p : Place) (line next : ℕ) → IsAt (source_text old) (state_of old) p
+    → IsKind (source_options old) p.rest Paragraph → RunRead old mid p (NextLine line next) → source_of new ≡ source_of mid → allocs_of new ≡ allocs_of mid
+    → state_of new ≡ list_finished line (state_of old) → ReadsLeaf old new p next
+run_line old mid new p line next is_at kind definitions source allocs state =
+    let w = definitions.run in
     let text = source_text old in
     let r : PassState = state_of old in
     let q : Place = w.place in
     let there = columns_line_end (indent p.rest) p in
     let ends = w.ends in
     let far = w.says.1 in
-    let further = unindented_later text p.line p.rest u i in
-    let named = ap names_of allocs ∙ names in
+    let further = unindented_later text p.line p.rest is_at.utf8 is_at.place in
+    let named = ap names_of allocs ∙ definitions.kept.names in
     let following : state_of new ≡ list_finished q.line r = state ∙ ap (λ e. list_finished e r) w.says.0 in
     let here = place_before_end q in
     let last = w.says.2 in
@@ -129,30 +135,38 @@ run_line old mid new p nested line next u i empty forest kind nest source names 
     let node_bound = list_finished_count q.line r in
     let before = place_before_end p in
     record {
-      source = source' ∙ source;
+      source = source ∙ definitions.kept.source;
       names = extends_equal _ _ named;
       later = omega arith;
       boundary = last;
       ready = λ more extends ready.
           let d = document text (source_options old) more in
-          let plain = nest ∙ leaf_plain d (tables_of (allocs_of old)) r p (lines_from text (line_end p)) ready in
+          let plain = leaf_plain d (tables_of (allocs_of old)) r p (lines_from text (line_end p)) ready in
           let run = run_from text (context_in old) p w.definitions (Ended q (lines_from text next)) (w.run plain) in
           subst (λ z. Ready d z (state_of new) (lines_from text next)) (sym (ap tables_of allocs ∙ w.defined plain))
           (subst (λ z. Ready d (with_definitions (tables_of (allocs_of old)) w.definitions) z (lines_from text next)) (sym following)
-          (ready_ended d (tables_of (allocs_of old)) r p q next w.definitions forest kind run empty ready));
+          (ready_ended d (tables_of (allocs_of old)) r p q next w.definitions is_at.forest kind run is_at.none ready));
       named = λ h. subst (λ (z : PassState). AreNamed (names_of (allocs_of new)) z.tree.nodes) (sym following)
           (subst (λ z. AreNamed z (list_finished q.line r).tree.nodes) (sym named) (list_finished_named (names_of (allocs_of old)) q.line r h));
-      written = λ h. subst (λ z. TablesAreWritten text z) (sym allocs) (written h);
+      written = λ h. subst (λ z. TablesAreWritten text z) (sym allocs) (definitions.kept.written h);
       order = λ o. inl (subst (λ z. IsReadTo text z next) (sym following)
-          (ordered_finished text r q.line (offset q) q.line next (omega arith) (omega arith) (inl (refl, later_line text p q o.0 w.later)) high last empty
-          (later_ordered text r.tree p q further w.later w.stands o.1)));
+          (ordered_finished text r q.line (offset q) q.line next (record {
+            low = omega arith;
+            later = omega arith;
+            ends = inl (refl, later_line text p q o.0 w.later);
+            boundary = last;
+            none = is_at.none;
+            order = later_ordered text r.tree p q further w.later w.stands o.1;
+          })));
       tables = λ h k. subst (IsReadWhole (names_of (allocs_of new))) (sym following)
-          (subst (λ z. IsReadWhole z (list_finished q.line r)) (sym named) (list_finished_whole (names_of (allocs_of old)) q.line r forest k));
+          (subst (λ z. IsReadWhole z (list_finished q.line r)) (sym named) (list_finished_whole (names_of (allocs_of old)) q.line r is_at.forest k));
       node_bound = omega arith;
     }
 
 -- what a pass reads for a text at an offset; its place is found after the link reference definitions at another place
 pub record ReadsText (old new : BlockPass) (p : Place) (at next : ℕ) : Type 0 where
+  pub later : line_end_at (source_text old) at ≤ next
+  pub boundary : IsCharBoundary (source_text old) next
   pub ready : (more : Names) → Extends more (names_of (allocs_of new)) → (q : Place) (xs : List LinkEntry) (defined : Tables)
       → IsPlaceOf (source_text old) q → at ≡ offset q
       → IsRun (context_in old) (unindented p) (lines_from (source_text old) (line_end p)) xs (FlowsOn q (lines_from (source_text old) (line_end q)))
@@ -168,46 +182,44 @@ pub record ReadsText (old new : BlockPass) (p : Place) (at next : ℕ) : Type 0 
       → HasWholeTables (names_of (allocs_of new)) (tree_of new)
 
 -- the paragraph that follows them, or that begins there
-pub run_text : (old mid new : BlockPass) (p : Place) (nested : Bool) (at next : ℕ) → IsUtf8 (source_text old) → IsPlaceOf (source_text old) p
-    → IsKind (source_options old) p.rest Paragraph
-    → nested ≡ in_table (tree_of old).nodes (tree_of old).spine → source_of mid ≡ source_of old → names_of (allocs_of mid) ≡ names_of (allocs_of old)
-    → (TablesAreWritten (source_text old) (allocs_of old) → TablesAreWritten (source_text old) (allocs_of mid))
-    → ReadsRun (source_text old) (context_in old) nested (unindented p) (tables_of (allocs_of old)) (tables_of (allocs_of mid)) (TextAfter at)
-    → source_of new ≡ source_of mid → NamesMore (allocs_of mid) (allocs_of new) → line_end_at (source_text old) at ≤ next
-    → IsCharBoundary (source_text old) next → ReadsText old new p at next → ReadsLeaf old new p next
-run_text old mid new p nested at next u i kind nest source names written w source' adds later boundary t =
+pub run_text : (old mid new : BlockPass) (p : Place) (at next : ℕ) → IsAt (source_text old) (state_of old) p
+    → IsKind (source_options old) p.rest Paragraph → RunRead old mid p (TextAfter at) → source_of new ≡ source_of mid
+    → NamesMore (allocs_of mid) (allocs_of new) → ReadsText old new p at next → ReadsLeaf old new p next
+run_text old mid new p at next is_at kind definitions source adds t =
+    let w = definitions.run in
     let text = source_text old in
     let options = source_options old in
     let r : PassState = state_of old in
     let q : Place = w.place in
     let there = columns_line_end (indent p.rest) p in
     let ends = w.ends in
-    let further = unindented_later text p.line p.rest u i in
+    let later = t.later in
+    let further = unindented_later text p.line p.rest is_at.utf8 is_at.place in
     let on = later_than text p q further w.later in
     let at_is : at ≡ offset q = w.says in
-    let more_named = subst (Extends (names_of (allocs_of new))) names adds.names in
+    let more_named = subst (Extends (names_of (allocs_of new))) definitions.kept.names adds.names in
     let here : line_end_at text at ≡ line_end q = ap (line_end_at text) at_is ∙ ap (λ bs. offset q + line_len bs) (sym w.stands.left) in
     let some = left_before p (leaf_left options p.rest Paragraph kind (λ b. cc)) in
     record {
-      source = source' ∙ source;
+      source = source ∙ definitions.kept.source;
       names = more_named;
       later = omega arith;
-      boundary = boundary;
+      boundary = t.boundary;
       ready = λ more extends ready.
           let d = document text options more in
-          let plain = nest ∙ leaf_plain d (tables_of (allocs_of old)) r p (lines_from text (line_end p)) ready in
+          let plain = leaf_plain d (tables_of (allocs_of old)) r p (lines_from text (line_end p)) ready in
           let run = run_from text (context_in old) p w.definitions (FlowsOn q (lines_from text (line_end q))) (w.run plain) in
           subst (λ z. Ready d z (state_of new) (lines_from text next)) (sym (ap tables_in adds.entries ∙ w.defined plain))
           (t.ready more extends q w.definitions (tables_of (allocs_of old)) w.stands at_is run ready);
       named = λ h. t.named q w.stands at_is more_named h;
-      written = λ h. written_stay text (allocs_of mid) (allocs_of new) adds.entries (written h);
+      written = λ h. written_stay text (allocs_of mid) (allocs_of new) adds.entries (definitions.kept.written h);
       order = λ o. inl (t.order q w.stands at_is (later_ordered text r.tree p q further w.later w.stands o.1));
       tables = λ h k. t.tables q w.stands at_is more_named h k;
       node_bound = t.node_bound (offset p) (omega arith) (omega arith);
     }
 
 -- a text that is added after a new block ended any list, at an offset
-module _ (old new : BlockPass) (p : Place) (ends at next : ℕ) (empty : (state_of old).begin_list_item ≡ None) (forest : IsForest (tree_of old))
+module _ (old new : BlockPass) (p : Place) (ends at next : ℕ) (is_at : IsAt (source_text old) (state_of old) p)
     (kind : IsKind (source_options old) p.rest Paragraph) (none : (state_of new).begin_list_item ≡ None) (blank : (state_of new).blank ≡ false)
     (block : AddsText (document (source_text old) (source_options old) (names_of (allocs_of new))) at None (list_finished ends (state_of old)).tree
     (tree_of new) next)
@@ -224,12 +236,26 @@ module _ (old new : BlockPass) (p : Place) (ends at next : ℕ) (empty : (state_
       let own = names_of (allocs_of new) in
       let f : Forest Item = (list_finished ends r).tree in
       record {
+        later = block.later;
+        boundary = block.boundary;
         ready = λ more extends q xs defined stands at_is run ready.
             let d = document text options more in
-            let is : IsTextAt d (path_of options r.tree) at None block.items next =
-            subst (λ path. IsTextAt d path at None block.items next) (path_finished options ends r empty) (block.is_text more extends) in
-            ready_flows d defined r (tree_of new) p q ends at next xs block.items forest kind stands at_is run is (away q xs at_is) block.tree_is empty ready
-            (state_of new).begin_list_item (state_of new).blank none blank;
+            let path = path_of options r.tree in
+            let left = lines_from text next in
+            let is : IsTextAt d path at None block.items next =
+            subst (λ path. IsTextAt d path at None block.items next) (path_finished options ends r is_at.none) (block.is_text more extends) in
+            let opens = text_opens d path p (lines_from text (line_end p)) xs (FlowsOn q (lines_from text (line_end q)))
+            (OpensLeaf (Block (flowing_block q xs block.items)) Line left) run (opens_flow d path q next xs block.items (is q stands (sym at_is))) in
+            let begins : LeafBegins d r p left ends (flowing_block q xs block.items) = record {
+              forest = is_at.forest;
+              none = is_at.none;
+              kind = Paragraph;
+              is_kind = kind;
+              opens = opens;
+              away = λ begins. away q xs at_is;
+            } in
+            ready_added d defined r (state_of new) p left ends (flowing_block q xs block.items) refl begins
+            (record { tree_is = block.tree_is; none = none; blank = blank }) ready;
         order = order;
         node_bound = node_bound;
         named = λ q stands at_is more h.
@@ -241,24 +267,30 @@ module _ (old new : BlockPass) (p : Place) (ends at next : ℕ) (empty : (state_
             block_whole own (names_of (allocs_of old)) f (tree_of new) block.items more block.tree_is
             (added_text_whole (document text options own) _ q None _ _ stands tt is) (text_silent_first (document text options own) _ q None _ _ tt is)
             (list_finished_named (names_of (allocs_of old)) ends r h)
-            (kept_of (names_of (allocs_of old)) (list_finished ends r).tree (list_finished_whole (names_of (allocs_of old)) ends r forest k));
+            (kept_of (names_of (allocs_of old)) (list_finished ends r).tree (list_finished_whole (names_of (allocs_of old)) ends r is_at.forest k));
       }
 
 -- a text that is not right after a definition
-pub plain_text : (old new : BlockPass) (p : Place) (at next : ℕ) → (state_of old).begin_list_item ≡ None → IsForest (tree_of old)
+pub plain_text : (old new : BlockPass) (p : Place) (at next : ℕ) → IsAt (source_text old) (state_of old) p
     → IsKind (source_options old) p.rest Paragraph → is_after_definition (tree_of old) ≡ false
     → (state_of new).begin_list_item ≡ None → (state_of new).blank ≡ false
     → AddsText (document (source_text old) (source_options old) (names_of (allocs_of new))) at None (list_finished at (state_of old)).tree (tree_of new) next
     → ((from : ℕ) → from ≤ at → AddsBetween (source_text old) from next (list_finished at (state_of old)).tree (tree_of new))
     → ReadsText old new p at next
-plain_text old new p at next empty forest kind after none blank block fits =
+plain_text old new p at next is_at kind after none blank block fits =
     let text = source_text old in
     let r : PassState = state_of old in
-    added_text old new p at at next empty forest kind none blank block
+    added_text old new p at at next is_at kind none blank block
     (λ q xs at_is. text_away r.tree at (flowing_block q xs block.items) (lines_from text next) after (sym at_is))
-    (λ q stands at_is o. let begins = stands.boundary in
-    ordered_leaf text r (state_of new) q.line (offset q) at at next (omega arith) (omega arith) (inr refl) (let high = begins.0 in omega arith)
-    (subst (IsCharBoundary text) (sym at_is) begins) empty o (fits at (omega arith)) block.boundary.0 none)
+    (λ q stands at_is o. ordered_leaf text r (state_of new) q.line (offset q) at at next
+    (record {
+      low = omega arith;
+      later = omega arith;
+      ends = inr refl;
+      boundary = subst (IsCharBoundary text) (sym at_is) stands.boundary;
+      none = is_at.none;
+      order = o;
+    }) (fits at (omega arith)) block.boundary.0 none)
     (λ from low apart. let grows = block_count text from next (list_finished at r).tree (tree_of new) (fits from low) apart in
     let same = list_finished_count at r in omega arith)
 
@@ -277,7 +309,7 @@ is_paragraph_by (Some ParagraphBody) h = refl
 is_paragraph_by (Some b) h = cc
 
 -- a text right after a definition
-module _ (old new : BlockPass) (p : Place) (at next : ℕ) (empty : (state_of old).begin_list_item ≡ None) (forest : IsForest (tree_of old))
+module _ (old new : BlockPass) (p : Place) (at next : ℕ) (is_at : IsAt (source_text old) (state_of old) p)
     (kind : IsKind (source_options old) p.rest Paragraph) (after : is_after_definition (tree_of old) ≡ true) (read : Forest Item) (is_forest : IsForest read)
     (block : AddsText (document (source_text old) (source_options old) (names_of (allocs_of new))) at None (tree_of old) read next)
     (fits : (from : ℕ) → from ≤ at → AddsBetween (source_text old) from next (tree_of old) read) where
@@ -307,14 +339,16 @@ module _ (old new : BlockPass) (p : Place) (at next : ℕ) (empty : (state_of ol
       let begins : begins_paragraph block.items ≡ true =
       sym (last_begins r.tree block.items) ∙ ap is_paragraph_last (sym block.tree_is) ∙ para in
       record {
+        later = block.later;
+        boundary = block.boundary;
         ready = λ more extends q xs defined stands at_is run ready.
             let d = document text (source_options old) more in
             subst (λ z. Ready d (with_definitions defined xs) z (lines_from text next)) (sym is)
             (subst (λ (f : Forest Item). Ready d (with_definitions defined xs) (title_kept last (with_tree r f)) (lines_from text next)) (sym block.tree_is)
-            (ready_kept d defined r p q at next xs block.items forest kind stands at_is run (block.is_text more extends) after empty begins ready));
+            (ready_kept d defined r p q at next xs block.items is_at.forest kind stands at_is run (block.is_text more extends) after is_at.none begins ready));
         order = λ q stands at_is o. subst (λ z. IsReadTo text z next) (sym is)
-            (read_title_kept text r read (line_or r.tree q.line (offset q)) at next forest after empty o.0 o.1 (in_order q at_is) fits block.boundary.0
-            last refl current);
+            (read_title_kept text r read (line_or r.tree q.line (offset q)) at next is_at.forest after is_at.none o.0 o.1 (in_order q at_is) fits
+            block.boundary.0 last refl current);
         node_bound = λ from low apart. let g = grown from low apart in
             let same = ap count is ∙ title_kept_count last q' current in
             omega arith;
@@ -338,21 +372,21 @@ module _ (old new : BlockPass) (p : Place) (at next : ℕ) (empty : (state_of ol
       let flat = text_flat (document text (source_options old) own) _ q _ _ (block.is_text own (extends_none own) q stands (sym at_is)) in
       let now : state_of new ≡ with_tree done (added done.tree block.items) =
       is ∙ ap (λ f. definitions_left last (with_tree r f)) block.tree_is
-      ∙ left_is r block.items last forest (subst IsForest block.tree_is is_forest) after empty (flat.flat other) in
+      ∙ left_is r block.items last is_at.forest (subst IsForest block.tree_is is_forest) after is_at.none (flat.flat other) in
       let over : AddsText (document text (source_options old) own) at None done.tree (tree_of new) next = record {
         items = block.items;
         is_text = λ more extends. subst (λ path. IsTextAt (document text (source_options old) more) path at None block.items next)
-            (sym (path_finished (source_options old) last r empty)) (block.is_text more extends);
+            (sym (path_finished (source_options old) last r is_at.none)) (block.is_text more extends);
         tree_is = ap (λ (z : PassState). z.tree) now;
         later = block.later;
         boundary = block.boundary;
       } in
-      added_text old new p last at next empty forest kind (ap (λ (z : PassState). z.begin_list_item) now ∙ list_finished_none last r)
+      added_text old new p last at next is_at kind (ap (λ (z : PassState). z.begin_list_item) now ∙ list_finished_none last r)
       (ap (λ (z : PassState). z.blank) now ∙ list_finished_blank last r) over
       (λ q xs at_is. away_left r q xs block.items (lines_from text next) after other)
       (λ q stands at_is o. subst (λ z. IsReadTo text z next) (sym is)
-      (read_definitions_left text r read (line_or r.tree q.line (offset q)) at next forest after empty o.0 o.1 (in_order q at_is) fits block.boundary.0
-      last refl))
+      (read_definitions_left text r read (line_or r.tree q.line (offset q)) at next is_at.forest after is_at.none o.0 o.1 (in_order q at_is) fits
+      block.boundary.0 last refl))
       (λ from low apart. let g = grown from low apart in
       let same = ap count is in
       let node_bound = definitions_left_count last (with_tree r read) in
@@ -368,14 +402,13 @@ module _ (old new : BlockPass) (p : Place) (at next : ℕ) (empty : (state_of ol
   title_text q stands at_is is = title_by q stands at_is (is_paragraph_last read) refl is
 
 -- the text right after a definition, after link reference definitions or none
-pub run_title : (old mid new : BlockPass) (p : Place) (nested : Bool) (at next : ℕ) → IsUtf8 (source_text old) → IsPlaceOf (source_text old) p
-    → (state_of old).begin_list_item ≡ None → IsForest (tree_of old) → IsKind (source_options old) p.rest Paragraph
-    → nested ≡ in_table (tree_of old).nodes (tree_of old).spine → source_of mid ≡ source_of old → state_of mid ≡ state_of old
-    → names_of (allocs_of mid) ≡ names_of (allocs_of old)
-    → (TablesAreWritten (source_text old) (allocs_of old) → TablesAreWritten (source_text old) (allocs_of mid))
-    → ReadsRun (source_text old) (context_in old) nested (unindented p) (tables_of (allocs_of old)) (tables_of (allocs_of mid)) (TextAfter at)
-    → is_after_definition (tree_of mid) ≡ true → ReadsTitle mid new at next → ReadsLeaf old new p next
-run_title old mid new p nested at next u i empty forest kind nest source state names written w after t =
+pub run_title : (old mid new : BlockPass) (p : Place) (at next : ℕ) → IsAt (source_text old) (state_of old) p
+    → IsKind (source_options old) p.rest Paragraph → RunRead old mid p (TextAfter at) → is_after_definition (tree_of mid) ≡ true
+    → ReadsTitle mid new at next → ReadsLeaf old new p next
+run_title old mid new p at next is_at kind definitions after t =
+    let w = definitions.run in
+    let source = definitions.kept.source in
+    let state = definitions.kept.state in
     let own = names_of (allocs_of new) in
     let block : AddsText (document (source_text old) (source_options old) own) at None (tree_of old) t.read next =
     subst (λ (z : PassState). AddsText (document (source_text old) (source_options old) own) at None z.tree t.read next) state
@@ -383,6 +416,6 @@ run_title old mid new p nested at next u i empty forest kind nest source state n
     let fits : (from : ℕ) → from ≤ at → AddsBetween (source_text old) from next (tree_of old) t.read =
     λ from low. subst (λ (z : PassState). AddsBetween (source_text old) from next z.tree t.read) state
     (subst (λ (z : Source). AddsBetween z.text.now from next (tree_of mid) t.read) source (t.fits from low)) in
-    run_text old mid new p nested at next u i kind nest source names written w t.source t.more block.later block.boundary
-    (title_text old new p at next empty forest kind (ap (λ (z : PassState). is_after_definition z.tree) (sym state) ∙ after) t.read t.forest block fits
+    run_text old mid new p at next is_at kind definitions t.source t.more
+    (title_text old new p at next is_at kind (ap (λ (z : PassState). is_after_definition z.tree) (sym state) ∙ after) t.read t.forest block fits
     w.place w.stands w.says (t.state_is ∙ ap (λ (z : PassState). title_read (current_end z.tree) (with_tree z t.read)) state))

@@ -182,8 +182,12 @@ module _ (text : List ℕ) (options : Options) (names : Names) (start body next 
       record {
         items = table_items;
         tree_is = table_tree;
-        fits = table_fits (document text options names) (path_of options old) p alignments next table_items (within_top old) from utf8 i h r.boundary
-            (subst
-            (λ k. IsTable (document text options names) (path_of options old) p alignments (lines_from text k) (taking table_items (lines_from text next))) line
-            table) (omega arith);
+        fits = table_fits (document text options names) (path_of options old) p alignments next table_items (within_top old) from utf8
+            (record {
+              place = i;
+              further = h;
+              ends = r.boundary;
+              table = subst (λ k. IsTable (document text options names) (path_of options old) p alignments (lines_from text k)
+                  (taking table_items (lines_from text next))) line table;
+            }) (omega arith);
       }

@@ -32,6 +32,7 @@ use Rattle.first_pass_completion.proofs.SilentTexts.{silent_past}
 use Rattle.first_pass_grammar.proofs.Each.EachCell.{deeper_nodes}
 use Rattle.first_pass_grammar.proofs.WholeTables.TableMarks.{tokens_show}
 use Rattle.first_pass_grammar.proofs.Sequences.Tightening.{modify-append}
+use Rattle.first_pass_completion.proofs.States.{open_nodes}
 use Rattle.first_pass_completion.proofs.TitleNodes.{as_possible}
 use Rattle.first_pass_tree.proofs.BodyLemmas.{body-kept}
 use Rattle.first_pass_open.specs.Path.{path_of, context_of}
@@ -177,9 +178,10 @@ module _ (f : Forest Item) (x : ℕ × Item) (items : List (ℕ × Item)) (e : �
       let here : List Frame = InDefinitions loose ∷ frames in
       let t = tail (DefinitionClosed e blanks) run in
       let now : Tables = with_definitions defined block.definitions in
-      let k' = completes-reended d defined t loose frames f.nodes ix.0 e os (Inside p) lines tt
+      let k' = completes-reended d (open_nodes defined frames f.nodes os) t loose ix.0 e (Inside p) lines tt
       (subst (λ (s : List TreeIndex). CompletesAt d defined t here f.nodes (map (λ (i : TreeIndex). i.0) s) (Inside p) lines) spine k) in
-      let done = completes-possible_title d defined e blanks run loose frames (ended f.nodes ix.0 e) ix.0 os p lines left block begins opens k' in
+      let done = completes-possible_title d (open_nodes defined frames (ended f.nodes ix.0 e) os) (record { place = ix.0; «end» = e; loose = loose }) blanks run
+      p lines left block begins opens k' in
       let deep : suc (suc (length os)) ≡ length f.spine + 1 =
       (let n = length-map rest (λ (i : TreeIndex). i.0) in let m = ap (λ (s : List TreeIndex). length s) spine in omega arith) in
       subst (λ (s : List TreeIndex). CompletesAt d now (tail (TitleAt e (length f.nodes)) block.gap) here kept.nodes (map (λ (i : TreeIndex). i.0) s) Line left)
@@ -244,7 +246,7 @@ module _ (d : Document) (defined : Tables) (r : PassState) (p q : Place) (at nex
       (OpensLeaf (Block text_block) Line (lines_from d.text next))
   text_opening =
       text_opens d (path_of d.options r.tree) p (lines_from d.text (line_end p)) xs (FlowsOn q (lines_from d.text (line_end q))) _ run
-      (opens_flow d (path_of d.options r.tree) q at next xs items at_is place text)
+      (opens_flow d (path_of d.options r.tree) q next xs items (text q place (sym at_is)))
 
   kept_by : (first : ℕ × Item) (more : List (ℕ × Item)) → items ≡ first ∷ more → begins_paragraph items ≡ true
       → ReadyLeaf d defined r p (lines_from d.text (line_end p))

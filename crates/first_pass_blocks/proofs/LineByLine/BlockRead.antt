@@ -1,5 +1,5 @@
 -- A pass read a block, after its first line closed, continued and opened containers.
-use Rattle.std.proofs.Common.{◌≡◌, ℕ, ◌+◌, ◌<◌, ◌≤◌, List, length, drop, Option, Some, IsUtf8, IsCharBoundary, refl, sym, ap, subst, ◌∙◌, arith}
+use Rattle.std.proofs.Common.{◌≡◌, ℕ, ◌+◌, ◌<◌, ◌≤◌, List, length, drop, IsUtf8, IsCharBoundary, refl, sym, ap, subst, ◌∙◌, arith}
 use Rattle.first_pass_items.specs.declared.item.Item.{Item}
 use Rattle.first_pass_lines.specs.Lines.{line_len}
 use Rattle.first_pass_lines.specs.Places.{Place, offset, line_end, IsPlaceOf}
@@ -15,8 +15,7 @@ use Rattle.first_pass_blocks.specs.Written.{TablesAreWritten}
 use Rattle.first_pass_open.specs.declared.source.Source.{Source}
 use Rattle.first_pass_grammar.specs.declared.kind.AfterMarker.{AfterMarker}
 use Rattle.first_pass_blocks.specs.declared.state.BlockPass.{BlockPass}
-use Rattle.first_pass_blocks.specs.Entering.{EntersLine}
-use Rattle.first_pass_blocks.specs.Positions.{Position, LineAt, InLine, LeafAt, TaskAt, TaggedAt, IsNotBefore, ReadyOn, GrowsTo, GrowsFrom, ReadsTo}
+use Rattle.first_pass_blocks.specs.Positions.{Position, LineAt, InLine, LeafAt, TaskAt, TaggedAt, IsNotBefore, ReadyOn, GrowsTo, GrowsFrom, ReadsTo, IsInLine}
 use Rattle.first_pass_blocks.specs.Progress.{PassesTo, ReadsBlockOf, ReadsBlock}
 use Rattle.first_pass_blocks.specs.Starts.{last_at, IsAfterMarker}
 use Rattle.first_pass_blocks.specs.Views.{allocs_of, state_of, source_of, source_text, tree_of}
@@ -63,27 +62,24 @@ pub record IsOpenedFrom (over : Source) (start : ℕ) (old new : BlockPass) (q :
   pub is_after : IsAfterMarker after (state_of new)
   pub steps : PassesTo over start old new (LineAt start) (last_at q (line_end q) after)
 
--- the line is entered, and the containers that begin in it are open
-pub opened_line : (over : Source) (start : ℕ) (old mid new : BlockPass) (o : Option Place) (p q : Place) (after here : AfterMarker)
-    → source_of mid ≡ source_of old → allocs_of mid ≡ allocs_of old → o ≡ Some p
-    → EntersLine over (state_of old) (state_of mid) start o → IsNotBefore over.text.now p q → IsAfterMarker after (state_of new)
-    → PassesTo over p.line mid new (InLine p) (last_at q (line_end q) after) → after ≡ here → IsOpenedFrom over start old new q here
-opened_line over start old mid new o p q after here source same some entered from kept opens is =
-    let e = subst (EntersLine over (state_of old) (state_of mid) start) some entered in
-    let w = e.0 in
-    let line = w.1 in
-    let stop = w.2 in
+-- the line is entered at a place, and the containers that begin in it are open
+pub opened_line : (start : ℕ) (old mid new : BlockPass) (p q : Place) (after : AfterMarker)
+    → IsInLine (source_text old) start (start + line_len (drop start (source_text old))) p → PassesTo (source_of old) start old mid (LineAt start) (InLine p)
+    → IsNotBefore (source_text old) p q → IsAfterMarker after (state_of new)
+    → PassesTo (source_of old) p.line mid new (InLine p) (last_at q (line_end q) after) → IsOpenedFrom (source_of old) start old new q after
+opened_line start old mid new p q after here first from kept opens =
+    let over : Source = source_of old in
+    let line = here.1 in
+    let stop = here.2 in
     let low = from.2 in
     let far = from.3 in
-    let first = passes_state over start old mid (LineAt start) (InLine p) source same e.2 in
-    let opened = subst (λ (l : ℕ). PassesTo over l mid new (InLine p) (last_at q (line_end q) after)) line opens in
     record {
       place = from.0;
       begins = omega (arith, line, low);
       ends = omega (arith, stop, far);
-      is_after = subst (λ z. IsAfterMarker z (state_of new)) is kept;
-      steps = subst (λ z. PassesTo over start old new (LineAt start) (last_at q (line_end q) z)) is
-          (passes_both over start old mid new (LineAt start) (InLine p) (last_at q (line_end q) after) first opened);
+      is_after = kept;
+      steps = passes_both over start old mid new (LineAt start) (InLine p) (last_at q (line_end q) after) first
+          (subst (λ (l : ℕ). PassesTo over l mid new (InLine p) (last_at q (line_end q) after)) line opens);
     }
 
 -- a position is between two offsets

@@ -102,17 +102,13 @@ ordered_stopped options text r path e next b none path_is (inr (line, lines, q, 
       ordered = subst (IsOrderedTo text r.tree) there (ordered_tree text r e.«end» none o);
     })
 
--- The same for closing in order, if no list is innermost; no footnote definition in the old form ends before such a
--- line.
-pub read_stopped : (options : Options) (text : List ℕ) (r : PassState) (path : List Container) (e : Extent) (next : ℕ)
-    → IsCharBoundary text next → r.begin_list_item ≡ None → (in_old_footnote (path_of options r.tree) ≡ true → r.blank ≡ false) → path_of options r.tree ≡ path
-    → StopsBlank (length text) path e → lines_from text next ≡ e.left → AreNested r.tree.nodes r.tree.spine → is_list (top_body r.tree) ≡ false
-    → IsOrderedAt text r e.«end» → IsReadFrom options text r next
-read_stopped options text r path e next b none uncounted path_is stops left nested plain o =
-    elim (ordered_stopped options text r path e next b none path_is stops left o) [
-      | inl read ↦ inl (read, tree_closes text r.tree next nested plain)
-      | inr handed ↦ inr (handed, nested, plain, uncounted)
-    ]
+-- Such a state is read up to there if no list is innermost, and no footnote definition in the old form ends before such
+-- a line.
+pub read_stopped : (options : Options) (text : List ℕ) (r : PassState) (next : ℕ) → IsOrderedFrom options text r next
+    → (in_old_footnote (path_of options r.tree) ≡ true → r.blank ≡ false) → AreNested r.tree.nodes r.tree.spine → is_list (top_body r.tree) ≡ false
+    → IsReadFrom options text r next
+read_stopped options text r next (inl o) uncounted nested plain = inl (o, tree_closes text r.tree next nested plain)
+read_stopped options text r next (inr handed) uncounted nested plain = inr (handed, nested, plain, uncounted)
 
 -- Such a line continues all open containers, and its rest is blank.
 pub handed_whole : (options : Options) (text : List ℕ) (r : PassState) (at kept : ℕ) (line left : Rest)

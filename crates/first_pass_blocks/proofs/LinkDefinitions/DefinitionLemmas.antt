@@ -1,7 +1,7 @@
 -- A link reference definition that is found is one more in its run.
-use Rattle.std.proofs.Common.{◌≡◌, inl, inr, ℕ, ◌+◌, ◌-◌, ◌<◌, ◌||◌, Bool, true, false, List, [], ◌∷◌, length, drop, slice_index, Option, Some, None}
+use Rattle.std.proofs.Common.{◌≡◌, inl, inr, ℕ, ◌+◌, ◌-◌, ◌<◌, ◌||◌, Bool, true, false, List, [], length, drop, slice_index, Option, Some, None}
 use Rattle.std.proofs.Common.{IsSomeAnd}
-use Rattle.std.proofs.Common.{MatchOption, IsUtf8, IsCharBoundary, refl, sym, ap, subst, ◌∙◌, arith, if◌then◌else◌}
+use Rattle.std.proofs.Common.{MatchOption, IsUtf8, IsCharBoundary, refl, sym, ap, subst, ◌∙◌, arith, if◌then◌else◌, IfSome}
 use Rattle.std.specs.Option.{option_map}
 use Rattle.std.proofs.lemmas.Bool.{cases_lt, true≢false}
 use Rattle.std.proofs.lemmas.List.{drop_all, get_or-drop}
@@ -18,7 +18,6 @@ use Rattle.first_pass_grammar.specs.Containers.{Context, front}
 use Rattle.first_pass_grammar.specs.Kinds.{all_taken, is_blank_rest, is_ordinary_after_tag}
 use Rattle.first_pass_grammar.specs.Definitions.{LinkReference, reference_definition_at}
 use Rattle.first_pass_grammar.specs.LinkRuns.{entry_of}
-use Rattle.first_pass_grammar.specs.Derivation.{Tables, with_definitions}
 use Rattle.first_pass_definitions.proofs.ReferenceFacts.{reference_last}
 use Rattle.first_pass_names.specs.TableEntries.{link_entry}
 use Rattle.first_pass_definitions.specs.Found.{HasTitle, IsReference}
@@ -69,30 +68,39 @@ after_boundary text e u b =
           let same : e ≡ e + line_len (drop e text) = omega arith in subst (IsCharBoundary text) same b)
     ]
 
+-- A link reference definition is at an offset. This is its length, which is not 0, and its entry, and it ends at a character
+-- boundary.
+pub record ReferenceFound (text : List ℕ) (around : Context) (nested : Bool) (at : ℕ) (found : ℕ × CowStr × LinkDef) : Type 0 where
+  pub reference : LinkReference
+  pub here : reference_definition_at nested around (drop at text) ≡ Some reference
+  pub says : IsReference nested at reference found
+  pub some : 0 < found.0
+  pub boundary : IsCharBoundary text (at + found.0)
+
 -- The definition that was found is one more.
-pub one_more : (text : List ℕ) (around : Context) (nested : Bool) (q : Place) (at : ℕ) (x : LinkReference) (found : ℕ × CowStr × LinkDef) (before now : Tables)
-    → IsUtf8 text → IsPlaceOf text q → offset q ≡ at
-    → reference_definition_at nested around (drop at text) ≡ Some x → IsReference nested at x found → 0 < found.0 → IsCharBoundary text (at + found.0)
-    → now ≡ with_definitions before (link_entry (found.1, found.2) ∷ [])
-    → IsOneMore text around nested q (at + found.0) before now
-one_more text around nested q at x found before now u i there here h some b is =
-    let ends = reference_last nested around (drop at text) x here in
-    let size : found.0 ≡ x.size = h.size in
-    let last : at + (x.size - 1) ≡ at + found.0 - 1 = omega arith in
+pub one_more : (text : List ℕ) (around : Context) (nested : Bool) (q : Place) (at : ℕ) (found : ℕ × CowStr × LinkDef) (next : ℕ)
+    → IsUtf8 text → IsPlaceOf text q → offset q ≡ at → ReferenceFound text around nested at found
+    → next ≡ at + found.0 + line_len (drop (at + found.0) text) → IsOneMore text around nested q (link_entry (found.1, found.2)) next
+one_more text around nested q at found next u i there f next_is =
+    let x : LinkReference = f.reference in
+    let some = f.some in
+    let ends = reference_last nested around (drop at text) x f.here in
+    let size : found.0 ≡ x.size = f.says.size in
+    let last_is : at + (x.size - 1) ≡ at + found.0 - 1 = omega arith in
     record {
+      last = at + found.0;
       less = omega arith;
-      within = b.0;
-      no_end = ap is_line_end (ap (slice_index text) (sym last) ∙ sym (get_or-drop at text (x.size - 1) 0)) ∙ ends.1;
-      boundary = after_boundary text (at + found.0) u b;
-      entry = link_entry (found.1, found.2);
+      within = f.boundary.0;
+      no_end = ap is_line_end (ap (slice_index text) (sym last_is) ∙ sym (get_or-drop at text (x.size - 1) 0)) ∙ ends.1;
+      next_is = next_is;
+      boundary = subst (IsCharBoundary text) (sym next_is) (after_boundary text (at + found.0) u f.boundary);
       here = λ plain.
           (let nothing : reference_definition_at false around (drop at text) ≡ Some x =
-          subst (λ z. reference_definition_at z around (drop at text) ≡ Some x) plain here in
+          subst (λ z. reference_definition_at z around (drop at text) ≡ Some x) plain f.here in
           defined_here text around q x i (ap (λ n. reference_definition_at false around (drop n text)) there ∙ nothing)
           ∙ ap (λ n. Some (entry_of n x)) there
-          ∙ ap (λ z. Some z) (sym (entry_is at x found (subst (λ z. IsReference z at x found) plain h))));
-      ends = h.definition.end_is ∙ ap (λ n. at + n) (sym size);
-      defined = λ plain. is;
+          ∙ ap (λ z. Some z) (sym (entry_is at x found (subst (λ z. IsReference z at x found) plain f.says))));
+      ends = f.says.definition.end_is ∙ ap (λ n. at + n) (sym size);
     }
 
 -- the definition at an offset, for a pass with the same text and the same open blocks
@@ -120,16 +128,19 @@ none_here first now at answer source state said is =
     sym (same_reference first now at source state) ∙ none_by _ answer (IsReference (in_table (tree_of now).nodes (tree_of now).spine) at) said is
 
 pub found_here : (first now : BlockPass) (at : ℕ) (answer : Option (ℕ × CowStr × LinkDef)) (found : ℕ × CowStr × LinkDef)
-    → source_of now ≡ source_of first → state_of now ≡ state_of first → Answers now at answer → answer ≡ Some found
-    → (x : LinkReference) × (reference_definition_at (in_table (tree_of first).nodes (tree_of first).spine) (context_in first) (drop at (source_text first))
-    ≡ Some x)
-    × IsReference (in_table (tree_of first).nodes (tree_of first).spine) at x found
-found_here first now at answer found source state said is =
-    let w = found_by _ answer found (IsReference (in_table (tree_of now).nodes (tree_of now).spine) at) said is in (
-      w.0,
-      sym (same_reference first now at source state) ∙ w.1,
-      subst (λ (z : PassState). IsReference (in_table z.tree.nodes z.tree.spine) at w.0 found) state w.2,
-    )
+    → source_of now ≡ source_of first → state_of now ≡ state_of first → Answers now at answer
+    → IfSome answer (λ f. (0 < f.0) × IsCharBoundary (source_text now) (at + f.0)) → answer ≡ Some found
+    → ReferenceFound (source_text first) (context_in first) (in_table (tree_of first).nodes (tree_of first).spine) at found
+found_here first now at answer found source state said fits is =
+    let w = found_by _ answer found (IsReference (in_table (tree_of now).nodes (tree_of now).spine) at) said is in
+    let ends = subst (λ z. IfSome z (λ f. (0 < f.0) × IsCharBoundary (source_text now) (at + f.0))) is fits in
+    record {
+      reference = w.0;
+      here = sym (same_reference first now at source state) ∙ w.1;
+      says = subst (λ (z : PassState). IsReference (in_table z.tree.nodes z.tree.spine) at w.0 found) state w.2;
+      some = ends.0;
+      boundary = subst (λ (z : Source). IsCharBoundary z.text.now (at + found.0)) source ends.1;
+    }
 
 -- whether the next line continues the run, from the result of the call
 pub stops_by : (t : Bool) (x : Rest) (o : Option Rest) → o ≡ (if t then None else Some x) → o ≡ None → t ≡ true

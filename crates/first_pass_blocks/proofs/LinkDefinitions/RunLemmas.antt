@@ -137,17 +137,26 @@ pub defined_none : (text : List ℕ) (around : Context) (q : Place)
     → IsPlaceOf text q → reference_definition_at false around (drop (offset q) text) ≡ None → link_definition_at around q ≡ None
 defined_none text around q i is = ap (option_map (entry_of (offset q))) (ap (reference_definition_at false around) i.left ∙ is)
 
--- A definition that is read: its end, and the tables with what it defines. The first holds for each, the second if no
--- table is open.
-pub record IsOneMore (text : List ℕ) (around : Context) (nested : Bool) (q : Place) (e : ℕ) (before now : Tables) : Type 0 where
-  pub less : offset q < e
-  pub within : e ≤ length text
-  pub no_end : is_line_end (slice_index text (e - 1)) ≡ false
-  pub boundary : IsCharBoundary text (e + line_len (drop e text))
-  pub entry : LinkEntry
+-- A definition is read at a place: its end, and the next line after it. If no table is open, this is its entry.
+pub record IsOneMore (text : List ℕ) (around : Context) (nested : Bool) (q : Place) (entry : LinkEntry) (next : ℕ) : Type 0 where
+  pub last : ℕ
+  pub less : offset q < last
+  pub within : last ≤ length text
+  pub no_end : is_line_end (slice_index text (last - 1)) ≡ false
+  pub next_is : next ≡ last + line_len (drop last text)
+  pub boundary : IsCharBoundary text next
   pub here : nested ≡ false → link_definition_at around q ≡ Some entry
-  pub ends : entry.«end» ≡ e
-  pub defined : nested ≡ false → now ≡ with_definitions before (entry ∷ [])
+  pub ends : entry.«end» ≡ last
+
+-- The definitions from a place to another are read, and one more at the second place. The tables have what they define, if
+-- no table is open.
+pub record RunWithOne (text : List ℕ) (around : Context) (nested : Bool) (p : Place) (next : ℕ) (before now : Tables) : Type 0 where
+  pub place : Place
+  pub mid : Tables
+  pub entry : LinkEntry
+  pub so_far : RunSoFar text around nested p place before mid
+  pub one : IsOneMore text around nested place entry next
+  pub defined : nested ≡ false → now ≡ with_definitions mid (entry ∷ [])
 
 -- the line after it, at the place after the prefixes, at which the next definition is read
 abbrev pub text_at : List ℕ → List Container → ℕ → Place
@@ -164,32 +173,34 @@ after_entry : (text : List ℕ) (q : Place) (e : ℕ) (x : LinkEntry)
 after_entry text q e x is lines = ap (λ n. lines_beyond n (lines_from text (line_end q))) is ∙ lines
 
 -- One more definition, after which the line continues the run.
-pub run_goes_on : (text : List ℕ) (around : Context) (nested : Bool) (p q : Place) (e next : ℕ) (before mid now : Tables)
-    → IsUtf8 text → next ≡ e + line_len (drop e text) → next < length text
+pub run_goes_on : (text : List ℕ) (around : Context) (nested : Bool) (p : Place) (next : ℕ) (before now : Tables) → IsUtf8 text → next < length text
     → (is_ordinary_after_tag around (line_rest (drop next text)) || is_blank_rest (all_taken (front around.path (line_rest (drop next text))))) ≡ false
-    → RunSoFar text around nested p q before mid → IsOneMore text around nested q e mid now
-    → RunSoFar text around nested p (text_at text around.path next) before now
+    → RunWithOne text around nested p next before now → RunSoFar text around nested p (text_at text around.path next) before now
 unfolding IsRun
-run_goes_on text around nested p q e next before mid now u at within goes r one =
-    let following = lines_after_it text q e r.stands one.less one.within one.no_end in
-    let begins : IsCharBoundary text next = subst (IsCharBoundary text) (sym at) one.boundary in
+run_goes_on text around nested p next before now u within goes w =
+    let q : Place = w.place in
+    let r = w.so_far in
+    let one = w.one in
+    let at = one.next_is in
+    let following = lines_after_it text q one.last r.stands one.less one.within one.no_end in
+    let begins : IsCharBoundary text next = one.boundary in
     let there = text_place text next around.path u begins in
     let low = following.1 in
     let ends = r.ends in
     let some = line_len-within text next within in
     let more = some.0 in
-    let x : LinkEntry = one.entry in
+    let x : LinkEntry = w.entry in
     let line : Place = line_place next (drop next text) in
     let left : List Place = lines_from text (next + line_len (drop next text)) in
     let lines : lines_beyond x.«end» (lines_from text (line_end q)) ≡ line ∷ left =
-    after_entry text q e x one.ends following.0 ∙ ap (lines_from text) (sym at) ∙ lines_at-line text next within in
+    after_entry text q one.last x one.ends following.0 ∙ ap (lines_from text) (sym at) ∙ lines_at-line text next within in
     let far = there.1 in
     record {
       stands = there.0;
       later = inr (omega arith, begins);
       ends = omega arith;
       definitions = r.definitions ++ x ∷ [];
-      defined = λ plain. told_more before mid now r.definitions x (r.defined plain) (one.defined plain);
+      defined = λ plain. told_more before w.mid now r.definitions x (r.defined plain) (w.defined plain);
       continues = λ plain further beyond run.
           subst (λ z. IsRun around p (lines_from text (line_end p)) z beyond) (sym (append_assoc r.definitions (x ∷ []) further))
           (r.continues plain (x ∷ further) beyond (
@@ -209,26 +220,30 @@ run_ends_by around text next ends =
       | inr past ↦ (let none : lines_from text next ≡ [] = lines_at-end text next past in ap (ends_run around) none)
     ]
 
-pub run_ends : (text : List ℕ) (around : Context) (nested : Bool) (p q : Place) (e line next : ℕ) (before mid now : Tables)
-    → next ≡ e + line_len (drop e text) → line ≡ q.line
+pub run_ends : (text : List ℕ) (around : Context) (nested : Bool) (p : Place) (line next : ℕ) (before now : Tables)
+    → (w : RunWithOne text around nested p next before now) → line ≡ w.place.line
     → (next < length text → (is_ordinary_after_tag around (line_rest (drop next text))
     || is_blank_rest (all_taken (front around.path (line_rest (drop next text))))) ≡ true)
-    → RunSoFar text around nested p q before mid → IsOneMore text around nested q e mid now → ReadsRun text around nested p before now (NextLine line next)
+    → ReadsRun text around nested p before now (NextLine line next)
 unfolding IsRun
-run_ends text around nested p q e line next before mid now at here ends r one =
-    let following = lines_after_it text q e r.stands one.less one.within one.no_end in
-    let x : LinkEntry = one.entry in
+run_ends text around nested p line next before now w here ends =
+    let q : Place = w.place in
+    let r = w.so_far in
+    let one = w.one in
+    let at = one.next_is in
+    let following = lines_after_it text q one.last r.stands one.less one.within one.no_end in
+    let x : LinkEntry = w.entry in
     let lines : lines_beyond x.«end» (lines_from text (line_end q)) ≡ lines_from text next =
-    after_entry text q e x one.ends following.0 ∙ ap (lines_from text) (sym at) in
+    after_entry text q one.last x one.ends following.0 ∙ ap (lines_from text) (sym at) in
     let low = following.1 in
     record {
       place = q;
       stands = r.stands;
       later = r.later;
       ends = r.ends;
-      says = (here, omega arith, subst (IsCharBoundary text) (sym at) one.boundary);
+      says = (here, omega arith, one.boundary);
       definitions = r.definitions ++ x ∷ [];
-      defined = λ plain. told_more before mid now r.definitions x (r.defined plain) (one.defined plain);
+      defined = λ plain. told_more before w.mid now r.definitions x (r.defined plain) (w.defined plain);
       run = λ plain. r.continues plain (x ∷ []) (Ended q (lines_from text next))
           (one.here plain, inl (ap (ends_run around) lines ∙ run_ends_by around text next ends, refl, ap (Ended q) (sym lines)));
     }

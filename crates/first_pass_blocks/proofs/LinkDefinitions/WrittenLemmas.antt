@@ -50,19 +50,25 @@ pub one_written : (text : List ℕ) (old new : Allocations) (label : CowStr) (de
 one_written text old new label definition is one each =
     subst (EntriesAreWritten text) (sym is) (each_first (IsWritten text) label definition one (refdefs_of old) each.0, each.1)
 
+-- The head of a footnote definition is at an offset, read in the lines of some containers, inside a table or not.
+pub record HeadAt (text : List ℕ) (start : ℕ) (head : ℕ × List ℕ) : Type 0 where
+  pub around : Context
+  pub nested : Bool
+  pub here : footnote_at nested around (drop start text) ≡ Some head
+
 -- one more footnote, whose label is a copy of that of a head
-pub footnote_written : (text : List ℕ) (old new : Allocations) (around : Context) (nested : Bool) (start : ℕ) (head : ℕ × List ℕ) (label : CowStr)
-    → footnote_at nested around (drop start text) ≡ Some head → text_of label ≡ head.1
+pub footnote_written : (text : List ℕ) (old new : Allocations) (start : ℕ) (head : ℕ × List ℕ) (label : CowStr) → HeadAt text start head
+    → text_of label ≡ head.1
     → (text_of label ≡ label_bytes head.0 (drop start text) → Borrows (label_bytes head.0 (drop start text)) label)
     → AddsFootnote (entries old) (entries new) label → TablesAreWritten text old → TablesAreWritten text new
-footnote_written text old new around nested start head label here is borrowed tells each =
+footnote_written text old new start head label begins is borrowed tells each =
     let same = tells.is_copy.same in
     let one : IsFootnoteWritten text (tells.copy, record { use_count = 0 }) = record {
-      around = around;
-      nested = nested;
+      around = begins.around;
+      nested = begins.nested;
       start = start;
       head = head;
-      here = here;
+      here = begins.here;
       label = same ∙ is;
       borrowed = λ plain. tells.is_copy.borrowed (label_bytes head.0 (drop start text)) (borrowed (sym same ∙ plain));
       unused = refl;

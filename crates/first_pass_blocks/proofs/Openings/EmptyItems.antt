@@ -7,7 +7,7 @@ use Rattle.first_pass_items.specs.declared.item.ItemBody.{ItemBody}
 use Rattle.first_pass_items.specs.declared.item.ItemBody.TheVariants.{ListItem as ListItemBody, DefinitionListDefinition}
 use Rattle.first_pass_items.specs.declared.option_set.Options.{Options}
 use Rattle.first_pass_tree.specs.declared.tree_index.TreeIndex.{TreeIndex}
-use Rattle.first_pass_tree.specs.Forest.{Forest, IsForest, modify, with_body_at, body_at, appended}
+use Rattle.first_pass_tree.specs.Forest.{Forest, modify, with_body_at, body_at, appended}
 use Rattle.first_pass_tree.proofs.Blocks.{modify-at}
 use Rattle.first_pass_lines.specs.Rest.{Rest}
 use Rattle.first_pass_lines.specs.Places.{Place, offset, start_of}
@@ -15,15 +15,15 @@ use Rattle.first_pass_grammar.specs.declared.kind.Container.{Container}
 use Rattle.first_pass_grammar.specs.declared.kind.Container.TheVariants.{ListItem, Definition}
 use Rattle.first_pass_grammar.specs.Before.{is_paragraph_body}
 use Rattle.first_pass_grammar.specs.Containers.{at_rest}
-use Rattle.first_pass_grammar.specs.Footnotes.{footnote_head_at}
 use Rattle.first_pass_grammar.specs.Kinds.{is_blank_rest}
-use Rattle.first_pass_grammar.specs.Leaves.{Document, around}
+use Rattle.first_pass_grammar.specs.Leaves.{Document}
 use Rattle.first_pass_grammar.specs.Openers.{item_head, item_start, definition_head, definition_start}
-use Rattle.first_pass_grammar.specs.Skeleton.{Continues, Inside, Blanks, after_marker, only_task, next_is_blank, opening_of, OpensNode}
+use Rattle.first_pass_grammar.specs.Skeleton.{Continues, Blanks, after_marker, only_task, next_is_blank, opening_of, OpensNode}
 use Rattle.first_pass_grammar.specs.Skeleton.{Opens, Level}
 use Rattle.first_pass_grammar.specs.Derivation.{Tables, node_of}
 use Rattle.first_pass_grammar.specs.Completion.{OtherClosed, AreBelow}
 use Rattle.first_pass_completion.proofs.Completions.{fresh, completes-mark}
+use Rattle.first_pass_completion.proofs.States.{open_nodes}
 use Rattle.first_pass_grammar.proofs.Sequences.Finishes.{CompletesAt}
 use Rattle.first_pass_grammar.proofs.Sequences.Tightening.{modify-append}
 use Rattle.first_pass_open.specs.OpenBlock.{with_child}
@@ -38,10 +38,11 @@ use Rattle.first_pass_ready.proofs.ClosedIn.{level_of, closed_at_body, no_paragr
 use Rattle.first_pass_ready.proofs.ItemBodies.{item_body, item_container, item_columns_of, item_path, emptied_is}
 use Rattle.first_pass_ready.proofs.OpenLemmas.{open_below, frame-append, get_end}
 use Rattle.first_pass_ready.proofs.PopLemmas.{ready_as}
-use Rattle.first_pass_ready.proofs.BegunLemmas.{depth_of, with_open, top_opened, IsBegun, opens_start, plain_open}
+use Rattle.first_pass_ready.proofs.BegunLemmas.{depth_of, with_open, top_opened, IsBegun, plain_open}
 use Rattle.first_pass_ready.proofs.DefinitionOpened.{list_class, definition_is_open}
-use Rattle.first_pass_blocks.proofs.Openings.OpenerLemmas.{begins_at, item_is_open}
+use Rattle.first_pass_blocks.proofs.Openings.OpenerLemmas.{item_is_open, ContainerBegins, begins_open}
 use Rattle.first_pass_lists.proofs.NoEmptyItem.{item_opened}
+use Rattle.first_pass_lists.specs.declared.list.ListMarker.{ListMarker}
 
 -- an item is no list
 item_not_list : (b : ItemBody) (n : ℕ) → is_list (Some (item_body b n)) ≡ false
@@ -60,21 +61,30 @@ marked_top f x ix rest spine within =
     ∙ ap (option_map (λ (n : ℕ × Item). n.1.body)) (get_front f.nodes ((length f.spine + 1, x) ∷ []) ix.0 within)
     ∙ sym (ap (λ (s : List TreeIndex). option_and_then (λ (i : TreeIndex). body_at f.nodes i.0) (slice_get s 0)) spine)
 
+-- an innermost open node, which is no list, and those around it
+record InnermostItem (f : Forest Item) : Type 0 where
+  ix : TreeIndex
+  rest : List TreeIndex
+  spine : f.spine ≡ ix ∷ rest
+  none : is_list (top_body f) ≡ false
+
 ready_marked : (d : Document) (defined : Tables) (f : Forest Item) (marker : Option Item) (p : Place) (blanks : Option ℕ) (lines : List Place)
-    (ix : TreeIndex) (rest : List TreeIndex) → IsNoParagraph marker → f.spine ≡ ix ∷ rest → is_list (top_body f) ≡ false
-    → ReadyAt d defined f false (only_task marker p blanks) lines → ReadyAt d defined (with_child f marker) false (after_marker blanks) lines
-ready_marked d defined f None p blanks lines ix rest other spine none ready = ready
-ready_marked d defined f (Some x) p blanks lines ix rest other spine none ready =
+    → IsNoParagraph marker → InnermostItem f → ReadyAt d defined f false (only_task marker p blanks) lines
+    → ReadyAt d defined (with_child f marker) false (after_marker blanks) lines
+ready_marked d defined f None p blanks lines other top ready = ready
+ready_marked d defined f (Some x) p blanks lines other top ready =
+    let ix : TreeIndex = top.ix in
     let os : List ℕ = map (λ (i : TreeIndex). i.0) f.spine in
     let g : Forest Item = appended f x in
     let from : Continues = after_marker blanks in
-    let k = completes-mark d defined (closed_in f) ready.frames f.nodes os x p blanks lines (plain_open d.options f ready.frames ready.are_open none)
-    (other x refl) ready.completes in
+    let k = completes-mark d (open_nodes defined ready.frames f.nodes os) (closed_in f) x p blanks lines
+    (plain_open d.options f ready.frames ready.are_open top.none) (other x refl) ready.completes in
     let within : ix.0 < length f.nodes =
-    (subst (λ (s : List TreeIndex). AreBelow (length f.nodes) (map (λ (i : TreeIndex). i.0) s)) spine ready.completes.below).0 in
-    let top : is_definition_list (top_body g) ≡ false = ap is_definition_list (marked_top f x ix rest spine within) ∙ list_class (top_body f) none in
+    (subst (λ (s : List TreeIndex). AreBelow (length f.nodes) (map (λ (i : TreeIndex). i.0) s)) top.spine ready.completes.below).0 in
+    let no_list : is_definition_list (top_body g) ≡ false =
+    ap is_definition_list (marked_top f x ix top.rest top.spine within) ∙ list_class (top_body f) top.none in
     let closed : closed_in g ≡ OtherClosed =
-    closed_at_body g (record { 0 = length f.nodes }) x.body top refl (get_end f.nodes (length f.spine + 1, x) [] (length f.nodes) refl)
+    closed_at_body g (record { 0 = length f.nodes }) x.body no_list refl (get_end f.nodes (length f.spine + 1, x) [] (length f.nodes) refl)
     ∙ no_paragraph (length f.nodes) x.body (other x refl) in
     ready_as d defined g false from lines ready.frames OtherClosed closed
     (open_below d.options f.nodes g.nodes (length f.nodes) f.spine ready.frames
@@ -204,14 +214,21 @@ module _ (d : Document) (defined : Tables) (b : ItemBody) (g : Forest Item) (sta
         ready = in_item d defined (with_child full marker) e lines t q.blank blank (ap (λ z. next_is_blank z lines) path_is ∙ next) ready;
       })
 
+  opened_last : (n : ℕ) → InnermostItem (with_columns b g start n)
+  opened_last n = record {
+    ix = place b g start;
+    rest = g.spine;
+    spine = refl;
+    none = ap is_list (top_opened g (node_of start 0 (item_body b n))) ∙ item_not_list b n;
+  }
+
   empty_is : (t : Bool) → next_is_blank (item_container b columns ∷ path) lines ≡ t
       → IsBegun d defined (with_columns b g start (columns_by t columns)) (item_container b (columns_by t columns)) (only_task marker p (blanks_by t e)) lines
       path
       → ReadyEmpty d defined (empty_item_read q marker e) e lines
   empty_is true next begun =
       let zero_node : Forest Item = with_columns b g start 0 in
-      let marked = ready_marked d defined zero_node marker p (Some e) lines (place b g start) g.spine other refl
-      (ap is_list (top_opened g (node_of start 0 (item_body b 0))) ∙ item_not_list b 0) begun.ready in
+      let marked = ready_marked d defined zero_node marker p (Some e) lines other (opened_last 0) begun.ready in
       let below : AreBelow (length full.nodes) (map (λ (i : TreeIndex). i.0) full.spine) =
       subst (λ k. AreBelow k (map (λ (i : TreeIndex). i.0) full.spine)) (longer b g start 0 ∙ sym (longer b g start columns)) begun.ready.completes.below in
       empty_read true (marked_path d.options full marker below
@@ -219,64 +236,63 @@ module _ (d : Document) (defined : Tables) (b : ItemBody) (g : Forest Item) (sta
       (subst (λ f. ReadyAt d defined f false (Blanks e) lines) (sym (emptied_marked b g start columns marker)) marked)
   empty_is false next begun =
       empty_read false (marked_path d.options full marker begun.ready.completes.below ∙ begun.path_is) next
-      (ready_marked d defined full marker p None lines (place b g start) g.spine other refl
-      (ap is_list (top_opened g (node_of start 0 (item_body b columns))) ∙ item_not_list b columns) begun.ready)
+      (ready_marked d defined full marker p None lines other (opened_last columns) begun.ready)
+
+-- nothing follows the markers of a container in its line, and the next line begins at an offset
+pub record EndsLine (d : Document) (rest : Rest) (lines : List Place) (e : ℕ) : Type 0 where
+  pub blank : is_blank_rest rest ≡ true
+  pub next : start_of (length d.text) lines ≡ e
 
 -- the opening of an empty item, from its markers
-item_opens : (d : Document) (path : List Container) (p : Place) (lines : List Place) (byte number columns : ℕ) (marker : Option Item) (rest : Rest) (e : ℕ)
-    (t : Bool) → is_blank_rest rest ≡ true → next_is_blank (ListItem columns ∷ path) lines ≡ t → start_of (length d.text) lines ≡ e
-    → opening_of d path p lines (item_start p (byte, number, columns) (marker, rest))
-    ≡ OpensNode (item_head p byte number (columns_by t columns)) (only_task marker (at_rest p rest) (blanks_by t e)) lines
-item_opens d path p lines byte number columns marker rest e true h n e_is =
-    rw (h, n) (ap (λ k. OpensNode (item_head p byte number 0) (only_task marker (at_rest p rest) (Some k)) lines) e_is)
-item_opens d path p lines byte number columns marker rest e false h n e_is = rw (h, n) refl
+item_opens : (d : Document) (path : List Container) (p : Place) (lines : List Place) (m : ListMarker) (marker : Option Item) (rest : Rest) (e : ℕ)
+    (t : Bool) → EndsLine d rest lines e → next_is_blank (ListItem m.indent ∷ path) lines ≡ t
+    → opening_of d path p lines (item_start p (m.byte, m.number, m.indent) (marker, rest))
+    ≡ OpensNode (item_head p m.byte m.number (columns_by t m.indent)) (only_task marker (at_rest p rest) (blanks_by t e)) lines
+item_opens d path p lines m marker rest e true over n =
+    rw (over.blank, n) (ap (λ k. OpensNode (item_head p m.byte m.number 0) (only_task marker (at_rest p rest) (Some k)) lines) over.next)
+item_opens d path p lines m marker rest e false over n = rw (over.blank, n) refl
 
 -- an item with nothing after its markers
-pub ready_empty_item : (d : Document) (defined : Tables) (r : PassState) (p : Place) (lines : List Place) (byte number columns : ℕ) (marker : Option Item)
-    (rest : Rest) (e : ℕ) → IsForest r.tree → footnote_head_at (around d (path_of d.options r.tree)) p ≡ None
-    → begins_at d r p ≡ Some (item_start p (byte, number, columns) (marker, rest)) → IsNoParagraph marker
-    → is_blank_rest rest ≡ true → start_of (length d.text) lines ≡ e → r.begin_list_item ≡ None
-    → ReadyAt d defined r.tree r.blank (Inside p) lines → Ready d defined (empty_item_read (item_opened (offset p) byte number columns r) marker e) lines
+pub ready_empty_item : (d : Document) (defined : Tables) (r : PassState) (p : Place) (lines : List Place) (m : ListMarker) (marker : Option Item)
+    (rest : Rest) (e : ℕ) → ContainerBegins d defined r p lines (item_start p (m.byte, m.number, m.indent) (marker, rest)) → IsNoParagraph marker
+    → EndsLine d rest lines e → Ready d defined (empty_item_read (item_opened (offset p) m.byte m.number m.indent r) marker e) lines
 unfolding Ready
-ready_empty_item d defined r p lines byte number columns marker rest e forest bare begins other blank e_is none ready =
+ready_empty_item d defined r p lines m marker rest e b other over =
     let path : List Container = path_of d.options r.tree in
-    let t : Bool = next_is_blank (ListItem columns ∷ path) lines in
-    let n : ℕ = columns_by t columns in
+    let t : Bool = next_is_blank (ListItem m.indent ∷ path) lines in
+    let n : ℕ = columns_by t m.indent in
     let from : Continues = only_task marker (at_rest p rest) (blanks_by t e) in
-    let l : Level = level_of d.options r.tree r.blank in
-    let opens : Opens d l p lines (OpensNode (item_head p byte number n) from lines) =
-    subst (Opens d l p lines) (item_opens d path p lines byte number columns marker rest e t blank refl e_is)
-    (opens_start d l p lines (item_start p (byte, number, columns) (marker, rest)) bare begins) in
-    let now = item_is_open d defined r p lines byte number n from forest opens none ready in
-    empty_is d defined (ListItemBody columns) (list_continued (offset p) byte number r).tree (offset p) columns (item_opened (offset p) byte number columns r)
-    marker (at_rest p rest) lines e path refl now.blank other t refl now.is_begun
+    let opens : Opens d (level_of d.options r.tree r.blank) p lines (OpensNode (item_head p m.byte m.number n) from lines) =
+    subst (Opens d (level_of d.options r.tree r.blank) p lines) (item_opens d path p lines m marker rest e t over refl)
+    (begins_open d defined r p lines (item_start p (m.byte, m.number, m.indent) (marker, rest)) b) in
+    let now = item_is_open d defined r p lines m.byte m.number n from b.forest opens b.none b.ready in
+    empty_is d defined (ListItemBody m.indent) (list_continued (offset p) m.byte m.number r).tree (offset p) m.indent
+    (item_opened (offset p) m.byte m.number m.indent r) marker (at_rest p rest) lines e path refl now.blank other t refl now.is_begun
 
 -- the opening of an empty definition, from its marker
-definition_opens : (d : Document) (path : List Container) (p : Place) (lines : List Place) (columns : ℕ) (rest : Rest) (e : ℕ)
-    (t : Bool) → is_blank_rest rest ≡ true → next_is_blank (Definition columns ∷ path) lines ≡ t → start_of (length d.text) lines ≡ e
+definition_opens : (d : Document) (path : List Container) (p : Place) (lines : List Place) (columns : ℕ) (rest : Rest) (e : ℕ) (t : Bool)
+    → EndsLine d rest lines e → next_is_blank (Definition columns ∷ path) lines ≡ t
     → opening_of d path p lines (definition_start p (columns, rest))
     ≡ OpensNode (definition_head p (columns_by t columns)) (only_task None (at_rest p rest) (blanks_by t e)) lines
-definition_opens d path p lines columns rest e true h n e_is =
-    rw (h, n) (ap (λ k. OpensNode (definition_head p 0) (Blanks k) lines) e_is)
-definition_opens d path p lines columns rest e false h n e_is = rw (h, n) refl
+definition_opens d path p lines columns rest e true over n =
+    rw (over.blank, n) (ap (λ k. OpensNode (definition_head p 0) (Blanks k) lines) over.next)
+definition_opens d path p lines columns rest e false over n = rw (over.blank, n) refl
 
 -- a definition with nothing after its marker
 pub ready_empty_definition : (d : Document) (defined : Tables) (r : PassState) (p : Place) (lines : List Place) (columns : ℕ) (rest : Rest) (e : ℕ)
-    → IsForest r.tree → footnote_head_at (around d (path_of d.options r.tree)) p ≡ None → takes_definition r.tree ≡ true
-    → begins_at d r p ≡ Some (definition_start p (columns, rest))
-    → is_blank_rest rest ≡ true → start_of (length d.text) lines ≡ e → r.begin_list_item ≡ None
-    → ReadyAt d defined r.tree r.blank (Inside p) lines → Ready d defined (empty_item_read (definition_begun (offset p) columns r) None e) lines
+    → ContainerBegins d defined r p lines (definition_start p (columns, rest)) → takes_definition r.tree ≡ true → EndsLine d rest lines e
+    → Ready d defined (empty_item_read (definition_begun (offset p) columns r) None e) lines
 unfolding Ready definition_begun
-ready_empty_definition d defined r p lines columns rest e forest bare takes begins blank e_is none ready =
+ready_empty_definition d defined r p lines columns rest e b takes over =
     let path : List Container = path_of d.options r.tree in
     let t : Bool = next_is_blank (Definition columns ∷ path) lines in
     let n : ℕ = columns_by t columns in
     let from : Continues = only_task None (at_rest p rest) (blanks_by t e) in
     let l : Level = level_of d.options r.tree r.blank in
     let opens : Opens d l p lines (OpensNode (definition_head p n) from lines) =
-    subst (Opens d l p lines) (definition_opens d path p lines columns rest e t blank refl e_is)
-    (opens_start d l p lines (definition_start p (columns, rest)) bare begins) in
-    let now = definition_is_open d defined r p lines lines n from forest takes opens none ready in
+    subst (Opens d l p lines) (definition_opens d path p lines columns rest e t over refl)
+    (begins_open d defined r p lines (definition_start p (columns, rest)) b) in
+    let now = definition_is_open d defined r p lines lines n from b.forest takes opens b.none b.ready in
     let g : PassState = list_kept (with_tree r (definitions_opened r.tree r.tree.current)) in
     empty_is d defined (DefinitionListDefinition columns) g.tree (offset p) columns (definition_begun (offset p) columns r) None (at_rest p rest) lines e path
     refl now.blank (λ x some. cc) t refl now.is_begun

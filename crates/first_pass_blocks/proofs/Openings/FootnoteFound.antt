@@ -1,10 +1,10 @@
 -- Whether a footnote definition begins at a place, from the results of the calls, and what is open then.
 use Rattle.std.proofs.Common.{◌≡◌, inl, inr, ℕ, ◌+◌, ◌-◌, ◌<◌, ◌≤◌, nat_lt, ◌&&◌, Bool, true, false, List, drop, Option, Some, None, MatchOption}
-use Rattle.std.proofs.Common.{IsSomeAnd, IsUtf8, refl, sym, ap, subst, ◌∙◌, arith, drop-drop, if◌then◌else◌}
+use Rattle.std.proofs.Common.{IsSomeAnd, refl, sym, ap, subst, ◌∙◌, arith, drop-drop, if◌then◌else◌}
 use Rattle.std.proofs.lemmas.Bool.{cases_lt}
 use Rattle.std.specs.Option.{option_and_then}
 use Rattle.first_pass_items.specs.OptionWords.{has, footnotes, gfm_footnotes}
-use Rattle.first_pass_tree.specs.Forest.{IsForest, in_table}
+use Rattle.first_pass_tree.specs.Forest.{in_table}
 use Rattle.first_pass_lines.specs.Lines.{line_len}
 use Rattle.first_pass_lines.specs.Rest.{indent}
 use Rattle.first_pass_lines.specs.Places.{Place, offset, line_end, IsPlaceOf}
@@ -24,6 +24,7 @@ use Rattle.first_pass_blocks.proofs.Openings.HeadLemmas.{head_after_is}
 use Rattle.first_pass_lists.proofs.NoEmptyItem.{footnote_begun_none}
 use Rattle.first_pass_blocks.proofs.Openings.FootnoteSteps.{passes_note}
 use Rattle.first_pass_blocks.proofs.Order.OrderSteps.{unindented_later}
+use Rattle.first_pass_blocks.proofs.StateAt.{IsAt}
 
 no_mark_by : (t u v : Bool) (n : ℕ) (o : Option (ℕ × List ℕ)) → (if t && (u && v) then Some n else None) ≡ None
     → (if t && u then (if v then o else None) else None) ≡ None
@@ -90,43 +91,49 @@ line_after text s e low =
       | inr more ↦ omega arith
     ]
 
+-- The head of a footnote definition is at an offset, after the indentation of a place. More than three bytes of it are read.
+pub record HeadFound (pass : BlockPass) (p : Place) (start n : ℕ) (head : ℕ × List ℕ) : Type 0 where
+  pub mark : footnote_mark_at (source_of pass).options p ≡ Some start
+  pub here : footnote_at (in_table (tree_of pass).nodes (tree_of pass).spine) (context_in pass) (drop start (source_text pass)) ≡ Some head
+  pub some : 3 < n
+
 -- a footnote definition is open whose head was read
-pub footnote_opened : (old new : BlockPass) (p q : Place) (start n : ℕ) (head : ℕ × List ℕ) → IsUtf8 (source_text old) → IsPlaceOf (source_text old) p
-    → IsForest (tree_of old) → (state_of old).begin_list_item ≡ None → source_of new ≡ source_of old → footnote_mark_at (source_of old).options p ≡ Some start
-    → footnote_at (in_table (tree_of old).nodes (tree_of old).spine) (context_in old) (drop start (source_text old)) ≡ Some head
-    → n ≡ head_read (gfm_footnotes (source_of old).options) head.0 (drop (start + head.0) (source_text old))
-    → OpenedFootnote start head old new → 3 < n → IsAfterHead (source_of old) (start + n) q → TriesFootnote old new p q true
-footnote_opened old new p q start n head utf8 at forest none same mark is n_is opened some following =
+pub footnote_opened : (old new : BlockPass) (p q : Place) (start n : ℕ) (head : ℕ × List ℕ) → IsAt (source_text old) (state_of old) p
+    → source_of new ≡ source_of old → HeadFound old p start n head → IsRead old new start head n → IsAfterHead (source_of old) (start + n) q
+    → TriesFootnote old new p q true
+footnote_opened old new p q start n head is_at same found read following =
     let text : List ℕ = source_text old in
     let around : Context = context_in old in
     let gfm : Bool = gfm_footnotes (source_of old).options in
     let nested : Bool = in_table (tree_of old).nodes (tree_of old).spine in
     let h : Place = unindented p in
-    let i : IsPlaceOf text h = all_keep text p.line p.rest utf8 at in
-    let m = head_at_mark text around p start i mark in
+    let i : IsPlaceOf text h = all_keep text p.line p.rest is_at.utf8 is_at.place in
+    let m = head_at_mark text around p start i found.mark in
     let here : offset h ≡ start = m.0 in
-    let head_is : footnote_head (footnote_prefix around) nested h.rest.left ≡ Some head = ap (footnote_at nested around) m.2 ∙ is in
+    let head_is : footnote_head (footnote_prefix around) nested h.rest.left ≡ Some head = ap (footnote_at nested around) m.2 ∙ found.here in
     let size : n ≡ head_read gfm head.0 (drop (offset h + head.0) text) =
-    n_is ∙ ap (λ (k : ℕ). head_read gfm head.0 (drop (k + head.0) text)) (sym here) in
+    read.0 ∙ ap (λ (k : ℕ). head_read gfm head.0 (drop (k + head.0) text)) (sym here) in
     let opens : OpenedFootnote (offset h) head old new =
-    subst (λ (k : ℕ). OpenedFootnote k head old new) (sym here) opened in
-    let low = unindented_later text p.line p.rest utf8 at in
-    let a = place_length text p at in
+    subst (λ (k : ℕ). OpenedFootnote k head old new) (sym here) read.1 in
+    let low = unindented_later text p.line p.rest is_at.utf8 is_at.place in
+    let some = found.some in
+    let a = place_length text p is_at.place in
     let b = place_length text q following.place in
     let later = following.later in
     let ends = following.ends in
     let e : ℕ = start + n in
-    let line : line_end p ≡ offset p + line_len (drop (offset p) text) = ap (λ bs. offset p + line_len bs) at.left in
+    let line : line_end p ≡ offset p + line_len (drop (offset p) text) = ap (λ bs. offset p + line_len bs) is_at.place.left in
     let stop = line_start_end text e in
     let far = line_after text (offset p) e (omega arith) in (
       (following.place, omega arith, omega arith, omega arith),
       omega arith,
-      ap (λ r. r.begin_list_item) opened.opened ∙ footnote_begun_none start opened.index (state_of old),
-      passes_note old new p q head utf8 at forest none same opens
-          (λ no_table. m.1 ∙ ap (λ (t : Bool). footnote_at t around (drop start text)) (sym no_table) ∙ is) around nested
-          (ap (λ (k : ℕ). footnote_at nested around (drop k text)) here ∙ is) following.place (omega arith)
+      ap (λ r. r.begin_list_item) read.1.opened ∙ footnote_begun_none start read.1.index (state_of old),
+      passes_note old new p q head is_at same opens
+          (λ no_table. m.1 ∙ ap (λ (t : Bool). footnote_at t around (drop start text)) (sym no_table) ∙ found.here)
+          (record { around = around; nested = nested; here = ap (λ (k : ℕ). footnote_at nested around (drop k text)) here ∙ found.here })
+          following.place (omega arith)
           (λ names.
-          head_after_is (document text (source_of old).options names) p (footnote_prefix around) nested head n utf8 at head_is size
+          head_after_is (document text (source_of old).options names) p (footnote_prefix around) nested head n is_at.utf8 is_at.place head_is size
           ∙ ap (λ (k : ℕ). after_head gfm text (k + n)) here ∙ sym following.there)
           following.boundary,
     )

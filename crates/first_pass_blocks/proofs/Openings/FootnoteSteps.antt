@@ -1,9 +1,9 @@
 -- A pass opened the footnote definition that begins at a place.
-use Rattle.std.proofs.Common.{Bool, drop, Some, ◌≡◌, ℕ, ◌+◌, ◌<◌, ◌≤◌, false, List, [], ◌∷◌, length, Some, None}
-use Rattle.std.proofs.Common.{IsUtf8, IsCharBoundary, sym, ap, subst, ◌∙◌, arith, length-append}
+use Rattle.std.proofs.Common.{drop, Some, ◌≡◌, ℕ, ◌+◌, ◌<◌, ◌≤◌, false, List, [], ◌∷◌, length, Some}
+use Rattle.std.proofs.Common.{IsCharBoundary, sym, ap, subst, ◌∙◌, arith, length-append}
 use Rattle.first_pass_items.specs.declared.item.ItemBody.TheVariants.{FootnoteDefinition as FootnoteDefinitionBody}
 use Rattle.first_pass_items.specs.CowText.{text_of}
-use Rattle.first_pass_tree.specs.Forest.{IsForest, in_table}
+use Rattle.first_pass_tree.specs.Forest.{in_table}
 use Rattle.first_pass_lines.specs.Places.{Place, offset, line_end, IsPlaceOf}
 use Rattle.first_pass_entities.specs.Texts.{Borrows}
 use Rattle.first_pass_grammar.specs.Kinds.{unindented}
@@ -11,7 +11,7 @@ use Rattle.first_pass_grammar.specs.Leaves.{Document, document}
 use Rattle.first_pass_grammar.specs.Names.{Names, Extends, AreNamed}
 use Rattle.first_pass_grammar.specs.Derivation.{Tables, with_footnote_label}
 use Rattle.first_pass_grammar.specs.Completion.{lines_from}
-use Rattle.first_pass_grammar.specs.Footnotes.{footnote_at, footnote_head_at, label_bytes, NamesLabel}
+use Rattle.first_pass_grammar.specs.Footnotes.{footnote_head_at, label_bytes, NamesLabel}
 use Rattle.first_pass_grammar.specs.Order.{GrowsBy}
 use Rattle.first_pass_grammar.specs.Skeleton.{Inside}
 use Rattle.first_pass_grammar.specs.WholeTables.{HasWholeTables}
@@ -28,20 +28,19 @@ use Rattle.first_pass_blocks.specs.Positions.{line_or, OrderedUpTo, OrderedIn, I
 use Rattle.first_pass_blocks.specs.Progress.{PassesTo}
 use Rattle.first_pass_blocks.specs.FootnoteHeads.{OpenedFootnote}
 use Rattle.first_pass_blocks.specs.Views.{allocs_of, state_of, source_of, source_text, tree_of}
-use Rattle.first_pass_grammar.specs.Containers.{Context}
-use Rattle.first_pass_blocks.proofs.LinkDefinitions.WrittenLemmas.{footnote_written}
+use Rattle.first_pass_blocks.proofs.LinkDefinitions.WrittenLemmas.{footnote_written, HeadAt}
 use Rattle.first_pass_ready.proofs.FootnoteLemmas.{after_note, note_is_open}
 use Rattle.first_pass_blocks.proofs.Order.OrderSteps.{line_or-below, ordered_on, ordered_note_in, top_begun, unindented_later}
 use Rattle.first_pass_order.proofs.CountLemmas.{note_count}
 use Rattle.first_pass_order.proofs.NamedLemmas.{note_named}
 use Rattle.first_pass_order.proofs.WholeKept.{note_whole, more_whole}
 use Rattle.first_pass_ready.proofs.BegunLemmas.{no_table}
+use Rattle.first_pass_blocks.proofs.StateAt.{IsAt}
 
-module _ (old new : BlockPass) (p q : Place) (head : ℕ × List ℕ) (utf8 : IsUtf8 (source_text old)) (at : IsPlaceOf (source_text old) p)
-    (forest : IsForest (tree_of old)) (none : (state_of old).begin_list_item ≡ None) (same : source_of new ≡ source_of old)
+module _ (old new : BlockPass) (p q : Place) (head : ℕ × List ℕ) (is_at : IsAt (source_text old) (state_of old) p) (same : source_of new ≡ source_of old)
     (opened : OpenedFootnote (offset (unindented p)) head old new)
     (begins : in_table (tree_of old).nodes (tree_of old).spine ≡ false → footnote_head_at (context_of (source_of old).options (tree_of old)) p ≡ Some head)
-    (around : Context) (nested : Bool) (here_is : footnote_at nested around (drop (offset (unindented p)) (source_text old)) ≡ Some head)
+    (written : HeadAt (source_text old) (offset (unindented p)) head)
     (place : IsPlaceOf (source_text old) q) (later : offset (unindented p) + 4 ≤ q.line)
     (there : (names : Names) → after_note (document (source_text old) (source_of old).options names) p (lines_from (source_text old) (line_end p)) head.0
     ≡ (q, lines_from (source_text old) (line_end q))) where
@@ -52,10 +51,10 @@ module _ (old new : BlockPass) (p q : Place) (head : ℕ × List ℕ) (utf8 : Is
   start = offset (unindented p)
 
   here : IsPlaceOf text (unindented p)
-  here = all_keep text p.line p.rest utf8 at
+  here = all_keep text p.line p.rest is_at.utf8 is_at.place
 
   low : offset p ≤ start
-  low = unindented_later text p.line p.rest utf8 at
+  low = unindented_later text p.line p.rest is_at.utf8 is_at.place
 
   more_names : Extends (names_of (allocs_of new)) (names_of (allocs_of old))
   more_names = extends_named (names_of (allocs_of old)) (names_of (allocs_of new)) opened.text opened.names
@@ -85,7 +84,7 @@ module _ (old new : BlockPass) (p q : Place) (head : ℕ × List ℕ) (utf8 : Is
         text = opened.label;
         borrowed = λ plain. borrowed_at (unindented p).rest.left here.left (opened.label ∙ plain);
       } in
-      let o = note_is_open d (tables_of (allocs_of old)) (state_of old) p lines head opened.index forest is_head named none ready in
+      let o = note_is_open d (tables_of (allocs_of old)) (state_of old) p lines head opened.index is_at.forest is_head named is_at.none ready in
       let now : PassState = footnote_begun start opened.index (state_of old) in
       let unblank : ReadyAt d (with_footnote_label (tables_of (allocs_of old)) head.1) now.tree now.blank (Inside (after_note d p lines head.0).0)
       (after_note d p lines head.0).1 = subst (λ t. ReadyAt d (with_footnote_label (tables_of (allocs_of old)) head.1) now.tree t
@@ -107,7 +106,7 @@ module _ (old new : BlockPass) (p q : Place) (head : ℕ × List ℕ) (utf8 : Is
       let a : ℕ = line_or (tree_of old) p.line (offset p) in
       let below : a ≤ offset p = line_or-below (tree_of old) p.line (offset p) (omega arith) in
       let lower = low in
-      let now = ordered_note_in text (state_of old) a start opened.index (omega arith) here.within here.boundary none ordered.1 in
+      let now = ordered_note_in text (state_of old) a start opened.index (omega arith) here.within here.boundary is_at.none ordered.1 in
       let further : start ≤ offset q = (let l = later in omega arith) in (
         boundary,
         subst (λ (z : PassState). OrderedUpTo text z.tree (line_or z.tree q.line (offset q))) (sym opened.opened)
@@ -131,9 +130,9 @@ module _ (old new : BlockPass) (p q : Place) (head : ℕ × List ℕ) (utf8 : Is
         (note_named (names_of (allocs_of new)) start opened.index (state_of old) own
         (named_more (names_of (allocs_of new)) (names_of (allocs_of old)) (tree_of old).nodes more_names h));
     written = λ h.
-        footnote_written text (allocs_of old) (allocs_of new) around nested start head opened.text here_is opened.label opened.borrowed opened.tells h;
+        footnote_written text (allocs_of old) (allocs_of new) start head opened.text written opened.label opened.borrowed opened.tells h;
     tables = λ h k.
         subst (λ (z : PassState). HasWholeTables (names_of (allocs_of new)) z.tree) (sym opened.opened)
-        (note_whole (names_of (allocs_of new)) start opened.index (state_of old) forest
+        (note_whole (names_of (allocs_of new)) start opened.index (state_of old) is_at.forest
         (more_whole (names_of (allocs_of new)) (names_of (allocs_of old)) (tree_of old) more_names h k));
   }

@@ -33,6 +33,7 @@ use Rattle.first_pass_completion.proofs.ContainerSteps.{completes-quote, complet
 use Rattle.first_pass_completion.proofs.Extending.{tail, lvl, opens_stays}
 use Rattle.first_pass_grammar.proofs.Sequences.Finishes.{CompletesAt}
 use Rattle.first_pass_completion.proofs.Flags.{completes-reflag_list}
+use Rattle.first_pass_completion.proofs.States.{open_nodes}
 use Rattle.first_pass_open.specs.Path.{path_in, path_of}
 use Rattle.first_pass_lists.specs.Closing.{loosened_at, loosened_by, top_body, takes_definition, is_list, is_list_of, item_finished_by, item_finished}
 use Rattle.first_pass_lists.specs.Closing.{list_finished, loosened_top, list_kept, begun, list_continued, definition_begun}
@@ -89,8 +90,9 @@ quote_is_open d defined r p lines following kind inside forest opens none ready 
     refl (quote_away (top_body r.tree) (closed_in r.tree) p kind following inside) none ready in
     let f : Forest Item = q.tree in
     let now = done.ready.0 in
-    let k = completes-quote d defined (closed_in f) now.frames f.nodes (map (λ (i : TreeIndex). i.0) f.spine) p lines following kind (quote_start p) p.line 0
-    inside done.ready.1 (finished_opens d defined r q p lines opening done) now.completes in
+    let k = completes-quote d (open_nodes defined now.frames f.nodes (map (λ (i : TreeIndex). i.0) f.spine)) (closed_in f) kind (quote_start p) p.line
+    (record { place = p; lines = lines; inside = inside; following = following; opens = finished_opens d defined r q p lines opening done })
+    done.ready.1 now.completes in
     record {
       is_begun = subst (IsBegun d defined (with_open f (node_of (quote_start p) 0 (BlockQuoteBody kind))) (BlockQuote kind) inside following)
           (finished_path d defined r q p lines opening done)
@@ -104,29 +106,40 @@ quote_is_open d defined r p lines following kind inside forest opens none ready 
 abbrev pub begins_at : Document → PassState → Place → Option Start
 begins_at d r p = start_at d.options (may_define d (level_of d.options r.tree r.blank)) p
 
+-- A container begins at the place of a state: blocks may begin there, no footnote definition does, and no item is empty.
+pub record ContainerBegins (d : Document) (defined : Tables) (r : PassState) (p : Place) (lines : List Place) (s : Start) : Type 0 where
+  pub forest : IsForest r.tree
+  pub none : r.begin_list_item ≡ None
+  pub bare : footnote_head_at (around d (path_of d.options r.tree)) p ≡ None
+  pub begins : begins_at d r p ≡ Some s
+  pub ready : ReadyAt d defined r.tree r.blank (Inside p) lines
+
+-- its start opens it
+pub begins_open : (d : Document) (defined : Tables) (r : PassState) (p : Place) (lines : List Place) (s : Start)
+    → ContainerBegins d defined r p lines s → Opens d (level_of d.options r.tree r.blank) p lines (opening_of d (path_of d.options r.tree) p lines s)
+begins_open d defined r p lines s b = opens_start d (level_of d.options r.tree r.blank) p lines s b.bare b.begins
+
 -- a block quote without a tag
 pub ready_quote : (d : Document) (defined : Tables) (r : PassState) (p : Place) (lines : List Place) (inside : Rest)
-    → IsForest r.tree → footnote_head_at (around d (path_of d.options r.tree)) p ≡ None → begins_at d r p ≡ Some (quote_begun p None inside)
-    → r.begin_list_item ≡ None → ReadyAt d defined r.tree r.blank (Inside p) lines
+    → ContainerBegins d defined r p lines (quote_begun p None inside)
     → (let q : PassState = begun (quote_start p) (BlockQuoteBody None) (list_finished p.line r) in
     ReadyAt d defined q.tree q.blank (Inside (at_rest p inside)) lines)
-ready_quote d defined r p lines inside forest bare begins none ready =
+ready_quote d defined r p lines inside b =
     let q : PassState = begun (quote_start p) (BlockQuoteBody None) (list_finished p.line r) in
-    let opens = opens_start d (level_of d.options r.tree r.blank) p lines (quote_begun p None inside) bare begins in
-    let now = quote_is_open d defined r p lines lines None (Inside (at_rest p inside)) forest opens none ready in
+    let opens = begins_open d defined r p lines (quote_begun p None inside) b in
+    let now = quote_is_open d defined r p lines lines None (Inside (at_rest p inside)) b.forest opens b.none b.ready in
     subst (λ t. ReadyAt d defined q.tree t (Inside (at_rest p inside)) lines) (sym now.blank) now.is_begun.ready
 
 -- a block quote with one
 pub ready_tagged : (d : Document) (defined : Tables) (r : PassState) (p : Place) (lines : List Place) (inside : Rest) (kind : BlockQuoteKind)
-    → IsForest r.tree → footnote_head_at (around d (path_of d.options r.tree)) p ≡ None → begins_at d r p ≡ Some (quote_begun p (Some kind) inside)
-    → r.begin_list_item ≡ None → ReadyAt d defined r.tree r.blank (Inside p) lines
+    → ContainerBegins d defined r p lines (quote_begun p (Some kind) inside)
     → ReadyTagged d defined (begun (quote_start p) (BlockQuoteBody (Some kind)) (list_finished p.line r)) lines
-ready_tagged d defined r p lines inside kind forest bare begins none ready =
+ready_tagged d defined r p lines inside kind b =
     let q : PassState = begun (quote_start p) (BlockQuoteBody (Some kind)) (list_finished p.line r) in
     let path : List Container = path_of d.options r.tree in
     let from : Continues × List Place = after_tag (around d (BlockQuote (Some kind) ∷ path)) lines in
-    let opens = opens_start d (level_of d.options r.tree r.blank) p lines (quote_begun p (Some kind) inside) bare begins in
-    let now = quote_is_open d defined r p lines from.1 (Some kind) from.0 forest opens none ready in
+    let opens = begins_open d defined r p lines (quote_begun p (Some kind) inside) b in
+    let now = quote_is_open d defined r p lines from.1 (Some kind) from.0 b.forest opens b.none b.ready in
     record {
       kind = Some kind;
       quote = top_opened (list_finished p.line r).tree (node_of (quote_start p) 0 (BlockQuoteBody (Some kind)));
@@ -172,8 +185,10 @@ module _ (d : Document) (defined : Tables) (r : PassState) (p : Place) (lines : 
       let os : List ℕ = map (λ (i : TreeIndex). i.0) f.spine in
       let y : Item = node_of (offset p) 0 (ListBody (list_flags true) byte number) in
       let g : Forest Item = with_open f y in
-      let k = completes-list d defined (closed_in f) frames f.nodes os p lines lines byte number columns (offset p) p.line 0 0
-      (list_flags true) inside done.ready.1 (finished_opens d defined r q p lines opening done) done.ready.0.completes in
+      let k = completes-list d (open_nodes defined frames f.nodes os) (closed_in f) (list_flags true)
+      (record { byte = byte; number = number; columns = columns; start = offset p; line = p.line })
+      (record { place = p; lines = lines; inside = inside; following = lines; opens = finished_opens d defined r q p lines opening done })
+      done.ready.1 done.ready.0.completes in
       let n : length g.nodes ≡ suc (length f.nodes) = (let l = length-append f.nodes ((length f.spine + 1, y) ∷ []) in omega arith) in
       let deep : suc (length os) ≡ length f.spine + 1 = depth_of f.spine in
       let nodes : f.nodes ++ (suc (length os), y) ∷ (suc (suc (length os)), item) ∷ [] ≡ g.nodes ++ (suc (suc (length os)), item) ∷ [] =
@@ -219,7 +234,8 @@ module _ (d : Document) (defined : Tables) (r : PassState) (p : Place) (lines : 
       k.below.1 o.1) in (
         (loose_frame d.options r.tree ix l flags (InList b loose) body refl o.0, outer, refl),
         subst (λ z. CompletesAt d defined (tail (closed_in r.tree) true) (InList b loose ∷ frames) z (ix.0 ∷ map (λ i. i.0) rest) (Inside p) lines) (sym nodes)
-            (completes-reflag_list d defined (tail (closed_in r.tree) true) b loose true frames r.tree.nodes ix.0 (map (λ i. i.0) rest) (Inside p) lines k),
+            (completes-reflag_list d (open_nodes defined frames r.tree.nodes (map (λ i. i.0) rest)) (tail (closed_in r.tree) true) b loose ix.0
+            (Inside p) lines k),
         loosened_spine r.tree ix (body_at r.tree.nodes ix.0) ∙ spine,
       )
   goes_on_as false ix rest flags list n b loose frames spine body o k =
@@ -247,8 +263,14 @@ module _ (d : Document) (defined : Tables) (r : PassState) (p : Place) (lines : 
       let now = goes_on_as run ix rest flags list n b loose frames spine body o k in
       let k' : CompletesAt d defined t (InList byte loose ∷ frames) f.nodes (ix.0 ∷ os) (Inside p) lines =
       subst (λ z. CompletesAt d defined t (InList z loose ∷ frames) f.nodes (ix.0 ∷ os) (Inside p) lines) b_is now.1 in
-      let done = completes-item d defined (closed_in r.tree) run loose frames f.nodes ix.0 os p lines lines byte number columns (offset p) p.line 0 inside
-      (subst (λ z. Opens d (lvl (InList z loose ∷ frames) t) p lines opening) b_is opens') k' in
+      let done = completes-item d (open_nodes defined frames f.nodes os) (closed_in r.tree) run loose ix.0
+      (record { byte = byte; number = number; columns = columns; start = offset p; line = p.line }) (record {
+        place = p;
+        lines = lines;
+        inside = inside;
+        following = lines;
+        opens = subst (λ z. Opens d (lvl (InList z loose ∷ frames) t) p lines opening) b_is opens';
+      }) k' in
       let frames' : List Frame = InList byte (loose || run) ∷ frames in
       let o' : AreOpen d.options f.nodes (ix ∷ rest) frames' =
       subst (λ z. AreOpen d.options f.nodes (ix ∷ rest) (InList z (loose || run) ∷ frames)) b_is now.0 in
@@ -323,18 +345,16 @@ inside_by d path p lines byte number columns (Some x) rest h = rw h refl
 
 -- an item with something after its markers
 pub ready_item : (d : Document) (defined : Tables) (r : PassState) (p : Place) (lines : List Place) (byte number columns : ℕ) (marker : Option Item)
-    (rest : Rest) → IsForest r.tree → footnote_head_at (around d (path_of d.options r.tree)) p ≡ None
-    → begins_at d r p ≡ Some (item_start p (byte, number, columns) (marker, rest))
-    → is_blank_rest rest ≡ false → r.begin_list_item ≡ None → ReadyAt d defined r.tree r.blank (Inside p) lines
+    (rest : Rest) → ContainerBegins d defined r p lines (item_start p (byte, number, columns) (marker, rest)) → is_blank_rest rest ≡ false
     → (let q : PassState = item_opened (offset p) byte number columns r in
     (q.blank ≡ false) × (now : ReadyAt d defined q.tree false (past_task marker (at_rest p rest)) lines) × IsPlain now.frames)
-ready_item d defined r p lines byte number columns marker rest forest bare begins some none ready =
+ready_item d defined r p lines byte number columns marker rest b some =
     let from : Continues = past_task marker (at_rest p rest) in
     let l : Level = level_of d.options r.tree r.blank in
     let opens : Opens d l p lines (OpensNode (item_head p byte number columns) from lines) =
     subst (Opens d l p lines) (inside_by d (path_of d.options r.tree) p lines byte number columns marker rest some)
-    (opens_start d l p lines (item_start p (byte, number, columns) (marker, rest)) bare begins) in
-    let now = item_is_open d defined r p lines byte number columns from forest opens none ready in
+    (begins_open d defined r p lines (item_start p (byte, number, columns) (marker, rest)) b) in
+    let now = item_is_open d defined r p lines byte number columns from b.forest opens b.none b.ready in
     let g : Forest Item = (list_continued (offset p) byte number r).tree in
     let q : PassState = item_opened (offset p) byte number columns r in (
       now.blank,
@@ -349,18 +369,16 @@ on_line : (d : Document) (path : List Container) (p : Place) (lines : List Place
 on_line d path p lines columns rest h = rw h refl
 
 pub ready_definition : (d : Document) (defined : Tables) (r : PassState) (p : Place) (lines : List Place) (columns : ℕ) (rest : Rest)
-    → IsForest r.tree → footnote_head_at (around d (path_of d.options r.tree)) p ≡ None → takes_definition r.tree ≡ true
-    → begins_at d r p ≡ Some (definition_start p (columns, rest))
-    → is_blank_rest rest ≡ false → r.begin_list_item ≡ None → ReadyAt d defined r.tree r.blank (Inside p) lines
+    → ContainerBegins d defined r p lines (definition_start p (columns, rest)) → takes_definition r.tree ≡ true → is_blank_rest rest ≡ false
     → (let q : PassState = definition_begun (offset p) columns r in ReadyAt d defined q.tree q.blank (Inside (at_rest p rest)) lines)
-ready_definition d defined r p lines columns rest forest bare takes begins some none ready =
+ready_definition d defined r p lines columns rest b takes some =
     let q : PassState = definition_begun (offset p) columns r in
     let from : Continues = Inside (at_rest p rest) in
     let l : Level = level_of d.options r.tree r.blank in
     let opens : Opens d l p lines (OpensNode (definition_head p columns) from lines) =
     subst (Opens d l p lines) (on_line d (path_of d.options r.tree) p lines columns rest some)
-    (opens_start d l p lines (definition_start p (columns, rest)) bare begins) in
-    let now = definition_is_open d defined r p lines lines columns from forest takes opens none ready in
+    (begins_open d defined r p lines (definition_start p (columns, rest)) b) in
+    let now = definition_is_open d defined r p lines lines columns from b.forest takes opens b.none b.ready in
     subst (λ t. ReadyAt d defined q.tree t from lines) (sym now.blank) now.is_begun.ready
 
 -- what follows an item's marker if more of its line is left: blocks, or the text of a task

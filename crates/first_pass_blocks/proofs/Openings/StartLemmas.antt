@@ -30,16 +30,16 @@ use Rattle.first_pass_grammar.specs.Order.{is_task_marker}
 use Rattle.first_pass_grammar.specs.OpenOrder.{item_on_top}
 use Rattle.first_pass_grammar.proofs.Sequences.OpenerFacts.{start_cases}
 use Rattle.first_pass_open.specs.declared.source.Source.{Source}
-use Rattle.first_pass_open.proofs.PlaceLemmas.{item_keeps, item_shorter, definition_keeps, definition_shorter, markers_keep, mark_is_task, past_keeps}
+use Rattle.first_pass_open.proofs.PlaceLemmas.{item_keeps, item_shorter, definition_keeps, definition_shorter, markers_keep, mark_is_task}
 use Rattle.first_pass_open.proofs.PlaceLemmas.{prefix_keeps, quote_prefix_shorter}
 use Rattle.first_pass_open.proofs.PlaceLemmas.{place_end}
 use Rattle.first_pass_lists.specs.Closing.{top_body, takes_definition, with_tree, is_list, list_kept, loosened_top, begun, list_finished, list_continued}
 use Rattle.first_pass_lists.specs.Closing.{definitions_opened}
 use Rattle.first_pass_lists.specs.Closing.{definition_begun}
 use Rattle.first_pass_lists.specs.declared.state.PassState.{PassState}
-use Rattle.first_pass_blocks.specs.Positions.{Position, InLine, LeafAt, IsInLine, OrderedUpTo, ReadsTo, may_define}
+use Rattle.first_pass_blocks.specs.Positions.{Position, InLine, LeafAt, IsInLine, OrderedUpTo, ReadsTo, may_define, OrderedIn}
 use Rattle.first_pass_order.specs.Ordered.{IsReadTo}
-use Rattle.first_pass_blocks.specs.Starts.{StartMatches, start_opened, after_at, IsAfterMarker}
+use Rattle.first_pass_blocks.specs.Starts.{StartMatches, start_opened, after_at, IsAfterMarker, marker_of}
 use Rattle.first_pass_blocks.proofs.Openings.StartFound.{start_told, start_is}
 use Rattle.first_pass_ready.specs.State.{ReadyAt}
 use Rattle.first_pass_lists.proofs.NoEmptyItem.{list_finished_none, list_continued_none}
@@ -51,14 +51,15 @@ use Rattle.first_pass_blocks.proofs.Order.CountSteps.{container_count}
 use Rattle.first_pass_blocks.proofs.Order.OrderSteps.{offset_later, upto_later, ordered_on, top_begun, ordered_item, ordered_definition_in, ordered_quote}
 use Rattle.first_pass_blocks.proofs.Order.OrderSteps.{mark_stands}
 use Rattle.first_pass_blocks.proofs.Order.OrderSteps.{ordered_container}
-use Rattle.first_pass_blocks.proofs.Order.OrderSteps.{ordered_empty_item, quote_stands, place_before_end}
+use Rattle.first_pass_blocks.proofs.Order.OrderSteps.{ordered_empty_item, quote_stands, place_before_end, NewBlock, stands_later}
 use Rattle.first_pass_ready.proofs.ClosedIn.{takes_same}
-use Rattle.first_pass_blocks.proofs.Openings.OpenerLemmas.{begins_at, ready_item, ready_definition, ready_quote, ready_tagged, after_opened, ready_after}
+use Rattle.first_pass_blocks.proofs.Openings.OpenerLemmas.{ready_item, ready_definition, ready_quote, ready_tagged, after_opened, ready_after, ContainerBegins}
 use Rattle.first_pass_lists.proofs.NoEmptyItem.{item_opened}
 use Rattle.first_pass_blocks.proofs.Openings.EmptyItems.{IsNoParagraph, empty_item_read, ready_empty_item, ready_empty_definition}
 use Rattle.first_pass_blocks.proofs.Openings.StartFound.{may_if}
 use Rattle.first_pass_grammar.specs.Skeleton.{Inside}
 use Rattle.first_pass_blocks.specs.declared.openers.Start.{Start as FoundStart}
+use Rattle.first_pass_open.specs.Between.{StandsBefore}
 
 -- the marker of a task is no paragraph
 pub mark_by : (b : ItemBody) → is_task_marker b ≡ true → is_paragraph_body b ≡ false
@@ -82,12 +83,12 @@ definition_top : (start columns : ℕ) (r : PassState) → top_body (definition_
 unfolding definition_begun
 definition_top start columns r = top_begun start (DefinitionListDefinition columns) (list_kept (with_tree r (definitions_opened r.tree r.tree.current)))
 
-ordered_empty_definition : (text : List ℕ) (start e columns : ℕ) (r : PassState) → start ≤ e → e ≤ length text → IsCharBoundary text e
+ordered_empty_definition : (text : List ℕ) (start e columns : ℕ) (r : PassState) → start ≤ e → IsCharBoundary text e
     → OrderedUpTo text (definition_begun start columns r).tree start → IsReadTo text (empty_item_read (definition_begun start columns r) None e) e
 unfolding definition_begun
-ordered_empty_definition text start e columns r low high boundary o =
+ordered_empty_definition text start e columns r low boundary o =
     let list : PassState = list_kept (with_tree r (definitions_opened r.tree r.tree.current)) in
-    ordered_empty_item text start start e (DefinitionListDefinition columns) list None list.blank refl low low high boundary o (λ x is_mark. cc)
+    ordered_empty_item text start e (DefinitionListDefinition columns) list None list.blank refl boundary o low
 
 -- The state after a container that begins at a place is opened, and the position of reading: less of the line is
 -- left.
@@ -118,8 +119,16 @@ module _ (source : Source) (r : PassState) (p : Place) (utf8 : IsUtf8 source.tex
   may = may_define source.options r.tree
 
   -- the container that begins if one may, in terms of the grammar
-  begins_as : (names : Names) (s : Start) → start_at source.options may p ≡ Some s → begins_at (doc names) r p ≡ Some s
-  begins_as names s is = ap (λ (t : Bool). start_at source.options (has source.options definition_list && t) p) (takes_same r.tree) ∙ is
+  begins_as : (names : Names) (defined : Tables) (s : Start) → start_at source.options may p ≡ Some s
+      → ReadyAt (doc names) defined r.tree r.blank (Inside p) (lines_from text (line_end p))
+      → ContainerBegins (doc names) defined r p (lines_from text (line_end p)) s
+  begins_as names defined s is ready = record {
+    forest = forest;
+    none = none;
+    bare = no_head names defined ready;
+    begins = ap (λ (t : Bool). start_at source.options (has source.options definition_list && t) p) (takes_same r.tree) ∙ is;
+    ready = ready;
+  }
 
   -- a list item
   module _ (byte number columns : ℕ) (following : Rest) (is : item_at p.rest ≡ Some ((byte, number, columns), following))
@@ -133,14 +142,23 @@ module _ (source : Source) (r : PassState) (p : Place) (utf8 : IsUtf8 source.tex
     task : (marker : Option Item) → marker ≡ (task_after source.options p.line following).0 → task_after source.options p.line following ≡ (marker, rest)
     task marker same = ap (λ (o : Option Item). (o, rest)) (sym same)
 
-    begins_with : (names : Names) (marker : Option Item) → marker ≡ (task_after source.options p.line following).0
-        → begins_at (doc names) r p ≡ Some (item_start p (byte, number, columns) (marker, rest))
-    begins_with names marker same =
-        begins_as names (item_start p (byte, number, columns) (marker, rest))
+    begins_with : (names : Names) (defined : Tables) (marker : Option Item) → marker ≡ (task_after source.options p.line following).0
+        → ReadyAt (doc names) defined r.tree r.blank (Inside p) (lines_from text (line_end p))
+        → ContainerBegins (doc names) defined r p (lines_from text (line_end p)) (item_start p (byte, number, columns) (marker, rest))
+    begins_with names defined marker same =
+        begins_as names defined (item_start p (byte, number, columns) (marker, rest))
         (begins ∙ ap (λ t. Some (item_start p (byte, number, columns) t)) (task marker same))
 
     is_task : (marker : Option Item) → marker ≡ (task_after source.options p.line following).0 → (x : Item) → marker ≡ Some x → is_task_marker x.body ≡ true
     is_task marker same x some = mark_is_task source.options p.line following x (sym same ∙ some)
+
+    -- the marker of a task, if there is one, is after the marker of the item
+    task_stands : (from : ℕ) (marker : Option Item) → marker ≡ (task_after source.options p.line following).0 → from ≤ offset (place_at p.line following)
+        → StandsBefore text from (offset (at_rest p rest)) marker
+    task_stands from marker same low =
+        subst (StandsBefore text from (offset (at_rest p rest))) (sym same)
+        (mark_stands text source.options p.line following from utf8
+        (item_keeps text p.line p.rest ((byte, number, columns), following) utf8 is at).0 low)
 
     -- more of its line is left
     item_line : (marker : Option Item) → marker ≡ (task_after source.options p.line following).0 → is_blank_rest rest ≡ false
@@ -151,33 +169,28 @@ module _ (source : Source) (r : PassState) (p : Place) (utf8 : IsUtf8 source.tex
         let under = below in
         let j = markers_keep text source.options p.line p.rest ((byte, number, columns), following) rest utf8 is refl at in
         let k = item_keeps text p.line p.rest ((byte, number, columns), following) utf8 is at in
-        let less = j.2 in
         let shorter = item_shorter p.rest ((byte, number, columns), following) is in
-        let low = offset_later text p.line p.rest rest at j.0 (omega arith) in
         let top = top_begun (offset p) (ListItemBody columns) (list_continued (offset p) byte number r) in
         let mark = offset_later text p.line p.rest following at k.0 (omega arith) in
-        let first_marker = offset_before text p.line p.rest following at k.0 shorter in
-        let task_less = (past_keeps text source.options p.line following utf8 k.0).2 in (
+        let first_marker = offset_before text p.line p.rest following at k.0 shorter in (
           after_opened marker opened_item (is_task marker same) (list_continued_none (offset p) byte number r) (ap item_on_top top),
           j.2,
           (j.0, refl, j.1),
           record {
             ready = λ names defined ready.
                 ready_after (doc names) defined opened_item (at_rest p rest) (line_end p) marker j.1
-                (ready_item (doc names) defined r p (lines_from text (line_end p)) byte number columns marker rest forest
-                (no_head names defined ready) (begins_with names marker same) some none ready);
+                (ready_item (doc names) defined r p (lines_from text (line_end p)) byte number columns marker rest
+                (begins_with names defined marker same ready) some);
             order = λ ordered.
-                ordered_container source.options text opened_item (offset p) (line_end p) (at_rest p rest) marker (ap is_list top) low j.0.within ordered.0
+                ordered_container source.options text opened_item (offset p) (line_end p) (at_rest p rest) marker (ap is_list top) j.0.within ordered.0
                 (ordered_item text r p.line (offset p) byte number columns (omega arith) at.within at.boundary none ordered.1)
-                (λ x is_mark. mark_stands text source.options p.line following rest (offset p) marker x utf8 k.0 mark same refl is_mark);
+                (task_stands (offset p) marker same mark);
             node_bound = λ first grows.
-                container_count text line (offset p) (offset (place_at p.line following)) (line_end p) (at_rest p rest) first r.tree.nodes
-                opened_item.tree.nodes marker grows (item_count (offset p) byte number columns r) (omega arith) first_marker
-                (offset_later text p.line following rest k.0 j.0 (omega arith))
-                (λ x is_mark. (
-                  mark_stands text source.options p.line following rest (offset (place_at p.line following)) marker x utf8 k.0 (omega arith) same refl is_mark,
-                  offset_before text p.line following rest k.0 j.0 (mark_shorter source.options p.line following rest marker x same refl is_mark),
-                ));
+                let two = item_count (offset p) byte number columns r in
+                container_count text line (offset (place_at p.line following)) (line_end p) (at_rest p rest) first opened_item.tree.nodes marker
+                (omega arith) (omega arith) (task_stands (offset (place_at p.line following)) marker same (omega arith))
+                (λ x is_mark. offset_before text p.line following rest k.0 j.0
+                (mark_shorter source.options p.line following rest marker x same refl is_mark));
             named = λ names h. item_named names (offset p) byte number columns r h;
             tables = λ names h. item_whole names (offset p) byte number columns r forest h;
           },
@@ -201,14 +214,13 @@ module _ (source : Source) (r : PassState) (p : Place) (utf8 : IsUtf8 source.tex
           (j.0, refl, j.1),
           record {
             ready = λ names defined ready.
-                ready_empty_item (doc names) defined r p (lines_from text e) byte number columns marker rest e forest
-                (no_head names defined ready) (begins_with names marker same) (no_paragraph marker (is_task marker same)) over
-                (start_of-lines text e ends.0) none ready;
+                ready_empty_item (doc names) defined r p (lines_from text e) (marker_of (byte, number, columns)) marker rest e
+                (begins_with names defined marker same ready) (no_paragraph marker (is_task marker same))
+                (record { blank = over; next = start_of-lines text e ends.0 });
             order = λ ordered.
-                inl (ordered_empty_item text (offset p) (offset (at_rest p rest)) e (ListItemBody columns) (list_continued (offset p) byte number r) marker
-                opened_item.blank refl here (omega (arith, there, j.1)) ends.0 ends
+                inl (ordered_empty_item text (offset p) e (ListItemBody columns) (list_continued (offset p) byte number r) marker opened_item.blank refl ends
                 (ordered_item text r p.line (offset p) byte number columns (omega arith) at.within at.boundary none ordered.1)
-                (λ x is_mark. mark_stands text source.options p.line following rest (offset p) marker x utf8 k.0 mark same refl is_mark));
+                (stands_later text (offset p) (offset (at_rest p rest)) e marker (omega (arith, there, j.1)) (task_stands (offset p) marker same mark)));
             node_bound = λ first grows.
                 let two = item_count (offset p) byte number columns r in
                 let one = child_count opened_item.tree marker in
@@ -238,9 +250,15 @@ module _ (source : Source) (r : PassState) (p : Place) (utf8 : IsUtf8 source.tex
     abbrev opened_quote : Option BlockQuoteKind → PassState
     opened_quote kind = begun (quote_start p) (BlockQuoteBody kind) (list_finished p.line r)
 
-    begins_kind : (names : Names) (kind : Option BlockQuoteKind) → tag_after source.options inside ≡ kind
-        → begins_at (doc names) r p ≡ Some (quote_begun p kind inside)
-    begins_kind names kind tag = begins_as names (quote_begun p kind inside) (begins ∙ ap (λ k. Some (quote_begun p k inside)) tag)
+    begins_kind : (names : Names) (defined : Tables) (kind : Option BlockQuoteKind) → tag_after source.options inside ≡ kind
+        → ReadyAt (doc names) defined r.tree r.blank (Inside p) (lines_from text (line_end p))
+        → ContainerBegins (doc names) defined r p (lines_from text (line_end p)) (quote_begun p kind inside)
+    begins_kind names defined kind tag = begins_as names defined (quote_begun p kind inside) (begins ∙ ap (λ k. Some (quote_begun p k inside)) tag)
+
+    new_quote : offset p ≤ quote_start p → IsCharBoundary text (quote_start p) → OrderedIn text r.tree p
+        → NewBlock text r p.line (offset p) p.line (quote_start p)
+    new_quote later boundary ordered =
+        record { low = omega arith; later = later; ends = inl (refl, ordered.0); boundary = boundary; none = none; order = ordered.1 }
 
     quote_by : (kind : Option BlockQuoteKind) → tag_after source.options inside ≡ kind → IsOpened source line r p (quote_begun p kind inside)
     quote_by None tag =
@@ -256,13 +274,12 @@ module _ (source : Source) (r : PassState) (p : Place) (utf8 : IsUtf8 source.tex
             ready = λ names defined ready.
                 subst (λ (n : ℕ). ReadyAt (doc names) defined (opened_quote None).tree
                 (opened_quote None).blank (Inside (at_rest p inside)) (lines_from text n))
-                (sym j.1) (ready_quote (doc names) defined r p (lines_from text (line_end p)) inside forest (no_head names defined ready)
-                (begins_kind names None tag) none ready);
+                (sym j.1) (ready_quote (doc names) defined r p (lines_from text (line_end p)) inside (begins_kind names defined None tag ready));
             order = λ ordered. (
               ordered.0,
               ordered_on text (opened_quote None).tree p.line (quote_start p) (offset (at_rest p inside))
                   (ap is_list (top_begun (quote_start p) (BlockQuoteBody None) (list_finished p.line r))) s.1 j.0.within
-                  (ordered_quote text r p.line (offset p) (quote_start p) None (omega arith) s.0 s.2.0 ordered.0 s.2 none ordered.1),
+                  (ordered_quote text r p.line (offset p) (quote_start p) None (new_quote s.0 s.2 ordered)),
             );
             node_bound = λ first grows. omega arith;
             named = λ names h. quote_named names p.line (quote_start p) (BlockQuoteBody None) r tt h;
@@ -283,11 +300,10 @@ module _ (source : Source) (r : PassState) (p : Place) (utf8 : IsUtf8 source.tex
           (j.0, refl, j.1),
           record {
             ready = λ names defined ready.
-                ready_tagged (doc names) defined r p (lines_from text e) inside kind forest (no_head names defined ready)
-                (begins_kind names (Some kind) tag) none ready;
+                ready_tagged (doc names) defined r p (lines_from text e) inside kind (begins_kind names defined (Some kind) tag ready);
             order = λ ordered.
                 upto_later text (opened_quote (Some kind)).tree (quote_start p) e (omega (arith, s.1, there, j.1)) ends.0
-                (ordered_quote text r p.line (offset p) (quote_start p) (Some kind) (omega arith) s.0 s.2.0 ordered.0 s.2 none ordered.1);
+                (ordered_quote text r p.line (offset p) (quote_start p) (Some kind) (new_quote s.0 s.2 ordered));
             node_bound = λ first grows. omega arith;
             named = λ names h. quote_named names p.line (quote_start p) (BlockQuoteBody (Some kind)) r tt h;
             tables = λ names h. quote_whole names p.line (quote_start p) (BlockQuoteBody (Some kind)) r (λ names depth start end. refl) refl forest h;
@@ -314,12 +330,13 @@ module _ (source : Source) (r : PassState) (p : Place) (utf8 : IsUtf8 source.tex
           record {
             ready = λ names defined ready.
                 subst (λ (n : ℕ). ReadyAt (doc names) defined opened_definition.tree opened_definition.blank (Inside (at_rest p rest)) (lines_from text n))
-                (sym j.1) (ready_definition (doc names) defined r p (lines_from text (line_end p)) columns rest forest (no_head names defined ready) takes
-                (begins_as names (definition_start p (columns, rest)) begins) some none ready);
+                (sym j.1) (ready_definition (doc names) defined r p (lines_from text (line_end p)) columns rest
+                (begins_as names defined (definition_start p (columns, rest)) begins ready) takes some);
             order = λ ordered.
                 ordered_container source.options text opened_definition (offset p) (line_end p) (at_rest p rest) None
-                (ap is_list (definition_top (offset p) columns r)) (omega arith) j.0.within ordered.0
-                (ordered_definition_in text r p.line (offset p) columns forest takes (omega arith) at.within at.boundary ordered.1) (λ x is_mark. cc);
+                (ap is_list (definition_top (offset p) columns r)) j.0.within ordered.0
+                (ordered_definition_in text r p.line (offset p) columns forest takes (omega arith) at.within at.boundary ordered.1)
+                (let low : offset p ≤ offset (at_rest p rest) = omega arith in low);
             node_bound = λ first grows. omega arith;
             named = λ names h. definition_named names (offset p) columns r h;
             tables = λ names h. definition_whole names (offset p) columns r forest h;
@@ -340,9 +357,10 @@ module _ (source : Source) (r : PassState) (p : Place) (utf8 : IsUtf8 source.tex
           (j.0, refl, j.1),
           record {
             ready = λ names defined ready.
-                ready_empty_definition (doc names) defined r p (lines_from text e) columns rest e forest (no_head names defined ready) takes
-                (begins_as names (definition_start p (columns, rest)) begins) over (start_of-lines text e ends.0) none ready;
-            order = λ ordered. inl (ordered_empty_definition text (offset p) e columns r (place_before_end p) ends.0 ends
+                ready_empty_definition (doc names) defined r p (lines_from text e) columns rest e
+                (begins_as names defined (definition_start p (columns, rest)) begins ready) takes
+                (record { blank = over; next = start_of-lines text e ends.0 });
+            order = λ ordered. inl (ordered_empty_definition text (offset p) e columns r (place_before_end p) ends
                 (ordered_definition_in text r p.line (offset p) columns forest takes (omega arith) at.within at.boundary ordered.1));
             node_bound = λ first grows. omega arith;
             named = λ names h. definition_named names (offset p) columns r h;

@@ -6,7 +6,7 @@ use Rattle.std.specs.Option.{option_map}
 use Rattle.first_pass_items.specs.declared.item.Item.{Item}
 use Rattle.first_pass_items.specs.declared.item.BlockQuoteKind.{BlockQuoteKind}
 use Rattle.first_pass_items.specs.declared.item.ItemBody.{ItemBody}
-use Rattle.first_pass_items.specs.declared.item.ItemBody.TheVariants.{BlockQuote as BlockQuoteBody, ListItem as ListItemBody, TaskListMarker}
+use Rattle.first_pass_items.specs.declared.item.ItemBody.TheVariants.{BlockQuote as BlockQuoteBody, ListItem as ListItemBody}
 use Rattle.first_pass_items.specs.declared.item.ItemBody.TheVariants.{DefinitionListDefinition}
 use Rattle.first_pass_items.specs.declared.item.CowIndex.{CowIndex}
 use Rattle.first_pass_items.specs.declared.option_set.Options.{Options}
@@ -145,38 +145,47 @@ ordered_definition_in text r line start columns forest takes low high boundary (
     let d = ordered_definition text r (line_or r.tree line start) start columns forest takes (line_or-below r.tree line start low) high boundary o c.nested in
     (d.0, settled_closes text (definition_begun start columns r) start d.1)
 
--- the start of a new block, after what it ends: an innermost list, at the start of the line or at the block's first
--- byte
-pub ordered_finished : (text : List ℕ) (r : PassState) (line at e start : ℕ)
-    → line ≤ at → at ≤ start → (e ≡ line) × IsCharBoundary text line ⊎ (e ≡ start) → start ≤ length text → IsCharBoundary text start → r.begin_list_item ≡ None
-    → OrderedUpTo text r.tree (line_or r.tree line at) → IsReadTo text (list_finished e r) start
+-- A new block starts at an offset, after a place in its line up to which a state is in order. An innermost list ends at
+-- the start of the line or at the block's first byte. No item is empty.
+pub record NewBlock (text : List ℕ) (r : PassState) (line at e start : ℕ) : Type 0 where
+  pub low : line ≤ at
+  pub later : at ≤ start
+  pub ends : (e ≡ line) × IsCharBoundary text line ⊎ (e ≡ start)
+  pub boundary : IsCharBoundary text start
+  pub none : r.begin_list_item ≡ None
+  pub order : OrderedUpTo text r.tree (line_or r.tree line at)
+
+-- the start of a new block is in order, after what it ends
+pub ordered_finished : (text : List ℕ) (r : PassState) (line at e start : ℕ) → NewBlock text r line at e start → IsReadTo text (list_finished e r) start
 unfolding item_finished
-ordered_finished text r line at e start low mid which high boundary none (o, c) =
+ordered_finished text r line at e start b =
+    let low = b.low in
+    let mid = b.later in
+    let high = b.boundary.0 in
+    let c = b.order.1 in
     let a : ℕ = line_or r.tree line at in
     let below : a ≤ at = line_or-below r.tree line at low in
-    let before = ordered_none text r a none (omega arith) o in
-    let same : item_finished_by r r.begin_list_item ≡ r = ap (item_finished_by r) none in
-    let on : IsOrderedAt text (list_finished e r) start = elim which [
+    let before = ordered_none text r a b.none (omega arith) b.order.0 in
+    let same : item_finished_by r r.begin_list_item ≡ r = ap (item_finished_by r) b.none in
+    let on : IsOrderedAt text (list_finished e r) start = elim b.ends [
       | inl (is, first) ↦
           subst (λ z. IsOrderedAt text (list_finished z r) start) (sym is)
           (ordered_list_finished text r a line start c.title (omega arith) (omega arith) high first
           (λ h. line_or-list r.tree line at (sym (ap (λ (q : PassState). is_list (top_body q.tree)) same) ∙ h)) before)
       | inr is ↦ subst (λ z. IsOrderedAt text (list_finished z r) start) (sym is)
-          (ordered_list_finished text r a start start c.title (omega arith) (omega arith) high boundary (λ h. omega arith) before)
+          (ordered_list_finished text r a start start c.title (omega arith) (omega arith) high b.boundary (λ h. omega arith) before)
     ] in
     (on, outside_closes text (list_finished e r) start (list_finished_outside e r c.nested))
 
 -- a block quote is opened at a place in a line
-pub ordered_quote : (text : List ℕ) (r : PassState) (line at start : ℕ) (kind : Option BlockQuoteKind)
-    → line ≤ at → at ≤ start → start ≤ length text → IsCharBoundary text line → IsCharBoundary text start → r.begin_list_item ≡ None
-    → OrderedUpTo text r.tree (line_or r.tree line at) → OrderedUpTo text (begun start (BlockQuoteBody kind) (list_finished line r)).tree start
-ordered_quote text r line at start kind low mid high first boundary none o =
+pub ordered_quote : (text : List ℕ) (r : PassState) (line at start : ℕ) (kind : Option BlockQuoteKind) → NewBlock text r line at line start
+    → OrderedUpTo text (begun start (BlockQuoteBody kind) (list_finished line r)).tree start
+ordered_quote text r line at start kind b =
     let q : PassState = list_finished line r in (
-      ordered_begun text q start start (BlockQuoteBody kind) (omega arith) high boundary
-          (ordered_tree text q start (list_finished_none line r)
-          (ordered_finished text r line at line start low mid (inl (refl, first)) high boundary none o).0),
+      ordered_begun text q start start (BlockQuoteBody kind) (omega arith) b.boundary.0 b.boundary
+          (ordered_tree text q start (list_finished_none line r) (ordered_finished text r line at line start b).0),
       settled_closes text (begun start (BlockQuoteBody kind) q) start
-          (begun_outside start (BlockQuoteBody kind) q refl (list_finished_outside line r o.1.nested)),
+          (begun_outside start (BlockQuoteBody kind) q refl (list_finished_outside line r b.order.1.nested)),
     )
 
 -- a footnote definition is opened at a place in a line
@@ -187,42 +196,41 @@ ordered_note_in text r at start index low high boundary none (o, c) = (
   settled_closes text (footnote_begun start index r) start (footnote_begun_settled start index r c.nested),
 )
 
--- a task list item marker is after an item's own
-mark_by : (text : List ℕ) (line : ℕ) (r : Rest) (o : Option (Bool × Rest)) (from : ℕ) (x : Item)
-    → IsUtf8 text → ((task : Bool × Rest) → o ≡ Some task → task_of r ≡ Some task) → IsPlaceOf text (place_at line r) → from ≤ offset (place_at line r)
-    → (task_by line r o).0 ≡ Some x → StandsBefore text from (offset (place_at line (task_by line r o).1)) (Some x)
-mark_by text line r None from x u h i low is = cc
-mark_by text line r (Some task) from x u h i low is =
+-- a task list item marker, if there is one, is after an item's own
+mark_by : (text : List ℕ) (line : ℕ) (r : Rest) (o : Option (Bool × Rest)) (from : ℕ) → IsUtf8 text
+    → ((task : Bool × Rest) → o ≡ Some task → task_of r ≡ Some task) → IsPlaceOf text (place_at line r) → from ≤ offset (place_at line r)
+    → StandsBefore text from (offset (place_at line (task_by line r o).1)) (task_by line r o).0
+mark_by text line r None from u h i low = low
+mark_by text line r (Some task) from u h i low =
     let k = task_keeps text line r task u (h task refl) i in
     let order = offset_later text line r task.1 i k.0 k.2 in
-    let y : Item = record { start = offset (place_at line r); «end» = offset (place_at line task.1); body = TaskListMarker task.0 } in
-    let same : y ≡ x = cc in
-    subst (λ (z : Item). StandsBefore text from (offset (place_at line task.1)) (Some z)) same
     (refl, record { following = low; order = order; before = omega arith; starts = i.boundary; ends = k.0.boundary })
 
-pub mark_stands : (text : List ℕ) (options : Options) (line : ℕ) (r s : Rest) (from : ℕ) (marker : Option Item) (x : Item)
-    → IsUtf8 text → IsPlaceOf text (place_at line r) → from ≤ offset (place_at line r) → marker ≡ (task_after options line r).0
-    → s ≡ (task_after options line r).1 → marker ≡ Some x → StandsBefore text from (offset (place_at line s)) (Some x)
-mark_stands text options line r s from marker x u i low is rest some =
-    subst (λ (z : Rest). StandsBefore text from (offset (place_at line z)) (Some x)) (sym rest)
-    (mark_by text line r (if has options 16 then task_of r else None) from x u (λ task h. option_on (has options 16) (task_of r) task h) i low (sym is ∙ some))
+pub mark_stands : (text : List ℕ) (options : Options) (line : ℕ) (r : Rest) (from : ℕ) → IsUtf8 text → IsPlaceOf text (place_at line r)
+    → from ≤ offset (place_at line r) → StandsBefore text from (offset (place_at line (task_after options line r).1)) (task_after options line r).0
+mark_stands text options line r from u i low =
+    mark_by text line r (if has options 16 then task_of r else None) from u (λ task h. option_on (has options 16) (task_of r) task h) i low
+
+-- a marker that is before an offset is before a later one
+pub stands_later : (text : List ℕ) (from a b : ℕ) (marker : Option Item) → a ≤ b → StandsBefore text from a marker → StandsBefore text from b marker
+stands_later text from a b None low h = (let t : from ≤ a = h in let later : from ≤ b = omega arith in later)
+stands_later text from a b (Some x) low h =
+    (let m : x.«end» ≤ a = h.1.before in
+    (h.0, record { following = h.1.following; order = h.1.order; before = omega arith; starts = h.1.starts; ends = h.1.ends }))
 
 -- an item with something after its markers
 pub ordered_container : (options : Options) (text : List ℕ) (q : PassState) (start e : ℕ) (p : Place) (marker : Option Item)
-    → is_list (top_body q.tree) ≡ false → start ≤ offset p → offset p ≤ length text → IsCharBoundary text p.line → OrderedUpTo text q.tree start
-    → ((x : Item) → marker ≡ Some x → StandsBefore text start (offset p) (Some x)) → OrderedOn options text q (after_at p e (after_task marker))
-ordered_container options text q start e p None none low high boundary o stands =
-    (boundary, ordered_on text q.tree p.line start (offset p) none low high o)
-ordered_container options text q start e p (Some x) none low high boundary (o, c) stands =
-    record { from = start; ordered = o; nested = c.nested; plain = none; stands = stands x refl }
+    → is_list (top_body q.tree) ≡ false → offset p ≤ length text → IsCharBoundary text p.line → OrderedUpTo text q.tree start
+    → StandsBefore text start (offset p) marker → OrderedOn options text q (after_at p e (after_task marker))
+ordered_container options text q start e p None none high boundary o stands =
+    (boundary, ordered_on text q.tree p.line start (offset p) none stands high o)
+ordered_container options text q start e p (Some x) none high boundary (o, c) stands =
+    record { from = start; ordered = o; nested = c.nested; plain = none; stands = stands }
 
-marked_by : (text : List ℕ) (f : Forest Item) (start at next : ℕ) (marker : Option Item) → start ≤ next → at ≤ next → next ≤ length text
-    → IsOrderedTo text f start → ((x : Item) → marker ≡ Some x → StandsBefore text start at (Some x)) → IsOrderedTo text (with_child f marker) next
-marked_by text f start at next None low mid high o stands = ordered_later text f start next low high o
-marked_by text f start at next (Some x) low mid high o stands =
-    let b = (stands x refl).1 in
-    let e = b.before in
-    ordered_appended text f start next x (record { following = b.following; order = b.order; before = omega arith; starts = b.starts; ends = b.ends }) high o
+marked_by : (text : List ℕ) (f : Forest Item) (start next : ℕ) (marker : Option Item) → next ≤ length text → IsOrderedTo text f start
+    → StandsBefore text start next marker → IsOrderedTo text (with_child f marker) next
+marked_by text f start next None high o stands = ordered_later text f start next stands high o
+marked_by text f start next (Some x) high o stands = ordered_appended text f start next x stands.1 high o
 
 item_no_list : (body : ItemBody) → is_item (Some body) ≡ true → is_list (Some body) ≡ false
 item_no_list (ListItemBody columns) item = refl
@@ -230,17 +238,16 @@ item_no_list (DefinitionListDefinition columns) item = refl
 item_no_list body item = cc
 
 -- an item or a definition with nothing after its markers
-pub ordered_empty_item : (text : List ℕ) (start at next : ℕ) (body : ItemBody) (r : PassState) (marker : Option Item) (blank : Bool)
-    → is_item (Some body) ≡ true → start ≤ next → at ≤ next → next ≤ length text → IsCharBoundary text next
-    → OrderedUpTo text (begun start body r).tree start → ((x : Item) → marker ≡ Some x → StandsBefore text start at (Some x))
+pub ordered_empty_item : (text : List ℕ) (start next : ℕ) (body : ItemBody) (r : PassState) (marker : Option Item) (blank : Bool)
+    → is_item (Some body) ≡ true → IsCharBoundary text next → OrderedUpTo text (begun start body r).tree start → StandsBefore text start next marker
     → IsReadTo text (state_with (with_child (begun start body r).tree marker) (Some next) blank) next
-ordered_empty_item text start at next body r marker blank item low mid high boundary (o, c) stands =
+ordered_empty_item text start next body r marker blank item boundary (o, c) stands =
     let f : Forest Item = (begun start body r).tree in
     let outside = child_outside f marker c.nested (ap is_list (top_begun start body r) ∙ item_no_list body item) in (
       record {
-        ordered = marked_by text f start at next marker low mid high o stands;
+        ordered = marked_by text f start next marker boundary.0 o stands;
         later = omega arith;
-        within = high;
+        within = boundary.0;
         innermost = λ e is. (ap is_item (top_marked start body r marker) ∙ item, let same : next ≡ e = cc in subst (IsCharBoundary text) same boundary);
       },
       tree_closes text (with_child f marker) next outside.0 outside.1,
@@ -314,15 +321,13 @@ pub place_before_end : (p : Place) → offset p ≤ line_end p
 place_before_end p = omega arith
 
 -- a leaf block is added at its place
-pub ordered_leaf : (text : List ℕ) (r new : PassState) (line at e start next : ℕ)
-    → line ≤ at → at ≤ start → (e ≡ line) × IsCharBoundary text line ⊎ (e ≡ start) → start ≤ length text → IsCharBoundary text start → r.begin_list_item ≡ None
-    → OrderedUpTo text r.tree (line_or r.tree line at) → AddsBetween text start next (list_finished e r).tree new.tree → next ≤ length text
-    → new.begin_list_item ≡ None → IsReadTo text new next
-ordered_leaf text r new line at e start next low mid which high boundary none o adds fits none' =
+pub ordered_leaf : (text : List ℕ) (r new : PassState) (line at e start next : ℕ) → NewBlock text r line at e start
+    → AddsBetween text start next (list_finished e r).tree new.tree → next ≤ length text → new.begin_list_item ≡ None → IsReadTo text new next
+ordered_leaf text r new line at e start next b adds fits none =
     let q : PassState = list_finished e r in
-    let outside = list_finished_outside e r o.1.nested in
-    read_block text q.tree new start next outside.0 outside.1 adds fits none'
-    (ordered_tree text q start (list_finished_none e r) (ordered_finished text r line at e start low mid which high boundary none o).0)
+    let outside = list_finished_outside e r b.order.1.nested in
+    read_block text q.tree new start next outside.0 outside.1 adds fits none
+    (ordered_tree text q start (list_finished_none e r) (ordered_finished text r line at e start b).0)
 
 -- the place after the indentation at another
 pub unindented_later : (text : List ℕ) (line : ℕ) (r : Rest)

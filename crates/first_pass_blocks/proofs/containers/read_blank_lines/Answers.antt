@@ -36,6 +36,6 @@ loop-next-preserved c =
       later = omega arith;
       boundary = subst (IsCharBoundary text) (sym is) ends;
       read = subst (λ n. ReadsTo source c.args.start c.args.state.now c.args.state.now (LineAt c.args.start) (LineAt n)) (sym is)
-          (one_read source c.args.start c.loop-next.next c.args.state.now c.in-Some.rest c.scan_continued_past.ensures.utf8 kept stays
-          c.loop-next-test.true i.boundary (sym c.scan_continued_past.ensures.value ∙ c.in-Some.is) blank i.read);
+          (one_read source c.args.start c.loop-next.next c.args.state.now c.scan_continued_past.ensures.utf8 kept stays c.loop-next-test.true i.boundary
+          (record { rest = c.in-Some.rest; taken = sym c.scan_continued_past.ensures.value ∙ c.in-Some.is; blank = blank }) i.read);
     }

@@ -83,6 +83,6 @@ returns-in_err-new-clause-err c =
 
 pub returns-clause-places : goal.returns-clause-places
 returns-clause-places c =
-    has_parts _ _ c.args.source.now.text.now c.args.start c.in-Some.label_len c.in-Some-2.len c.in-Some.label c.in-Some-2.definition _
+    has_parts _ _ c.args.source.now.text.now c.args.start c.in-Some.label_len c.in-Some.label _ (c.in-Some-2.len, c.in-Some-2.definition)
     (rw c.in-Some.is at c.in_ok-label_len.ensures.value) (colon_is (goal.at.returns-clause-places c).After-begins ∙ c.if-not-begins.false)
     (rw c.in-Some-2.is at c.in_ok-len.ensures.value) (rw c.in-Some-2.is at c.in_ok-len.ensures.places)

@@ -2,7 +2,7 @@ use Rattle.std.proofs.Common.{◌≡◌, ℕ, ◌+◌, true, false, List, drop, 
 use Rattle.std.specs.List.{prefix_len}
 use Rattle.first_pass_lines.specs.Lines.{is_white, eol_len, at_line_end}
 use Rattle.first_pass_open.specs.Path.{context_of}
-use Rattle.first_pass_definitions.proofs.Spaces.{white_past, eol_after, place_white, space_plain, space_stops, space_over}
+use Rattle.first_pass_definitions.proofs.Spaces.{white_past, eol_after, place_white, space_plain, space_stops, crossed_space, space_over}
 use Rattle.first_pass_definitions.proofs.space.scan_refdef_space.Goals as goal
 use Rattle.first_pass_definitions.proofs.space.scan_refdef_space.Goals.{After-scan_eol, After-is_some}
 
@@ -84,7 +84,8 @@ returns-then-is_some-clause-value c =
     space_over true (context_of c.args.source.now.options c.args.tree.now) c.args.source.now.text.now c.args.start c.scan_whitespace_no_nl.result
     c.in-Some.line_end
     c.scan_whitespace_no_nl-2.result c.in-Some-2.rest
-    (white_is at) (sym (eol_is at) ∙ c.in-Some.is) (sym c.in-Some-2.is ∙ c.in_ok-rest.ensures.value) (past_is last)
+    (crossed_space _ _ _ _ _ (Some c.in-Some-2.rest) (white_is at) (sym (eol_is at) ∙ c.in-Some.is) (sym c.in-Some-2.is ∙ c.in_ok-rest.ensures.value))
+    (past_is last)
     (sym (ends_is last) ∙ sym c.is_some.ensures ∙ c.if-is_some.true)
 
 pub returns-clause-value : goal.returns-clause-value
@@ -96,7 +97,8 @@ returns-clause-value c =
     ∙ space_over false (context_of c.args.source.now.options c.args.tree.now) c.args.source.now.text.now c.args.start c.scan_whitespace_no_nl.result
     c.in-Some.line_end
     c.scan_whitespace_no_nl-2.result c.in-Some-2.rest
-    (white_is at) (sym (eol_is at) ∙ c.in-Some.is) (sym c.in-Some-2.is ∙ c.in_ok-rest.ensures.value) (past_is last)
+    (crossed_space _ _ _ _ _ (Some c.in-Some-2.rest) (white_is at) (sym (eol_is at) ∙ c.in-Some.is) (sym c.in-Some-2.is ∙ c.in_ok-rest.ensures.value))
+    (past_is last)
     (sym (ends_is last) ∙ sym c.is_some.ensures ∙ c.if-is_some.false)
 
 pub returns-clause-place : goal.returns-clause-place

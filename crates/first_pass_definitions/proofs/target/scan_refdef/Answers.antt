@@ -2,10 +2,11 @@ use Rattle.std.proofs.Common.{◌≡◌, ◌+◌, inl, inr, drop, refl, sym, sub
 use Rattle.first_pass_grammar.specs.Definitions.{space_at}
 use Rattle.first_pass_open.specs.Path.{context_of}
 use Rattle.first_pass_definitions.specs.Found.{IsUnescaped, HasTitle}
-use Rattle.first_pass_definitions.proofs.Targets.{no_space, no_dest, no_further, space_found, target_found, placed_by, is_target}
+use Rattle.first_pass_definitions.proofs.Targets.{TargetFound, no_space, no_dest, no_further, space_found, target_found, placed, placed_by, is_target}
 use Rattle.first_pass_links.specs.Escapes.{unescaped}
 use Rattle.first_pass_definitions.proofs.Asks.{on_err, dest_asks, parts_ask}
 use Rattle.first_pass_definitions.proofs.target.scan_refdef.Goals as goal
+use Rattle.first_pass_definitions.proofs.target.scan_refdef.Goals.{In-Some-2}
 
 pub returns-in_default-clause-value : goal.returns-in_default-clause-value
 returns-in_default-clause-value c =
@@ -27,19 +28,30 @@ returns-in_default-2-clause-value c =
     (sym c.in-Some.is ∙ c.in_ok-dest_start.ensures.value) c.in-Some-scan_link_dest.ensures.value (rw c.in_default-2.is at c.in_ok-title_start.ensures.value) in
     rw e refl
 
+-- the parts of the target are found
+found : (c : In-Some-2) → TargetFound (context_of c.args.source.now.options c.args.tree.now) c.args.source.now.text.now c.args.start
+    (c.in-Some-2.end, placed c.args.start c.in-Some.dest_start (c.in-Some.dest_start + c.in-Some-scan_link_dest.dest_len) c.in-Some-2.title_start)
+    c.in-Some-scan_link_dest.dest c.in-Some-2.title
+found c =
+    target_found (context_of c.args.source.now.options c.args.tree.now) c.args.source.now.text.now c.args.start c.in-Some.dest_start c.in-Some.field-0-1
+    c.in-Some-scan_link_dest.dest_len c.in-Some-scan_link_dest.dest (c.in-Some-2.title_start, c.in-Some-2.end, c.in-Some-2.title)
+    (sym c.in-Some.is ∙ c.in_ok-dest_start.ensures.value) c.in-Some-scan_link_dest.ensures.value (rw c.in-Some-2.is at c.in_ok-title_start.ensures.value)
+
 pub returns-clause-value : goal.returns-clause-value
 returns-clause-value c =
-    let t = target_found (context_of c.args.source.now.options c.args.tree.now) c.args.source.now.text.now c.args.start c.in-Some.dest_start c.in-Some.field-0-1
-    c.in-Some-scan_link_dest.dest_len c.in-Some-2.title_start c.in-Some-2.end c.in-Some-scan_link_dest.dest c.in-Some-2.title
-    (sym c.in-Some.is ∙ c.in_ok-dest_start.ensures.value) c.in-Some-scan_link_dest.ensures.value (rw c.in-Some-2.is at c.in_ok-title_start.ensures.value) in
-    is_target (context_of c.args.source.now.options c.args.tree.now) c.args.source.now.text.now c.args.start c.args.span_start _
-    c.in-Some-scan_link_dest.dest
-    c.in-Some-2.title _ _ t
+    let around = context_of c.args.source.now.options c.args.tree.now in
+    let text = c.args.source.now.text.now in
+    let start = c.args.start in
+    let at = c.in-Some.dest_start in
+    is_target around text start c.args.span_start c.in-Some-scan_link_dest.dest c.in-Some-2.title _ _
+    (subst (λ places. TargetFound around text start (c.in-Some-2.end, places) c.in-Some-scan_link_dest.dest c.in-Some-2.title)
+    (sym (placed_by start at (at + c.in-Some-scan_link_dest.dest_len) c.in-Some-2.title_start _ c.saturating_sub.ensures))
+    (found (goal.at.returns-clause-value c).In-Some-2))
     (subst (λ nested. IsUnescaped nested c.in-Some-scan_link_dest.dest.now c.in_ok-unescape.field-0) c.is_in_table-in_table.ensures
     (record { value = c.in_ok-unescape.ensures.value; borrowed = c.in_ok-unescape.ensures.borrowed }))
     (λ text read. subst (λ nested. HasTitle nested text c.in_ok-unescape_title.field-0) c.is_in_table-in_table.ensures
     (c.in_ok-unescape_title.ensures.value text read))
-    refl refl (placed_by _ _ _ _ _ c.saturating_sub.ensures)
+    refl
 
 pub returns-in_err-title_start-clause-err : goal.returns-in_err-title_start-clause-err
 returns-in_err-title_start-clause-err c =
@@ -51,9 +63,7 @@ returns-in_err-title_start-clause-err c =
 pub returns-in_err-unescape-clause-err : goal.returns-in_err-unescape-clause-err
 returns-in_err-unescape-clause-err c =
     let around = context_of c.args.source.now.options c.args.tree.now in
-    let t = target_found around c.args.source.now.text.now c.args.start c.in-Some.dest_start c.in-Some.field-0-1
-    c.in-Some-scan_link_dest.dest_len c.in-Some-2.title_start c.in-Some-2.end c.in-Some-scan_link_dest.dest c.in-Some-2.title
-    (sym c.in-Some.is ∙ c.in_ok-dest_start.ensures.value) c.in-Some-scan_link_dest.ensures.value (rw c.in-Some-2.is at c.in_ok-title_start.ensures.value) in
+    let t = found (goal.at.returns-in_err-unescape-clause-err c).In-Some-2 in
     on_err c.from_residual-in_err-unescape.result
     (inr (inr (parts_ask around c.args.source.now.text.now c.args.start _ c.in-Some-scan_link_dest.dest c.in-Some-2.title _ _
     c.is_in_table-in_table.ensures t
@@ -62,9 +72,7 @@ returns-in_err-unescape-clause-err c =
 pub returns-in_err-unescape_title-clause-err : goal.returns-in_err-unescape_title-clause-err
 returns-in_err-unescape_title-clause-err c =
     let around = context_of c.args.source.now.options c.args.tree.now in
-    let t = target_found around c.args.source.now.text.now c.args.start c.in-Some.dest_start c.in-Some.field-0-1
-    c.in-Some-scan_link_dest.dest_len c.in-Some-2.title_start c.in-Some-2.end c.in-Some-scan_link_dest.dest c.in-Some-2.title
-    (sym c.in-Some.is ∙ c.in_ok-dest_start.ensures.value) c.in-Some-scan_link_dest.ensures.value (rw c.in-Some-2.is at c.in_ok-title_start.ensures.value) in
+    let t = found (goal.at.returns-in_err-unescape_title-clause-err c).In-Some-2 in
     on_err c.from_residual-in_err-unescape_title.result
     (inr (inr (parts_ask around c.args.source.now.text.now c.args.start _ c.in-Some-scan_link_dest.dest c.in-Some-2.title _ _
     c.is_in_table-in_table.ensures t (inr (c.in_err-unescape_title.ensures.err t.target.title t.title_is)))))

@@ -15,12 +15,15 @@ returns-clause-value c =
     let around = context_of c.args.source.now.options c.args.tree.now in
     title_read around text c.args.at c.in-Some.start c.in-Some.field-0-1 c.in-Some-2.len c.in-Some-2.title
     (sym c.in-Some.is ∙ c.in_ok-start.ensures.value) c.if-start-at.false
-    (subst (λ bs. IsTitleRead (title_at around bs) (read_to c.in-Some-2.len c.in-Some-2.title)) c.range_from.ensures.value
-    (subst (IsTitleRead (title_at around c.range_from.result.now)) c.in-Some-2.is c.in_ok-len.ensures.value))
-    (subst (λ o. IfSome o (λ found. list_any is_line_end (text_of found.1) ≡ false → Borrows (text_of found.1) found.1)) c.in-Some-2.is
-    c.in_ok-len.ensures.borrowed)
-    (subst (λ bs. is_some (blank_len bs) ≡ true) (c.rest_of.ensures.value ∙ ap (drop (c.in-Some.start + c.in-Some-2.len)) c.as_bytes.ensures.value)
-    (subst (λ o. is_some o ≡ true) c.scan_blank_line.ensures.value c.if-is_none.ensures))
+    (record {
+      read = subst (λ bs. IsTitleRead (title_at around bs) (read_to c.in-Some-2.len c.in-Some-2.title)) c.range_from.ensures.value
+          (subst (IsTitleRead (title_at around c.range_from.result.now)) c.in-Some-2.is c.in_ok-len.ensures.value);
+      borrows = subst (λ o. IfSome o (λ found. list_any is_line_end (text_of found.1) ≡ false → Borrows (text_of found.1) found.1)) c.in-Some-2.is
+          c.in_ok-len.ensures.borrowed;
+      blank = subst (λ bs. is_some (blank_len bs) ≡ true)
+          (c.rest_of.ensures.value ∙ ap (drop (c.in-Some.start + c.in-Some-2.len)) c.as_bytes.ensures.value)
+          (subst (λ o. is_some o ≡ true) c.scan_blank_line.ensures.value c.if-is_none.ensures);
+    })
 
 pub returns-then-is_none-clause-value : goal.returns-then-is_none-clause-value
 returns-then-is_none-clause-value c =

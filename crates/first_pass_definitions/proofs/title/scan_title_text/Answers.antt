@@ -12,7 +12,7 @@ use Rattle.first_pass_definitions.specs.Reading.{stops_title_line, goes_on_at}
 use Rattle.std.specs.Option.{option_map_or}
 use Rattle.first_pass_lines.specs.Places.{line_rest}
 use Rattle.first_pass_kinds.specs.Memory.{line_may_head}
-use Rattle.first_pass_definitions.proofs.Titles.{after_nothing, whole_title, stop_place, title_found, no_title, title_further, any_last, closes-low}
+use Rattle.first_pass_definitions.proofs.Titles.{TitleLine, after_nothing, whole_title, stop_place, title_found, no_title, title_further, any_last, closes-low}
 use Rattle.first_pass_definitions.proofs.Asks.{goes_asks, meets_asks, none_or_some, on_err}
 use Rattle.first_pass_definitions.proofs.title.scan_title_text.Goals as goal
 use Rattle.first_pass_definitions.proofs.title.scan_title_text.Goals.{After-begins}
@@ -49,14 +49,18 @@ stop_at c =
     let b = ap length c.as_bytes-bytes.ensures.value in
     stop_place c.args.close c.loop-bytes.from (c.loop-bytes.from + c.scan_title_line.result) c.args.text.now c.requires.close (line_stops c) (omega arith)
 
+-- the line, after the bytes that are written
+line_of : (c : After-begins) → TitleLine (title_prefix (context_of c.args.source.now.options c.args.tree.now)) c.args.close c.loop-bytes.from
+    (c.loop-bytes.from + c.scan_title_line.result) (string_bytes c.loop-bytes.written) c.args.text.now
+line_of c = record { closes = c.requires.close; title = c.loop-bytes.invariant.title; stop = line_stops c }
+
 pub returns-then-begins-clause-value : goal.returns-then-begins-clause-value
 returns-then-begins-clause-value c =
     let at = (goal.at.returns-then-begins-clause-value c).After-begins in
     let e =
     title_found (title_prefix (context_of c.args.source.now.options c.args.tree.now)) c.args.close c.loop-bytes.from
     (c.loop-bytes.from + c.scan_title_line.result)
-    (string_bytes c.loop-bytes.written) c.args.text.now
-    c.requires.close c.loop-bytes.invariant.title (line_stops at) (sym (stop_is at) ∙ c.if-begins.true) in
+    (string_bytes c.loop-bytes.written) c.args.text.now (line_of at) (sym (stop_is at) ∙ c.if-begins.true) in
     rw e (refl, c.in_ok-finish.ensures.value)
 
 pub returns-then-begins-clause-fits : goal.returns-then-begins-clause-fits
@@ -78,8 +82,7 @@ returns-in_default-clause-value c =
     (c.loop-bytes.from + c.scan_title_line.result)) c.as_bytes-bytes.ensures.value in
     let e =
     no_title (title_prefix (context_of c.args.source.now.options c.args.tree.now)) c.args.close c.loop-bytes.from (c.loop-bytes.from + c.scan_title_line.result)
-    (string_bytes c.loop-bytes.written) c.args.text.now
-    c.requires.close c.loop-bytes.invariant.title (line_stops at) (sym (stop_is at) ∙ c.if-begins.false) k in
+    (string_bytes c.loop-bytes.written) c.args.text.now (line_of at) (sym (stop_is at) ∙ c.if-begins.false) k in
     rw e refl
 
 pub loop-bytes-preserved : goal.loop-bytes-preserved
@@ -105,10 +108,8 @@ loop-bytes-preserved c =
       lines = λ l. ap (list_any is_line_end) written ∙ any_last (string_bytes c.loop-bytes.written ++ part text c.loop-bytes.from stop);
       asked = λ l. goes_asks (context_of c.args.source.now.options c.args.tree.now) c.args.close c.loop-bytes.from stop c.in-Some.next text
           c.loop-bytes.invariant.asked (line_stops at) (sym k) (none_or_some c.loop-bytes.from);
-      title = title_further (title_prefix (context_of c.args.source.now.options c.args.tree.now)) c.args.close c.loop-bytes.from stop c.in-Some.next
-          (string_bytes c.push.new.self)
-          (string_bytes c.loop-bytes.written) text
-          c.requires.close c.loop-bytes.invariant.title (line_stops at) (omega arith) k plain written;
+      title = rw written (title_further (title_prefix (context_of c.args.source.now.options c.args.tree.now)) c.args.close c.loop-bytes.from stop
+          c.in-Some.next (string_bytes c.loop-bytes.written) text (line_of at) (omega arith) k plain);
     }
 
 -- the title continues over a line ending, or may

@@ -1,12 +1,15 @@
 use Rattle.std.proofs.Common.{◌+◌, refl, sym, ap, ◌∙◌, arith}
+use Rattle.first_pass_lines.specs.Places.{place_at}
+use Rattle.first_pass_grammar.specs.Leaves.{document}
 use Rattle.first_pass_open.specs.Path.{path_of}
 use Rattle.first_pass_names.specs.TableEntries.{names_of}
 use Rattle.first_pass_open.proofs.PathLemmas.{open_are_in}
 use Rattle.first_pass_names.proofs.NameLemmas.{extends_none, extends_both}
 use Rattle.first_pass_raw.specs.RawBlocks.{range_of}
-use Rattle.first_pass_raw.proofs.ExtentLemmas.{lines_start, line_read, after_path, within_line, extent_from, goes_by, read_end, read_left, read_stops}
+use Rattle.first_pass_raw.proofs.ExtentLemmas.{LineAppended, LineJudged, IsLineAt, lines_start, line_read, after_path, within_line, extent_from, goes_by, read_end, read_left, read_stops}
 use Rattle.first_pass_raw.proofs.ExtentLemmas.{read_closes, read_last, read_more, line_as, lines_quotes}
 use Rattle.first_pass_raw.proofs.extent.read_lines.Goals as goal
+use Rattle.first_pass_raw.proofs.extent.read_lines.Goals.{After-next_line-next, After-judge-verdict, In_ok-append_raw_line}
 
 pub loop-ix-init : goal.loop-ix-init
 loop-ix-init g c = record {
@@ -14,61 +17,67 @@ loop-ix-init g c = record {
   boundary = c.requires.boundary;
   names = extends_none (names_of c.args.allocs.now);
   same_entries = refl;
-  read = lines_start (range_of (g.J.JudgesLines.kinds c.args.judge.now)) c.args.source.now.text.now c.args.source.now.options (names_of c.args.allocs.now)
+  read = lines_start (range_of (g.J.JudgesLines.kinds c.args.judge.now)) (document c.args.source.now.text.now c.args.source.now.options
+      (names_of c.args.allocs.now))
       (extent_from c.args.source.now.text.now (path_of c.args.source.now.options c.args.tree.now) (g.J.JudgesLines.judges c.args.judge.now) c.args.start)
       c.args.tree.now;
 }
 
 pub returns-in_default-clause-lines : goal.returns-in_default-clause-lines
 returns-in_default-clause-lines g c =
-    read_left (range_of (g.J.JudgesLines.kinds c.args.judge.now)) c.args.source.now.text.now c.args.source.now.options (names_of c.loop-ix.allocs)
-    (g.J.JudgesLines.judges c.args.judge.now) c.args.start c.loop-ix.ix c.args.tree.now c.loop-ix.tree c.loop-ix.invariant.read _
+    read_left (range_of (g.J.JudgesLines.kinds c.args.judge.now)) (document c.args.source.now.text.now c.args.source.now.options (names_of c.loop-ix.allocs))
+    (g.J.JudgesLines.judges c.args.judge.now) c.args.start c.loop-ix.ix _ c.args.tree.now c.loop-ix.tree c.loop-ix.invariant.read
     (open_are_in c.args.tree.now.nodes c.args.tree.now.spine c.recall_forest.ensures.opened)
     (line_read c.args.source.now.text.now c.args.source.now.text.now c.loop-ix.ix _ c.scan_continued_past.ensures.utf8 c.loop-ix.invariant.boundary
     c.loop-ix-test.true refl refl)
-    c.scan_continued_past.result c.in_default.is c.scan_continued_past.ensures.value
+    (sym c.in_default.is ∙ c.scan_continued_past.ensures.value)
 
 pub scan_continued_past-requires-clause-quotes : goal.scan_continued_past-requires-clause-quotes
 scan_continued_past-requires-clause-quotes g c =
-    lines_quotes _ _ _ _ _ _ c.args.tree.now c.loop-ix.tree _ c.loop-ix.invariant.read
-    (open_are_in c.args.tree.now.nodes c.args.tree.now.spine c.recall_forest.ensures.opened) (c.quotes_end-quotes_end.ensures c.args.source.now.options)
+    lines_quotes _ (document c.args.source.now.text.now c.args.source.now.options (names_of c.loop-ix.allocs)) _ _ c.args.tree.now c.loop-ix.tree _
+    c.loop-ix.invariant.read (open_are_in c.args.tree.now.nodes c.args.tree.now.spine c.recall_forest.ensures.opened)
+    (c.quotes_end-quotes_end.ensures c.args.source.now.options)
+
+-- the line, up to the start of the next one
+line_here : (g : _) (c : After-next_line-next g) → IsLineAt c.args.source.now.text.now c.loop-ix.ix c.next_line-next.result
+line_here g c =
+    line_read c.args.source.now.text.now c.as_bytes.result.now c.loop-ix.ix _ c.scan_continued_past.ensures.utf8 c.loop-ix.invariant.boundary
+    c.loop-ix-test.true c.as_bytes.ensures.value c.next_line-next.ensures.value
 
 pub judge-verdict-requires-clause-next : goal.judge-verdict-requires-clause-next
 judge-verdict-requires-clause-next g c =
-    let line = line_read c.args.source.now.text.now c.as_bytes.result.now c.loop-ix.ix _ c.scan_continued_past.ensures.utf8 c.loop-ix.invariant.boundary
-    c.loop-ix-test.true
-    c.as_bytes.ensures.value c.next_line-next.ensures.value in
     sym (after_path c.args.source.now.text.now (path_of c.args.source.now.options c.loop-ix.tree) c.loop-ix.ix _ c.in-Some.line_start
-    c.scan_continued_past.ensures.utf8 line (sym c.in-Some.ensures.value))
+    c.scan_continued_past.ensures.utf8 (line_here g (goal.at.judge-verdict-requires-clause-next g c).After-next_line-next) (sym c.in-Some.ensures.value))
 
 pub judge-verdict-requires-clause-boundary : goal.judge-verdict-requires-clause-boundary
-judge-verdict-requires-clause-boundary g c =
-    (line_read c.args.source.now.text.now c.as_bytes.result.now c.loop-ix.ix _ c.scan_continued_past.ensures.utf8 c.loop-ix.invariant.boundary
-    c.loop-ix-test.true c.as_bytes.ensures.value
-    c.next_line-next.ensures.value).boundary
+judge-verdict-requires-clause-boundary g c = (line_here g (goal.at.judge-verdict-requires-clause-boundary g c).After-next_line-next).boundary
+
+-- the line is judged
+abbrev judged : (g : _) (c : After-judge-verdict g) → LineJudged (range_of (g.J.JudgesLines.kinds c.args.judge.now))
+    (document c.args.source.now.text.now c.args.source.now.options (names_of c.loop-ix.allocs)) (g.J.JudgesLines.judges c.args.judge.now) c.args.start
+    c.loop-ix.ix c.args.tree.now c.loop-ix.tree
+judged g c = record {
+  next = c.next_line-next.result;
+  before = c.in-Some.line_start;
+  following = c.judge-verdict.new.line_start;
+  answer = c.judge-verdict.result;
+  so_far = c.loop-ix.invariant.read;
+  there = open_are_in c.args.tree.now.nodes c.args.tree.now.spine c.recall_forest.ensures.opened;
+  line = line_read c.args.source.now.text.now c.as_bytes.result.now c.loop-ix.ix _ c.scan_continued_past.ensures.utf8 c.loop-ix.invariant.boundary
+      c.loop-ix-test.true c.as_bytes.ensures.value c.next_line-next.ensures.value;
+  taken = c.in-Some.ensures.value;
+  is = c.judge-verdict.ensures.verdict;
+}
 
 pub returns-in-Stops-clause-lines : goal.returns-in-Stops-clause-lines
-returns-in-Stops-clause-lines g c =
-    read_stops (range_of (g.J.JudgesLines.kinds c.args.judge.now)) c.args.source.now.text.now c.args.source.now.options (names_of c.loop-ix.allocs)
-    (g.J.JudgesLines.judges c.args.judge.now) c.args.start c.loop-ix.ix c.args.tree.now c.loop-ix.tree c.loop-ix.invariant.read c.next_line-next.result
-    (open_are_in c.args.tree.now.nodes c.args.tree.now.spine c.recall_forest.ensures.opened)
-    (line_read c.args.source.now.text.now c.as_bytes.result.now c.loop-ix.ix _
-    c.scan_continued_past.ensures.utf8 c.loop-ix.invariant.boundary c.loop-ix-test.true c.as_bytes.ensures.value c.next_line-next.ensures.value)
-    c.in-Some.line_start c.judge-verdict.new.line_start c.in-Some.ensures.value c.judge-verdict.result c.judge-verdict.ensures.verdict c.in-Stops.end
-    c.in-Stops.is
+returns-in-Stops-clause-lines g c = read_stops (judged g (goal.at.returns-in-Stops-clause-lines g c).After-judge-verdict) c.in-Stops.end c.in-Stops.is
 
 pub returns-in-Closes : goal.returns-in-Closes
 returns-in-Closes g c =
-    let line = line_read c.args.source.now.text.now c.as_bytes.result.now c.loop-ix.ix _ c.scan_continued_past.ensures.utf8 c.loop-ix.invariant.boundary
-    c.loop-ix-test.true
-    c.as_bytes.ensures.value c.next_line-next.ensures.value in
+    let at = judged g (goal.at.returns-in-Closes g c).After-judge-verdict in
     record {
-      lines = read_closes (range_of (g.J.JudgesLines.kinds c.args.judge.now)) c.args.source.now.text.now c.args.source.now.options (names_of c.loop-ix.allocs)
-          (g.J.JudgesLines.judges c.args.judge.now) c.args.start c.loop-ix.ix c.args.tree.now c.loop-ix.tree c.loop-ix.invariant.read c.next_line-next.result
-          (open_are_in c.args.tree.now.nodes c.args.tree.now.spine c.recall_forest.ensures.opened) line
-          c.in-Some.line_start c.judge-verdict.new.line_start c.in-Some.ensures.value c.judge-verdict.result c.judge-verdict.ensures.verdict c.in-Closes.end
-          c.in-Closes.is;
-      boundary = (omega (arith, c.loop-ix.invariant.later, line.later), line.boundary);
+      lines = read_closes at c.in-Closes.end c.in-Closes.is;
+      boundary = (omega (arith, c.loop-ix.invariant.later, at.line.later), at.line.boundary);
       more = record { names = c.loop-ix.invariant.names; entries = c.loop-ix.invariant.same_entries };
     }
 
@@ -76,22 +85,30 @@ pub append_raw_line-requires-clause-order : goal.append_raw_line-requires-clause
 append_raw_line-requires-clause-order g c =
     within_line c.loop-ix.ix _ _ c.judge-verdict.new.line_start (ap (λ n. c.loop-ix.ix + n) c.bytes_scanned.ensures) (sym c.judge-verdict.ensures.next)
 
+-- the line is appended
+abbrev appended : (g : _) (c : In_ok-append_raw_line g) → LineAppended (range_of (g.J.JudgesLines.kinds c.args.judge.now))
+    (document c.args.source.now.text.now c.args.source.now.options (names_of c.loop-ix.allocs)) (place_at c.loop-ix.ix c.judge-verdict.new.line_start)
+    c.loop-ix.tree
+appended g c = record {
+  new = c.append_raw_line.new.tree;
+  named = names_of c.append_raw_line.new.allocs;
+  owed = c.remaining_space.result;
+  from = c.loop-ix.ix + c.bytes_scanned.result;
+  to = c.next_line-next.result;
+  extends = c.in_ok-append_raw_line.ensures.more.names;
+  line = line_as c.args.source.now.text.now (names_of c.append_raw_line.new.allocs) c.kind-kind.result
+      (g.J.JudgesLines.kinds c.args.judge.now) _ _ _ c.loop-ix.tree c.append_raw_line.new.tree c.kind-kind.ensures c.in_ok-append_raw_line.ensures.line;
+  owed_is = c.remaining_space.ensures.value;
+  from_is = ap (λ n. c.loop-ix.ix + n) c.bytes_scanned.ensures;
+  to_is = c.judge-verdict.ensures.next;
+}
+
 pub returns-in-IsLast : goal.returns-in-IsLast
 returns-in-IsLast g c =
-    let line = line_read c.args.source.now.text.now c.as_bytes.result.now c.loop-ix.ix _ c.scan_continued_past.ensures.utf8 c.loop-ix.invariant.boundary
-    c.loop-ix-test.true
-    c.as_bytes.ensures.value c.next_line-next.ensures.value in
+    let at = judged g (goal.at.returns-in-IsLast g c).After-judge-verdict in
     record {
-      lines = read_last (range_of (g.J.JudgesLines.kinds c.args.judge.now)) c.args.source.now.text.now c.args.source.now.options (names_of c.loop-ix.allocs)
-          (g.J.JudgesLines.judges c.args.judge.now) c.args.start c.loop-ix.ix c.args.tree.now c.loop-ix.tree c.loop-ix.invariant.read c.next_line-next.result
-          (open_are_in c.args.tree.now.nodes c.args.tree.now.spine c.recall_forest.ensures.opened) line
-          c.in-Some.line_start c.judge-verdict.new.line_start c.in-Some.ensures.value c.judge-verdict.result c.judge-verdict.ensures.verdict
-          (names_of c.append_raw_line.new.allocs) _ _ c.append_raw_line.new.tree c.requires.apart c.in_ok-append_raw_line.ensures.more.names
-          (line_as c.args.source.now.text.now (names_of c.append_raw_line.new.allocs) c.kind-kind.result
-          (g.J.JudgesLines.kinds c.args.judge.now) _ _ _ c.loop-ix.tree c.append_raw_line.new.tree c.kind-kind.ensures c.in_ok-append_raw_line.ensures.line)
-          c.remaining_space.ensures.value
-          (ap (λ n. c.loop-ix.ix + n) c.bytes_scanned.ensures) c.judge-verdict.ensures.next c.in-IsLast.is;
-      boundary = (omega (arith, c.loop-ix.invariant.later, line.later), line.boundary);
+      lines = read_last at c.requires.apart (appended g (goal.at.returns-in-IsLast g c).In_ok-append_raw_line) c.judge-verdict.ensures.next c.in-IsLast.is;
+      boundary = (omega (arith, c.loop-ix.invariant.later, at.line.later), at.line.boundary);
       more = record {
         names = extends_both _ _ _ c.in_ok-append_raw_line.ensures.more.names c.loop-ix.invariant.names;
         entries = c.in_ok-append_raw_line.ensures.more.entries ∙ c.loop-ix.invariant.same_entries;
@@ -100,28 +117,18 @@ returns-in-IsLast g c =
 
 pub loop-ix-preserved : goal.loop-ix-preserved
 loop-ix-preserved g c =
-    let line = line_read c.args.source.now.text.now c.as_bytes.result.now c.loop-ix.ix _ c.scan_continued_past.ensures.utf8 c.loop-ix.invariant.boundary
-    c.loop-ix-test.true
-    c.as_bytes.ensures.value c.next_line-next.ensures.value in
+    let at = judged g (goal.at.loop-ix-preserved g c).After-judge-verdict in
     record {
-      later = omega (arith, c.loop-ix.invariant.later, line.later);
-      boundary = line.boundary;
+      later = omega (arith, c.loop-ix.invariant.later, at.line.later);
+      boundary = at.line.boundary;
       names = extends_both _ _ _ c.in_ok-append_raw_line.ensures.more.names c.loop-ix.invariant.names;
       same_entries = c.in_ok-append_raw_line.ensures.more.entries ∙ c.loop-ix.invariant.same_entries;
-      read = read_more (range_of (g.J.JudgesLines.kinds c.args.judge.now)) c.args.source.now.text.now c.args.source.now.options (names_of c.loop-ix.allocs)
-          (g.J.JudgesLines.judges c.args.judge.now) c.args.start c.loop-ix.ix c.args.tree.now c.loop-ix.tree c.loop-ix.invariant.read c.next_line-next.result
-          (open_are_in c.args.tree.now.nodes c.args.tree.now.spine c.recall_forest.ensures.opened) line
-          c.in-Some.line_start c.judge-verdict.new.line_start c.in-Some.ensures.value c.judge-verdict.result c.judge-verdict.ensures.verdict
-          (names_of c.append_raw_line.new.allocs) _ _ c.append_raw_line.new.tree c.requires.apart c.in_ok-append_raw_line.ensures.more.names
-          (line_as c.args.source.now.text.now (names_of c.append_raw_line.new.allocs) c.kind-kind.result
-          (g.J.JudgesLines.kinds c.args.judge.now) _ _ _ c.loop-ix.tree c.append_raw_line.new.tree c.kind-kind.ensures c.in_ok-append_raw_line.ensures.line)
-          c.remaining_space.ensures.value
-          (ap (λ n. c.loop-ix.ix + n) c.bytes_scanned.ensures) c.judge-verdict.ensures.next
+      read = read_more at c.requires.apart (appended g (goal.at.loop-ix-preserved g c).In_ok-append_raw_line)
           (goes_by c.judge-verdict.result c.in_default-verdict.not-Stops c.in_default-verdict-2.not-Closes c.in_default-verdict-3.not-IsLast);
     }
 
 pub returns-clause-lines : goal.returns-clause-lines
 returns-clause-lines g c =
-    read_end (range_of (g.J.JudgesLines.kinds c.args.judge.now)) c.args.source.now.text.now c.args.source.now.options (names_of c.loop-ix.allocs)
+    read_end (range_of (g.J.JudgesLines.kinds c.args.judge.now)) (document c.args.source.now.text.now c.args.source.now.options (names_of c.loop-ix.allocs))
     (g.J.JudgesLines.judges c.args.judge.now) c.args.start c.loop-ix.ix c.args.tree.now c.loop-ix.tree c.loop-ix.invariant.read
     (omega (arith, c.loop-ix-test.false, c.loop-ix.invariant.boundary.0))

@@ -1,4 +1,5 @@
 use Rattle.std.proofs.Common.{◌≡◌, ◌≤◌, ◌-◌, length, IsCharBoundary}
+use Rattle.first_pass_grammar.specs.Leaves.{document}
 use Rattle.first_pass_grammar.specs.Names.{Extends}
 use Rattle.first_pass_names.specs.TableEntries.{entries, names_of}
 use Rattle.first_pass_raw.specs.RawBlocks.{range_of}
@@ -12,8 +13,8 @@ invariant-loop-ix g l = record {
   boundary : IsCharBoundary l.source.text.now l.ix;
   names : Extends (names_of l.allocs) (names_of l.initial.allocs);
   same_entries : entries l.allocs ≡ entries l.initial.allocs;
-  read : ReadSoFar (range_of (g.J.JudgesLines.kinds l.judge)) l.source.text.now l.source.options (names_of l.allocs) (g.J.JudgesLines.judges l.judge)
-      l.start l.ix l.initial.tree l.tree;
+  read : ReadSoFar (range_of (g.J.JudgesLines.kinds l.judge)) (document l.source.text.now l.source.options (names_of l.allocs))
+      (g.J.JudgesLines.judges l.judge) l.start l.ix l.initial.tree l.tree;
 }
 
 abbrev pub decreases-loop-ix : goal.decreases-loop-ix

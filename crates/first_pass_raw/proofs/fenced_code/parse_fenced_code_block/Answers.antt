@@ -1,14 +1,15 @@
-use Rattle.std.proofs.Common.{◌+◌, drop, length, IsUtf8, ap, subst, arith}
+use Rattle.std.proofs.Common.{◌+◌, drop, length, IsUtf8, refl, ap, subst, arith}
 use Rattle.first_pass_items.specs.declared.item.ItemBody.TheVariants.{FencedCodeBlock}
 use Rattle.first_pass_grammar.specs.CodeBlocks.{fence_judge, info_string}
+use Rattle.first_pass_grammar.specs.Leaves.{document}
 use Rattle.first_pass_grammar.specs.RawLines.{range_text}
-use Rattle.first_pass_open.specs.Path.{path_of}
 use Rattle.first_pass_names.specs.TableEntries.{names_of}
 use Rattle.first_pass_open.proofs.PathLemmas.{open_are_in}
-use Rattle.first_pass_names.proofs.NameLemmas.{info_named}
-use Rattle.first_pass_raw.proofs.ExtentLemmas.{first_read, extent_from, block_open}
+use Rattle.first_pass_names.proofs.NameLemmas.{extends_both, info_named}
+use Rattle.first_pass_raw.proofs.ExtentLemmas.{OpenedAt, first_read, lines_of, block_open}
 use Rattle.first_pass_raw.proofs.FencedLemmas.{fence_end, fenced_added}
 use Rattle.first_pass_raw.proofs.fenced_code.parse_fenced_code_block.Goals as goal
+use Rattle.first_pass_raw.proofs.fenced_code.parse_fenced_code_block.Goals.{In_ok-lines}
 
 pub overflow_add-start_ix : goal.overflow_add-start_ix
 overflow_add-start_ix c =
@@ -27,26 +28,36 @@ read_lines-requires-clause-boundary c = (first_read c.args.source.now.text.now c
     (subst IsUtf8 c.as_bytes-bytes.ensures.value c.as_bytes-bytes.ensures.utf8) c.requires.boundary
     c.as_bytes-bytes.ensures.value c.next_line-first.ensures.value).1
 
+-- The block is opened, and its lines are appended.
+abbrev opened : (c : In_ok-lines) → OpenedAt range_text (document c.args.source.now.text.now c.args.source.now.options (names_of c.read_lines.new.allocs))
+    (fence_judge c.args.fence.indent c.args.fence.byte c.args.fence.count) c.args.tree.now c.args.start_ix (FencedCodeBlock c.in_ok-info_ix.info_ix)
+opened c = record {
+  opened = c.open_block.new.tree;
+  filled = c.read_lines.new.tree;
+  first = c.next_line-first.result;
+  stop = c.in_ok-lines.lines.«end»;
+  next = c.in_ok-lines.lines.next;
+  there = open_are_in c.args.tree.now.nodes c.args.tree.now.spine c.recall_forest.ensures.opened;
+  is = c.in_ok-open_block.ensures.tree;
+  leaf = refl;
+  first_is = (first_read c.args.source.now.text.now c.as_bytes-bytes.result.now c.args.start_ix _
+      (subst IsUtf8 c.as_bytes-bytes.ensures.value c.as_bytes-bytes.ensures.utf8) c.requires.boundary c.as_bytes-bytes.ensures.value
+      c.next_line-first.ensures.value).0;
+  lines = c.in_ok-lines.ensures.lines;
+}
+
 pub close_block-requires : goal.close_block-requires
-close_block-requires c =
-    block_open range_text c.args.source.now.text.now c.args.source.now.options
-    (names_of c.read_lines.new.allocs) (extent_from c.args.source.now.text.now (path_of c.args.source.now.options c.open_block.new.tree)
-    (fence_judge c.args.fence.indent c.args.fence.byte c.args.fence.count) c.next_line-first.result) c.args.tree.now c.open_block.new.tree
-    c.read_lines.new.tree
-    c.args.start_ix (FencedCodeBlock c.in_ok-info_ix.info_ix) c.in_ok-lines.lines.«end» c.in_ok-lines.lines.next c.in_ok-open_block.ensures.tree
-    c.in_ok-lines.ensures.lines
+close_block-requires c = block_open (lines_of (opened (goal.at.close_block-requires c).In_ok-lines))
 
 pub returns-clause-block : goal.returns-clause-block
 returns-clause-block c =
-    fenced_added c.args.source.now.text.now c.args.source.now.options (names_of c.allocate_cow.new.self)
-    (names_of c.read_lines.new.allocs) c.args.tree.now c.open_block.new.tree c.read_lines.new.tree c.close_block.new.tree
-    c.args.start_ix c.args.fence.indent c.args.fence.byte c.args.fence.count c.next_line-first.result c.in_ok-lines.lines.«end» c.in_ok-lines.lines.next
-    c.in_ok-info_ix.info_ix
-    (open_are_in c.args.tree.now.nodes c.args.tree.now.spine c.recall_forest.ensures.opened) c.in_ok-open_block.ensures.tree
-    (first_read c.args.source.now.text.now c.as_bytes-bytes.result.now c.args.start_ix _
-    (subst IsUtf8 c.as_bytes-bytes.ensures.value c.as_bytes-bytes.ensures.utf8) c.requires.boundary c.as_bytes-bytes.ensures.value
-    c.next_line-first.ensures.value).0
-    (λ more e. info_named (names_of c.args.allocs.now) (names_of c.allocate_cow.new.self) more c.in_ok-info_ix.info_ix c.in_ok-info.info
+    let named = names_of c.allocate_cow.new.self in
+    let names = names_of c.read_lines.new.allocs in
+    fenced_added (document c.args.source.now.text.now c.args.source.now.options names) c.args.tree.now c.close_block.new.tree
+    c.args.start_ix c.args.fence.indent c.args.fence.byte c.args.fence.count c.in_ok-info_ix.info_ix
+    (opened (goal.at.returns-clause-block c).In_ok-lines)
+    (λ more e. info_named (names_of c.args.allocs.now) named more c.in_ok-info_ix.info_ix c.in_ok-info.info
     c.info_string.result.now (info_string (drop (c.args.start_ix + c.args.fence.count) c.args.source.now.text.now))
-    c.in_ok-info_ix.ensures.index c.in_ok-info_ix.ensures.names c.info_string.ensures c.in_ok-info.ensures.value c.in_ok-info.ensures.borrowed e)
-    c.in_ok-lines.ensures.more.names c.in_ok-lines.ensures.lines c.close_block.ensures.tree
+    c.in_ok-info_ix.ensures.index c.in_ok-info_ix.ensures.names c.info_string.ensures c.in_ok-info.ensures.value c.in_ok-info.ensures.borrowed
+    (extends_both more names named e c.in_ok-lines.ensures.more.names))
+    c.close_block.ensures.tree

@@ -1,6 +1,7 @@
 use Rattle.std.proofs.Common.{◌≡◌, ◌-◌, ◌≤◌, length, IsCharBoundary}
 use Rattle.first_pass_items.specs.declared.item.ItemBody.TheVariants.{IndentCodeBlock}
 use Rattle.first_pass_lines.specs.Places.{Place}
+use Rattle.first_pass_grammar.specs.Leaves.{document}
 use Rattle.first_pass_grammar.specs.Names.{Extends}
 use Rattle.first_pass_open.specs.OpenBlock.{opened_block}
 use Rattle.first_pass_names.specs.TableEntries.{entries, names_of}
@@ -16,8 +17,8 @@ invariant-lines l = record {
   named : Extends (names_of l.allocs) (names_of l.fn.allocs);
   same_entries : entries l.allocs ≡ entries l.fn.allocs;
   read : (p : Place) → IsPlaceAt l.source.text.now l.start_ix p → p.rest.owed ≡ l.remaining_space
-      → IndentedSoFar l.source.text.now l.source.options (names_of l.allocs) p (opened_block l.fn.tree l.start_ix IndentCodeBlock) l.tree l.next l.kept
-      l.blank;
+      → IndentedSoFar (document l.source.text.now l.source.options (names_of l.allocs)) p (opened_block l.fn.tree l.start_ix IndentCodeBlock) l.tree l.next
+      l.kept l.blank;
 }
 
 abbrev pub decreases-lines : goal.decreases-lines

@@ -52,8 +52,9 @@ returns-clause-cells c =
           let same = none_more d mid stop excess.count tree over (omega arith) all in
           (ap (λ (f : Forest Item). f.nodes) w.tree-is ∙ same.0, ap (λ (f : Forest Item). f.spine) w.tree-is ∙ same.1)
     ] in
-    first_kept d (names_of c.append_some_cells.new.allocs) c.args.wanted.most start mid kept.count stop excess.count old tree over new
-    c.in_ok-excess.ensures.more.names far.0 far.1 all same
+    first_kept d c.args.wanted.most start mid kept.count old tree new
+    (record { before = names_of c.append_some_cells.new.allocs; grown = c.in_ok-excess.ensures.more.names; far = far.0 }) far.1
+    (record { stop = stop; count = excess.count; over = over; all = all }) same
 
 pub returns-clause-more : goal.returns-clause-more
 returns-clause-more c =

@@ -1,11 +1,10 @@
-use Rattle.std.proofs.Common.{◌≡◌, ◌≤◌, ◌<◌, ◌+◌, ℕ, List, length, refl, ap, ◌∙◌, arith}
+use Rattle.std.proofs.Common.{◌≡◌, ◌≤◌, ◌<◌, ◌+◌, length, refl, ap, ◌∙◌, arith}
 use Rattle.first_pass_names.specs.TableEntries.{names_of}
 use Rattle.first_pass_tokens.specs.LineTokens.{spot}
 use Rattle.first_pass_grammar.specs.Leaves.{document}
-use Rattle.first_pass_grammar.specs.Tables.{cell_start}
 use Rattle.first_pass_tables.specs.Reading.{AreAppended}
 use Rattle.first_pass_names.proofs.NameLemmas.{extends_texts, texts_none, texts_both}
-use Rattle.first_pass_tables.proofs.RowCells.{none_read, content_found, end_found, cell_read, all_read}
+use Rattle.first_pass_tables.proofs.RowCells.{none_read, place_found, end_found, cell_read, all_read}
 use Rattle.first_pass_tables.proofs.row.append_some_cells.Goals as goal
 
 pub loop-count-init : goal.loop-count-init
@@ -21,6 +20,7 @@ loop-count-init c =
 pub returns-in-Some-clause-cells : goal.returns-in-Some-clause-cells
 returns-in-Some-clause-cells c =
     let text = c.args.source.now.text.now in
+    let d = document text c.args.source.now.options (names_of c.loop-count.allocs) in
     let bytes = c.as_bytes-bytes.result.now in
     let at = c.loop-count.at in
     let cell = c.cell_start-cell.result in
@@ -33,11 +33,10 @@ returns-in-Some-clause-cells c =
     let eol = c.in-Some.ensures.within in
     record {
       node_bound = c.loop-count.invariant.node_bound;
-      all = λ ended. all_read (document text c.args.source.now.options (names_of c.loop-count.allocs)) (spot c.args.wanted.start c.args.braces.now)
-          (spot at c.loop-count.braces) c.loop-count.count from c.in-Some.eol c.args.tree.now c.loop-count.tree
-          c.loop-count.invariant.read (content_found text bytes c.rest_of.result.now at cell c.scan_whitespace_no_nl.result same
-          c.cell_start-cell.ensures.value c.rest_of.ensures.value c.scan_whitespace_no_nl.ensures.value)
-          (omega arith) (omega arith)
+      all = λ ended. all_read d (spot c.args.wanted.start c.args.braces.now) (spot at c.loop-count.braces) c.loop-count.count
+          (place_found d bytes c.rest_of.result.now at cell c.scan_whitespace_no_nl.result same c.cell_start-cell.ensures.value c.rest_of.ensures.value
+          c.scan_whitespace_no_nl.ensures.value order (omega arith))
+          c.in-Some.eol c.args.tree.now c.loop-count.tree c.loop-count.invariant.read (omega arith)
           (end_found text bytes c.rest_of-in-loop-count.result.now from c.scan_eol.result same c.rest_of-in-loop-count.ensures.value c.scan_eol.ensures.value
           ∙ c.in-Some.is);
       first = λ ended. cc;
@@ -53,6 +52,7 @@ one_read : (c : goal.In_ok-at)
     × (c.loop-count.at < c.in_ok-at.at)
 one_read c =
     let text = c.args.source.now.text.now in
+    let d = document text c.args.source.now.options (names_of c.append_table_cell.new.allocs) in
     let bytes = c.as_bytes-bytes.result.now in
     let at = c.loop-count.at in
     let cell = c.cell_start-cell.result in
@@ -60,14 +60,11 @@ one_read c =
     let same = c.as_bytes-bytes.ensures.value in
     let size : length bytes ≡ length text = ap length same in
     let whole = c.rest_of-in-loop-count.ensures.whole in
-    cell_read (document text c.args.source.now.options (names_of c.append_table_cell.new.allocs)) (names_of c.loop-count.allocs)
-    (spot c.args.wanted.start c.args.braces.now) (spot at c.loop-count.braces)
-    c.loop-count.count cell from (spot c.in_ok-at.at c.append_table_cell.new.braces) c.args.tree.now
-    c.loop-count.tree c.append_table_cell.new.tree c.in_ok-at.ensures.more.names c.loop-count.invariant.read
-    (c.cell_start-cell.ensures.value ∙ ap (λ (bs : List ℕ). cell_start bs at) same)
-    (content_found text bytes c.rest_of.result.now at cell c.scan_whitespace_no_nl.result same c.cell_start-cell.ensures.value c.rest_of.ensures.value
-    c.scan_whitespace_no_nl.ensures.value)
-    (omega arith) (omega arith)
+    cell_read d (spot c.args.wanted.start c.args.braces.now) (spot at c.loop-count.braces) c.loop-count.count
+    (place_found d bytes c.rest_of.result.now at cell c.scan_whitespace_no_nl.result same c.cell_start-cell.ensures.value c.rest_of.ensures.value
+    c.scan_whitespace_no_nl.ensures.value c.cell_start-cell.ensures.order (omega arith))
+    (spot c.in_ok-at.at c.append_table_cell.new.braces) c.args.tree.now c.loop-count.tree c.append_table_cell.new.tree
+    (record { before = names_of c.loop-count.allocs; grown = c.in_ok-at.ensures.more.names; far = c.loop-count.invariant.read })
     (end_found text bytes c.rest_of-in-loop-count.result.now from c.scan_eol.result same c.rest_of-in-loop-count.ensures.value c.scan_eol.ensures.value
     ∙ c.in_default.is)
     c.in_ok-at.ensures.cell

@@ -1,4 +1,5 @@
-use Rattle.std.proofs.Common.{rules, not, ◌&&◌, ◌||◌, nat_lt, nat_le, ◌≡◌, ℕ, ◌-◌, Bool, Option, IfSome, is_some, ◌+◌, sym, ap, subst, ◌∙◌}
+use Rattle.std.proofs.Common.{rules, not, ◌&&◌, ◌||◌, nat_lt, nat_le, ◌≡◌, ℕ, ◌-◌, Bool, Option, IfSome, is_some, ◌+◌, refl, sym, ap, subst, ◌∙◌}
+use Rattle.std.specs.Option.{option_map}
 use Rattle.first_pass_items.specs.declared.item.Item.{Item}
 use Rattle.first_pass_items.specs.declared.item.ItemBody.TheVariants.{TableRow}
 use Rattle.first_pass_tree.specs.declared.tree_index.TreeIndex.{TreeIndex}
@@ -9,9 +10,10 @@ use Rattle.first_pass_grammar.specs.Leaves.{document}
 use Rattle.first_pass_grammar.specs.Tables.{most_filled}
 use Rattle.first_pass_tables.specs.Appends.{keeps_row, open_table, without_after}
 use Rattle.first_pass_tables.proofs.RowDrops.{current_is_child, dropped}
-use Rattle.first_pass_tables.proofs.RowClosed.{row_place, row_opened, row_is_open, row_closed, same_test, row_after, row_read}
+use Rattle.first_pass_tables.proofs.RowClosed.{OpenRow, row_place, row_opened, row_is_open, row_closed, same_test, row_after, row_read}
 use Rattle.first_pass_tables.proofs.RowsAdded.{row_between}
 use Rattle.first_pass_tables.proofs.row.parse_table_row_inner.Goals as goal
+use Rattle.first_pass_tables.proofs.row.parse_table_row_inner.Goals.{In_ok-end}
 
 -- the test of a row, with the number of cells that may be filled in
 kept_by : (kept following : Bool) (count missing some : ℕ) {most : ℕ} → kept ≡ ((not following || nat_lt 0 count) && nat_le missing some) → some ≡ most
@@ -22,35 +24,37 @@ pub append_cells-requires-clause-fresh : goal.append_cells-requires-clause-fresh
 append_cells-requires-clause-fresh c =
     (row_place c.args.tree.now, row_opened c.args.tree.now c.open_block.new.tree c.args.wanted.start TableRow c.in_ok-open_block.ensures.tree)
 
+-- the row with its cells
+abbrev open_row : (c : In_ok-end) → OpenRow (document c.args.source.now.text.now c.args.source.now.options (names_of c.append_cells.new.allocs))
+    c.args.wanted.most (spot c.args.wanted.start c.args.table.now.braces) TableRow c.args.tree.now
+open_row c = record {
+  opened = c.open_block.new.tree;
+  read = c.append_cells.new.tree;
+  stop = spot c.in_ok-end.end c.append_cells.new.braces;
+  count = c.in_ok-end.count;
+  opened_is = c.in_ok-open_block.ensures.tree;
+  adds = c.in_ok-end.ensures.cells;
+}
+
 pub close_block-requires : goal.close_block-requires
 close_block-requires c =
-    row_is_open (document c.args.source.now.text.now c.args.source.now.options (names_of c.append_cells.new.allocs)) c.args.wanted.most
-    (spot c.args.wanted.start c.args.table.now.braces) (spot c.in_ok-end.end c.append_cells.new.braces) c.in_ok-end.count c.saturating_sub-missing.result
-    TableRow c.args.tree.now c.open_block.new.tree c.append_cells.new.tree c.fill_row.new.tree c.in_ok-open_block.ensures.tree c.in_ok-end.ensures.cells
-    c.saturating_sub-missing.ensures c.in_ok-fill_row.ensures
+    row_is_open (open_row (goal.at.close_block-requires c).In_ok-end) c.saturating_sub-missing.result c.fill_row.new.tree c.saturating_sub-missing.ensures
+    c.in_ok-fill_row.ensures
 
 pub drop_beyond-requires : goal.drop_beyond-requires
 drop_beyond-requires c =
-    let d = document c.args.source.now.text.now c.args.source.now.options (names_of c.append_cells.new.allocs) in
-    let old = c.args.tree.now in
     let back = c.pop.new.self in
-    let more = row_after d c.args.wanted.most (spot c.args.wanted.start c.args.table.now.braces) TableRow old c.open_block.new.tree c.append_cells.new.tree
-    back
-    (spot c.in_ok-end.end c.append_cells.new.braces, c.in_ok-end.count) c.pop.result
-    c.in_ok-open_block.ensures.tree c.in_ok-end.ensures.cells c.pop.ensures in
-    subst (λ (o : Option TreeIndex). IfSome o (λ ix. IsChild back ix)) (sym c.cur-before.ensures) (current_is_child old back c.recall_forest.ensures more)
+    let more = row_after (open_row (goal.at.drop_beyond-requires c).In_ok-end) back c.pop.result c.pop.ensures in
+    subst (λ (o : Option TreeIndex). IfSome o (λ ix. IsChild back ix)) (sym c.cur-before.ensures)
+    (current_is_child c.args.tree.now back c.recall_forest.ensures more)
 
 pub returns-then-not-is_kept-clause-row : goal.returns-then-not-is_kept-clause-row
 returns-then-not-is_kept-clause-row c =
-    let d = document c.args.source.now.text.now c.args.source.now.options (names_of c.append_cells.new.allocs) in
     let old = c.args.tree.now in
     let back = c.pop.new.self in
     let adds = c.in_ok-end.ensures.cells in
     let most = most_filled - c.args.table.now.missing_empty_cells in
-    let more = row_after d c.args.wanted.most (spot c.args.wanted.start c.args.table.now.braces) TableRow old c.open_block.new.tree c.append_cells.new.tree
-    back
-    (spot c.in_ok-end.end c.append_cells.new.braces, c.in_ok-end.count) c.pop.result
-    c.in_ok-open_block.ensures.tree adds c.pop.ensures in
+    let more = row_after (open_row (goal.at.returns-then-not-is_kept-clause-row c).In_ok-end) back c.pop.result c.pop.ensures in
     let missing_is = c.saturating_sub-missing.ensures ∙ ap (λ (n : ℕ). c.args.wanted.most - n) adds.count in
     let following : c.is_some.result ≡ is_some old.current = c.is_some.ensures ∙ ap (λ (o : Option TreeIndex). is_some o) c.cur-before.ensures in
     let test = same_test c.is_some.result c.args.wanted.most most c.in_ok-end.count c.saturating_sub-missing.result adds.cells adds.count missing_is in
@@ -79,16 +83,17 @@ returns-clause-row c =
     let test = same_test c.is_some.result c.args.wanted.most most c.in_ok-end.count c.saturating_sub-missing.result adds.cells adds.count missing_is in
     let kept = kept_by c.is_kept.result c.is_some.result c.in_ok-end.count c.saturating_sub-missing.result c.saturating_sub-most.result
     c.is_kept.ensures.value c.saturating_sub-most.ensures in
-    row_read d c.args.wanted.most c.args.wanted.start c.in_ok-end.end (open_table old c.args.table.now.missing_empty_cells c.args.table.now.braces)
-    (open_table c.close_block.new.tree (c.args.table.now.missing_empty_cells + c.saturating_sub-missing.result) c.append_cells.new.braces) adds.cells
-    c.cur.result
-    c.map.result adds.are_cells
+    let answer_is : c.map.result ≡ option_map (λ (ix : TreeIndex). (c.in_ok-end.end, ix)) c.cur.result = search rules in
+    row_read d c.args.wanted.most
+    (record { start = c.args.wanted.start; cells = adds.cells; row_end = c.in_ok-end.end; after = c.append_cells.new.braces })
+    (open_table old c.args.table.now.missing_empty_cells c.args.table.now.braces)
+    (open_table c.close_block.new.tree (c.args.table.now.missing_empty_cells + c.saturating_sub-missing.result) c.append_cells.new.braces)
+    c.map.result adds.are_cells refl
     (ap (λ (t : Bool). keeps_row t c.args.wanted.most most adds.cells) (sym following) ∙ sym test ∙ sym kept ∙ c.if-not-is_kept.false)
-    (row_closed d c.args.wanted.most (spot c.args.wanted.start c.args.table.now.braces) (spot c.in_ok-end.end c.append_cells.new.braces) c.in_ok-end.count
-    c.saturating_sub-missing.result TableRow old
-    c.open_block.new.tree c.append_cells.new.tree c.fill_row.new.tree c.in_ok-open_block.ensures.tree adds c.saturating_sub-missing.ensures
+    (row_closed (open_row (goal.at.returns-clause-row c).In_ok-end) c.saturating_sub-missing.result c.fill_row.new.tree c.saturating_sub-missing.ensures
     c.in_ok-fill_row.ensures c.close_block.new.tree c.close_block.ensures.tree)
-    (ap (λ (n : ℕ). c.args.table.now.missing_empty_cells + n) missing_is) c.cur.ensures (search rules)
+    (ap (λ (n : ℕ). c.args.table.now.missing_empty_cells + n) missing_is)
+    (answer_is ∙ ap (option_map (λ (ix : TreeIndex). (c.in_ok-end.end, ix))) c.cur.ensures)
 
 pub returns-clause-fits : goal.returns-clause-fits
 returns-clause-fits c = λ begins from low.

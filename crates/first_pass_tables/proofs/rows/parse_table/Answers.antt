@@ -12,22 +12,27 @@ use Rattle.first_pass_tables.proofs.rows.parse_table.Goals as goal
 
 pub returns-clause-rows : goal.returns-clause-rows
 returns-clause-rows c =
-    rows_closed (document c.args.source.now.text.now c.args.source.now.options (names_of c.append_body.new.allocs)) (names_of c.append_head_row.new.allocs)
-    c.args.rows.columns c.args.rows.head_start c.args.rows.body_start c.in_ok-next.next
-    c.args.tree.now (open_table c.append_head_row.new.tree c.append_head_row.new.table.missing_empty_cells c.append_head_row.new.table.braces)
-    c.append_body.new.tree
-    c.close_block.new.tree c.in_ok-next.ensures.more.names c.requires.open
-    (open_are_in c.args.tree.now.nodes c.args.tree.now.spine c.recall_forest.ensures.opened)
-    (subst (λ b. AddsHead (document c.args.source.now.text.now c.args.source.now.options (names_of c.append_head_row.new.allocs)) c.args.rows.columns
-    (spot c.args.rows.head_start b) c.args.tree.now
-    (open_table c.append_head_row.new.tree c.append_head_row.new.table.missing_empty_cells c.append_head_row.new.table.braces)) c.new.ensures
-    c.in_ok-append_head_row.ensures.head) c.in_ok-next.ensures.body c.close_block.ensures.tree
+    let headed = open_table c.append_head_row.new.tree c.append_head_row.new.table.missing_empty_cells c.append_head_row.new.table.braces in
+    rows_closed (document c.args.source.now.text.now c.args.source.now.options (names_of c.append_body.new.allocs)) c.args.rows.columns
+    c.args.rows.head_start c.args.rows.body_start c.args.tree.now c.close_block.new.tree
+    (record {
+      before = names_of c.append_head_row.new.allocs;
+      headed = headed;
+      bodied = c.append_body.new.tree;
+      next = c.in_ok-next.next;
+      grown = c.in_ok-next.ensures.more.names;
+      head = subst (λ b. AddsHead (document c.args.source.now.text.now c.args.source.now.options (names_of c.append_head_row.new.allocs))
+          c.args.rows.columns (spot c.args.rows.head_start b) c.args.tree.now headed) c.new.ensures c.in_ok-append_head_row.ensures.head;
+      body = c.in_ok-next.ensures.body;
+    })
+    c.requires.open (open_are_in c.args.tree.now.nodes c.args.tree.now.spine c.recall_forest.ensures.opened) c.close_block.ensures.tree
 
 pub returns-clause-fits : goal.returns-clause-fits
 returns-clause-fits c = λ from low following.
     rows_between (document c.args.source.now.text.now c.args.source.now.options (names_of c.append_body.new.allocs)) c.args.rows.columns c.args.rows.head_start
     c.args.rows.body_start c.in_ok-next.next from c.args.tree.now
-    c.close_block.new.tree c.in_ok-next.ensures.utf8 c.requires.head c.requires.body (returns-clause-rows c) low following
+    c.close_block.new.tree c.in_ok-next.ensures.utf8 (record { head = c.requires.head; body = c.requires.body; apart = following })
+    (returns-clause-rows c) low
 
 pub returns-clause-tables : goal.returns-clause-tables
 returns-clause-tables c =

@@ -1,8 +1,9 @@
-use Rattle.std.proofs.Common.{inl, inr, drop, take, length-take, ◌≡◌, ◌+◌, ◌-◌, ◌≤◌, ℕ, arith, List, length, is_some, true, min, sym, ap, subst, ◌∙◌}
-use Rattle.std.specs.List.{slice_range}
+use Rattle.std.proofs.Common.{inl, inr, drop, take, length-take, ◌≡◌, ◌+◌, ◌-◌, ◌≤◌, ℕ, arith, List, length, is_some, true, min, sym, ap, subst, ◌∙◌, if◌then◌else◌}
+use Rattle.std.specs.List.{slice_range, suffix_len}
 use Rattle.std.proofs.lemmas.List.{take-take}
 use Rattle.std.specs.Option.{option_map}
 use Rattle.first_pass_items.specs.declared.item.Item.{Item}
+use Rattle.first_pass_lines.specs.Lines.{is_white}
 use Rattle.first_pass_tree.specs.Forest.{Forest, cut_siblings}
 use Rattle.first_pass_tokens.specs.TreeTokens.{chained}
 use Rattle.first_pass_tokens.proofs.ChainLemmas.{cut_siblings-chained}
@@ -36,8 +37,10 @@ returns-clause-cut c f chain bare is =
       | then-is_some w ↦
           let some : is_some c.in_ok-content_end.attributes ≡ true = sym c.is_some.ensures ∙ w.if-is_some.true in
           let (block, at) = block_given options bs c.in_ok-content_end.attributes given some in
-          let cut = cut_by text options start c.args.broken chain block c.in_ok-content_end.content_end w.white_at_cut.result _ at content
-          (ap (λ xs. slice_range xs start c.in_ok-content_end.content_end) w.as_bytes.ensures.value) w.white_at_cut.ensures.value in (
+          let stop : ℕ = c.in_ok-content_end.content_end in
+          let cut = cut_by text options start c.args.broken chain block stop w.white_at_cut.result at content
+          (w.white_at_cut.ensures.value
+          ∙ ap (λ (xs : List ℕ). if c.args.broken then 0 else suffix_len is_white (slice_range xs start stop)) w.as_bytes.ensures.value) in (
             w.tree-is ∙ w.truncate_siblings.ensures ∙ ap (λ (g : Forest Item). cut_siblings g (c.in_ok-content_end.content_end - w.white_at_cut.result)) is
                 ∙ cut_siblings-chained f chain (c.in_ok-content_end.content_end - w.white_at_cut.result) bare.last bare.none ∙ ap (chained f) (sym cut),
             named,

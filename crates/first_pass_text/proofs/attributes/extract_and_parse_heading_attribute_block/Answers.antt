@@ -1,4 +1,4 @@
-use Rattle.std.proofs.Common.{◌≡◌, ◌+◌, ◌<◌, ℕ, List, [], length, Option, IfSome, IsUtf8, slice_index, true, ◌≤◌, refl, sym, ap, subst, ◌∙◌, arith}
+use Rattle.std.proofs.Common.{◌≡◌, ◌+◌, ◌<◌, ℕ, List, [], length, Option, IfSome, IsUtf8, slice_index, true, ◌≤◌, sym, ap, subst, ◌∙◌, arith}
 use Rattle.std.specs.List.{slice_range}
 use Rattle.std.specs.Option.{option_map}
 use Rattle.std.specs.declared.ops.Range.{Range}
@@ -83,7 +83,7 @@ returns-in_ok-attributes-in-Some-clause-attributes c =
     let found = subst (λ (o : Option (Range ℕ)).
     option_map (λ (r : Range ℕ). (r.start, r.«end»)) o ≡ inside_block (slice_range c.as_bytes.result.now c.args.header_start c.args.header_end)) c.in-Some.is
     e.ensures.inside in
-    given_some options text c.args.header_start c.args.header_end (slice_range text c.args.header_start c.args.header_end) c.range-block.result.now
-    (c.in-Some.inside.start, c.in-Some.inside.«end») c.in_ok-attributes-in-Some.attributes on refl c.requires.to
+    given_some options text c.args.header_start c.args.header_end c.range-block.result.now
+    (c.in-Some.inside.start, c.in-Some.inside.«end») c.in_ok-attributes-in-Some.attributes on c.requires.to
     (found ∙ ap (λ (xs : List ℕ). inside_block (slice_range xs c.args.header_start c.args.header_end)) c.as_bytes.ensures.value)
     c.range-block.ensures.value c.in_ok-attributes-in-Some.ensures

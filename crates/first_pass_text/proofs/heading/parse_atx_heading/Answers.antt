@@ -1,4 +1,4 @@
-use Rattle.std.proofs.Common.{◌≡◌, ◌≤◌, ℕ, List, [], length, IsUtf8, refl, ap, subst, ◌∙◌}
+use Rattle.std.proofs.Common.{◌≡◌, ◌≤◌, ℕ, List, [], length, IsUtf8, ap, subst, ◌∙◌}
 use Rattle.std.specs.List.{slice_range}
 use Rattle.std.specs.Option.{unwrap_or}
 use Rattle.first_pass_tokens.specs.Pieces.{text_upto}
@@ -63,13 +63,12 @@ returns-clause-block c =
     let next_is = c.in_ok-next.ensures.place ∙ ap (λ o. line_end_at (text_upto text o) start) cut in
     let ends : c.line_end_of-end.result ≡ line_end_at text start =
     c.line_end_of-end.ensures ∙ place_end text options start c.in_ok-next.next place c.in_ok-place.ensures.place next_is in
-    let (chain, tree_is, heads) = heading_read text options (names_of c.name_attribute_block.new.allocs)
-    (names_of c.heading_text.new.allocs) start c.in_ok-next.next c.opening_of.result c.in_ok-place.index
-    (text_upto text c.opening_of.result) (slice_range text start (unwrap_or c.opening_of.result c.in_ok-next.next))
-    c.open_block.new.tree c.heading_text.new.tree
-    (cut ∙ place_cut text options start place c.in_ok-place.ensures.place)
-    refl c.in_ok-next.ensures.place refl
-    c.in_ok-next.ensures.line c.in_ok-next.ensures.more.names c.in_ok-place.ensures.named in
+    let names = names_of c.heading_text.new.allocs in
+    let (chain, tree_is, heads) = heading_read (document text options names) start c.in_ok-next.next c.opening_of.result c.in_ok-place.index
+    c.open_block.new.tree c.heading_text.new.tree (cut ∙ place_cut text options start place c.in_ok-place.ensures.place) c.in_ok-next.ensures.place
+    c.in_ok-next.ensures.line
+    (λ more e. c.in_ok-place.ensures.named more
+    (extends_both more names (names_of c.name_attribute_block.new.allocs) e c.in_ok-next.ensures.more.names)) in
     let begins : start ≡ heading_text_at text c.args.start (level_number c.args.atx_level) =
     c.heading_text_start-header_start.ensures.value ∙ ap (λ t. heading_text_at t c.args.start (level_number c.args.atx_level)) c.as_bytes.ensures.value in
     record {
@@ -85,9 +84,8 @@ returns-clause-block c =
 pub returns-clause-fits : goal.returns-clause-fits
 returns-clause-fits c from following starts =
     let u = subst IsUtf8 c.as_bytes.ensures.value c.as_bytes.ensures.utf8 in
-    heading_fits c.args.source.now.text.now c.args.source.now.options
-    (names_of c.heading_text.new.allocs) c.args.start c.args.atx_level c.args.tree.now c.close_block.new.tree c.line_end_of-end.result u starts
-    c.requires.heading (returns-clause-block c) from following
+    heading_fits (document c.args.source.now.text.now c.args.source.now.options (names_of c.heading_text.new.allocs)) c.args.start c.args.atx_level
+    c.args.tree.now c.close_block.new.tree c.line_end_of-end.result u starts c.requires.heading (returns-clause-block c) from following
 
 pub returns-clause-more : goal.returns-clause-more
 returns-clause-more c =

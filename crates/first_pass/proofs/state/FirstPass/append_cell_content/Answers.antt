@@ -1,5 +1,5 @@
 use Rattle.std.proofs.Common.{◌≡◌, ◌≤◌, ℕ, List, Option, Some, None, IfSome, IsCharBoundary, length, refl, ap, subst, sym, arith}
-use Rattle.first_pass_names.specs.TableEntries.{names_of}
+use Rattle.first_pass_names.specs.TableEntries.{names_of, no_names}
 use Rattle.first_pass_tokens.specs.Pieces.{text_upto}
 use Rattle.first_pass_tokens.proofs.BytesLemmas.{few_of_cell}
 use Rattle.first_pass_tokens.proofs.OrderLemmas.{cell_end_place}
@@ -9,6 +9,7 @@ use Rattle.first_pass_order.proofs.OrderLemmas.{ordered_none}
 use Rattle.first_pass.proofs.CallsNamed.{cell_named}
 use Rattle.first_pass.proofs.OrderJoin.{ordered_cell}
 use Rattle.first_pass.proofs.state.FirstPass.append_cell_content.Goals as goal
+use Rattle.first_pass_grammar.specs.Leaves.{document}
 
 both_ends : (text : List ℕ) (start : ℕ) (end : Option ℕ)
     → IfSome end (λ e. (start ≤ e) × (e ≤ length text)) → IfSome end (λ e. IsCharBoundary text e) → IfSome end (λ e. (start ≤ e) × IsCharBoundary text e)
@@ -41,8 +42,9 @@ returns c =
             let before = o.later in
             let k : ℕ = reached old.begin_list_item at in
             let low' : k ≤ at = before in
-            let to = ordered_cell text options self.braces c.args.start c.args.end old.tree new.tree stop k e.utf8
-            (both_ends text c.args.start c.args.end c.requires.1 ends) boundary c.recall_forest.ensures e.cell (omega arith) o.ordered in
+            let to = ordered_cell (document text options no_names) self.braces c.args.start c.args.end old.tree new.tree stop
+            (record { utf8 = e.utf8; boundary = boundary; cut = both_ends text c.args.start c.args.end c.requires.1 ends })
+            (record { from = k; low = omega arith; forest = c.recall_forest.ensures; order = o.ordered }) e.cell in
             ordered_none text new stop refl to.within to;
         node_bound = few_of_cell e.cell;
       };

@@ -45,8 +45,9 @@ returns-clause-line c =
             let before = o.later in
             let k : ℕ = reached old.begin_list_item at in
             let low' : k ≤ at = before in
-            let to = ordered_line (document text options no_names) self.braces c.args.start c.args.end old.tree new.tree answer.0 answer.1 k e.utf8
-            (both_ends text c.args.start c.args.end c.requires.1 ends) boundary c.recall_forest.ensures e.line (omega arith) o.ordered in
+            let to = ordered_line (document text options no_names) self.braces c.args.start c.args.end old.tree new.tree answer
+            (record { utf8 = e.utf8; boundary = boundary; cut = both_ends text c.args.start c.args.end c.requires.1 ends })
+            (record { from = k; low = omega arith; forest = c.recall_forest.ensures; order = o.ordered }) e.line in
             ordered_none text new answer.0 refl to.within to;
         node_bound = few_of_line e.line;
       };

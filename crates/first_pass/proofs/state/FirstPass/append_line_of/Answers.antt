@@ -13,6 +13,7 @@ use Rattle.first_pass_lists.specs.declared.state.PassState.{PassState}
 use Rattle.first_pass.proofs.CallsNamed.{raw_line_named}
 use Rattle.first_pass.proofs.OrderJoin.{tokens_ordered}
 use Rattle.first_pass.proofs.state.FirstPass.append_line_of.Goals as goal
+use Rattle.first_pass_tokens.proofs.OrderLemmas.{order_from}
 
 line_in_order : (kind : RawKind) (d : Document) (owed from to : ℕ) (items : List Item) → from ≤ to → IsCharBoundary d.text from → IsCharBoundary d.text to
     → IsRawLine (range_of kind) d owed from to items → AreInOrder d.text from to items
@@ -43,6 +44,7 @@ returns c =
       };
       state = refl;
       order = λ at low begins ends o.
-          tokens_ordered text old new at from to e.line.items c.recall_forest.ensures o low
-          (line_in_order c.args.kind d c.args.remaining_space from to e.line.items c.requires.range.0 begins ends are) ends.0 e.line.tree_is refl;
+          tokens_ordered text old new at to e.line.items c.recall_forest.ensures o
+          (order_from text at from to e.line.items
+          (line_in_order c.args.kind d c.args.remaining_space from to e.line.items c.requires.range.0 begins ends are) low) ends.0 e.line.tree_is refl;
     }

@@ -53,5 +53,5 @@ returns-in-Some-2 c =
     let source = c.parse_footnote.ensures.source in
     let following = subst (λ (z : Source). IsAfterHead z (c.in-Some.start + c.in-Some-2.size) c.place_after_head.result) source c.place_after_head.ensures in
     footnote_opened self new c.args.place.now c.place_after_head.result c.in-Some.start c.in-Some-2.size f.0
-    c.requires.utf8 c.requires.place c.recall_forest.ensures
-    c.requires.no_empty source (sym c.footnote_mark.ensures.value ∙ c.in-Some.is) f.1 f.2.0 f.2.1 r.0 following
+    (record { utf8 = c.requires.utf8; place = c.requires.place; forest = c.recall_forest.ensures; none = c.requires.no_empty }) source
+    (record { mark = sym c.footnote_mark.ensures.value ∙ c.in-Some.is; here = f.1; some = r.0 }) f.2 following

@@ -17,7 +17,7 @@ use Rattle.first_pass_blocks.specs.FootnoteHeads.{StaysSame, TriesFootnote}
 use Rattle.first_pass_blocks.specs.Positions.{Position, InLine, LeafAt, IsNotBefore, ReadsTo, may_define}
 use Rattle.first_pass_blocks.specs.Progress.{PassesTo}
 use Rattle.first_pass_blocks.specs.Starts.{StartMatches, start_opened, after_at, last_at, IsAfterMarker, BeginsNoContainer}
-use Rattle.first_pass_blocks.specs.Views.{allocs_of, state_of, source_of, tree_of}
+use Rattle.first_pass_blocks.specs.Views.{state_of, source_of, tree_of, source_options, source_text}
 use Rattle.first_pass_blocks.proofs.LineByLine.BlockRead.{passes_state, passes_both}
 use Rattle.first_pass_blocks.proofs.Openings.NoContainer.{only_leaf}
 use Rattle.first_pass_blocks.proofs.Openings.StartLemmas.{start_opens, no_start, opened_start, reads_none}
@@ -42,16 +42,17 @@ loop-self-init c =
     }
 
 -- no footnote definition begins at the place, and the search for another container begins
-record IsTried (over : Source) (first : Place) (old mid : BlockPass) (p : Place) : Type 0 where
-  here : IsNotBefore over.text.now first p
+record IsTried (first : Place) (old mid : BlockPass) (p : Place) : Type 0 where
+  here : IsNotBefore (source_text old) first p
   no_empty : (state_of mid).begin_list_item ≡ None
-  opened : PassesTo over first.line old mid (InLine first) (InLine p)
-  bare : in_table (tree_of mid).nodes (tree_of mid).spine ≡ false → footnote_head_at (context_of over.options (tree_of mid)) p ≡ None
+  opened : PassesTo (source_of old) first.line old mid (InLine first) (InLine p)
+  bare : in_table (tree_of mid).nodes (tree_of mid).spine ≡ false → footnote_head_at (context_of (source_options old) (tree_of mid)) p ≡ None
 
-tried : (over : Source) (first : Place) (old now mid : BlockPass) (p q : Place) (t : Bool) → t ≡ false → IsNotBefore over.text.now first p
-    → (state_of now).begin_list_item ≡ None → source_of now ≡ over → PassesTo over first.line old now (InLine first) (InLine p) → TriesFootnote now mid p q t
-    → IsTried over first old mid q
-tried over first old now mid p q t is here none source opened tries =
+tried : (first : Place) (old now mid : BlockPass) (p q : Place) (t : Bool) → t ≡ false → IsNotBefore (source_text old) first p
+    → (state_of now).begin_list_item ≡ None → PassesTo (source_of old) first.line old now (InLine first) (InLine p) → TriesFootnote now mid p q t
+    → IsTried first old mid q
+tried first old now mid p q t is here none opened tries =
+    let over : Source = source_of old in
     let no = subst (TriesFootnote now mid p q) is tries in
     let same : StaysSame now mid = no.0 in
     let at : q ≡ p = no.1 in
@@ -66,42 +67,42 @@ tried over first old now mid p q t is here none source opened tries =
       bare = λ no_table.
           ap (footnote_head_at (context_of over.options (tree_of mid))) at
           ∙ ap (λ (r : PassState). footnote_head_at (context_of over.options r.tree) p) same.1
-          ∙ ap (λ (z : Source). footnote_head_at (context_of z.options (tree_of now)) p) (sym source)
+          ∙ ap (λ (z : Source). footnote_head_at (context_of z.options (tree_of now)) p) (sym opened.source)
           ∙ no.2 (ap (λ (r : PassState). in_table r.tree.nodes r.tree.spine) (sym same.1) ∙ no_table);
     }
 
 -- one more container is open at the place, and less of its line is left
-record IsNested (over : Source) (first : Place) (old mid : BlockPass) (p q : Place) : Type 0 where
-  here : IsNotBefore over.text.now first q
+record IsNested (first : Place) (old mid : BlockPass) (p q : Place) : Type 0 where
+  here : IsNotBefore (source_text old) first q
   no_empty : (state_of mid).begin_list_item ≡ None
   less : length q.rest.left < length p.rest.left
-  opened : PassesTo over first.line old mid (InLine first) (InLine q)
+  opened : PassesTo (source_of old) first.line old mid (InLine first) (InLine q)
 
-opens_note : (over : Source) (first : Place) (old now mid : BlockPass) (p q : Place) (t : Bool) → t ≡ true → IsNotBefore over.text.now first p
-    → source_of now ≡ over → PassesTo over first.line old now (InLine first) (InLine p) → TriesFootnote now mid p q t → IsNested over first old mid p q
-opens_note over first old now mid p q t is here source opened tries =
+opens_note : (first : Place) (old now mid : BlockPass) (p q : Place) (t : Bool) → t ≡ true → IsNotBefore (source_text old) first p
+    → PassesTo (source_of old) first.line old now (InLine first) (InLine p) → TriesFootnote now mid p q t → IsNested first old mid p q
+opens_note first old now mid p q t is here opened tries =
     let yes = subst (TriesFootnote now mid p q) is tries in
-    let from = subst (λ (z : Source). IsNotBefore z.text.now p q) source yes.0 in
+    let from = subst (λ (z : Source). IsNotBefore z.text.now p q) opened.source yes.0 in
     let low = here.1 in
     let later = here.2 in
     let far = here.3 in
     let line = from.1 in
     let on = from.2 in
     let stop = from.3 in
-    let steps = subst (λ (z : Source). PassesTo z first.line now mid (InLine p) (InLine q)) source (yes.3 first.line low) in
+    let steps = subst (λ (z : Source). PassesTo z first.line now mid (InLine p) (InLine q)) opened.source (yes.3 first.line low) in
     record {
       here = (from.0, omega arith, omega arith, omega arith);
       no_empty = yes.2;
       less = yes.1;
-      opened = passes_both over first.line old now mid (InLine first) (InLine p) (InLine q) opened steps;
+      opened = passes_both (source_of old) first.line old now mid (InLine first) (InLine p) (InLine q) opened steps;
     }
 
 -- at the place of the search for another container
-at_place : (c : Then-not-branch) → IsTried c.args.self.now.source c.args.place.now c.args.self.now c.open_footnote.new.self c.open_footnote.new.place
+at_place : (c : Then-not-branch) → IsTried c.args.place.now c.args.self.now c.open_footnote.new.self c.open_footnote.new.place
 at_place c =
     let i = c.loop-self.invariant in
-    tried c.args.self.now.source c.args.place.now c.args.self.now c.loop-self.self c.open_footnote.new.self c.loop-self.place c.open_footnote.new.place
-    c.in_ok-open_footnote.field-0 c.if-not-branch.true i.here i.no_empty i.opened.source i.opened c.in_ok-open_footnote.ensures
+    tried c.args.place.now c.args.self.now c.loop-self.self c.open_footnote.new.self c.loop-self.place c.open_footnote.new.place
+    c.in_ok-open_footnote.field-0 c.if-not-branch.true i.here i.no_empty i.opened c.in_ok-open_footnote.ensures
 
 -- whether a definition may begin at a place, from the results of the calls
 abbrev may_in : Source → BlockPass → Bool
@@ -118,27 +119,25 @@ absent over now may p new r same told is says =
       missing.1,
     )
 
-ended_here : (over : Source) (first : Place) (old mid new : BlockPass) (p q : Place) → IsUtf8 over.text.now → IsForest (tree_of mid)
-    → IsTried over first old mid p → start_at over.options (may_in over mid) p ≡ None → q ≡ p
-    → source_of new ≡ source_of mid → state_of new ≡ state_of mid → allocs_of new ≡ allocs_of mid
-    → PassesTo over first.line old new (InLine first) (LeafAt q)
-ended_here over first old mid new p q utf8 forest i none at source state allocs =
+ended_here : (first : Place) (old mid new : BlockPass) (p q : Place) → IsUtf8 (source_text old) → IsForest (tree_of mid)
+    → IsTried first old mid p → start_at (source_options old) (may_in (source_of old) mid) p ≡ None → q ≡ p → StaysSame mid new
+    → PassesTo (source_of old) first.line old new (InLine first) (LeafAt q)
+ended_here first old mid new p q utf8 forest i none at same =
+    let over : Source = source_of old in
     let stays = no_start over (state_of mid) p utf8 i.here.0 forest i.no_empty first.line i.here.1 i.bare none in
     subst (λ (z : Place). PassesTo over first.line old new (InLine first) (LeafAt z)) (sym at)
     (passes_both over first.line old mid new (InLine first) (InLine p) (LeafAt p) i.opened
-    (passes_state over first.line mid new (InLine p) (LeafAt p) source allocs
-    (subst (λ (z : PassState). ReadsTo over first.line (state_of mid) z (InLine p) (LeafAt p)) (sym state) stays)))
+    (passes_state over first.line mid new (InLine p) (LeafAt p) same.0 same.2
+    (subst (λ (z : PassState). ReadsTo over first.line (state_of mid) z (InLine p) (LeafAt p)) (sym same.1) stays)))
 
 pub returns-in_default-clause-opened : goal.returns-in_default-clause-opened
 returns-in_default-clause-opened c =
-    let over = c.args.self.now.source in
-    let first : Place = c.args.place.now in
     let p : Place = c.open_footnote.new.place in
     let i = at_place (goal.at.returns-in_default-clause-opened c).Then-not-branch in
-    let a = absent over c.open_footnote.new.self c.may_define-may_define.result p c.start_at.new.place c.start_at.result i.opened.source
+    let a = absent c.args.self.now.source c.open_footnote.new.self c.may_define-may_define.result p c.start_at.new.place c.start_at.result i.opened.source
     c.may_define-may_define.ensures
     c.in_default.is c.start_at.ensures in
-    ended_here over first c.args.self.now c.open_footnote.new.self _ p _ c.requires.utf8 c.recall_forest.ensures i a.0 a.1 refl refl refl
+    ended_here c.args.place.now c.args.self.now c.open_footnote.new.self _ p _ c.requires.utf8 c.recall_forest.ensures i a.0 a.1 (refl, refl, refl)
 
 -- a container begins
 record Found (over : Source) (now : BlockPass) (p new : Place) (told : Start) : Type 0 where
@@ -182,12 +181,11 @@ record IsBegun (over : Source) (first : Place) (mid : BlockPass) (p new : Place)
   here : IsNotBefore over.text.now first new
   reads : ReadsTo over first.line (state_of mid) q (InLine p) (after_at new (line_end new) after)
 
-begun : (over : Source) (first : Place) (old mid : BlockPass) (p new : Place) (may : Bool) (r : Option Start) (told : Start) (q : PassState)
-    → IsUtf8 over.text.now → IsForest (tree_of mid) → IsTried over first old mid p → source_of mid ≡ over → may ≡ may_in (source_of mid) mid → r ≡ Some told
-    → MatchOption (start_at (source_of mid).options may p) ((r ≡ None) × (new ≡ p)) (λ s. IsSomeAnd r (StartMatches s) × (new ≡ at_rest p s.rest))
-    → q ≡ start_opened new.line told (line_end new) (state_of mid) → IsBegun over first mid p new told.after q
-begun over first old mid p new may r told q utf8 forest i same may_is is says opened =
-    let f = found over mid may p new r told same may_is is says in
+begun : (first : Place) (old mid : BlockPass) (p new : Place) (told : Start) (q : PassState) → IsUtf8 (source_text old) → IsForest (tree_of mid)
+    → IsTried first old mid p → Found (source_of old) mid p new told → q ≡ start_opened new.line told (line_end new) (state_of mid)
+    → IsBegun (source_of old) first mid p new told.after q
+begun first old mid p new told q utf8 forest i f opened =
+    let over : Source = source_of old in
     let s = opened_start over (state_of mid) p utf8 i.here.0 forest i.no_empty first.line i.here.1 i.bare f.start new told q f.begins
     f.told_is f.new_is opened in
     let line = s.2.1 in
@@ -218,9 +216,10 @@ returns-in_default-after c =
     let p : Place = c.open_footnote.new.place in
     let new : Place = c.start_at.new.place in
     let i = at_place (goal.at.returns-in_default-after c).Then-not-branch in
-    let s = begun over first c.args.self.now c.open_footnote.new.self p new c.may_define-may_define.result c.start_at.result c.in-Some.start
-    c.open_start.new.state c.requires.utf8 c.recall_forest.ensures i i.opened.source c.may_define-may_define.ensures c.in-Some.is
-    c.start_at.ensures c.in_ok-open_start.ensures in
+    let f = found over c.open_footnote.new.self c.may_define-may_define.result p new c.start_at.result c.in-Some.start i.opened.source
+    c.may_define-may_define.ensures c.in-Some.is c.start_at.ensures in
+    let s = begun first c.args.self.now c.open_footnote.new.self p new c.in-Some.start c.open_start.new.state c.requires.utf8 c.recall_forest.ensures i f
+    c.in_ok-open_start.ensures in
     let there : Position = last_at new (line_end new) c.in-Some.start.after in
     let opens = subst (λ (t : Position). ReadsTo over first.line c.open_footnote.new.self.state c.open_start.new.state (InLine p) t)
     (last_is new (line_end new) c.in-Some.start.after c.in_default-after.not-OnLine) s.reads in
@@ -233,7 +232,7 @@ returns-in_default-after c =
 
 -- after a footnote definition or another container
 nested : (c : Joined-not-branch)
-    → IsNested c.args.self.now.source c.args.place.now c.args.self.now c.if-not-branch.self c.loop-self.place c.if-not-branch.place
+    → IsNested c.args.place.now c.args.self.now c.if-not-branch.self c.loop-self.place c.if-not-branch.place
 nested c =
     let over = c.args.self.now.source in
     let first : Place = c.args.place.now in
@@ -248,9 +247,10 @@ nested c =
       | then-not-branch+in-Some+in_ok-open_start+in-OnLine w ↦
           let new : Place = w.start_at.new.place in
           let no = subst (TriesFootnote now mid here p) w.if-not-branch.true tries in
-          let i = tried over first old now mid here p _ w.if-not-branch.true l.here l.no_empty l.opened.source l.opened tries in
-          let s = begun over first old mid p new w.may_define-may_define.result w.start_at.result w.in-Some.start w.open_start.new.state c.requires.utf8
-          w.recall_forest.ensures i i.opened.source w.may_define-may_define.ensures w.in-Some.is w.start_at.ensures w.in_ok-open_start.ensures in
+          let i = tried first old now mid here p _ w.if-not-branch.true l.here l.no_empty l.opened tries in
+          let f = found over mid w.may_define-may_define.result p new w.start_at.result w.in-Some.start i.opened.source w.may_define-may_define.ensures
+          w.in-Some.is w.start_at.ensures in
+          let s = begun first old mid p new w.in-Some.start w.open_start.new.state c.requires.utf8 w.recall_forest.ensures i f w.in_ok-open_start.ensures in
           let opens = subst (λ (a : AfterMarker). ReadsTo over first.line mid.state w.open_start.new.state (InLine p) (after_at new (line_end new) a))
           w.in-OnLine.is s.reads in
           rw (w.self-is, w.place-is) (record {
@@ -261,7 +261,7 @@ nested c =
                 (passes_state over first.line mid _ (InLine p) (InLine new) refl refl opens);
           })
       | else-not-branch w ↦
-          rw (w.self-is, w.place-is) (opens_note over first old now mid here p _ w.if-not-branch.false l.here l.opened.source l.opened tries)
+          rw (w.self-is, w.place-is) (opens_note first old now mid here p _ w.if-not-branch.false l.here l.opened tries)
     ]
 
 pub loop-self-smaller : goal.loop-self-smaller

@@ -1,4 +1,4 @@
-use Rattle.std.proofs.Common.{◌≡◌, ℕ, ◌+◌, ◌<◌, ◌≤◌, drop, IsUtf8, IsCharBoundary, refl, sym, ap, subst, ◌∙◌, arith}
+use Rattle.std.proofs.Common.{◌≡◌, ℕ, ◌+◌, ◌<◌, ◌≤◌, drop, IsUtf8, IsCharBoundary, refl, sym, ap, subst, ◌∙◌, arith, Some}
 use Rattle.first_pass_lines.specs.Lines.{line_len}
 use Rattle.first_pass_lines.specs.Places.{Place, line_end, IsPlaceOf}
 use Rattle.first_pass_open.specs.declared.source.Source.{Source}
@@ -11,7 +11,7 @@ use Rattle.first_pass_blocks.specs.Entering.{EntersLine}
 use Rattle.first_pass_blocks.specs.Positions.{LineAt, InLine, LeafAt, TaskAt, TaggedAt}
 use Rattle.first_pass_blocks.specs.Progress.{PassesTo, ReadsBlockOf}
 use Rattle.first_pass_blocks.specs.Starts.{last_at, IsAfterMarker}
-use Rattle.first_pass_blocks.proofs.LineByLine.BlockRead.{IsOpenedFrom, opened_line, place_between, block_read, line_passed, line_ended}
+use Rattle.first_pass_blocks.proofs.LineByLine.BlockRead.{IsOpenedFrom, opened_line, place_between, block_read, line_passed, line_ended, passes_state}
 use Rattle.first_pass_blocks.proofs.Order.OrderSteps.{line_later}
 use Rattle.first_pass_blocks.proofs.state.BlockPass.parse_block.Goals as goal
 use Rattle.first_pass_blocks.proofs.state.BlockPass.parse_block.Goals.{In_ok-open_containers}
@@ -23,11 +23,16 @@ opened : (c : In_ok-open_containers) (mid : BlockPass) (after here : AfterMarker
     (last_at c.open_containers.new.place (line_end c.open_containers.new.place) after) → after ≡ here
     → IsOpenedFrom c.args.self.now.source c.args.start_ix c.args.self.now c.open_containers.new.self c.open_containers.new.place here
 opened c mid after here source allocs state kept opens is =
-    let over = c.args.self.now.source in
-    opened_line over c.args.start_ix c.args.self.now mid c.open_containers.new.self c.enter_line.result c.in-Some.place c.open_containers.new.place after here
-    source allocs c.in-Some.is
-    (subst (λ (r : PassState). EntersLine over c.args.self.now.state r c.args.start_ix c.enter_line.result) (sym state) c.enter_line.ensures.entered)
-    c.in_ok-open_containers.ensures.place kept opens is
+    let old : BlockPass = c.args.self.now in
+    let over : Source = old.source in
+    let start = c.args.start_ix in
+    let p : Place = c.in-Some.place in
+    let q : Place = c.open_containers.new.place in
+    let entered : EntersLine over old.state mid.state start (Some p) = subst (EntersLine over old.state mid.state start) c.in-Some.is
+    (subst (λ (r : PassState). EntersLine over old.state r start c.enter_line.result) (sym state) c.enter_line.ensures.entered) in
+    subst (IsOpenedFrom over start old c.open_containers.new.self q) is
+    (opened_line start old mid c.open_containers.new.self p q after entered.0
+    (passes_state over start old mid (LineAt start) (InLine p) source allocs entered.2) c.in_ok-open_containers.ensures.place kept opens)
 
 -- reading goes past the line
 passes : (c : In_ok-open_containers) (next : ℕ) → c.args.start_ix + line_len (drop c.args.start_ix c.args.self.now.source.text.now) ≤ next

@@ -1,4 +1,4 @@
-use Rattle.std.proofs.Common.{◌≡◌, ℕ, ◌+◌, ◌<◌, drop, None, IfSome, false, IsCharBoundary, refl, sym, ap, subst, ◌∙◌}
+use Rattle.std.proofs.Common.{◌≡◌, ℕ, ◌+◌, drop, None, false, IsCharBoundary, refl, sym, ap, subst, ◌∙◌}
 use Rattle.first_pass_items.specs.declared.cow_str.CowStr.{CowStr}
 use Rattle.first_pass_labels.specs.declared.label_table.LinkDef.{LinkDef}
 use Rattle.first_pass_lines.specs.Lines.{line_len}
@@ -9,7 +9,7 @@ use Rattle.first_pass_open.specs.declared.source.Source.{Source}
 use Rattle.first_pass_lists.specs.declared.state.PassState.{PassState}
 use Rattle.first_pass_open.proofs.PlaceLemmas.{text_place}
 use Rattle.first_pass_grammar.specs.Definitions.{reference_definition_at}
-use Rattle.first_pass_names.specs.TableEntries.{tables_of}
+use Rattle.first_pass_names.specs.TableEntries.{tables_of, link_entry}
 use Rattle.first_pass_definitions.specs.Found.{IsWritten}
 use Rattle.first_pass_blocks.proofs.LinkDefinitions.WrittenLemmas.{one_written, written_here}
 use Rattle.first_pass_open.specs.Path.{context_of}
@@ -92,12 +92,10 @@ returns-in_default-rest-clause-run c = λ p line begins i.
     let bytes_are : c.as_bytes-bytes.result.now ≡ text = c.as_bytes-bytes.ensures.value ∙ text_is in
     let next_is : next ≡ at + size + line_len (drop (at + size) text) =
     c.next_line-next.ensures.value ∙ ap (λ bs. at + size + line_len (drop (at + size) bs)) bytes_are in
-    let fits = subst (λ z. IfSome z (λ found. (0 < found.0) × IsCharBoundary now.source.text.now (at + found.0))) c.in-Some.is e.fits in
-    let ends : IsCharBoundary text (at + size) = subst (λ (z : Source). IsCharBoundary z.text.now (at + size)) inv.same_source fits.1 in
     let around = context_in first in
     let nested = in_table first.state.tree.nodes first.state.tree.spine in
     let found : ℕ × CowStr × LinkDef = (size, c.in-Some.label, c.in-Some.definition) in
-    let w = found_here first now at c.in_ok-size.field-0 found inv.same_source inv.same_state e.value c.in-Some.is in
+    let w = found_here first now at c.in_ok-size.field-0 found inv.same_source inv.same_state e.value e.fits c.in-Some.is in
     let f = c.in_ok-rest.ensures in
     let told_is = c.in_ok-define_link.ensures.tables in
     let path_is = ap (λ (z : Source). context_of z.options now.state.tree) inv.same_source
@@ -105,12 +103,11 @@ returns-in_default-rest-clause-run c = λ p line begins i.
     let rest_is : c.rest_of.result.now ≡ drop next text = c.rest_of.ensures.value ∙ ap (drop next) bytes_are in
     let said = answered (context_in now) around c.rest_of.result.now (drop next text) c.in_ok-rest.rest path_is rest_is f.value in
     let r = inv.so_far p line begins i in
-    let one = one_more text around nested r.0 at w.0 found (tables_of now.allocs)
-    (tables_of c.define_link.new.self) c.requires.utf8 r.3.stands r.2 w.1 w.2 fits.0 ends told_is in
+    let one = one_more text around nested r.0 at found next c.requires.utf8 r.3.stands r.2 w next_is in
     let stops = stops_by (stops_at around (drop next text)) (rest_at around (drop next text)) c.in_ok-rest.rest said c.in_default-rest.is in
-    run_ends text around nested p r.0 (at + size) c.loop-size.line next (tables_of first.allocs) (tables_of now.allocs)
-    (tables_of c.define_link.new.self) next_is
-    (sym r.1) (λ within. stops) r.3 one
+    run_ends text around nested p c.loop-size.line next (tables_of first.allocs) (tables_of c.define_link.new.self)
+    (record { place = r.0; mid = tables_of now.allocs; entry = link_entry (found.1, found.2); so_far = r.3; one = one; defined = λ plain. told_is }) (sym r.1)
+    (λ within. stops)
 
 pub loop-size-preserved : goal.loop-size-preserved
 loop-size-preserved c =
@@ -126,12 +123,10 @@ loop-size-preserved c =
     let bytes_are : c.as_bytes-bytes.result.now ≡ text = c.as_bytes-bytes.ensures.value ∙ text_is in
     let next_is : next ≡ at + size + line_len (drop (at + size) text) =
     c.next_line-next.ensures.value ∙ ap (λ bs. at + size + line_len (drop (at + size) bs)) bytes_are in
-    let fits = subst (λ z. IfSome z (λ found. (0 < found.0) × IsCharBoundary now.source.text.now (at + found.0))) c.in-Some.is e.fits in
-    let ends : IsCharBoundary text (at + size) = subst (λ (z : Source). IsCharBoundary z.text.now (at + size)) inv.same_source fits.1 in
     let around = context_in first in
     let nested = in_table first.state.tree.nodes first.state.tree.spine in
     let found : ℕ × CowStr × LinkDef = (size, c.in-Some.label, c.in-Some.definition) in
-    let w = found_here first now at c.in_ok-size.field-0 found inv.same_source inv.same_state e.value c.in-Some.is in
+    let w = found_here first now at c.in_ok-size.field-0 found inv.same_source inv.same_state e.value e.fits c.in-Some.is in
     let f = c.in_ok-rest.ensures in
     let told_is = c.in_ok-define_link.ensures.tables in
     let path_is = ap (λ (z : Source). context_of z.options now.state.tree) inv.same_source
@@ -140,7 +135,7 @@ loop-size-preserved c =
     let said = answered (context_in now) around c.rest_of.result.now (drop next text) c.in_ok-rest.rest path_is rest_is f.value in
     let goes = goes_by (stops_at around (drop next text)) (rest_at around (drop next text)) c.in-Some-rest.rest c.in_ok-rest.rest said c.in-Some-rest.is in
     let within = line_is_there text around next goes.0 in
-    let begins : IsCharBoundary text next = subst (IsCharBoundary text) (sym next_is) (after_boundary text (at + size) c.requires.utf8 ends) in
+    let begins : IsCharBoundary text next = subst (IsCharBoundary text) (sym next_is) (after_boundary text (at + size) c.requires.utf8 w.boundary) in
     let there = (text_place text next around.path c.requires.utf8 begins).0 in
     let here : offset (text_at text around.path next) ≡ next + c.bytes_scanned.result =
     ap (λ (z : Rest). next + z.taken) (sym goes.1) ∙ ap (λ n. next + n) (sym c.bytes_scanned.ensures) in
@@ -152,12 +147,18 @@ loop-size-preserved c =
       boundary = subst (IsCharBoundary text) here there.boundary;
       so_far = λ p line first_at i.
           let r = inv.so_far p line first_at i in
-          let one = one_more text around nested r.0 at w.0 found (tables_of now.allocs)
-          (tables_of c.define_link.new.self) c.requires.utf8 r.3.stands r.2 w.1 w.2 fits.0 ends told_is in (
+          let one = one_more text around nested r.0 at found next c.requires.utf8 r.3.stands r.2 w next_is in (
             text_at text around.path next,
             refl,
             here,
-            run_goes_on text around nested p r.0 (at + size) next (tables_of first.allocs) (tables_of now.allocs)
-                (tables_of c.define_link.new.self) c.requires.utf8 next_is within goes.0 r.3 one,
+            run_goes_on text around nested p next (tables_of first.allocs) (tables_of c.define_link.new.self) c.requires.utf8 within goes.0
+                (record {
+                  place = r.0;
+                  mid = tables_of now.allocs;
+                  entry = link_entry (found.1, found.2);
+                  so_far = r.3;
+                  one = one;
+                  defined = λ plain. told_is;
+                }),
           );
     }

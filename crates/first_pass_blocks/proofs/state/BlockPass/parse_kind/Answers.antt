@@ -7,7 +7,7 @@ use Rattle.first_pass_grammar.specs.Completion.{lines_from}
 use Rattle.first_pass_names.specs.TableEntries.{names_of, tables_of}
 use Rattle.first_pass_names.proofs.NameLemmas.{extends_none}
 use Rattle.first_pass_open.proofs.PlaceLemmas.{all_keep, place_end}
-use Rattle.first_pass_lists.specs.Closing.{list_finished, blank_read}
+use Rattle.first_pass_lists.specs.Closing.{list_finished, blank_read, with_tree}
 use Rattle.first_pass_lists.specs.declared.state.PassState.{PassState}
 use Rattle.first_pass_open.specs.Between.{line_end_at}
 use Rattle.first_pass_kinds.specs.BlockStart.{IsFoundAt, kind_of, marked_kind}
@@ -90,14 +90,20 @@ returns-in_ok-next-in-HtmlToBlank c =
     let f : PassState = c.finish_list.new.self in
     let rem : f ≡ q = c.finish_list.ensures ∙ ap (λ (z : Place). list_finished z.line old) c.place-in-HtmlToBlank.view_is in
     let e = c.in_ok-next-in-HtmlToBlank.ensures in
-    html_read self _ p c.args.at c.args.columns c.in_ok-next-in-HtmlToBlank.next c.requires.utf8 c.requires.place c.requires.no_empty c.recall_forest.ensures
+    let tree = c.parse_html_block_type_6_or_7.new.tree in
+    html_read self _ p c.args.at c.args.columns c.in_ok-next-in-HtmlToBlank.next
+    (record { utf8 = c.requires.utf8; place = c.requires.place; forest = c.recall_forest.ensures; none = c.requires.no_empty })
     (subst (λ (z : PassState). IsForest z.tree) rem c.recall_forest-in-HtmlToBlank.ensures)
-    (subst (IsKind self.source.options p.rest) (ap kind_of c.in-HtmlToBlank.is) c.requires.found.kind) c.requires.found.columns_are c.requires.found.at_is
-    refl e.more (ap (λ (z : PassState). z.begin_list_item) rem) (ap (λ (z : PassState). z.blank) rem) e.boundary
-    (subst (λ (z : PassState). AddsHtml self.source.text.now self.source.options (names_of c.parse_html_block_type_6_or_7.new.allocs) c.args.at c.args.columns
-    (unindented p) z.tree c.parse_html_block_type_6_or_7.new.tree c.in_ok-next-in-HtmlToBlank.next) rem
-    (e.block (unindented p) (html_stands self.source.text.now p
-    c.args.at c.requires.utf8 c.requires.place c.requires.found.at_is)))
+    (subst (λ x. IsFoundAt self.source.options p x c.args.columns c.args.at) c.in-HtmlToBlank.is c.requires.found)
+    (record {
+      source = refl;
+      more = e.more;
+      state = ap (λ (z : PassState). with_tree z tree) rem;
+      following = e.boundary;
+      block = subst (λ (z : PassState). AddsHtml self.source.text.now self.source.options (names_of c.parse_html_block_type_6_or_7.new.allocs) c.args.at
+          c.args.columns (unindented p) z.tree tree c.in_ok-next-in-HtmlToBlank.next) rem
+          (e.block (unindented p) (html_stands self.source.text.now p c.args.at c.requires.utf8 c.requires.place c.requires.found.at_is));
+    })
 
 pub append_marked-requires : goal.append_marked-requires
 append_marked-requires c =
@@ -135,6 +141,12 @@ returns-in_ok-next-in-Marked c =
       boundary = e.boundary;
       fits = e.fits;
     } in
-    leaf_read self new p (marked_kind leaf) next c.requires.place c.requires.no_empty c.recall_forest.ensures
-    (subst (IsKind options p.rest) (ap kind_of c.in-Marked.is) c.requires.found.kind) (marked_some leaf) (marked_other leaf) (marked_no_run leaf)
+    leaf_read self new p (marked_kind leaf) next
+    (record { utf8 = c.requires.utf8; place = c.requires.place; forest = c.recall_forest.ensures; none = c.requires.no_empty })
+    (record {
+      is_kind = subst (IsKind options p.rest) (ap kind_of c.in-Marked.is) c.requires.found.kind;
+      some = marked_some leaf;
+      other = marked_other leaf;
+      no_run = marked_no_run leaf;
+    })
     (subst (λ (r : PassState). AddsLeaf (record self { state = r }) new p (marked_kind leaf) next) rem adds)

@@ -67,8 +67,8 @@ returns c =
       boundary = e.block.boundary;
       ready = λ names more ready. let d = document text options names in
           subst (λ z. Ready d z new (lines_from text next)) (sym (ap tables_in e.more.entries))
-          (ready_text d (tables_of self.allocs) old tree p at next c.args.marker e.block.items mark there i (e.block.is_text names more) e.block.tree_is
-          none ready);
+          (ready_text d (tables_of self.allocs) old new p next c.args.marker e.block.items mark (e.block.is_text names more (unindented p) i (sym there))
+          (record { tree_is = e.block.tree_is; none = none; blank = refl }) ready);
       named = λ h. block_added now (names_of self.allocs) old.tree tree e.block.items e.more.names e.block.tree_is
           (text_named (document text options now) _ (unindented p) (Some c.args.marker) _ _ (task_has_none c.args.marker.body mark)
           (e.block.is_text now (extends_none now) (unindented p) i (sym there))) h;
