@@ -51,6 +51,15 @@ IS_AT(counts, definitions, 16);
 IS_AT(counts, links, 24);
 IS_AT(counts, names, 32);
 HAS_SIZE(counts, 40);
+IS_AT(arrays, nodes, 0);
+IS_AT(arrays, node_room, 8);
+IS_AT(arrays, attributes, 16);
+IS_AT(arrays, attribute_room, 24);
+IS_AT(arrays, definitions, 32);
+IS_AT(arrays, definition_room, 40);
+IS_AT(arrays, names, 48);
+IS_AT(arrays, name_room, 56);
+HAS_SIZE(arrays, 64);
 IS_AT(range, start, 0);
 IS_AT(range, end, 8);
 HAS_SIZE(range, 16);
@@ -188,6 +197,13 @@ static struct first_pass_counts guess(size_t length) {
     rooms.definitions = dense / 64 + 8;
     rooms.names = dense / 2 + bytes / 16 + 128;
     return rooms;
+}
+
+uint32_t first_pass_read_arrays(const uint8_t *text, size_t length, uint32_t options,
+                                const struct first_pass_arrays *arrays, struct first_pass_counts *counts) {
+    return first_pass_read(text, length, options, arrays->nodes, arrays->node_room, arrays->attributes,
+                           arrays->attribute_room, arrays->definitions, arrays->definition_room, arrays->names,
+                           arrays->name_room, counts);
 }
 
 /* A text, with its options and the allocator for its tree. */

@@ -229,6 +229,33 @@ FIRST_PASS_API uint32_t first_pass_read(const uint8_t *text, size_t length, uint
                                         struct first_pass_definition *definitions, size_t definition_room,
                                         uint8_t *names, size_t name_room, struct first_pass_counts *counts);
 
+/** The arrays of first_pass_read(), each with its room: 64 bytes. */
+struct first_pass_arrays {
+    struct first_pass_node *nodes;             /**< for the nodes */
+    size_t node_room;                          /**< how many nodes it can hold */
+    struct first_pass_attribute *attributes;   /**< for the attributes of all headings */
+    size_t attribute_room;                     /**< how many attributes it can hold */
+    struct first_pass_definition *definitions; /**< for the link definitions and the labels of footnotes */
+    size_t definition_room;                    /**< how many definitions and labels it can hold */
+    uint8_t *names;                            /**< for the bytes that the records name */
+    size_t name_room;                          /**< how many bytes it can hold */
+};
+
+/**
+ * @brief Reads a text into arrays that are used for many texts. It does the same as first_pass_read() with fewer
+ * arguments, each of which takes time in some languages.
+ *
+ * @param[in] text bytes of UTF-8
+ * @param[in] length how many there are
+ * @param[in] options values of enum first_pass_option, joined by `|`
+ * @param[in] arrays the arrays and their rooms, as for first_pass_read()
+ * @param[out] counts as for first_pass_read()
+ * @return enum first_pass_status, as for first_pass_read()
+ */
+FIRST_PASS_API uint32_t first_pass_read_arrays(const uint8_t *text, size_t length, uint32_t options,
+                                               const struct first_pass_arrays *arrays,
+                                               struct first_pass_counts *counts);
+
 /**
  * @brief Writes the case folding of a label, by which labels match and link definitions are sorted. This call is
  * proved.

@@ -1,6 +1,7 @@
 /*
- * first_pass_read and first_pass_fold over memory that ends at a page: with exactly the rooms that a text takes, with
- * each room one smaller, and with none. The guess of first_pass_parse, and the size of the block that it keeps.
+ * first_pass_read, first_pass_read_arrays and first_pass_fold over memory that ends at a page: with exactly the rooms
+ * that a text takes, with each room one smaller, and with none. The guess of first_pass_parse, and the size of the
+ * block that it keeps.
  */
 #define _GNU_SOURCE
 #include "check.h"
@@ -13,7 +14,11 @@
 static const size_t sizes[ROOMS] = {sizeof(struct first_pass_node), sizeof(struct first_pass_attribute),
                                     sizeof(struct first_pass_definition), 1};
 
-/* Reads a text into arrays of these rooms, each at the end of a page. */
+static bool same_counts(const struct first_pass_counts *one, const struct first_pass_counts *other) {
+    return memcmp(one, other, sizeof *one) == 0;
+}
+
+/* Reads a text into arrays of these rooms, each at the end of a page, by both calls. */
 static uint32_t read_at_edges(const char *text, size_t length, const size_t rooms[ROOMS], void *arrays[ROOMS],
                               struct first_pass_counts *counts) {
     uint8_t *copy = edge_memory(length);
@@ -24,6 +29,11 @@ static uint32_t read_at_edges(const char *text, size_t length, const size_t room
     }
     uint32_t status = first_pass_read(copy, length, FIRST_PASS_OPT_ALL, arrays[0], rooms[0], arrays[1], rooms[1],
                                       arrays[2], rooms[2], arrays[3], rooms[3], counts);
+    const struct first_pass_arrays lent = {arrays[0], rooms[0], arrays[1], rooms[1],
+                                           arrays[2], rooms[2], arrays[3], rooms[3]};
+    struct first_pass_counts again = {0};
+    CHECK(first_pass_read_arrays(copy, length, FIRST_PASS_OPT_ALL, &lent, &again) == status);
+    CHECK(same_counts(&again, counts));
     free_edge_memory(copy, length);
     return status;
 }
@@ -32,10 +42,6 @@ static void free_arrays(const size_t rooms[ROOMS], void *arrays[ROOMS]) {
     for (int i = 0; i < ROOMS; i++) {
         free_edge_memory(arrays[i], rooms[i] * sizes[i]);
     }
-}
-
-static bool same_counts(const struct first_pass_counts *one, const struct first_pass_counts *other) {
-    return memcmp(one, other, sizeof *one) == 0;
 }
 
 /* Whether the arrays hold the records of a tree. */

@@ -35,9 +35,9 @@ def _open() -> ctypes.CDLL:
 _library = _open()
 VERSION: str = _library.first_pass_version().decode()
 
-# Its arguments are the text and its length, the options, four arrays, each with its room, and the counts. They have no
-# types here: a caller makes objects of ctypes for its memory once, which would be converted again at each call.
-read = _library.first_pass_read
+# Its arguments are the text and its length, the options, the arrays with their rooms, and the counts. They have no types
+# here: a caller makes objects of ctypes for its memory once, which would be converted again at each call.
+read = _library.first_pass_read_arrays
 read.restype = ctypes.c_uint32
 
 _fold = _library.first_pass_fold

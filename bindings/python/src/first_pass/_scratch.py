@@ -15,8 +15,10 @@ from ._records import ATTRIBUTE, COUNTS, DEFINITION, NODE
 KEPT = 64 << 20
 # The trees of most texts up to this length have room in the first memory of a thread.
 _FIRST_LENGTH = 64 << 10
-# Most texts have at least so many bytes for each node.
+# The least number of bytes for each node that most texts have.
 _BYTES_A_NODE = 6
+# The sizes of records. A name of the module is found faster than a member of one.
+_NODE, _ATTRIBUTE, _DEFINITION = NODE.size, ATTRIBUTE.size, DEFINITION.size
 _ALIGNMENT = 64
 # The last flag is MAP_NORESERVE, which mmap has no name for before Python 3.13: pages that are never written are free.
 _MAPPING = mmap.MAP_PRIVATE | mmap.MAP_ANONYMOUS | 0x4000
@@ -32,7 +34,7 @@ class Scratch:
     def __init__(self, nodes: int, attributes: int, definitions: int, names: int) -> None:
         self._rooms = (nodes, attributes, definitions, names)
         self.fits_length = nodes * _BYTES_A_NODE
-        sizes = (COUNTS.size, nodes * NODE.size, attributes * ATTRIBUTE.size, definitions * DEFINITION.size, names)
+        sizes = (COUNTS.size, nodes * _NODE, attributes * _ATTRIBUTE, definitions * _DEFINITION, names)
         places = [0]
         for size in sizes:
             places.append(places[-1] + -(-size // _ALIGNMENT) * _ALIGNMENT)
@@ -43,10 +45,9 @@ class Scratch:
         except OSError as error:
             raise MemoryError("out of memory") from error
         address = ctypes.addressof(ctypes.c_char.from_buffer(self._memory))
-        arguments: list[ctypes.c_void_p | ctypes.c_size_t] = []
-        for place, room in zip(self._places, self._rooms):
-            arguments += ctypes.c_void_p(address + place), ctypes.c_size_t(room)
-        self._arguments = (*arguments, ctypes.c_void_p(address))
+        arrays = [word for place, room in zip(self._places, self._rooms) for word in (address + place, room)]
+        self._arrays = (ctypes.c_size_t * len(arrays))(*arrays)
+        self._arguments = (ctypes.c_void_p(ctypes.addressof(self._arrays)), ctypes.c_void_p(address))
         self._length = ctypes.c_size_t()
 
     @classmethod
@@ -74,10 +75,10 @@ class Scratch:
         at, at_attributes, at_definitions, at_names = self._places
         return Document(
             source,
-            memory[at : at + nodes * NODE.size],
+            memory[at : at + nodes * _NODE],
             memory[at_names : at_names + names] if names else b"",
-            memory[at_attributes : at_attributes + attributes * ATTRIBUTE.size] if attributes else b"",
-            memory[at_definitions : at_definitions + definitions * DEFINITION.size] if definitions else b"",
+            memory[at_attributes : at_attributes + attributes * _ATTRIBUTE] if attributes else b"",
+            memory[at_definitions : at_definitions + definitions * _DEFINITION] if definitions else b"",
         )
 
 
