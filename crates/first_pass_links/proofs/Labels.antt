@@ -423,9 +423,11 @@ run_first h text at next n r some l =
     ])
 
 run_reads_by : (x : Bool) (h : List ℕ → Option ℕ) (t : Bool) (text : List ℕ) (at next characters : ℕ) → (next == at + 1 && slice_index text at == 32) ≡ x
-    → at < length text → IsWhiteRun h text at next characters → 0 < characters → (characters ≡ 1 → slice_index text at ≡ 32 → next ≡ at + 1)
-    → is_ascii_white (slice_index text next) ≡ false → Reads h t text at (space_unit text at next characters)
-run_reads_by x h t text at next characters kind l r some lone e =
+    → IsWhiteRun h text at next characters → EndsWhiteRun text at next characters → is_ascii_white (slice_index text next) ≡ false
+    → Reads h t text at (space_unit text at next characters)
+run_reads_by x h t text at next characters kind r ends e =
+    let some = ends.some in
+    let l : at < length text = omega (arith, ends.later, ends.within) in
     let f = space_fields text at next characters x kind in
     let X = bytes_of (left_at h text next) in
     let c = run_counts (bytes_of r.run) r.white in
@@ -442,7 +444,7 @@ run_reads_by x h t text at next characters kind l r some lone e =
     (ap (λ n. label_len (bytes_of r.run ++ bytes_of (left_at h text n))) f.0 ∙ upto-run (bytes_of r.run) X r.white ∙ ap (λ n. n + label_len X) len
     ∙ ap (λ n. length r.run + label_len (bytes_of (left_at h text n))) (sym f.0))
     (run_lighter x text at next characters (bytes_of r.run) kind l
-    (λ no. run_heavier text at next characters (bytes_of r.run) (len ∙ count) r.white (run_first h text at next characters r some l) some (kind ∙ no) lone))
+    (λ no. run_heavier text at next characters (bytes_of r.run) (len ∙ count) r.white (run_first h text at next characters r some l) some (kind ∙ no) ends.lone))
     (λ n. ap (λ k. shown t (bytes_of r.run ++ take n (bytes_of (left_at h text k)))) f.0
     ∙ shown-run t (bytes_of r.run) (take n X) r.white (omega arith) (taken_fails is_ascii_white refl n X first')
     ∙ ap (λ xs. xs ++ shown t (take n X)) (sym (read-space text at next characters x kind l))
@@ -544,9 +546,9 @@ pipe_escape_reads h text at l e p q =
 
 -- a run of white space
 pub run_reads : (h : List ℕ → Option ℕ) (t : Bool) (text : List ℕ) (at next characters : ℕ)
-    → at < length text → IsWhiteRun h text at next characters → 0 < characters → (characters ≡ 1 → slice_index text at ≡ 32 → next ≡ at + 1)
-    → is_ascii_white (slice_index text next) ≡ false → Reads h t text at (space_unit text at next characters)
-run_reads h t text at next characters l r some lone e = run_reads_by _ h t text at next characters refl l r some lone e
+    → IsWhiteRun h text at next characters → EndsWhiteRun text at next characters → is_ascii_white (slice_index text next) ≡ false
+    → Reads h t text at (space_unit text at next characters)
+run_reads h t text at next characters r ends e = run_reads_by _ h t text at next characters refl r ends e
 
 le-leb : (a b : ℕ) → a ≤ b → nat_le a b ≡ true
 le-leb a b h = grind (arith, nat_tests)

@@ -136,19 +136,23 @@ escape_on at b c bs g on =
     rw (upto-escape ends_line_label b c bs g, j, upto-escape is_bracket b c (bytes_of cs) g)
     (two_more cs bs at b c (label_len (bytes_of cs)) (unescaped_upto ends_line_label 0 bs) on)
 
-same_by : (l g s k : Bool) (at b : ℕ) (bs : List ℕ) → ends_line b bs ≡ l → begins_escape (b ∷ bs) ≡ g → ends_line_label b ≡ s → is_bracket b ≡ k
+-- at a byte that ends a label, and no line
+at_label_end : (k : Bool) (at b : ℕ) (bs : List ℕ) → ends_line b bs ≡ false → ends_line_label b ≡ true → is_bracket b ≡ k → SameFrom at (b ∷ bs)
+at_label_end true at b bs e h i = at_bracket at b bs e i
+at_label_end false at b bs e h i = at_return at b bs e i h
+
+same_by : (l g s : Bool) (at b : ℕ) (bs : List ℕ) → ends_line b bs ≡ l → begins_escape (b ∷ bs) ≡ g → ends_line_label b ≡ s
     → SameFrom (at + 1) bs → SameFrom (at + 1 + 1) (drop 1 bs) → SameFrom at (b ∷ bs)
-same_by true g s k at b bs e f h i on on' = at_end at b bs e
-same_by false true s k at b [] e f h i on on' = let z = second b [] f in absurd (omega arith)
-same_by false true s k at b (c ∷ cs) e f h i on on' = escape_on at b c cs f on'
-same_by false false true true at b bs e f h i on on' = at_bracket at b bs e i
-same_by false false true false at b bs e f h i on on' = at_return at b bs e i h
-same_by false false false k at b bs e f h i on on' = byte_on at b bs e f h on
+same_by true g s at b bs e f h on on' = at_end at b bs e
+same_by false true s at b [] e f h on on' = let z = second b [] f in absurd (omega arith)
+same_by false true s at b (c ∷ cs) e f h on on' = escape_on at b c cs f on'
+same_by false false true at b bs e f h on on' = at_label_end _ at b bs e h refl
+same_by false false false at b bs e f h on on' = byte_on at b bs e f h on
 
 same_label : (at : ℕ) (xs : List ℕ) → SameFrom at xs
 same_label at [] = same_nil at
-same_label at (b ∷ []) = same_by _ _ _ _ at b [] refl refl refl refl (same_nil (at + 1)) (same_nil (at + 1 + 1))
-same_label at (b ∷ c ∷ cs) = same_by _ _ _ _ at b (c ∷ cs) refl refl refl refl (same_label (at + 1) (c ∷ cs)) (same_label (at + 1 + 1) cs)
+same_label at (b ∷ []) = same_by _ _ _ at b [] refl refl refl (same_nil (at + 1)) (same_nil (at + 1 + 1))
+same_label at (b ∷ c ∷ cs) = same_by _ _ _ at b (c ∷ cs) refl refl refl (same_label (at + 1) (c ∷ cs)) (same_label (at + 1 + 1) cs)
 
 -- the length of a label without a line ending, after its `[` and before a `]`
 abbrev pub line_label_len : List ℕ → ℕ

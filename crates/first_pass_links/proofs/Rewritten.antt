@@ -211,27 +211,34 @@ track_written h t text at same k n = λ e.
     let z : weight (k.read ++ shown t B) ≡ weight (k.done ++ B) = ap weight (sym r) ∙ ap (λ xs. weight (shown t xs)) (sym is) ∙ ap weight e ∙ ap weight is in
     elim k.lighter [ inl s ↦ n s | inr less ↦ omega arith ]
 
+-- white space from an offset up to a line ending at `next`
+record EndsLineAfter (h : List ℕ → Option ℕ) (text : List ℕ) (at next : ℕ) : Type 0 where
+  characters : ℕ
+  white : IsWhiteRun h text at next characters
+  within : next < length text
+  line_end : ends_line (slice_index text next) (drop (next + 1) text) ≡ true
+
 -- the handler fails: no bracket comes before, or the line ending is part of the label
-stop_by : (o : Option ℕ) (h : List ℕ → Option ℕ) (t : Bool) (text : List ℕ) (at next n : ℕ) (same : Type 0) (k : IsTracked h t text at same)
-    (r : IsWhiteRun h text at next n)
-    → next < length text → ends_line (slice_index text next) (drop (next + 1) text) ≡ true → h (drop (next + 1) text) ≡ o
-    → IsRewritten h t text ⊎ HasNoBracket h text
-stop_by None h t text at next n same k r l e f =
+stop_by : (o : Option ℕ) (h : List ℕ → Option ℕ) (t : Bool) (text : List ℕ) (at next : ℕ) (same : Type 0) (k : IsTracked h t text at same)
+    → EndsLineAfter h text at next → h (drop (next + 1) text) ≡ o → IsRewritten h t text ⊎ HasNoBracket h text
+stop_by None h t text at next same k w f =
+    let r = w.white in
     let R = bytes_of r.run in
-    let X : all_from h text at ≡ R = ap bytes_of (r.joins ∙ ap (λ cs. r.run ++ cs) (left-stop h text next l e f) ∙ append-nil r.run) in
+    let X : all_from h text at ≡ R = ap bytes_of (r.joins ∙ ap (λ cs. r.run ++ cs) (left-stop h text next w.within w.line_end f) ∙ append-nil r.run) in
     let u = ap label_len (X ∙ sym (append-nil R)) ∙ upto-run R [] r.white in
     let none : label_len [] ≡ 0 = upto-nil is_bracket in
     let p = k.passed in
     let q = ap length k.whole ∙ length-append k.done (all_from h text at) in
     let m = ap length X in
     inr (omega arith)
-stop_by (Some m) h t text at next n same k r l e f =
+stop_by (Some m) h t text at next same k w f =
+    let r = w.white in
     let b = get_or text next 0 in
     let R = bytes_of r.run in
     let Y = all_from h text (next + 1 + m) in
-    let X : all_from h text at ≡ R ++ b ∷ Y = ap bytes_of (r.joins ∙ ap (λ cs. r.run ++ cs) (left-end h text next m l e f))
+    let X : all_from h text at ≡ R ++ b ∷ Y = ap bytes_of (r.joins ∙ ap (λ cs. r.run ++ cs) (left-end h text next m w.within w.line_end f))
     ∙ map-append (λ (c : ℕ × ℕ). c.1) r.run ((next, b) ∷ left_at h text (next + 1 + m)) in
-    let s = line_end_facts b (drop (next + 1) text) e in
+    let s = line_end_facts b (drop (next + 1) text) w.line_end in
     let one : 1 + label_len Y ≡ suc (label_len Y) = omega arith in
     let len : label_len (R ++ b ∷ Y) ≡ length R + suc (label_len Y) =
     upto-run R (b ∷ Y) r.white ∙ ap (λ j. length R + j) (upto-byte is_bracket b Y (rw s.2) s.3 ∙ one) in
@@ -244,7 +251,10 @@ stop_by (Some m) h t text at next n same k r l e f =
 
 pub track_stop : (h : List ℕ → Option ℕ) (t : Bool) (text : List ℕ) (at : ℕ) (same : Type 0) (post : Bor (List ℕ) → Result (Option ℕ) AllocError → Type 0)
     → IsTracked h t text at same → StopsByError text at post → AnswersWith text h post → CanErr h t text post
-track_stop h t text at same post k s a = elim (stop_by _ h t text at s.next s.characters same k (s.run h a) s.stops.within s.stops.line_end refl) [
-  | inl z ↦ inl z
-  | inr z ↦ inr (z, (s.next, s.stops))
-]
+track_stop h t text at same post k s a =
+    let w : EndsLineAfter h text at s.next =
+    record { characters = s.characters; white = s.run h a; within = s.stops.within; line_end = s.stops.line_end } in
+    elim (stop_by _ h t text at s.next same k w refl) [
+      | inl z ↦ inl z
+      | inr z ↦ inr (z, (s.next, s.stops))
+    ]

@@ -228,23 +228,27 @@ counted_plain deepest b bs p alone i =
 plain_from : (b : ℕ) → ends_run b ≡ false → (b == 40) ≡ false → (b == 41) ≡ false → is_run_byte b ≡ true
 plain_from b x y z = rw (x, y, z) refl
 
-counted_byte : (x y z w : Bool) (deepest b : ℕ) (bs : List ℕ)
-    → ends_run b ≡ x → begins_escape (b ∷ bs) ≡ y → (b == 40) ≡ z → (b == 41) ≡ w → Counted deepest bs → Counted deepest (drop 1 bs) → Counted deepest (b ∷ bs)
-counted_byte true y z w deepest b bs hx hy hz hw i j = λ k d n e h. none_open k d n (b ∷ bs) (rw hx refl) (sym (run-end deepest k b bs hx) ∙ h)
-counted_byte false true z w deepest b bs hx hy hz hw i j =
+-- a byte that is not escaped, and ends no run
+counted_unescaped : (z w : Bool) (deepest b : ℕ) (bs : List ℕ)
+    → ends_run b ≡ false → begins_escape (b ∷ bs) ≡ false → (b == 40) ≡ z → (b == 41) ≡ w → Counted deepest bs → Counted deepest (b ∷ bs)
+counted_unescaped true w deepest b bs hx hy hz hw i = subst (λ x. Counted deepest (x ∷ bs)) (sym (eqb-true b 40 hz)) (counted_open deepest bs i)
+counted_unescaped false true deepest b bs hx hy hz hw i = subst (λ x. Counted deepest (x ∷ bs)) (sym (eqb-true b 41 hw)) (counted_close deepest bs i)
+counted_unescaped false false deepest b bs hx hy hz hw i = counted_plain deepest b bs (plain_from b hx hz hw) hy i
+
+counted_byte : (x y : Bool) (deepest b : ℕ) (bs : List ℕ)
+    → ends_run b ≡ x → begins_escape (b ∷ bs) ≡ y → Counted deepest bs → Counted deepest (drop 1 bs) → Counted deepest (b ∷ bs)
+counted_byte true y deepest b bs hx hy i j = λ k d n e h. none_open k d n (b ∷ bs) (rw hx refl) (sym (run-end deepest k b bs hx) ∙ h)
+counted_byte false true deepest b bs hx hy i j =
     let e = eqb-true b 92 (and_parts _ _ hy).0 in
     subst (λ x. Counted deepest (x ∷ bs)) (sym e) (counted_escape deepest bs (ap (λ x. begins_escape (x ∷ bs)) (sym e) ∙ hy) j)
-counted_byte false false true w deepest b bs hx hy hz hw i j = subst (λ x. Counted deepest (x ∷ bs)) (sym (eqb-true b 40 hz)) (counted_open deepest bs i)
-counted_byte false false false true deepest b bs hx hy hz hw i j =
-    subst (λ x. Counted deepest (x ∷ bs)) (sym (eqb-true b 41 hw)) (counted_close deepest bs i)
-counted_byte false false false false deepest b bs hx hy hz hw i j = counted_plain deepest b bs (plain_from b hx hz hw) hy i
+counted_byte false false deepest b bs hx hy i j = counted_unescaped _ _ deepest b bs hx hy refl refl i
 
 counted_upto : (m deepest : ℕ) (bs : List ℕ) → length bs ≤ m → Counted deepest bs
 counted_upto m deepest [] l = λ k d n e h. none_open k d n [] refl (sym (run-nil deepest k) ∙ h)
 counted_upto zero deepest (b ∷ bs) l = absurd (omega arith)
 counted_upto (suc m) deepest (b ∷ bs) l =
     let d = length-drop 1 bs in
-    counted_byte _ _ _ _ deepest b bs refl refl refl refl (counted_upto m deepest bs (omega arith)) (counted_upto m deepest (drop 1 bs) (omega arith))
+    counted_byte _ _ deepest b bs refl refl (counted_upto m deepest bs (omega arith)) (counted_upto m deepest (drop 1 bs) (omega arith))
 
 take_all : (xs ys : List ℕ) → (take (length xs) (xs ++ ys) ≡ xs) × (drop (length xs) (xs ++ ys) ≡ ys)
 take_all [] ys = (refl, refl)

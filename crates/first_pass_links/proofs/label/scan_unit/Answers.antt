@@ -15,7 +15,7 @@ returns-in-Some-clause-reads g c =
     let stops = rw c.in-Some.is at c.in_ok-next.ensures.ends in
     let reads = rw c.in-Some.is at c.in_ok-next.ensures.reads in
     λ h a. subst (Reads h c.args.in_table c.args.bytes.now c.args.at) (sym c.space_unit.ensures)
-    (run_reads h c.args.in_table c.args.bytes.now c.args.at c.in-Some.next c.in-Some.characters c.requires.within (reads h a) ends.some ends.lone stops)
+    (run_reads h c.args.in_table c.args.bytes.now c.args.at c.in-Some.next c.in-Some.characters (reads h a) ends stops)
 
 pub returns-in-None-clause-none : goal.returns-in-None-clause-none
 returns-in-None-clause-none g c =
