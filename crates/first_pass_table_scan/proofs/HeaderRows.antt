@@ -5,7 +5,7 @@ use Rattle.std.specs.Option.{option_map_or}
 use Rattle.std.specs.List.{prefix_len, take_while, position_or_len}
 use Rattle.std.proofs.lemmas.List.{drop_more, drop_all, take-take}
 use Rattle.std.proofs.lemmas.List.Folds.{length-prefix_len}
-use Rattle.first_pass_items.specs.Bytes.{backslash, pipe}
+use Rattle.first_pass_items.specs.Bytes.{backslash}
 use Rattle.first_pass_lines.specs.Lines.{is_content}
 use Rattle.first_pass_table_scan.specs.TableHead.{is_pipe, pipes_after, pipes_of, last_pipe_after, header_columns, columns_by_pipes, head_columns}
 
@@ -96,36 +96,33 @@ pub last-none : (b : ℕ) (bs : List ℕ) → length bs ≡ position_or_len is_p
 last-none b [] h = refl
 last-none b (c ∷ cs) h = grind (arith, last-none c cs)
 
--- a row with one more byte, which is a pipe that counts, or not
-pub step-open : (row : List ℕ) (i b x pipes found more end : ℕ)
-    → i < length row → x ≡ get_or row i 0 → more ≡ pipes + 1 → end ≡ i + 1 → (is_pipe (get_or row i 0) && not (b == backslash)) ≡ true
-    → pipes + pipes_after b (drop i row) ≡ pipes_after 0 row → end_past i found b (drop i row) ≡ end_past 0 0 0 row
-    → (more + pipes_after x (drop (i + 1) row) ≡ pipes_after 0 row) × (end_past (i + 1) end x (drop (i + 1) row) ≡ end_past 0 0 0 row)
-step-open row i b x pipes found more end l xe me ee t p q =
-    let y : ℕ = get_or row i 0 in
-    let left : List ℕ = drop (i + 1) row in
-    let one = one_if (is_pipe y && not (b == backslash)) t in
-    let counted = pipes-at row i b y l refl in
-    let same : pipes_after x left ≡ pipes_after y left = ap (λ u. pipes_after u left) xe in (
-      omega arith,
-      ap (λ u. end_past (i + 1) u x left) ee ∙ ap (λ u. end_past (i + 1) (i + 1) u left) xe
-          ∙ sym (ap (λ u. end_past (i + 1) (if u then i + 1 else found) y left) t) ∙ sym (ending-at row i found b y l refl) ∙ q,
-    )
+-- The bytes of a row before an offset are counted: the last of them, their pipes, and the offset after the last pipe.
+pub record IsCounted (row : List ℕ) (at before pipes end : ℕ) : Type 0 where
+  pub pipes_left : pipes + pipes_after before (drop at row) ≡ pipes_after 0 row
+  pub ending : end_past at end before (drop at row) ≡ end_past 0 0 0 row
 
-pub step-other : (row : List ℕ) (i b x pipes found more end : ℕ)
-    → i < length row → x ≡ get_or row i 0 → more ≡ pipes → end ≡ found → (is_pipe (get_or row i 0) && not (b == backslash)) ≡ false
-    → pipes + pipes_after b (drop i row) ≡ pipes_after 0 row → end_past i found b (drop i row) ≡ end_past 0 0 0 row
-    → (more + pipes_after x (drop (i + 1) row) ≡ pipes_after 0 row) × (end_past (i + 1) end x (drop (i + 1) row) ≡ end_past 0 0 0 row)
-step-other row i b x pipes found more end l xe me ee t p q =
-    let y : ℕ = get_or row i 0 in
-    let left : List ℕ = drop (i + 1) row in
-    let none = none_if (is_pipe y && not (b == backslash)) t in
-    let counted = pipes-at row i b y l refl in
-    let same : pipes_after x left ≡ pipes_after y left = ap (λ u. pipes_after u left) xe in (
-      omega arith,
-      ap (λ u. end_past (i + 1) u x left) ee ∙ ap (λ u. end_past (i + 1) found u left) xe
-          ∙ sym (ap (λ u. end_past (i + 1) (if u then i + 1 else found) y left) t) ∙ sym (ending-at row i found b y l refl) ∙ q,
-    )
+-- a row with one more byte, which is a pipe that counts, or not
+pub step-open : (row : List ℕ) (i b pipes end : ℕ) → i < length row → (is_pipe (get_or row i 0) && not (b == backslash)) ≡ true
+    → IsCounted row i b pipes end → IsCounted row (i + 1) (get_or row i 0) (pipes + 1) (i + 1)
+step-open row i b pipes end l t old =
+    let x : ℕ = get_or row i 0 in
+    let one = one_if (is_pipe x && not (b == backslash)) t in
+    let counted = pipes-at row i b x l refl in
+    record {
+      pipes_left = omega (arith, old.pipes_left);
+      ending = sym (ap (λ u. end_past (i + 1) (if u then i + 1 else end) x (drop (i + 1) row)) t) ∙ sym (ending-at row i end b x l refl) ∙ old.ending;
+    }
+
+pub step-other : (row : List ℕ) (i b pipes end : ℕ) → i < length row → (is_pipe (get_or row i 0) && not (b == backslash)) ≡ false
+    → IsCounted row i b pipes end → IsCounted row (i + 1) (get_or row i 0) pipes end
+step-other row i b pipes end l t old =
+    let x : ℕ = get_or row i 0 in
+    let none = none_if (is_pipe x && not (b == backslash)) t in
+    let counted = pipes-at row i b x l refl in
+    record {
+      pipes_left = omega (arith, old.pipes_left);
+      ending = sym (ap (λ u. end_past (i + 1) (if u then i + 1 else end) x (drop (i + 1) row)) t) ∙ sym (ending-at row i end b x l refl) ∙ old.ending;
+    }
 
 pub pipes-first : (row : List ℕ) (i b : ℕ) → i < length row → (is_pipe (get_or row i 0) && not (b == backslash)) ≡ true → 1 ≤ pipes_after b (drop i row)
 pipes-first row i b l t =

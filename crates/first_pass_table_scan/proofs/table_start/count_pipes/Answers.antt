@@ -5,32 +5,30 @@ use Rattle.first_pass_table_scan.proofs.table_start.count_pipes.Goals as goal
 use Rattle.first_pass_table_scan.proofs.table_start.count_pipes.Goals.{then-is_open_pipe, else-is_open_pipe}
 
 pub returns-clause-pipes : goal.returns-clause-pipes
-returns-clause-pipes c = pipes-end c.args.row.now c.loop-at.at c.loop-at.before c.loop-at.pipes c.loop-at-test.false c.loop-at.invariant.pipes
+returns-clause-pipes c = pipes-end c.args.row.now c.loop-at.at c.loop-at.before c.loop-at.pipes c.loop-at-test.false c.loop-at.invariant.counted.pipes_left
 
 pub returns-clause-end : goal.returns-clause-end
-returns-clause-end c = ending-end c.args.row.now c.loop-at.at c.loop-at.before c.loop-at.end c.loop-at-test.false c.loop-at.invariant.ending
+returns-clause-end c = ending-end c.args.row.now c.loop-at.at c.loop-at.before c.loop-at.end c.loop-at-test.false c.loop-at.invariant.counted.ending
 
 pub loop-at-init : goal.loop-at-init
-loop-at-init c = record { pipes = omega arith; ending = refl }
+loop-at-init c = record { counted = record { pipes_left = omega arith; ending = refl } }
 
 pub loop-at-preserved : goal.loop-at-preserved
 loop-at-preserved c =
     let row : List ℕ = c.args.row.now in
     let old = c.loop-at in
-    let new = c.if-is_open_pipe in
+    let l = c.loop-at-test.true in
     elim c.if-is_open_pipe.branch [
       | then-is_open_pipe w ↦
-          (let s = step-open row old.at old.before new.before old.pipes old.end new.pipes new.end c.loop-at-test.true w.before-is w.pipes-is w.end-is
-          (sym c.is_open_pipe.ensures ∙ w.if-is_open_pipe.true) old.invariant.pipes old.invariant.ending in
-          record { pipes = s.0; ending = s.1 })
+          let t = sym c.is_open_pipe.ensures ∙ w.if-is_open_pipe.true in
+          record { counted = rw (w.before-is, w.pipes-is, w.end-is) (step-open row old.at old.before old.pipes old.end l t old.invariant.counted) }
       | else-is_open_pipe w ↦
-          (let s = step-other row old.at old.before new.before old.pipes old.end new.pipes new.end c.loop-at-test.true w.before-is w.pipes-is w.end-is
-          (sym c.is_open_pipe.ensures ∙ w.if-is_open_pipe.false) old.invariant.pipes old.invariant.ending in
-          record { pipes = s.0; ending = s.1 })
+          let t = sym c.is_open_pipe.ensures ∙ w.if-is_open_pipe.false in
+          record { counted = rw (w.before-is, w.pipes-is, w.end-is) (step-other row old.at old.before old.pipes old.end l t old.invariant.counted) }
     ]
 
 pub overflow_add-pipes : goal.overflow_add-pipes
 overflow_add-pipes c =
     let open_one = pipes-first c.args.row.now c.loop-at.at c.loop-at.before c.loop-at-test.true (sym c.is_open_pipe.ensures ∙ c.if-is_open_pipe.true) in
-    let counted = c.loop-at.invariant.pipes in
+    let counted = c.loop-at.invariant.counted.pipes_left in
     omega (arith, pipes-fit 0 c.args.row.now)
