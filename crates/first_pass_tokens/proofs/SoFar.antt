@@ -350,17 +350,21 @@ tree_is_after text old tree chain pending at (Run n opens closes) facts order sa
     ap (λ (f : Forest Item). with_tokens f (run_tokens at n opens closes)) before
     ∙ sym (with_tokens-adds old (add_text pending.begin at pending.escaped chain) (run_tokens at n opens closes))
 
-pub read_piece : {texts : List CowStr} {z : Inline} {old tree new : Forest Item} {pending next : HeldText} {at : ℕ} {b : MathBraces} {to : Spot} (p : Piece)
-    → IsRead texts z old tree pending (spot at b) → content_ends_at z at ≡ false → MakesPiece texts b (found_at z at) p → at + size p ≤ length z.text
-    → EndsSolid z.text at p
-    → new ≡ tree_after at p pending tree → next ≡ held_after at p pending → to ≡ spot (at + size p) (braces_after (found_at z at) b)
-    → IsRead texts z old new next to
-read_piece {texts} {z} {old} {tree} {new} {pending} {next} {at} {b} p r on is fits ends tree_new next_is to_is =
-    rw (next_is, to_is) (record {
-      tokens = chain_after at p pending r.tokens;
-      read = so_far_piece z r.tokens pending at b r.read on p is fits ends;
-      tree_is = tree_new ∙ tree_is_after z.text old tree r.tokens pending at p (piece_of texts b z at p on is) r.read.upto r.tree_is;
-    })
+-- A piece is found at a place of a content, and it ends in the content.
+pub record IsPieceFound (texts : List CowStr) (z : Inline) (at : ℕ) (b : MathBraces) (p : Piece) : Type 0 where
+  pub on : content_ends_at z at ≡ false
+  pub becomes : MakesPiece texts b (found_at z at) p
+  pub fits : at + size p ≤ length z.text
+  pub ends : EndsSolid z.text at p
+
+pub read_piece : {texts : List CowStr} {z : Inline} {old tree : Forest Item} {pending : HeldText} {at : ℕ} {b : MathBraces} (p : Piece)
+    → IsPieceFound texts z at b p → IsRead texts z old tree pending (spot at b)
+    → IsRead texts z old (tree_after at p pending tree) (held_after at p pending) (spot (at + size p) (braces_after (found_at z at) b))
+read_piece {texts} {z} {old} {tree} {pending} {at} {b} p found r = record {
+  tokens = chain_after at p pending r.tokens;
+  read = so_far_piece z r.tokens pending at b r.read found.on p found.becomes found.fits found.ends;
+  tree_is = tree_is_after z.text old tree r.tokens pending at p (piece_of texts b z at p found.on found.becomes) r.read.upto r.tree_is;
+}
 
 -- the whole content
 pub read_all : {texts : List CowStr} (z : Inline) (old tree : Forest Item) (pending : HeldText) (to : Spot) → IsRead texts z old tree pending to
@@ -390,18 +394,19 @@ read_line z old tree new pending end after plain r new_is = record {
   tree_is = new_is ∙ r.appended (text_end z end) r.before_break (text_end_within z end);
 }
 
+-- The result at the end of a line: the pending text is appended, and the answer is the next line and the break.
+pub record IsLineEnd (z : Inline) (tree new : Forest Item) (pending : HeldText) (end : ℕ) (r : Result (ℕ × Option Item) AllocError) : Type 0 where
+  pub tree_is : OnOk r ((b : MathBraces) → new ≡ with_text tree pending.begin (text_end (record z { braces = b }) end) pending.escaped)
+  pub answer_is : IfOk r (λ a. (b : MathBraces) → a ≡ (end + line_end_len (record z { braces = b }) end, line_break (record z { braces = b }) end))
+
 -- the same for the result at the end of a line
 pub read_ended : {texts : List CowStr} (z : Inline) (old tree new : Forest Item) (pending : HeldText) (end : ℕ) (after : MathBraces)
     (r : Result (ℕ × Option Item) AllocError)
-    → z.row ≡ false → IsHeldTo texts z old tree (spot end after) pending
-    → OnOk r ((b : MathBraces) → new ≡ with_text tree pending.begin (text_end (record z { braces = b }) end) pending.escaped)
-    → IfOk r (λ a.
-    (b : MathBraces) → a ≡ (end + line_end_len (record z { braces = b }) end, line_break (record z { braces = b }) end))
-    → IfOk r (λ a. AppendsLine texts z old new a after)
-read_ended {texts} z old tree new pending end after (Ok a) plain read new_is is =
-    subst (λ (c : ℕ × Option Item). AppendsLine texts z old new c after) (sym (is z.braces))
-    (read_line z old tree new pending end after plain read (new_is z.braces))
-read_ended z old tree new pending end after (Err e) plain read new_is is = tt
+    → z.row ≡ false → IsHeldTo texts z old tree (spot end after) pending → IsLineEnd z tree new pending end r → IfOk r (λ a. AppendsLine texts z old new a after)
+read_ended {texts} z old tree new pending end after (Ok a) plain read ended =
+    subst (λ (c : ℕ × Option Item). AppendsLine texts z old new c after) (sym (ended.answer_is z.braces))
+    (read_line z old tree new pending end after plain read (ended.tree_is z.braces))
+read_ended z old tree new pending end after (Err e) plain read ended = tt
 
 -- a cell whose content is read, once the pending text is appended
 pub read_cell : {texts : List CowStr} (z : Inline) (old tree new : Forest Item) (pending : HeldText) (end : ℕ) (after : MathBraces)

@@ -12,8 +12,7 @@ returns-clause-line c =
     (content_in t c.args.content c.args.braces.now) c.args.tree.now c.end_line.new.tree a c.append_pieces.new.braces))
     c.text_upto-text.ensures.value
     (read_ended (content_in text c.args.content c.args.braces.now) _ _ _ _ c.in_ok-end.end c.append_pieces.new.braces c.end_line.result
-    c.requires.no_cell
-    c.in_ok-end.ensures.read c.end_line.ensures.tree c.end_line.ensures.answer)
+    c.requires.no_cell c.in_ok-end.ensures.read (record { tree_is = c.end_line.ensures.tree; answer_is = c.end_line.ensures.answer }))
 
 pub returns-clause-ends : goal.returns-clause-ends
 returns-clause-ends c =

@@ -42,14 +42,16 @@ loop-at-preserved c =
     let here = c.special_found-found.ensures.value c.args.braces.now ∙ found_special z at special in
     let is = subst (λ f. MakesPiece texts c.loop-at.braces f piece.piece) here piece.ensures.becomes in
     let more = piece.ensures.more in
+    let to_is = ap (λ n. spot (at + n) c.named_piece.new.braces) c.piece_len.ensures
+    ∙ ap (spot (at + size piece.piece)) (piece.ensures.braces ∙ ap (λ f. braces_after f c.loop-at.braces) here) in
+    let next = read_piece piece.piece (record {
+      on = sym (c.content_ends_at.ensures c.args.braces.now) ∙ c.if-content_ends_at.false;
+      becomes = is;
+      fits = omega (arith, c.special_found-found.ensures.fits, piece.ensures.size);
+      ends = becomes_solid _ _ z.text at _ piece.piece piece.ensures.becomes c.special_found-found.ensures.ends;
+    }) (read_more more (upto_special (goal.at.loop-at-preserved c).In-Some)) in
     record {
-      read = read_piece piece.piece (read_more more (upto_special (goal.at.loop-at-preserved c).In-Some))
-          (sym (c.content_ends_at.ensures c.args.braces.now) ∙ c.if-content_ends_at.false)
-          is (omega (arith, c.special_found-found.ensures.fits, piece.ensures.size))
-          (becomes_solid _ _ z.text at _ piece.piece piece.ensures.becomes c.special_found-found.ensures.ends)
-          c.in_ok-append_piece.ensures.tree c.in_ok-append_piece.ensures.pending
-          (ap (λ n. spot (at + n) c.named_piece.new.braces) c.piece_len.ensures
-          ∙ ap (spot (at + size piece.piece)) (piece.ensures.braces ∙ ap (λ f. braces_after f c.loop-at.braces) here));
+      read = rw (c.in_ok-append_piece.ensures.tree, c.in_ok-append_piece.ensures.pending, to_is) next;
       more = more_both texts c.loop-at.texts.items c.args.texts.now.items more c.loop-at.invariant.more;
     }
 
