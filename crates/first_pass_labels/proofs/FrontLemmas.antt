@@ -71,19 +71,19 @@ fronts_decide n xs ys f g apart =
           ∙ sym (nat_list_cmp_total.antisymm xs ys ∙ ap ordering_reverse (front_less n ys xs g f more))
     ]
 
--- keys whose fronts differ have the order of these numbers
-front_compared : (x y label other : CowStr) (m n : ℕ) → m ≡ leading_number 16 (folding_of x) → n ≡ leading_number 16 (folding_of y)
-    → Fit (folding_of x) → Fit (folding_of y) → m ≢ n → x ≡ label → y ≡ other → nat_cmp m n ≡ label_cmp label other
-front_compared x y label other m n p q f g apart same also =
-    ap₂ nat_cmp p q ∙ fronts_decide 16 (folding_of x) (folding_of y) f g (λ e. apart (p ∙ e ∙ sym q)) ∙ ap₂ label_cmp same also
+-- the number of the first bytes of a label's folding, which are all below 256
+pub record IsFront (label : CowStr) (front : ℕ) : Type 0 where
+  pub is : front ≡ leading_number 16 (folding_of label)
+  pub fits : Fit (folding_of label)
 
--- a key with a larger front is after the other, and one with a smaller front before it
-pub front_above : (x y label other : CowStr) (m n : ℕ) → m ≡ leading_number 16 (folding_of x) → n ≡ leading_number 16 (folding_of y)
-    → Fit (folding_of x) → Fit (folding_of y) → n < m → x ≡ label → y ≡ other → Greater ≡ label_cmp label other
-front_above x y label other m n p q f g above same also =
-    nat_cmp_is m n Greater above ∙ front_compared x y label other m n p q f g (λ e. omega (arith, e, above)) same also
+-- labels whose fronts differ have the order of these numbers
+front_compared : (x y : CowStr) (m n : ℕ) → IsFront x m → IsFront y n → m ≢ n → nat_cmp m n ≡ label_cmp x y
+front_compared x y m n f g apart =
+    ap₂ nat_cmp f.is g.is ∙ fronts_decide 16 (folding_of x) (folding_of y) f.fits g.fits (λ e. apart (f.is ∙ e ∙ sym g.is))
 
-pub front_below : (x y label other : CowStr) (m n : ℕ) → m ≡ leading_number 16 (folding_of x) → n ≡ leading_number 16 (folding_of y)
-    → Fit (folding_of x) → Fit (folding_of y) → m < n → x ≡ label → y ≡ other → Less ≡ label_cmp label other
-front_below x y label other m n p q f g below same also =
-    nat_cmp_is m n Less below ∙ front_compared x y label other m n p q f g (λ e. omega (arith, e, below)) same also
+-- a label with a larger front is after the other, and one with a smaller front before it
+pub front_above : (x y : CowStr) (m n : ℕ) → IsFront x m → IsFront y n → n < m → Greater ≡ label_cmp x y
+front_above x y m n f g above = nat_cmp_is m n Greater above ∙ front_compared x y m n f g (λ e. omega (arith, e, above))
+
+pub front_below : (x y : CowStr) (m n : ℕ) → IsFront x m → IsFront y n → m < n → Less ≡ label_cmp x y
+front_below x y m n f g below = nat_cmp_is m n Less below ∙ front_compared x y m n f g (λ e. omega (arith, e, below))

@@ -2,7 +2,7 @@
 use Rattle.std.proofs.Common.{◌≡◌, ◌&&◌, Option, Some, None, if◌then◌else◌, inl, inr, ℕ, zero, suc, ◌+◌, ◌-◌, ◌<◌, ◌≤◌, Bool, true, false, cond, ◌||◌}
 use Rattle.std.proofs.Common.{nat_lt, List, [], ◌∷◌, length, drop, refl, sym, ap, ◌∙◌, arith, drop-drop}
 use Rattle.std.specs.List.{list_any}
-use Rattle.std.proofs.lemmas.Bool.{cases_lt, lt-ltb, le-ltb}
+use Rattle.std.proofs.lemmas.Bool.{cases_Bool, cases_lt, lt-ltb, le-ltb}
 use Rattle.first_pass_lines.specs.Lines.{begins, is_content, ends_line, line_len}
 use Rattle.first_pass_lines.specs.Places.{Place, line_place, lines_after, lines_at}
 use Rattle.first_pass_metadata.specs.Metadata.{closes_metadata, any_line_closes, after_line, opens_metadata, metadata_byte}
@@ -52,19 +52,23 @@ lines-apart text s y h =
           omega (arith, ap line_len d)
     ]
 
+-- No line before the start of a later line closes. The line after one of them begins at that start or before, and the
+-- same line is the first to close from there on.
+same_step : (c : ℕ) (text : List ℕ) (s y from : ℕ)
+    → from ≡ y + line_len (drop y text) → s < from → s < length text → from ≤ closing_line_from c text s
+    → (s < s + line_len (drop s text)) × (s + line_len (drop s text) ≤ from)
+    × (closing_line_from c text s ≡ closing_line_from c text (s + line_len (drop s text)))
+same_step c text s y from e b l w =
+    elim (cases_Bool (closes_metadata c (drop s text))) [
+      | inl closes ↦ let here = closing_line-here c text s l closes in absurd (omega arith)
+      | inr other ↦
+          let apart = lines-apart text s y (omega arith) in
+          let some = (line_len-within text s l).0 in
+          (omega arith, omega arith, closing_line-further c text s l other)
+    ]
+
 -- the closing line found from an offset on is also the one found from the start of a later line, unless it begins
 -- before that line
-same_step : (c : ℕ) (text : List ℕ) (most s y from : ℕ) (t : Bool) → from ≡ y + line_len (drop y text) → from ≤ s + suc most → s < from → s < length text
-    → from ≤ closing_line_from c text s → closes_metadata c (drop s text) ≡ t
-    → ((k : ℕ) → from ≤ k + most → k ≤ from → from ≤ closing_line_from c text k → closing_line_from c text k ≡ closing_line_from c text from)
-    → closing_line_from c text s ≡ closing_line_from c text from
-same_step c text most s y from true e m b l w h f = let here = closing_line-here c text s l h in absurd (omega arith)
-same_step c text most s y from false e m b l w h f =
-    let further = closing_line-further c text s l h in
-    let apart = lines-apart text s y (omega arith) in
-    let some = (line_len-within text s l).0 in
-    further ∙ f (s + line_len (drop s text)) (omega arith) (omega arith) (omega arith)
-
 same_up_to : (c : ℕ) (text : List ℕ) (most s y from : ℕ) → from ≡ y + line_len (drop y text) → from ≤ s + most → s ≤ from → from ≤ closing_line_from c text s
     → closing_line_from c text s ≡ closing_line_from c text from
 same_up_to c text zero s y from e m b w = ap (closing_line_from c text) (omega arith)
@@ -73,7 +77,10 @@ same_up_to c text (suc most) s y from e m b w =
       | inl before ↦
           elim (cases_lt s (length text)) as (λ _. closing_line_from c text s ≡ closing_line_from c text from) [
             | inl some ↦
-                same_step c text most s y from (closes_metadata c (drop s text)) e m before some w refl (λ k n h u. same_up_to c text most k y from e n h u)
+                let next = same_step c text s y from e before some w in
+                let less = next.0 in
+                let same = next.2 in
+                same ∙ same_up_to c text most (s + line_len (drop s text)) y from e (omega arith) next.1 (omega arith)
             | inr none ↦ let end = closing_line-end c text s none in absurd (omega arith)
           ]
       | inr here ↦ ap (closing_line_from c text) (omega arith)

@@ -6,20 +6,20 @@ use Rattle.first_pass_walk.specs.Walk.{Marking, Walks, IsNextMarked}
 next_within : {lut : List Bool} {bytes : List ℕ} {ix j : ℕ} → IsNextMarked lut bytes ix j → (ix ≤ j) × (j < length bytes)
 next_within next = (next.from, next.within)
 
-pub walks_past : {F T : Type 0} (step : F → ℕ → ℕ → LoopInstruction (Option T) → F → Type 0) (marking : Marking) (a b : ℕ) (skips : List ℕ) (f : F)
-    (answer : ℕ × Option T) (last : F)
-    → length marking.bytes ≤ a → length marking.bytes ≤ b → Walks step marking skips (a, f) (answer, last) → Walks step marking skips (b, f) (answer, last)
-walks_past step marking a b [] f answer last past_a past_b w =
-    elim w [
-      | inl stop ↦ inl (λ k from within. absurd (omega arith), stop.1, stop.2)
-      | inr call ↦ let in_range = next_within call.1 in absurd (omega arith)
-    ]
-walks_past step marking a b (n ∷ ns) f answer last past_a past_b w = let in_range = next_within w.1 in absurd (omega arith)
-
 -- two places that are equal or both past the end, as a saturated sum and the true sum are, have the same walks
 pub walks_from_sum : {F T : Type 0} (step : F → ℕ → ℕ → LoopInstruction (Option T) → F → Type 0) (marking : Marking) (a b : ℕ) (skips : List ℕ) (f : F)
     (answer : ℕ × Option T) (last : F)
     → (a ≡ b) ⊎ ((length marking.bytes ≤ a) × (length marking.bytes ≤ b)) → Walks step marking skips (a, f) (answer, last)
     → Walks step marking skips (b, f) (answer, last)
 walks_from_sum step marking a b skips f answer last (inl same) w = subst (λ (x : ℕ). Walks step marking skips (x, f) (answer, last)) same w
-walks_from_sum step marking a b skips f answer last (inr past) w = walks_past step marking a b skips f answer last past.0 past.1 w
+walks_from_sum step marking a b [] f answer last (inr past) w =
+    let past_a = past.0 in
+    let past_b = past.1 in
+    elim w [
+      | inl stop ↦ inl (λ k from within. absurd (omega arith), stop.1, stop.2)
+      | inr call ↦ let in_range = next_within call.1 in absurd (omega arith)
+    ]
+walks_from_sum step marking a b (n ∷ ns) f answer last (inr past) w =
+    let past_a = past.0 in
+    let in_range = next_within w.1 in
+    absurd (omega arith)
