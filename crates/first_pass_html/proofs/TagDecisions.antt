@@ -17,7 +17,8 @@ use Rattle.first_pass_html.specs.TagLengths.{word_len, tag_name_len, named_len, 
 use Rattle.first_pass_html.specs.Fronts.{IsOnlyFront, HasNoFront, IsEndBefore, IsPastAttributes}
 use Rattle.first_pass_html.proofs.TagFacts.{step, last}
 use Rattle.first_pass_html.proofs.FrontFacts.{some_if, some_unless, some_map, begins_front, attribute_front}
-use Rattle.first_pass_html.proofs.WholeTagFacts.{opening_found, opening_needs_name, opening_not_raw, opening_needs_end, closing_found, closing_needs_name}
+use Rattle.first_pass_html.proofs.WholeTagFacts.{OpeningCounted, opening_found, opening_needs_name, opening_not_raw, opening_needs_end}
+use Rattle.first_pass_html.proofs.WholeTagFacts.{closing_found, closing_needs_name}
 use Rattle.first_pass_html.proofs.WholeTagFacts.{closing_needs_end, first_byte, open_found, open_none, close_found, close_none, needs_bracket, tag_line_none}
 use Rattle.first_pass_html.proofs.WholeTagFacts.{tag_line_not_blank}
 
@@ -123,7 +124,14 @@ opening_end : (bs : List ℕ) (n a : ℕ) (o : Option ℕ) → tag_name_len bs �
     → IsPastAttributes (drop n bs) a → open_end_len (drop a (drop n bs)) ≡ o → StandsFirst IsAfterOpening bs
 opening_end bs n a None h raw within past e = inr (opening_needs_end bs n a h past e)
 opening_end bs n a (Some k) h raw within past e =
-    inl (n + a + k, opening_found bs n a k h (name_within is_ascii_alphabetic is_tag_byte bs n h) raw past within e (end_within (drop a (drop n bs)) k e))
+    let counted : OpeningCounted bs n a k = record {
+      named = h;
+      named_fits = name_within is_ascii_alphabetic is_tag_byte bs n h;
+      past = past;
+      past_fits = within;
+      ended = e;
+    } in
+    inl (n + a + k, opening_found bs n a k counted raw (end_within (drop a (drop n bs)) k e))
 
 opening_raw : (bs : List ℕ) (n : ℕ) (t : Bool) → tag_name_len bs ≡ Some n → is_raw_name (take n bs) ≡ t → StandsFirst IsAfterOpening bs
 opening_raw bs n true h raw = inr (opening_not_raw bs n h raw)

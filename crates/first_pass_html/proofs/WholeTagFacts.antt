@@ -79,20 +79,30 @@ opening_needs_end bs n a h past none front following parts tag =
     let some = end_counted (drop a (drop n bs)) following e in
     cc
 
+-- the bytes of an open tag after its opening byte were counted: its name, its attributes and its end
+pub record OpeningCounted (bs : List ℕ) (n a k : ℕ) : Type 0 where
+  pub named : tag_name_len bs ≡ Some n
+  pub named_fits : n ≤ length bs
+  pub past : IsPastAttributes (drop n bs) a
+  pub past_fits : a ≤ length (drop n bs)
+  pub ended : open_end_len (drop a (drop n bs)) ≡ Some k
+
 opening_only : (bs front following : List ℕ) (n a k : ℕ)
-    → bs ≡ front ++ following → IsAfterOpening front → tag_name_len bs ≡ Some n → n ≤ length bs → IsPastAttributes (drop n bs) a → a ≤ length (drop n bs)
-    → open_end_len (drop a (drop n bs)) ≡ Some k → length front ≡ n + a + k
-opening_only bs front following n a k parts tag h fits past within some =
-    let e = opening_end bs front following n a parts tag h past in
+    → bs ≡ front ++ following → IsAfterOpening front → OpeningCounted bs n a k → length front ≡ n + a + k
+opening_only bs front following n a k parts tag c =
+    let e = opening_end bs front following n a parts tag c.named c.past in
     let counted = end_counted (drop a (drop n bs)) following e in
+    let some = c.ended in
+    let fits = c.named_fits in
+    let within = c.past_fits in
     let same : k ≡ length e.ending = cc in
     let size : length bs ≡ length front + length following = ap length parts ∙ length-append front following in
     let left : length (drop a (drop n bs)) ≡ length e.ending + length following = ap length e.parts ∙ length-append e.ending following in
     omega (arith, length-drop a (drop n bs), length-drop n bs)
 
-opening_is : (bs : List ℕ) (n a k : ℕ) → tag_name_len bs ≡ Some n → is_raw_name (take n bs) ≡ false → IsPastAttributes (drop n bs) a
-    → open_end_len (drop a (drop n bs)) ≡ Some k → IsAfterOpening (take (n + a + k) bs)
-opening_is bs n a k h raw past some =
+opening_is : (bs : List ℕ) (n a k : ℕ) → OpeningCounted bs n a k → is_raw_name (take n bs) ≡ false → IsAfterOpening (take (n + a + k) bs)
+opening_is bs n a k c raw =
+    let past = c.past in
     let following : drop (n + a) bs ≡ drop a (drop n bs) = sym (drop-drop a n bs) in
     let whole : take (n + a + k) bs ≡ take n bs ++ (concat past.attributes ++ take k (drop a (drop n bs))) =
     take-add (n + a) k bs
@@ -104,20 +114,19 @@ opening_is bs n a k h raw past some =
         attributes = past.attributes;
         ending = take k (drop a (drop n bs));
         parts = ap (λ xs. 60 ∷ xs) whole;
-        is_name = name_front is_ascii_alphabetic is_tag_byte bs n h;
+        is_name = name_front is_ascii_alphabetic is_tag_byte bs n c.named;
         are_attributes = past.are_attributes;
-        ends = end_front (drop a (drop n bs)) k some;
+        ends = end_front (drop a (drop n bs)) k c.ended;
       },
       raw,
     )
 
 pub opening_found : (bs : List ℕ) (n a k : ℕ)
-    → tag_name_len bs ≡ Some n → n ≤ length bs → is_raw_name (take n bs) ≡ false → IsPastAttributes (drop n bs) a → a ≤ length (drop n bs)
-    → open_end_len (drop a (drop n bs)) ≡ Some k → k ≤ length (drop a (drop n bs)) → IsOnlyFront IsAfterOpening bs (n + a + k)
-opening_found bs n a k h fits raw past within some ends = record {
-  within = omega (arith, length-drop a (drop n bs), length-drop n bs);
-  is_text = opening_is bs n a k h raw past some;
-  only = λ front following parts tag. opening_only bs front following n a k parts tag h fits past within some;
+    → OpeningCounted bs n a k → is_raw_name (take n bs) ≡ false → k ≤ length (drop a (drop n bs)) → IsOnlyFront IsAfterOpening bs (n + a + k)
+opening_found bs n a k c raw ends = record {
+  within = omega (arith, ends, c.named_fits, c.past_fits, length-drop a (drop n bs), length-drop n bs);
+  is_text = opening_is bs n a k c raw;
+  only = λ front following parts tag. opening_only bs front following n a k parts tag c;
 }
 
 -- closing tags

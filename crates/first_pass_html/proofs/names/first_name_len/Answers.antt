@@ -5,7 +5,8 @@ use Rattle.first_pass_html.proofs.names.first_name_len.Goals as goal
 
 -- the names from a place on
 names_from : (names : List (Bor (List ℕ))) (i : ℕ) (d : Bor (List ℕ)) (bs name : List ℕ) → i < length names → name ≡ borrowed_bytes (get_or names i d)
-    → first_name_len (map borrowed_bytes (drop i names)) bs ≡ cond (begins_with_name name bs) (length name) (first_name_len (map borrowed_bytes (drop (i + 1) names)) bs)
+    → first_name_len (map borrowed_bytes (drop i names)) bs
+    ≡ cond (begins_with_name name bs) (length name) (first_name_len (map borrowed_bytes (drop (i + 1) names)) bs)
 unfolding first_name_len
 names_from names i d bs name h e = rw (drop-cons names i d, add-one, e)
 
