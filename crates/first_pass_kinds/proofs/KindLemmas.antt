@@ -102,25 +102,33 @@ pub record AfterMetadata (options : Options) (r : Rest) (m : Option ℕ) : Type 
   pub bound : nat_lt (indent r) 4 ≡ true
   pub metadata : metadata_at (indent r) options (all_taken r).left ≡ m
 
--- the offset after the columns of a place
-pub past_columns : (text : List ℕ) (start taken : ℕ) (r new : Rest) → IsUtf8 text → IsPlaceOf text (place_at start r) → new ≡ all_taken r → taken ≡ new.taken
-    → (start + taken ≤ length text) × ((all_taken r).left ≡ drop (start + taken) text)
-past_columns text start taken r new u i rest is =
-    let j = all_keep text start r u i in
-    let e : start + taken ≡ offset (place_at start (all_taken r)) = ap (λ n. start + n) (is ∙ ap (λ (q : Rest). q.taken) rest) in
+-- the columns at a place were taken: fewer than four, and the place is not blank
+pub record ColumnsTaken (text : List ℕ) (start : ℕ) (r : Rest) (taken columns : ℕ) : Type 0 where
+  pub utf8 : IsUtf8 text
+  pub place : IsPlaceOf text (place_at start r)
+  pub some : is_blank_rest r ≡ false
+  pub columns_are : columns ≡ min 4 (indent r)
+  pub few : columns < 4
+  pub taken_is : taken ≡ (all_taken r).taken
+
+-- the offset after these columns
+pub past_columns : (text : List ℕ) (start : ℕ) (r : Rest) (taken columns : ℕ)
+    → ColumnsTaken text start r taken columns → (start + taken ≤ length text) × ((all_taken r).left ≡ drop (start + taken) text)
+past_columns text start r taken columns c =
+    let j = all_keep text start r c.utf8 c.place in
+    let e : start + taken ≡ offset (place_at start (all_taken r)) = ap (λ n. start + n) c.taken_is in
     let w = j.within in
     (omega arith, j.left ∙ ap (λ n. drop n text) (sym e))
 
-pub found_early : (text bytes : List ℕ) (start taken columns : ℕ) (options : Options) (r new : Rest) (m : Option ℕ)
-    → IsUtf8 text → IsPlaceOf text (place_at start r) → is_blank_rest r ≡ false → columns ≡ min 4 (indent r) → new ≡ all_taken r → taken ≡ new.taken
-    → columns < 4 → bytes ≡ text → m ≡ metadata_at columns options (drop (start + taken) bytes) → AfterMetadata options r m
-found_early text bytes start taken columns options r new m u i some is rest at bound same m_is =
-    let f = few_columns columns (indent r) is bound in
+pub found_early : (text : List ℕ) (start : ℕ) (r : Rest) (taken columns : ℕ) (options : Options) (m : Option ℕ)
+    → ColumnsTaken text start r taken columns → m ≡ metadata_at columns options (drop (start + taken) text) → AfterMetadata options r m
+found_early text start r taken columns options m c m_is =
+    let f = few_columns columns (indent r) c.columns_are c.few in
     record {
-      some = some;
+      some = c.some;
       bound = f.0;
-      metadata = ap (metadata_at (indent r) options) ((past_columns text start taken r new u i rest at).1 ∙ ap (drop (start + taken)) (sym same))
-          ∙ ap (λ n. metadata_at n options (drop (start + taken) bytes)) (sym f.1) ∙ sym m_is;
+      metadata = ap (metadata_at (indent r) options) (past_columns text start r taken columns c).1
+          ∙ ap (λ n. metadata_at n options (drop (start + taken) text)) (sym f.1) ∙ sym m_is;
     }
 
 -- metadata
