@@ -19,11 +19,10 @@ pub extends_equal : (new old : Names) → new ≡ old → Extends new old
 extends_equal new old is = subst (Extends new) is (extends_none new)
 
 -- The index of an info string that was just named names it.
-pub info_named : (old named more : Names) (ix : CowIndex) (cow : CowStr) (read info : List ℕ)
-    → ix.0 ≡ length old.texts → named ≡ with_named old cow → read ≡ info
-    → text_of cow ≡ unescaped false read → (unescaped false read ≡ read → Borrows read cow) → Extends more named → NamesInfo more ix info
-info_named old named more ix cow read info at is same text borrowed e =
-    subst (NamesInfo more ix) same (record { named = cow; at = text_last old named more ix cow at is e; text = text; borrowed = borrowed })
+pub info_named : (old named more : Names) (ix : CowIndex) (cow : CowStr) (info : List ℕ) → ix.0 ≡ length old.texts → named ≡ with_named old cow
+    → text_of cow ≡ unescaped false info → (unescaped false info ≡ info → Borrows info cow) → Extends more named → NamesInfo more ix info
+info_named old named more ix cow info at is text borrowed e =
+    record { named = cow; at = text_last old named more ix cow at is e; text = text; borrowed = borrowed }
 
 -- if only texts are added
 pub extends_texts : (new old : Names) → AddsTexts new old → Extends new old

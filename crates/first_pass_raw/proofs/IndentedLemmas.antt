@@ -24,7 +24,7 @@ use Rattle.first_pass_tokens.proofs.ChainLemmas.{add_tokens-append, with_tokens-
 use Rattle.first_pass_tokens.proofs.ChainLemmas.{chained-length, has_leaves-chained}
 use Rattle.first_pass_grammar.specs.declared.kind.Container.{Container}
 use Rattle.first_pass_grammar.specs.Names.{Names, Extends}
-use Rattle.first_pass_grammar.specs.Containers.{at_rest, has_columns, after, taken}
+use Rattle.first_pass_grammar.specs.Containers.{at_rest, has_columns, after}
 use Rattle.first_pass_grammar.specs.Kinds.{is_blank_rest}
 use Rattle.first_pass_grammar.specs.Leaves.{Document, document, block_with}
 use Rattle.first_pass_grammar.specs.Completion.{lines_from}

@@ -1,6 +1,6 @@
-use Rattle.std.proofs.Common.{◌+◌, drop, length, IsUtf8, refl, ap, subst, arith}
+use Rattle.std.proofs.Common.{◌+◌, length, IsUtf8, refl, ap, subst, arith}
 use Rattle.first_pass_items.specs.declared.item.ItemBody.TheVariants.{FencedCodeBlock}
-use Rattle.first_pass_grammar.specs.CodeBlocks.{fence_judge, info_string}
+use Rattle.first_pass_grammar.specs.CodeBlocks.{NamesInfo, fence_judge}
 use Rattle.first_pass_grammar.specs.Leaves.{document}
 use Rattle.first_pass_grammar.specs.RawLines.{range_text}
 use Rattle.first_pass_names.specs.TableEntries.{names_of}
@@ -56,8 +56,8 @@ returns-clause-block c =
     fenced_added (document c.args.source.now.text.now c.args.source.now.options names) c.args.tree.now c.close_block.new.tree
     c.args.start_ix c.args.fence.indent c.args.fence.byte c.args.fence.count c.in_ok-info_ix.info_ix
     (opened (goal.at.returns-clause-block c).In_ok-lines)
-    (λ more e. info_named (names_of c.args.allocs.now) named more c.in_ok-info_ix.info_ix c.in_ok-info.info
-    c.info_string.result.now (info_string (drop (c.args.start_ix + c.args.fence.count) c.args.source.now.text.now))
-    c.in_ok-info_ix.ensures.index c.in_ok-info_ix.ensures.names c.info_string.ensures c.in_ok-info.ensures.value c.in_ok-info.ensures.borrowed
-    (extends_both more names named e c.in_ok-lines.ensures.more.names))
+    (λ more e. subst (NamesInfo more c.in_ok-info_ix.info_ix) c.info_string.ensures
+    (info_named (names_of c.args.allocs.now) named more c.in_ok-info_ix.info_ix c.in_ok-info.info c.info_string.result.now
+    c.in_ok-info_ix.ensures.index c.in_ok-info_ix.ensures.names c.in_ok-info.ensures.value c.in_ok-info.ensures.borrowed
+    (extends_both more names named e c.in_ok-lines.ensures.more.names)))
     c.close_block.ensures.tree

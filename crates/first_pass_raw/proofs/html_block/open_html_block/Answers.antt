@@ -1,4 +1,4 @@
-use Rattle.std.proofs.Common.{subst}
+use Rattle.std.proofs.Common.{◌≡◌, IsCharBoundary, subst}
 use Rattle.first_pass_items.specs.declared.item.Item.{Item}
 use Rattle.first_pass_items.specs.declared.item.ItemBody.TheVariants.{HtmlBlock}
 use Rattle.first_pass_items.specs.declared.option_set.Options.{Options}
@@ -7,7 +7,7 @@ use Rattle.first_pass_grammar.specs.RawLines.{range_html}
 use Rattle.first_pass_open.specs.OpenBlock.{opened_block}
 use Rattle.first_pass_open.proofs.PathLemmas.{open_are_in}
 use Rattle.first_pass_names.specs.TableEntries.{names_of}
-use Rattle.first_pass_raw.specs.RawBlocks.{AppendsRaw}
+use Rattle.first_pass_raw.specs.RawBlocks.{AppendsRaw, after_line_at}
 use Rattle.first_pass_raw.proofs.ExtentLemmas.{first_read}
 use Rattle.first_pass_raw.proofs.HtmlLemmas.{first_apart, first_path}
 use Rattle.first_pass_raw.proofs.html_block.open_html_block.Goals as goal
@@ -23,28 +23,27 @@ line c =
     subst (λ (f : Forest Item). AppendsRaw range_html c.args.text.now (names_of c.append_raw_line.new.allocs) c.args.start.columns c.args.start.at
     c.next_line-next.result f c.append_raw_line.new.tree) c.in_ok-open_block.ensures.tree c.in_ok-append_raw_line.ensures.line
 
-pub returns-clause-next : goal.returns-clause-next
-returns-clause-next c =
+-- where the next line begins
+next : (c : In_ok-append_raw_line)
+    → (c.next_line-next.result ≡ after_line_at c.args.text.now c.args.start.at) × IsCharBoundary c.args.text.now c.next_line-next.result
+next c =
     first_read c.args.text.now c.as_bytes.result.now c.args.start.at _ c.utf8.text c.requires.boundary c.as_bytes.ensures.value c.next_line-next.ensures.value
+
+pub returns-clause-next : goal.returns-clause-next
+returns-clause-next c = next c
 
 pub returns-clause-line : goal.returns-clause-line
 returns-clause-line c = line c
 
 pub returns-clause-path : goal.returns-clause-path
 returns-clause-path c = λ options.
-    let next =
-    first_read c.args.text.now c.as_bytes.result.now c.args.start.at _ c.utf8.text c.requires.boundary c.as_bytes.ensures.value
-    c.next_line-next.ensures.value in
     let opened : Forest Item = opened_block c.args.tree.now c.args.start.at HtmlBlock in
     let forest = subst (IsForest {T = Item}) c.in_ok-open_block.ensures.tree c.recall_forest-2.ensures in
     first_path c.args.text.now options _ c.args.start.at c.args.start.columns c.next_line-next.result c.args.tree.now c.append_raw_line.new.tree (line c)
-    next.0
+    (next c).0
     (open_are_in c.args.tree.now.nodes c.args.tree.now.spine c.recall_forest.ensures.opened) (open_are_in opened.nodes opened.spine forest.opened)
 
 pub returns-clause-apart : goal.returns-clause-apart
 returns-clause-apart c =
-    let next =
-    first_read c.args.text.now c.as_bytes.result.now c.args.start.at _ c.utf8.text c.requires.boundary c.as_bytes.ensures.value
-    c.next_line-next.ensures.value in
     first_apart c.args.text.now no_options _ c.args.start.at c.args.start.columns c.next_line-next.result c.args.tree.now c.append_raw_line.new.tree
-    (line c) next.0
+    (line c) (next c).0
