@@ -54,15 +54,15 @@ depth_first ns d from within =
     let passes = ap (is_other_at d) (sym (get_or-drop from ns at some_node)) ∙ passes_at_first (is_other_at d) (drop from ns) some_node inside in
     depth_read ns (from + at) some_node within ∙ same_depth _ d (first_true _ _ passes)
 
-other_at : (f : Forest Item) (ns : List (ℕ × Item)) (spine : List TreeIndex) (d n r list : ℕ) → ns ≡ f.nodes → spine ≡ reverse f.spine → n ≡ length f.nodes
-    → d ≡ length spine + 2 → r ≡ first_other d (list + 1) ns → r < n → IsOther f list r
-other_at f ns spine d n r list nodes way count deep is within =
-    let e : d ≡ length f.spine + 2 = omega (arith, ap (λ (s : List TreeIndex). length s) way, length-reverse f.spine) in
+other_at : (f : Forest Item) (ns : List (ℕ × Item)) (spine : List TreeIndex) (r list : ℕ)
+    → ns ≡ f.nodes → spine ≡ reverse f.spine → r ≡ first_other (length spine + 2) (list + 1) ns → r < length f.nodes → IsOther f list r
+other_at f ns spine r list nodes way is within =
+    let e : length spine + 2 ≡ length f.spine + 2 = omega (arith, ap (λ (s : List TreeIndex). length s) way, length-reverse f.spine) in
     let first : r ≡ first_other (length f.spine + 2) (list + 1) f.nodes =
-    is ∙ ap (λ z. first_other d (list + 1) z) nodes ∙ ap (λ z. first_other z (list + 1) f.nodes) e in
+    is ∙ ap (λ z. first_other (length spine + 2) (list + 1) z) nodes ∙ ap (λ z. first_other z (list + 1) f.nodes) e in
     record {
-      within = omega (arith, count, within);
-      depth = ap (λ k. slice_index (depths f.nodes) k) first ∙ depth_first f.nodes (length f.spine + 2) (list + 1) (omega (arith, first, count, within));
+      within = within;
+      depth = ap (λ k. slice_index (depths f.nodes) k) first ∙ depth_first f.nodes (length f.spine + 2) (list + 1) (omega (arith, first, within));
       above = omega (arith, first);
     }
 
@@ -100,8 +100,8 @@ child_of f g list n other like current = record {
 
 pub index-requires : goal.index-requires
 index-requires c =
-    let o = other_at c.args.tree.now _ _ _ _ _ c.args.list_ix.0 c.nodes.ensures c.walk_spine.ensures c.node_count.ensures refl
-    c.first_other-other.ensures (omega arith) in
+    let o = other_at c.args.tree.now _ _ _ c.args.list_ix.0 c.nodes.ensures c.walk_spine.ensures c.first_other-other.ensures
+    (omega (arith, c.node_count.ensures)) in
     let k = kept_at _ _ c.first_other-other.result c.last_of_depth-kept.result c.args.list_ix.0 c.last_of_depth-kept.ensures (omega arith) in
     omega (arith, o.within, k.within, like_length c.args.tree.now _ (untitled c.args.tree.now _ _ c.leave_untitled.ensures))
 
@@ -113,6 +113,6 @@ set_end-requires c =
 pub move_out-requires : goal.move_out-requires
 move_out-requires c =
     child_of c.args.tree.now c.set_end.new.self c.args.list_ix c.first_other-other.result
-    (other_at c.args.tree.now _ _ _ _ _ c.args.list_ix.0 c.nodes.ensures c.walk_spine.ensures c.node_count.ensures refl
-    c.first_other-other.ensures (omega arith))
+    (other_at c.args.tree.now _ _ _ c.args.list_ix.0 c.nodes.ensures c.walk_spine.ensures c.first_other-other.ensures
+    (omega (arith, c.node_count.ensures)))
     (ended c.args.tree.now _ _ c.args.list_ix _ (untitled c.args.tree.now _ _ c.leave_untitled.ensures) c.set_end.ensures) c.requires
