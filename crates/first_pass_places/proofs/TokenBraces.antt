@@ -3,7 +3,7 @@ use Rattle.std.proofs.Common.{◌≡◌, ℕ, zero, suc, ◌+◌, ◌-◌, ◌%�
 use Rattle.std.proofs.Common.{get_or, slice_index, Option, refl, sym, ap, subst, ◌∙◌, arith, inl, inr, if◌then◌else◌}
 use mathlib.Core.List.{reverse}
 use Rattle.std.specs.List.{slice_range, suffix_len}
-use Rattle.std.proofs.lemmas.Bool.{and_parts, cases_lt, eqb-true, ltb-false, true≢false}
+use Rattle.std.proofs.lemmas.Bool.{and_parts, cases_lt, eqb-true, true≢false}
 use Rattle.std.proofs.lemmas.Bool.Decides.{nat_tests}
 use Rattle.std.proofs.lemmas.List.{get_or-drop, get_or-take, get_or_past, get_or-reverse, length-take, length-drop}
 use Rattle.std.proofs.lemmas.List.Sums.{prefix_len_passes, suffix_len-le-length}
@@ -21,6 +21,7 @@ use Rattle.first_pass_tokens.specs.LineTokens.{breaks_by_backslash}
 use Rattle.first_pass_tokens.specs.LineTokens.{backslashes_at_end, blanks_at_end, AreLineTokens}
 use Rattle.first_pass_tokens.specs.Pieces.{Inline, found_at, size}
 use Rattle.first_pass_tokens.proofs.LineLemmas.{piece_of, pieces_reach as pieces_order}
+use Rattle.first_pass_tokens.proofs.ChainLemmas.{add_text-none, add_text-some}
 use Rattle.first_pass_tokens.proofs.PieceFacts.{IsPieceAt}
 use Rattle.first_pass_grammar.specs.Headings.{chain_end}
 
@@ -75,17 +76,16 @@ token_reaches : (text : List ℕ) (s to : ℕ) (chain : List Item) (y : Item) �
 token_reaches text s to chain y order none =
     let e = token_end s chain y in record { order = omega (arith, e); none = subst (λ n. HasNoBrace text n to) (sym e) none }
 
--- a text up to an offset, in a line that has only white space or a backslash after `stop`
-text_by : (t : Bool) (text : List ℕ) (s at from m to : ℕ) (escaped : Bool) (chain : List Item) → nat_lt from m ≡ t → at ≤ to → m ≤ to
-    → HasNoBrace text m to → (m ≤ from → HasNoBrace text at to) → Reaches text s chain at
-    → Reaches text s (if t then add_token chain (text_token from m escaped) else chain) to
-text_by true text s at from m to escaped chain e order within none short h = token_reaches text s to chain (text_token from m escaped) within none
-text_by false text s at from m to escaped chain e order within none short h = reach_further text s at to chain order (short (ltb-false from m e)) h
-
-text_reaches : (text : List ℕ) (s at from m to : ℕ) (escaped : Bool) (chain : List Item) → at ≤ to → m ≤ to
-    → HasNoBrace text m to → (m ≤ from → HasNoBrace text at to) → Reaches text s chain at → Reaches text s (add_text from m escaped chain) to
-text_reaches text s at from m to escaped chain order within none short h =
-    text_by (nat_lt from m) text s at from m to escaped chain refl order within none short h
+-- a text up to an offset, in a line that has only white space or a backslash after it; an empty one adds nothing
+text_reaches : (text : List ℕ) (s from m to : ℕ) (escaped : Bool) (chain : List Item)
+    → m ≤ to → HasNoBrace text m to → (m ≤ from → Reaches text s chain to) → Reaches text s (add_text from m escaped chain) to
+text_reaches text s from m to escaped chain within none short =
+    elim (cases_lt from m) as (λ _. Reaches text s (add_text from m escaped chain) to) [
+      | inl some ↦
+          subst (λ (l : List Item). Reaches text s l to) (sym (add_text-some from m escaped chain some))
+          (token_reaches text s to chain (text_token from m escaped) within none)
+      | inr empty ↦ subst (λ (l : List Item). Reaches text s l to) (sym (add_text-none from m escaped chain empty)) (short empty)
+    ]
 
 -- the tokens of a run
 run_reaches : (text : List ℕ) (s at n : ℕ) (opens closes : Bool) (chain : List Item) → Reaches text s chain at
@@ -103,31 +103,31 @@ piece_reaches : (text : List ℕ) (s stop last at : ℕ) (p : Piece) (chain : Li
     → IsPieceAt text at p → Reaches text s chain at → Reaches text s (add_piece stop at p chain) (at + size p)
 piece_reaches text s stop last at (Left n) chain tail within facts h =
     let m : ℕ = min (at + n) stop in
-    text_reaches text s at at m (at + n) false chain (omega arith) (omega arith)
+    text_reaches text s at m (at + n) false chain (omega arith)
     (λ k low high. tail k (omega arith) (omega arith))
-    (λ short k low high. tail k (omega arith) (omega arith)) h
+    (λ short. reach_further text s at (at + n) chain (omega arith) (λ k low high. tail k (omega arith) (omega arith)) h)
 piece_reaches text s stop last at (Begins dropped escaped) chain tail within facts h =
     let m : ℕ = min (at + (dropped + 1)) stop in
-    text_reaches text s at (at + dropped) m (at + (dropped + 1)) escaped chain (omega arith) (omega arith)
+    text_reaches text s (at + dropped) m (at + (dropped + 1)) escaped chain (omega arith)
     (λ k low high. tail k (omega arith) (omega arith))
-    (λ short k low high. elim (cases_lt k (at + dropped)) as (λ _. (slice_index text k == right_brace) ≡ false) [
+    (λ short. reach_further text s at (at + (dropped + 1)) chain (omega arith)
+    (λ k low high. elim (cases_lt k (at + dropped)) as (λ _. (slice_index text k == right_brace) ≡ false) [
       | inl less ↦ byte_none text k 92 (facts.backslashes k low less) refl
       | inr more ↦ tail k (omega arith) (omega arith)
-    ]) h
+    ]) h)
 piece_reaches text s stop last at (Token dropped n body) chain tail within facts h =
     token_reaches text s (at + (dropped + n)) chain (token (at + dropped) n body) (omega arith)
     (nothing_none text (at + dropped + n) (at + (dropped + n)) (omega arith))
 piece_reaches text s stop last at (Run n opens closes) chain tail within facts h = run_reaches text s at n opens closes chain h
 
-pieces_reach : (texts : List CowStr) (s : Inline) (e stop last at : ℕ) (b : MathBraces) (ps : List Piece) (to : Spot) (chain : List Item)
-    → to.at ≤ last → HasNoBrace s.text stop last → ArePieces texts s at b ps to → Reaches s.text e chain at
-    → Reaches s.text e (add_pieces stop at ps chain) to.at
-pieces_reach texts s e stop last at b [] to chain within tail are h = subst (Reaches s.text e chain) (ap (λ (p : Spot). p.at) are) h
-pieces_reach texts s e stop last at b (p ∷ ps) to chain within tail are h =
+pieces_reach : (texts : List CowStr) (s : Inline) (e stop at : ℕ) (b : MathBraces) (ps : List Piece) (to : Spot) (chain : List Item)
+    → HasNoBrace s.text stop to.at → ArePieces texts s at b ps to → Reaches s.text e chain at → Reaches s.text e (add_pieces stop at ps chain) to.at
+pieces_reach texts s e stop at b [] to chain tail are h = subst (Reaches s.text e chain) (ap (λ (p : Spot). p.at) are) h
+pieces_reach texts s e stop at b (p ∷ ps) to chain tail are h =
     let next : ℕ = at + size p in
     let more = pieces_order texts s next (braces_after (found_at s at) b) ps to are.2 in
-    pieces_reach texts s e stop last next (braces_after (found_at s at) b) ps to (add_piece stop at p chain) within tail are.2
-    (piece_reaches s.text e stop last at p chain tail (omega arith) (piece_of texts b s at p are.0 are.1) h)
+    pieces_reach texts s e stop next (braces_after (found_at s at) b) ps to (add_piece stop at p chain) tail are.2
+    (piece_reaches s.text e stop to.at at p chain tail more (piece_of texts b s at p are.0 are.1) h)
 
 -- the bytes at the end of a part that pass a test
 passes_at : (p : ℕ → Bool) (text : List ℕ) (start end k : ℕ) → start ≤ end → k < length text → end - suffix_len p (slice_range text start end) ≤ k → k < end
@@ -216,7 +216,7 @@ line_reaches texts s tokens answer after e line order none =
     let to : Spot = spot end after in
     let forward = pieces_order texts s s.start s.braces line.pieces to line.division.divided in
     let whole : Reaches s.text e (add_pieces stop s.start line.pieces []) end =
-    pieces_reach texts s e stop end s.start s.braces line.pieces to [] (omega arith) (line_tail s end forward) line.division.divided
+    pieces_reach texts s e stop s.start s.braces line.pieces to [] (line_tail s end forward) line.division.divided
     (record { order = order; none = none }) in
     let past : answer.0 ≡ end + line_end_len s end = ap (λ (a : ℕ × Option Item). a.0) line.answer_is in
     let all = reach_further s.text e end (end + line_end_len s end) (add_pieces stop s.start line.pieces []) (omega arith)
