@@ -28,7 +28,7 @@ use Rattle.first_pass_grammar.specs.Completion.{ended, Closed, OtherClosed, Para
 use Rattle.first_pass_grammar.specs.Completion.{rows_beyond, rendered, Frame, InContainer, InList, InDefinitions, closed_as, definitions_open, containers_of}
 use Rattle.first_pass_grammar.specs.Completion.{loosened}
 use Rattle.first_pass_grammar.specs.Completion.{IsPlain, last_plain, StandsIn, last_of, IsShaped}
-use Rattle.first_pass_grammar.proofs.Sequences.Finishes.{Finish, Tail, before_of, CompletesAt, finish_derives, whole_by}
+use Rattle.first_pass_grammar.proofs.Sequences.Finishes.{Finish, Tail, before_of, CompletesAt, finish_derives, completes_by}
 use Rattle.first_pass_grammar.proofs.Sequences.Goings.{ends_inside, begins_blank}
 use Rattle.first_pass_completion.proofs.FlatBlocks.{OwnFrom, FlatBlock, OwnParagraph, opened_own}
 use Rattle.first_pass_completion.proofs.Titles.{closed_after, leaf_nodes, leaf_gaps}
@@ -125,16 +125,8 @@ beside_all k last nodes (TitleAt e at) rows none = (refl, refl)
 -- before the first line
 pub completes-first : (d : Document) → CompletesAt d no_tables fresh [] (root_of (length d.text) ∷ []) [] Line (lines_at 0 d.text)
 unfolding Finish rendered
-completes-first d = record {
-  below = tt;
-  shape = tt;
-  whole = whole_by _ _ _ _ _ _ _ _ (λ forest tables fin. record {
-    skeleton = fin.0;
-    sequence = fin.1;
-    forest_is = fin.2;
-    tables_are = fin.3;
-  });
-}
+completes-first d =
+    completes_by d _ _ _ _ _ tt tt (λ forest tables fin. record { skeleton = fin.0; sequence = fin.1; forest_is = fin.2; tables_are = fin.3 })
 
 -- inside a line that continues the whole path
 pub completes-enter : (d : Document) (defined : Tables) (t : Tail) (frames : List Frame) (nodes : List (ℕ × Item)) (os : List ℕ) (line q : Place)

@@ -19,7 +19,7 @@ use Rattle.first_pass_grammar.specs.LinkTables.{LinkEntry, with_link, with_links
 use Rattle.first_pass_grammar.specs.Derivation.{Tables, with_definitions, definitions_of, footnotes_of, with_all_of}
 use Rattle.first_pass_grammar.specs.Completion.{ended, Closed, Pending, NoList, OneList, rows_beyond, rendered, Frame, InContainer, InList, InDefinitions}
 use Rattle.first_pass_grammar.specs.Completion.{closed_as, definitions_open, containers_of, loosened, AreBelow, IsPlain, IsShaped, last_plain, last_of}
-use Rattle.first_pass_grammar.proofs.Sequences.Finishes.{Finish, containers-loosened, Tail, before_of, finish_derives, whole_by}
+use Rattle.first_pass_grammar.proofs.Sequences.Finishes.{Finish, containers-loosened, Tail, before_of, finish_derives, completes_by}
 use Rattle.first_pass_grammar.proofs.Sequences.Goings.{begins_inside, enters}
 use Rattle.first_pass_completion.proofs.States.{OpenNodes, open_nodes, CompletesFrom, Reading, reading, reading_at, IsCompleted, IsStep}
 use Rattle.first_pass_tokens.proofs.BytesLemmas.{length-modify}
@@ -219,12 +219,9 @@ AreNested w = AreBelow (length w.nodes) w.places × IsShaped w.frames
 pub stepped : (d : Document) (w now : OpenNodes) (t u : Tail) (from there : Continues) (lines left : List Place)
     → CompletesFrom d w t from lines → IsStep d (reading_at w t from lines) (reading_at now u there left)
     → AreNested now → CompletesFrom d now u there left
-stepped d w now t u from there lines left k step nested = record {
-  below = nested.0;
-  shape = nested.1;
-  whole = whole_by d now.defined u now.frames now.nodes now.places there left (λ forest tables fin.
-      finish_derives d w.defined t w.frames w.nodes w.places from lines k forest tables (step forest tables fin));
-}
+stepped d w now t u from there lines left k step nested =
+    completes_by d now.frames now.places _ there left nested.0 nested.1 (λ forest tables fin.
+    finish_derives d w.defined t w.frames w.nodes w.places from lines k forest tables (step forest tables fin))
 
 -- A block that begins inside a line also begins at the line.
 enter_first : (d : Document) (l : Level) (line q : Place) (lines : List Place) (opening : Opening) → taken l.path line ≡ Some q

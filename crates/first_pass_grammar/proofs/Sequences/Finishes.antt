@@ -2,7 +2,6 @@
 use Rattle.std.proofs.Common.{◌≡◌, ℕ, suc, Bool, false, List, [], ◌∷◌, length, refl, sym, ap, ◌∙◌, subst}
 use Rattle.first_pass_items.specs.declared.item.Item.{Item}
 use Rattle.first_pass_lines.specs.Places.{Place}
-use Rattle.first_pass_grammar.specs.declared.kind.Container.{Container}
 use Rattle.first_pass_grammar.specs.Leaves.{Document}
 use Rattle.first_pass_grammar.specs.Blocks.{Skeleton}
 use Rattle.first_pass_grammar.specs.Before.{Before, after_container, before_end}
@@ -11,7 +10,7 @@ use Rattle.first_pass_grammar.specs.Rows.{ItemsOf, Rows, any_gap, rows_of}
 use Rattle.first_pass_grammar.specs.Derivation.{Tables, Derives, with_all_of}
 use Rattle.first_pass_grammar.specs.Completion.{ended, Pending, NoList, OneList, Unfinished, Further, AreFurther, rows_beyond, rendered, Frame, InContainer}
 use Rattle.first_pass_grammar.specs.Completion.{Closed, InDefinitions, closed_as, definitions_open, InList, containers_of, loosened, last_of, Becomes}
-use Rattle.first_pass_grammar.specs.Completion.{Completes}
+use Rattle.first_pass_grammar.specs.Completion.{Completes, container_closed, AreBelow, IsShaped}
 use Rattle.first_pass_grammar.specs.Containers.{is_quote}
 
 -- some remaining sequence of the innermost container, and so on outwards
@@ -47,67 +46,63 @@ unfinished defined nodes list before = record { nodes = nodes; list = list; befo
 abbrev further_to : Skeleton → ℕ → Further
 further_to s e = record { blocks = s; «end» = e }
 
-becomes_at : (defined : Tables) (frames : List Frame) (c : Container) (o : ℕ) (os : List ℕ) (nodes : List (ℕ × Item)) (list : Pending)
-    (before : Before) (s : Skeleton) (e e' : ℕ) (further : List Further) (forest : List (ℕ × Item)) (tables : Tables) → e ≡ e'
-    → Becomes (InContainer c ∷ frames) (o ∷ os) (unfinished defined nodes list before) (further_to s e ∷ further) forest tables
-    → Becomes (InContainer c ∷ frames) (o ∷ os) (unfinished defined nodes list before) (further_to s e' ∷ further) forest tables
-becomes_at defined frames c o os nodes list before s e e' further forest tables is becomes =
-    subst (λ z. Becomes (InContainer c ∷ frames) (o ∷ os) (unfinished defined nodes list before) (further_to s z ∷ further) forest tables) is becomes
-
-finish_of : (d : Document) (defined : Tables) (os : List ℕ) (further : List Further) (list : Pending) (before : Before) (frames : List Frame)
-    (nodes : List (ℕ × Item)) (from : Continues) (lines : List Place) (forest : List (ℕ × Item)) (tables : Tables)
-    → AreFurther d (containers_of frames) before from lines further → Becomes frames os (unfinished defined nodes list before) further forest tables
-    → Finish d defined list before frames nodes os from lines forest tables
+-- further parts that complete the open nodes finish them
+finish_of : (d : Document) (frames : List Frame) (os : List ℕ) (w : Unfinished) (from : Continues) (lines : List Place) (further : List Further)
+    (forest : List (ℕ × Item)) (tables : Tables)
+    → AreFurther d (containers_of frames) w.before from lines further → Becomes frames os w further forest tables
+    → Finish d w.defined w.list w.before frames w.nodes os from lines forest tables
 unfolding AreFurther Becomes Finish
-finish_of d defined [] [] list before [] nodes from lines forest tables are becomes = absurd becomes
-finish_of d defined [] (f ∷ []) list before [] nodes from lines forest tables (seq, e) (is, tables_are) =
-    (f.blocks, seq, is ∙ ap (λ z. rendered 1 z nodes list (rows_of false before z f.blocks)) e, tables_are)
-finish_of d defined [] (f ∷ g ∷ more) list before [] nodes from lines forest tables are becomes = absurd are
-finish_of d defined (o ∷ os) further list before [] nodes from lines forest tables are becomes = becomes
-finish_of d defined [] further list before (InContainer c ∷ frames) nodes from lines forest tables are becomes = becomes
-finish_of d defined [] further list before (InList byte loose ∷ frames) nodes from lines forest tables are becomes = becomes
-finish_of d defined [] further list before (InDefinitions loose ∷ frames) nodes from lines forest tables are becomes = becomes
-finish_of d defined (o ∷ os) further list before (InDefinitions loose ∷ frames) nodes from lines forest tables are becomes =
-    finish_of d defined os further (definitions_open o loose list) before frames nodes from lines forest tables are becomes
-finish_of d defined (o ∷ os) further list before (InList byte loose ∷ frames) nodes from lines forest tables are becomes =
-    finish_of d defined os further (OneList o (ItemsOf byte) loose) before frames nodes from lines forest tables are becomes
-finish_of d defined (o ∷ os) [] list before (InContainer c ∷ frames) nodes from lines forest tables are becomes = absurd are
-finish_of d defined (o ∷ os) (f ∷ further) list before (InContainer c ∷ frames) nodes from lines forest tables (mid, seq, is, are) becomes =
+finish_of d [] [] w from lines [] forest tables are becomes = absurd becomes
+finish_of d [] [] w from lines (f ∷ []) forest tables (seq, e) (is, tables_are) =
+    (f.blocks, seq, is ∙ ap (λ z. rendered 1 z w.nodes w.list (rows_of false w.before z f.blocks)) e, tables_are)
+finish_of d [] [] w from lines (f ∷ g ∷ more) forest tables are becomes = absurd are
+finish_of d [] (o ∷ os) w from lines further forest tables are becomes = becomes
+finish_of d (InContainer c ∷ frames) [] w from lines further forest tables are becomes = becomes
+finish_of d (InList byte loose ∷ frames) [] w from lines further forest tables are becomes = becomes
+finish_of d (InDefinitions loose ∷ frames) [] w from lines further forest tables are becomes = becomes
+finish_of d (InDefinitions loose ∷ frames) (o ∷ os) w from lines further forest tables are becomes =
+    finish_of d frames os (record w { list = definitions_open o loose w.list }) from lines further forest tables are becomes
+finish_of d (InList byte loose ∷ frames) (o ∷ os) w from lines further forest tables are becomes =
+    finish_of d frames os (record w { list = OneList o (ItemsOf byte) loose }) from lines further forest tables are becomes
+finish_of d (InContainer c ∷ frames) (o ∷ os) w from lines [] forest tables are becomes = absurd are
+finish_of d (InContainer c ∷ frames) (o ∷ os) w from lines (f ∷ further) forest tables (mid, seq, is, are) becomes =
     let e : ℕ = end_before (length d.text) (containers_of frames) from mid in
-    let now : Before = after_container c (before_end (is_quote c) before f.blocks) in
-    let rows : Rows = rows_of (is_quote c) before e f.blocks in (
+    let now : Before = after_container c (before_end (is_quote c) w.before f.blocks) in
+    let rows : Rows = rows_of (is_quote c) w.before e f.blocks in
+    let gap : Bool = any_gap (rows_beyond w.list rows) in
+    let closed : Unfinished = container_closed c (suc (length (o ∷ os))) o w (further_to f.blocks e) rows in (
       f.blocks,
       mid,
       seq,
-      finish_of d (with_all_of defined f.blocks) os further (NoList (closed_as c e)) _ _ _ (onward mid).0 (onward mid).1 forest tables
-          (subst (λ p. AreFurther d p now (onward mid).0 (onward mid).1 further) (sym (containers-loosened (any_gap (rows_beyond list rows)) frames)) are)
-          (becomes_at defined frames c o os nodes list before f.blocks f.«end» e further forest tables is becomes),
+      finish_of d (loosened gap frames) os closed (onward mid).0 (onward mid).1 further forest tables
+          (subst (λ p. AreFurther d p now (onward mid).0 (onward mid).1 further) (sym (containers-loosened gap frames)) are)
+          (subst (λ z. Becomes (InContainer c ∷ frames) (o ∷ os) w (further_to f.blocks z ∷ further) forest tables) is becomes),
     )
 
-of_finish : (d : Document) (defined : Tables) (os : List ℕ) (list : Pending) (before : Before) (frames : List Frame) (nodes : List (ℕ × Item))
-    (from : Continues) (lines : List Place) (forest : List (ℕ × Item)) (tables : Tables)
-    → Finish d defined list before frames nodes os from lines forest tables
-    → (further : List Further) × AreFurther d (containers_of frames) before from lines further
-    × Becomes frames os (unfinished defined nodes list before) further forest tables
+-- what finishes the open nodes has further parts that complete them
+of_finish : (d : Document) (frames : List Frame) (os : List ℕ) (w : Unfinished) (from : Continues) (lines : List Place) (forest : List (ℕ × Item))
+    (tables : Tables) → Finish d w.defined w.list w.before frames w.nodes os from lines forest tables
+    → (further : List Further) × AreFurther d (containers_of frames) w.before from lines further × Becomes frames os w further forest tables
 unfolding AreFurther Becomes Finish
-of_finish d defined [] list before [] nodes from lines forest tables (s, seq, is, tables_are) =
-    (further_to s (length d.text) ∷ [], (seq, refl), (is, tables_are))
-of_finish d defined (o ∷ os) list before [] nodes from lines forest tables fin = absurd fin
-of_finish d defined [] list before (InContainer c ∷ frames) nodes from lines forest tables fin = absurd fin
-of_finish d defined [] list before (InList byte loose ∷ frames) nodes from lines forest tables fin = absurd fin
-of_finish d defined [] list before (InDefinitions loose ∷ frames) nodes from lines forest tables fin = absurd fin
-of_finish d defined (o ∷ os) list before (InDefinitions loose ∷ frames) nodes from lines forest tables fin =
-    of_finish d defined os (definitions_open o loose list) before frames nodes from lines forest tables fin
-of_finish d defined (o ∷ os) list before (InList byte loose ∷ frames) nodes from lines forest tables fin =
-    of_finish d defined os (OneList o (ItemsOf byte) loose) before frames nodes from lines forest tables fin
-of_finish d defined (o ∷ os) list before (InContainer c ∷ frames) nodes from lines forest tables (s, mid, seq, fin) =
+of_finish d [] [] w from lines forest tables (s, seq, is, tables_are) = (further_to s (length d.text) ∷ [], (seq, refl), (is, tables_are))
+of_finish d [] (o ∷ os) w from lines forest tables fin = absurd fin
+of_finish d (InContainer c ∷ frames) [] w from lines forest tables fin = absurd fin
+of_finish d (InList byte loose ∷ frames) [] w from lines forest tables fin = absurd fin
+of_finish d (InDefinitions loose ∷ frames) [] w from lines forest tables fin = absurd fin
+of_finish d (InDefinitions loose ∷ frames) (o ∷ os) w from lines forest tables fin =
+    of_finish d frames os (record w { list = definitions_open o loose w.list }) from lines forest tables fin
+of_finish d (InList byte loose ∷ frames) (o ∷ os) w from lines forest tables fin =
+    of_finish d frames os (record w { list = OneList o (ItemsOf byte) loose }) from lines forest tables fin
+of_finish d (InContainer c ∷ frames) (o ∷ os) w from lines forest tables (s, mid, seq, fin) =
     let e : ℕ = end_before (length d.text) (containers_of frames) from mid in
-    let rows : Rows = rows_of (is_quote c) before e s in
-    let now : Before = after_container c (before_end (is_quote c) before s) in
-    let r = of_finish d (with_all_of defined s) os (NoList (closed_as c e)) _ _ _ (onward mid).0 (onward mid).1 forest tables fin in
-    let path : containers_of (loosened (any_gap (rows_beyond list rows)) frames) ≡ containers_of frames =
-    containers-loosened (any_gap (rows_beyond list rows)) frames in
-    (further_to s e ∷ r.0, (mid, seq, refl, subst (λ p. AreFurther d p now (onward mid).0 (onward mid).1 r.0) path r.1), r.2)
+    let rows : Rows = rows_of (is_quote c) w.before e s in
+    let now : Before = after_container c (before_end (is_quote c) w.before s) in
+    let gap : Bool = any_gap (rows_beyond w.list rows) in
+    let closed : Unfinished = container_closed c (suc (length (o ∷ os))) o w (further_to s e) rows in
+    let r = of_finish d (loosened gap frames) os closed (onward mid).0 (onward mid).1 forest tables fin in
+    let are : AreFurther d (containers_of frames) now (onward mid).0 (onward mid).1 r.0 =
+    subst (λ p. AreFurther d p now (onward mid).0 (onward mid).1 r.0) (containers-loosened gap frames) r.1 in
+    (further_to s e ∷ r.0, (mid, seq, refl, are), r.2)
 
 -- the end of open nodes: the last child of the innermost one, and whether the blank lines after it include a counting
 -- one
@@ -133,14 +128,16 @@ pub finish_derives : (d : Document) (defined : Tables) (t : Tail) (frames : List
     → CompletesAt d defined t frames nodes os from lines
     → (forest : List (ℕ × Item)) (tables : Tables) → FinishesAt d defined t frames nodes os from lines forest tables → Derives d forest tables
 finish_derives d defined t frames nodes os from lines c forest tables fin =
-    let r = of_finish d defined os (NoList t.closed) (before_of frames t) frames nodes from lines forest tables fin in c.whole r.0 forest tables r.1 r.2
+    let w : Unfinished = unfinished defined nodes (NoList t.closed) (before_of frames t) in
+    let r = of_finish d frames os w from lines forest tables fin in c.whole r.0 forest tables r.1 r.2
 
-pub whole_by : (d : Document) (defined : Tables) (t : Tail) (frames : List Frame) (nodes : List (ℕ × Item)) (os : List ℕ) (from : Continues)
-    (lines : List Place)
-    → ((forest : List (ℕ × Item)) (tables : Tables) → FinishesAt d defined t frames nodes os from lines forest tables → Derives d forest tables)
-    → (further : List Further) (forest : List (ℕ × Item)) (tables : Tables)
-    → AreFurther d (containers_of frames) (before_of frames t) from lines further
-    → Becomes frames os (unfinished defined nodes (NoList t.closed) (before_of frames t)) further forest tables
-    → Derives d forest tables
-whole_by d defined t frames nodes os from lines whole further forest tables are becomes =
-    whole forest tables (finish_of d defined os further (NoList t.closed) (before_of frames t) frames nodes from lines forest tables are becomes)
+-- open nodes at their places are completed if the text derives all that finishes them
+pub completes_by : (d : Document) (frames : List Frame) (os : List ℕ) (w : Unfinished) (from : Continues) (lines : List Place)
+    → AreBelow (length w.nodes) os → IsShaped frames
+    → ((forest : List (ℕ × Item)) (tables : Tables) → Finish d w.defined w.list w.before frames w.nodes os from lines forest tables → Derives d forest tables)
+    → Completes d frames os w from lines
+completes_by d frames os w from lines below shape whole = record {
+  below = below;
+  shape = shape;
+  whole = λ further forest tables are becomes. whole forest tables (finish_of d frames os w from lines further forest tables are becomes);
+}

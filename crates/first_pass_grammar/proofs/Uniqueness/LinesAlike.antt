@@ -32,22 +32,30 @@ one_line_read d n s k k' a a' b b' i i' =
 abbrev pub OneGiven : Names → Names → TextLines → TextLines → Type 0
 OneGiven m n t u = (chain : List Item) × AlikeChains m n t.chain chain × (u ≡ text_lines chain t.break t.left)
 
-given_alike : (m n : Names) (t u : TextLines) (c c' : List Item) (a a' : ℕ × Option Item) (left : List Place) → t ≡ text_lines c a.1 left
-    → u ≡ text_lines c' a'.1 left → a ≡ a' → AlikeChains m n c c' → OneGiven m n t u
-given_alike m n t u c c' a a' left e f same h =
-    subst (λ z. OneGiven m n z u) (sym e) (c', h, f ∙ ap (λ (z : ℕ × Option Item). text_lines c' z.1 left) (sym same))
+-- the line at a place has the last tokens of a text, and these lines follow
+abbrev EndsText : Document → Spot → List Item → List Place → TextLines → Type 0
+EndsText d p chain left t =
+    (tokens : List Item) × (answer : ℕ × Option Item) × (after : MathBraces) × AreLineTokens d.names.texts (content_at d p) tokens answer after
+    × (t ≡ text_lines (add_tokens chain tokens) answer.1 left)
+
+last_alike : (d : Document) (n : Names) (p : Spot) (chain chain' : List Item) (left : List Place) (t u : TextLines) → AlikeChains d.names n chain chain'
+    → EndsText d p chain left t → EndsText (with_names d n) p chain' left u → OneGiven d.names n t u
+last_alike d n p chain chain' left t u same (k, a, b, i, e) (k', a', b', i', e') =
+    let o = one_line_read d n (content_at d p) k k' a a' b b' i i' in
+    subst (λ z. OneGiven d.names n z u) (sym e) (
+      add_tokens chain' k',
+      tokens_alike d.names n chain chain' k k' same o.0,
+      e' ∙ ap (λ (z : ℕ × Option Item). text_lines (add_tokens chain' k') z.1 left) (sym o.1),
+    )
 
 -- the lines of a text have one result, apart from indices
 pub one_lines : (d : Document) (n : Names) (path : List Container) (p : Spot) (chain chain' : List Item) (lines : List Place) (t u : TextLines)
     → AlikeChains d.names n chain chain' → AreTextLines d path p chain lines t → AreTextLines (with_names d n) path p chain' lines u
     → OneGiven d.names n t u
 unfolding AreTextLines
-one_lines d n path p chain chain' [] t u same (k, a, b, i, e) (k', a', b', i', e') =
-    let o = one_line_read d n (content_at d p) k k' a a' b b' i i' in
-    given_alike d.names n t u (add_tokens chain k) (add_tokens chain' k') a a' [] e e' o.1 (tokens_alike d.names n chain chain' k k' same o.0)
+one_lines d n path p chain chain' [] t u same last last' = last_alike d n p chain chain' [] t u same last last'
 one_lines d n path p chain chain' (line ∷ lines) t u same (k, a, b, i, inl (h, e)) (k', a', b', i', inl (h', e')) =
-    let o = one_line_read d n (content_at d p) k k' a a' b b' i i' in
-    given_alike d.names n t u (add_tokens chain k) (add_tokens chain' k') a a' (line ∷ lines) e e' o.1 (tokens_alike d.names n chain chain' k k' same o.0)
+    last_alike d n p chain chain' (line ∷ lines) t u same (k, a, b, i, e) (k', a', b', i', e')
 one_lines d n path p chain chain' (line ∷ lines) t u same (k, a, b, i, inl (h, e)) (k', a', b', i', inr (h', more)) = absurd (true≢false (sym h ∙ h'))
 one_lines d n path p chain chain' (line ∷ lines) t u same (k, a, b, i, inr (h, more)) (k', a', b', i', inl (h', e')) = absurd (true≢false (sym h' ∙ h))
 one_lines d n path p chain chain' (line ∷ lines) t u same (k, a, b, i, inr (h, more)) (k', a', b', i', inr (h', more')) =

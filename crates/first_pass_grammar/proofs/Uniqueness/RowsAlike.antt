@@ -27,8 +27,10 @@ use Rattle.first_pass_items.specs.declared.item.ItemBody.{ItemBody}
 use Rattle.first_pass_items.specs.declared.item.ItemBody.TheVariants.{DefinitionList as DefinitionListBody, DefinitionListDefinition as DefinitionBody}
 use Rattle.first_pass_items.specs.declared.item.ItemBody.TheVariants.{DefinitionListTitle, SynthesizeText, FencedCodeBlock, Table, Heading}
 use Rattle.first_pass_grammar.specs.Rows.{end_of_row, list_until, items_after, list_after, row_of, row_of_leaf, container_row, rows_of}
+use Rattle.first_pass_grammar.specs.Rows.{in_list, what_of}
 use Rattle.first_pass_grammar.specs.Derivation.{Tables, definitions_of, footnotes_of, with_all_of, node_of, list_flags, row_items, tight_in, items_of}
-use Rattle.first_pass_grammar.proofs.Uniqueness.Alike.{AlikeNodes, stands, only_head, label_node, opened_alike, label_alike, Alike, nodes_append, tight_read}
+use Rattle.first_pass_grammar.proofs.Uniqueness.Alike.{AlikeNodes, AlikeLeaf, AlikeHead, stands, only_head, only_opener, label_node, opened_alike, label_alike}
+use Rattle.first_pass_grammar.proofs.Uniqueness.Alike.{Alike, nodes_append, tight_read}
 use Rattle.first_pass_grammar.proofs.Uniqueness.Alike.{read_tight}
 use Rattle.first_pass_grammar.proofs.Uniqueness.Alike.{read_at_depth}
 
@@ -145,78 +147,76 @@ past_alike m n joins (OneOf row inner next) End a = absurd a
 past_alike m n joins (OneOf row inner next) (OneOf row' inner' next') a =
     chosen m n _ _ next next' (OneOf row inner next) (OneOf row' inner' next') (same_list m n joins row row' a.0) a.2 a
 
-abbrev head_of : Opener → ℕ → ℕ → Head
-head_of opener line start = record { opener = opener; line = line; start = start }
+end_bare : (last : ℕ) (w : What) → end_of_row (bare_what w) last ≡ end_of_row w last
+end_bare last (ALeaf b) = refl
+end_bare last (AFootnote index e) = refl
+end_bare last (ATitle b) = refl
+end_bare last w = refl
 
-same_container : (m n : Names) (last : ℕ) (opener : Opener) (line start e : ℕ) (gap : Bool) (inner inner' next next' : Rows)
-    → AlikeRows m n inner inner' → AlikeRows m n next next'
-    → (let row : Opener → Row = λ o. row_of (head_of o line start) e gap in
-    AlikeNodes m n (label_node opener) (label_node opener)
-    → AlikeRows m n (container_row last opener (row opener) inner next) (container_row last opener (row opener) inner' next'))
-same_container m n last (QuoteMarker kind) line start e gap inner inner' next next' a b named = ((refl, refl), a, b)
-same_container m n last (ItemMarker byte number columns) line start e gap inner inner' next next' a b named =
-    let list : ℕ → Row = λ until. record { what = AList byte number until; line = line; start = start; gap = gap } in (
-      (ap list (until_alike m n (ItemsOf byte) last next next' b), refl),
-      ((refl, refl), a, items_alike m n (ItemsOf byte) next next' b),
-      past_alike m n (ItemsOf byte) next next' b,
+ends_alike : (m n : Names) (last : ℕ) (row row' : Row) → AlikeRow m n row row' → end_of_row row.what last ≡ end_of_row row'.what last
+ends_alike m n last row row' a = sym (end_bare last row.what) ∙ ap (λ (r : Row). end_of_row r.what last) a.0 ∙ end_bare last row'.what
+
+-- containers with the same opener, before alike rows
+container_alike : (m n : Names) (last : ℕ) (o : Opener) (row row' : Row) (inner inner' next next' : Rows)
+    → AlikeRows m n (OneOf row inner next) (OneOf row' inner' next')
+    → AlikeRows m n (container_row last o row inner next) (container_row last o row' inner' next')
+container_alike m n last (QuoteMarker kind) row row' inner inner' next next' a = a
+container_alike m n last (FootnoteMarker columns index label) row row' inner inner' next next' a = a
+container_alike m n last (ItemMarker byte number columns) row row' inner inner' next next' a =
+    let list : ℕ → Row → Row = λ e r. record { what = AList byte number e; line = r.line; start = r.start; gap = r.gap } in
+    let joins : Joins = ItemsOf byte in (
+      (ap (list (list_until joins last next)) a.0.0 ∙ ap (λ e. list e row') (until_alike m n joins last next next' a.2), refl),
+      ((gapped_alike m n false false (OneOf row inner End) (OneOf row' inner' End) refl (a.0, a.1, tt)).0, a.1, items_alike m n joins next next' a.2),
+      past_alike m n joins next next' a.2,
     )
-same_container m n last (DefinitionMarker columns) line start e gap inner inner' next next' a b named =
-    let list : ℕ → Row = λ until. record { what = ADefinitionList Untitled until; line = line; start = start; gap = gap } in
-    let joins : Joins = DefinitionsTo e in
-    ((ap list (until_alike m n joins last next next' b), refl), ((refl, refl), a, items_alike m n joins next next' b), past_alike m n joins next next' b)
-same_container m n last (FootnoteMarker columns index label) line start e gap inner inner' next next' a b named = ((refl, named), a, b)
+container_alike m n last (DefinitionMarker columns) row row' inner inner' next next' a =
+    let list : ℕ → Row → Row = λ e r. record { what = ADefinitionList Untitled e; line = r.line; start = r.start; gap = r.gap } in
+    let joins : Joins = DefinitionsTo (end_of_row row.what last) in
+    let first : Rows = in_list last (ADefinitionList Untitled) row inner next joins in
+    subst (λ e. AlikeRows m n first (in_list last (ADefinitionList Untitled) row' inner' next' (DefinitionsTo e))) (ends_alike m n last row row' a.0) (
+      (ap (list (list_until joins last next)) a.0.0 ∙ ap (λ e. list e row') (until_alike m n joins last next next' a.2), refl),
+      ((gapped_alike m n false false (OneOf row inner End) (OneOf row' inner' End) refl (a.0, a.1, tt)).0, a.1, items_alike m n joins next next' a.2),
+      past_alike m n joins next next' a.2,
+    )
 
-container_alike : (m n : Names) (last : ℕ) (o o' : Opener) (line line' start start' e : ℕ) (gap : Bool) (inner inner' next next' : Rows)
-    → only_head (head_of o line start) ≡ only_head (head_of o' line' start') → AlikeNodes m n (label_node o) (label_node o')
-    → AlikeRows m n inner inner' → AlikeRows m n next next'
-    → AlikeRows m n (container_row last o (row_of (head_of o line start) e gap) inner next)
-    (container_row last o' (row_of (head_of o' line' start') e gap) inner' next')
-container_alike m n last (QuoteMarker kind) (QuoteMarker kind') line line' start start' e gap inner inner' next next' is named a b =
-    ((ap (λ (h : Head). row_of h e gap) is, refl), a, b)
-container_alike m n last (ItemMarker byte number columns) (ItemMarker byte' number' columns') line line' start start' e gap inner inner' next next' is named
-    a b =
-    let o : Opener = ItemMarker byte number columns in
-    subst (λ (h : Head). AlikeRows m n (container_row last o (row_of (head_of o line start) e gap) inner next)
-    (container_row last h.opener (row_of h e gap) inner' next')) is
-    (same_container m n last o line start e gap inner inner' next next' a b refl)
-container_alike m n last (FootnoteMarker columns index label) (FootnoteMarker columns' index' label') line line' start start' e gap inner inner' next next'
-    is named a b = ((ap (λ (h : Head). row_of h e gap) is, named), a, b)
-container_alike m n last (DefinitionMarker columns) (DefinitionMarker columns') line line' start start' e gap inner inner' next next' is named a b =
-    let o : Opener = DefinitionMarker columns in
-    subst (λ (h : Head). AlikeRows m n (container_row last o (row_of (head_of o line start) e gap) inner next)
-    (container_row last h.opener (row_of h e gap) inner' next')) is
-    (same_container m n last o line start e gap inner inner' next next' a b refl)
-container_alike m n last (QuoteMarker kind) (DefinitionMarker columns') line line' start start' e gap inner inner' next next' is named a b =
-    let not : QuoteMarker kind ≡ DefinitionMarker columns' = ap (λ (h : Head). h.opener) is in cc
-container_alike m n last (ItemMarker byte number columns) (DefinitionMarker columns') line line' start start' e gap inner inner' next next' is named a b =
-    let not : ItemMarker byte number columns ≡ DefinitionMarker columns' = ap (λ (h : Head). h.opener) is in cc
-container_alike m n last (FootnoteMarker columns index label) (DefinitionMarker columns') line line' start start' e gap inner inner' next next' is named
-    a b = let not : FootnoteMarker columns (record { 0 = 0 }) label ≡ DefinitionMarker columns' = ap (λ (h : Head). h.opener) is in cc
-container_alike m n last (DefinitionMarker columns) (QuoteMarker kind') line line' start start' e gap inner inner' next next' is named a b =
-    let not : DefinitionMarker columns ≡ QuoteMarker kind' = ap (λ (h : Head). h.opener) is in cc
-container_alike m n last (DefinitionMarker columns) (ItemMarker byte' number' columns') line line' start start' e gap inner inner' next next' is named a b =
-    let not : DefinitionMarker columns ≡ ItemMarker byte' number' columns' = ap (λ (h : Head). h.opener) is in cc
-container_alike m n last (DefinitionMarker columns) (FootnoteMarker columns' index' label') line line' start start' e gap inner inner' next next' is named
-    a b = let not : DefinitionMarker columns ≡ FootnoteMarker columns' (record { 0 = 0 }) label' = ap (λ (h : Head). h.opener) is in cc
-container_alike m n last (QuoteMarker kind) (ItemMarker byte' number' columns') line line' start start' e gap inner inner' next next' is named a b =
-    let not : QuoteMarker kind ≡ ItemMarker byte' number' columns' = ap (λ (h : Head). h.opener) is in cc
-container_alike m n last (QuoteMarker kind) (FootnoteMarker columns' index' label') line line' start start' e gap inner inner' next next' is named a b =
-    let not : QuoteMarker kind ≡ FootnoteMarker columns' (record { 0 = 0 }) label' = ap (λ (h : Head). h.opener) is in cc
-container_alike m n last (ItemMarker byte number columns) (QuoteMarker kind') line line' start start' e gap inner inner' next next' is named a b =
-    let not : ItemMarker byte number columns ≡ QuoteMarker kind' = ap (λ (h : Head). h.opener) is in cc
-container_alike m n last (ItemMarker byte number columns) (FootnoteMarker columns' index' label') line line' start start' e gap inner inner' next next' is
-    named a b = let not : ItemMarker byte number columns ≡ FootnoteMarker columns' (record { 0 = 0 }) label' = ap (λ (h : Head). h.opener) is in cc
-container_alike m n last (FootnoteMarker columns index label) (QuoteMarker kind') line line' start start' e gap inner inner' next next' is named a b =
-    let not : FootnoteMarker columns (record { 0 = 0 }) label ≡ QuoteMarker kind' = ap (λ (h : Head). h.opener) is in cc
-container_alike m n last (FootnoteMarker columns index label) (ItemMarker byte' number' columns') line line' start start' e gap inner inner' next next' is
-    named a b = let not : FootnoteMarker columns (record { 0 = 0 }) label ≡ ItemMarker byte' number' columns' = ap (λ (h : Head). h.opener) is in cc
+-- the rows of a container do not depend on the index of its label, and neither does its row without that index
+only_row : (last : ℕ) (o : Opener) (row : Row) (inner next : Rows) → container_row last (only_opener o) row inner next ≡ container_row last o row inner next
+only_row last (QuoteMarker kind) row inner next = refl
+only_row last (ItemMarker byte number columns) row inner next = refl
+only_row last (FootnoteMarker columns index label) row inner next = refl
+only_row last (DefinitionMarker columns) row inner next = refl
 
-leaf_bare : (b b' : LeafBlock) (gap gap' : Bool) → stands b ≡ stands b' → b.gap ≡ b'.gap → gap ≡ gap'
-    → bare (row_of_leaf b gap) ≡ bare (row_of_leaf b' gap')
-leaf_bare b b' gap gap' is own same =
+only_what : (o : Opener) (e : ℕ) → what_of (only_opener o) e ≡ bare_what (what_of o e)
+only_what (QuoteMarker kind) e = refl
+only_what (ItemMarker byte number columns) e = refl
+only_what (FootnoteMarker columns index label) e = refl
+only_what (DefinitionMarker columns) e = refl
+
+label_inside : (o : Opener) (e : ℕ) → inside (what_of o e) ≡ label_node o
+label_inside (QuoteMarker kind) e = refl
+label_inside (ItemMarker byte number columns) e = refl
+label_inside (FootnoteMarker columns index label) e = refl
+label_inside (DefinitionMarker columns) e = refl
+
+-- the rows of containers that begin alike
+head_alike : (m n : Names) (head head' : Head) (e : ℕ) (gap : Bool) → AlikeHead m n head head' → AlikeRow m n (row_of head e gap) (row_of head' e gap)
+head_alike m n head head' e gap a =
+    let with_what : Head → What → Row = λ h w. record { what = w; line = h.line; start = h.start; gap = gap } in (
+      ap (with_what head) (sym (only_what head.opener e)) ∙ ap (λ (h : Head). row_of h e gap) a.0 ∙ ap (with_what head') (only_what head'.opener e),
+      ap (read_nodes m) (label_inside head.opener e) ∙ a.1 ∙ ap (read_nodes n) (sym (label_inside head'.opener e)),
+    )
+
+opener_alike : (last : ℕ) (head head' : Head) (row : Row) (inner next : Rows) → only_head head ≡ only_head head'
+    → container_row last head.opener row inner next ≡ container_row last head'.opener row inner next
+opener_alike last head head' row inner next is =
+    sym (only_row last head.opener row inner next) ∙ ap (λ (h : Head). container_row last h.opener row inner next) is
+    ∙ only_row last head'.opener row inner next
+
+leaf_bare : (b b' : LeafBlock) (gap : Bool) → stands b ≡ stands b' → b.gap ≡ b'.gap → bare (row_of_leaf b gap) ≡ bare (row_of_leaf b' gap)
+leaf_bare b b' gap is own =
     let leaf : Kind × ℕ × ℕ → Bool → LeafBlock =
     λ z g. record { kind = z.0; line = z.1; start = z.2; items = []; gap = g; definitions = [] } in
-    ap (λ z. row_of_leaf (leaf z b.gap) gap) is ∙ ap (λ g. row_of_leaf (leaf (stands b') g) gap) own ∙ ap (row_of_leaf (leaf (stands b') b'.gap)) same
+    ap (λ z. row_of_leaf (leaf z b.gap) gap) is ∙ ap (λ g. row_of_leaf (leaf (stands b') g) gap) own
 
 -- If of two blocks that are alike one is a paragraph, so is the other.
 only_paragraph : (b : ItemBody) → is_paragraph_body (only_kind b) ≡ is_paragraph_body b
@@ -239,16 +239,15 @@ pub begins_alike : (m n : Names) (items items' : List (ℕ × Item)) → AlikeNo
 begins_alike m n items items' a = sym (begins_is m items) ∙ ap begins_read a ∙ begins_is n items'
 
 -- alike blocks precede what follows them in the same way
-pub after_alike : (m n : Names) (before : Before) (b b' : LeafBlock) → stands b ≡ stands b' → AlikeNodes m n b.items b'.items → b.gap ≡ b'.gap
-    → after_block before b ≡ after_block before b'
-after_alike m n before b b' is items own =
+pub after_alike : (m n : Names) (before : Before) (b b' : LeafBlock) → AlikeLeaf m n (Block b) (Block b') → after_block before b ≡ after_block before b'
+after_alike m n before b b' a =
     let after : Bool → Kind → Bool → Before = λ p k g. record {
       last = if p then LastParagraph (is_after_definition before.last) else (if is_run k then last_after_run before.last else LastOther);
       counted = g;
     } in
-    ap (λ p. after p b.kind b.gap) (begins_alike m n b.items b'.items items)
-    ∙ ap (λ (z : Kind × ℕ × ℕ). after (begins_paragraph b'.items) z.0 b.gap) is
-    ∙ ap (after (begins_paragraph b'.items) b'.kind) own
+    ap (λ p. after p b.kind b.gap) (begins_alike m n b.items b'.items a.1)
+    ∙ ap (λ (z : Kind × ℕ × ℕ). after (begins_paragraph b'.items) z.0 b.gap) a.0
+    ∙ ap (after (begins_paragraph b'.items) b'.kind) a.2
 
 -- the definitions at the start of alike rows
 abbrev AlikeFirst : Names → Names → Option Definitions → Option Definitions → Type 0
@@ -270,12 +269,6 @@ run_bare (AFootnote index e) = refl
 run_bare (ATitle b) = refl
 run_bare w = refl
 
-end_bare : (w : What) → end_of_row (bare_what w) 0 ≡ end_of_row w 0
-end_bare (ALeaf b) = refl
-end_bare (AFootnote index e) = refl
-end_bare (ATitle b) = refl
-end_bare w = refl
-
 apart_alike : (m n : Names) (row row' : Row) (inner inner' : Rows) (o o' : Option Definitions) → AlikeRow m n row row' → AlikeRows m n inner inner'
     → AlikeFirst m n o o' → AlikeFirst m n (option_map (apart_after row inner) o) (option_map (apart_after row' inner') o')
 apart_alike m n row row' inner inner' None None a b f = tt
@@ -283,19 +276,10 @@ apart_alike m n row row' inner inner' None (Some ds') a b f = absurd f
 apart_alike m n row row' inner inner' (Some ds) None a b f = absurd f
 apart_alike m n row row' inner inner' (Some ds) (Some ds') a b f = (f.0, refl, f.2, (a, b, f.3))
 
-at_alike : (m n : Names) (t t' u u' : Bool) (row row' : Row) (inner inner' next next' : Rows) (o o' : Option Definitions) → t ≡ t' → u ≡ u'
-    → AlikeRows m n (OneOf row inner next) (OneOf row' inner' next') → AlikeFirst m n o o'
-    → AlikeFirst m n (if t then definitions_of_row row inner next else (if u then option_map (apart_after row inner) o else None))
-    (if t' then definitions_of_row row' inner' next' else (if u' then option_map (apart_after row' inner') o' else None))
-at_alike m n t true u u' row row' inner inner' next next' o o' is same a f =
-    rw is (
-      sym (end_bare row.what) ∙ ap (λ (r : Row). end_of_row r.what 0) a.0.0 ∙ end_bare row'.what,
-      refl,
-      gapped_alike m n row.gap row'.gap inner inner' (ap (λ (z : Row). z.gap) a.0.0) a.1,
-      a.2,
-    )
-at_alike m n t false u true row row' inner inner' next next' o o' is same a f = rw (is, same) (apart_alike m n row row' inner inner' o o' a.0 a.1 f)
-at_alike m n t false u false row row' inner inner' next next' o o' is same a f = rw (is, same) tt
+either_alike : (m n : Names) (t t' : Bool) (x x' y y' : Option Definitions) → t ≡ t' → AlikeFirst m n x x' → AlikeFirst m n y y'
+    → AlikeFirst m n (if t then x else y) (if t' then x' else y')
+either_alike m n t true x x' y y' is a b = rw is a
+either_alike m n t false x x' y y' is a b = rw is b
 
 first_alike : (m n : Names) (r r' : Rows) → AlikeRows m n r r' → AlikeFirst m n (definitions_first r) (definitions_first r')
 unfolding definitions_first
@@ -303,44 +287,46 @@ first_alike m n End End a = tt
 first_alike m n End (OneOf row' inner' next') a = absurd a
 first_alike m n (OneOf row inner next) End a = absurd a
 first_alike m n (OneOf row inner next) (OneOf row' inner' next') a =
-    at_alike m n _ _ _ _ row row' inner inner' next next' (definitions_first next) (definitions_first next')
+    let more : Option Definitions = option_map (apart_after row inner) (definitions_first next) in
+    let more' : Option Definitions = option_map (apart_after row' inner') (definitions_first next') in
+    let gap : row.gap ≡ row'.gap = ap (λ (z : Row). z.gap) a.0.0 in
+    either_alike m n _ _ (definitions_of_row row inner next) (definitions_of_row row' inner' next') _ _
     (sym (untitled_bare row.what) ∙ ap (λ (r : Row). is_untitled r.what) a.0.0 ∙ untitled_bare row'.what)
-    (sym (run_bare row.what) ∙ ap (λ (r : Row). is_run_row r.what) a.0.0 ∙ run_bare row'.what) a (first_alike m n next next' a.2)
-
-if_alike : (m n : Names) (t t' : Bool) (o o' : Option Definitions) → t ≡ t'
-    → AlikeFirst m n o o' → AlikeFirst m n (if t then o else None) (if t' then o' else None)
-if_alike m n t true o o' is f = rw is f
-if_alike m n t false o o' is f = rw is tt
+    (ends_alike m n 0 row row' a.0, refl, gapped_alike m n row.gap row'.gap inner inner' gap a.1, a.2)
+    (either_alike m n _ _ more more' None None (sym (run_bare row.what) ∙ ap (λ (r : Row). is_run_row r.what) a.0.0 ∙ run_bare row'.what)
+    (apart_alike m n row row' inner inner' _ _ a.0 a.1 (first_alike m n next next' a.2)) tt)
 
 -- the rows of alike blocks before alike rows
-titled_alike : (m n : Names) (b b' : LeafBlock) (gap gap' : Bool) (o o' : Option Definitions) (next next' : Rows) → stands b ≡ stands b'
-    → AlikeNodes m n b.items b'.items → b.gap ≡ b'.gap → gap ≡ gap' → AlikeFirst m n o o' → AlikeRows m n next next'
+titled_alike : (m n : Names) (b b' : LeafBlock) (gap : Bool) (o o' : Option Definitions) (next next' : Rows) → AlikeLeaf m n (Block b) (Block b')
+    → AlikeFirst m n o o' → AlikeRows m n next next'
     → AlikeRows m n (option_map_or (titled b gap) o (OneOf (row_of_leaf b gap) End next))
-    (option_map_or (titled b' gap') o' (OneOf (row_of_leaf b' gap') End next'))
-titled_alike m n b b' gap gap' None None next next' is items own same f a = ((leaf_bare b b' gap gap' is own same, items), tt, a)
-titled_alike m n b b' gap gap' None (Some ds') next next' is items own same f a = absurd f
-titled_alike m n b b' gap gap' (Some ds) None next next' is items own same f a = absurd f
-titled_alike m n b b' gap gap' (Some ds) (Some ds') next next' is items own same f a =
+    (option_map_or (titled b' gap) o' (OneOf (row_of_leaf b' gap) End next'))
+titled_alike m n b b' gap None None next next' (is, items, own, same) f a = ((leaf_bare b b' gap is own, items), tt, a)
+titled_alike m n b b' gap None (Some ds') next next' own f a = absurd f
+titled_alike m n b b' gap (Some ds) None next next' own f a = absurd f
+titled_alike m n b b' gap (Some ds) (Some ds') next next' (is, items, own, same) f a =
     let leaf : Kind × ℕ × ℕ → Bool → LeafBlock =
     λ z g. record { kind = z.0; line = z.1; start = z.2; items = []; gap = g; definitions = [] } in
-    let list : Bool → ℕ → Kind × ℕ × ℕ → Bool → Row =
-    λ t e z g. record { what = ADefinitionList (if t then Apart else WithTitle) e; line = z.1; start = z.2; gap = g } in
+    let list : Bool → ℕ → Kind × ℕ × ℕ → Row =
+    λ t e z. record { what = ADefinitionList (if t then Apart else WithTitle) e; line = z.1; start = z.2; gap = gap } in
     let title : Kind × ℕ × ℕ → Bool → Row = λ z g. record { what = ATitle (leaf z g); line = z.1; start = z.2; gap = false } in (
       (
-        ap (λ t. list t ds.«end» (stands b) gap) f.1 ∙ ap (λ e. list ds'.apart e (stands b) gap) f.0
-            ∙ ap (λ z. list ds'.apart ds'.«end» z gap) is ∙ ap (list ds'.apart ds'.«end» (stands b')) same,
+        ap (λ t. list t ds.«end» (stands b)) f.1 ∙ ap (λ e. list ds'.apart e (stands b)) f.0 ∙ ap (list ds'.apart ds'.«end») is,
         refl,
       ),
       ((ap (λ z. title z b.gap) is ∙ ap (title (stands b')) own, items), tt, f.2),
       f.3,
     )
 
-leaf_alike : (m n : Names) (b b' : LeafBlock) (gap gap' : Bool) (next next' : Rows) → stands b ≡ stands b'
-    → AlikeNodes m n b.items b'.items → b.gap ≡ b'.gap → gap ≡ gap' → AlikeRows m n next next'
-    → AlikeRows m n (leaf_row b gap next) (leaf_row b' gap' next')
-leaf_alike m n b b' gap gap' next next' is items own same a =
-    titled_alike m n b b' gap gap' _ _ next next' is items own same
-    (if_alike m n _ _ (definitions_first next) (definitions_first next') (begins_alike m n b.items b'.items items) (first_alike m n next next' a)) a
+leaf_alike : (m n : Names) (before : Before) (b b' : LeafBlock) (next next' : Rows) → AlikeLeaf m n (Block b) (Block b') → AlikeRows m n next next'
+    → AlikeRows m n (leaf_row b (gap_before before b) next) (leaf_row b' (gap_before before b') next')
+leaf_alike m n before b b' next next' own a =
+    let begins : begins_paragraph b.items ≡ begins_paragraph b'.items = begins_alike m n b.items b'.items own.1 in
+    let gap : Bool = gap_before before b in
+    let same : gap ≡ gap_before before b' = ap (λ p. before.counted && not (p && is_after_definition before.last)) begins in
+    subst (λ g. AlikeRows m n (leaf_row b gap next) (leaf_row b' g next')) same
+    (titled_alike m n b b' gap _ _ next next' own
+    (either_alike m n _ _ (definitions_first next) (definitions_first next') None None begins (first_alike m n next next' a) tt) a)
 
 -- what precedes the end of alike skeletons
 pub end_alike : (m n : Names) (quoted : Bool) (before : Before) (s t : Skeleton) → Alike m n s t → before_end quoted before s ≡ before_end quoted before t
@@ -357,7 +343,7 @@ end_alike m n quoted before (Then BlankLine next) (Then (Block b') next') a = ab
 end_alike m n quoted before (Then (Block b) next) (Then BlankLine next') a = absurd a.0
 end_alike m n quoted before (Then (Block b) next) (Then (Block b') next') a =
     end_alike m n quoted (after_block before b) next next' a.1
-    ∙ ap (λ z. before_end quoted z next') (after_alike m n before b b' a.0.0 a.0.1 a.0.2)
+    ∙ ap (λ z. before_end quoted z next') (after_alike m n before b b' a.0)
 end_alike m n quoted before (Node head e kids next) (Node head' e' kids' next') a =
     let c : Container = opened head.opener in
     end_alike m n quoted (after_container c (before_end (is_quote c) nothing kids)) next next' a.3
@@ -379,27 +365,31 @@ rows_alike m n quoted before last (Then BlankLine next) (Then BlankLine next') a
 rows_alike m n quoted before last (Then BlankLine next) (Then (Block b') next') a = absurd a.0
 rows_alike m n quoted before last (Then (Block b) next) (Then BlankLine next') a = absurd a.0
 rows_alike m n quoted before last (Then (Block b) next) (Then (Block b') next') a =
-    leaf_alike m n b b' (gap_before before b) (gap_before before b') _ _ a.0.0 a.0.1 a.0.2
-    (ap (λ p. before.counted && not (p && is_after_definition before.last)) (begins_alike m n b.items b'.items a.0.1))
-    (subst (λ z. AlikeRows m n (rows_of quoted (after_block before b) last next) (rows_of quoted z last next')) (after_alike m n before b b' a.0.0 a.0.1 a.0.2)
+    leaf_alike m n before b b' _ _ a.0
+    (subst (λ z. AlikeRows m n (rows_of quoted (after_block before b) last next) (rows_of quoted z last next')) (after_alike m n before b b' a.0)
     (rows_alike m n quoted (after_block before b) last next next' a.1))
 rows_alike m n quoted before last (Node head e kids next) (Node head' e' kids' next') a =
     let c : Container = opened head.opener in
     let c' : Container = opened head'.opener in
     let same : c ≡ c' = opened_alike head head' a.0.0 in
     let rows : Rows = rows_of quoted before last (Node head e kids next) in
+    let inside_of : Container → Skeleton → Rows = λ z s. rows_of (is_quote z) nothing e s in
+    let after_of : Container → Before → Skeleton → Rows = λ z own s. rows_of quoted (after_container z own) last s in
     let inner : Before = before_end (is_quote c) nothing kids in
     let inner' : Before = before_end (is_quote c) nothing kids' in
-    let after : AlikeRows m n (rows_of quoted (after_container c inner) last next) (rows_of quoted (after_container c inner') last next') =
-    subst (λ (z : Before). AlikeRows m n (rows_of quoted (after_container c inner) last next) (rows_of quoted (after_container c z) last next'))
-    (end_alike m n (is_quote c) nothing kids kids' a.2) (rows_alike m n quoted (after_container c inner) last next next' a.3) in
-    let own : AlikeRows m n (rows_of (is_quote c) nothing e kids) (rows_of (is_quote c) nothing e kids') =
-    rows_alike m n (is_quote c) nothing e kids kids' a.2 in
+    let own : AlikeRows m n (inside_of c kids) (inside_of c' kids') =
+    subst (λ (z : Container). AlikeRows m n (inside_of c kids) (inside_of z kids')) same (rows_alike m n (is_quote c) nothing e kids kids' a.2) in
+    let after : AlikeRows m n (after_of c inner next) (after_of c inner' next') =
+    subst (λ (z : Before). AlikeRows m n (after_of c inner next) (after_of c z next')) (end_alike m n (is_quote c) nothing kids kids' a.2)
+    (rows_alike m n quoted (after_container c inner) last next next' a.3) in
+    let later : Rows = after_of c' (before_end (is_quote c') nothing kids') next' in
+    let all : AlikeRows m n (after_of c inner next) later =
+    subst (λ (z : Container). AlikeRows m n (after_of c inner next) (after_of z (before_end (is_quote z) nothing kids') next')) same after in
+    let row : Row = row_of head' e before.counted in
     subst (λ (x : ℕ). AlikeRows m n rows (rows_of quoted before last (Node head' x kids' next'))) a.1
-    (container_alike m n last head.opener head'.opener head.line head'.line head.start head'.start e before.counted _ _ _ _ a.0.0 a.0.1
-    (subst (λ (z : Container). AlikeRows m n (rows_of (is_quote c) nothing e kids) (rows_of (is_quote z) nothing e kids')) same own)
-    (subst (λ (z : Container). AlikeRows m n (rows_of quoted (after_container c inner) last next)
-    (rows_of quoted (after_container z (before_end (is_quote z) nothing kids')) last next')) same after))
+    (subst (λ z. AlikeRows m n rows z) (opener_alike last head head' row (inside_of c' kids') later a.0.0)
+    (container_alike m n last head.opener (row_of head e before.counted) row (inside_of c kids) (inside_of c' kids') (after_of c inner next) later
+    (head_alike m n head head' e before.counted a.0, own, all)))
 
 -- a footnote definition as it is read, given how its index is read
 abbrev footnote_shown : ℕ → ℕ → ℕ → List (ℕ × (Item × Option Named)) → List (ℕ × (Item × Option Named))

@@ -104,19 +104,25 @@ same_block table m n row other are =
     (subst (λ z. AlikeNodes m n first (row_block TableRow table.columns row.start other.cells z)) are.2
     (row_alike m n TableRow table.columns row.start row.cells other.cells row.row_end refl are.0))
 
-one_row : (d : Document) (n : Names) (path : List Container) (table : TableSoFar) (line : Place) (lines : List Place) (t u : Taken) (row other : FoundRow)
-    → ((a b : Taken) → RowsWithRoom d path (with_row table row) lines a → RowsWithRoom (with_names d n) path (with_row table row) lines b
-    → AlikeTaken d.names n a b)
-    → AlikeRows d.names n row other
-    → AfterRow d path table line lines t row → AfterRow (with_names d n) path table line lines u other → AlikeTaken d.names n t u
-one_row d n path table line lines t u row other f are (inl (h, e)) (inl (k, g)) =
+-- a line has cells, and this is taken after the row with them
+abbrev HasRow : Document → List Container → TableSoFar → Place → List Place → Taken → Type 0
+HasRow d path table line lines t = (row : FoundRow) × HasCells d path line table.braces row × AfterRow d path table line lines t row
+
+one_row : (d : Document) (n : Names) (path : List Container) (table : TableSoFar) (line : Place) (lines : List Place) (t u : Taken)
+    → ((next : TableSoFar) (a b : Taken) → RowsWithRoom d path next lines a → RowsWithRoom (with_names d n) path next lines b → AlikeTaken d.names n a b)
+    → HasRow d path table line lines t → HasRow (with_names d n) path table line lines u → AlikeTaken d.names n t u
+one_row d n path table line lines t u f (row, has, inl (h, e)) (other, has', inl (k, g)) =
     taken_alike d.names n t u (taking [] (line ∷ lines)) (taking [] (line ∷ lines)) e g (refl, refl)
-one_row d n path table line lines t u row other f are (inl (h, e)) (inr (k, more, is, g)) =
+one_row d n path table line lines t u f (row, has, inl (h, e)) (other, has', inr (k, more, is, g)) =
+    let are = one_found d n path line table.braces row other has has' in
     absurd (true≢false (sym k ∙ sym (same_row table d.names n row.cells other.cells are.0) ∙ h))
-one_row d n path table line lines t u row other f are (inr (h, more, is, e)) (inl (k, g)) =
+one_row d n path table line lines t u f (row, has, inr (h, more, is, e)) (other, has', inl (k, g)) =
+    let are = one_found d n path line table.braces row other has has' in
     absurd (true≢false (sym h ∙ same_row table d.names n row.cells other.cells are.0 ∙ k))
-one_row d n path table line lines t u row other f are (inr (h, a, is, e)) (inr (k, b, is', g)) =
-    let rest = f a b is (subst (λ z. RowsWithRoom (with_names d n) path z lines b) (sym (same_table table d.names n row other are)) is') in
+one_row d n path table line lines t u f (row, has, inr (h, a, is, e)) (other, has', inr (k, b, is', g)) =
+    let are = one_found d n path line table.braces row other has has' in
+    let rest = f (with_row table row) a b is
+    (subst (λ z. RowsWithRoom (with_names d n) path z lines b) (sym (same_table table d.names n row other are)) is') in
     let first : List (ℕ × Item) = row_block TableRow table.columns row.start row.cells row.row_end in
     let second : List (ℕ × Item) = row_block TableRow table.columns other.start other.cells other.row_end in
     taken_alike d.names n t u (taking (first ++ a.items) a.left) (taking (second ++ b.items) b.left) e g
@@ -131,9 +137,8 @@ one_counted d n path (line ∷ lines) table t u (inl (h, e)) (inl (k, f)) =
     taken_alike d.names n t u (taking [] (line ∷ lines)) (taking [] (line ∷ lines)) e f (refl, refl)
 one_counted d n path (line ∷ lines) table t u (inl (h, e)) (inr (row, has, rest)) = absurd (none-some row.start (sym h ∙ has.begins))
 one_counted d n path (line ∷ lines) table t u (inr (row, has, rest)) (inl (k, f)) = absurd (none-some row.start (sym k ∙ has.begins))
-one_counted d n path (line ∷ lines) table t u (inr (row, has, rest)) (inr (other, has', rest')) =
-    one_row d n path table line lines t u row other (λ a b x y. one_counted d n path lines (with_row table row) a b x y)
-    (one_found d n path line table.braces row other has has') rest rest'
+one_counted d n path (line ∷ lines) table t u (inr row) (inr other) =
+    one_row d n path table line lines t u (λ next a b x y. one_counted d n path lines next a b x y) row other
 
 pub one_rows : (d : Document) (n : Names) (path : List Container) (lines : List Place) (table : TableSoFar) (t u : Taken)
     → AreRows d path table lines t → AreRows (with_names d n) path table lines u → AlikeTaken d.names n t u

@@ -392,7 +392,7 @@ leaf_after : (m n : Names) (l : Level) (leaf leaf' : Leaf) → AlikeLeaf m n lea
 leaf_after m n l BlankLine BlankLine a = refl
 leaf_after m n l BlankLine (Block b') a = absurd a
 leaf_after m n l (Block b) BlankLine a = absurd a
-leaf_after m n l (Block b) (Block b') a = ap (level l.path) (after_alike m n l.before b b' a.0 a.1 a.2)
+leaf_after m n l (Block b) (Block b') a = ap (level l.path) (after_alike m n l.before b b' a)
 
 container_after : (m n : Names) (l : Level) (head : Head) (kids kids' : Skeleton) → Alike m n kids kids' → level_after l head kids ≡ level_after l head kids'
 container_after m n l head kids kids' a =

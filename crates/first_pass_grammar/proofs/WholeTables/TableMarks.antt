@@ -292,11 +292,16 @@ filled_shows : (names : Names) («end» : ℕ) → marks names (cell_block «end
 unfolding marks
 filled_shows names end = refl
 
--- the marks of a row: its end, and as many cells as columns, of which the filled ones start at its end
+-- the marks of these nodes are those of a row: its end, and as many cells as columns, of which so many filled ones
+-- start at its end
+abbrev pub ShowsRow : Names → ℕ → ℕ → ℕ → List (ℕ × Item) → Type 0
+ShowsRow names columns «end» many items =
+    (starts : List ℕ) × (marks names items ≡ ARow 0 «end» ∷ map (ACell 1) starts)
+    × (length starts ≡ columns) × StartApart «end» starts × (how_often «end» starts ≡ many)
+
 pub row_shows : (d : Document) (body : ItemBody) (columns : ℕ) (p : Spot) (cells : List (List (ℕ × Item))) (to : Spot)
     → shown d.names 0 p.at to.at body ≡ ARow 0 to.at ∷ [] → AreCells d p cells to
-    → (starts : List ℕ) × (marks d.names (row_block body columns p.at cells to.at) ≡ ARow 0 to.at ∷ map (ACell 1) starts)
-    × (length starts ≡ columns) × StartApart to.at starts × (how_often to.at starts ≡ filled columns cells)
+    → ShowsRow d.names columns to.at (filled columns cells) (row_block body columns p.at cells to.at)
 unfolding marks
 row_shows d body columns p cells to own are =
     let (starts, show, before) = cells_show d p cells to are in
@@ -320,28 +325,28 @@ row_shows d body columns p cells to own are =
       omega arith,
     )
 
--- the marks of the rows of a table body
-none_over : (d : Document) (columns : ℕ) (items : List (ℕ × Item)) → items ≡ [] → (most : ℕ)
-    → (rows : List RowCells) × (marks d.names items ≡ row_marks 0 rows) × HaveCells columns rows × (filled_in rows ≤ most)
+-- the marks of these nodes are those of the rows of a table body with so many columns, and at most so many filled
+-- cells
+abbrev pub ShowRows : Names → ℕ → ℕ → List (ℕ × Item) → Type 0
+ShowRows names columns most items = (rows : List RowCells) × (marks names items ≡ row_marks 0 rows) × HaveCells columns rows × (filled_in rows ≤ most)
+
+none_over : (d : Document) (columns : ℕ) (items : List (ℕ × Item)) → items ≡ [] → (most : ℕ) → ShowRows d.names columns most items
 unfolding marks row_marks HaveCells filled_in
 none_over d columns items e most = ([], ap (marks d.names) e, tt, omega arith)
 
-one_over : (d : Document) (columns most : ℕ) (first more items : List (ℕ × Item)) (row : RowCells) (rows : List RowCells) → items ≡ first ++ more
-    → marks d.names first ≡ ARow 0 row.«end» ∷ map (ACell 1) row.starts → (length row.starts ≡ columns) × StartApart row.«end» row.starts
-    → marks d.names more ≡ row_marks 0 rows → HaveCells columns rows
-    → how_often row.«end» row.starts + filled_in rows ≤ most
-    → (rows : List RowCells) × (marks d.names items ≡ row_marks 0 rows) × HaveCells columns rows × (filled_in rows ≤ most)
+one_over : (names : Names) (columns most «end» many : ℕ) (first more items : List (ℕ × Item)) → items ≡ first ++ more → many ≤ most
+    → ShowsRow names columns «end» many first → ShowRows names columns (most - many) more → ShowRows names columns most items
 unfolding row_marks HaveCells filled_in
-one_over d columns most first more items row rows e show size these have node_bound = (
-  row ∷ rows,
-  ap (marks d.names) e ∙ marks-append d.names first more ∙ ap (λ (z : List Mark). z ++ marks d.names more) show
-      ∙ ap (λ (z : List Mark). (ARow 0 row.«end» ∷ map (ACell 1) row.starts) ++ z) these,
-  (size.0, size.1, have),
-  node_bound,
+one_over names columns most end many first more items e fits (starts, show, size, apart, often) (rows, these, have, node_bound) = (
+  record { «end» = end; starts = starts } ∷ rows,
+  ap (marks names) e ∙ marks-append names first more ∙ ap (λ (z : List Mark). z ++ marks names more) show
+      ∙ ap (λ (z : List Mark). (ARow 0 end ∷ map (ACell 1) starts) ++ z) these,
+  (size, apart, have),
+  omega arith,
 )
 
 counted_show : (d : Document) (path : List Container) (table : TableSoFar) (lines : List Place) (t : Taken) → RowsWithRoom d path table lines t
-    → (rows : List RowCells) × (marks d.names t.items ≡ row_marks 0 rows) × HaveCells table.columns rows × (filled_in rows ≤ table.room)
+    → ShowRows d.names table.columns table.room t.items
 unfolding RowsWithRoom
 counted_show d path table [] t e = none_over d table.columns t.items (ap (λ (z : Taken). z.items) e) table.room
 counted_show d path table (line ∷ lines) t (inl (none, e)) = none_over d table.columns t.items (ap (λ (z : Taken). z.items) e) table.room
@@ -349,15 +354,14 @@ counted_show d path table (line ∷ lines) t (inr (row, has, inl (stops, e))) =
     none_over d table.columns t.items (ap (λ (z : Taken). z.items) e) table.room
 counted_show d path table (line ∷ lines) t (inr (row, has, inr (is, more, rest, e))) =
     let n : ℕ = filled table.columns row.cells in
-    let (starts, show, size, apart, often) =
-    row_shows d TableRow table.columns (spot row.start table.braces) row.cells (spot row.row_end row.after) refl has.are_cells in
-    let (rows, these, have, node_bound) = counted_show d path (with_row table row) lines more rest in
     let fits = leb-true n table.room (and_parts (nat_lt 0 (length row.cells)) (nat_le n table.room) is).1 in
-    one_over d table.columns table.room (row_block TableRow table.columns row.start row.cells row.row_end) more.items t.items
-    (record { «end» = row.row_end; starts = starts }) rows (ap (λ (z : Taken). z.items) e) show (size, apart) these have (omega arith)
+    one_over d.names table.columns table.room row.row_end n (row_block TableRow table.columns row.start row.cells row.row_end) more.items t.items
+    (ap (λ (z : Taken). z.items) e) fits
+    (row_shows d TableRow table.columns (spot row.start table.braces) row.cells (spot row.row_end row.after) refl has.are_cells)
+    (counted_show d path (with_row table row) lines more rest)
 
 pub rows_show : (d : Document) (path : List Container) (table : TableSoFar) (lines : List Place) (t : Taken) → AreRows d path table lines t
-    → (rows : List RowCells) × (marks d.names t.items ≡ row_marks 0 rows) × HaveCells table.columns rows × (filled_in rows ≤ table.room)
+    → ShowRows d.names table.columns table.room t.items
 rows_show d path table lines t h = counted_show d path table lines t (counted d path table lines t h)
 
 -- The marks of a table are those of one table, which is whole if its header row needs no more filled cells than
