@@ -12,8 +12,8 @@ use Rattle.first_pass_grammar.specs.Skeleton.{Continues, onward, end_before}
 use Rattle.first_pass_grammar.specs.Rows.{ItemsOf, DefinitionsTo, Rows, any_gap, rows_of}
 use Rattle.first_pass_grammar.specs.Derivation.{with_all_of}
 use Rattle.first_pass_grammar.specs.Completion.{ended, Closed, OtherClosed, ParagraphAt, DefinitionClosed, TitleAt, Pending}
-use Rattle.first_pass_grammar.specs.Completion.{NoList, OneList, rows_beyond, rendered, InContainer, InList, InDefinitions}
-use Rattle.first_pass_grammar.specs.Completion.{definitions_open, containers_of, IsPlain}
+use Rattle.first_pass_grammar.specs.Completion.{NoList, OneList, rows_beyond, rendered, Frame, InContainer, InList, InDefinitions, closed_as}
+use Rattle.first_pass_grammar.specs.Completion.{definitions_open, containers_of, loosened, IsPlain, IsShaped}
 use Rattle.first_pass_completion.proofs.Extending.{stepped, AreBelow-more, length-ended, extend_same}
 use Rattle.first_pass_grammar.proofs.Sequences.Finishes.{Finish, Tail, before_of}
 use Rattle.first_pass_completion.proofs.TitleNodes.{reflagged, swapped}
@@ -78,82 +78,63 @@ ended-reflagged : (nodes : List (ℕ × Item)) (o x e : ℕ) (l : Bool) → ende
 unfolding ended reflagged
 ended-reflagged nodes o x e l = swapped nodes o x _ _ (λ y. refl)
 
--- the flags of the list whose item blocks continue in
-reflag_outer : (d : Document) (w : OpenNodes) (t : Tail) (c : Container) (byte : ℕ) (loose : Bool) (x o : ℕ) (from : Continues) (lines : List Place)
-    → IsBefore o t.closed
-    → (let inner : List (ℕ × Item) → OpenNodes = λ nodes.
-    with_inner (with_inner (record w { nodes = nodes }) (InList byte loose) o) (InContainer c) x in
+-- the frame is that of a list around this container; only definitions are in a definition list
+abbrev pub IsListAround : Frame → Container → Type 0
+IsListAround (InContainer b) c = ⊥
+IsListAround (InList byte loose) c = Unit {0}
+IsListAround (InDefinitions loose) (Definition columns) = Unit {0}
+IsListAround (InDefinitions loose) c = ⊥
+
+-- the flags of that list after the container is closed
+reflag_step : (d : Document) (w : OpenNodes) (frame : Frame) (c : Container) (gap : Bool) (o e : ℕ) (before : Before) (from : Continues) (lines : List Place)
+    → IsListAround frame c → IsShaped (frame ∷ w.frames)
+    → (let now : List (ℕ × Item) → Reading = λ nodes.
+    reading (record w { frames = loosened gap (frame ∷ w.frames); nodes = nodes; places = o ∷ w.places }) (NoList (closed_as c e)) before from lines in
+    IsStep d (now w.nodes) (now (reflagged w.nodes o true)))
+unfolding Finish
+reflag_step d w (InContainer b) c gap o e before from lines around shape = absurd around
+reflag_step d w (InList byte loose) c gap o e before from lines around shape =
+    renode_step d w (OneList o (ItemsOf byte) (loose || gap)) before (reflagged w.nodes o true) from lines shape.0
+    (λ k last r. list-reflagged k last w.nodes o true (ItemsOf byte) (loose || gap) r)
+reflag_step d w (InDefinitions loose) (Definition columns) gap o e before from lines around shape =
+    renode_step d w (OneList o (DefinitionsTo e) (loose || gap)) before (reflagged w.nodes o true) from lines shape.0
+    (λ k last r. list-reflagged k last w.nodes o true (DefinitionsTo e) (loose || gap) r)
+reflag_step d w (InDefinitions loose) c gap o e before from lines around shape = absurd around
+
+-- while blocks continue in the container
+reflag_outer : (d : Document) (w : OpenNodes) (t : Tail) (frame : Frame) (c : Container) (x o : ℕ) (from : Continues) (lines : List Place)
+    → IsListAround frame c → IsBefore o t.closed
+    → (let inner : List (ℕ × Item) → OpenNodes = λ nodes. with_inner (with_inner (record w { nodes = nodes }) frame o) (InContainer c) x in
     CompletesFrom d (inner w.nodes) t from lines
     → IsStep d (reading_at (inner w.nodes) t from lines) (reading_at (inner (reflagged w.nodes o true)) t from lines))
 unfolding Finish
-reflag_outer d w t c byte loose x o from lines before_it whole forest tables (s, mid, seq, fin) =
+reflag_outer d w t frame c x o from lines around before_it whole forest tables (s, mid, seq, fin) =
     let k : ℕ = suc (length (x ∷ o ∷ w.places)) in
-    let before : Before = before_of (InContainer c ∷ InList byte loose ∷ w.frames) t in
-    let e : ℕ = end_before (length d.text) (containers_of w.frames) from mid in
+    let before : Before = before_of (InContainer c ∷ frame ∷ w.frames) t in
+    let e : ℕ = end_before (length d.text) (containers_of (frame ∷ w.frames)) from mid in
     let rows : Rows = rows_of (is_quote c) before e s in
     let now : Before = after_container c (before_end (is_quote c) before s) in
     let all : List (ℕ × Item) = rendered k e w.nodes (NoList t.closed) rows in
-    let loose' : Bool = loose || any_gap (rows_beyond (NoList t.closed) rows) in
+    let gap : Bool = any_gap (rows_beyond (NoList t.closed) rows) in
     let old : OpenNodes = record w { defined = with_all_of w.defined s; nodes = ended all x e } in
     let new : List (ℕ × Item) → Reading = λ nodes.
-    reading (record old { nodes = nodes }) (OneList o (ItemsOf byte) loose') now (onward mid).0 (onward mid).1 in
+    reading (record old { frames = loosened gap (frame ∷ w.frames); nodes = nodes; places = o ∷ w.places }) (NoList (closed_as c e)) now
+    (onward mid).0 (onward mid).1 in
     let within : o < length w.nodes = (let a : x < length w.nodes = whole.below.0 in let b : o < x = whole.below.1.0 in omega arith) in
     let same : ended (rendered k e (reflagged w.nodes o true) (NoList t.closed) rows) x e ≡ reflagged (ended all x e) o true =
     ap (λ z. ended z x e) (reflagged-rendered k e w.nodes o true t.closed rows within before_it) ∙ ended-reflagged all o x e true in (
       s,
       mid,
       seq,
-      renode_step d old (OneList o (ItemsOf byte) loose') now (reflagged (ended all x e) o true) (onward mid).0 (onward mid).1 whole.shape.1.0
-          (λ k last r. list-reflagged k last (ended all x e) o true (ItemsOf byte) loose' r) forest tables
+      reflag_step d old frame c gap o e now (onward mid).0 (onward mid).1 around whole.shape.1 forest tables
           (subst (λ z. IsCompleted d (new z) forest tables) same fin),
     )
 
 -- The list around a container may be loose already.
-pub completes-reflag : (d : Document) (w : OpenNodes) (t : Tail) (c : Container) (byte : ℕ) (loose : Bool) (x o : ℕ) (from : Continues) (lines : List Place)
-    → IsBefore o t.closed
-    → (let inner : List (ℕ × Item) → OpenNodes = λ nodes. with_inner (with_inner (record w { nodes = nodes }) (InList byte loose) o) (InContainer c) x in
+pub completes-reflag : (d : Document) (w : OpenNodes) (t : Tail) (frame : Frame) (c : Container) (x o : ℕ) (from : Continues) (lines : List Place)
+    → IsListAround frame c → IsBefore o t.closed
+    → (let inner : List (ℕ × Item) → OpenNodes = λ nodes. with_inner (with_inner (record w { nodes = nodes }) frame o) (InContainer c) x in
     CompletesFrom d (inner w.nodes) t from lines → CompletesFrom d (inner (reflagged w.nodes o true)) t from lines)
-completes-reflag d w t c byte loose x o from lines before_it k =
-    stepped d _ _ _ _ _ _ _ _ k (reflag_outer d w t c byte loose x o from lines before_it k)
-    (AreBelow-more _ _ (x ∷ o ∷ w.places) (let n = length-reflagged w.nodes o true in omega arith) k.below, k.shape)
-
--- the flags of the definition list whose definition blocks continue in
-reflag_around : (d : Document) (w : OpenNodes) (t : Tail) (columns : ℕ) (loose : Bool) (x o : ℕ) (from : Continues) (lines : List Place)
-    → IsBefore o t.closed
-    → (let inner : List (ℕ × Item) → OpenNodes = λ nodes.
-    with_inner (with_inner (record w { nodes = nodes }) (InDefinitions loose) o) (InContainer (Definition columns)) x in
-    CompletesFrom d (inner w.nodes) t from lines
-    → IsStep d (reading_at (inner w.nodes) t from lines) (reading_at (inner (reflagged w.nodes o true)) t from lines))
-unfolding Finish
-reflag_around d w t columns loose x o from lines before_it whole forest tables (s, mid, seq, fin) =
-    let c : Container = Definition columns in
-    let k : ℕ = suc (length (x ∷ o ∷ w.places)) in
-    let before : Before = before_of (InContainer c ∷ InDefinitions loose ∷ w.frames) t in
-    let e : ℕ = end_before (length d.text) (containers_of w.frames) from mid in
-    let rows : Rows = rows_of (is_quote c) before e s in
-    let now : Before = after_container c (before_end (is_quote c) before s) in
-    let all : List (ℕ × Item) = rendered k e w.nodes (NoList t.closed) rows in
-    let loose' : Bool = loose || any_gap (rows_beyond (NoList t.closed) rows) in
-    let old : OpenNodes = record w { defined = with_all_of w.defined s; nodes = ended all x e } in
-    let new : List (ℕ × Item) → Reading = λ nodes.
-    reading (record old { nodes = nodes }) (OneList o (DefinitionsTo e) loose') now (onward mid).0 (onward mid).1 in
-    let within : o < length w.nodes = (let a : x < length w.nodes = whole.below.0 in let b : o < x = whole.below.1.0 in omega arith) in
-    let same : ended (rendered k e (reflagged w.nodes o true) (NoList t.closed) rows) x e ≡ reflagged (ended all x e) o true =
-    ap (λ z. ended z x e) (reflagged-rendered k e w.nodes o true t.closed rows within before_it) ∙ ended-reflagged all o x e true in (
-      s,
-      mid,
-      seq,
-      renode_step d old (OneList o (DefinitionsTo e) loose') now (reflagged (ended all x e) o true) (onward mid).0 (onward mid).1 whole.shape.1.0
-          (λ k last r. list-reflagged k last (ended all x e) o true (DefinitionsTo e) loose' r) forest tables
-          (subst (λ z. IsCompleted d (new z) forest tables) same fin),
-    )
-
--- The definition list around a definition may be loose already.
-pub completes-reflag_definition : (d : Document) (w : OpenNodes) (t : Tail) (columns : ℕ) (loose : Bool) (x o : ℕ) (from : Continues) (lines : List Place)
-    → IsBefore o t.closed
-    → (let inner : List (ℕ × Item) → OpenNodes = λ nodes.
-    with_inner (with_inner (record w { nodes = nodes }) (InDefinitions loose) o) (InContainer (Definition columns)) x in
-    CompletesFrom d (inner w.nodes) t from lines → CompletesFrom d (inner (reflagged w.nodes o true)) t from lines)
-completes-reflag_definition d w t columns loose x o from lines before_it k =
-    stepped d _ _ _ _ _ _ _ _ k (reflag_around d w t columns loose x o from lines before_it k)
+completes-reflag d w t frame c x o from lines around before_it k =
+    stepped d _ _ _ _ _ _ _ _ k (reflag_outer d w t frame c x o from lines around before_it k)
     (AreBelow-more _ _ (x ∷ o ∷ w.places) (let n = length-reflagged w.nodes o true in omega arith) k.below, k.shape)

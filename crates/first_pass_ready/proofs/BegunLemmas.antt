@@ -69,15 +69,15 @@ pub record HasBegun (d : Document) (defined : Tables) (old new : PassState) (c :
 
 pub begun_ready : (d : Document) (defined : Tables) (f : Forest Item) (x : Item) (c : Container) (frames : List Frame) (from : Continues) (lines : List Place)
     → frame_of d.options x.body ≡ Some (InContainer c) → is_footnote_in_another (InContainer c) frames ≡ false
-    → AreOpen d.options f.nodes f.spine frames → AreBelow (length f.nodes) (map (λ (i : TreeIndex). i.0) f.spine)
-    → (let os : List ℕ = map (λ (i : TreeIndex). i.0) f.spine in
-    CompletesAt d defined fresh (InContainer c ∷ frames) (f.nodes ++ (suc (length os), x) ∷ []) (length f.nodes ∷ os) from lines)
+    → AreOpen d.options f.nodes f.spine frames
+    → CompletesAt d defined fresh (InContainer c ∷ frames) (f.nodes ++ (suc (length (map (λ (i : TreeIndex). i.0) f.spine)), x) ∷ [])
+    (length f.nodes ∷ map (λ (i : TreeIndex). i.0) f.spine) from lines
     → IsBegun d defined (with_open f x) c from lines (containers_of frames)
-begun_ready d defined f x c frames from lines is apart o below k =
+begun_ready d defined f x c frames from lines is apart o k =
     let g : Forest Item = with_open f x in
     let os : List ℕ = map (λ (i : TreeIndex). i.0) f.spine in
     let none : closed_in g ≡ OtherClosed = ap closed_none (top_opened f x) ∙ none_there d.options x.body c is in
-    let open_now = opened_too d.options f.nodes (length f.spine + 1) x f.spine frames (InContainer c) is apart below o in
+    let open_now = opened_too d.options f.nodes (length f.spine + 1) x f.spine frames (InContainer c) is apart k.below.1 o in
     record {
       ready = ready_as d defined g false from lines (InContainer c ∷ frames) OtherClosed none open_now tt
           (subst (λ z. CompletesAt d defined fresh (InContainer c ∷ frames) (f.nodes ++ (z, x) ∷ []) (length f.nodes ∷ os) from lines) (depth_of f.spine) k);

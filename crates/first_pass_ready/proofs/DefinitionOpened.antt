@@ -27,7 +27,7 @@ use Rattle.first_pass_completion.proofs.Completions.{fresh}
 use Rattle.first_pass_completion.proofs.DefinitionSteps.{definition_node, completes-first_definition, completes-title_definition, completes-definition}
 use Rattle.first_pass_completion.proofs.Extending.{tail, lvl}
 use Rattle.first_pass_grammar.proofs.Sequences.Finishes.{CompletesAt}
-use Rattle.first_pass_completion.proofs.Flags.{completes-reflag_definition}
+use Rattle.first_pass_completion.proofs.Flags.{completes-reflag}
 use Rattle.first_pass_grammar.proofs.Sequences.Tightening.{modify-append}
 use Rattle.first_pass_completion.proofs.States.{open_nodes}
 use Rattle.first_pass_completion.proofs.TitleNodes.{reflagged, length-with_title}
@@ -40,6 +40,7 @@ use Rattle.first_pass_ready.specs.State.{frame_of, frame_at, AreOpen, closed_in,
 use Rattle.first_pass_ready.proofs.ClosedIn.{definitions_no_items, definitions_no_container, definitions_at as definitions_framed, level_of, open_level}
 use Rattle.first_pass_ready.proofs.ClosedIn.{closed_at_body, closed_definition, title_is, body_by, definition_list_is}
 use Rattle.first_pass_ready.proofs.OpenLemmas.{open_path, open_below}
+use Rattle.first_pass_ready.proofs.FinishLemmas.{MayBegin}
 use Rattle.first_pass_ready.proofs.BegunLemmas.{with_open, IsBegun, HasBegun, begun_ready, plain_open, current_after}
 use Rattle.first_pass_tokens.proofs.BytesLemmas.{length-modify}
 
@@ -306,24 +307,22 @@ module _ (d : Document) (defined : Tables) (f : Forest Item) (run : Bool) (p : P
   opened_with (Some c) current may =
       opened_at c (item_at f c) current refl (ap (precedes_definition (top_body f)) (sym (body_by (slice_get f.nodes c.0))) ∙ may)
 
--- the list becomes loose if a blank line is before the definition
-begun_in : (d : Document) (defined : Tables) (path : List Container) (h : Forest Item) (columns start : ℕ) (from : Continues) (lines : List Place)
-    (ix : TreeIndex) (rest : List TreeIndex) (frames : List Frame) (loose : Bool) → h.spine ≡ ix ∷ rest
-    → AreOpen d.options h.nodes (ix ∷ rest) (InDefinitions loose ∷ frames) → AreBelow (length h.nodes) (map (λ (i : TreeIndex). i.0) (ix ∷ rest))
-    → containers_of frames ≡ path
-    → (let os : List ℕ = map (λ (i : TreeIndex). i.0) rest in
-    CompletesAt d defined fresh (InContainer (Definition columns) ∷ InDefinitions loose ∷ frames)
-    (h.nodes ++ (suc (suc (length os)), definition_node start 0 columns) ∷ []) (length h.nodes ∷ ix.0 ∷ os) from lines)
-    → IsBegun d defined (with_open h (definition_node start 0 columns)) (Definition columns) from lines path
-begun_in d defined path h columns start from lines ix rest frames loose spine o below same k =
+-- a definition is open in its list
+begun_in : (d : Document) (defined : Tables) (path : List Container) (g : Forest Item) (columns start : ℕ) (from : Continues) (lines : List Place)
+    → ListIsOpen d defined false path g columns start from lines
+    → IsBegun d defined (with_open g (definition_node start 0 columns)) (Definition columns) from lines path
+begun_in d defined path g columns start from lines l =
     let x : Item = definition_node start 0 columns in
-    subst (IsBegun d defined (with_open h x) (Definition columns) from lines) same
-    (begun_ready d defined h x (Definition columns) (InDefinitions loose ∷ frames) from lines refl refl
-    (subst (λ s. AreOpen d.options h.nodes s (InDefinitions loose ∷ frames)) (sym spine) o)
-    (subst (λ (s : List TreeIndex). AreBelow (length h.nodes) (map (λ (i : TreeIndex). i.0) s)) (sym spine) below)
-    (subst (λ (s : List TreeIndex). CompletesAt d defined fresh (InContainer (Definition columns) ∷ InDefinitions loose ∷ frames)
-    (h.nodes ++ (suc (length (map (λ (i : TreeIndex). i.0) s)), x) ∷ []) (length h.nodes ∷ map (λ (i : TreeIndex). i.0) s) from lines) (sym spine) k))
+    let frames : List Frame = InDefinitions (l.loose || false) ∷ l.frames in
+    subst (IsBegun d defined (with_open g x) (Definition columns) from lines) l.same
+    (begun_ready d defined g x (Definition columns) frames from lines refl refl
+    (subst (λ s. AreOpen d.options g.nodes s frames) (sym l.spine)
+    (subst (λ t. AreOpen d.options g.nodes (l.ix ∷ l.rest) (InDefinitions t ∷ l.frames)) (sym (or_false l.loose)) l.are_open))
+    (subst (λ (s : List TreeIndex). CompletesAt d defined fresh (InContainer (Definition columns) ∷ frames)
+    (g.nodes ++ (suc (length (map (λ (i : TreeIndex). i.0) s)), x) ∷ []) (length g.nodes ∷ map (λ (i : TreeIndex). i.0) s) from lines) (sym l.spine)
+    l.completes))
 
+-- the list becomes loose if a blank line is before the definition
 loosened : (d : Document) (defined : Tables) (run : Bool) (path : List Container) (g : Forest Item) (columns start : ℕ) (from : Continues)
     (lines : List Place) → ListIsOpen d defined run path g columns start from lines
     → (let h : Forest Item = if run then loosened_top g g.spine else g in
@@ -345,24 +344,31 @@ loosened d defined true path g columns start from lines l =
     (λ y e. ap (λ z. node_of y.start y.«end» (flagged true z)) e) in
     let nodes : reflagged (g.nodes ++ x ∷ []) ix.0 true ≡ h.nodes ++ x ∷ [] =
     modify-append g.nodes (x ∷ []) ix.0 (λ y. record y { body = flagged true y.body }) within ∙ ap (λ z. z ++ x ∷ []) flagged_is in
-    let frames : List Frame = InContainer (Definition columns) ∷ InDefinitions (l.loose || true) ∷ l.frames in
-    let k : CompletesAt d defined fresh frames (h.nodes ++ x ∷ []) (length h.nodes ∷ ix.0 ∷ os) from lines =
-    subst (λ n. CompletesAt d defined fresh frames (h.nodes ++ x ∷ []) (n ∷ ix.0 ∷ os) from lines) (sym size)
-    (subst (λ z. CompletesAt d defined fresh frames z (length g.nodes ∷ ix.0 ∷ os) from lines) nodes
-    (completes-reflag_definition d (open_nodes defined l.frames (g.nodes ++ x ∷ []) os) fresh columns (l.loose || true) (length g.nodes) ix.0 from lines tt
-    l.completes)) in
+    let frames : Bool → List Frame = λ t. InContainer (Definition columns) ∷ InDefinitions t ∷ l.frames in
+    let k : CompletesAt d defined fresh (frames true) (h.nodes ++ x ∷ []) (length h.nodes ∷ ix.0 ∷ os) from lines =
+    subst (λ n. CompletesAt d defined fresh (frames true) (h.nodes ++ x ∷ []) (n ∷ ix.0 ∷ os) from lines) (sym size)
+    (subst (λ z. CompletesAt d defined fresh (frames true) z (length g.nodes ∷ ix.0 ∷ os) from lines) nodes
+    (completes-reflag d (open_nodes defined l.frames (g.nodes ++ x ∷ []) os) fresh (InDefinitions true) (Definition columns) (length g.nodes) ix.0
+    from lines tt tt (subst (λ t. CompletesAt d defined fresh (frames t) (g.nodes ++ x ∷ []) (length g.nodes ∷ ix.0 ∷ os) from lines)
+    (or_true l.loose) l.completes))) in
     let body : body_at h.nodes ix.0 ≡ Some now = body-changed g.nodes ix.0 change (DefinitionList b.0) now b.1 (λ y e. refl) in
-    let top : frame_at d.options h.nodes ix.0 ≡ Some (InDefinitions (l.loose || true)) =
-    ap (option_and_then (frame_of d.options)) body ∙ ap (λ t. Some (InDefinitions t)) (sym (or_true l.loose)) in
+    let top : frame_at d.options h.nodes ix.0 ≡ Some (InDefinitions true) = ap (option_and_then (frame_of d.options)) body in
     let outer : AreOpen d.options h.nodes l.rest l.frames =
     open_below d.options g.nodes h.nodes ix.0 l.rest l.frames
     (λ i e. ap (option_and_then (frame_of d.options)) (body-other g.nodes ix.0 i change e)) l.below.1 l.are_open.1 in
     subst (λ (z : Forest Item). IsBegun d defined (with_open z (definition_node start 0 columns)) (Definition columns) from lines path) (sym is)
-    (begun_in d defined path h columns start from lines ix l.rest l.frames (l.loose || true) l.spine (top, outer, refl)
-    (subst (λ n. AreBelow n (ix.0 ∷ os)) (sym size) l.below) l.same k)
-loosened d defined false path g columns start from lines l =
-    begun_in d defined path g columns start from lines l.ix l.rest l.frames (l.loose || false) l.spine
-    (subst (λ t. AreOpen d.options g.nodes (l.ix ∷ l.rest) (InDefinitions t ∷ l.frames)) (sym (or_false l.loose)) l.are_open) l.below l.same l.completes
+    (begun_in d defined path h columns start from lines (record {
+      ix = ix;
+      rest = l.rest;
+      frames = l.frames;
+      loose = true;
+      spine = l.spine;
+      are_open = (top, outer, refl);
+      below = subst (λ n. AreBelow n (ix.0 ∷ os)) (sym size) l.below;
+      same = l.same;
+      completes = k;
+    }))
+loosened d defined false path g columns start from lines l = begun_in d defined path g columns start from lines l
 
 kept_as : (r : PassState) (g : Forest Item) (run : Bool) → r.blank ≡ run → r.begin_list_item ≡ None
     → (let q : PassState = if run then record (with_tree r g) { tree = loosened_top g g.spine; blank = false } else with_tree r g in
@@ -371,16 +377,15 @@ kept_as r g true is none = (refl, refl, none)
 kept_as r g false is none = (refl, is, none)
 
 pub definition_is_open : (d : Document) (defined : Tables) (r : PassState) (p : Place) (lines following : List Place) (columns : ℕ) (from : Continues)
-    → IsForest r.tree → takes_definition r.tree ≡ true
-    → Opens d (level_of d.options r.tree r.blank) p lines (OpensNode (definition_head p columns) from following) → r.begin_list_item ≡ None
-    → ReadyAt d defined r.tree r.blank (Inside p) lines
+    → MayBegin d defined r p lines → takes_definition r.tree ≡ true
+    → Opens d (level_of d.options r.tree r.blank) p lines (OpensNode (definition_head p columns) from following)
     → HasBegun d defined r (definition_begun (offset p) columns r) (Definition columns) from following
 unfolding definition_begun
-definition_is_open d defined r p lines following columns from forest takes opens none ready =
+definition_is_open d defined r p lines following columns from may takes opens =
     let g : Forest Item = definitions_opened r.tree r.tree.current in
     let path : List Container = path_of d.options r.tree in
-    let kept = kept_as r g r.blank refl none in
-    let l = opened_with d defined r.tree r.blank p lines following columns from forest opens ready r.tree.current refl takes in
+    let kept = kept_as r g r.blank refl may.none in
+    let l = opened_with d defined r.tree r.blank p lines following columns from may.forest opens may.ready r.tree.current refl takes in
     let done = loosened d defined r.blank path g columns (offset p) from following l in
     record {
       is_begun = subst (λ (h : Forest Item). IsBegun d defined (with_open h (definition_node (offset p) 0 columns)) (Definition columns) from following path)

@@ -43,12 +43,12 @@ use Rattle.first_pass_lists.specs.Closing.{top_body, is_item, popped_by, popped,
 use Rattle.first_pass_lists.specs.Closing.{blank_read}
 use Rattle.first_pass_lists.specs.declared.state.PassState.{PassState}
 use Rattle.first_pass_open.specs.Path.{container_of, container_at, with_container, path_in, path_of}
-use Rattle.first_pass_ready.specs.State.{frame_of, frame_at, item_columns, emptied_as, emptied_top, closed_in, AreOpen, ReadyAt, ReadyBeforeLine}
+use Rattle.first_pass_ready.specs.State.{frame_of, item_columns, emptied_as, emptied_top, closed_in, AreOpen, ReadyAt, ReadyBeforeLine}
 use Rattle.first_pass_ready.specs.State.{ReadyInItem, ReadyEmpty, ReadyWith, Ready}
 use Rattle.first_pass_ready.proofs.OpenLemmas.{open_path}
 use Rattle.first_pass_ready.proofs.OldFootnotes.{ends_here, stays_unblank, stays_in_list, goes_on_at}
 use Rattle.first_pass_tree.proofs.BodyLemmas.{body-changed, body-other, not_changed}
-use Rattle.first_pass_ready.proofs.PopLemmas.{leave_container}
+use Rattle.first_pass_ready.proofs.PopLemmas.{innermost_in, leave_container}
 use Rattle.first_pass_ready.proofs.StateLemmas.{ready_plain, popped_as, same_path, closed_containers}
 use Rattle.first_pass_ready.proofs.ClosedIn.{items_no_container, definitions_no_container, definitions_at, list_at, top_in, HasDefined, open_defined}
 use Rattle.first_pass_ready.proofs.ClosedIn.{defined_open, plain_not_open}
@@ -78,19 +78,19 @@ space_white b h = grind (arith, nat_tests, h)
 tab_white : (b : ℕ) → (b == 9) ≡ true → is_white b ≡ true
 tab_white b h = grind (arith, nat_tests, h)
 
-byte_by : (t u : Bool) (r s x y : Rest) (b : ℕ) (bs : List ℕ) → (b == 32) ≡ t → (b == 9) ≡ u → x.left ≡ bs → y.left ≡ bs
+byte_by : (t u : Bool) (s x y : Rest) (b : ℕ) (bs : List ℕ) → (b == 32) ≡ t → (b == 9) ≡ u → x.left ≡ bs → y.left ≡ bs
     → (if t then Some x else (if u then Some y else None)) ≡ Some s → is_some (blank_len s.left) ≡ is_some (blank_len (b ∷ bs))
-byte_by true u r s x y b bs h g e f k =
+byte_by true u s x y b bs h g e f k =
     let z : x ≡ s = cc in
     ap (λ (q : Rest). is_some (blank_len q.left)) (sym z) ∙ ap (λ l. is_some (blank_len l)) e ∙ sym (white_first b bs (space_white b h))
-byte_by false true r s x y b bs h g e f k =
+byte_by false true s x y b bs h g e f k =
     let z : y ≡ s = cc in
     ap (λ (q : Rest). is_some (blank_len q.left)) (sym z) ∙ ap (λ l. is_some (blank_len l)) f ∙ sym (white_first b bs (tab_white b g))
-byte_by false false r s x y b bs h g e f k = cc
+byte_by false false s x y b bs h g e f k = cc
 
 byte_column : (r s : Rest) (left : List ℕ) → column_of_byte r left ≡ Some s → is_some (blank_len s.left) ≡ is_some (blank_len left)
 byte_column r s [] h = cc
-byte_column r s (b ∷ bs) h = byte_by (b == 32) (b == 9) r s _ _ b bs refl refl refl refl h
+byte_column r s (b ∷ bs) h = byte_by (b == 32) (b == 9) s _ _ b bs refl refl refl refl h
 
 column_by : (o : ℕ) (r s : Rest) → r.owed ≡ o → next_column r ≡ Some s → is_blank_rest s ≡ is_blank_rest r
 column_by zero r s e h = byte_column r s r.left (let z : column_of_byte r r.left ≡ next_column r = rw e refl in z ∙ h)
@@ -341,46 +341,35 @@ blank_place : (line : Place) (o : Option Rest) → is_blank_after o ≡ true →
 blank_place line None h = cc
 blank_place line (Some q) h = (q, refl, h)
 
-only_blank_by : (d : Document) (defined : Tables) (f : Forest Item) (t : Tail) (e : ℕ) (ix : TreeIndex) (rest : List TreeIndex) (c : Container) (line : Place)
-    (lines : List Place) (frames : List Frame) → frame_at d.options f.nodes ix.0 ≡ Some (InContainer c) → is_quote c ≡ false
-    → is_blank_after (after (c ∷ path_in d.options f.nodes rest) line.rest) ≡ true → AreOpen d.options f.nodes (ix ∷ rest) frames
-    → CompletesAt d defined t frames f.nodes (ix.0 ∷ map (λ (i : TreeIndex). i.0) rest) (Blanks e) (line ∷ lines)
-    → CompletesAt d defined (tail t.closed true) frames f.nodes (ix.0 ∷ map (λ (i : TreeIndex). i.0) rest) (Blanks e) lines
-only_blank_by d defined f t e ix rest c line lines [] is quote blank o k = absurd o
-only_blank_by d defined f t e ix rest c line lines (InList byte loose ∷ frames) is quote blank o k =
-    (let x : Some (InContainer c) ≡ Some (InList byte loose) = sym is ∙ o.0 in cc)
-only_blank_by d defined f t e ix rest c line lines (InDefinitions loose ∷ frames) is quote blank o k =
-    (let x : Some (InContainer c) ≡ Some (InDefinitions loose) = sym is ∙ o.0 in cc)
-only_blank_by d defined f t e ix rest c line lines (InContainer a ∷ frames) is quote blank o k =
-    let os : List ℕ = ix.0 ∷ map (λ (i : TreeIndex). i.0) rest in
-    let x : Some (InContainer c) ≡ Some (InContainer a) = sym is ∙ o.0 in
-    let same : c ≡ a = cc in
-    let path : path_in d.options f.nodes rest ≡ containers_of frames = open_path d.options f.nodes rest frames o.1 in
-    let b = blank_place line (after (c ∷ containers_of frames) line.rest) (subst (λ z. is_blank_after (after (c ∷ z) line.rest) ≡ true) path blank) in
-    let k' : CompletesAt d defined t (InContainer c ∷ frames) f.nodes os (Blanks e) (line ∷ lines) =
-    subst (λ z. CompletesAt d defined t (InContainer z ∷ frames) f.nodes os (Blanks e) (line ∷ lines)) (sym same) k in
-    subst (λ z. CompletesAt d defined (tail t.closed true) (InContainer z ∷ frames) f.nodes os (Blanks e) lines) same
-    (completes-only_blank d (open_nodes defined frames f.nodes os) t c e line (at_rest line b.0) lines quote
-    (record { continues = ap (option_map (at_rest line)) b.1; blank = b.2 })
-    (opens_blank d (lvl (InContainer c ∷ frames) t) (at_rest line b.0) lines b.2) k')
+-- the innermost open node is an item or a definition that takes only blank lines
+record InnermostEmptied (f : Forest Item) : Type 0 where
+  place : TreeIndex
+  outer : List TreeIndex
+  body : ItemBody
+  spine : f.spine ≡ place ∷ outer
+  is : body_at f.nodes place.0 ≡ Some (item_body body 0)
 
--- a blank line in an item or a definition that takes only blank lines
-only_blank : (d : Document) (defined : Tables) (f : Forest Item) (run : Bool) (e : ℕ) (ix : TreeIndex) (rest : List TreeIndex) (b : ItemBody) (line : Place)
-    (lines : List Place) → f.spine ≡ ix ∷ rest → body_at f.nodes ix.0 ≡ Some (item_body b 0)
-    → is_blank_after (after (item_container b 0 ∷ path_in d.options f.nodes rest) line.rest) ≡ true → ReadyAt d defined f run (Blanks e) (line ∷ lines)
-    → ReadyAt d defined f true (Blanks e) lines
-only_blank d defined f run e ix rest b line lines spine item blank ready =
+-- a blank line in it
+only_blank : (d : Document) (defined : Tables) (f : Forest Item) (run : Bool) (e : ℕ) (line : Place) (lines : List Place) (it : InnermostEmptied f)
+    → is_blank_after (after (item_container it.body 0 ∷ path_in d.options f.nodes it.outer) line.rest) ≡ true
+    → ReadyAt d defined f run (Blanks e) (line ∷ lines) → ReadyAt d defined f true (Blanks e) lines
+only_blank d defined f run e line lines it blank ready =
     let t : Tail = tail (closed_in f) run in
-    let o : AreOpen d.options f.nodes (ix ∷ rest) ready.frames = subst (λ s. AreOpen d.options f.nodes s ready.frames) spine ready.are_open in
-    let k : CompletesAt d defined t ready.frames f.nodes (ix.0 ∷ map (λ (i : TreeIndex). i.0) rest) (Blanks e) (line ∷ lines) =
-    subst (λ s. CompletesAt d defined t ready.frames f.nodes (map (λ (i : TreeIndex). i.0) s) (Blanks e) (line ∷ lines)) spine ready.completes in
+    let c : Container = item_container it.body 0 in
+    let os : List ℕ = it.place.0 ∷ map (λ (i : TreeIndex). i.0) it.outer in
+    let inner = innermost_in d defined f run (Blanks e) (line ∷ lines) it.place it.outer c it.spine
+    (ap (option_and_then (frame_of d.options)) it.is ∙ item_frame d.options it.body 0) ready in
+    let frames : List Frame = InContainer c ∷ inner.outer in
+    let path : path_in d.options f.nodes it.outer ≡ containers_of inner.outer = open_path d.options f.nodes it.outer inner.outer inner.are_open.1 in
+    let b = blank_place line (after (containers_of frames) line.rest) (subst (λ z. is_blank_after (after (c ∷ z) line.rest) ≡ true) path blank) in
     record {
-      frames = ready.frames;
-      are_open = ready.are_open;
-      completes = subst (λ s. CompletesAt d defined (tail (closed_in f) true) ready.frames f.nodes (map (λ (i : TreeIndex). i.0) s) (Blanks e) lines)
-          (sym spine)
-          (only_blank_by d defined f t e ix rest (item_container b 0) line lines ready.frames
-          (ap (option_and_then (frame_of d.options)) item ∙ item_frame d.options b 0) (item_no_quote b 0) blank o k);
+      frames = frames;
+      are_open = subst (λ s. AreOpen d.options f.nodes s frames) (sym it.spine) inner.are_open;
+      completes = subst (λ s. CompletesAt d defined (tail (closed_in f) true) frames f.nodes (map (λ (i : TreeIndex). i.0) s) (Blanks e) lines)
+          (sym it.spine)
+          (completes-only_blank d (open_nodes defined inner.outer f.nodes os) t c e line (at_rest line b.0) lines (item_no_quote it.body 0)
+          (record { continues = ap (option_map (at_rest line)) b.1; blank = b.2 })
+          (opens_blank d (lvl frames t) (at_rest line b.0) lines b.2) inner.completes);
       silent = ready.silent;
     }
 
@@ -464,14 +453,16 @@ module _ (d : Document) (defined : Tables) (r : PassState) (line : Place) (lines
           let none = empty.none run in
           let item : body_at r.tree.nodes empty.place.0 ≡ Some (item_body b 0) = is ∙ ap (λ n. Some (item_body b n)) none in
           subst (λ f. ReadyAt d defined f true (Blanks e) lines) (sym (zero_same none))
-          (only_blank d defined r.tree true e empty.place empty.outer b line lines empty.spine item (blank_item h) ready)
+          (only_blank d defined r.tree true e line lines
+          (record { place = empty.place; outer = empty.outer; body = b; spine = empty.spine; is = item }) (blank_item h) ready)
       emptied_blank false run h ready =
           let test : next_is_blank (path_of d.options r.tree) (line ∷ lines) ≡ true = ap is_blank_after goes ∙ h in
           let now : ReadyAt d defined (emptied_top r.tree) false (Blanks e) (line ∷ lines) =
           subst (ReadyBeforeLine d defined r.tree e (line ∷ lines)) test ready in
           let zero : ReadyAt d defined zero_tree false (Blanks e) (line ∷ lines) =
           subst (λ f. ReadyAt d defined f false (Blanks e) (line ∷ lines)) zero_is now in
-          only_blank d defined zero_tree false e empty.place empty.outer b line lines empty.spine zero_body
+          only_blank d defined zero_tree false e line lines
+          (record { place = empty.place; outer = empty.outer; body = b; spine = empty.spine; is = zero_body })
           (subst (λ z. is_blank_after (after (item_container b 0 ∷ z) line.rest) ≡ true) (sym (outer_path false (Blanks e) (line ∷ lines) zero))
           (blank_item h)) zero
 
@@ -533,11 +524,12 @@ module _ (d : Document) (defined : Tables) (r : PassState) (line : Place) (lines
         let outer : after path line.rest ≡ Some rest = sym (after_zero b path line.rest) ∙ on in
         let last : e ≡ end_before (length d.text) path (Blanks e) (Lines (line ∷ lines)) = sym (ap (λ t. if t then e else line.line) (ap is_some outer)) in
         let before : Before = record { last = last_plain (closed_in r.tree); counted = true } in
-        let left =
-        leave_container d defined r.tree true (Blanks e) (line ∷ lines) e empty.place empty.outer (item_container b 0) empty.spine
-        (ap (option_and_then (frame_of d.options)) item ∙ item_frame d.options b 0)
-        (stops_blank d.options (level (item_container b 0 ∷ path) before) e (line ∷ lines)
-        (ap is_blank_after on ∙ h)) last ready in
+        let left = leave_container d defined r.tree true (Blanks e) (line ∷ lines) e empty.place empty.outer (item_container b 0) (record {
+          spine = empty.spine;
+          frame = ap (option_and_then (frame_of d.options)) item ∙ item_frame d.options b 0;
+          ends = stops_blank d.options (level (item_container b 0 ∷ path) before) e (line ∷ lines) (ap is_blank_after on ∙ h);
+          at_end = last;
+        }) ready in
         let now : popped e r ≡ record r { tree = g; begin_list_item = None } =
         popped_as e r empty.place empty.outer (item_body b 0) empty.spine item (item_no_list b 0) ∙ item_popped r g empty.place b 0 in
         let same : path_of d.options g ≡ path =

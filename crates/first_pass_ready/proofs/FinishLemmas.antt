@@ -17,7 +17,7 @@ use Rattle.first_pass_grammar.specs.Skeleton.{Inside, Opening, Opens}
 use Rattle.first_pass_grammar.specs.Derivation.{Tables, node_of, list_flags}
 use Rattle.first_pass_grammar.specs.Completion.{flagged, Closed, OtherClosed, ParagraphAt, DefinitionClosed, TitleAt, Frame, InContainer, InList}
 use Rattle.first_pass_grammar.specs.Completion.{InDefinitions}
-use Rattle.first_pass_grammar.specs.Completion.{IsPlain, last_defined}
+use Rattle.first_pass_grammar.specs.Completion.{IsPlain, StandsIn, last_defined}
 use Rattle.first_pass_grammar.specs.WholeTables.{ShowsNothing, SilentClosed}
 use Rattle.first_pass_grammar.proofs.Sequences.Finishes.{CompletesAt, Tail}
 use Rattle.first_pass_completion.proofs.Extending.{tail, StaysAt, loosened_in}
@@ -26,7 +26,7 @@ use Rattle.first_pass_completion.proofs.Moved.{OpensBlock, opens_definition}
 use Rattle.first_pass_completion.proofs.Notes.{completes-note}
 use Rattle.first_pass_completion.proofs.States.{open_nodes}
 use Rattle.first_pass_completion.proofs.TitleNodes.{reflagged}
-use Rattle.first_pass_completion.proofs.Flags.{completes-reflag, completes-reflag_definition}
+use Rattle.first_pass_completion.proofs.Flags.{IsListAround, completes-reflag}
 use Rattle.first_pass_completion.proofs.SilentNodes.{from_modified}
 use Rattle.first_pass_lists.specs.Closing.{loosened_by, loosened_at, top_body, top_end, is_definition_list, is_list, possible_title, popped}
 use Rattle.first_pass_lists.specs.Closing.{item_finished_by, item_finished, list_closed, gap_tree, gap_noted, list_finished}
@@ -280,19 +280,15 @@ silent_reflagged nodes o loose (ParagraphAt at) h = from_modified nodes o at _ (
 silent_reflagged nodes o loose (DefinitionClosed e blanks) h = tt
 silent_reflagged nodes o loose (TitleAt e at) h = from_modified nodes o at _ (λ x k. silent_flagged loose x.body k) h
 
--- the list around a container, which may then be loose
-reflag_around : (d : Document) (defined : Tables) (closed : Closed) (c : Container) (frame : Frame) (frames : List Frame) (nodes : List (ℕ × Item))
-    (x o : ℕ) (os : List ℕ) (p : Place) (lines : List Place) → ((b : Container) → frame ≡ InContainer b → ⊥) → IsBefore o closed
-    → CompletesAt d defined (tail closed false) (InContainer c ∷ frame ∷ frames) nodes (x ∷ o ∷ os) (Inside p) lines
-    → CompletesAt d defined (tail closed false) (InContainer c ∷ frame ∷ frames) (reflagged nodes o true) (x ∷ o ∷ os) (Inside p) lines
-reflag_around d defined closed c (InContainer b) frames nodes x o os p lines none before k = absurd (none b refl)
-reflag_around d defined closed c (InList byte loose) frames nodes x o os p lines none before k =
-    completes-reflag d (open_nodes defined frames nodes os) (tail closed false) c byte loose x o (Inside p) lines before k
-reflag_around d defined closed (Definition columns) (InDefinitions loose) frames nodes x o os p lines none before k =
-    completes-reflag_definition d (open_nodes defined frames nodes os) (tail closed false) columns loose x o (Inside p) lines before k
-reflag_around d defined closed (BlockQuote kind) (InDefinitions loose) frames nodes x o os p lines none before k = absurd k.shape.0
-reflag_around d defined closed (ListItem columns) (InDefinitions loose) frames nodes x o os p lines none before k = absurd k.shape.0
-reflag_around d defined closed (FootnoteDefinition columns) (InDefinitions loose) frames nodes x o os p lines none before k = absurd k.shape.0
+-- a list is around the container in it
+list_around : (frame : Frame) (c : Container) (frames : List Frame) → ((b : Container) → frame ≡ InContainer b → ⊥) → StandsIn c (frame ∷ frames)
+    → IsListAround frame c
+list_around (InContainer b) c frames none stands = absurd (none b refl)
+list_around (InList byte loose) c frames none stands = tt
+list_around (InDefinitions loose) (Definition columns) frames none stands = tt
+list_around (InDefinitions loose) (BlockQuote kind) frames none stands = absurd stands
+list_around (InDefinitions loose) (ListItem columns) frames none stands = absurd stands
+list_around (InDefinitions loose) (FootnoteDefinition columns) frames none stands = absurd stands
 
 list_frame_only : (options : Options) (b : ItemBody) (flags : ListFlags) (frame : Frame) → list_flags_of b ≡ Some flags → frame_of options b ≡ Some frame
     → (c : Container) → frame ≡ InContainer c → ⊥
@@ -401,8 +397,8 @@ module _ (d : Document) (defined : Tables) (f : Forest Item) (p : Place) (lines 
       closed_same f g old_top new_top (ap (λ (z : Forest Item). z.current) as_now)
       (λ i. ap (λ (z : Forest Item). option_map_or (closed_elsewhere i) (body_at z.nodes i) OtherClosed) as_now
       ∙ closed_renamed f.nodes jx.0 b (flagged true b) (list_no_paragraph b flags listed) (flagged_no_paragraph b flags listed) is i i) in
-      let done = reflag_around d defined (closed_in f) c (loose_frame_of frame) frames f.nodes ix.0 jx.0 (map (λ (i : TreeIndex). i.0) s) p lines
-      (loose_only frame none) (before ix jx s spine) k in
+      let done = completes-reflag d (open_nodes defined frames f.nodes (map (λ (i : TreeIndex). i.0) s)) (tail (closed_in f) false) (loose_frame_of frame) c
+      ix.0 jx.0 (Inside p) lines (list_around (loose_frame_of frame) c frames (loose_only frame none) k.shape.0) (before ix jx s spine) k in
       let q : ReadyAt d defined g false (Inside p) lines =
       ready_as d defined g false (Inside p) lines (InContainer c ∷ loose_frame_of frame ∷ frames) (closed_in f) last
       (subst (λ z. AreOpen d.options g.nodes z (InContainer c ∷ loose_frame_of frame ∷ frames)) (sym same) opened)
@@ -489,13 +485,24 @@ pub record Finished (d : Document) (defined : Tables) (old new : PassState) (p :
   pub blank : new.blank ≡ false
   pub none : new.begin_list_item ≡ None
 
+-- blocks may begin at the place of a state, and no item is empty
+pub record MayBegin (d : Document) (defined : Tables) (r : PassState) (p : Place) (lines : List Place) : Type 0 where
+  pub forest : IsForest r.tree
+  pub none : r.begin_list_item ≡ None
+  pub ready : ReadyAt d defined r.tree r.blank (Inside p) lines
+
+-- the opening at a place in these containers opens a block, no definition, and ends no footnote definition
+pub record OpensOther (d : Document) (path : List Container) (p : Place) (opening : Opening) : Type 0 where
+  pub stays : StaysAt d path p
+  pub block : OpensBlock opening
+  pub other : opens_definition opening ≡ false
+
 pub noted_as : (d : Document) (defined : Tables) (r : PassState) (p : Place) (lines : List Place) (opening : Opening) (run : Bool)
-    → r.blank ≡ run → r.begin_list_item ≡ None → StaysAt d (path_of d.options r.tree) p → OpensBlock opening → opens_definition opening ≡ false
-    → LeftPlain d defined r.tree run p lines opening
+    → r.blank ≡ run → r.begin_list_item ≡ None → OpensOther d (path_of d.options r.tree) p opening → LeftPlain d defined r.tree run p lines opening
     → (let q : PassState = if run then record r { tree = gap_tree r.tree r.tree.spine; blank = false } else r in Finished d defined r q p lines opening)
-noted_as d defined r p lines opening true is none stays block other left =
+noted_as d defined r p lines opening true is none opens left =
     let g : Forest Item = gap_tree r.tree r.tree.spine in
-    let n = noted_run d defined r.tree p lines opening left.before stays left.opens block other left.ready in
+    let n = noted_run d defined r.tree p lines opening left.before opens.stays left.opens opens.block opens.other left.ready in
     let path = gap_path d.options r.tree r.tree.spine in
     let q = left.ready.0 in
     let takes : takes_after (last_in r.tree) ≡ takes_after (last_in g) =
@@ -508,25 +515,23 @@ noted_as d defined r p lines opening true is none stays block other left =
       blank = refl;
       none = none;
     }
-noted_as d defined r p lines opening false is none stays block other left =
+noted_as d defined r p lines opening false is none opens left =
     record { ready = left.ready; opens = left.opens; path = refl; blank = is; none = none }
 
 -- a new block ends an innermost list, and a blank line before it is noted
 pub ready_finished : (d : Document) (defined : Tables) (r : PassState) (p : Place) (lines : List Place) (at : ℕ) (opening : Opening)
-    → IsForest r.tree → StaysAt d (path_of d.options r.tree) p → Opens d (level_of d.options r.tree r.blank) p lines opening
-    → OpensBlock opening → opens_definition opening ≡ false
-    → EndsListAt at (top_body r.tree) (closed_in r.tree) opening → r.begin_list_item ≡ None → ReadyAt d defined r.tree r.blank (Inside p) lines
-    → Finished d defined r (list_finished at r) p lines opening
+    → MayBegin d defined r p lines → OpensOther d (path_of d.options r.tree) p opening → Opens d (level_of d.options r.tree r.blank) p lines opening
+    → EndsListAt at (top_body r.tree) (closed_in r.tree) opening → Finished d defined r (list_finished at r) p lines opening
 unfolding list_finished item_finished
-ready_finished d defined r p lines at opening forest stays opens block other away none ready =
+ready_finished d defined r p lines at opening may begins opens away =
     let l : PassState = list_closed at r in
     let kept = kept_left r at r.tree.spine (top_body r.tree) refl refl in
     let path : path_of d.options l.tree ≡ path_of d.options r.tree = path_left d.options r at r.tree.spine (top_body r.tree) refl refl in
     let left : LeftPlain d defined l.tree r.blank p lines opening =
-    ready_left d defined r p lines at opening forest stays opens block other away ready in
+    ready_left d defined r p lines at opening may.forest begins.stays opens begins.block begins.other away may.ready in
     let left' : LeftPlain d defined l.tree l.blank p lines opening = subst (λ t. LeftPlain d defined l.tree t p lines opening) (sym kept.0) left in
-    let done = noted_as d defined l p lines opening l.blank refl (kept.1 none) (subst (λ z. StaysAt d z p) (sym path) stays) block other left' in
-    let same : item_finished_by r r.begin_list_item ≡ r = ap (item_finished_by r) none in
+    let done = noted_as d defined l p lines opening l.blank refl (kept.1 may.none) (subst (λ z. OpensOther d z p opening) (sym path) begins) left' in
+    let same : item_finished_by r r.begin_list_item ≡ r = ap (item_finished_by r) may.none in
     subst (λ q. Finished d defined r (gap_noted (list_closed at q)) p lines opening) (sym same)
     (record { ready = done.ready; opens = done.opens; path = done.path ∙ path; blank = done.blank; none = done.none })
 

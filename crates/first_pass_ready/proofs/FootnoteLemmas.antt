@@ -49,7 +49,7 @@ use Rattle.first_pass_ready.proofs.PopLemmas.{list_spine, end_list, end_note}
 use Rattle.first_pass_ready.proofs.TitlePops.{end_title}
 use Rattle.first_pass_ready.proofs.StateLemmas.{popped_as, popped_list, popped_title, popped_paths, popped_spine, no_title_at, has_definition}
 use Rattle.first_pass_ready.proofs.OldFootnotes.{footnote_top}
-use Rattle.first_pass_ready.proofs.FinishLemmas.{ReadyPlain, EndsListAt, LeftPlain, plain_by, path_left, kept_left, ready_left, noted_as}
+use Rattle.first_pass_ready.proofs.FinishLemmas.{ReadyPlain, EndsListAt, LeftPlain, plain_by, path_left, kept_left, ready_left, OpensOther, noted_as}
 use Rattle.first_pass_ready.proofs.BegunLemmas.{with_open, begun_ready}
 
 -- the opening of a footnote definition ends any list at its start
@@ -259,8 +259,7 @@ module _ (d : Document) (defined : Tables) (r : PassState) (p : Place) (lines : 
       (record { place = p; lines = lines; inside = Inside there.0; following = there.1; opens = opens }) plain
       (stays_outside d (containers_of frames) p out') ready.completes in
       (begun_ready d (with_footnote_label defined head.1) f (node_of start 0 (FootnoteDefinitionBody index)) (FootnoteDefinition columns) frames
-      (Inside there.0)
-      there.1 refl out' ready.are_open ready.completes.below k).ready
+      (Inside there.0) there.1 refl out' ready.are_open k).ready
 
   -- a footnote definition is opened
   pub note_is_open : ReadyAt d defined r.tree r.blank (Inside p) lines → NoteIsOpen d (with_footnote_label defined head.1) (footnote_begun start index r) there
@@ -284,7 +283,9 @@ module _ (d : Document) (defined : Tables) (r : PassState) (p : Place) (lines : 
         opens = opens_in (path_of d.options q.tree) (level_of d.options q.tree q.blank).before head_q;
         before = left.1;
       } in
-      let done = noted_as d defined q p lines opening q.blank refl (o.none ∙ kept.1 none) (stays_outside d (path_of d.options q.tree) p o.out) tt refl now in
+      let begins_it : OpensOther d (path_of d.options q.tree) p opening =
+      record { stays = stays_outside d (path_of d.options q.tree) p o.out; block = tt; other = refl } in
+      let done = noted_as d defined q p lines opening q.blank refl (o.none ∙ kept.1 none) begins_it now in
       let g : PassState = gap_noted q in
       let out : in_footnote (path_of d.options g.tree) ≡ false = ap in_footnote done.path ∙ o.out in
       let begins : footnote_head_at (around d (path_of d.options g.tree)) p ≡ Some head = ap (λ z. footnote_head_at (around d z) p) done.path ∙ head_q in

@@ -1,6 +1,6 @@
 -- A line is read: containers are closed, and the line is entered.
 use Rattle.std.proofs.Common.{◌≡◌, ℕ, ◌+◌, ◌<◌, ◌≤◌, true, false, List, ◌∷◌, length, drop, Some, None, is_some, IsUtf8}
-use Rattle.std.proofs.Common.{IsCharBoundary, refl, sym, ap, subst, ◌∙◌}
+use Rattle.std.proofs.Common.{IsCharBoundary, refl, ap, subst, ◌∙◌}
 use Rattle.first_pass_items.specs.declared.item.Item.{Item}
 use Rattle.first_pass_tree.specs.declared.tree_index.TreeIndex.{TreeIndex}
 use Rattle.first_pass_tree.specs.Forest.{Forest}
@@ -31,27 +31,28 @@ pub record IsAtLine (d : Document) (defined : Tables) (old new : PassState) (sta
   pub ready : Ready d defined old (lines_from d.text start)
       → Ready d defined new (line_place start (drop start d.text) ∷ lines_from d.text (start + line_len (drop start d.text)))
 
-pub at_line : (d : Document) (defined : Tables) (old new : PassState) (start kept : ℕ) (line r : Rest)
-    → line ≡ line_rest (drop start d.text) → start < length d.text → new.tree.spine ≡ outer kept old.tree.spine
-    → ((s : List TreeIndex) → path_in d.options new.tree.nodes s ≡ path_in d.options old.tree.nodes s)
-    → ((d : Document) (lines : List Place) → start_of (length d.text) lines ≡ start → NoMore d.options old.tree kept lines → Ready d defined old lines
-    → Ready d defined new lines)
-    → after (path_in d.options old.tree.nodes (outer kept old.tree.spine)) line ≡ Some r
-    → ((m : ℕ) → kept < m → m ≤ length old.tree.spine → after (path_in d.options old.tree.nodes (outer m old.tree.spine)) line ≡ None)
+-- The open nodes except the outermost `kept` were closed before the line at an offset.
+pub record ClosesBefore (old new : PassState) (start kept : ℕ) : Type 0 where
+  pub spine : new.tree.spine ≡ outer kept old.tree.spine
+  pub paths : (options : Options) (s : List TreeIndex) → path_in options new.tree.nodes s ≡ path_in options old.tree.nodes s
+  pub ready : (d : Document) (defined : Tables) (lines : List Place) → start_of (length d.text) lines ≡ start → NoMore d.options old.tree kept lines
+      → Ready d defined old lines → Ready d defined new lines
+
+pub at_line : (d : Document) (defined : Tables) (old new : PassState) (start kept : ℕ) (r : Rest) → start < length d.text → ClosesBefore old new start kept
+    → after (path_in d.options old.tree.nodes (outer kept old.tree.spine)) (line_rest (drop start d.text)) ≡ Some r
+    → ((m : ℕ) → kept < m → m ≤ length old.tree.spine
+    → after (path_in d.options old.tree.nodes (outer m old.tree.spine)) (line_rest (drop start d.text)) ≡ None)
     → IsAtLine d defined old new start r
-at_line d defined old new start kept line r line_is within spine paths closes taken stops =
+at_line d defined old new start kept r within closes taken stops =
     let here : Place = line_place start (drop start d.text) in
     let lines : List Place = lines_from d.text (start + line_len (drop start d.text)) in
     let first : lines_from d.text start ≡ here ∷ lines = lines_at-line d.text start within in
     let path : path_of d.options new.tree ≡ path_in d.options old.tree.nodes (outer kept old.tree.spine) =
-    paths new.tree.spine ∙ ap (path_in d.options old.tree.nodes) spine in
+    closes.paths d.options new.tree.spine ∙ ap (path_in d.options old.tree.nodes) closes.spine in
     record {
-      goes = ap (λ p. after p (line_rest (drop start d.text))) path ∙ ap (after (path_in d.options old.tree.nodes (outer kept old.tree.spine))) (sym line_is)
-          ∙ taken;
+      goes = ap (λ p. after p (line_rest (drop start d.text))) path ∙ taken;
       ready = λ ready.
-          closes d (here ∷ lines) refl
-          (λ m low high. ap is_some (ap (after (path_in d.options old.tree.nodes (outer m old.tree.spine))) (sym line_is) ∙ stops m low high))
-          (subst (Ready d defined old) first ready);
+          closes.ready d defined (here ∷ lines) refl (λ m low high. ap is_some (stops m low high)) (subst (Ready d defined old) first ready);
     }
 
 -- the same after a footnote definition in the old form ended there, if one does: the innermost open node then does

@@ -225,9 +225,12 @@ module _ (d : Document) (defined : Tables) (r : PassState) (line : Place) (lines
       let ends : ends_old_footnote (level (FootnoteDefinition columns ∷ path) before) ≡ true =
       ap (λ (t : Bool). (columns == 0) && (r.blank && not t)) (plain_not_open (closed_in r.tree))
       ∙ ap (λ (n : ℕ). (n == 0) && (r.blank && true)) (columns_none d.options false old refl) ∙ ap (λ (b : Bool). b && true) blank in
-      let left = leave_container d defined r.tree r.blank Line (line ∷ lines) e ix rest (FootnoteDefinition columns) spine
-      (ap (option_and_then (frame_of d.options)) body)
-      (ends_old d.options (level (FootnoteDefinition columns ∷ path) before) (line ∷ lines) ends) (sym e_is) ready in
+      let left = leave_container d defined r.tree r.blank Line (line ∷ lines) e ix rest (FootnoteDefinition columns) (record {
+        spine = spine;
+        frame = ap (option_and_then (frame_of d.options)) body;
+        ends = ends_old d.options (level (FootnoteDefinition columns ∷ path) before) (line ∷ lines) ends;
+        at_end = sym e_is;
+      }) ready in
       let now : popped e r ≡ record r { tree = g } = popped_as e r ix rest (FootnoteDefinitionBody label) spine body refl in
       let out : in_footnote (containers_of left.ready.frames) ≡ false = left.apart in (
         subst (λ (q : PassState). Ready d defined q (line ∷ lines)) (sym now) (ready_plain d defined (record r { tree = g }) (line ∷ lines) none left.ready),

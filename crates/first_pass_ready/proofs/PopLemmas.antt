@@ -77,61 +77,69 @@ pub record LeftOpen (d : Document) (defined : Tables) (f : Forest Item) (run : B
   pub stands : StandsIn c ready.frames
   pub apart : is_footnote_in_another (InContainer c) ready.frames ≡ false
 
-closed_container : (d : Document) (defined : Tables) (f : Forest Item) (closed : Closed) (run : Bool) (from : Continues) (lines : List Place) (e : ℕ)
-    (ix : TreeIndex)
-    (rest : List TreeIndex) (c : Container) (frames : List Frame) → frame_at d.options f.nodes ix.0 ≡ Some (InContainer c)
-    → EndsBefore d.options closed run (c ∷ path_in d.options f.nodes rest) from lines
-    → e ≡ end_before (length d.text) (path_in d.options f.nodes rest) from (Lines lines)
-    → AreOpen d.options f.nodes (ix ∷ rest) frames
-    → CompletesAt d defined (tail closed run) frames f.nodes (ix.0 ∷ map (λ (i : TreeIndex). i.0) rest) from lines
-    → LeftOpen d defined (closed_by f e (ix ∷ rest)) run lines c
+-- The innermost open node is this container: the open nodes around it.
+pub record InnermostIn (d : Document) (defined : Tables) (f : Forest Item) (run : Bool) (from : Continues) (lines : List Place) (ix : TreeIndex)
+    (rest : List TreeIndex) (c : Container) : Type 0 where
+  pub outer : List Frame
+  pub are_open : AreOpen d.options f.nodes (ix ∷ rest) (InContainer c ∷ outer)
+  pub completes : CompletesAt d defined (tail (closed_in f) run) (InContainer c ∷ outer) f.nodes (ix.0 ∷ map (λ (i : TreeIndex). i.0) rest) from lines
+
+container_first : (options : Options) (nodes : List (ℕ × Item)) (ix : TreeIndex) (rest : List TreeIndex) (c : Container) (frames : List Frame)
+    → frame_at options nodes ix.0 ≡ Some (InContainer c) → AreOpen options nodes (ix ∷ rest) frames
+    → (outer : List Frame) × (frames ≡ InContainer c ∷ outer)
+container_first options nodes ix rest c [] is o = absurd o
+container_first options nodes ix rest c (frame ∷ outer) is o =
+    let x : Some frame ≡ Some (InContainer c) = sym o.0 ∙ is in
+    let same : frame ≡ InContainer c = cc in
+    (outer, ap (λ z. z ∷ outer) same)
+
+-- ready nodes with such an innermost one
+pub innermost_in : (d : Document) (defined : Tables) (f : Forest Item) (run : Bool) (from : Continues) (lines : List Place) (ix : TreeIndex)
+    (rest : List TreeIndex) (c : Container) → f.spine ≡ ix ∷ rest → frame_at d.options f.nodes ix.0 ≡ Some (InContainer c)
+    → ReadyAt d defined f run from lines → InnermostIn d defined f run from lines ix rest c
+innermost_in d defined f run from lines ix rest c spine is ready =
+    let o : AreOpen d.options f.nodes (ix ∷ rest) ready.frames = subst (λ s. AreOpen d.options f.nodes s ready.frames) spine ready.are_open in
+    let first = container_first d.options f.nodes ix rest c ready.frames is o in
+    record {
+      outer = first.0;
+      are_open = subst (AreOpen d.options f.nodes (ix ∷ rest)) first.1 o;
+      completes = subst (λ z. CompletesAt d defined (tail (closed_in f) run) z f.nodes (ix.0 ∷ map (λ (i : TreeIndex). i.0) rest) from lines) first.1
+          (subst (λ s. CompletesAt d defined (tail (closed_in f) run) ready.frames f.nodes (map (λ (i : TreeIndex). i.0) s) from lines) spine
+          ready.completes);
+    }
+
+-- The innermost open node is this container, and it ends at an offset before these lines.
+pub record EndsContainer (d : Document) (f : Forest Item) (run : Bool) (from : Continues) (lines : List Place) (e : ℕ) (ix : TreeIndex)
+    (rest : List TreeIndex) (c : Container) : Type 0 where
+  pub spine : f.spine ≡ ix ∷ rest
+  pub frame : frame_at d.options f.nodes ix.0 ≡ Some (InContainer c)
+  pub ends : EndsBefore d.options (closed_in f) run (c ∷ path_in d.options f.nodes rest) from lines
+  pub at_end : e ≡ end_before (length d.text) (path_in d.options f.nodes rest) from (Lines lines)
+
+-- it is closed
+pub leave_container : (d : Document) (defined : Tables) (f : Forest Item) (run : Bool) (from : Continues) (lines : List Place) (e : ℕ) (ix : TreeIndex)
+    (rest : List TreeIndex) (c : Container) → EndsContainer d f run from lines e ix rest c
+    → ReadyAt d defined f run from lines → LeftOpen d defined (closed_by f e (ix ∷ rest)) run lines c
 unfolding ended
-closed_container d defined f closed run from lines e ix rest c [] is ends e_is o k = absurd o
-closed_container d defined f closed run from lines e ix rest c (InList byte loose ∷ frames) is ends e_is o k =
-    let x : Some (InContainer c) ≡ Some (InList byte loose) = sym is ∙ o.0 in
-    cc
-closed_container d defined f closed run from lines e ix rest c (InDefinitions loose ∷ frames) is ends e_is o k =
-    let x : Some (InContainer c) ≡ Some (InDefinitions loose) = sym is ∙ o.0 in
-    cc
-closed_container d defined f closed run from lines e ix rest c (InContainer b ∷ frames) is ends e_is o k =
-    let x : Some (InContainer c) ≡ Some (InContainer b) = sym is ∙ o.0 in
-    let same : c ≡ b = cc in
+leave_container d defined f run from lines e ix rest c it ready =
+    let inner = innermost_in d defined f run from lines ix rest c it.spine it.frame ready in
+    let frames : List Frame = inner.outer in
+    let o = inner.are_open in
+    let k = inner.completes in
+    let os : List ℕ = map (λ (i : TreeIndex). i.0) rest in
     let path : path_in d.options f.nodes rest ≡ containers_of frames = open_path d.options f.nodes rest frames o.1 in
-    let ends' : EndsBefore d.options closed run (b ∷ containers_of frames) from lines =
-    subst (λ p. EndsBefore d.options closed run (b ∷ p) from lines) path
-    (subst (λ z. EndsBefore d.options closed run (z ∷ path_in d.options f.nodes rest) from lines) same ends) in
-    let e' : end_before (length d.text) (containers_of frames) from (Lines lines) ≡ e =
-    ap (λ p. end_before (length d.text) p from (Lines lines)) (sym path) ∙ sym e_is in
+    let ends : EndsBefore d.options (closed_in f) run (c ∷ containers_of frames) from lines =
+    subst (λ p. EndsBefore d.options (closed_in f) run (c ∷ p) from lines) path it.ends in
+    let at_end : end_before (length d.text) (containers_of frames) from (Lines lines) ≡ e =
+    ap (λ p. end_before (length d.text) p from (Lines lines)) (sym path) ∙ sym it.at_end in
     let g : Forest Item = closed_by f e (ix ∷ rest) in
     let o' : AreOpen d.options g.nodes rest frames =
     open_below d.options f.nodes (ended f.nodes ix.0 e) ix.0 rest frames (λ i h. frame-ended d.options f.nodes ix.0 e i) k.below.1 o.1 in
-    let stands : StandsIn c frames = subst (λ z. StandsIn z frames) (sym same) k.shape.0 in
     let q : ReadyAt d defined g run Line lines =
-    ready_as d defined g run Line lines frames (closed_as c e) (closed_popped d.options f e ix rest c frames is o' stands) o' (silent_as g.nodes c e)
-    (subst (λ z. CompletesAt d defined (tail (closed_as z e) run) frames (ended f.nodes ix.0 e) (map (λ (i : TreeIndex). i.0) rest) Line lines) (sym same)
-    (subst (λ z. CompletesAt d defined (tail (closed_as b z) run) frames (ended f.nodes ix.0 z) (map (λ (i : TreeIndex). i.0) rest) Line lines) e'
-    (completes-pop d (open_nodes defined frames f.nodes (map (λ (i : TreeIndex). i.0) rest)) (tail closed run) b ix.0 from lines (Lines lines) ends' k))) in
-    record { ready = q; stands = stands; apart = ap (λ z. is_footnote_in_another (InContainer z) frames) same ∙ o.2 }
-
--- a container is closed
-pub leave_container : (d : Document) (defined : Tables) (f : Forest Item) (run : Bool) (from : Continues) (lines : List Place) (e : ℕ) (ix : TreeIndex)
-    (rest : List TreeIndex) (c : Container) → f.spine ≡ ix ∷ rest → frame_at d.options f.nodes ix.0 ≡ Some (InContainer c)
-    → EndsBefore d.options (closed_in f) run (c ∷ path_in d.options f.nodes rest) from lines
-    → e ≡ end_before (length d.text) (path_in d.options f.nodes rest) from (Lines lines)
-    → ReadyAt d defined f run from lines → LeftOpen d defined (closed_by f e (ix ∷ rest)) run lines c
-leave_container d defined f run from lines e ix rest c spine is ends e_is ready =
-    closed_container d defined f (closed_in f) run from lines e ix rest c ready.frames is ends e_is
-    (subst (λ s. AreOpen d.options f.nodes s ready.frames) spine ready.are_open)
-    (subst (λ s. CompletesAt d defined (tail (closed_in f) run) ready.frames f.nodes (map (λ (i : TreeIndex). i.0) s) from lines) spine ready.completes)
-
--- ready nodes after that
-pub pop_container : (d : Document) (defined : Tables) (f : Forest Item) (run : Bool) (from : Continues) (lines : List Place) (e : ℕ) (ix : TreeIndex)
-    (rest : List TreeIndex) (c : Container) → f.spine ≡ ix ∷ rest → frame_at d.options f.nodes ix.0 ≡ Some (InContainer c)
-    → EndsBefore d.options (closed_in f) run (c ∷ path_in d.options f.nodes rest) from lines
-    → e ≡ end_before (length d.text) (path_in d.options f.nodes rest) from (Lines lines)
-    → ReadyAt d defined f run from lines → ReadyAt d defined (closed_by f e (ix ∷ rest)) run Line lines
-pop_container d defined f run from lines e ix rest c spine is ends e_is ready =
-    let left = leave_container d defined f run from lines e ix rest c spine is ends e_is ready in left.ready
+    ready_as d defined g run Line lines frames (closed_as c e) (closed_popped d.options f e ix rest c frames it.frame o' k.shape.0) o' (silent_as g.nodes c e)
+    (subst (λ z. CompletesAt d defined (tail (closed_as c z) run) frames (ended f.nodes ix.0 z) os Line lines) at_end
+    (completes-pop d (open_nodes defined frames f.nodes os) (tail (closed_in f) run) c ix.0 from lines (Lines lines) ends k)) in
+    record { ready = q; stands = k.shape.0; apart = o.2 }
 
 -- the tree after a list with these flags is closed
 abbrev pub list_popped : Forest Item → ℕ → TreeIndex → List TreeIndex → ListFlags → Forest Item
@@ -204,16 +212,20 @@ list_no_frame options (ListBody flags list number) other c listed h = items_no_c
 list_no_frame options (DefinitionList flags) other c listed h = definitions_no_container (flags.0 == 1) (flags.0 == 0) c h
 list_no_frame options b other c listed h = cc
 
--- after a list is closed, it is the current node, and no paragraph
-pub closed_list : (options : Options) (f : Forest Item) (e : ℕ) (ix : TreeIndex) (rest : List TreeIndex) (b : ItemBody) (flags : ListFlags) (loose : Bool)
-    (frames : List Frame) → IsForest f → f.spine ≡ ix ∷ rest → body_at f.nodes ix.0 ≡ Some b → list_flags_of b ≡ Some flags → flags ≡ list_flags (not loose)
+-- after a list is closed, it is still there
+popped_body : (f : Forest Item) (e : ℕ) (ix : TreeIndex) (rest : List TreeIndex) (b : ItemBody) (flags : ListFlags) (loose : Bool)
+    → IsForest f → f.spine ≡ ix ∷ rest → body_at f.nodes ix.0 ≡ Some b → list_flags_of b ≡ Some flags → flags ≡ list_flags (not loose)
+    → body_at (list_popped f e ix rest flags).nodes ix.0 ≡ Some b
+popped_body f e ix rest b flags loose forest spine is listed set =
+    ap (λ z. body_at z ix.0) (list_nodes f e ix rest b flags loose forest spine is listed set)
+    ∙ closed_body f.nodes ix.0 (suc (suc (suc (length rest)))) loose e b is (list_not_tight b flags listed) (list_flagged b flags loose listed set)
+
+-- and it is the current node, and no paragraph
+closed_list : (options : Options) (f : Forest Item) (e : ℕ) (ix : TreeIndex) (rest : List TreeIndex) (b : ItemBody) (flags : ListFlags)
+    (frames : List Frame) → body_at (list_popped f e ix rest flags).nodes ix.0 ≡ Some b → list_flags_of b ≡ Some flags
     → AreOpen options (list_popped f e ix rest flags).nodes rest frames → IsPlain frames → closed_in (list_popped f e ix rest flags) ≡ OtherClosed
-closed_list options f e ix rest b flags loose frames forest spine is listed set o plain =
+closed_list options f e ix rest b flags frames body listed o plain =
     let now : Forest Item = list_popped f e ix rest flags in
-    let nodes : now.nodes ≡ list_closed f.nodes ix.0 (suc (suc (suc (length rest)))) loose e =
-    list_nodes f e ix rest b flags loose forest spine is listed set in
-    let body : body_at now.nodes ix.0 ≡ Some b = ap (λ z. body_at z ix.0) nodes
-    ∙ closed_body f.nodes ix.0 (suc (suc (suc (length rest)))) loose e b is (list_not_tight b flags listed) (list_flagged b flags loose listed set) in
     let top : top_body now ≡ top_in now.nodes rest = ap (top_in now.nodes) (spine_by (bit_and flags.0 1 == 1) f e ix rest) in
     let none : is_definition_list (top_body now) ≡ false = ap is_definition_list top
     ∙ top_no_definitions options (top_in now.nodes rest) frames (top_of options now.nodes rest frames o) (plain_no_definitions frames plain) in
@@ -272,7 +284,8 @@ module _ (d : Document) (defined : Tables) (f : Forest Item) (run : Bool) (lines
       let o' : AreOpen d.options now.nodes rest frames = subst (λ z. AreOpen d.options z rest frames) (sym nodes)
       (open_below d.options f.nodes _ ix.0 rest frames (λ i h. frame-closed d.options f.nodes ix.0 deep loose e i h) below o) in
       let s : now.spine ≡ rest = spine_by (bit_and flags.0 1 == 1) f e ix rest in
-      let last : closed_in now ≡ OtherClosed = closed_list d.options f e ix rest b flags loose frames forest spine is listed set o' plain in
+      let last : closed_in now ≡ OtherClosed =
+      closed_list d.options f e ix rest b flags frames (popped_body f e ix rest b flags loose forest spine is listed set) listed o' plain in
       let q : ReadyAt d defined now run from lines =
       ready_as d defined now run from lines frames OtherClosed last
       (subst (λ z. AreOpen d.options now.nodes z frames) (sym s) o') tt
@@ -400,38 +413,22 @@ LeftAt d defined f run p lines = (q : ReadyAt d defined f run (Inside p) lines) 
 module _ (d : Document) (defined : Tables) (f : Forest Item) (run : Bool) (p : Place) (lines : List Place) (head : ℕ × List ℕ) (columns : ℕ)
     (ix : TreeIndex) (rest : List TreeIndex) (is : frame_at d.options f.nodes ix.0 ≡ Some (InContainer (FootnoteDefinition columns)))
     (begins : footnote_head_at (around d (FootnoteDefinition columns ∷ path_in d.options f.nodes rest)) p ≡ Some head) where
-  ended_note : (closed : Closed) (frames : List Frame) → AreOpen d.options f.nodes (ix ∷ rest) frames
-      → CompletesAt d defined (tail closed run) frames f.nodes (ix.0 ∷ map (λ (i : TreeIndex). i.0) rest) (Inside p) lines
-      → LeftAt d defined (closed_by f (offset (unindented p)) (ix ∷ rest)) run p lines
+  -- a footnote definition is closed, where another begins
+  pub end_note : f.spine ≡ ix ∷ rest → ReadyAt d defined f run (Inside p) lines → LeftAt d defined (closed_by f (offset (unindented p)) (ix ∷ rest)) run p lines
   unfolding ended
-  ended_note closed [] o k = absurd o
-  ended_note closed (InList byte loose ∷ frames) o k =
-      let x : Some (InContainer (FootnoteDefinition columns)) ≡ Some (InList byte loose) = sym is ∙ o.0 in
-      cc
-  ended_note closed (InDefinitions loose ∷ frames) o k =
-      let x : Some (InContainer (FootnoteDefinition columns)) ≡ Some (InDefinitions loose) = sym is ∙ o.0 in
-      cc
-  ended_note closed (InContainer b ∷ frames) o k =
+  end_note spine ready =
       let e : ℕ = offset (unindented p) in
       let c : Container = FootnoteDefinition columns in
-      let x : Some (InContainer c) ≡ Some (InContainer b) = sym is ∙ o.0 in
-      let same : b ≡ c = cc in
+      let inner = innermost_in d defined f run (Inside p) lines ix rest c spine is ready in
+      let frames : List Frame = inner.outer in
+      let o = inner.are_open in
+      let k = inner.completes in
       let path : path_in d.options f.nodes rest ≡ containers_of frames = open_path d.options f.nodes rest frames o.1 in
-      let k' : CompletesAt d defined (tail closed run) (InContainer c ∷ frames) f.nodes (ix.0 ∷ map (λ (i : TreeIndex). i.0) rest) (Inside p) lines =
-      subst (λ z. CompletesAt d defined (tail closed run) (InContainer z ∷ frames) f.nodes (ix.0 ∷ map (λ (i : TreeIndex). i.0) rest)
-      (Inside p) lines) same k in
-      let apart : in_footnote (containers_of frames) ≡ false = subst (λ z. is_footnote_in_another (InContainer z) frames ≡ false) same o.2 in
       let g : Forest Item = closed_by f e (ix ∷ rest) in
       let o' : AreOpen d.options g.nodes rest frames =
       open_below d.options f.nodes (ended f.nodes ix.0 e) ix.0 rest frames (λ i h. frame-ended d.options f.nodes ix.0 e i) k.below.1 o.1 in
       let q : ReadyAt d defined g run (Inside p) lines =
-      ready_as d defined g run (Inside p) lines frames OtherClosed (closed_popped d.options f e ix rest c frames is o' k'.shape.0) o' tt
-      (completes-pop_in_line d (open_nodes defined frames f.nodes (map (λ (i : TreeIndex). i.0) rest)) (tail closed run) columns ix.0 p lines head
-      (subst (λ z. footnote_head_at (around d (c ∷ z)) p ≡ Some head) path begins) k') in
-      (q, k'.shape.0, apart)
-
-  -- a footnote definition is closed, where another begins
-  pub end_note : f.spine ≡ ix ∷ rest → ReadyAt d defined f run (Inside p) lines → LeftAt d defined (closed_by f (offset (unindented p)) (ix ∷ rest)) run p lines
-  end_note spine ready =
-      ended_note (closed_in f) ready.frames (subst (λ s. AreOpen d.options f.nodes s ready.frames) spine ready.are_open)
-      (subst (λ s. CompletesAt d defined (tail (closed_in f) run) ready.frames f.nodes (map (λ (i : TreeIndex). i.0) s) (Inside p) lines) spine ready.completes)
+      ready_as d defined g run (Inside p) lines frames OtherClosed (closed_popped d.options f e ix rest c frames is o' k.shape.0) o' tt
+      (completes-pop_in_line d (open_nodes defined frames f.nodes (map (λ (i : TreeIndex). i.0) rest)) (tail (closed_in f) run) columns ix.0 p lines head
+      (subst (λ z. footnote_head_at (around d (c ∷ z)) p ≡ Some head) path begins) k) in
+      (q, k.shape.0, o.2)

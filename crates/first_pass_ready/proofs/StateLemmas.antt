@@ -41,7 +41,7 @@ use Rattle.first_pass_tree.proofs.BodyLemmas.{body-kept, body_of}
 use Rattle.first_pass_ready.proofs.ClosedIn.{top_in, closed_definition, IsTitle, title_is}
 use Rattle.first_pass_ready.proofs.ItemBodies.{item_body, item_container, columns_are, item_is, item_frame, item_path, item_no_list, after_zero}
 use Rattle.first_pass_ready.proofs.ListLemmas.{list_flags_of}
-use Rattle.first_pass_ready.proofs.PopLemmas.{HasDefinition, list_popped, list_spine, pop_container, pop_list}
+use Rattle.first_pass_ready.proofs.PopLemmas.{HasDefinition, list_popped, list_spine, leave_container, pop_list}
 use Rattle.first_pass_ready.proofs.TitlePops.{title_popped, body-moved, pop_title}
 
 -- before the first block
@@ -215,31 +215,34 @@ has_definition f ix rest b spine is none = tt
 
 module _ (d : Document) (defined : Tables) (r : PassState) (lines : List Place) (e : ℕ) (ix : TreeIndex) (rest : List TreeIndex) (forest : IsForest r.tree)
     (spine : r.tree.spine ≡ ix ∷ rest) (e_is : start_of (length d.text) lines ≡ e) where
-  abbrev before : Before
-  before = record { last = last_plain (closed_in r.tree); counted = r.blank }
+  -- what precedes the next block, after a run of blank lines that counts or not
+  abbrev after_run : Bool → Before
+  after_run run = record { last = last_plain (closed_in r.tree); counted = run }
 
   abbrev path : List Container
   path = path_in d.options r.tree.nodes rest
 
-  -- the innermost open node is closed before the next line, and no item is empty
+  -- the innermost open node, a container, is closed before the next line
+  pop_container : (run : Bool) (c : Container) → frame_at d.options r.tree.nodes ix.0 ≡ Some (InContainer c) → next_goes_on (c ∷ path) lines ≡ false
+      → ReadyAt d defined r.tree run Line lines → ReadyAt d defined (closed_by r.tree e (ix ∷ rest)) run Line lines
+  pop_container run c frame ends ready =
+      (leave_container d defined r.tree run Line lines e ix rest c
+      (record { spine = spine; frame = frame; ends = stops d.options (level (c ∷ path) (after_run run)) lines ends; at_end = sym e_is }) ready).ready
+
+  -- any innermost open node, and no item is empty
   pop_as : (b : Option ItemBody) (frame : Frame) → possible_title r.tree ≡ None → body_at r.tree.nodes ix.0 ≡ b
       → option_and_then (frame_of d.options) b ≡ Some frame
       → next_goes_on (with_container (option_and_then (container_of d.options) b) path) lines ≡ false
       → ReadyAt d defined r.tree r.blank Line lines → ReadyAt d defined (popped_by r (closed_by r.tree e (ix ∷ rest)) ix b).tree r.blank Line lines
   pop_as None frame none is framed ends ready = cc
   pop_as (Some (BlockQuoteBody kind)) frame none is framed ends ready =
-      pop_container d defined r.tree r.blank Line lines e ix rest (BlockQuote kind) spine (ap (option_and_then (frame_of d.options)) is)
-      (stops d.options (level (BlockQuote kind ∷ path) before) lines ends) (sym e_is) ready
+      pop_container r.blank (BlockQuote kind) (ap (option_and_then (frame_of d.options)) is) ends ready
   pop_as (Some (ListItemBody columns)) frame none is framed ends ready =
-      pop_container d defined r.tree r.blank Line lines e ix rest (ListItem columns) spine (ap (option_and_then (frame_of d.options)) is)
-      (stops d.options (level (ListItem columns ∷ path) before) lines ends) (sym e_is) ready
+      pop_container r.blank (ListItem columns) (ap (option_and_then (frame_of d.options)) is) ends ready
   pop_as (Some (DefinitionListDefinition columns)) frame none is framed ends ready =
-      pop_container d defined r.tree r.blank Line lines e ix rest (Definition columns) spine (ap (option_and_then (frame_of d.options)) is)
-      (stops d.options (level (Definition columns ∷ path) before) lines ends) (sym e_is) ready
+      pop_container r.blank (Definition columns) (ap (option_and_then (frame_of d.options)) is) ends ready
   pop_as (Some (FootnoteDefinitionBody label)) frame none is framed ends ready =
-      let columns : ℕ = footnote_columns d.options in
-      pop_container d defined r.tree r.blank Line lines e ix rest (FootnoteDefinition columns) spine (ap (option_and_then (frame_of d.options)) is)
-      (stops d.options (level (FootnoteDefinition columns ∷ path) before) lines ends) (sym e_is) ready
+      pop_container r.blank (FootnoteDefinition (footnote_columns d.options)) (ap (option_and_then (frame_of d.options)) is) ends ready
   pop_as (Some (ListBody flags list number)) frame none is framed ends ready =
       pop_list d defined r.tree r.blank lines e ix rest (ListBody flags list number) flags forest spine is refl tt e_is ends ready
   pop_as (Some (DefinitionList flags)) frame none is framed ends ready =
@@ -285,9 +288,6 @@ module _ (d : Document) (defined : Tables) (r : PassState) (lines : List Place) 
     framed_item : frame_at d.options r.tree.nodes ix.0 ≡ Some (InContainer (item_container b columns))
     framed_item = ap (option_and_then (frame_of d.options)) item ∙ item_frame d.options b columns
 
-    abbrev after_run : Bool → Before
-    after_run run = record { last = last_plain (closed_in r.tree); counted = run }
-
     closed_item : (x : ℕ) (blank : Bool) → r.blank ≡ blank → (blank ≡ true → columns ≡ 0) → ReadyInItem d defined r.tree x lines blank
         → ReadyAt d defined (closed_by r.tree e (ix ∷ rest)) blank Line lines
     closed_item x true is none ready =
@@ -295,14 +295,17 @@ module _ (d : Document) (defined : Tables) (r : PassState) (lines : List Place) 
         subst (λ n. next_goes_on (item_container b n ∷ path) lines ≡ false) (none refl) item_ends in
         let last : e ≡ end_before (length d.text) path (Blanks x) (Lines lines) =
         sym (ap (λ t. if t then x else start_of (length d.text) lines) (not_on b path lines ends0) ∙ e_is) in
-        pop_container d defined r.tree true (Blanks x) lines e ix rest (item_container b columns) spine framed_item
-        (stops_blank d.options (level (item_container b columns ∷ path) (after_run true)) x lines (not_blank (item_container b columns ∷ path) lines item_ends))
-        last ready
+        let c : Container = item_container b columns in
+        (leave_container d defined r.tree true (Blanks x) lines e ix rest c (record {
+          spine = spine;
+          frame = framed_item;
+          ends = stops_blank d.options (level (c ∷ path) (after_run true)) x lines (not_blank (c ∷ path) lines item_ends);
+          at_end = last;
+        }) ready).ready
     closed_item x false is none ready =
         let now : ReadyAt d defined r.tree false Line lines =
         subst (ReadyBeforeLine d defined r.tree x lines) (not_blank (path_of d.options r.tree) lines ends) ready in
-        pop_container d defined r.tree false Line lines e ix rest (item_container b columns) spine framed_item
-        (stops d.options (level (item_container b columns ∷ path) (after_run false)) lines item_ends) (sym e_is) now
+        pop_container false (item_container b columns) framed_item item_ends now
 
     item_by : (a : ItemBody) → popped_by r (closed_by r.tree e (ix ∷ rest)) ix (Some (item_body a columns))
         ≡ record r { tree = closed_by r.tree e (ix ∷ rest); begin_list_item = None }

@@ -58,7 +58,7 @@ use Rattle.first_pass_ready.proofs.OpenLemmas.{open_path}
 use Rattle.first_pass_kinds.proofs.KindLemmas.{kind_says}
 use Rattle.first_pass_blocks.proofs.Leaves.RuleLemmas.{rule_line}
 use Rattle.first_pass_ready.proofs.StateLemmas.{ready_plain}
-use Rattle.first_pass_ready.proofs.FinishLemmas.{EndsListAt, plain_by, ready_finished}
+use Rattle.first_pass_ready.proofs.FinishLemmas.{EndsListAt, plain_by, OpensOther, ready_finished}
 use Rattle.first_pass_ready.proofs.EnterLemmas.{ready_blank}
 use Rattle.first_pass_blocks.proofs.Openings.TagLemmas.{finishes_nothing, quote_counts}
 use Rattle.first_pass_order.proofs.WholeKept.{task_shows}
@@ -238,8 +238,9 @@ leaf_read_by d defined r p left at block b shows away (inl (bare, no_start, read
     let lines : List Place = lines_from d.text (line_end p) in
     let opening : Opening = OpensLeaf (Block block) Line left in
     let opens = no_container d r.tree r.blank p lines b.kind opening bare no_start b.is_kind b.opens in
-    let stays = opens_stays d (level_of d.options r.tree r.blank) p lines opening refl opens in
-    let done = ready_finished d defined r p lines at opening b.forest stays opens tt refl away b.none ready in
+    let begins : OpensOther d (path_of d.options r.tree) p opening =
+    record { stays = opens_stays d (level_of d.options r.tree r.blank) p lines opening refl opens; block = tt; other = refl } in
+    let done = ready_finished d defined r p lines at opening (record { forest = b.forest; none = b.none; ready = ready }) begins opens away in
     let f : Forest Item = (list_finished at r).tree in
     let now = done.ready.0 in
     let frames : List Frame = now.frames in

@@ -265,7 +265,7 @@ ready_empty_item d defined r p lines m marker rest e b other over =
     let opens : Opens d (level_of d.options r.tree r.blank) p lines (OpensNode (item_head p m.byte m.number n) from lines) =
     subst (Opens d (level_of d.options r.tree r.blank) p lines) (item_opens d path p lines m marker rest e t over refl)
     (begins_open d defined r p lines (item_start p (m.byte, m.number, m.indent) (marker, rest)) b) in
-    let now = item_is_open d defined r p lines m.byte m.number n from b.forest opens b.none b.ready in
+    let now = item_is_open d defined r p lines m.byte m.number n from b.may opens in
     empty_is d defined (ListItemBody m.indent) (list_continued (offset p) m.byte m.number r).tree (offset p) m.indent
     (item_opened (offset p) m.byte m.number m.indent r) marker (at_rest p rest) lines e path refl now.blank other t refl now.is_begun
 
@@ -292,7 +292,7 @@ ready_empty_definition d defined r p lines columns rest e b takes over =
     let opens : Opens d l p lines (OpensNode (definition_head p n) from lines) =
     subst (Opens d l p lines) (definition_opens d path p lines columns rest e t over refl)
     (begins_open d defined r p lines (definition_start p (columns, rest)) b) in
-    let now = definition_is_open d defined r p lines lines n from b.forest takes opens b.none b.ready in
+    let now = definition_is_open d defined r p lines lines n from b.may takes opens in
     let g : PassState = list_kept (with_tree r (definitions_opened r.tree r.tree.current)) in
     empty_is d defined (DefinitionListDefinition columns) g.tree (offset p) columns (definition_begun (offset p) columns r) None (at_rest p rest) lines e path
     refl now.blank (λ x some. cc) t refl now.is_begun

@@ -10,7 +10,7 @@ use Rattle.first_pass_items.specs.declared.item.ItemBody.TheVariants.{Definition
 use Rattle.first_pass_items.specs.declared.item.ListFlags.{ListFlags}
 use Rattle.first_pass_items.specs.declared.item.BlockQuoteKind.{BlockQuoteKind}
 use Rattle.first_pass_tree.specs.declared.tree_index.TreeIndex.{TreeIndex}
-use Rattle.first_pass_tree.specs.Forest.{Forest, IsForest, body_at}
+use Rattle.first_pass_tree.specs.Forest.{Forest, body_at}
 use Rattle.first_pass_tree.proofs.BodyLemmas.{body-other}
 use Rattle.first_pass_lines.specs.Rest.{Rest}
 use Rattle.first_pass_lines.specs.Places.{Place, offset, line_end}
@@ -27,7 +27,7 @@ use Rattle.first_pass_grammar.specs.Openers.{Start, start_at}
 use Rattle.first_pass_grammar.specs.Skeleton.{Continues, Inside, AtPlace, TextOf, Opening, OpensNode, Opens, Level, may_define, opening_of, after_tag}
 use Rattle.first_pass_grammar.specs.Derivation.{Tables, node_of, list_flags}
 use Rattle.first_pass_grammar.specs.Completion.{Closed, OtherClosed, ParagraphAt, DefinitionClosed, TitleAt, lines_from, Frame, InContainer, InList}
-use Rattle.first_pass_grammar.specs.Completion.{InDefinitions, containers_of, AreBelow, IsPlain}
+use Rattle.first_pass_grammar.specs.Completion.{InDefinitions, containers_of, IsPlain}
 use Rattle.first_pass_completion.proofs.Completions.{fresh}
 use Rattle.first_pass_completion.proofs.ContainerSteps.{completes-quote, completes-list, completes-item}
 use Rattle.first_pass_completion.proofs.Extending.{tail, lvl, opens_stays}
@@ -45,7 +45,7 @@ use Rattle.first_pass_ready.specs.State.{frame_of, AreOpen, closed_in, ReadyAt}
 use Rattle.first_pass_ready.proofs.ClosedIn.{items_no_container, items_no_definitions, level_of, open_level}
 use Rattle.first_pass_ready.proofs.OpenLemmas.{open_path, open_below}
 use Rattle.first_pass_ready.proofs.ListLemmas.{open_flags}
-use Rattle.first_pass_ready.proofs.FinishLemmas.{EndsListAt, Finished, ready_finished, loose_is, loose_frame, loosened_spine}
+use Rattle.first_pass_ready.proofs.FinishLemmas.{EndsListAt, Finished, MayBegin, OpensOther, ready_finished, loose_is, loose_frame, loosened_spine}
 use Rattle.first_pass_ready.proofs.BegunLemmas.{opened_too, depth_of, with_open, top_opened, IsBegun, HasBegun, begun_ready, opens_start, plain_open}
 use Rattle.first_pass_ready.proofs.DefinitionOpened.{definition_is_open}
 use Rattle.first_pass_lists.proofs.NoEmptyItem.{item_opened}
@@ -80,14 +80,15 @@ finished_path d defined old new p lines opening done =
 -- a block quote of a kind is open, for any place where blocks continue in it
 pub quote_is_open : (d : Document) (defined : Tables) (r : PassState) (p : Place) (lines following : List Place) (kind : Option BlockQuoteKind)
     (inside : Continues)
-    → IsForest r.tree → Opens d (level_of d.options r.tree r.blank) p lines (OpensNode (quote_head p kind) inside following) → r.begin_list_item ≡ None
-    → ReadyAt d defined r.tree r.blank (Inside p) lines
+    → MayBegin d defined r p lines → Opens d (level_of d.options r.tree r.blank) p lines (OpensNode (quote_head p kind) inside following)
     → HasBegun d defined r (begun (quote_start p) (BlockQuoteBody kind) (list_finished p.line r)) (BlockQuote kind) inside following
-quote_is_open d defined r p lines following kind inside forest opens none ready =
+quote_is_open d defined r p lines following kind inside may opens =
     let opening : Opening = OpensNode (quote_head p kind) inside following in
     let q : PassState = list_finished p.line r in
-    let done = ready_finished d defined r p lines p.line opening forest (opens_stays d (level_of d.options r.tree r.blank) p lines opening refl opens) opens tt
-    refl (quote_away (top_body r.tree) (closed_in r.tree) p kind following inside) none ready in
+    let begins : OpensOther d (path_of d.options r.tree) p opening =
+    record { stays = opens_stays d (level_of d.options r.tree r.blank) p lines opening refl opens; block = tt; other = refl } in
+    let done = ready_finished d defined r p lines p.line opening may begins opens
+    (quote_away (top_body r.tree) (closed_in r.tree) p kind following inside) in
     let f : Forest Item = q.tree in
     let now = done.ready.0 in
     let k = completes-quote d (open_nodes defined now.frames f.nodes (map (λ (i : TreeIndex). i.0) f.spine)) (closed_in f) kind (quote_start p) p.line
@@ -97,7 +98,7 @@ quote_is_open d defined r p lines following kind inside forest opens none ready 
       is_begun = subst (IsBegun d defined (with_open f (node_of (quote_start p) 0 (BlockQuoteBody kind))) (BlockQuote kind) inside following)
           (finished_path d defined r q p lines opening done)
           (begun_ready d defined f (node_of (quote_start p) 0 (BlockQuoteBody kind)) (BlockQuote kind) now.frames inside following refl refl now.are_open
-          now.completes.below k);
+          k);
       blank = done.blank;
       none = done.none;
     }
@@ -108,11 +109,9 @@ begins_at d r p = start_at d.options (may_define d (level_of d.options r.tree r.
 
 -- A container begins at the place of a state: blocks may begin there, no footnote definition does, and no item is empty.
 pub record ContainerBegins (d : Document) (defined : Tables) (r : PassState) (p : Place) (lines : List Place) (s : Start) : Type 0 where
-  pub forest : IsForest r.tree
-  pub none : r.begin_list_item ≡ None
+  pub may : MayBegin d defined r p lines
   pub bare : footnote_head_at (around d (path_of d.options r.tree)) p ≡ None
   pub begins : begins_at d r p ≡ Some s
-  pub ready : ReadyAt d defined r.tree r.blank (Inside p) lines
 
 -- its start opens it
 pub begins_open : (d : Document) (defined : Tables) (r : PassState) (p : Place) (lines : List Place) (s : Start)
@@ -127,7 +126,7 @@ pub ready_quote : (d : Document) (defined : Tables) (r : PassState) (p : Place) 
 ready_quote d defined r p lines inside b =
     let q : PassState = begun (quote_start p) (BlockQuoteBody None) (list_finished p.line r) in
     let opens = begins_open d defined r p lines (quote_begun p None inside) b in
-    let now = quote_is_open d defined r p lines lines None (Inside (at_rest p inside)) b.forest opens b.none b.ready in
+    let now = quote_is_open d defined r p lines lines None (Inside (at_rest p inside)) b.may opens in
     subst (λ t. ReadyAt d defined q.tree t (Inside (at_rest p inside)) lines) (sym now.blank) now.is_begun.ready
 
 -- a block quote with one
@@ -139,7 +138,7 @@ ready_tagged d defined r p lines inside kind b =
     let path : List Container = path_of d.options r.tree in
     let from : Continues × List Place = after_tag (around d (BlockQuote (Some kind) ∷ path)) lines in
     let opens = begins_open d defined r p lines (quote_begun p (Some kind) inside) b in
-    let now = quote_is_open d defined r p lines from.1 (Some kind) from.0 b.forest opens b.none b.ready in
+    let now = quote_is_open d defined r p lines from.1 (Some kind) from.0 b.may opens in
     record {
       kind = Some kind;
       quote = top_opened (list_finished p.line r).tree (node_of (quote_start p) 0 (BlockQuoteBody (Some kind)));
@@ -160,9 +159,8 @@ item_away (Some (DefinitionList flags)) (TitleAt e at) p byte number columns ins
 item_away (Some b) closed p byte number columns inside lines other = tt
 
 module _ (d : Document) (defined : Tables) (r : PassState) (p : Place) (lines : List Place) (byte number columns : ℕ) (inside : Continues)
-    (forest : IsForest r.tree)
-    (opens : Opens d (level_of d.options r.tree r.blank) p lines (OpensNode (item_head p byte number columns) inside lines))
-    (none : r.begin_list_item ≡ None) (ready : ReadyAt d defined r.tree r.blank (Inside p) lines) where
+    (may : MayBegin d defined r p lines)
+    (opens : Opens d (level_of d.options r.tree r.blank) p lines (OpensNode (item_head p byte number columns) inside lines)) where
   abbrev ItemIsOpen : PassState → Type 0
   ItemIsOpen q = HasBegun d defined r q (ListItem columns) inside lines
 
@@ -177,9 +175,10 @@ module _ (d : Document) (defined : Tables) (r : PassState) (p : Place) (lines : 
       → ItemIsOpen (begun (offset p) (ListItemBody columns) (begun (offset p) (ListBody (list_flags true) byte number) (list_finished (offset p) r)))
   in_new_list other =
       let q : PassState = list_finished (offset p) r in
-      let done = ready_finished d defined r p lines (offset p) opening forest
-      (opens_stays d (level_of d.options r.tree r.blank) p lines opening refl opens) opens tt refl
-      (item_away (top_body r.tree) (closed_in r.tree) p byte number columns inside lines other) none ready in
+      let begins : OpensOther d (path_of d.options r.tree) p opening =
+      record { stays = opens_stays d (level_of d.options r.tree r.blank) p lines opening refl opens; block = tt; other = refl } in
+      let done = ready_finished d defined r p lines (offset p) opening may begins opens
+      (item_away (top_body r.tree) (closed_in r.tree) p byte number columns inside lines other) in
       let f : Forest Item = q.tree in
       let frames : List Frame = done.ready.0.frames in
       let os : List ℕ = map (λ (i : TreeIndex). i.0) f.spine in
@@ -197,10 +196,9 @@ module _ (d : Document) (defined : Tables) (r : PassState) (p : Place) (lines : 
       let now : List Frame = InContainer (ListItem columns) ∷ InList byte false ∷ frames in
       let list_open : AreOpen d.options g.nodes g.spine (InList byte false ∷ frames) =
       opened_too d.options f.nodes (length f.spine + 1) y f.spine frames (InList byte false) refl refl done.ready.0.completes.below done.ready.0.are_open in
-      let below : AreBelow (length g.nodes) (length f.nodes ∷ os) = (omega arith, done.ready.0.completes.below) in
       record {
         is_begun = subst (IsBegun d defined (with_open g item) (ListItem columns) inside lines) (finished_path d defined r q p lines opening done)
-            (begun_ready d defined g item (ListItem columns) (InList byte false ∷ frames) inside lines refl refl list_open below
+            (begun_ready d defined g item (ListItem columns) (InList byte false ∷ frames) inside lines refl refl list_open
             (subst (λ z. CompletesAt d defined fresh now (g.nodes ++ (suc (suc (length os)), item) ∷ []) (z ∷ length f.nodes ∷ os) inside lines) (sym n)
             (subst (λ z. CompletesAt d defined fresh now z (suc (length f.nodes) ∷ length f.nodes ∷ os) inside lines) nodes k)));
         blank = done.blank;
@@ -211,8 +209,8 @@ module _ (d : Document) (defined : Tables) (r : PassState) (p : Place) (lines : 
   kept_by : (run : Bool) → r.blank ≡ run → (ix : TreeIndex) (rest : List TreeIndex) → r.tree.spine ≡ ix ∷ rest
       → (let q : PassState = if run then record r { tree = loosened_top r.tree r.tree.spine; blank = false } else r in
       (q.tree ≡ (if run then loosened_at r.tree ix else r.tree)) × (q.blank ≡ false) × (q.begin_list_item ≡ None))
-  kept_by true is ix rest spine = (ap (loosened_top r.tree) spine, refl, none)
-  kept_by false is ix rest spine = (refl, is, none)
+  kept_by true is ix rest spine = (ap (loosened_top r.tree) spine, refl, may.none)
+  kept_by false is ix rest spine = (refl, is, may.none)
 
   goes_on_as : (run : Bool) (ix : TreeIndex) (rest : List TreeIndex) (flags : ListFlags) (list n b : ℕ) (loose : Bool) (frames : List Frame)
       → r.tree.spine ≡ ix ∷ rest → body_at r.tree.nodes ix.0 ≡ Some (ListBody flags list n)
@@ -276,7 +274,6 @@ module _ (d : Document) (defined : Tables) (r : PassState) (p : Place) (lines : 
       subst (λ z. AreOpen d.options f.nodes (ix ∷ rest) (InList z (loose || run) ∷ frames)) b_is now.0 in
       subst (IsBegun d defined (with_open f item) (ListItem columns) inside lines) path
       (begun_ready d defined f item (ListItem columns) frames' inside lines refl refl (subst (λ s. AreOpen d.options f.nodes s frames') (sym now.2) o')
-      (subst (λ (s : List TreeIndex). AreBelow (length f.nodes) (map (λ (i : TreeIndex). i.0) s)) (sym now.2) k'.below)
       (subst (λ (s : List TreeIndex). CompletesAt d defined fresh (InContainer (ListItem columns) ∷ frames')
       (f.nodes ++ (suc (length (map (λ (i : TreeIndex). i.0) s)), item) ∷ []) (length f.nodes ∷ map (λ (i : TreeIndex). i.0) s) inside lines)
       (sym now.2) done))
@@ -289,6 +286,7 @@ module _ (d : Document) (defined : Tables) (r : PassState) (p : Place) (lines : 
   in_list_by (ix ∷ rest) (Some (ListBody flags list n)) spine is same =
       let kept = kept_by r.blank refl ix rest spine in
       let equal : list ≡ byte = grind (arith, nat_tests, same) in
+      let ready = may.ready in
       let opens' = subst (λ z. Opens d z p lines opening) (open_level d.options r.tree ready.frames r.blank ready.are_open) opens in
       let done = item_by r.blank ix rest flags list n ready.frames spine is equal
       (subst (λ z. AreOpen d.options r.tree.nodes z ready.frames) spine ready.are_open) opens'
@@ -312,7 +310,7 @@ module _ (d : Document) (defined : Tables) (r : PassState) (p : Place) (lines : 
   pub item_is_open : ItemIsOpen (item_opened (offset p) byte number columns r)
   unfolding list_continued item_finished
   item_is_open =
-      let same : item_finished_by r r.begin_list_item ≡ r = ap (item_finished_by r) none in
+      let same : item_finished_by r r.begin_list_item ≡ r = ap (item_finished_by r) may.none in
       subst (λ q. ItemIsOpen (begun (offset p) (ListItemBody columns)
       (if is_list_of byte (top_body q.tree) then list_kept q else begun (offset p) (ListBody (list_flags true) byte number) (list_finished (offset p) q))))
       (sym same)
@@ -354,7 +352,7 @@ ready_item d defined r p lines byte number columns marker rest b some =
     let opens : Opens d l p lines (OpensNode (item_head p byte number columns) from lines) =
     subst (Opens d l p lines) (inside_by d (path_of d.options r.tree) p lines byte number columns marker rest some)
     (begins_open d defined r p lines (item_start p (byte, number, columns) (marker, rest)) b) in
-    let now = item_is_open d defined r p lines byte number columns from b.forest opens b.none b.ready in
+    let now = item_is_open d defined r p lines byte number columns from b.may opens in
     let g : Forest Item = (list_continued (offset p) byte number r).tree in
     let q : PassState = item_opened (offset p) byte number columns r in (
       now.blank,
@@ -378,7 +376,7 @@ ready_definition d defined r p lines columns rest b takes some =
     let opens : Opens d l p lines (OpensNode (definition_head p columns) from lines) =
     subst (Opens d l p lines) (on_line d (path_of d.options r.tree) p lines columns rest some)
     (begins_open d defined r p lines (definition_start p (columns, rest)) b) in
-    let now = definition_is_open d defined r p lines lines columns from b.forest takes opens b.none b.ready in
+    let now = definition_is_open d defined r p lines lines columns from b.may takes opens in
     subst (λ t. ReadyAt d defined q.tree t from lines) (sym now.blank) now.is_begun.ready
 
 -- what follows an item's marker if more of its line is left: blocks, or the text of a task

@@ -123,11 +123,9 @@ module _ (source : Source) (r : PassState) (p : Place) (utf8 : IsUtf8 source.tex
       → ReadyAt (doc names) defined r.tree r.blank (Inside p) (lines_from text (line_end p))
       → ContainerBegins (doc names) defined r p (lines_from text (line_end p)) s
   begins_as names defined s is ready = record {
-    forest = forest;
-    none = none;
+    may = record { forest = forest; none = none; ready = ready };
     bare = no_head names defined ready;
     begins = ap (λ (t : Bool). start_at source.options (has source.options definition_list && t) p) (takes_same r.tree) ∙ is;
-    ready = ready;
   }
 
   -- a list item

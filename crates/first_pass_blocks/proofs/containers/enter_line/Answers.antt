@@ -38,9 +38,9 @@ settled_line c names defined =
     let d : Document = document c.args.source.now.text.now c.args.source.now.options names in
     subst (λ (q : PassState). IsSettled d defined c.args.state.now q c.args.start_ix (left c)) (sym c.end_old_footnote.ensures)
     (settled d defined c.args.state.now c.close_containers.new.state c.args.start_ix (left c)
-    (at_line d defined c.args.state.now c.close_containers.new.state c.args.start_ix c.scan_front-front.result.continued _ (left c)
-    refl c.requires.within c.close_containers.ensures.spine (c.close_containers.ensures.kept.paths c.args.source.now.options)
-    (λ e lines. c.close_containers.ensures.kept.ready e defined lines) c.scan_front-front.ensures.taken c.scan_front-front.ensures.stops))
+    (at_line d defined c.args.state.now c.close_containers.new.state c.args.start_ix c.scan_front-front.result.continued (left c) c.requires.within
+    (record { spine = c.close_containers.ensures.spine; paths = c.close_containers.ensures.kept.paths; ready = c.close_containers.ensures.kept.ready })
+    c.scan_front-front.ensures.taken c.scan_front-front.ensures.stops))
 
 pub returns-then-is_some-clause-entered : goal.returns-then-is_some-clause-entered
 returns-then-is_some-clause-entered c =
