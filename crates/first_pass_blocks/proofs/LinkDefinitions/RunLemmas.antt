@@ -162,15 +162,22 @@ pub record RunWithOne (text : List ℕ) (around : Context) (nested : Bool) (p : 
 abbrev pub text_at : List ℕ → List Container → ℕ → Place
 text_at text path next = unindented (place_at next (front path (line_rest (drop next text))))
 
-told_more : (before mid now : Tables) (a : List LinkEntry) (x : LinkEntry) → mid ≡ with_definitions before a → now ≡ with_definitions mid (x ∷ [])
-    → now ≡ with_definitions before (a ++ x ∷ [])
-told_more before mid now a x h k = k ∙ ap (λ t. with_definitions t (x ∷ [])) h ∙ told-append before a (x ∷ [])
+-- the tables with one more definition
+told_more : (text : List ℕ) (around : Context) (nested : Bool) (p : Place) (next : ℕ) (before now : Tables)
+    → (w : RunWithOne text around nested p next before now) → nested ≡ false → now ≡ with_definitions before (w.so_far.definitions ++ w.entry ∷ [])
+told_more text around nested p next before now w plain =
+    w.defined plain ∙ ap (λ t. with_definitions t (w.entry ∷ [])) (w.so_far.defined plain) ∙ told-append before w.so_far.definitions (w.entry ∷ [])
 
--- the lines after it, if its entry gives its end
-after_entry : (text : List ℕ) (q : Place) (e : ℕ) (x : LinkEntry)
-    → x.«end» ≡ e → lines_beyond e (lines_from text (line_end q)) ≡ lines_from text (e + line_len (drop e text))
-    → lines_beyond x.«end» (lines_from text (line_end q)) ≡ lines_from text (e + line_len (drop e text))
-after_entry text q e x is lines = ap (λ n. lines_beyond n (lines_from text (line_end q))) is ∙ lines
+-- the lines after that definition
+lines_after_one : (text : List ℕ) (around : Context) (nested : Bool) (p : Place) (next : ℕ) (before now : Tables)
+    → (w : RunWithOne text around nested p next before now)
+    → (lines_beyond w.entry.«end» (lines_from text (line_end w.place)) ≡ lines_from text next) × (line_end w.place ≤ next)
+lines_after_one text around nested p next before now w =
+    let one = w.one in
+    let at = one.next_is in
+    let following = lines_after_it text w.place one.last w.so_far.stands one.less one.within one.no_end in
+    let low = following.1 in
+    (ap (λ n. lines_beyond n (lines_from text (line_end w.place))) one.ends ∙ following.0 ∙ ap (lines_from text) (sym at), omega arith)
 
 -- One more definition, after which the line continues the run.
 pub run_goes_on : (text : List ℕ) (around : Context) (nested : Bool) (p : Place) (next : ℕ) (before now : Tables) → IsUtf8 text → next < length text
@@ -181,26 +188,24 @@ run_goes_on text around nested p next before now u within goes w =
     let q : Place = w.place in
     let r = w.so_far in
     let one = w.one in
-    let at = one.next_is in
-    let following = lines_after_it text q one.last r.stands one.less one.within one.no_end in
     let begins : IsCharBoundary text next = one.boundary in
     let there = text_place text next around.path u begins in
-    let low = following.1 in
+    let after = lines_after_one text around nested p next before now w in
+    let low = after.1 in
     let ends = r.ends in
     let some = line_len-within text next within in
     let more = some.0 in
     let x : LinkEntry = w.entry in
     let line : Place = line_place next (drop next text) in
     let left : List Place = lines_from text (next + line_len (drop next text)) in
-    let lines : lines_beyond x.«end» (lines_from text (line_end q)) ≡ line ∷ left =
-    after_entry text q one.last x one.ends following.0 ∙ ap (lines_from text) (sym at) ∙ lines_at-line text next within in
+    let lines : lines_beyond x.«end» (lines_from text (line_end q)) ≡ line ∷ left = after.0 ∙ lines_at-line text next within in
     let far = there.1 in
     record {
       stands = there.0;
       later = inr (omega arith, begins);
       ends = omega arith;
       definitions = r.definitions ++ x ∷ [];
-      defined = λ plain. told_more before w.mid now r.definitions x (r.defined plain) (w.defined plain);
+      defined = λ plain. told_more text around nested p next before now w plain;
       continues = λ plain further beyond run.
           subst (λ z. IsRun around p (lines_from text (line_end p)) z beyond) (sym (append_assoc r.definitions (x ∷ []) further))
           (r.continues plain (x ∷ further) beyond (
@@ -230,12 +235,9 @@ run_ends text around nested p line next before now w here ends =
     let q : Place = w.place in
     let r = w.so_far in
     let one = w.one in
-    let at = one.next_is in
-    let following = lines_after_it text q one.last r.stands one.less one.within one.no_end in
     let x : LinkEntry = w.entry in
-    let lines : lines_beyond x.«end» (lines_from text (line_end q)) ≡ lines_from text next =
-    after_entry text q one.last x one.ends following.0 ∙ ap (lines_from text) (sym at) in
-    let low = following.1 in
+    let after = lines_after_one text around nested p next before now w in
+    let low = after.1 in
     record {
       place = q;
       stands = r.stands;
@@ -243,9 +245,9 @@ run_ends text around nested p line next before now w here ends =
       ends = r.ends;
       says = (here, omega arith, one.boundary);
       definitions = r.definitions ++ x ∷ [];
-      defined = λ plain. told_more before w.mid now r.definitions x (r.defined plain) (w.defined plain);
+      defined = λ plain. told_more text around nested p next before now w plain;
       run = λ plain. r.continues plain (x ∷ []) (Ended q (lines_from text next))
-          (one.here plain, inl (ap (ends_run around) lines ∙ run_ends_by around text next ends, refl, ap (Ended q) (sym lines)));
+          (one.here plain, inl (ap (ends_run around) after.0 ∙ run_ends_by around text next ends, refl, ap (Ended q) (sym after.0)));
     }
 
 -- No more definitions: the text of a paragraph begins there.
