@@ -7,8 +7,8 @@ use Rattle.first_pass_items.specs.declared.item.Item.{Item}
 use Rattle.first_pass_items.specs.declared.item.ItemBody.{ItemBody}
 use Rattle.first_pass_items.specs.declared.item.ItemBody.TheVariants.{TableRow}
 use Rattle.first_pass_tree.specs.declared.tree_index.TreeIndex.{TreeIndex}
-use Rattle.first_pass_tree.specs.Forest.{Forest, at_depth, added, appended, popped}
-use Rattle.first_pass_tree.proofs.Blocks.{at_depth-append, block-built}
+use Rattle.first_pass_tree.specs.Forest.{Forest, at_depth, added, popped}
+use Rattle.first_pass_tree.proofs.Blocks.{at_depth-append, BlockCalls, block-built}
 use Rattle.first_pass_tokens.specs.TreeTokens.{chained, leaves}
 use Rattle.first_pass_tokens.proofs.ChainLemmas.{chained-spine, chained-nodes}
 use Rattle.first_pass_tokens.specs.LineTokens.{Spot, spot}
@@ -83,10 +83,19 @@ module _ {d : Document} {columns : ℕ} {start : Spot} {body : ItemBody} {old : 
   row_closed new new_is =
       let x = begun_item start.at body in
       let place = row_place old in
-      new_is ∙ ap (closed_by full o.stop.at) spine_of_row
-      ∙ block-built old (appended old x) o.opened full (popped full place old.spine) x (λ (y : Item). record y { «end» = o.stop.at })
-      (row_cells columns o.adds.cells o.stop.at) place
-      refl o.opened_is nodes_are spine_is spine_of_row refl refl
+      let cells = row_cells columns o.adds.cells o.stop.at in
+      let closed = popped full place old.spine in
+      let calls : BlockCalls old x cells place closed = record {
+        opened = o.opened;
+        filled = full;
+        at = refl;
+        opened_is = o.opened_is;
+        nodes = nodes_are;
+        spine = spine_is;
+        around = spine_of_row;
+        closed_is = refl;
+      } in
+      new_is ∙ ap (closed_by full o.stop.at) spine_of_row ∙ block-built old x (λ (y : Item). record y { «end» = o.stop.at }) cells place closed calls
 
 -- the numbers of a row's cells and of the missing ones decide whether it is kept
 pub same_test : (following : Bool) (columns most count missing : ℕ) (cells : List (List (ℕ × Item))) → count ≡ length cells → missing ≡ filled columns cells

@@ -11,7 +11,7 @@ use Rattle.first_pass_tree.specs.declared.tree_index.TreeIndex.{TreeIndex}
 use Rattle.first_pass_tree.specs.Forest.{Forest, depths, item_at, modify, modified, appended, pushed, popped, childless, is_text, is_escaped, cut_item}
 use Rattle.first_pass_tree.specs.Forest.{cut_tokens, cut_siblings, last_before, last_child, open_place, HasLeaves, ends_text_at, joins_at, with_end}
 use Rattle.first_pass_tree.specs.Forest.{with_end_at, with_text, at_depth, added, block_of}
-use Rattle.first_pass_tree.proofs.Blocks.{modify-at, forest-eq, block-calls}
+use Rattle.first_pass_tree.proofs.Blocks.{modify-at, forest-eq, BlockCalls, block-built}
 use Rattle.first_pass_tokens.specs.Chains.{text_token, touches, AreApart, add_token, add_tokens, add_text, cut}
 use Rattle.first_pass_tokens.specs.TreeTokens.{with_token, with_tokens, chained, leaves, JoinsNone}
 
@@ -403,13 +403,23 @@ module _ {f f₂ : Forest Item} {x : Item} {place : TreeIndex} (o : IsOpened f x
   closed-calls None m = absurd (no_open f₃.spine place f.spine m.0 closed_spine)
   closed-calls (Some ix) m =
       let nodes : f₄.nodes ≡ f₃.nodes = ap (λ (v : Forest Item). v.nodes) m.1 in
+      let spine : f₃.spine ≡ place ∷ f.spine = closed_spine in
+      let popped_from : f₃.spine ≡ ix ∷ f₄.spine = m.0 in
+      let same : ix ≡ place = cc in
+      let calls : BlockCalls f x (leaves chain) place f₄ = record {
+        opened = f₂;
+        filled = f₃;
+        at = o.at;
+        opened_is = o.is;
+        nodes = ap (λ (v : Forest Item). v.nodes) chain_is ∙ chained-nodes f₂ chain;
+        spine = ap (λ (v : Forest Item). v.spine) chain_is ∙ chained-spine f₂ chain;
+        around = popped_from ∙ ap (λ (i : TreeIndex). i ∷ f₄.spine) same;
+        closed_is = m.1 ∙ ap (λ (i : TreeIndex). popped f₃ i f₄.spine) same;
+      } in
       record {
         within = omega (arith, o.at, closed_length, ap length nodes);
-        block =
-            λ h. block-calls f (appended f x) f₂ f₃ f₄ x h (leaves chain) place place (Some ix) o.at refl (ap (λ (n : ℕ). Some (place_at n)) (sym o.at)) o.is
-            (ap (λ (v : Forest Item). v.nodes) chain_is ∙ chained-nodes f₂ chain) (ap (λ (v : Forest Item). v.spine) chain_is ∙ chained-spine f₂ chain) m;
+        block = λ h. block-built f x h (leaves chain) place f₄ calls;
       }
-  -- the clause of remove_node, in its form: only the node remains
 
 -- the same for trees in full
 pub closed-chained : (g : Forest Item) (x : Item) (h : Item → Item) (chain : List Item) (ix : TreeIndex)

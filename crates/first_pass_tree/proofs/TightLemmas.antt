@@ -158,10 +158,12 @@ pub record IsTightening (old : Forest Item) (depth from to at : ℕ) (now : Fore
   pub depths_stay : depths now.nodes ≡ depths old.nodes
   pub tight : (f : Forest Item) → old ≡ tight_from f depth to → now ≡ tight_from f depth at
 
-pub tightening_next : (old now next : Forest Item) (depth from to at k : ℕ) → to ≤ length old.nodes
-    → ((j : ℕ) → from ≤ j → j < to → depth < slice_index (depths old.nodes) j) → from < at → at ≡ k + 1 → IsTightening old depth from to at now
-    → next ≡ with_tight_node now depth (record { 0 = k }) → IsTightening old depth from to k next
-tightening_next old now next depth from to at k l deep b s h e =
+pub tightening_next : (old now next : Forest Item) (depth from to at : ℕ) → to ≤ length old.nodes
+    → ((j : ℕ) → from ≤ j → j < to → depth < slice_index (depths old.nodes) j) → from < at → IsTightening old depth from to at now
+    → next ≡ with_tight_node now depth (record { 0 = at - 1 }) → IsTightening old depth from to (at - 1) next
+tightening_next old now next depth from to at l deep b h e =
+    let k = at - 1 in
+    let s : at ≡ k + 1 = omega arith in
     let w = h.within in
     let d = deep k (omega arith) (omega arith) in
     record {
@@ -177,8 +179,10 @@ tightening_next old now next depth from to at k l deep b s h e =
           ∙ ap (λ (ns : List (ℕ × Item)). record f { nodes = ns }) (tight_more depth k f.nodes (omega arith) deeper);
     }
 
--- the walk back over all nodes below a list: the paragraphs from a place on are tight
+-- the walk back over all nodes below a list of a depth: the paragraphs from a place on are tight
 pub record IsTightFrom (f : Forest Item) (list depth at : ℕ) (g : Forest Item) : Type 0 where
+  pub there : list < length f.nodes
+  pub depth_is : depth ≡ slice_index (depths f.nodes) list
   pub following : list < at
   pub within : at ≤ end_of (depths f.nodes) list
   pub tight : g ≡ tight_from f depth at
@@ -195,47 +199,50 @@ walk_begins f list depth at l d e =
     (λ a. tight_end depth at f.nodes (omega arith))
     (cases_lt at (length ds)) in
     record {
+      there = l;
+      depth_is = d;
       following = omega arith;
       within = omega arith;
       tight = ap (λ (ns : List (ℕ × Item)). record f { nodes = ns }) (sym n);
     }
 
-pub walk_within : (f g : Forest Item) (list depth at : ℕ) → list < length f.nodes → IsTightFrom f list depth at g → at ≤ length g.nodes
-walk_within f g list depth at l h =
+pub walk_within : (f g : Forest Item) (list depth at : ℕ) → IsTightFrom f list depth at g → at ≤ length g.nodes
+walk_within f g list depth at h =
+    let l = h.there in
     omega
     (arith, h.within, same_count f g (tight_from_depths f g depth at h.tight), run-within f.nodes (slice_index (depths f.nodes) list) (list + 1) (omega arith))
 
 -- every node below the list is deeper than it
-pub walk_deeper : (f g : Forest Item) (list depth at k : ℕ)
-    → depth ≡ slice_index (depths f.nodes) list → IsTightFrom f list depth at g → list < k → k < at → depth < slice_index (depths g.nodes) k
-walk_deeper f g list depth at k d h a b =
+pub walk_deeper : (f g : Forest Item) (list depth at k : ℕ) → IsTightFrom f list depth at g → list < k → k < at → depth < slice_index (depths g.nodes) k
+walk_deeper f g list depth at k h a b =
     let w = h.within in
     let o = before-end (depths f.nodes) list k a (omega arith) in
     subst (λ (ds : List ℕ). depth < slice_index ds k) (sym (tight_from_depths f g depth at h.tight))
-    (subst (λ (e : ℕ). e < slice_index (depths f.nodes) k) (sym d) o)
+    (subst (λ (e : ℕ). e < slice_index (depths f.nodes) k) (sym h.depth_is) o)
 
 -- the nodes after an inner list are tight too
 pub walk_over : (f g : Forest Item) (list depth at past : ℕ)
     → IsTightFrom f list depth at g → list < past → past ≤ at → (h : Forest Item) → h ≡ tight_from f depth past → IsTightFrom f list depth past h
-walk_over f g list depth at past from a b h t = record { following = a; within = (let w = from.within in omega arith); tight = t }
+walk_over f g list depth at past from a b h t =
+    record { there = from.there; depth_is = from.depth_is; following = a; within = (let w = from.within in omega arith); tight = t }
 
 -- a step over an inner list, from the nodes after it to its place
-pub walk_next : (f g h next : Forest Item) (list depth at place past : ℕ)
-    → list < length f.nodes → depth ≡ slice_index (depths f.nodes) list → IsTightFrom f list depth at g → list < place → place < past → past ≤ at
-    → ((k : ℕ) → place < k → k < past → depth + 2 < slice_index (depths g.nodes) k)
-    → h ≡ tight_from f depth past → next ≡ with_tight_node h depth (record { 0 = place }) → IsTightFrom f list depth place next
-walk_next f g h next list depth at place past l d from a b c over t e =
+pub walk_next : (f h next : Forest Item) (list depth place past : ℕ)
+    → IsTightFrom f list depth past h → list < place → place < past → ((k : ℕ) → place < k → k < past → depth + 2 < slice_index (depths f.nodes) k)
+    → next ≡ with_tight_node h depth (record { 0 = place }) → IsTightFrom f list depth place next
+walk_next f h next list depth place past from a b over e =
     let v = from.within in
-    let s = tight_from_depths f g depth at from.tight in
-    let w = walk_within f g list depth at l from in
-    let n = same_count f g s in
+    let s = tight_from_depths f h depth past from.tight in
+    let w = walk_within f h list depth past from in
+    let n = same_count f h s in
     let deep : depth < slice_index (depths f.nodes) place =
-    subst (λ (ds : List ℕ). depth < slice_index ds place) s (walk_deeper f g list depth at place d from a (omega arith)) in
+    subst (λ (ds : List ℕ). depth < slice_index ds place) s (walk_deeper f h list depth past place from a b) in
     record {
+      there = from.there;
+      depth_is = from.depth_is;
       following = a;
       within = omega arith;
       tight = e
-          ∙ ap (λ (v : Forest Item). with_tight_node v depth (record { 0 = place })) t
-          ∙ ap (λ (ns : List (ℕ × Item)). record f { nodes = ns })
-          (tight_back depth place past f.nodes b (omega arith) deep (λ k x y. subst (λ (ds : List ℕ). depth + 2 < slice_index ds k) s (over k x y)));
+          ∙ ap (λ (v : Forest Item). with_tight_node v depth (record { 0 = place })) from.tight
+          ∙ ap (λ (ns : List (ℕ × Item)). record f { nodes = ns }) (tight_back depth place past f.nodes b (omega arith) deep over);
     }

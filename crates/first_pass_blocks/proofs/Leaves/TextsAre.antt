@@ -8,8 +8,8 @@ use Rattle.first_pass_items.specs.declared.item.Item.{Item}
 use Rattle.first_pass_items.specs.declared.item.ItemBody.TheVariants.{Table, TableHead}
 use Rattle.first_pass_items.specs.declared.option_set.Options.{Options}
 use Rattle.first_pass_tree.specs.declared.tree_index.TreeIndex.{TreeIndex}
-use Rattle.first_pass_tree.specs.Forest.{Forest, added, block_of, appended, popped}
-use Rattle.first_pass_tree.proofs.Blocks.{block-built}
+use Rattle.first_pass_tree.specs.Forest.{Forest, added, block_of, popped}
+use Rattle.first_pass_tree.proofs.Blocks.{BlockCalls, block-built}
 use Rattle.std.proofs.Math.Seq.{drop-drop}
 use Rattle.first_pass_kinds.specs.TableHeads.{table_head_len}
 use Rattle.first_pass_lines.specs.Lines.{line_len}
@@ -115,8 +115,18 @@ module _ (text : List ℕ) (options : Options) (names : Names) (start body next 
       let place : TreeIndex = record { 0 = length old.nodes } in
       let opened : Forest Item = opened_block old start (Table ix) in
       let kids : List (ℕ × Item) = row_block TableHead (length alignments) start r.cells r.head_end ++ r.body in
-      r.tree_is ∙ block-built old (appended old x) opened (with_below opened kids) (popped (with_below opened kids) place old.spine) x
-      (λ y. record y { «end» = next }) kids place refl refl refl refl refl refl refl
+      let closed : Forest Item = popped (with_below opened kids) place old.spine in
+      let calls : BlockCalls old x kids place closed = record {
+        opened = opened;
+        filled = with_below opened kids;
+        at = refl;
+        opened_is = refl;
+        nodes = refl;
+        spine = refl;
+        around = refl;
+        closed_is = refl;
+      } in
+      r.tree_is ∙ block-built old x (λ y. record y { «end» = next }) kids place closed calls
 
   table_is : AreIn (length old.nodes) old.spine → ((more : Names) → Extends more names → NamesAlignments more ix alignments)
       → body ≡ line_end_at text (line_end_at text start)
