@@ -13,7 +13,7 @@ use Rattle.first_pass_tables.proofs.RowDrops.{current_is_child, dropped}
 use Rattle.first_pass_tables.proofs.RowClosed.{OpenRow, row_place, row_opened, row_is_open, row_closed, same_test, row_after, row_read}
 use Rattle.first_pass_tables.proofs.RowsAdded.{row_between}
 use Rattle.first_pass_tables.proofs.row.parse_table_row_inner.Goals as goal
-use Rattle.first_pass_tables.proofs.row.parse_table_row_inner.Goals.{In_ok-end}
+use Rattle.first_pass_tables.proofs.row.parse_table_row_inner.Goals.{After-is_kept, In_ok-end}
 
 -- the test of a row, with the number of cells that may be filled in
 kept_by : (kept following : Bool) (count missing some : ℕ) {most : ℕ} → kept ≡ ((not following || nat_lt 0 count) && nat_le missing some) → some ≡ most
@@ -36,6 +36,20 @@ open_row c = record {
   adds = c.in_ok-end.ensures.cells;
 }
 
+-- the test of the row is that of its cells
+kept_is : (c : After-is_kept) → keeps_row (is_some c.args.tree.now.current) c.args.wanted.most
+    (most_filled - c.args.table.now.missing_empty_cells) c.in_ok-end.ensures.cells.cells ≡ c.is_kept.result
+kept_is c =
+    let adds = c.in_ok-end.ensures.cells in
+    let most = most_filled - c.args.table.now.missing_empty_cells in
+    let missing_is = c.saturating_sub-missing.ensures ∙ ap (λ (n : ℕ). c.args.wanted.most - n) adds.count in
+    let following : c.is_some.result ≡ is_some c.args.tree.now.current =
+    c.is_some.ensures ∙ ap (λ (o : Option TreeIndex). is_some o) c.cur-before.ensures in
+    let test = same_test c.is_some.result c.args.wanted.most most c.in_ok-end.count c.saturating_sub-missing.result adds.cells adds.count missing_is in
+    let kept = kept_by c.is_kept.result c.is_some.result c.in_ok-end.count c.saturating_sub-missing.result c.saturating_sub-most.result
+    c.is_kept.ensures.value c.saturating_sub-most.ensures in
+    ap (λ (t : Bool). keeps_row t c.args.wanted.most most adds.cells) (sym following) ∙ sym test ∙ sym kept
+
 pub close_block-requires : goal.close_block-requires
 close_block-requires c =
     row_is_open (open_row (goal.at.close_block-requires c).In_ok-end) c.saturating_sub-missing.result c.fill_row.new.tree c.saturating_sub-missing.ensures
@@ -53,20 +67,14 @@ returns-then-not-is_kept-clause-row c =
     let old = c.args.tree.now in
     let back = c.pop.new.self in
     let adds = c.in_ok-end.ensures.cells in
-    let most = most_filled - c.args.table.now.missing_empty_cells in
     let more = row_after (open_row (goal.at.returns-then-not-is_kept-clause-row c).In_ok-end) back c.pop.result c.pop.ensures in
-    let missing_is = c.saturating_sub-missing.ensures ∙ ap (λ (n : ℕ). c.args.wanted.most - n) adds.count in
-    let following : c.is_some.result ≡ is_some old.current = c.is_some.ensures ∙ ap (λ (o : Option TreeIndex). is_some o) c.cur-before.ensures in
-    let test = same_test c.is_some.result c.args.wanted.most most c.in_ok-end.count c.saturating_sub-missing.result adds.cells adds.count missing_is in
-    let kept = kept_by c.is_kept.result c.is_some.result c.in_ok-end.count c.saturating_sub-missing.result c.saturating_sub-most.result
-    c.is_kept.ensures.value c.saturating_sub-most.ensures in
     record {
       cells = adds.cells;
       row_end = c.in_ok-end.end;
       after = c.append_cells.new.braces;
       are_cells = adds.are_cells;
       adds = (
-        ap (λ (t : Bool). keeps_row t c.args.wanted.most most adds.cells) (sym following) ∙ sym test ∙ sym kept ∙ c.if-not-is_kept.true,
+        kept_is (goal.at.returns-then-not-is_kept-clause-row c).After-is_kept ∙ c.if-not-is_kept.true,
         ap (λ (f : Forest Item). open_table f c.args.table.now.missing_empty_cells c.append_cells.new.braces)
             (c.drop_beyond.ensures ∙ ap (without_after back) c.cur-before.ensures ∙ dropped old back c.recall_forest.ensures c.requires.open more),
       );
@@ -77,19 +85,14 @@ returns-clause-row c =
     let d = document c.args.source.now.text.now c.args.source.now.options (names_of c.append_cells.new.allocs) in
     let old = c.args.tree.now in
     let adds = c.in_ok-end.ensures.cells in
-    let most = most_filled - c.args.table.now.missing_empty_cells in
     let missing_is = c.saturating_sub-missing.ensures ∙ ap (λ (n : ℕ). c.args.wanted.most - n) adds.count in
-    let following : c.is_some.result ≡ is_some old.current = c.is_some.ensures ∙ ap (λ (o : Option TreeIndex). is_some o) c.cur-before.ensures in
-    let test = same_test c.is_some.result c.args.wanted.most most c.in_ok-end.count c.saturating_sub-missing.result adds.cells adds.count missing_is in
-    let kept = kept_by c.is_kept.result c.is_some.result c.in_ok-end.count c.saturating_sub-missing.result c.saturating_sub-most.result
-    c.is_kept.ensures.value c.saturating_sub-most.ensures in
     let answer_is : c.map.result ≡ option_map (λ (ix : TreeIndex). (c.in_ok-end.end, ix)) c.cur.result = search rules in
     row_read d c.args.wanted.most
     (record { start = c.args.wanted.start; cells = adds.cells; row_end = c.in_ok-end.end; after = c.append_cells.new.braces })
     (open_table old c.args.table.now.missing_empty_cells c.args.table.now.braces)
     (open_table c.close_block.new.tree (c.args.table.now.missing_empty_cells + c.saturating_sub-missing.result) c.append_cells.new.braces)
     c.map.result adds.are_cells refl
-    (ap (λ (t : Bool). keeps_row t c.args.wanted.most most adds.cells) (sym following) ∙ sym test ∙ sym kept ∙ c.if-not-is_kept.false)
+    (kept_is (goal.at.returns-clause-row c).After-is_kept ∙ c.if-not-is_kept.false)
     (row_closed (open_row (goal.at.returns-clause-row c).In_ok-end) c.saturating_sub-missing.result c.fill_row.new.tree c.saturating_sub-missing.ensures
     c.in_ok-fill_row.ensures c.close_block.new.tree c.close_block.ensures.tree)
     (ap (λ (n : ℕ). c.args.table.now.missing_empty_cells + n) missing_is)
