@@ -1,5 +1,5 @@
 -- Parts that are appended one after the other.
-use Rattle.std.proofs.Common.{◌≡◌, ℕ, ◌+◌, ◌<◌, Option, List, [], ◌∷◌, ◌++◌, length, map, take, get_or, sym, ap, subst, ◌∙◌, append_assoc, length-append}
+use Rattle.std.proofs.Common.{◌≡◌, ℕ, ◌+◌, ◌<◌, List, [], ◌∷◌, ◌++◌, length, map, take, get_or, refl, sym, ap, subst, ◌∙◌, append_assoc, length-append}
 use Rattle.std.proofs.Common.{add-zero, unwrap_or, arith}
 use Rattle.std.specs.Prelude.{is_some}
 use Rattle.std.specs.List.{flat_map}
@@ -11,6 +11,7 @@ use Rattle.first_pass_flat.specs.FlatAttributes.{OneAttribute, attribute_bytes, 
 use Rattle.first_pass_flat.specs.FlatDefinitions.{definition_bytes, flat_definition, flat_definitions}
 use Rattle.first_pass_flat.specs.Appended.{AppendsAttributes, AppendsDefinitions}
 use Rattle.first_pass_flat.specs.declared.attributes.NamedAttributes.{NamedAttributes}
+use Rattle.first_pass_flat.specs.declared.names.NameRange.{NameRange}
 use Rattle.first_pass_flat.specs.declared.records.FlatAttribute.{FlatAttribute}
 use Rattle.first_pass_flat.specs.declared.records.FlatDefinition.{FlatDefinition}
 use Rattle.first_pass_flat.specs.declared.definitions.NamedDefinitions.{NamedDefinitions}
@@ -59,10 +60,53 @@ attributes_more a b c xs ys h k = record {
   names = two_steps _ _ _ _ _ _ k.names h.names (sym (flat_map-append attribute_bytes xs ys));
 }
 
-pub attribute_one : (a c : NamedAttributes) (x : OneAttribute) → c.attributes.items ≡ a.attributes.items ++ flat_attribute (length a.names.items) x ∷ []
-    → c.names.items ≡ a.names.items ++ attribute_bytes x → AppendsAttributes a c (x ∷ [])
+-- a text is appended to the names: its bytes follow them, in this range
+pub record TextAppended (old new text : List ℕ) (range : NameRange) : Type 0 where
+  pub start : range.start ≡ length old
+  pub count : range.length ≡ length text
+  pub names : new ≡ old ++ text
+
+-- the same for a text that is equal to the appended one
+pub text_appended : (old new text other : List ℕ) (range : NameRange) → text ≡ other → range.start ≡ length old → range.length ≡ length text
+    → new ≡ old ++ text → TextAppended old new other range
+text_appended old new text other range same start count names =
+    record { start = start; count = count ∙ ap length same; names = names ∙ ap (λ x. old ++ x) same }
+
+-- the name and the value of an attribute are appended one after the other
+pub record AttributeNamed (old new : List ℕ) (x : OneAttribute) (name value : NameRange) : Type 0 where
+  pub between : List ℕ
+  pub name_is : TextAppended old between x.name name
+  pub value_is : TextAppended between new (unwrap_or x.value []) value
+
+-- the record of an attribute, from the ranges of its name and its value
+abbrev pub attribute_at : NameRange → NameRange → ℕ → ℕ → FlatAttribute
+attribute_at name value has kind = record {
+  name = name.start;
+  name_length = name.length;
+  value = value.start;
+  value_length = value.length;
+  has_value = has;
+  kind = kind;
+}
+
+-- an attribute is appended, from its parts
+pub attribute_appended : (a c : NamedAttributes) (x : OneAttribute) (name value : NameRange) (has kind : ℕ)
+    → AttributeNamed a.names.items c.names.items x name value → has ≡ flag (is_some x.value) → kind ≡ x.kind
+    → c.attributes.items ≡ a.attributes.items ++ attribute_at name value has kind ∷ [] → AppendsAttributes a c (x ∷ [])
 unfolding flat_attributes
-attribute_one a c x e f = record { attributes = e; names = f ∙ ap (λ l. a.names.items ++ l) (sym (append-nil (attribute_bytes x))) }
+attribute_appended a c x name value has kind named has_is kind_is is =
+    let at = length a.names.items in
+    let n = named.name_is in
+    let v = named.value_is in
+    let name_at = n.start in
+    let name_length = n.count in
+    let value_at : value.start ≡ at + length x.name = v.start ∙ ap length n.names ∙ length-append a.names.items x.name in
+    let value_length = v.count in
+    let same : attribute_at name value has kind ≡ flat_attribute at x = cc in
+    record {
+      attributes = is ∙ ap (λ r. a.attributes.items ++ r ∷ []) same;
+      names = two_steps _ _ _ _ _ _ v.names n.names (sym (append-nil (attribute_bytes x)));
+    }
 
 pub definitions_none : (a : NamedDefinitions) → AppendsDefinitions a a []
 unfolding flat_definitions
@@ -77,10 +121,54 @@ definitions_more a b c xs ys h k = record {
   names = two_steps _ _ _ _ _ _ k.names h.names (sym (flat_map-append definition_bytes xs ys));
 }
 
-pub definition_one : (a c : NamedDefinitions) (x : LinkEntry) → c.definitions.items ≡ a.definitions.items ++ flat_definition (length a.names.items) x ∷ []
-    → c.names.items ≡ a.names.items ++ definition_bytes x → AppendsDefinitions a c (x ∷ [])
+-- the label, the destination and the title of a definition are appended one after the other
+pub record DefinitionNamed (old new : List ℕ) (e : LinkEntry) (label dest title : NameRange) : Type 0 where
+  pub after_label : List ℕ
+  pub after_dest : List ℕ
+  pub label_is : TextAppended old after_label e.label label
+  pub dest_is : TextAppended after_label after_dest e.dest dest
+  pub title_is : TextAppended after_dest new (unwrap_or e.title []) title
+
+-- the record of a definition, from the ranges of its label, its destination and its title
+abbrev pub definition_at : LinkEntry → NameRange → NameRange → NameRange → ℕ → FlatDefinition
+definition_at e label dest title has = record {
+  start = e.start;
+  «end» = e.«end»;
+  label = label.start;
+  label_length = label.length;
+  destination = dest.start;
+  destination_length = dest.length;
+  title = title.start;
+  title_length = title.length;
+  has_title = has;
+  label_end = e.places.label_end;
+  destination_start = e.places.dest_start;
+  destination_end = e.places.dest_end;
+  title_start = e.places.title_start;
+}
+
+-- a definition is appended, from its parts
+pub definition_appended : (a c : NamedDefinitions) (e : LinkEntry) (label dest title : NameRange) (has : ℕ)
+    → DefinitionNamed a.names.items c.names.items e label dest title → has ≡ flag (is_some e.title)
+    → c.definitions.items ≡ a.definitions.items ++ definition_at e label dest title has ∷ [] → AppendsDefinitions a c (e ∷ [])
 unfolding flat_definitions
-definition_one a c x e f = record { definitions = e; names = f ∙ ap (λ l. a.names.items ++ l) (sym (append-nil (definition_bytes x))) }
+definition_appended a c e label dest title has named has_is is =
+    let at = length a.names.items in
+    let l = named.label_is in
+    let d = named.dest_is in
+    let t = named.title_is in
+    let label_at = l.start in
+    let label_length = l.count in
+    let dest_at : dest.start ≡ at + length e.label = d.start ∙ ap length l.names ∙ length-append a.names.items e.label in
+    let dest_length = d.count in
+    let title_at : title.start ≡ (at + length e.label) + length e.dest =
+    t.start ∙ ap length d.names ∙ length-append named.after_label e.dest ∙ ap (λ n. n + length e.dest) (sym d.start ∙ dest_at) in
+    let title_length = t.count in
+    let same : definition_at e label dest title has ≡ flat_definition at e = cc in
+    record {
+      definitions = is ∙ ap (λ r. a.definitions.items ++ r ∷ []) same;
+      names = two_steps _ _ _ _ _ _ t.names (two_steps _ _ _ _ _ _ d.names l.names refl) (sym (append-nil (definition_bytes e)));
+    }
 
 -- Some of all definitions are appended, and these are the others.
 pub record IsPartlyWritten (a b : NamedDefinitions) (others all : List LinkEntry) : Type 0 where
@@ -116,51 +204,3 @@ pub flat_more : {X Y : Type 0} (f : X → List Y) (xs : List X) (i : ℕ) (d : X
 flat_more f xs i d h =
     sym (ap (flat_map f) (take_more xs i d h) ∙ flat_map-append f (take i xs) (get_or xs i d ∷ [])
     ∙ ap (λ l. flat_map f (take i xs) ++ l) (append-nil (f (get_or xs i d))))
-
--- the record of an attribute, from its parts
-pub attribute_record : (a b n v : List ℕ) (o : Option (List ℕ)) (kind s sl t tl has k : ℕ) → s ≡ length a → sl ≡ length n → b ≡ a ++ n → t ≡ length b
-    → tl ≡ length v → v ≡ unwrap_or o [] → has ≡ flag (is_some o) → k ≡ kind
-    → ◌≡◌ {A = FlatAttribute} (record { name = s; name_length = sl; value = t; value_length = tl; has_value = has; kind = k })
-    (flat_attribute (length a) (record { kind = kind; name = n; value = o }))
-attribute_record a b n v o kind s sl t tl has k s_is sl_is b_is t_is tl_is v_is has_is k_is =
-    let t_at : t ≡ length a + length n = t_is ∙ ap length b_is ∙ length-append a n in
-    let v_length : tl ≡ length (unwrap_or o []) = tl_is ∙ ap length v_is in
-    cc
-
--- the record of a definition, from its parts
-pub definition_record : (a b c l d t : List ℕ) (e : LinkEntry) (s sl p pl q ql has : ℕ) → s ≡ length a → sl ≡ length l → l ≡ e.label → b ≡ a ++ l
-    → p ≡ length b
-    → pl ≡ length d → d ≡ e.dest → c ≡ b ++ d → q ≡ length c → ql ≡ length t → t ≡ unwrap_or e.title [] → has ≡ flag (is_some e.title)
-    → ◌≡◌ {A = FlatDefinition}
-    (record {
-      start = e.start;
-      «end» = e.«end»;
-      label = s;
-      label_length = sl;
-      destination = p;
-      destination_length = pl;
-      title = q;
-      title_length = ql;
-      has_title = has;
-      label_end = e.places.label_end;
-      destination_start = e.places.dest_start;
-      destination_end = e.places.dest_end;
-      title_start = e.places.title_start;
-    })
-    (flat_definition (length a) e)
-definition_record a b c l d t e s sl p pl q ql has s_is sl_is l_is b_is p_is pl_is d_is c_is q_is ql_is t_is has_is =
-    let sl_at : sl ≡ length e.label = sl_is ∙ ap length l_is in
-    let pl_at : pl ≡ length e.dest = pl_is ∙ ap length d_is in
-    let ql_at : ql ≡ length (unwrap_or e.title []) = ql_is ∙ ap length t_is in
-    let p_at : p ≡ length a + length e.label = p_is ∙ ap length b_is ∙ length-append a l ∙ ap (λ x. length a + length x) l_is in
-    let q_at : q ≡ (length a + length e.label) + length e.dest =
-    q_is ∙ ap length c_is ∙ length-append b d ∙ ap (λ n. n + length d) (sym p_is ∙ p_at) ∙ ap (λ x. (length a + length e.label) + length x) d_is in
-    cc
-
--- the bytes of a definition, appended in three parts
-pub three_appended : (a b c z l d t : List ℕ) (e : LinkEntry) → b ≡ a ++ l → l ≡ e.label → c ≡ b ++ d → d ≡ e.dest → z ≡ c ++ t → t ≡ unwrap_or e.title []
-    → z ≡ a ++ definition_bytes e
-three_appended a b c z l d t e b_is l_is c_is d_is z_is t_is =
-    let first : b ≡ a ++ e.label = b_is ∙ ap (λ x. a ++ x) l_is in
-    let second : c ≡ a ++ (e.label ++ e.dest) = c_is ∙ ap (λ x. x ++ d) first ∙ ap (λ x. (a ++ e.label) ++ x) d_is ∙ append_assoc a e.label e.dest in
-    z_is ∙ ap (λ x. x ++ t) second ∙ ap (λ x. (a ++ (e.label ++ e.dest)) ++ x) t_is ∙ append_assoc a (e.label ++ e.dest) (unwrap_or e.title [])

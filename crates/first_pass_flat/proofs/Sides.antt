@@ -45,24 +45,42 @@ unfolding flat_definitions
 definitions_counted at [] = refl
 definitions_counted at (x ∷ es) = ap suc (definitions_counted (at + length (definition_bytes x)) es)
 
-pub side_made : (names : Names) (nodes : List (ℕ × Item)) (tables : Tables) (a b : NamedAttributes) (c d e : NamedDefinitions) (n links : ℕ)
-    → a.attributes.items ≡ [] → a.names.items ≡ node_names names nodes → AppendsAttributes a b (flat_map (attributes_by names) nodes)
-    → c.definitions.items ≡ []
-    → c.names.items ≡ b.names.items → AppendsDefinitions c d tables.links → AppendsDefinitions d e (map label_entry tables.footnotes)
-    → n ≡ length (node_names names nodes) → links ≡ length d.definitions.items
+-- the attributes of all nodes are made, with their bytes after those that the nodes name
+pub record AttributesMade (names : Names) (nodes : List (ℕ × Item)) (made : NamedAttributes) : Type 0 where
+  pub old : NamedAttributes
+  pub none : old.attributes.items ≡ []
+  pub names_are : old.names.items ≡ node_names names nodes
+  pub appended : AppendsAttributes old made (flat_map (attributes_by names) nodes)
+
+-- the definitions of tables are made, the links first, with their bytes after these names
+pub record DefinitionsMade (tables : Tables) (names : List ℕ) (linked made : NamedDefinitions) : Type 0 where
+  pub old : NamedDefinitions
+  pub none : old.definitions.items ≡ []
+  pub names_are : old.names.items ≡ names
+  pub links : AppendsDefinitions old linked tables.links
+  pub footnotes : AppendsDefinitions linked made (map label_entry tables.footnotes)
+
+-- the side tables are those of the flat form
+pub side_made : (names : Names) (nodes : List (ℕ × Item)) (tables : Tables) (b : NamedAttributes) (d e : NamedDefinitions) (n links : ℕ)
+    → AttributesMade names nodes b → DefinitionsMade tables b.names.items d e → n ≡ length (node_names names nodes) → links ≡ length d.definitions.items
     → AreSideTables (record { attributes = b.attributes; definitions = e.definitions; links = links; names = e.names; node_names = n }) names nodes tables
-side_made names nodes tables a b c d e n links none a_names h empty c_names k l n_is links_is =
-    let both = definitions_more c d e tables.links (map label_entry tables.footnotes) k l in
+side_made names nodes tables b d e n links attributed defined n_is links_is =
+    let a = attributed.old in
+    let h = attributed.appended in
+    let c = defined.old in
+    let both = definitions_more c d e tables.links (map label_entry tables.footnotes) defined.links defined.footnotes in
     let marks = flat_map (attributes_by names) nodes in
-    let b_names : b.names.items ≡ tree_names names nodes = h.names ∙ ap (λ x. x ++ flat_map attribute_bytes marks) a_names in
-    let start : c.names.items ≡ tree_names names nodes = c_names ∙ b_names in
+    let b_names : b.names.items ≡ tree_names names nodes = h.names ∙ ap (λ x. x ++ flat_map attribute_bytes marks) attributed.names_are in
+    let start : c.names.items ≡ tree_names names nodes = defined.names_are ∙ b_names in
     record {
-      attributes = h.attributes ∙ ap (λ x. x ++ flat_attributes (length a.names.items) marks) none ∙ ap (λ x. flat_attributes (length x) marks) a_names;
+      attributes =
+          h.attributes ∙ ap (λ x. x ++ flat_attributes (length a.names.items) marks) attributed.none
+          ∙ ap (λ x. flat_attributes (length x) marks) attributed.names_are;
       definitions =
-          both.definitions ∙ ap (λ x. x ++ flat_definitions (length c.names.items) (entries_of tables)) empty
+          both.definitions ∙ ap (λ x. x ++ flat_definitions (length c.names.items) (entries_of tables)) defined.none
           ∙ ap (λ x. flat_definitions (length x) (entries_of tables)) start;
       links =
-          links_is ∙ ap length (k.definitions ∙ ap (λ x. x ++ flat_definitions (length c.names.items) tables.links) empty)
+          links_is ∙ ap length (defined.links.definitions ∙ ap (λ x. x ++ flat_definitions (length c.names.items) tables.links) defined.none)
           ∙ definitions_counted (length c.names.items) tables.links;
       names_are = both.names ∙ ap (λ x. x ++ flat_map definition_bytes (entries_of tables)) start;
       node_names_are = n_is;

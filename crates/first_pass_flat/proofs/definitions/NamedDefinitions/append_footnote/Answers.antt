@@ -1,18 +1,25 @@
-use Rattle.std.proofs.Common.{◌++◌, ◌∷◌, [], ap, sym, refl, ◌∙◌}
+use Rattle.std.proofs.Common.{[], sym, refl, ◌∙◌}
 use Rattle.std.proofs.lemmas.List.{append-nil}
 use Rattle.first_pass_items.specs.CowText.{text_of}
 use Rattle.first_pass_flat.specs.FlatDefinitions.{label_entry}
-use Rattle.first_pass_flat.proofs.Appending.{definition_one, definition_record, three_appended}
+use Rattle.first_pass_flat.specs.declared.names.NameRange.{NameRange}
+use Rattle.first_pass_flat.proofs.Appending.{TextAppended, definition_appended, text_appended}
 use Rattle.first_pass_flat.proofs.definitions.NamedDefinitions.append_footnote.Goals as goal
 
 pub returns : goal.returns
 returns c =
-    let none = sym (append-nil c.append_text.new.names.items) in
-    let following = c.len-following.ensures ∙ c.append_text.new.names.ok.0 in
-    let entry = label_entry (text_of c.args.label.now) in
-    definition_one _ _ _
-    (c.in_ok-append_record.ensures
-    ∙ ap (λ r. c.args.self.now.definitions.items ++ r ∷ [])
-    (definition_record c.args.self.now.names.items _ _ _ [] [] entry _ _ _ _ _ _ _ c.in_ok-label.ensures.start c.in_ok-label.ensures.count c.label.ensures
-    c.in_ok-label.ensures.names following refl refl none following refl refl refl))
-    (three_appended _ _ _ _ _ [] [] entry c.in_ok-label.ensures.names c.label.ensures none refl none refl)
+    let label = c.in_ok-label in
+    let names = c.append_text.new.names.items in
+    let nothing : NameRange = record { start = c.len-following.result; length = 0 } in
+    let none : TextAppended names names [] nothing = record {
+      start = c.len-following.ensures ∙ c.append_text.new.names.ok.0;
+      count = refl;
+      names = sym (append-nil names);
+    } in
+    definition_appended _ _ (label_entry (text_of c.args.label.now)) label.label nothing nothing _ (record {
+      after_label = names;
+      after_dest = names;
+      label_is = text_appended _ _ _ _ _ c.label.ensures label.ensures.start label.ensures.count label.ensures.names;
+      dest_is = none;
+      title_is = none;
+    }) refl c.in_ok-append_record.ensures
