@@ -74,19 +74,27 @@ few_at_last asked first run more ended count k last counted bound whole =
     ap (λ rs. enough asked k (elapsed rs)) cut ∙ ap (λ e. enough asked k (e - first.0)) last ∙ ap (λ n. enough asked n (ended - first.0)) (whole ∙ sym counted)
     ∙ bound
 
--- one more run, after runs that are not enough
-pub next_run : (asked : Option ℕ) (old mid new : Option (List ℕ)) (first run : ℕ × ℕ) (ended count least counted next : ℕ)
-    → SoFar asked old mid first ended count least → enough asked count (ended - first.0) ≡ false
-    → counted ≡ count + 1 → next ≡ min least (time_of run) → Consumes mid new (run.0 ∷ run.1 ∷ []) → SoFar asked old new first run.1 counted next
-next_run asked old mid new first run ended count least counted next so_far bound more is read =
+-- one more run is read, after runs that are not enough
+pub record OneMore (asked : Option ℕ) (old new : Option (List ℕ)) (first run : ℕ × ℕ) (count least : ℕ) : Type 0 where
+  pub before : Option (List ℕ)
+  pub ended : ℕ
+  pub so_far : SoFar asked old before first ended count least
+  pub few : enough asked count (ended - first.0) ≡ false
+  pub read : Consumes before new (run.0 ∷ run.1 ∷ [])
+
+-- the runs with that one
+pub next_run : (asked : Option ℕ) (old new : Option (List ℕ)) (first run : ℕ × ℕ) (count least counted next : ℕ)
+    → OneMore asked old new first run count least → counted ≡ count + 1 → next ≡ min least (time_of run) → SoFar asked old new first run.1 counted next
+next_run asked old new first run count least counted next one more is =
+    let so_far = one.so_far in
     let runs = first ∷ so_far.more in
     record {
       more = so_far.more ++ run ∷ [];
-      timed = rw (more, is) (more_timed old mid new runs run count least so_far.timed read);
+      timed = rw (more, is) (more_timed old one.before new runs run count least so_far.timed one.read);
       last = last_end-append first.1 so_far.more run;
       fewer = λ k some within. elim (leb_tells (suc k) (suc (length so_far.more))) [
         | inl h ↦ rw (take-append-le k runs (run ∷ []) (omega (arith, h.1))) (so_far.fewer k some h.1)
-        | inr h ↦ few_at_last asked first run so_far.more ended count k so_far.last so_far.timed.counted bound
+        | inr h ↦ few_at_last asked first run so_far.more one.ended count k so_far.last so_far.timed.counted one.few
             (let all : length (so_far.more ++ run ∷ []) ≡ length so_far.more + 1 = length-append so_far.more (run ∷ []) in omega (arith, h.1))
       ];
     }

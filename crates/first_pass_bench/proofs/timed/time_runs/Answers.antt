@@ -8,8 +8,9 @@ loop-alloc-init g c = (first_run _ _ _ _ _ _ c.nanos-took.ensures c.in_ok-first.
 
 pub loop-alloc-preserved : goal.loop-alloc-preserved
 loop-alloc-preserved g c = (
-  next_run _ _ _ _ _ (c.in_ok-next.next.began, c.in_ok-next.next.ended) _ _ _ _ _ c.loop-alloc.invariant.0
-      (cc) c.with-timing.ensures.runs c.with-timing.ensures.nanos c.in_ok-next.ensures.read,
+  next_run _ _ _ _ (c.in_ok-next.next.began, c.in_ok-next.next.ended) _ _ _ _
+      (record { before = _; ended = c.loop-alloc.ended; so_far = c.loop-alloc.invariant.0; few = cc; read = c.in_ok-next.ensures.read })
+      c.with-timing.ensures.runs c.with-timing.ensures.nanos,
   subst (CountsNodes _ _) (sym c.with-timing.ensures.nodes) c.in_ok-next.ensures.nodes,
   c.with-timing.ensures.first ∙ c.loop-alloc.invariant.2,
 )
