@@ -274,9 +274,10 @@ pub line_as : (text : List ℕ) (names : Names) (kind named : RawKind) (owed fro
 line_as text names kind named owed from to old new is = subst (λ k. AppendsRaw (range_of k) text names owed from to old new) is
 
 -- the end of the line containing an offset
-pub first_read : (text bytes : List ℕ) (start first : ℕ) → IsUtf8 text → IsCharBoundary text start → bytes ≡ text → first ≡ start + line_len (drop start bytes)
-    → (first ≡ after_line_at text start) × IsCharBoundary text first
-first_read text bytes start first u b e f =
+pub first_read : (text bytes : List ℕ) (start first : ℕ) → IsUtf8 bytes → IsCharBoundary text start → bytes ≡ text
+    → first ≡ start + line_len (drop start bytes) → (first ≡ after_line_at text start) × IsCharBoundary text first
+first_read text bytes start first utf8 b e f =
+    let u : IsUtf8 text = subst IsUtf8 e utf8 in
     let is : first ≡ after_line_at text start = f ∙ ap (λ bs. start + line_len (drop start bs)) e in
     (is, subst (IsCharBoundary text) (line_start_end text start ∙ sym is) (place_end text (line_place start (drop start text)) u (line_is_place text start b)))
 

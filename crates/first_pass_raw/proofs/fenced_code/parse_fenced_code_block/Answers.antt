@@ -1,4 +1,4 @@
-use Rattle.std.proofs.Common.{◌+◌, length, IsUtf8, refl, ap, subst, arith}
+use Rattle.std.proofs.Common.{length, IsUtf8, refl, ap, subst, arith}
 use Rattle.first_pass_items.specs.declared.item.ItemBody.TheVariants.{FencedCodeBlock}
 use Rattle.first_pass_grammar.specs.CodeBlocks.{NamesInfo, fence_judge}
 use Rattle.first_pass_grammar.specs.Leaves.{document}
@@ -24,9 +24,9 @@ info_string-requires c = record {
 }
 
 pub read_lines-requires-clause-boundary : goal.read_lines-requires-clause-boundary
-read_lines-requires-clause-boundary c = (first_read c.args.source.now.text.now c.as_bytes-bytes.result.now c.args.start_ix _
-    (subst IsUtf8 c.as_bytes-bytes.ensures.value c.as_bytes-bytes.ensures.utf8) c.requires.boundary
-    c.as_bytes-bytes.ensures.value c.next_line-first.ensures.value).1
+read_lines-requires-clause-boundary c =
+    (first_read c.args.source.now.text.now _ c.args.start_ix _ c.as_bytes-bytes.ensures.utf8 c.requires.boundary c.as_bytes-bytes.ensures.value
+    c.next_line-first.ensures.value).1
 
 -- The block is opened, and its lines are appended.
 abbrev opened : (c : In_ok-lines) → OpenedAt range_text (document c.args.source.now.text.now c.args.source.now.options (names_of c.read_lines.new.allocs))
@@ -40,8 +40,7 @@ opened c = record {
   there = open_are_in c.args.tree.now.nodes c.args.tree.now.spine c.recall_forest.ensures.opened;
   is = c.in_ok-open_block.ensures.tree;
   leaf = refl;
-  first_is = (first_read c.args.source.now.text.now c.as_bytes-bytes.result.now c.args.start_ix _
-      (subst IsUtf8 c.as_bytes-bytes.ensures.value c.as_bytes-bytes.ensures.utf8) c.requires.boundary c.as_bytes-bytes.ensures.value
+  first_is = (first_read c.args.source.now.text.now _ c.args.start_ix _ c.as_bytes-bytes.ensures.utf8 c.requires.boundary c.as_bytes-bytes.ensures.value
       c.next_line-first.ensures.value).0;
   lines = c.in_ok-lines.ensures.lines;
 }

@@ -27,7 +27,7 @@ line c =
 next : (c : In_ok-append_raw_line)
     → (c.next_line-next.result ≡ after_line_at c.args.text.now c.args.start.at) × IsCharBoundary c.args.text.now c.next_line-next.result
 next c =
-    first_read c.args.text.now c.as_bytes.result.now c.args.start.at _ c.utf8.text c.requires.boundary c.as_bytes.ensures.value c.next_line-next.ensures.value
+    first_read c.args.text.now _ c.args.start.at _ c.as_bytes.ensures.utf8 c.requires.boundary c.as_bytes.ensures.value c.next_line-next.ensures.value
 
 pub returns-clause-next : goal.returns-clause-next
 returns-clause-next c = next c
