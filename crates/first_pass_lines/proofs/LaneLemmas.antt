@@ -1,6 +1,6 @@
 -- From the mask of one load to the bytes that pass a test.
 use Rattle.std.proofs.Common.{◌≡◌, ℕ, ◌+◌, ◌-◌, ◌%◌, ◌^◌, ◌<◌, ◌≤◌, Bool, true, false, not, List, ◌∷◌, map, length, get_or, replicate, Fits, w8, refl, sym}
-use Rattle.std.proofs.Common.{[]}
+use Rattle.std.proofs.Common.{[], zero, suc, drop}
 use Rattle.std.proofs.Common.{ap, ap₂, ◌∙◌, subst, arith, inl, inr}
 use Rattle.std.proofs.lemmas.Bool.{agree_below, agree_below_at, not-true, not-false, cases_eq, eq-eqb, ne_eqb, cond-true, cond-false}
 use Rattle.std.proofs.lemmas.Simd.{map-map, mask_l-mod, length-chunk, get_or-chunk, leading_from_mask_l, trailing_mask_l}
@@ -62,3 +62,12 @@ module _ (q : ℕ → Bool) (d : List ℕ) (i n r : ℕ) (z : List ℕ) (room : 
         let set = subst (λ x. stops x ≡ true) at (not-false _ (prefix_len_stops (λ x. not (stops x)) (chunk i n d) 0 (omega (arith, counted, long)))) in
         not-true _ (sym (agree_below_at stops (λ x. not (q x)) 256 (get_or d (i + r) 0) all (fits (i + r)).fits) ∙ set),
   )
+
+-- the run of bytes that pass is those before an offset that pass, and the run of those from there on
+pub after_passed : (p : ℕ → Bool) (xs : List ℕ) (i : ℕ)
+    → i ≤ length xs → ((k : ℕ) → k < i → p (get_or xs k 0) ≡ true) → i + prefix_len p (drop i xs) ≡ prefix_len p xs
+after_passed p xs zero h passed = omega arith
+after_passed p [] (suc i) h passed = absurd (omega arith)
+after_passed p (x ∷ xs) (suc i) h passed =
+    let first : p x ≡ true = passed 0 (omega arith) in
+    rw first (omega (arith, after_passed p xs i (omega arith) (λ k l. passed (suc k) (omega arith))))

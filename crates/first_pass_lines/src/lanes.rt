@@ -1,7 +1,7 @@
 //! Runs of bytes of one kind, found 16 bytes at a time.
 
 ghost use Rattle.std.specs.Prelude.{◌≡◌, ◌+◌, ◌≤◌, length};
-ghost use Rattle.first_pass_lines.specs.Lines.{is_content};
+ghost use Rattle.first_pass_lines.specs.Lines.{is_content, is_white};
 ghost use Rattle.first_pass_lines.specs.Lanes.{first_set as lowest, is_space, IsRunIn};
 
 use std::simd::prelude::*;
@@ -28,6 +28,20 @@ pub fn content_run(bytes: &[u8], at: usize) -> usize
     let lanes = u8x16::from_slice(&bytes[at..]);
     let ends = lanes.simd_eq(u8x16::splat(b'\n')) | lanes.simd_eq(u8x16::splat(b'\r'));
     first_set(ends.to_bitmask())
+}
+
+/// The number of bytes of white space before the first other byte among the 16 from the offset `at` on, or 16.
+#[inline(always)]
+pub fn white_run(bytes: &[u8], at: usize) -> usize
+    requires { at + 16 ≤ length bytes.now }
+    ensures { IsRunIn is_white bytes.now at 16 result }
+{
+    let lanes = u8x16::from_slice(&bytes[at..]);
+    let others = lanes.simd_ne(u8x16::splat(b'\t'))
+        & lanes.simd_ne(u8x16::splat(0x0b))
+        & lanes.simd_ne(u8x16::splat(0x0c))
+        & lanes.simd_ne(u8x16::splat(b' '));
+    first_set(others.to_bitmask())
 }
 
 /// The position of the lowest set bit, or 16 if no bit is set.

@@ -5,7 +5,7 @@ ghost use Rattle.std.specs.Prelude.{◌≡◌, ◌<◌, ◌≤◌, length, true,
 ghost use Rattle.first_pass_lines.specs.Lines.{is_line_end, is_white, is_space_or_tab, is_ascii_white, begins, is_content, is_number_sign, eol_len, blank_len, line_len, level_number as number_of, level_of, atx_level};
 ghost use Rattle.first_pass_lines.specs.Plain.{begins_plain, begins_inert};
 
-use crate::lanes::{LANES, content_run};
+use crate::lanes::{LANES, content_run, white_run};
 use first_pass_items::item::HeadingLevel;
 use memchr::memchr2;
 
@@ -110,8 +110,34 @@ pub fn scan_whitespace_no_nl(bytes: &[u8]) -> usize
     match bytes {
         [first, ..] if *first > b' ' => 0,
         [b' ', next, ..] if *next > b' ' => 1,
-        _ => bytes.iter().take_while(|b| is_white(**b)).count(),
+        [b'\n', ..] => 0,
+        _ => white_len(bytes),
     }
+}
+
+// The same, 16 bytes at a time.
+#[inline(never)]
+fn white_len(bytes: &[u8]) -> usize
+    ensures value { result ≡ prefix_len is_white bytes.now }
+    ensures within { result ≤ length bytes.now }
+{
+    let mut from = 0;
+    while bytes.len() - from >= LANES {
+        let run = white_run(bytes, from);
+        from += run;
+        if run < LANES {
+            return from;
+        }
+    }
+    from + near_white_len(&bytes[from..])
+}
+
+// The same, a byte at a time.
+fn near_white_len(bytes: &[u8]) -> usize
+    ensures value { result ≡ prefix_len is_white bytes.now }
+    ensures within { result ≤ length bytes.now }
+{
+    bytes.iter().take_while(|b| is_white(**b)).count()
 }
 
 /// The length in bytes of the blank line at the start of `bytes`, with its line ending, which it may lack at

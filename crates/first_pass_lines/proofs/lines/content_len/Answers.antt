@@ -1,20 +1,11 @@
-use Rattle.std.proofs.Common.{◌≡◌, ℕ, zero, suc, ◌+◌, ◌<◌, ◌≤◌, Bool, true, List, [], ◌∷◌, length, drop, get_or}
 use Rattle.std.proofs.Common.{sym, ap, arith, inl, inr}
 use Rattle.std.proofs.lemmas.Bool.{cases_lt}
 use Rattle.std.proofs.lemmas.List.{take_rest}
 use Rattle.std.proofs.lemmas.List.Sums.{prefix_len_is}
 use Rattle.std.specs.List.{prefix_len}
 use Rattle.first_pass_lines.specs.Lines.{is_content}
+use Rattle.first_pass_lines.proofs.LaneLemmas.{after_passed}
 use Rattle.first_pass_lines.proofs.lines.content_len.Goals as goal
-
--- the bytes that passed, and then the rest
-after_passed : (p : ℕ → Bool) (xs : List ℕ) (i : ℕ)
-    → i ≤ length xs → ((k : ℕ) → k < i → p (get_or xs k 0) ≡ true) → i + prefix_len p (drop i xs) ≡ prefix_len p xs
-after_passed p xs zero h passed = omega arith
-after_passed p [] (suc i) h passed = absurd (omega arith)
-after_passed p (x ∷ xs) (suc i) h passed =
-    let first : p x ≡ true = passed 0 (omega arith) in
-    rw first (omega (arith, after_passed p xs i (omega arith) (λ k l. passed (suc k) (omega arith))))
 
 pub returns-then-run-lt-LANES-clause-value : goal.returns-then-run-lt-LANES-clause-value
 returns-then-run-lt-LANES-clause-value c =
