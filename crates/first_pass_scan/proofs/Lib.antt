@@ -1,3 +1,4 @@
+pub mod BlankFacts
 pub mod LeafFacts
 pub mod MarkerFacts
 pub mod MarkerPlaces

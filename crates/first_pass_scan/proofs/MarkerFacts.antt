@@ -1,9 +1,10 @@
 -- Facts on the digits of a list marker, and on the indent of an item.
-use Rattle.std.proofs.Common.{◌≡◌, ℕ, ◌+◌, ◌<◌, ◌≤◌, min, nat_le, List, Bool, true, false, is_some, length, take, get_or, refl, ap, ◌∙◌, arith, if◌then◌else◌}
+use Rattle.std.proofs.Common.{◌≡◌, ℕ, zero, suc, [], ◌∷◌, sym, ◌+◌, ◌<◌, ◌≤◌, min, nat_le, List, Bool, true, false, is_some, length, take, get_or}
+use Rattle.std.proofs.Common.{refl, ap, ◌∙◌, arith, if◌then◌else◌}
 use Rattle.std.specs.List.{prefix_len}
 use Rattle.std.specs.Char.{is_ascii_digit}
 use Rattle.std.proofs.lemmas.List.{get_or-take, length-take-le}
-use Rattle.std.proofs.lemmas.List.Sums.{prefix_len_passes}
+use Rattle.std.proofs.lemmas.List.Sums.{prefix_len_passes, prefix_len-le-length}
 use Rattle.std.proofs.lemmas.Bool.Decides.{nat_tests}
 use Rattle.std.proofs.lemmas.Bool.{lt-leb}
 use Rattle.first_pass_lines.specs.Lines.{blank_len}
@@ -20,6 +21,23 @@ digits-at bs n e l i h =
     let p = prefix_len_passes is_ascii_digit bs i 0 (omega arith) in
     let q : is_ascii_digit (get_or (take n bs) i 0) ≡ true = ap is_ascii_digit r ∙ p in
     (grind (arith, nat_tests, q), grind (arith, nat_tests, q))
+
+-- the run of digits among the first n bytes
+digits_by : (t : Bool) (n k m : ℕ) → k ≡ min n m → (if t then 1 + k else 0) ≡ min (1 + n) (if t then 1 + m else 0)
+digits_by true n k m h = omega (arith, h)
+digits_by false n k m h = omega arith
+
+digits_near : (n : ℕ) (bs : List ℕ) → prefix_len is_ascii_digit (take n bs) ≡ min n (prefix_len is_ascii_digit bs)
+digits_near zero bs = let none : prefix_len is_ascii_digit (take 0 bs) ≡ 0 = refl in omega (arith, none)
+digits_near (suc n) [] = omega arith
+digits_near (suc n) (b ∷ bs) =
+    let more : suc n ≡ 1 + n = omega arith in
+    digits_by (is_ascii_digit b) n (prefix_len is_ascii_digit (take n bs)) (prefix_len is_ascii_digit bs) (digits_near n bs)
+    ∙ ap (λ k. min k (prefix_len is_ascii_digit (b ∷ bs))) (sym more)
+
+-- ten digits are enough to tell a list marker's run of digits from a longer one
+pub ten_digits : (bs : List ℕ) (n k : ℕ) → n ≡ min (length bs) 10 → k ≡ prefix_len is_ascii_digit (take n bs) → k ≡ min 10 (prefix_len is_ascii_digit bs)
+ten_digits bs n k size run = omega (arith, size, run, digits_near n bs, prefix_len-le-length is_ascii_digit bs)
 
 few_columns : (t u : Bool) (n k : ℕ) (r s : Rest)
     → t ≡ false → u ≡ false → let content : ℕ × Rest = if t then (n, r) else (if u then (n, r) else (n + k, s)) in (n + k ≡ content.0) × (s ≡ content.1)

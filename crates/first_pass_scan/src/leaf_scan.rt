@@ -63,6 +63,7 @@ pub fn scan_run(bytes: &[u8], byte: u8) -> usize
 }
 
 // The length in bytes of an underline of the byte, with its line ending.
+#[inline(always)]
 fn scan_underline(bytes: &[u8], byte: u8) -> Option<usize>
     ensures value { result ≡ underline_len byte bytes.now }
     ensures within { IfSome result (λ n. n ≤ length bytes.now) }

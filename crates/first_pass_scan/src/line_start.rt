@@ -2,6 +2,7 @@
 
 ghost use Rattle.std.specs.Prelude.{◌≡◌, ◌≤◌, ◌+◌, ◌<◌, ◌^◌, ◌==◌, min, nat_le, length, drop, is_some, IfSome, MatchOption, if◌then◌else◌, true, false};
 ghost use Rattle.first_pass_lines.specs.Lines.{at_line_end, is_blank_line};
+ghost use Rattle.first_pass_scan.specs.Blanks.{without_owed, past_blank};
 ghost use Rattle.first_pass_scan.specs.LeafLines.{hrule_len};
 ghost use Rattle.first_pass_lines.specs.Rest.{next_column, after_columns, indent, past_bytes, past_quote};
 ghost use Rattle.first_pass_lines.specs.Places.{line_rest};
@@ -159,7 +160,8 @@ impl<'a> LineStart<'a> {
     pub fn scan_all_space(&mut self)
         ensures { self.new ≡ after_columns (indent self.old) self.old }
     {
-        while self.take_column() {}
+        self.take_owed();
+        while self.take_blank() {}
     }
 
     /// Takes the block quote marker `>` here, and one column after it if there is one. Returns whether there
@@ -397,6 +399,35 @@ impl<'a> LineStart<'a> {
             taken += 1;
         }
         taken
+    }
+
+    // Takes all owed columns.
+    #[inline(always)]
+    fn take_owed(&mut self)
+        ensures { self.new ≡ without_owed self.old }
+    {
+        self.owed = 0;
+    }
+
+    // Takes one space or tab with all its columns, and returns whether there was one. Requires that no column is owed.
+    #[inline(always)]
+    fn take_blank(&mut self) -> bool
+        requires { self.old.owed ≡ 0 }
+        ensures { MatchOption (past_blank self.old) ((result ≡ false) × (self.new ≡ self.old)) (λ next. (result ≡ true)
+            × (self.new ≡ next)) }
+    {
+        match self.bytes.get(self.at) {
+            Some(b' ') => {
+                self.at += 1;
+                true
+            }
+            Some(b'\t') => {
+                self.at += 1;
+                self.tab_start = self.at;
+                true
+            }
+            _ => false,
+        }
     }
 
     // Takes one column, if there is one.

@@ -1,7 +1,7 @@
 //! The bytes of list markers, task list item markers, and the tags of block quotes.
 
 ghost use Rattle.std.specs.List.{prefix_len};
-ghost use Rattle.std.specs.Prelude.{◌≡◌, ◌≤◌, length, slice_index, EachIndex, IfSome, true};
+ghost use Rattle.std.specs.Prelude.{◌≡◌, ◌≤◌, min, length, slice_index, EachIndex, IfSome, true};
 ghost use Rattle.std.specs.Char.{is_ascii_digit};
 ghost use Rattle.std.specs.Str.{str_eq_ignore_ascii_case};
 ghost use Rattle.first_pass_items.specs.Bytes.{digit_zero, digit_nine};
@@ -11,12 +11,24 @@ use first_pass_items::item::BlockQuoteKind;
 use first_pass_lines::lines::{is_ascii_white, is_white, scan_blank_line};
 use first_pass_lines::places::rest_of;
 
+// The most digits that are counted: one more than a list marker may have.
+const MOST_DIGITS: usize = 10;
+
 // The number of digits at the start.
-fn scan_digits(bytes: &[u8]) -> usize
+#[inline(always)]
+fn digit_run(bytes: &[u8]) -> usize
     ensures value { result ≡ prefix_len is_ascii_digit bytes.now }
     ensures within { result ≤ length bytes.now }
 {
     bytes.iter().take_while(|b| b.is_ascii_digit()).count()
+}
+
+// The number of digits at the start, or 10 if there are more.
+fn scan_digits(bytes: &[u8]) -> usize
+    ensures value { result ≡ min 10 (prefix_len is_ascii_digit bytes.now) }
+    ensures within { result ≤ length bytes.now }
+{
+    digit_run(&bytes[..bytes.len().min(MOST_DIGITS)])
 }
 
 // The number that these digits write. There are at most nine digits.

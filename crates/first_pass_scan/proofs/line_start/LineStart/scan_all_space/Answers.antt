@@ -1,10 +1,20 @@
-use Rattle.std.proofs.Common.{◌∙◌}
-use Rattle.first_pass_lines.specs.Rest.{next_column}
-use Rattle.first_pass_lines.proofs.Columns.{taken-yes, all-more}
+use Rattle.std.proofs.Common.{sym, ap, ◌∙◌}
+use Rattle.first_pass_lines.specs.Rest.{Rest, after_columns, indent}
+use Rattle.first_pass_lines.proofs.Columns.{taken-yes}
+use Rattle.first_pass_scan.specs.Blanks.{past_blank}
+use Rattle.first_pass_scan.proofs.BlankFacts.{takes_blank, taken_no, all_taken_here, owed_first}
 use Rattle.first_pass_scan.proofs.line_start.LineStart.scan_all_space.Goals as goal
 
 pub loop-preserved : goal.loop-preserved
 loop-preserved c =
     let r = c.loop.self in
-    all-more r c.take_column.new.self (taken-yes (next_column r) r c.take_column.new.self c.take_column.result c.take_column.ensures c.loop-test.true)
-    ∙ c.loop.invariant
+    let taken = taken-yes (past_blank r) r c.take_blank.new.self c.take_blank.result c.take_blank.ensures c.loop-test.true in
+    let t = takes_blank r c.take_blank.new.self c.loop.invariant.none taken in
+    record { none = t.none; all = t.all ∙ c.loop.invariant.all }
+
+pub returns : goal.returns
+returns c =
+    let r = c.loop.self in
+    let no = taken_no (past_blank r) r c.take_blank.new.self c.take_blank.result c.take_blank.ensures c.loop-test.false in
+    no.1 ∙ sym (all_taken_here r c.loop.invariant.none no.0) ∙ c.loop.invariant.all
+    ∙ ap (λ (q : Rest). after_columns (indent q) q) c.take_owed.ensures ∙ owed_first c.args.self.now
