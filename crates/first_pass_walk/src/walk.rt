@@ -1,7 +1,7 @@
 //! The walk over the bytes at which a token may begin.
 
-ghost use Rattle.std.specs.Prelude.{◌≡◌, ◌+◌, ◌≤◌, length, IfSome, IfNone};
-ghost use Rattle.first_pass_walk.specs.Walk.{is_special as is_special_byte, MarksSpecial, IsNextMarked, NoneMarkedFrom, IsWalk, SparesWords, AreWordStops};
+ghost use Rattle.std.specs.Prelude.{◌≡◌, ℕ, ◌+◌, ◌≤◌, ◌<◌, false, length, IfSome, IfNone};
+ghost use Rattle.first_pass_walk.specs.Walk.{is_special as is_special_byte, MarksSpecial, is_marked, IsNextMarked, NoneMarkedFrom, IsWalk, SparesWords, AreWordStops};
 
 use bitflags::Flags;
 use first_pass_items::option_set::Options;
@@ -43,6 +43,9 @@ pub fn next_special(lut: &[bool; 256], bytes: &[u8], ix: usize) -> Option<usize>
     None
 }
 
+// The mask of 16 bytes each of which is a stop: a run of digits or of punctuation.
+const ALL_STOPS: u64 = 0xFFFF;
+
 /// Same as `next_special`, but reads 16 bytes at a time. The table must not mark a letter, a space or a byte of a
 /// character beyond ASCII.
 pub fn next_special_in_words(lut: &[bool; 256], bytes: &[u8], ix: usize) -> Option<usize>
@@ -57,6 +60,17 @@ pub fn next_special_in_words(lut: &[bool; 256], bytes: &[u8], ix: usize) -> Opti
     let last = bytes.len() - LANES;
     while next <= last {
         let mut stops = word_stops(bytes, next);
+        if stops == 0 {
+            next += LANES;
+            continue;
+        }
+        if stops == ALL_STOPS {
+            match first_in_lanes(lut, bytes, next) {
+                Some(at) => return Some(at),
+                None => next += LANES,
+            }
+            continue;
+        }
         while stops != 0 {
             let at = next + stops.trailing_zeros() as usize;
             if lut[bytes[at] as usize] {
@@ -67,6 +81,21 @@ pub fn next_special_in_words(lut: &[bool; 256], bytes: &[u8], ix: usize) -> Opti
         next += LANES;
     }
     next_special(lut, bytes, next)
+}
+
+// The first place whose byte is marked in the table, among the 16 from an offset on.
+#[inline(never)]
+fn first_in_lanes(lut: &[bool; 256], bytes: &[u8], at: usize) -> Option<usize>
+    requires { at + 16 ≤ length bytes.now }
+    ensures found { IfSome result (λ j. IsNextMarked lut.now bytes.now at j) }
+    ensures none { IfNone result ((k : ℕ) → at ≤ k → k < at + 16 → is_marked lut.now bytes.now k ≡ false) }
+{
+    for lane in 0..LANES {
+        if lut[bytes[at + lane] as usize] {
+            return Some(at + lane);
+        }
+    }
+    None
 }
 
 // The bytes among the 16 from an offset on that are not letters, spaces or bytes beyond ASCII: a bit for each byte,

@@ -1,4 +1,4 @@
-use Rattle.std.proofs.Common.{◌≡◌, ◌+◌, ◌-◌, ◌<◌, ◌≤◌, Bool, false, ℕ, List, w64, inl, inr, subst, ap, ◌∙◌, arith}
+use Rattle.std.proofs.Common.{◌≡◌, ◌==◌, ◌+◌, ◌-◌, ◌<◌, ◌≤◌, Bool, false, ℕ, List, w64, inl, inr, subst, ap, ◌∙◌, arith}
 use Rattle.std.proofs.lemmas.Bool.{cases_lt}
 use Rattle.std.proofs.lemmas.Nat.{and_le_r}
 use Rattle.std.proofs.lemmas.Nat.Bits.{bit_at-zero, bit_at-trailing_zeros}
@@ -39,6 +39,14 @@ loop-stops-preserved c = record {
     | inl already ↦ c.loop-stops.invariant.asked k bound already
     | inr lowest ↦ rw lowest c.if-lut-bytes.false
   ];
+}
+
+-- no byte of a load without stops is marked
+pub loop-next-preserved-then-stops-eq0 : goal.loop-next-preserved-then-stops-eq0
+loop-next-preserved-then-stops-eq0 c = record {
+  from = omega arith;
+  none = unmarked c.args.lut.now c.args.bytes.now c.args.ix c.loop-next.next 16 c.loop-next.invariant.none
+      (λ k bound. c.requires _ (c.word_stops-stops.ensures.stops k bound ∙ ap (λ n. bit_at n k == 0) c.if-stops-eq0.true ∙ ap (λ b. b == 0) (bit_at-zero k)));
 }
 
 pub loop-next-preserved : goal.loop-next-preserved
