@@ -61,13 +61,67 @@ unfolding is_raw_name
 one_by_one true name = refl
 one_by_one false name = refl
 
-pub raw_begins : (bs : List ℕ) → let is = λ (name : List ℕ). begins_raw name bs in
+raw_begins : (bs : List ℕ) → let is = λ (name : List ℕ). begins_raw name bs in
     begins_raw_text bs ≡ (is (codes "pre") || (is (codes "script") || (is (codes "style") || is (codes "textarea"))))
 unfolding begins_raw_text
 raw_begins bs =
     let n : ℕ = prefix_len is_ascii_alphabetic bs in
     rw (raw_here (codes "pre") bs refl, raw_here (codes "script") bs refl, raw_here (codes "style") bs refl, raw_here (codes "textarea") bs refl)
     (one_by_one (ends_raw_name (drop n bs)) (take n bs))
+
+-- a name of raw text does not begin the bytes if their first letter is another
+raw_differs : (c letter : ℕ) (name bs : List ℕ) → 1 ≤ length bs → letter ≡ to_ascii_lowercase (get_or bs 0 0)
+    → (letter == to_ascii_lowercase c) ≡ false → begins_raw (c ∷ name) bs ≡ false
+raw_differs c letter name [] some lower other = absurd (omega arith)
+raw_differs c letter name (b ∷ bs) some lower other =
+    let differs : (to_ascii_lowercase b == to_ascii_lowercase c) ≡ false = ap (λ a. a == to_ascii_lowercase c) (sym lower) ∙ other in rw differs refl
+
+four_by : (p s t x p1 s1 t1 x1 : Bool) → p ≡ p1 → s ≡ s1 → t ≡ t1 → x ≡ x1 → (p || (s || (t || x))) ≡ (p1 || (s1 || (t1 || x1)))
+four_by p s t x p1 s1 t1 x1 e f g h = rw e (rw f (rw g (rw h refl)))
+
+or_false : (t : Bool) → (t || false) ≡ t
+or_false true = refl
+or_false false = refl
+
+-- raw text begins here only with one of the names that have its first letter
+pub raw_in_112 : (bs : List ℕ) (letter : ℕ) → 1 ≤ length bs → letter ≡ to_ascii_lowercase (get_or bs 0 0) → letter ≡ 112
+    → begins_raw_text bs ≡ begins_raw (codes "pre") bs
+raw_in_112 bs letter some lower is =
+    let off = λ (c : ℕ) (name : List ℕ) (d : (112 == to_ascii_lowercase c) ≡ false).
+    raw_differs c letter name bs some lower (ap (λ a. a == to_ascii_lowercase c) is ∙ d) in
+    raw_begins bs ∙ four_by _ _ _ _ (begins_raw (codes "pre") bs) false false false refl (off 115 (codes "cript") refl) (off 115 (codes "tyle") refl)
+    (off 116 (codes "extarea") refl) ∙ or_false _
+
+pub raw_in_115 : (bs : List ℕ) (letter : ℕ) → 1 ≤ length bs → letter ≡ to_ascii_lowercase (get_or bs 0 0) → letter ≡ 115
+    → begins_raw_text bs ≡ (begins_raw (codes "script") bs || begins_raw (codes "style") bs)
+raw_in_115 bs letter some lower is =
+    let off = λ (c : ℕ) (name : List ℕ) (d : (115 == to_ascii_lowercase c) ≡ false).
+    raw_differs c letter name bs some lower (ap (λ a. a == to_ascii_lowercase c) is ∙ d) in
+    raw_begins bs ∙ four_by _ _ _ _ false (begins_raw (codes "script") bs) (begins_raw (codes "style") bs) false (off 112 (codes "re") refl) refl refl
+    (off 116 (codes "extarea") refl) ∙ ap (λ t. begins_raw (codes "script") bs || t) (or_false _)
+
+pub raw_in_116 : (bs : List ℕ) (letter : ℕ) → 1 ≤ length bs → letter ≡ to_ascii_lowercase (get_or bs 0 0) → letter ≡ 116
+    → begins_raw_text bs ≡ begins_raw (codes "textarea") bs
+raw_in_116 bs letter some lower is =
+    let off = λ (c : ℕ) (name : List ℕ) (d : (116 == to_ascii_lowercase c) ≡ false).
+    raw_differs c letter name bs some lower (ap (λ a. a == to_ascii_lowercase c) is ∙ d) in
+    raw_begins bs ∙ four_by _ _ _ _ false false false (begins_raw (codes "textarea") bs) (off 112 (codes "re") refl) (off 115 (codes "cript") refl)
+    (off 115 (codes "tyle") refl) refl
+
+pub raw_in_other : (bs : List ℕ) (letter : ℕ) → 1 ≤ length bs → letter ≡ to_ascii_lowercase (get_or bs 0 0)
+    → list_any (λ c. letter == c) (112 ∷ 115 ∷ 116 ∷ []) ≡ false → begins_raw_text bs ≡ false
+raw_in_other bs letter some lower none =
+    let no_p : (letter == 112) ≡ false = grind (arith, nat_tests, none) in
+    let no_s : (letter == 115) ≡ false = grind (arith, nat_tests, none) in
+    let no_t : (letter == 116) ≡ false = grind (arith, nat_tests, none) in
+    raw_begins bs ∙ four_by _ _ _ _ false false false false (raw_differs 112 letter (codes "re") bs some lower no_p)
+    (raw_differs 115 letter (codes "cript") bs some lower no_s) (raw_differs 115 letter (codes "tyle") bs some lower no_s)
+    (raw_differs 116 letter (codes "extarea") bs some lower no_t)
+
+pub raw_in_none : (bs : List ℕ) → length bs < 1 → begins_raw_text bs ≡ false
+unfolding begins_raw_text is_raw_name
+raw_in_none [] none = refl
+raw_in_none (b ∷ bs) none = absurd (omega arith)
 
 -- the end conditions of types 1 to 5, by the first byte
 pub question_end : (bs : List ℕ) → 1 ≤ length bs → get_or bs 0 0 ≡ 63 → html_end bs ≡ Some (AtText (codes "?>"))

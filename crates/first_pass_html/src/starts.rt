@@ -79,15 +79,20 @@ fn begins_letter(bytes: &[u8]) -> bool
     }
 }
 
-// Whether raw text begins here: pre, script, style or textarea in any case, and then the end of the name.
-#[tactic(auto, using(crate::proofs::RawFacts::raw_begins))]
+// Whether raw text begins here: pre, script, style or textarea in any case, and then the end of the name. The first
+// letter rules out most other names.
 fn begins_raw_text(bytes: &[u8]) -> bool
     ensures { result ≡ starts.begins_raw_text bytes.now }
 {
-    begins_raw(bytes, b"pre")
-        || begins_raw(bytes, b"script")
-        || begins_raw(bytes, b"style")
-        || begins_raw(bytes, b"textarea")
+    let [letter, ..] = bytes else {
+        return false;
+    };
+    match letter.to_ascii_lowercase() {
+        b'p' => begins_raw(bytes, b"pre"),
+        b's' => begins_raw(bytes, b"script") || begins_raw(bytes, b"style"),
+        b't' => begins_raw(bytes, b"textarea"),
+        _ => false,
+    }
 }
 
 // Whether the bytes begin with this name of raw text, in any case, and then the end of the name.
