@@ -34,6 +34,10 @@ pub record IsWritten (in_table : Bool) (text : List ℕ) (from : ℕ) (written :
   pub so_far : unescaped in_table text ≡ written ++ unescaped in_table (drop from text)
   pub fewer : ((from ≡ 0) × (written ≡ [])) ⊎ (length written < from)
 
+-- no bytes are kept
+pub kept_none : (t : Bool) (text : List ℕ) (from : ℕ) → from ≤ length text → IsKept t text from from
+kept_none t text from within = let z : from - from ≡ 0 = omega arith in record { order = omega arith; within = within; kept = rw z refl }
+
 begins_is : (k : ℕ) (bs : List ℕ) → begins k bs ≡ true → bs ≡ k ∷ drop 1 bs
 begins_is k [] h = cc
 begins_is k (b ∷ bs) h = ap (λ x. x ∷ bs) (eqb-true b k h)

@@ -444,7 +444,8 @@ run_reads_by x h t text at next characters kind r ends e =
     (ap (λ n. label_len (bytes_of r.run ++ bytes_of (left_at h text n))) f.0 ∙ upto-run (bytes_of r.run) X r.white ∙ ap (λ n. n + label_len X) len
     ∙ ap (λ n. length r.run + label_len (bytes_of (left_at h text n))) (sym f.0))
     (run_lighter x text at next characters (bytes_of r.run) kind l
-    (λ no. run_heavier text at next characters (bytes_of r.run) (len ∙ count) r.white (run_first h text at next characters r some l) some (kind ∙ no) ends.lone))
+    (λ no. run_heavier text at next characters (bytes_of r.run) (len ∙ count) r.white (run_first h text at next characters r some l) some (kind ∙ no)
+    ends.lone))
     (λ n. ap (λ k. shown t (bytes_of r.run ++ take n (bytes_of (left_at h text k)))) f.0
     ∙ shown-run t (bytes_of r.run) (take n X) r.white (omega arith) (taken_fails is_ascii_white refl n X first')
     ∙ ap (λ xs. xs ++ shown t (take n X)) (sym (read-space text at next characters x kind l))

@@ -10,6 +10,8 @@ use Rattle.first_pass_links.specs.Destinations.{ends_run, closes_none, nesting_a
 use Rattle.first_pass_links.specs.Labels.{is_bracket, begins_character, bytes_of, label_len, shown}
 use Rattle.first_pass_links.specs.Plain.{is_ordinary}
 use Rattle.first_pass_links.specs.Units.{part, read_of, left_at, kept_unit, Reads}
+use Rattle.first_pass_links.specs.Runs.{is_run_byte}
+use Rattle.first_pass_links.proofs.Runs.{longer-none, plain_facts}
 use Rattle.first_pass_links.proofs.Destinations.{run_unit}
 use Rattle.first_pass_links.proofs.Labels.{byte_reads, read-kept, take_past, count_append, any_append}
 use Rattle.first_pass_links.proofs.Parts.{part-split}
@@ -42,7 +44,7 @@ plain_bracket b h = grind (arith, nat_tests, h)
 plain_begins : (b : ℕ) → is_ordinary b ≡ true → suc zero ≡ (if begins_character b then 1 else 0)
 plain_begins b h = grind (arith, nat_tests, h)
 
-no_escape : (bs : List ℕ) (at : ℕ) → at < length bs → (get_or bs at 0 == 92) ≡ false → begins_escape (drop at bs) ≡ false
+pub no_escape : (bs : List ℕ) (at : ℕ) → at < length bs → (get_or bs at 0 == 92) ≡ false → begins_escape (drop at bs) ≡ false
 no_escape bs at l h = ap begins_escape (drop_more bs at 0 l) ∙ rw h refl
 
 -- a run continues after plain bytes
@@ -65,6 +67,30 @@ run_plain deepest nesting bs at (suc r) within plain bound =
     ap (λ j. longer j (run_len deepest nesting 0 (drop j bs))) e
     ∙ run_plain_byte deepest nesting bs (at + r) (omega arith) (plain r (omega arith)) bound
     ∙ run_plain deepest nesting bs at r (omega arith) (λ k below. plain k (omega arith)) bound
+
+-- and after an escape or one other byte, with the plain bytes after it
+pub run_part : (deepest nesting : ℕ) (bs : List ℕ) (n r : ℕ) → 0 < length bs → is_run_byte (get_or bs 0 0) ≡ true → n ≡ (if begins_escape bs then 2 else 1)
+    → n + r ≤ length bs → ArePlain bs n r → nesting ≤ deepest
+    → longer (n + r) (run_len deepest nesting 0 (drop (n + r) bs)) ≡ run_len deepest nesting 0 bs
+run_part deepest nesting bs n r some first unit within plain bound =
+    let b = get_or bs 0 0 in
+    let f = plain_facts b nesting first in
+    let z : 0 + n ≡ n = omega arith in
+    let same = f.2 in
+    let shallow : nesting_after b nesting ≤ deepest = omega arith in
+    run_plain deepest nesting bs n r within plain bound
+    ∙ ap (λ k. longer n (run_len deepest k 0 (drop n bs))) (sym same)
+    ∙ ap (λ j. longer j (run_len deepest (nesting_after b nesting) 0 (drop j bs))) (sym z)
+    ∙ run_unit deepest nesting bs 0 n some unit f.0 f.1 shallow
+    ∙ longer-none (run_len deepest nesting 0 bs)
+
+parenthesis_is_other : (b : ℕ) → (b == 40 || b == 41) ≡ true → (b == 92) ≡ false
+parenthesis_is_other b h = grind (arith, nat_tests, h)
+
+-- a parenthesis is a unit of one byte
+pub parenthesis_unit : (bs : List ℕ) (at : ℕ) → at < length bs → (get_or bs at 0 == 40 || get_or bs at 0 == 41) ≡ true
+    → suc zero ≡ (if begins_escape (drop at bs) then 2 else 1)
+parenthesis_unit bs at l h = rw (no_escape bs at l (parenthesis_is_other (get_or bs at 0) h)) refl
 
 -- two kept units, one after the other, are one
 module _ (h : List ℕ → Option ℕ) (t : Bool) (text : List ℕ) (at m n c d : ℕ) where

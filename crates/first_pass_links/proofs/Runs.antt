@@ -10,11 +10,11 @@ use Rattle.first_pass_links.specs.Runs.{is_run_byte, IsBare, nothing, escape, pl
 use Rattle.first_pass_links.proofs.Destinations.{longer-longer, second, run-nil, run-end, run-escape, run-unopened, run-deep, run-byte}
 
 -- if there is a run, its length is computed
-longer-none : (o : Option ℕ) → longer 0 o ≡ o
+pub longer-none : (o : Option ℕ) → longer 0 o ≡ o
 longer-none None = refl
 longer-none (Some k) = let e : 0 + k ≡ k = omega arith in ap (λ n. Some n) e
 
-plain_facts : (b nesting : ℕ) → is_run_byte b ≡ true → (ends_run b ≡ false) × (closes_none b nesting ≡ false) × (nesting_after b nesting ≡ nesting)
+pub plain_facts : (b nesting : ℕ) → is_run_byte b ≡ true → (ends_run b ≡ false) × (closes_none b nesting ≡ false) × (nesting_after b nesting ≡ nesting)
 plain_facts b nesting h =
     let x : (b == 40) ≡ false = grind (arith, nat_tests, h) in
     let y : (b == 41) ≡ false = grind (arith, nat_tests, h) in

@@ -1,10 +1,11 @@
 //! Link destinations (CommonMark 6.3).
 
-ghost use Rattle.std.specs.Prelude.{◌≡◌, ◌+◌, ◌<◌, ◌≤◌, ◌^◌, length, drop, slice_index, None, IfSome, IsSomeAnd, MatchOption, true, if◌then◌else◌};
+ghost use Rattle.std.specs.Prelude.{◌≡◌, ℕ, ◌+◌, ◌<◌, ◌≤◌, ◌^◌, ◌==◌, ◌||◌, length, drop, slice_index, None, IfSome, IsSomeAnd, MatchOption, true, if◌then◌else◌};
 ghost use Rattle.std.specs.Str.{IsCharBoundary};
-ghost use Rattle.first_pass_items.specs.Bytes.{ascii_end};
+ghost use Rattle.first_pass_items.specs.Bytes.{ascii_end, left_parenthesis, right_parenthesis};
 ghost use Rattle.first_pass_links.specs.Escapes.{begins_escape};
-ghost use Rattle.first_pass_links.specs.Destinations.{unescaped_upto, ends_brackets, ends_run, closes_none, nesting_after, run_len, destination_at};
+ghost use Rattle.first_pass_links.specs.Runs.{is_run_byte};
+ghost use Rattle.first_pass_links.specs.Destinations.{unescaped_upto, ends_brackets, ends_run, closes_none, nesting_after, run_len, longer, destination_at};
 
 use crate::plain::plain_run;
 use first_pass_lines::lines::begins;
@@ -62,6 +63,10 @@ fn scan_run(bytes: &[u8], deepest: usize) -> Option<usize>
     let mut at = 0;
     let mut nesting = 0;
     while at < bytes.len() && !ends_run(bytes[at]) {
+        if !is_parenthesis(bytes[at]) {
+            at += text_len(rest_of(bytes, at));
+            continue;
+        }
         if closes_none(bytes[at], nesting) {
             return Some(at);
         }
@@ -69,10 +74,34 @@ fn scan_run(bytes: &[u8], deepest: usize) -> Option<usize>
         if nesting > deepest {
             return None;
         }
-        at += unit_len(rest_of(bytes, at));
-        at += plain_run(rest_of(bytes, at));
+        at += 1;
     }
     if nesting == 0 { Some(at) } else { None }
+}
+
+// The length of a part of a run: a backslash escape, or one other byte and the plain bytes after it. The part begins
+// with no parenthesis.
+#[inline(always)]
+fn text_len(bytes: &[u8]) -> usize
+    requires some { 0 < length bytes.now }
+    requires part { is_run_byte (slice_index bytes.now 0) ≡ true }
+    ensures within { result ≤ length bytes.now }
+    ensures some { 0 < result }
+    ensures passed { (deepest nesting : ℕ) → nesting ≤ deepest
+        → longer result (run_len deepest nesting 0 (drop result bytes.now)) ≡ run_len deepest nesting 0 bytes.now }
+{
+    let unit = unit_len(bytes);
+    if unit == 2 {
+        return unit;
+    }
+    unit + plain_run(rest_of(bytes, unit))
+}
+
+// Whether the byte is a parenthesis.
+fn is_parenthesis(byte: u8) -> bool
+    ensures { result ≡ (byte == left_parenthesis || byte == right_parenthesis) }
+{
+    matches!(byte, b'(' | b')')
 }
 
 // Whether the byte is a `)` and no parenthesis is open.

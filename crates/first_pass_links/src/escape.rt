@@ -1,12 +1,14 @@
 //! Backslash escapes (CommonMark 2.4) and references (2.5) in a text, replaced by their characters.
 
-ghost use Rattle.std.specs.Prelude.{◌≡◌, ◌+◌, ◌<◌, ◌≤◌, length, drop, unwrap_or, IfOk, IsOkAnd, IfSome, IfNone};
+ghost use Rattle.std.specs.Prelude.{◌≡◌, ◌+◌, ◌<◌, ◌≤◌, ◌++◌, length, drop, unwrap_or, IfOk, IsOkAnd, OnOk, IfSome, IfNone, IsCharBoundary};
+ghost use Rattle.std.specs.String.{string_bytes};
 ghost use Rattle.first_pass_items.specs.CowText.{text_of};
 ghost use Rattle.first_pass_lines.specs.Lanes.{IsRunIn};
 ghost use Rattle.first_pass_links.specs.Escapes.{unescaped};
 ghost use Rattle.first_pass_links.specs.Plain.{is_unmarked};
 ghost use Rattle.first_pass_entities.specs.Texts.{Borrows, TakesNoMemory};
 ghost use Rattle.first_pass_links.specs.Changes.{change_at, IsChange};
+ghost use Rattle.first_pass_links.specs.Units.{part};
 
 use crate::plain::unmarked_run;
 use first_pass_entities::entity::scan_reference;
@@ -45,7 +47,7 @@ fn unescape_marked<'a>(
     let mut written = String::new(alloc);
     let mut from = 0;
     while let Some((at, len, character)) = next_change(text.as_bytes(), from, in_table) {
-        written.push_str(&text[from..at])?;
+        push_between(&mut written, text, from, at)?;
         written.push(character)?;
         from = at + len;
     }
@@ -56,6 +58,20 @@ fn unescape_marked<'a>(
     Ok(CowStr::Boxed(written.into_boxed_str()))
 }
 
+// Appends the bytes of the text from one offset up to another. Between two changes there are often none.
+#[inline(always)]
+fn push_between(written: &mut String, text: &str, from: usize, to: usize) -> Result<(), AllocError>
+    requires order { from ≤ to }
+    requires from { IsCharBoundary text.now from }
+    requires to { IsCharBoundary text.now to }
+    ensures bytes { OnOk result (string_bytes written.new ≡ string_bytes written.old ++ part text.now from to) }
+{
+    if from == to {
+        return Ok(());
+    }
+    written.push_str(&text[from..to])
+}
+
 // The first bytes at or after the offset `from` that unescaping replaces by one character: their offset, their number,
 // and that character.
 fn next_change(bytes: &[u8], from: usize, in_table: bool) -> Option<(usize, usize, char)>
@@ -63,6 +79,10 @@ fn next_change(bytes: &[u8], from: usize, in_table: bool) -> Option<(usize, usiz
     ensures some { IfSome result (λ change. IsChange in_table bytes.now from change) }
     ensures none { IfNone result (unescaped in_table (drop from bytes.now) ≡ drop from bytes.now) }
 {
+    // Changes often follow each other directly.
+    if let Some((len, character)) = change_at(rest_of(bytes, from), in_table) {
+        return Some((from, len, character));
+    }
     let mut at = from;
     while let Some(plain) = next_mark(rest_of(bytes, at)) {
         at += plain;
@@ -99,6 +119,7 @@ fn next_mark(bytes: &[u8]) -> Option<usize>
 }
 
 // The bytes at the start that unescaping replaces by one character: their number, and that character.
+#[inline(always)]
 #[tactic(auto, unfolding(crate::specs::Changes::change_at, crate::specs::Escapes::replaced_at))]
 fn change_at(bytes: &[u8], in_table: bool) -> Option<(usize, char)>
     ensures { result ≡ change_at in_table bytes.now }

@@ -15,7 +15,8 @@ pub(crate) fn plain_run(bytes: &[u8]) -> usize
     ensures within { result ≤ length bytes.now }
     ensures plain { (k : ℕ) → k < result → is_ordinary (slice_index bytes.now k) ≡ true }
 {
-    if bytes.len() < LANES {
+    // The second test costs less than the lanes, and often decides.
+    if bytes.len() < LANES || bytes[0] < b'*' {
         return 0;
     }
     plain_lanes(bytes)

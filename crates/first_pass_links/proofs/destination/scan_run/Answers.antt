@@ -1,8 +1,7 @@
 use Rattle.std.proofs.Common.{◌≡◌, ◌==◌, ℕ, inl, inr, ◌+◌, drop, length, length-drop, Some, None, sym, ap, ◌∙◌, arith, if◌then◌else◌}
 use Rattle.std.proofs.lemmas.Bool.{cases_Bool, eqb-true}
-use Rattle.first_pass_links.specs.Escapes.{begins_escape}
 use Rattle.first_pass_links.specs.Destinations.{run_len, longer, if_closed}
-use Rattle.first_pass_links.proofs.PlainRuns.{are_plain, run_plain}
+use Rattle.first_pass_links.proofs.PlainRuns.{parenthesis_unit}
 use Rattle.first_pass_links.proofs.Destinations.{run_unit, run_deep, run_unopened, run_stopped, run_ended}
 use Rattle.first_pass_links.proofs.destination.scan_run.Goals as goal
 use Rattle.first_pass_links.proofs.destination.scan_run.Goals.{then-loop-at-test+else-not-ends_run, else-loop-at-test}
@@ -25,28 +24,20 @@ returns-then-nesting-deepest-clause-value c =
 pub loop-at-preserved : goal.loop-at-preserved
 loop-at-preserved c =
     let bs = c.args.bytes.now in
+    let at = c.loop-at.at in
     let shallow = c.if-nesting-deepest.false in
     let following = c.nesting_after-nesting.ensures.value in
-    let e = c.unit_len-at.ensures.value ∙ ap (λ xs. if begins_escape xs then 2 else 1) c.rest_of.ensures.value in
-    let u = run_unit c.args.deepest c.loop-at.nesting bs c.loop-at.at c.unit_len-at.result c.loop-at-test.true e
-    (sym c.ends_run.ensures ∙ c.if-not-ends_run.true) (sym c.closes_none.ensures ∙ c.if-closes_none.false) (omega arith)
+    let one = parenthesis_unit bs at c.loop-at-test.true (sym c.is_parenthesis.ensures ∙ c.if-not-is_parenthesis.false) in
+    let u = run_unit c.args.deepest c.loop-at.nesting bs at 1 c.loop-at-test.true one (sym c.ends_run.ensures ∙ c.if-not-ends_run.true)
+    (sym c.closes_none.ensures ∙ c.if-closes_none.false) (omega arith)
     in
-    let within = c.unit_len-at.ensures.within in
-    let whole = c.rest_of.ensures.whole in
     let bound = c.loop-at.invariant.nested in
     let small = c.nesting_after-nesting.ensures.small in
-    let some = c.unit_len-at.ensures.some in
-    let next = c.loop-at.at + c.unit_len-at.result in
-    let r = c.plain_run-at.result in
-    let far = c.plain_run-at.ensures.within in
-    let left = ap length c.rest_of-in-loop-at.ensures.value ∙ length-drop next bs in
-    let plain = are_plain bs _ next r c.rest_of-in-loop-at.ensures.value c.plain_run-at.ensures.plain in
-    let p = run_plain c.args.deepest c.nesting_after-nesting.result bs next r (omega arith) plain shallow in
     record {
       within = omega arith;
       nested = omega arith;
       shallow = shallow;
-      passed = p ∙ ap (λ n. longer next (run_len c.args.deepest n 0 (drop next bs))) following ∙ u ∙ c.loop-at.invariant.passed;
+      passed = ap (λ n. longer (at + 1) (run_len c.args.deepest n 0 (drop (at + 1) bs))) following ∙ u ∙ c.loop-at.invariant.passed;
     }
 
 -- after the loop the run has ended

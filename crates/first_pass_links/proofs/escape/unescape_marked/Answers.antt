@@ -17,10 +17,10 @@ change : (c : In-Some) → IsChange c.args.in_table c.args.text.now c.loop-at.fr
 change c =
     subst (λ xs. IsChange c.args.in_table xs c.loop-at.from (c.in-Some.at, c.in-Some.len, c.in-Some.character)) c.as_bytes.ensures.value c.in-Some.ensures.some
 
-pub returns-in_err-push_str-clause-borrowed : goal.returns-in_err-push_str-clause-borrowed
-returns-in_err-push_str-clause-borrowed c =
+pub returns-in_err-push_between-clause-borrowed : goal.returns-in_err-push_between-clause-borrowed
+returns-in_err-push_between-clause-borrowed c =
     λ e. absurd (change_differs c.args.in_table c.args.text.now c.loop-at.from c.in-Some.at c.in-Some.len c.in-Some.character _ c.loop-at.invariant.so_far
-    (change (goal.at.returns-in_err-push_str-clause-borrowed c).In-Some) e)
+    (change (goal.at.returns-in_err-push_between-clause-borrowed c).In-Some) e)
 
 pub returns-in_err-push-clause-borrowed : goal.returns-in_err-push-clause-borrowed
 returns-in_err-push-clause-borrowed c =
@@ -34,6 +34,6 @@ loop-at-preserved c =
     let e : string_bytes c.push.new.self
     ≡ (string_bytes c.loop-at.written ++ take (c.in-Some.at - c.loop-at.from) (drop c.loop-at.from c.args.text.now)) ++ encode_utf8 c.in-Some.character =
     c.in_ok-push.ensures.bytes
-    ∙ ap (λ xs. xs ++ encode_utf8 c.in-Some.character) (c.in_ok-push_str.ensures.bytes ∙ ap (λ xs. string_bytes c.loop-at.written ++ xs) c.range.ensures.value)
+    ∙ ap (λ xs. xs ++ encode_utf8 c.in-Some.character) c.in_ok-push_between.ensures.bytes
     in
     record { so_far = subst (IsWritten c.args.in_table c.args.text.now (c.in-Some.at + c.in-Some.len)) (sym e) w }
