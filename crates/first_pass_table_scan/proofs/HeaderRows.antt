@@ -1,8 +1,9 @@
 -- Facts on the pipes of a header row, and on its columns.
 use Rattle.std.proofs.Common.{◌≡◌, ℕ, suc, ◌+◌, ◌-◌, ◌<◌, ◌≤◌, ◌⊎◌, Bool, true, false, List, ◌∷◌, length, take, drop, Option, Some, None, refl, sym, ap, []}
-use Rattle.std.proofs.Common.{◌∙◌, arith, inl, inr, if◌then◌else◌, ◌==◌, ◌&&◌, not, get_or}
+use Rattle.std.proofs.Common.{◌∙◌, arith, inl, inr, if◌then◌else◌, ◌==◌, ◌&&◌, not, get_or, nat_lt, slice_index}
 use Rattle.std.specs.Option.{option_map_or}
 use Rattle.std.specs.List.{prefix_len, take_while, position_or_len}
+use Rattle.std.proofs.lemmas.Bool.Decides.{nat_tests}
 use Rattle.std.proofs.lemmas.List.{drop_more, drop_all, take-take}
 use Rattle.std.proofs.lemmas.List.Folds.{length-prefix_len}
 use Rattle.first_pass_items.specs.Bytes.{backslash}
@@ -96,38 +97,67 @@ pub last-none : (b : ℕ) (bs : List ℕ) → length bs ≡ position_or_len is_p
 last-none b [] h = refl
 last-none b (c ∷ cs) h = grind (arith, last-none c cs)
 
--- The bytes of a row before an offset are counted: the last of them, their pipes, and the offset after the last pipe.
-pub record IsCounted (row : List ℕ) (at before pipes end : ℕ) : Type 0 where
-  pub pipes_left : pipes + pipes_after before (drop at row) ≡ pipes_after 0 row
-  pub ending : end_past at end before (drop at row) ≡ end_past 0 0 0 row
+-- the byte before a place of a row; 0 at its start
+abbrev pub byte_before : List ℕ → ℕ → ℕ
+byte_before row at = if nat_lt 0 at then slice_index row (at - 1) else 0
+
+backslash_if : (t : Bool) (b : ℕ) → (t && b == backslash) ≡ ((if t then b else 0) == backslash)
+backslash_if true b = refl
+backslash_if false b = refl
+
+pub byte_past : (row : List ℕ) (at : ℕ) → byte_before row (at + 1) ≡ get_or row at 0
+byte_past row at =
+    let here : at + 1 - 1 ≡ at = omega arith in
+    let some : nat_lt 0 (at + 1) ≡ true = grind (arith, nat_tests) in
+    ap (λ t. if t then slice_index row (at + 1 - 1) else 0) some ∙ ap (slice_index row) here
+
+-- The bytes of a row before an offset are counted: their pipes, and the offset after the last pipe.
+pub record IsCounted (row : List ℕ) (at pipes end : ℕ) : Type 0 where
+  pub pipes_left : pipes + pipes_after (byte_before row at) (drop at row) ≡ pipes_after 0 row
+  pub ending : end_past at end (byte_before row at) (drop at row) ≡ end_past 0 0 0 row
+
+-- whether the byte at a place is a pipe that counts
+abbrev pub is_open_at : List ℕ → ℕ → Bool
+is_open_at row i = is_pipe (get_or row i 0) && not (byte_before row i == backslash)
+
+pub open_at : (row : List ℕ) (at : ℕ)
+    → is_open_at row at ≡ (is_pipe (get_or row at 0) && not (nat_lt 0 at && slice_index row (at - 1) == backslash))
+open_at row at = ap (λ t. is_pipe (get_or row at 0) && not t) (sym (backslash_if (nat_lt 0 at) (slice_index row (at - 1))))
 
 -- a row with one more byte, which is a pipe that counts, or not
-pub step-open : (row : List ℕ) (i b pipes end : ℕ) → i < length row → (is_pipe (get_or row i 0) && not (b == backslash)) ≡ true
-    → IsCounted row i b pipes end → IsCounted row (i + 1) (get_or row i 0) (pipes + 1) (i + 1)
-step-open row i b pipes end l t old =
+pub step-open : (row : List ℕ) (i pipes end : ℕ) → i < length row → is_open_at row i ≡ true → IsCounted row i pipes end → IsCounted row (i + 1) (pipes + 1) (i + 1)
+step-open row i pipes end l t old =
     let x : ℕ = get_or row i 0 in
-    let one = one_if (is_pipe x && not (b == backslash)) t in
+    let b : ℕ = byte_before row i in
+    let one = one_if (is_open_at row i) t in
     let counted = pipes-at row i b x l refl in
+    let past = byte_past row i in
+    let left = ap (λ (y : ℕ). pipes_after y (drop (i + 1) row)) past in
     record {
       pipes_left = omega (arith, old.pipes_left);
-      ending = sym (ap (λ u. end_past (i + 1) (if u then i + 1 else end) x (drop (i + 1) row)) t) ∙ sym (ending-at row i end b x l refl) ∙ old.ending;
+      ending = ap (λ (y : ℕ). end_past (i + 1) (i + 1) y (drop (i + 1) row)) past
+          ∙ sym (ap (λ u. end_past (i + 1) (if u then i + 1 else end) x (drop (i + 1) row)) t) ∙ sym (ending-at row i end b x l refl) ∙ old.ending;
     }
 
-pub step-other : (row : List ℕ) (i b pipes end : ℕ) → i < length row → (is_pipe (get_or row i 0) && not (b == backslash)) ≡ false
-    → IsCounted row i b pipes end → IsCounted row (i + 1) (get_or row i 0) pipes end
-step-other row i b pipes end l t old =
+pub step-other : (row : List ℕ) (i pipes end : ℕ) → i < length row → is_open_at row i ≡ false → IsCounted row i pipes end → IsCounted row (i + 1) pipes end
+step-other row i pipes end l t old =
     let x : ℕ = get_or row i 0 in
-    let none = none_if (is_pipe x && not (b == backslash)) t in
+    let b : ℕ = byte_before row i in
+    let none = none_if (is_open_at row i) t in
     let counted = pipes-at row i b x l refl in
+    let past = byte_past row i in
+    let left = ap (λ (y : ℕ). pipes_after y (drop (i + 1) row)) past in
     record {
       pipes_left = omega (arith, old.pipes_left);
-      ending = sym (ap (λ u. end_past (i + 1) (if u then i + 1 else end) x (drop (i + 1) row)) t) ∙ sym (ending-at row i end b x l refl) ∙ old.ending;
+      ending = ap (λ (y : ℕ). end_past (i + 1) end y (drop (i + 1) row)) past
+          ∙ sym (ap (λ u. end_past (i + 1) (if u then i + 1 else end) x (drop (i + 1) row)) t) ∙ sym (ending-at row i end b x l refl) ∙ old.ending;
     }
 
-pub pipes-first : (row : List ℕ) (i b : ℕ) → i < length row → (is_pipe (get_or row i 0) && not (b == backslash)) ≡ true → 1 ≤ pipes_after b (drop i row)
-pipes-first row i b l t =
+pub pipes-first : (row : List ℕ) (i : ℕ) → i < length row → is_open_at row i ≡ true → 1 ≤ pipes_after (byte_before row i) (drop i row)
+pipes-first row i l t =
     let y : ℕ = get_or row i 0 in
-    let one = one_if (is_pipe y && not (b == backslash)) t in
+    let b : ℕ = byte_before row i in
+    let one = one_if (is_open_at row i) t in
     let counted = pipes-at row i b y l refl in
     omega arith
 

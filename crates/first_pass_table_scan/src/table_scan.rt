@@ -119,6 +119,14 @@ pub(crate) fn cell_len(bytes: &[u8]) -> usize
     }
 }
 
+// The same, byte by byte: the cells of a delimiter row are short.
+fn short_cell_len(bytes: &[u8]) -> usize
+    ensures value { result ≡ position_or_len is_pipe bytes.now }
+    ensures within { result ≤ length bytes.now }
+{
+    bytes.iter().take_while(|b| **b != b'|').count()
+}
+
 // The alignments of the cells between the pipes of `bytes`, if each is a delimiter cell.
 fn scan_delimiter_cells(alloc: Global, bytes: &[u8]) -> Result<Option<Vec<Alignment>>, AllocError>
     ensures { IfOk result (λ columns. option_map (λ v. v.items) columns ≡ delimiter_cells bytes.now) }
@@ -126,7 +134,7 @@ fn scan_delimiter_cells(alloc: Global, bytes: &[u8]) -> Result<Option<Vec<Alignm
     let mut columns = Vec::new(alloc);
     let mut rest = bytes;
     loop {
-        let end = cell_len(rest);
+        let end = short_cell_len(rest);
         let Some(column) = scan_delimiter_cell(&rest[..end]) else {
             return Ok(None);
         };

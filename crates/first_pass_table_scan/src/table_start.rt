@@ -3,7 +3,7 @@
 
 ghost use Rattle.std.specs.Option.{option_map, option_map_or};
 ghost use Rattle.std.specs.List.{take_while};
-ghost use Rattle.std.specs.Prelude.{◌≡◌, ℕ, ◌+◌, ◌==◌, ◌&&◌, ◌||◌, not, Some, IfOk};
+ghost use Rattle.std.specs.Prelude.{◌≡◌, ◌≤◌, ℕ, ◌+◌, ◌-◌, ◌==◌, ◌&&◌, ◌||◌, not, nat_lt, length, slice_index, Some, IfOk};
 ghost use Rattle.first_pass_items.specs.Bytes.{hyphen, colon, backslash, pipe};
 ghost use Rattle.first_pass_lines.specs.Lines.{begins, is_content};
 ghost use Rattle.first_pass_table_scan.specs.TableHead.{is_pipe, head_columns, columns_by_pipes, delimiter_row_of, last_pipe_after, pipes_of};
@@ -32,11 +32,12 @@ pub fn scan_head_columns(bytes: &[u8]) -> usize
     count_header_cols(bytes, pipes, 0, end - 1)
 }
 
-// Whether the byte is a pipe and the byte before it, 0 at the start, is not a backslash.
-fn is_open_pipe(before: u8, byte: u8) -> bool
-    ensures { result ≡ (is_pipe byte && not (before == backslash)) }
+// Whether the byte, at an offset of a row, is a pipe and the byte before it is not a backslash.
+fn is_open_pipe(row: &[u8], at: usize, byte: u8) -> bool
+    requires { at ≤ length row.now }
+    ensures { result ≡ (is_pipe byte && not (nat_lt 0 at && slice_index row.now (at - 1) == backslash)) }
 {
-    byte == b'|' && before != b'\\'
+    byte == b'|' && (at == 0 || row[at - 1] != b'\\')
 }
 
 // The number of pipes of the row that are not directly after a backslash, and the offset after the last, or 0.
@@ -46,13 +47,11 @@ fn count_pipes(row: &[u8]) -> (usize, usize)
 {
     let mut pipes = 0;
     let mut end = 0;
-    let mut before = 0;
     for (at, byte) in row.iter().enumerate() {
-        if is_open_pipe(before, *byte) {
+        if is_open_pipe(row, at, *byte) {
             pipes += 1;
             end = at + 1;
         }
-        before = *byte;
     }
     (pipes, end)
 }

@@ -1,14 +1,18 @@
 use Rattle.std.proofs.Common.{ℕ, List, refl, sym, ◌∙◌, arith}
-use Rattle.first_pass_table_scan.proofs.HeaderRows.{pipes-first, step-open, step-other, pipes-end, ending-end}
+use Rattle.first_pass_table_scan.proofs.HeaderRows.{byte_before, open_at, pipes-first, step-open, step-other, pipes-end, ending-end}
 use Rattle.first_pass_table_scan.proofs.TableFacts.{pipes-fit}
 use Rattle.first_pass_table_scan.proofs.table_start.count_pipes.Goals as goal
 use Rattle.first_pass_table_scan.proofs.table_start.count_pipes.Goals.{then-is_open_pipe, else-is_open_pipe}
 
 pub returns-clause-pipes : goal.returns-clause-pipes
-returns-clause-pipes c = pipes-end c.args.row.now c.loop-at.at c.loop-at.before c.loop-at.pipes c.loop-at-test.false c.loop-at.invariant.counted.pipes_left
+returns-clause-pipes c =
+    let row : List ℕ = c.args.row.now in
+    pipes-end row c.loop-at.at (byte_before row c.loop-at.at) c.loop-at.pipes c.loop-at-test.false c.loop-at.invariant.counted.pipes_left
 
 pub returns-clause-end : goal.returns-clause-end
-returns-clause-end c = ending-end c.args.row.now c.loop-at.at c.loop-at.before c.loop-at.end c.loop-at-test.false c.loop-at.invariant.counted.ending
+returns-clause-end c =
+    let row : List ℕ = c.args.row.now in
+    ending-end row c.loop-at.at (byte_before row c.loop-at.at) c.loop-at.end c.loop-at-test.false c.loop-at.invariant.counted.ending
 
 pub loop-at-init : goal.loop-at-init
 loop-at-init c = record { counted = record { pipes_left = omega arith; ending = refl } }
@@ -18,17 +22,18 @@ loop-at-preserved c =
     let row : List ℕ = c.args.row.now in
     let old = c.loop-at in
     let l = c.loop-at-test.true in
+    let is = open_at row old.at ∙ sym c.is_open_pipe.ensures in
     elim c.if-is_open_pipe.branch [
       | then-is_open_pipe w ↦
-          let t = sym c.is_open_pipe.ensures ∙ w.if-is_open_pipe.true in
-          record { counted = rw (w.before-is, w.pipes-is, w.end-is) (step-open row old.at old.before old.pipes old.end l t old.invariant.counted) }
+          record { counted = rw (w.pipes-is, w.end-is) (step-open row old.at old.pipes old.end l (is ∙ w.if-is_open_pipe.true) old.invariant.counted) }
       | else-is_open_pipe w ↦
-          let t = sym c.is_open_pipe.ensures ∙ w.if-is_open_pipe.false in
-          record { counted = rw (w.before-is, w.pipes-is, w.end-is) (step-other row old.at old.before old.pipes old.end l t old.invariant.counted) }
+          record { counted = rw (w.pipes-is, w.end-is) (step-other row old.at old.pipes old.end l (is ∙ w.if-is_open_pipe.false) old.invariant.counted) }
     ]
 
 pub overflow_add-pipes : goal.overflow_add-pipes
 overflow_add-pipes c =
-    let open_one = pipes-first c.args.row.now c.loop-at.at c.loop-at.before c.loop-at-test.true (sym c.is_open_pipe.ensures ∙ c.if-is_open_pipe.true) in
+    let row : List ℕ = c.args.row.now in
+    let is = open_at row c.loop-at.at ∙ sym c.is_open_pipe.ensures ∙ c.if-is_open_pipe.true in
+    let open_one = pipes-first row c.loop-at.at c.loop-at-test.true is in
     let counted = c.loop-at.invariant.counted.pipes_left in
-    omega (arith, pipes-fit 0 c.args.row.now)
+    omega (arith, pipes-fit 0 row)
