@@ -1,3 +1,4 @@
+pub mod BracketFacts
 pub mod AlikeLemmas
 pub mod BraceLemmas
 pub mod BytesLemmas

@@ -1,5 +1,5 @@
 -- The part of a content that is read, and the tokens appended for it.
-use Rattle.std.proofs.Common.{ℕ, zero, suc, ◌≡◌, ◌⊎◌, ◌+◌, ◌-◌, ◌≤◌, ◌<◌, ◌==◌, ◌%◌, min, Bool, true, false, List, [], ◌∷◌, ◌++◌, length, slice_index, nat_lt}
+use Rattle.std.proofs.Common.{ℕ, zero, suc, ◌≡◌, ◌⊎◌, ◌+◌, ◌-◌, ◌≤◌, ◌<◌, ◌==◌, ◌%◌, ◌||◌, min, Bool, true, false, List, [], ◌∷◌, ◌++◌, length, slice_index, nat_lt, nat_le}
 use Rattle.std.proofs.Common.{Option, Result, Ok, Err, OnOk, IfOk, refl, sym, ap, subst, ◌∙◌, inl, inr, arith}
 use Rattle.std.specs.List.{suffix_len, slice_range}
 use Rattle.std.specs.declared.alloc.AllocError.{AllocError}
@@ -10,7 +10,8 @@ use Rattle.first_pass_tokens.specs.Braces.{MathBraces, braces_after}
 use Rattle.first_pass_items.specs.declared.item.Item.{Item}
 use Rattle.first_pass_items.specs.declared.option_set.Options.{Options}
 use Rattle.first_pass_tree.specs.Forest.{Forest, appended, with_text}
-use Rattle.first_pass_lines.specs.Lines.{is_white}
+use Rattle.first_pass_items.specs.Bytes.{pipe}
+use Rattle.first_pass_lines.specs.Lines.{is_white, is_line_end}
 use Rattle.first_pass_walk.specs.Walk.{is_special, begins_token, begins_cell}
 use Rattle.first_pass_tokens.specs.declared.line.HeldText.{HeldText}
 use Rattle.first_pass_tokens.specs.declared.pieces.Piece.{Piece}
@@ -19,12 +20,12 @@ use Rattle.first_pass_tokens.specs.Chains.{token, run_tokens, add_token, add_tok
 use Rattle.first_pass_tokens.specs.declared.pieces.TokenStart.{TokenStart}
 use Rattle.first_pass_tokens.specs.declared.pieces.TokenStart.TheVariants.{Ready, Reference, Dashes, Dollar, OpenBrace, CloseBrace}
 use Rattle.first_pass_tokens.specs.NamedTexts.{MakesPiece, AreMore}
-use Rattle.first_pass_tokens.specs.Pieces.{Inline, found_at, special_found, size, EndsSolid, FoundSolid}
-use Rattle.first_pass_tokens.specs.LineTokens.{Spot, spot, content_ends_at, ArePieces, add_piece, add_pieces, text_end, breaks_by_backslash, backslashes_at_end}
+use Rattle.first_pass_tokens.specs.Pieces.{Inline, found_at, special_found, special_piece, bracket_piece, run_at, size, EndsSolid, FoundSolid}
+use Rattle.first_pass_tokens.specs.LineTokens.{Spot, spot, content_ends_at, ends_cell, ArePieces, add_piece, add_pieces, text_end, breaks_by_backslash, backslashes_at_end}
 use Rattle.first_pass_tokens.specs.LineTokens.{blanks_at_end, line_end_len, line_break}
 use Rattle.first_pass_tokens.specs.TreeTokens.{with_tokens, AppendsLine, AppendsCell}
 use Rattle.first_pass_tokens.specs.HeldText.{held_after, tree_after, IsHeldTo}
-use Rattle.first_pass_tokens.proofs.PieceFacts.{IsPieceAt, IsMarkup, IsDelimiterRun, delimiter_other, markup_plain, visible_solid, off}
+use Rattle.first_pass_tokens.proofs.PieceFacts.{IsPieceAt, run_same, IsMarkup, IsDelimiterRun, delimiter_other, markup_plain, visible_solid, off}
 use Rattle.first_pass_tokens.proofs.ChainLemmas.{add_text-none, add_text-joined, with_tokens-text, with_tokens-add, with_tokens-adds, with_token-plain}
 use Rattle.first_pass_tokens.proofs.NamedTexts.{pieces_more}
 use Rattle.first_pass_tokens.proofs.LineLemmas.{are_more, add_pieces_more, end_bounded, piece_of}
@@ -75,6 +76,37 @@ plain_piece z at within plain =
     let line = or_from _ _ (off b 10 z.options (special_lf z.options) plain) (off b 13 z.options (special_cr z.options) plain) in
     let cell = and_right z.row _ (plain_cell z.options b plain) in
     (or_from _ _ (lt-leb (length z.text) at within) (or_from _ _ line cell), cond-false _ _ _ plain)
+
+-- so is a pipe that ends no cell
+pipe_piece : (z : Inline) (at : ℕ) → slice_index z.text at ≡ pipe → found_at z at ≡ Ready (Left 1)
+unfolding found_at special_found special_piece bracket_piece
+pipe_piece z at is =
+    let none : special_found z at ≡ Ready (Left 1) = rw is refl in
+    elim (cases_Bool (is_special z.options (slice_index z.text at))) [
+      | inl marked ↦ cond-true _ _ _ marked ∙ none
+      | inr plain ↦ cond-false _ _ _ plain
+    ]
+
+-- plain text at a place: its byte is not special, or it is a pipe at which the content does not end
+abbrev pub IsPlain : Inline → ℕ → Type 0
+IsPlain z k = (is_special z.options (slice_index z.text k) ≡ false) ⊎ ((content_ends_at z k ≡ false) × (slice_index z.text k ≡ pipe))
+
+single_piece : (z : Inline) (at : ℕ) → at < length z.text → IsPlain z at → (content_ends_at z at ≡ false) × (found_at z at ≡ Ready (Left 1))
+single_piece z at within (inl plain) = plain_piece z at within plain
+single_piece z at within (inr is) = (is.0, pipe_piece z at is.1)
+
+-- a content ends alike at equal bytes
+ends_alike : (z : Inline) (at k : ℕ) → k < length z.text → slice_index z.text k ≡ slice_index z.text at → content_ends_at z at ≡ false → content_ends_at z k ≡ false
+unfolding content_ends_at
+ends_alike z at k within same on =
+    or_from _ _ (lt-leb (length z.text) k within) (ap (λ (b : ℕ). is_line_end b || ends_cell z b) same ∙ (or_parts (nat_le (length z.text) at) _ on).1)
+
+-- the pipes of a run are plain text, if the content does not end at the first
+pub plain_run : (z : Inline) (at to : ℕ) → content_ends_at z at ≡ false → slice_index z.text at ≡ pipe → to ≡ at + run_at z.text at → to ≤ length z.text
+    → (k : ℕ) → at ≤ k → k < to → IsPlain z k
+plain_run z at to on is to_is within k low high =
+    let same = run_same z.text at k low (omega (arith, to_is)) in
+    inr (ends_alike z at k (omega arith) same on, same ∙ is)
 
 -- the piece found at a special byte
 pub found_special : (z : Inline) (at : ℕ) → is_special z.options (slice_index z.text at) ≡ true → special_found z at ≡ found_at z at
@@ -220,14 +252,14 @@ so_far_bytes {texts} z chain pending (suc n) at b s fits single =
     let here : at + 1 + n ≡ at + suc n = omega arith in
     subst (λ (k : ℕ). SoFar texts z chain pending k b) here rest
 
--- up to a place with no special byte before it
+-- up to a place with only plain text before it
 so_far_upto : {texts : List CowStr} (z : Inline) (chain : List Item) (pending : HeldText) (at to : ℕ) (b : MathBraces)
     → SoFar texts z chain pending at b → at ≤ to
-    → to ≤ length z.text → ((k : ℕ) → at ≤ k → k < to → is_special z.options (slice_index z.text k) ≡ false) → SoFar texts z chain pending to b
+    → to ≤ length z.text → ((k : ℕ) → at ≤ k → k < to → IsPlain z k) → SoFar texts z chain pending to b
 so_far_upto {texts} z chain pending at to b s order within plain =
     let there : at + (to - at) ≡ to = omega arith in
     subst (λ (k : ℕ). SoFar texts z chain pending k b) there
-    (so_far_bytes z chain pending (to - at) at b s (omega arith) (λ k low high. plain_piece z k (omega arith) (plain k low (omega arith))))
+    (so_far_bytes z chain pending (to - at) at b s (omega arith) (λ k low high. single_piece z k (omega arith) (plain k low (omega arith))))
 
 -- the pending text begins before the white space at the end
 begins_before_white : (z : Inline) (begin end : ℕ) → z.start ≤ begin → begin ≤ end → end ≤ length z.text
@@ -292,8 +324,7 @@ read_start z old within = record { tokens = []; read = so_far_start z within; tr
 
 pub read_upto : {texts : List CowStr} {z : Inline} {old tree : Forest Item} {pending : HeldText} (at to : ℕ) (b : MathBraces)
     → IsRead texts z old tree pending (spot at b)
-    → at ≤ to → to ≤ length z.text → ((k : ℕ) → at ≤ k → k < to → is_special z.options (slice_index z.text k) ≡ false)
-    → IsRead texts z old tree pending (spot to b)
+    → at ≤ to → to ≤ length z.text → ((k : ℕ) → at ≤ k → k < to → IsPlain z k) → IsRead texts z old tree pending (spot to b)
 read_upto {texts} {z} {old} {tree} {pending} at to b r order within plain =
     record { tokens = r.tokens; read = so_far_upto z r.tokens pending at to b r.read order within plain; tree_is = r.tree_is }
 

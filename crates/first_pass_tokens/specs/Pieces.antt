@@ -180,6 +180,10 @@ special_found s at =
     else (if slice_index s.text at == right_brace then CloseBrace
     else Ready (special_piece s at)))))
 
+-- what is found at a special byte is this piece, which needs neither a text nor the brace contexts (this project)
+abbrev pub IsReadyAt : Inline → ℕ → Piece → Type 0
+IsReadyAt s at piece = special_found s at ≡ Ready piece
+
 -- the piece at a place: a byte that is not special is plain text (CommonMark 6.9, textual content)
 unfoldable pub found_at : Inline → ℕ → TokenStart
 found_at s at = if is_special s.options (slice_index s.text at) then special_found s at else Ready (Left 1)

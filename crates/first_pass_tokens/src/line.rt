@@ -8,7 +8,7 @@ ghost use Rattle.first_pass_walk.specs.Walk.{MarksSpecial};
 ghost use Rattle.first_pass_tree.specs.Forest.{with_text};
 ghost use Rattle.first_pass_tokens.specs.Braces.{MathBraces};
 ghost use Rattle.first_pass_tokens.specs.NamedTexts.{AreMore};
-ghost use Rattle.first_pass_tokens.specs.Pieces.{source, content_in, text_upto, size};
+ghost use Rattle.first_pass_tokens.specs.Pieces.{source, content_in, text_upto, run_at, size};
 ghost use Rattle.first_pass_tokens.specs.LineTokens.{spot, line_end_len, text_end, break_of, line_break, content_ends_at, EndsLine, EndsCell};
 ghost use Rattle.first_pass_tokens.specs.TreeTokens.{with_tokens, AppendsLine, AppendsCell};
 ghost use Rattle.first_pass_tokens.specs.Chains.{run_tokens};
@@ -16,7 +16,7 @@ ghost use Rattle.first_pass_tokens.specs.HeldText.{held_after, tree_after, IsHel
 
 use crate::braces::BraceContexts;
 use crate::named::named_piece;
-use crate::pieces::{Content, Piece, piece_len, special_found};
+use crate::pieces::{Content, Piece, bracket_token, piece_len, run_len, special_found};
 use bitflags::Flags;
 use first_pass_items::cow_str::CowStr;
 use first_pass_items::item::{Item, ItemBody};
@@ -108,6 +108,17 @@ pub fn text_upto(text: &str, end: Option<usize>) -> &[u8]
     }
 }
 
+// A text that begins at an offset, with no backslash dropped before it.
+#[inline(always)]
+fn held_from(begin: usize) -> HeldText
+    ensures { result ≡ record { «begin» = begin; escaped = false } }
+{
+    HeldText {
+        begin,
+        escaped: false,
+    }
+}
+
 // Appends the tokens of a content, except for a pending text. Returns the end of the content and that text.
 #[inline(always)]
 fn append_pieces(
@@ -128,21 +139,37 @@ fn append_pieces(
     ensures order { IfOk result (λ answer. content.entry.start ≤ answer.0) }
     ensures within { IfOk result (λ answer. answer.0 ≤ length text.now) }
 {
-    let mut pending = HeldText {
-        begin: content.start,
-        escaped: false,
-    };
+    let mut pending = held_from(content.start);
     let mut from = content.start;
     while let Some(at) = next_special_in_words(content.special, text, from) {
         if content_ends_at(text, content, at) {
             return Ok((at, pending));
         }
+        // A pipe that ends no cell is plain text, as are those after it.
+        if text[at] == b'|' {
+            from = run_end(text, at);
+            continue;
+        }
+        if let Some(token) = bracket_token(text, at) {
+            from = append_through(tree, &mut pending, at, token)?;
+            continue;
+        }
         let found = special_found(text, content, at);
         let piece = named_piece(texts, braces, found)?;
-        append_piece(tree, &mut pending, at, piece)?;
-        from = at + piece_len(piece);
+        from = append_through(tree, &mut pending, at, piece)?;
     }
     Ok((text.len(), pending))
+}
+
+// The end of the run of equal bytes at a place.
+#[inline(never)]
+fn run_end(text: &[u8], at: usize) -> usize
+    requires { at < length text.now }
+    ensures value { result ≡ at + run_at text.now at }
+    ensures some { at < result }
+    ensures within { result ≤ length text.now }
+{
+    at + run_len(text, at)
 }
 
 // Whether the content ends at a byte: at a line ending, or at a pipe in a row.
@@ -198,6 +225,23 @@ fn append_piece(
         }
     }
     Ok(())
+}
+
+// The same as `append_piece`. Returns the offset after the piece.
+#[inline(always)]
+fn append_through(
+    tree: &mut Tree<Item>,
+    pending: &mut HeldText,
+    at: usize,
+    piece: Piece,
+) -> Result<usize, AllocError>
+    requires { at + size piece < 2 ^ 64 }
+    ensures tree { OnOk result (tree.new ≡ tree_after at piece pending.old tree.old) }
+    ensures pending { OnOk result (pending.new ≡ held_after at piece pending.old) }
+    ensures next { IfOk result (λ next. next ≡ at + size piece) }
+{
+    append_piece(tree, pending, at, piece)?;
+    Ok(at + piece_len(piece))
 }
 
 // Appends a token for each of `n` delimiters from an offset on.

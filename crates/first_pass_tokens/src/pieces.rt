@@ -1,9 +1,9 @@
 //! The pieces of the content of a line: the one that begins at a place.
 
-ghost use Rattle.std.specs.Prelude.{◌≡◌, ◌||◌, ◌+◌, ◌<◌, ◌≤◌, ◌^◌, true, length, slice_index, take, ℕ, List, IsCharBoundary, IsUtf8};
+ghost use Rattle.std.specs.Prelude.{◌≡◌, ◌||◌, ◌+◌, ◌<◌, ◌≤◌, ◌^◌, true, IfSome, length, slice_index, take, ℕ, List, IsCharBoundary, IsUtf8};
 ghost use Rattle.first_pass_items.specs.Bytes.{ampersand, backslash, backquote, hyphen, full_stop};
 ghost use Rattle.first_pass_tokens.specs.Braces.{MathBraces};
-ghost use Rattle.first_pass_tokens.specs.Pieces.{content_in, is_solid_at, dollar_found, special_found, reference_found, dash_found, found_size, FoundSolid, special_piece, backslash_piece, backslash_piece_in, backquote_piece, is_delimiter, char_before, run_in, run_size, is_quote, quote_piece, dot_piece, run_piece, delimiter_piece, bracket_piece, run_at, size, EndsSolid};
+ghost use Rattle.first_pass_tokens.specs.Pieces.{content_in, IsReadyAt, is_solid_at, dollar_found, special_found, reference_found, dash_found, found_size, FoundSolid, special_piece, backslash_piece, backslash_piece_in, backquote_piece, is_delimiter, char_before, run_in, run_size, is_quote, quote_piece, dot_piece, run_piece, delimiter_piece, bracket_piece, run_at, size, EndsSolid};
 
 use first_pass_entities::entity::scan_reference;
 use first_pass_flank::flank::{DelimiterRun, ends_with_pipe, first_char, last_char};
@@ -81,6 +81,25 @@ pub fn special_found(text: &[u8], content: Content<'_>, at: usize) -> TokenStart
         b'{' => TokenStart::OpenBrace,
         b'}' => TokenStart::CloseBrace,
         _ => TokenStart::Ready(special_piece(text, content, at)),
+    }
+}
+
+/// Returns the token at a bracket: at `<` with no backslash after it, at `[` and at `]`. Returns `None` at any other byte.
+/// The result is the same as that of `special_found`, which tests many other bytes first.
+#[inline(always)]
+#[tactic(auto, using(crate::proofs::BracketFacts::less_ready, crate::proofs::BracketFacts::left_ready, crate::proofs::BracketFacts::right_ready))]
+pub fn bracket_token(text: &[u8], at: usize) -> Option<Piece>
+    requires { at < length text.now }
+    ensures value { IfSome result (λ piece. (c : Content) (b : MathBraces)
+        → IsReadyAt (content_in text.now c b) at piece) }
+    ensures fits { IfSome result (λ piece. at + size piece ≤ length text.now) }
+    ensures ends { IfSome result (λ piece. EndsSolid text.now at piece) }
+{
+    match text[at] {
+        b'<' if byte_at(text, at + 1) != b'\\' => Some(Piece::Token(0, 1, ItemBody::MaybeHtml)),
+        b'[' => Some(Piece::Token(0, 1, ItemBody::MaybeLinkOpen)),
+        b']' => Some(Piece::Token(0, 1, ItemBody::MaybeLinkClose(true))),
+        _ => None,
     }
 }
 
@@ -367,7 +386,7 @@ fn bracket_piece(text: &[u8], at: usize) -> Piece
 
 // The length of the run of equal bytes at a place.
 #[tactic(auto, unfolding(crate::specs::Pieces::run_at))]
-fn run_len(text: &[u8], at: usize) -> usize
+pub(crate) fn run_len(text: &[u8], at: usize) -> usize
     requires { at < length text.now }
     ensures value { result ≡ run_at text.now at }
     ensures some { 0 < result }

@@ -1,4 +1,4 @@
-use Rattle.std.proofs.Common.{◌≡◌, ◌==◌, ℕ, inl, inr, ◌+◌, drop, length, length-drop, Some, None, sym, ap, ◌∙◌, arith, if◌then◌else◌}
+use Rattle.std.proofs.Common.{◌≡◌, ◌==◌, ℕ, inl, inr, ◌+◌, drop, Some, None, sym, ap, ◌∙◌, arith}
 use Rattle.std.proofs.lemmas.Bool.{cases_Bool, eqb-true}
 use Rattle.first_pass_links.specs.Destinations.{run_len, longer, if_closed}
 use Rattle.first_pass_links.proofs.PlainRuns.{parenthesis_unit}

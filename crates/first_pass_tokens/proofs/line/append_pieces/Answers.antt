@@ -1,9 +1,9 @@
-use Rattle.std.proofs.Common.{◌+◌, length, sym, ◌∙◌, ap, subst, arith}
+use Rattle.std.proofs.Common.{◌+◌, length, inl, refl, sym, ◌∙◌, ap, subst, arith}
 use Rattle.first_pass_tokens.specs.Pieces.{Inline, content_in, size}
 use Rattle.first_pass_tokens.specs.Braces.{braces_after}
 use Rattle.first_pass_tokens.specs.LineTokens.{spot}
 use Rattle.first_pass_tokens.specs.NamedTexts.{MakesPiece}
-use Rattle.first_pass_tokens.proofs.SoFar.{IsRead, read_start, read_upto, read_more, read_piece, read_all, becomes_solid, found_special, ended_by_text}
+use Rattle.first_pass_tokens.proofs.SoFar.{IsRead, plain_run, read_start, read_upto, read_more, read_piece, read_all, becomes_solid, found_special, ended_by_text}
 use Rattle.first_pass_tokens.proofs.NamedTexts.{more_none, more_both}
 use Rattle.first_pass_tokens.proofs.RunPlaces.{front_upto}
 use Rattle.first_pass_walk.proofs.WalkFacts.{spares_words}
@@ -16,18 +16,18 @@ upto_special : (c : In-Some) → IsRead c.loop-at.texts.items (content_in c.args
 upto_special c =
     let found = c.in-Some.ensures.found in
     read_upto c.loop-at.from c.in-Some.at c.loop-at.braces c.loop-at.invariant.read found.from (omega (arith, found.within))
-    (λ k low high. sym (c.requires.marks _ (omega (arith, c.type_inv.text k))) ∙ found.least k low high)
+    (λ k low high. inl (sym (c.requires.marks _ (omega (arith, c.type_inv.text k))) ∙ found.least k low high))
 
 -- and up to the end of the text, if there is none
 upto_end : (c : In_default) → IsRead c.loop-at.texts.items (content_in c.args.text.now c.args.content c.args.braces.now) c.args.tree.now
     c.loop-at.tree c.loop-at.pending (spot (length c.args.text.now) c.loop-at.braces)
 upto_end c =
     read_upto c.loop-at.from _ c.loop-at.braces c.loop-at.invariant.read c.loop-at.invariant.read.read.within (omega arith)
-    (λ k low high. sym (c.requires.marks _ (omega (arith, c.type_inv.text k))) ∙ c.in_default.ensures.none k low high)
+    (λ k low high. inl (sym (c.requires.marks _ (omega (arith, c.type_inv.text k))) ∙ c.in_default.ensures.none k low high))
 
 pub loop-at-init : goal.loop-at-init
 loop-at-init c = record {
-  read = read_start (content_in c.args.text.now c.args.content c.args.braces.now) c.args.tree.now c.requires.within;
+  read = rw c.held_from-pending.ensures (read_start (content_in c.args.text.now c.args.content c.args.braces.now) c.args.tree.now c.requires.within);
   more = more_none c.args.texts.now.items;
 }
 
@@ -42,7 +42,7 @@ loop-at-preserved c =
     let here = c.special_found-found.ensures.value c.args.braces.now ∙ found_special z at special in
     let is = subst (λ f. MakesPiece texts c.loop-at.braces f piece.piece) here piece.ensures.becomes in
     let more = piece.ensures.more in
-    let to_is = ap (λ n. spot (at + n) c.named_piece.new.braces) c.piece_len.ensures
+    let to_is = ap (λ n. spot n c.named_piece.new.braces) c.in_ok-from-2.ensures.next
     ∙ ap (spot (at + size piece.piece)) (piece.ensures.braces ∙ ap (λ f. braces_after f c.loop-at.braces) here) in
     let next = read_piece piece.piece (record {
       on = sym (c.content_ends_at.ensures c.args.braces.now) ∙ c.if-content_ends_at.false;
@@ -51,8 +51,42 @@ loop-at-preserved c =
       ends = becomes_solid _ _ z.text at _ piece.piece piece.ensures.becomes c.special_found-found.ensures.ends;
     }) (read_more more (upto_special (goal.at.loop-at-preserved c).In-Some)) in
     record {
-      read = rw (c.in_ok-append_piece.ensures.tree, c.in_ok-append_piece.ensures.pending, to_is) next;
+      read = rw (c.in_ok-from-2.ensures.tree, c.in_ok-from-2.ensures.pending, to_is) next;
       more = more_both texts c.loop-at.texts.items c.args.texts.now.items more c.loop-at.invariant.more;
+    }
+
+-- the same after the token at a bracket
+pub loop-at-preserved-in-Some-bracket_token : goal.loop-at-preserved-in-Some-bracket_token
+loop-at-preserved-in-Some-bracket_token c =
+    let z : Inline = content_in c.args.text.now c.args.content c.args.braces.now in
+    let at = c.in-Some.at in
+    let piece = c.in-Some-bracket_token.token in
+    let token = c.in-Some-bracket_token.ensures in
+    let special = sym (c.requires.marks _ (omega (arith, c.type_inv.text at))) ∙ c.in-Some.ensures.found.marked in
+    let here = sym (token.value c.args.content c.args.braces.now) ∙ found_special z at special in
+    let to_is = ap (λ n. spot n c.loop-at.braces) c.in_ok-from.ensures.next ∙ ap (λ f. spot (at + size piece) (braces_after f c.loop-at.braces)) here in
+    let next = read_piece piece (record {
+      on = sym (c.content_ends_at.ensures c.args.braces.now) ∙ c.if-content_ends_at.false;
+      becomes = subst (λ f. MakesPiece c.loop-at.texts.items c.loop-at.braces f piece) here refl;
+      fits = token.fits;
+      ends = token.ends;
+    }) (upto_special (goal.at.loop-at-preserved-in-Some-bracket_token c).In-Some) in
+    record {
+      read = rw (c.in_ok-from.ensures.tree, c.in_ok-from.ensures.pending, to_is) next;
+      more = c.loop-at.invariant.more;
+    }
+
+-- the same after pipes that end no cell
+pub loop-at-preserved-then-text-at-eq124 : goal.loop-at-preserved-then-text-at-eq124
+loop-at-preserved-then-text-at-eq124 c =
+    let z : Inline = content_in c.args.text.now c.args.content c.args.braces.now in
+    let at = c.in-Some.at in
+    let to = c.run_end-from.result in
+    let end = c.run_end-from.ensures in
+    record {
+      read = read_upto at to c.loop-at.braces (upto_special (goal.at.loop-at-preserved-then-text-at-eq124 c).In-Some) (omega (arith, end.some)) end.within
+          (plain_run z at to (sym (c.content_ends_at.ensures c.args.braces.now) ∙ c.if-content_ends_at.false) c.if-text-at-eq124.true end.value end.within);
+      more = c.loop-at.invariant.more;
     }
 
 pub returns-then-content_ends_at-clause-read : goal.returns-then-content_ends_at-clause-read
