@@ -1,10 +1,11 @@
 -- If `is_no_interrupt` holds of the first byte, only a table, a footnote or a definition interrupts a paragraph.
 -- Thematic breaks, metadata and HTML blocks do not begin with `#`.
 use Rattle.std.proofs.Common.{◌≡◌, inl, inr, ℕ, ◌==◌, nat_lt, Bool, true, false, true≢false, List, [], ◌∷◌, Option, Some, None, if◌then◌else◌}
-use Rattle.std.proofs.Common.{refl, sym, ap, ◌∙◌, subst, arith}
+use Rattle.std.proofs.Common.{refl, sym, ap, ◌∙◌, subst, arith, is_some, ◌||◌}
 use Rattle.std.proofs.lemmas.Bool.{cases_eq, ne_eqb, eqb-true}
 use Rattle.std.proofs.lemmas.Bool.Decides.{nat_tests}
 use Rattle.std.specs.Char.{is_ascii_digit}
+use Rattle.std.specs.Option.{option_map}
 use Rattle.first_pass_items.specs.declared.option_set.Options.{Options}
 use Rattle.first_pass_items.specs.declared.item.HeadingLevel.{HeadingLevel}
 use Rattle.first_pass_items.specs.OptionWords.{has}
@@ -14,7 +15,8 @@ use Rattle.first_pass_scan.specs.LeafLines.{hrule_len, code_fence}
 use Rattle.first_pass_scan.specs.Markers.{list_marker, listitem}
 use Rattle.first_pass_metadata.specs.Metadata.{metadata_byte}
 use Rattle.first_pass_html.specs.Tags.{BeginsTagLine}
-use Rattle.first_pass_grammar.specs.Kinds.{AtxHeading, all_taken, is_blank_rest, metadata_at, html_kind, later_kind, IsKind, interrupts_with}
+use Rattle.first_pass_grammar.specs.Kinds.{AtxHeading, HtmlToEnd, HtmlToBlank, all_taken, is_blank_rest, metadata_at, html_kind, later_kind, IsKind}
+use Rattle.first_pass_grammar.specs.Kinds.{begins_html_to_end, begins_html_to_blank, interrupts_with}
 use Rattle.first_pass_kinds.specs.Marks.{is_no_interrupt, begins_no_interrupt}
 use Rattle.first_pass_kinds.proofs.KindLemmas.{AfterMetadata, last_here}
 use Rattle.first_pass_kinds.proofs.PlainKinds.{tag_begins}
@@ -102,3 +104,20 @@ heading_kind options r level some bound e =
     record { some = some; bound = bound; metadata = sign_metadata (indent r) options (all_taken r).left h } in
     subst (IsKind options r) (heading_last (all_taken r).left level h e)
     (last_here options r early (sign_html (all_taken r).left h) (sign_tag (all_taken r).left h))
+
+-- A line that begins with `<` interrupts a paragraph exactly if an HTML block of types 1 to 6 begins there.
+html_either : (t u : Bool) → (t || u) ≡ is_some (if t then Some HtmlToEnd else (if u then Some HtmlToBlank else None))
+html_either true u = refl
+html_either false true = refl
+html_either false false = refl
+
+tag_first : (whole : Bool) (bs : List ℕ) → interrupts_with whole (60 ∷ bs) ≡ is_some (html_kind (60 ∷ bs))
+unfolding hrule_len atx_level code_fence list_marker listitem
+tag_first whole bs = html_either (begins_html_to_end (60 ∷ bs)) (begins_html_to_blank (60 ∷ bs))
+
+pub tag_interrupts : (whole : Bool) (bs : List ℕ) → begins 60 bs ≡ true → interrupts_with whole bs ≡ is_some (html_kind bs)
+tag_interrupts whole bs h = at_first (λ xs. interrupts_with whole xs ≡ is_some (html_kind xs)) 60 bs h (tag_first whole)
+
+pub mapped_some : {A B : Type 0} (f : A → B) (o : Option A) → is_some o ≡ is_some (option_map f o)
+mapped_some f None = refl
+mapped_some f (Some a) = refl

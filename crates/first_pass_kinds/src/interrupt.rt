@@ -110,10 +110,14 @@ fn begins_plain_item(bytes: &[u8]) -> bool
     }
 }
 
-// The same as `interrupts_without_table`, mark by mark: for the lines that the two tests above leave open.
+// The same as `interrupts_without_table`, mark by mark: for the lines that the two tests above leave open. Only HTML
+// begins with `<`.
 fn interrupts_by_mark(bytes: &[u8], current_container: bool) -> bool
     ensures { result ≡ interrupts_with current_container bytes.now }
 {
+    if begins(b'<', bytes) {
+        return html_kind(bytes).is_some();
+    }
     scan_eol(bytes).is_some()
         || scan_hrule(bytes).is_some()
         || scan_atx_heading(bytes).is_some()
