@@ -1,7 +1,9 @@
 -- If the first byte of the next line rules out a delimiter row, the line before it heads no table.
-use Rattle.std.proofs.Common.{◌≡◌, ℕ, nat_le, ◌&&◌, ◌||◌, not, Bool, true, false, true≢false, List, [], ◌∷◌, drop, Option, Some, None}
+use Rattle.std.proofs.Common.{◌≡◌, ℕ, ◌==◌, ◌⊎◌, nat_le, ◌&&◌, ◌||◌, not, Bool, true, false, true≢false, List, [], ◌∷◌, length, take, drop, Option, Some, None, inl, inr, if◌then◌else◌}
 use Rattle.std.proofs.Common.{refl, sym, ap, ◌∙◌, arith}
 use Rattle.std.specs.Option.{option_and_then}
+use Rattle.std.specs.List.{list_any}
+use Rattle.std.proofs.lemmas.Bool.{ne_eqb}
 use Rattle.std.proofs.lemmas.Bool.Decides.{nat_tests}
 use Rattle.first_pass_items.specs.Bytes.{hyphen, colon, pipe}
 use Rattle.first_pass_items.specs.declared.item.Alignment.{Alignment}
@@ -10,8 +12,9 @@ use Rattle.first_pass_lines.specs.Plain.{begins_inert, is_inert}
 use Rattle.first_pass_lines.specs.Places.{line_rest}
 use Rattle.first_pass_lines.specs.Rest.{Rest, after_columns, indent}
 use Rattle.first_pass_scan.proofs.PlainFacts.{inert_after, inert_indent}
-use Rattle.first_pass_table_scan.specs.TableHead.{delimiter_row_of, head_columns}
-use Rattle.first_pass_table_scan.proofs.DelimiterRows.{row_of-refused}
+use Rattle.first_pass_table_scan.specs.TableHead.{is_pipe, delimiter_row_of, head_columns}
+use Rattle.first_pass_table_scan.proofs.DelimiterRows.{row_of-refused, row_of-some}
+use Rattle.first_pass_table_scan.proofs.HeaderRows.{head-unpiped}
 use Rattle.first_pass_grammar.specs.declared.kind.Container.{Container}
 use Rattle.first_pass_grammar.specs.Containers.{after}
 use Rattle.first_pass_grammar.specs.TableHeads.{if_as_many, table_at}
@@ -52,3 +55,24 @@ no_head path bs next is h =
     let none = row_by (after path r) r (λ q e. inert_path path r q refl on.0 e) (row_none r refl on.0 off.0 off.1) in
     ap (λ (bytes : List ℕ). option_and_then (if_as_many (head_columns bs)) (option_and_then delimiter_row_of (after path (line_rest bytes)))) (sym is)
     ∙ ap (option_and_then (if_as_many (head_columns bs))) none
+
+cases_row : (o : Option (List Alignment)) → (o ≡ None) ⊎ ((xs : List Alignment) × (o ≡ Some xs))
+cases_row None = inl refl
+cases_row (Some xs) = inr (xs, refl)
+
+-- a line without a pipe heads no table either
+no_columns : (o : Option Rest) (columns : ℕ) → columns ≡ 0 → option_and_then (if_as_many columns) (option_and_then delimiter_row_of o) ≡ None
+no_columns None columns h = refl
+no_columns (Some r) columns h =
+    elim (cases_row (delimiter_row_of r)) [
+      | inl none ↦ ap (option_and_then (if_as_many columns)) none
+      | inr some ↦
+          let long = row_of-some r some.0 some.1 in
+          let other : (length some.0 == columns) ≡ false = ne_eqb (length some.0) columns (λ same. omega arith) in
+          ap (option_and_then (if_as_many columns)) some.1 ∙ ap (λ (t : Bool). if t then Some some.0 else None) other
+    ]
+
+pub no_pipe : (path : List Container) (bs row : List ℕ) → row ≡ take (line_len bs) bs → list_any is_pipe row ≡ false → table_at path bs ≡ None
+unfolding table_at
+no_pipe path bs row is h =
+    no_columns (after path (line_rest (drop (line_len bs) bs))) (head_columns bs) (head-unpiped bs (ap (list_any is_pipe) (sym is) ∙ h))

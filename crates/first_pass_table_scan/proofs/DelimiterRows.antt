@@ -177,6 +177,12 @@ row-some bs xs h =
     let cells : List ℕ = without_last pipe (without_first pipe row) in
     cells-some cells xs (if_some (nat_le (columns_of bs 0) 3 && list_any is_pipe row) (delimiter_cells cells) xs h)
 
+pub row_of-some : (r : Rest) (xs : List Alignment) → delimiter_row_of r ≡ Some xs → 0 < length xs
+unfolding delimiter_row_of
+row_of-some r xs h =
+    let row : List ℕ = (after_columns (indent r) r).left in
+    row-some row xs (if_some (nat_lt (indent r) 4) (delimiter_row row) xs h)
+
 -- the alignments of a table head that was scanned
 head-cases : (n : ℕ) (o : Option (List Alignment)) (size : ℕ) (xs : List Alignment)
     → ◌≡◌ {A = ℕ × List Alignment} (size, xs) (option_map_or (λ columns. (n, columns)) o (0, [])) → ((xs ≡ []) × (o ≡ None)) ⊎ (o ≡ Some xs)

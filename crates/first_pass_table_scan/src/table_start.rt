@@ -2,7 +2,7 @@
 //! indentation of a line (GFM 4.10).
 
 ghost use Rattle.std.specs.Option.{option_map, option_map_or};
-ghost use Rattle.std.specs.List.{take_while};
+ghost use Rattle.std.specs.List.{take_while, list_any};
 ghost use Rattle.std.specs.Prelude.{◌≡◌, ◌≤◌, ℕ, ◌+◌, ◌-◌, ◌==◌, ◌&&◌, ◌||◌, not, nat_lt, length, slice_index, Some, IfOk};
 ghost use Rattle.first_pass_items.specs.Bytes.{hyphen, colon, backslash, pipe};
 ghost use Rattle.first_pass_lines.specs.Lines.{begins, is_content};
@@ -30,6 +30,14 @@ pub fn scan_head_columns(bytes: &[u8]) -> usize
         return 0;
     }
     count_header_cols(bytes, pipes, 0, end - 1)
+}
+
+/// Returns whether a pipe is among the bytes. Without one, a line is no header row of a table. GFM 4.10.
+#[inline(always)]
+pub fn has_pipe(bytes: &[u8]) -> bool
+    ensures { result ≡ list_any is_pipe bytes.now }
+{
+    cell_len(bytes) < bytes.len()
 }
 
 // Whether the byte, at an offset of a row, is a pipe and the byte before it is not a backslash.
