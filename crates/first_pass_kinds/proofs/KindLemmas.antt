@@ -120,6 +120,7 @@ past_columns text start r taken columns c =
     let w = j.within in
     (omega arith, j.left ∙ ap (λ n. drop n text) (sym e))
 
+-- the metadata block after these columns, or none
 pub found_early : (text : List ℕ) (start : ℕ) (r : Rest) (taken columns : ℕ) (options : Options) (m : Option ℕ)
     → ColumnsTaken text start r taken columns → m ≡ metadata_at columns options (drop (start + taken) text) → AfterMetadata options r m
 found_early text start r taken columns options m c m_is =

@@ -158,6 +158,7 @@ pub record IsTightening (old : Forest Item) (depth from to at : ℕ) (now : Fore
   pub depths_stay : depths now.nodes ≡ depths old.nodes
   pub tight : (f : Forest Item) → old ≡ tight_from f depth to → now ≡ tight_from f depth at
 
+-- the walk one node further back
 pub tightening_next : (old now next : Forest Item) (depth from to at : ℕ) → to ≤ length old.nodes
     → ((j : ℕ) → from ≤ j → j < to → depth < slice_index (depths old.nodes) j) → from < at → IsTightening old depth from to at now
     → next ≡ with_tight_node now depth (record { 0 = at - 1 }) → IsTightening old depth from to (at - 1) next
@@ -206,6 +207,7 @@ walk_begins f list depth at l d e =
       tight = ap (λ (ns : List (ℕ × Item)). record f { nodes = ns }) (sym n);
     }
 
+-- its place is among the nodes, or at their end
 pub walk_within : (f g : Forest Item) (list depth at : ℕ) → IsTightFrom f list depth at g → at ≤ length g.nodes
 walk_within f g list depth at h =
     let l = h.there in
