@@ -15,12 +15,12 @@ use Rattle.first_pass_tokens.proofs.ChainLemmas.{chained-spine, chained-nodes, c
 use Rattle.first_pass_grammar.specs.Leaves.{marker_items}
 use Rattle.first_pass_open.specs.OpenBlock.{with_child, closed_by, IsJustPushed}
 
--- the node that was opened is after all earlier nodes
+-- The node that was opened follows all earlier nodes, so its index is their number.
 pub opened_is : (g p : Forest Item) (x : Item) (ix : TreeIndex) → ix.0 ≡ length g.nodes → p ≡ pushed (appended g x) (record { 0 = length g.nodes })
     → p ≡ pushed (appended g x) ix
 opened_is g p x ix at is = is ∙ ap (λ (n : ℕ). pushed (appended g x) (record { 0 = n })) (sym at)
 
--- it was just opened
+-- Directly after it is opened, a node is as `IsJustPushed` says.
 pub just_pushed : (g p : Forest Item) (x : Item) (ix : TreeIndex) → ix.0 ≡ length g.nodes → p ≡ pushed (appended g x) ix → IsJustPushed p ix
 just_pushed g p x ix at is =
     let n : length p.nodes ≡ length g.nodes + 1 = ap (λ (v : Forest Item). length v.nodes) is ∙ length-append g.nodes ((length g.spine + 1, x) ∷ []) in
@@ -31,13 +31,13 @@ just_pushed g p x ix at is =
       none = ap (λ (v : Forest Item). v.current) is;
     }
 
--- a marker before a chain
+-- If a marker is appended before a chain, both are one chain.
 pub marked_chain : (p m n : Forest Item) (marker : Option Item) (chain : List Item)
     → m ≡ with_child p marker → n ≡ chained m chain → n ≡ chained p (marker_items marker ++ chain)
 marked_chain p m n None chain e f = f ∙ ap (λ v. chained v chain) e
 marked_chain p m n (Some x) chain e f = f ∙ ap (λ v. chained v chain) e ∙ chained-append p (x ∷ []) chain
 
--- the nodes of a tree with an open block
+-- The nodes of a tree in which a block is open and has a chain.
 opened_nodes : (g : Forest Item) (x : Item) (chain : List Item) (ix : TreeIndex)
     → (chained (pushed (appended g x) ix) chain).nodes ≡ g.nodes ++ (length g.spine + 1, x) ∷ at_depth (length g.spine + 2) (leaves chain)
 opened_nodes g x chain ix =
@@ -71,21 +71,21 @@ module _ (g n : Forest Item) (x : Item) (chain : List Item) (ix : TreeIndex) (at
   closed_at : (e : ℕ) → closed_by n e n.spine ≡ modified (popped (chained (pushed (appended g x) ix) chain) ix g.spine) ix (λ y. record y { «end» = e })
   closed_at e = ap (closed_by n e) spine_is ∙ ap (λ v. closed_by v e (ix ∷ g.spine)) filled
 
-  -- closed at its end
+  -- If the open block is closed with an end, the whole block is added to the tree as it was before.
   pub block_closed : (new : Forest Item) (e : ℕ) → new ≡ closed_by n e n.spine → new ≡ added g (block_of (record x { «end» = e }) (leaves chain))
   block_closed new e new_is = new_is ∙ closed_at e ∙ closed-chained g x (λ y. record y { «end» = e }) chain ix at
 
   pub open_place_of : slice_get n.spine 0 ≡ Some ix
   open_place_of = ap (λ (spine : List TreeIndex). slice_get spine 0) spine_is
 
-  -- its item
+  -- The item of the open block is the one that was appended.
   pub open_item_of : item_at n ix ≡ Some x
   open_item_of =
       ap (λ (v : Forest Item). item_at v ix) filled
       ∙ ap (λ (ns : List (ℕ × Item)). option_map (λ (z : ℕ × Item). z.1) (slice_get ns ix.0)) (opened_nodes g x chain ix)
       ∙ ap (option_map (λ (z : ℕ × Item). z.1)) (get_after g.nodes (at_depth (length g.spine + 2) (leaves chain)) (length g.spine + 1, x) ix.0 at)
 
-  -- another kind of block, while it is open
+  -- If the open block gets another body, it is as if it had been opened with that body.
   pub open_named : (body : ItemBody) → with_body_at n ix body ≡ chained (pushed (appended g (record x { body = body })) ix) chain
   open_named body =
       let y : Item = record x { body = body } in
@@ -96,7 +96,7 @@ module _ (g n : Forest Item) (x : Item) (chain : List Item) (ix : TreeIndex) (at
       ∙ modify-at g.nodes kids (length g.spine + 1, x) ix.0 (λ (z : Item). record z { body = body }) at ∙ sym (opened_nodes g y chain ix))
       (chained-spine (pushed (appended g x) ix) chain ∙ sym (chained-spine (pushed (appended g y) ix) chain)) (same_current g x y chain ix)
 
--- the innermost open node is a node
+-- The innermost open node is among the nodes.
 pub open_place_in : (f : Forest Item) (ix : TreeIndex) (rest : List TreeIndex) → IsForest f → f.spine ≡ ix ∷ rest → ix.0 < length f.nodes
 open_place_in f ix rest forest e =
     let p : IsOpenPath (depths f.nodes) (ix ∷ rest) = subst (IsOpenPath (depths f.nodes)) e forest.opened in

@@ -23,13 +23,14 @@ stop_by : (c : Container) (path : List Container) (r q : Rest) → after path r 
 unfolding at_definition after
 stop_by c path r q some none = rw some (rw none (and-true (is_definition c)))
 
--- the first open node that a line does not continue
+-- If the line continues a path, but not the node directly inside it, this node alone decides whether the line stops at
+-- a definition.
 stop_at : (o : Option Container) (path : List Container) (r q : Rest)
     → after path r ≡ Some q → prefix_of o q ≡ None → at_definition (with_container o path) r ≡ is_definition_node o
 stop_at None path r q some none = cc
 stop_at (Some c) path r q some none = stop_by c path r q some none
 
--- an open node further inside
+-- If the line does not continue a path, a node inside the path makes no difference to that.
 stop_kept : (o : Option Container) (path : List Container) (r : Rest) → after path r ≡ None → at_definition (with_container o path) r ≡ at_definition path r
 unfolding at_definition
 stop_kept None path r none = refl
@@ -46,7 +47,7 @@ stop_more options ns spine i r (suc d) h none =
     ∙ stop_kept (container_at options ns (get_or (reverse spine) (i + d) root)) (path_to options ns spine (i + d)) r (none (i + d) (omega arith) (omega arith))
     ∙ stop_more options ns spine i r d (omega arith) none
 
--- A line continues only the outermost i open nodes.
+-- A line continues the outermost i open nodes and no more, and q is the rest after their prefixes.
 pub record IsKept (options : Options) (f : Forest Item) (i : ℕ) (r q : Rest) : Type 0 where
   pub within : i ≤ length f.spine
   pub taken : after (path_in options f.nodes (outer i f.spine)) r ≡ Some q
@@ -55,7 +56,7 @@ pub record IsKept (options : Options) (f : Forest Item) (i : ℕ) (r q : Rest) :
 all_path : (options : Options) (f : Forest Item) → path_to options f.nodes f.spine (length f.spine) ≡ path_in options f.nodes f.spine
 all_path options f = ap (path_in options f.nodes) (outer-all f.spine)
 
--- it continues all of them
+-- If the line continues all open nodes, `continued_to` is as the grammar has it.
 all_kept : (options : Options) (f : Forest Item) (i : ℕ) (r q : Rest) → IsKept options f i r q → length f.spine ≤ i
     → continued_to options f i ≡ continued (path_in options f.nodes f.spine) r
 all_kept options f i r q k h =
@@ -72,7 +73,7 @@ all_kept options f i r q k h =
     ∙ sym (whole_none (path_in options f.nodes f.spine) r (ap is_some some)) in
     cc
 
--- it does not
+-- If it does not continue all of them, `continued_to` is as the grammar has it too.
 some_kept : (options : Options) (f : Forest Item) (i : ℕ) (r q : Rest) → IsKept options f i r q → i < length f.spine
     → continued_to options f i ≡ continued (path_in options f.nodes f.spine) r
 some_kept options f i r q k h =

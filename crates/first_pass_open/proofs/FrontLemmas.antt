@@ -51,7 +51,7 @@ outer-none spine = let z : length spine - 0 ≡ length spine = omega arith in ap
 pub outer-all : (spine : List TreeIndex) → outer (length spine) spine ≡ spine
 outer-all spine = let z : length spine - length spine ≡ 0 = omega arith in ap (λ k. drop k spine) z
 
--- the path with one more open node
+-- the containers among the outermost m open nodes, the innermost first
 abbrev pub path_to : (options : Options) → List (ℕ × Item) → List TreeIndex → ℕ → List Container
 path_to options ns spine m = path_in options ns (outer m spine)
 
@@ -59,14 +59,14 @@ pub path_to-more : (options : Options) (ns : List (ℕ × Item)) (spine : List T
     → i < length spine → path_to options ns spine (i + 1) ≡ with_container (container_at options ns (get_or (reverse spine) i x)) (path_to options ns spine i)
 path_to-more options ns spine i x h = ap (path_in options ns) (outer-more spine i x h)
 
--- one more open node
+-- If the line continues the outermost i open nodes, the prefix of the next is what decides for one more.
 pub taken_more : (options : Options) (ns : List (ℕ × Item)) (spine : List TreeIndex) (i : ℕ) (x : TreeIndex) (r q : Rest)
     → i < length spine → after (path_to options ns spine i) r ≡ Some q
     → after (path_to options ns spine (i + 1)) r ≡ prefix_of (container_at options ns (get_or (reverse spine) i x)) q
 taken_more options ns spine i x r q h e = ap (λ c. after c r) (path_to-more options ns spine i x h)
     ∙ after_step (container_at options ns (get_or (reverse spine) i x)) (path_to options ns spine i) r q e
 
--- A line that does not continue a path continues no longer one.
+-- A line that does not continue the outermost i open nodes does not continue more of them.
 stops_by : (options : Options) (ns : List (ℕ × Item)) (spine : List TreeIndex) (i : ℕ) (x : TreeIndex) (r : Rest) (d : ℕ)
     → i + d ≤ length spine → after (path_to options ns spine i) r ≡ None → after (path_to options ns spine (i + d)) r ≡ None
 stops_by options ns spine i x r zero h e = let z : i + 0 ≡ i = omega arith in rw z e
@@ -97,7 +97,7 @@ front_by options ns spine i x r q (suc d) h e s =
     ∙ front_short (container_at options ns (get_or (reverse spine) (i + d) x)) (path_to options ns spine (i + d)) r none
     ∙ front_by options ns spine i x r q d (omega arith) e s
 
--- the longest start of the path that the line continues is the front
+-- If the line continues the outermost i open nodes and no more, the rest after their prefixes is the front.
 pub front_is : (options : Options) (ns : List (ℕ × Item)) (spine : List TreeIndex) (i : ℕ) (r q : Rest)
     → i ≤ length spine → after (path_to options ns spine i) r ≡ Some q
     → ((m : ℕ) → i < m → m ≤ length spine → after (path_to options ns spine m) r ≡ None) → front (path_in options ns spine) r ≡ q
@@ -106,7 +106,7 @@ front_is options ns spine i r q h e s =
     ap (λ c. front (path_in options ns c) r) (sym (outer-all spine)) ∙ ap (λ m. front (path_to options ns spine m) r) (sym z)
     ∙ front_by options ns spine i (record { 0 = 0 }) r q (length spine - i) (omega arith) e s
 
--- an open node is in the tree
+-- Each open node is among the nodes of the tree.
 pub open_within : (ns : List (ℕ × Item)) (spine : List TreeIndex) (k : ℕ) (x : TreeIndex)
     → IsOpenPath (depths ns) spine → k < length spine → (get_or spine k x).0 < length ns
 open_within ns [] k x o h = absurd (omega arith)
@@ -122,24 +122,24 @@ container_of_node : (options : Options) (n : Option (ℕ × Item)) (item : Item)
 container_of_node options None item e = cc
 container_of_node options (Some n) item e = ap (λ o. elim o [ None ↦ None | Some x ↦ container_of options x.body ]) e
 
--- the container of an item of the tree
+-- The container at a place is that of the item there.
 pub container_is : (options : Options) (ns : List (ℕ × Item)) (ix : TreeIndex) (item : Item)
     → option_map (λ n. n.1) (slice_get ns ix.0) ≡ Some item → container_at options ns ix ≡ container_of options item.body
 container_is options ns ix item e = container_of_node options (slice_get ns ix.0) item e
 
--- the prefix is not there
+-- If `takes_prefix` returns `false`, the prefix is not there, and nothing was taken.
 pub isnt_taken : (o : Option Rest) (b : Bool) (old new : Rest)
     → b ≡ false → MatchOption o ((b ≡ false) × (new ≡ old)) (λ next. (b ≡ true) × (new ≡ next)) → (o ≡ None) × (new ≡ old)
 isnt_taken None b old new e m = (refl, m.1)
 isnt_taken (Some r) b old new e (t, m) = let z : false ≡ true = sym e ∙ t in (cc, cc)
 
--- the prefix is there
+-- If `takes_prefix` returns `true`, the prefix is there and was taken.
 pub is_taken : (o : Option Rest) (b : Bool) (old new : Rest)
     → b ≡ true → MatchOption o ((b ≡ false) × (new ≡ old)) (λ next. (b ≡ true) × (new ≡ next)) → o ≡ Some new
 is_taken None b old new e (t, m) = let z : true ≡ false = sym e ∙ t in cc
 is_taken (Some r) b old new e m = ap Some (sym m.1)
 
--- before the first open node
+-- Every line continues the outermost 0 open nodes, and nothing is taken.
 pub taken_none : (options : Options) (ns : List (ℕ × Item)) (spine : List TreeIndex) (r : Rest) → after (path_in options ns (outer 0 spine)) r ≡ Some r
 taken_none options ns spine r = ap (λ s. after (path_in options ns s) r) (outer-none spine) ∙ after_none r
 
@@ -149,13 +149,13 @@ root = record { 0 = 0 }
 pub in_spine : (spine places : List TreeIndex) (i : ℕ) → places ≡ reverse spine → i < length places → i < length spine
 in_spine spine places i e h = subst (λ n. i < n) (ap length e ∙ length-reverse spine) h
 
--- an open node, counted from the outermost on
+-- Each open node is among the nodes, if the open nodes are listed from the outermost on.
 pub place_within : (ns : List (ℕ × Item)) (spine places : List TreeIndex) (i : ℕ)
     → IsOpenPath (depths ns) spine → places ≡ reverse spine → i < length places → (get_or places i root).0 < length ns
 place_within ns spine places i o e h =
     subst (λ (xs : List TreeIndex). (get_or xs i root).0 < length ns) (sym e) (open_at ns spine i root o (in_spine spine places i e h))
 
--- the prefix of the next open node
+-- The rest after one more open node is what the prefix of its item leaves.
 pub node_taken : (options : Options) (ns : List (ℕ × Item)) (spine places : List TreeIndex) (i : ℕ) (item : Item) (r q : Rest)
     → places ≡ reverse spine → i < length places
     → option_map (λ n. n.1) (slice_get ns (get_or places i root).0) ≡ Some item → after (path_in options ns (outer i spine)) r ≡ Some q

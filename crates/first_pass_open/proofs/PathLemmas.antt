@@ -1,4 +1,4 @@
--- The containers among the open nodes, as the tree grows and nodes are closed.
+-- The containers among the open nodes, while nodes are added and opened; and a path at the end of the text.
 use Rattle.std.proofs.Common.{◌≡◌, ◌⊎◌, inl, inr, ℕ, zero, suc, ◌+◌, ◌<◌, ◌≤◌, nat_le, ◌||◌, Bool, true, false, List, [], ◌∷◌, ◌++◌, length, slice_get}
 use Rattle.std.proofs.Common.{Option}
 use Rattle.std.proofs.Common.{Some, None, refl, ap, subst, ◌∙◌, arith, length-append}
@@ -21,7 +21,7 @@ use Rattle.first_pass_grammar.specs.Containers.{has_columns, prefix, after, or_s
 use Rattle.first_pass_open.specs.Path.{container_of, container_at, prefix_of, with_container, path_in, path_of}
 use Rattle.first_pass_items.specs.declared.option_set.Options.{Options}
 
--- each of these places is one of n
+-- each of these open nodes is one of the first n nodes
 abbrev pub AreIn : ℕ → List TreeIndex → Type 0
 AreIn n [] = Unit {0}
 AreIn n (ix ∷ spine) = (ix.0 < n) × AreIn n spine
@@ -35,7 +35,7 @@ get_front [] more i h = absurd (omega arith)
 get_front (n ∷ ns) more zero h = refl
 get_front (n ∷ ns) more (suc i) h = get_front ns more i (omega arith)
 
--- more nodes after these
+-- More nodes after these do not change the path.
 pub path_in-append : (options : Options) (ns more : List (ℕ × Item)) (spine : List TreeIndex)
     → AreIn (length ns) spine → path_in options (ns ++ more) spine ≡ path_in options ns spine
 path_in-append options ns more [] a = refl
@@ -44,7 +44,7 @@ path_in-append options ns more (ix ∷ spine) a =
     (get_front ns more ix.0 a.0)
     ∙ ap (with_container (container_at options ns ix)) (path_in-append options ns more spine a.1)
 
--- a chain in the innermost open node
+-- A chain in the innermost open node does not change the path.
 pub path_of-chained : (options : Options) (f : Forest Item) (chain : List Item)
     → AreIn (length f.nodes) f.spine → path_of options (chained f chain) ≡ path_of options f
 path_of-chained options f chain a =
@@ -76,13 +76,13 @@ item-end n =
     let h : has_columns n (line_rest []) ≡ true = ap (λ (r : Rest). nat_le n (indent (line_rest [])) || at_line_end r.left) e ∙ or_true (nat_le n 0) in
     item_prefix n (line_rest []) h ∙ ap (λ r. Some r) e
 
--- a list item or a definition, whose prefix is these columns
+-- The prefix of a list item or a definition with n columns is that of a list item with n columns.
 pub columns_prefix : (options : Options) (body : ItemBody) (n : ℕ) (r : Rest) → (body ≡ ListItemBody n) ⊎ (body ≡ DefinitionListDefinition n)
     → prefix_of (container_of options body) r ≡ prefix (ListItem n) r
 columns_prefix options body n r (inl e) = ap (λ b. prefix_of (container_of options b) r) e
 columns_prefix options body n r (inr e) = ap (λ b. prefix_of (container_of options b) r) e ∙ definition_prefix n r
 
--- At the end of the text, the line continues a path and takes nothing, or does not continue it.
+-- At the end of the text, a path is continued and nothing is taken, or it is not continued.
 pub after-end : (path : List Container) → (after path (line_rest []) ≡ None) ⊎ (after path (line_rest []) ≡ Some (line_rest []))
 unfolding after prefix
 after-end [] = inr refl
@@ -113,7 +113,7 @@ get_last [] x (suc i) h = absurd (omega arith)
 get_last (n ∷ ns) x zero h = absurd (omega arith)
 get_last (n ∷ ns) x (suc i) h = get_last ns x i (omega arith)
 
--- a node that was just opened
+-- If a node is opened, its container is added to the path, if it is one.
 pub path_of-opened : (options : Options) (g : Forest Item) (x : Item) (ix : TreeIndex) → ix.0 ≡ length g.nodes → AreIn (length g.nodes) g.spine
     → path_of options (pushed (appended g x) ix) ≡ with_container (container_of options x.body) (path_of options g)
 path_of-opened options g x ix at a =

@@ -1,4 +1,4 @@
--- Facts on places after a line's indentation.
+-- What is taken from a line, indentation, prefixes or markers, ends at a place of the text in the same line.
 use Rattle.std.proofs.Common.{◌≡◌, inl, inr, ◌≤◌, ℕ, ◌+◌, ◌-◌, ◌<◌, zero, suc, nat_lt, Bool, true, false, if◌then◌else◌, List, [], ◌∷◌, length, drop}
 use Rattle.std.proofs.Common.{MatchOption, Option, Some, None, IsUtf8, IsCharBoundary, refl, sym, ap, subst, ◌∙◌, arith}
 use Rattle.std.proofs.lemmas.List.{length-drop}
@@ -32,12 +32,12 @@ all_by : (k : ℕ) (r : Rest) (o : Option Rest)
 all_by k r None e f = ap (λ s. after_columns (indent s) s) (after-none (suc k) r e)
 all_by k r (Some s) e f = ap (λ t. after_columns (indent t) t) (after-more (suc k) k r s refl e) ∙ f s ∙ all-more r s e
 
--- all columns, after some of them are taken
+-- It makes no difference if some of the columns are taken before all others.
 pub all_after : (k : ℕ) (r : Rest) → after_columns (indent (after_columns k r)) (after_columns k r) ≡ after_columns (indent r) r
 all_after zero r = refl
 all_after (suc k) r = all_by k r (next_column r) refl (λ s. all_after k s)
 
--- after all columns
+-- The place after all columns is a place of the text.
 pub all_keep : (text : List ℕ) (line : ℕ) (r : Rest) → IsUtf8 text → IsPlaceOf text (place_at line r) → IsPlaceOf text (place_at line (all_taken r))
 all_keep text line r u i = columns_keep text (indent r) (place_at line r) u i
 
@@ -52,7 +52,7 @@ quote_prefix text line r (Some t) s u q e i =
       ap (λ z. line_end (place_at line z)) (sym f) ∙ columns_line_end 1 (place_at line t) ∙ quote_line_end line r t q,
     )
 
--- after the columns of a container, as many as it needs or fewer
+-- The place after the columns of a container is one of the text, in the same line.
 columns_prefix : (text : List ℕ) (line n : ℕ) (r s : Rest)
     → IsUtf8 text → (if has_columns n r then Some (after_columns n r) else None) ≡ Some s → IsPlaceOf text (place_at line r)
     → IsPlaceOf text (place_at line s) × (line_end (place_at line s) ≡ line_end (place_at line r))
@@ -62,7 +62,7 @@ columns_prefix text line n r s u e i =
       ap (λ z. line_end (place_at line z)) (sym f) ∙ columns_line_end n (place_at line r),
     )
 
--- after a prefix
+-- The place after a prefix is one of the text, in the same line.
 pub prefix_keeps : (text : List ℕ) (line : ℕ) (c : Container) (r s : Rest) → IsUtf8 text → prefix c r ≡ Some s → IsPlaceOf text (place_at line r)
     → IsPlaceOf text (place_at line s) × (line_end (place_at line s) ≡ line_end (place_at line r))
 unfolding prefix
@@ -82,7 +82,7 @@ after_by text line c r s (Some q) u e f =
     let h = prefix_keeps text line c q s u e g.0 in
     (h.0, h.1 ∙ g.1)
 
--- after the prefixes of a path
+-- The place after the prefixes of a path is one of the text, in the same line.
 pub after_keeps : (text : List ℕ) (line : ℕ) (path : List Container) (r s : Rest) → IsUtf8 text → after path r ≡ Some s → IsPlaceOf text (place_at line r)
     → IsPlaceOf text (place_at line s) × (line_end (place_at line s) ≡ line_end (place_at line r))
 unfolding after
@@ -95,14 +95,14 @@ front_by : (text : List ℕ) (line : ℕ) (path : List Container) (r q : Rest) (
 front_by text line path r q None u e i f = f
 front_by text line path r q (Some s) u e i f = after_keeps text line path r s u e i
 
--- after the prefixes that are on the line
+-- The place at the front of a line is one of the text, in the same line.
 pub front_keeps : (text : List ℕ) (line : ℕ) (path : List Container) (r : Rest) → IsUtf8 text → IsPlaceOf text (place_at line r)
     → IsPlaceOf text (place_at line (front path r)) × (line_end (place_at line (front path r)) ≡ line_end (place_at line r))
 unfolding front
 front_keeps text line [] r u i = (i, refl)
 front_keeps text line (c ∷ path) r u i = front_by text line (c ∷ path) r (front path r) (after (c ∷ path) r) u refl i (front_keeps text line path r u i)
 
--- the text of a line after the prefixes that are on it
+-- The place after the indentation of the front is one of the text, in the same line.
 pub text_place : (text : List ℕ) (s : ℕ) (path : List Container) → IsUtf8 text → IsCharBoundary text s
     → (
     let r : Rest = front path (line_rest (drop s text)) in
@@ -113,7 +113,7 @@ text_place text s path u b =
     let z : s + 0 ≡ s = omega arith in
     (all_keep text s r u f.0, columns_line_end (indent r) (place_at s r) ∙ f.1 ∙ ap (λ k. k + line_len (drop s text)) z)
 
--- the marker of a block quote has a byte
+-- A block quote marker takes a byte.
 pub quote_less : (r s : Rest) (o : Option Rest) → past_quote r ≡ o → option_map (after_columns 1) o ≡ Some s → length s.left < length r.left
 quote_less r s None q e = absurd (none-some s e)
 quote_less r s (Some t) q e =
@@ -131,7 +131,7 @@ quote_prefix_shorter r s e =
     let b = columns_shorter 3 r in
     omega arith
 
--- the result for a marker that was taken
+-- If a block quote marker was found, this is the place after it, and the number of bytes before it.
 pub quote_taken : (o : Option Rest) (found : Option ℕ) (n at : ℕ) (old new : Rest)
     → found ≡ Some at → MatchOption o ((found ≡ None) × (new ≡ old)) (λ next. (found ≡ Some n) × (new ≡ next)) → (o ≡ Some new) × (at ≡ n)
 quote_taken None found n at old new e m = let z : None ≡ Some at = sym m.0 ∙ e in (cc, cc)
@@ -142,7 +142,7 @@ pub quote_absent : (o : Option Rest) (found : Option ℕ) (n : ℕ) (old new : R
 quote_absent None found n old new e m = (refl, m.1)
 quote_absent (Some r) found n old new e m = let z : None ≡ Some n = sym e ∙ m.0 in (cc, cc)
 
--- the offset of reading after a part taken at a place
+-- The offset after a part is taken at a place is the same, computed from either of two equal places.
 pub read_to : (f : Rest → Rest) (n : ℕ) (p q : Place) (s : Rest)
     → n ≡ offset (place_at q.line s) → s ≡ f q.rest → q ≡ p → n ≡ offset (place_at p.line (f p.rest))
 read_to f n p q s is rest same = is ∙ ap (λ (r : Rest). q.line + r.taken) rest ∙ ap (λ (z : Place). z.line + (f z.rest).taken) same
@@ -161,11 +161,11 @@ place_end text p u i = elim (cases_lt 0 (length p.rest.left)) [
   | inr none ↦ (let e = end_empty p none in subst (IsCharBoundary text) (sym e) i.boundary)
 ]
 
--- the end of the line at an offset
+-- The end of the line that begins at an offset is the offset and the length of the line.
 pub line_start_end : (text : List ℕ) (start : ℕ) → line_end (place_at start (line_rest (drop start text))) ≡ start + line_len (drop start text)
 line_start_end text start = let z : start + 0 ≡ start = omega arith in ap (λ k. k + line_len (drop start text)) z
 
--- the result for the marker of a list item that was taken
+-- If a list item begins here, its marker follows the indentation.
 item_by : (t : Bool) (r : Rest) (item : (ℕ × ℕ × ℕ) × Rest)
     → (if t then item_of (indent r) (all_taken r) else None) ≡ Some item → item_of (indent r) (all_taken r) ≡ Some item
 item_by true r item h = h
@@ -175,7 +175,7 @@ item_marked : (r : Rest) (item : (ℕ × ℕ × ℕ) × Rest) → item_at r ≡ 
 unfolding item_at
 item_marked r item h = item-marked (indent r) (all_taken r) item (item_by (nat_lt (indent r) 4) r item h)
 
--- after a list item's marker
+-- The place after a list item's marker is one of the text, in the same line.
 pub item_keeps : (text : List ℕ) (line : ℕ) (r : Rest) (item : (ℕ × ℕ × ℕ) × Rest) → IsUtf8 text → item_at r ≡ Some item → IsPlaceOf text (place_at line r)
     → IsPlaceOf text (place_at line item.1) × (line_end (place_at line item.1) ≡ line_end (place_at line r))
 item_keeps text line r item u h i =
@@ -203,7 +203,7 @@ item_shorter r item h =
     let a = columns_shorter (indent r) r in
     omega arith
 
--- the result for the marker of a definition that was taken
+-- If a definition begins here, its marker follows the indentation.
 definition_by : (t : Bool) (r : Rest) (definition : ℕ × Rest)
     → (if t then definition_of (indent r) (all_taken r) else None) ≡ Some definition → definition_of (indent r) (all_taken r) ≡ Some definition
 definition_by true r definition h = h
@@ -213,7 +213,7 @@ marked_definition : (r : Rest) (definition : ℕ × Rest) → definition_marker_
 unfolding definition_marker_at
 marked_definition r definition h = definition-marked (indent r) (all_taken r) definition (definition_by (nat_lt (indent r) 4) r definition h)
 
--- after a definition's marker
+-- The place after a definition's marker is one of the text, in the same line.
 pub definition_keeps : (text : List ℕ) (line : ℕ) (r : Rest) (definition : ℕ × Rest)
     → IsUtf8 text → definition_marker_at r ≡ Some definition → IsPlaceOf text (place_at line r)
     → IsPlaceOf text (place_at line definition.1) × (line_end (place_at line definition.1) ≡ line_end (place_at line r))
@@ -229,7 +229,7 @@ definition_shorter r definition h =
     let a = columns_shorter (indent r) r in
     omega arith
 
--- after a task list item marker
+-- The place after a task list item marker is one of the text, in the same line, with no more bytes left than before.
 pub task_keeps : (text : List ℕ) (line : ℕ) (r : Rest) (task : Bool × Rest) → IsUtf8 text → task_of r ≡ Some task → IsPlaceOf text (place_at line r)
     → IsPlaceOf text (place_at line task.1) × (line_end (place_at line task.1) ≡ line_end (place_at line r)) × (length task.1.left ≤ length r.left)
 task_keeps text line r task u h i =
@@ -253,7 +253,7 @@ task_found None found checked old new e h = (let z : None ≡ Some checked = sym
 task_found (Some task) found checked old new e h = (let z : Some task.0 ≡ Some checked = sym h.0 ∙ e in let w : task.0 ≡ checked = cc in
     ap (λ k. Some (k, task.1)) w ∙ ap (λ (q : Rest). Some (checked, q)) (sym h.1))
 
--- after the markers of an item, or after the first if there is no other or the option is off
+-- The place after a task list item marker, if there is one, is one of the text, in the same line.
 following_by : (text : List ℕ) (line : ℕ) (r : Rest) (o : Option (Bool × Rest))
     → ((task : Bool × Rest) → o ≡ Some task → task_of r ≡ Some task) → IsUtf8 text → IsPlaceOf text (place_at line r)
     → (
@@ -273,7 +273,8 @@ pub past_keeps : (text : List ℕ) (options : Options) (line : ℕ) (r : Rest) �
 past_keeps text options line r u i =
     following_by text line r (if has options 16 then task_of r else None) (λ task h. option_on (has options 16) (task_of r) task h) u i
 
--- after the markers of an item
+-- The place after an item's marker, and after a task list item marker if one follows, is one of the text, in the same
+-- line.
 pub markers_keep : (text : List ℕ) (options : Options) (line : ℕ) (r : Rest) (item : (ℕ × ℕ × ℕ) × Rest) (new : Rest)
     → IsUtf8 text → item_at r ≡ Some item → new ≡ (task_after options line item.1).1 → IsPlaceOf text (place_at line r)
     → IsPlaceOf text (place_at line new) × (line_end (place_at line new) ≡ line_end (place_at line r)) × (length new.left < length r.left)
@@ -284,7 +285,7 @@ markers_keep text options line r item new u is rest i =
     let e = ap (λ (q : Rest). length q.left) rest in
     (subst (λ q. IsPlaceOf text (place_at line q)) (sym rest) b.0, ap (λ q. line_end (place_at line q)) rest ∙ b.1 ∙ k.1, let l = b.2 in omega arith)
 
--- the marker after the own marker of an item is that of a task
+-- What is found after an item's own marker is a task list item marker.
 mark_by : (line : ℕ) (r : Rest) (o : Option (Bool × Rest)) (x : Item) → (task_by line r o).0 ≡ Some x → is_task_marker x.body ≡ true
 mark_by line r None x h = cc
 mark_by line r (Some task) x h = (
@@ -294,12 +295,12 @@ mark_by line r (Some task) x h = (
 pub mark_is_task : (options : Options) (line : ℕ) (r : Rest) (x : Item) → (task_after options line r).0 ≡ Some x → is_task_marker x.body ≡ true
 mark_is_task options line r x h = mark_by line r (if has options 16 then task_of r else None) x h
 
--- the end of a line, from the bytes at a place in it
+-- The end of a line can be computed from any place in it.
 pub read_end : (text : List ℕ) (start : ℕ) (r : Rest)
     → IsPlaceOf text (place_at start r) → start + r.taken + line_len (drop (start + r.taken) text) ≡ line_end (place_at start r)
 read_end text start r i = ap (λ bs. start + r.taken + line_len bs) (sym i.left)
 
--- no bytes are past the end of a text
+-- No bytes are past the end of a text.
 pub ends_past : (text : List ℕ) (n : ℕ) → length text ≤ n → drop n text ≡ []
 ends_past [] zero h = refl
 ends_past [] (suc n) h = refl

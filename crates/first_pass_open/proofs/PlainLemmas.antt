@@ -1,4 +1,5 @@
--- If a plain byte is next, no container begins, and the indentation has no columns.
+-- If a plain or an inert byte is next (`is_plain`, `is_inert`), there is no indentation. No list item or block quote
+-- begins there.
 use Rattle.std.proofs.Common.{◌≡◌, ℕ, min, true, false, Bool, List, [], ◌∷◌, Option, Some, None, refl, sym, ap, ◌∙◌, if◌then◌else◌}
 use Rattle.std.specs.Option.{option_and_then}
 use Rattle.std.proofs.lemmas.Option.{none-some}
@@ -38,7 +39,7 @@ taken_if : (t : Bool) (r s q : Rest) → s ≡ r → (if t then Some s else None
 taken_if true r s q e is = same_some r s q e is
 taken_if false r s q e is = absurd (none-some q is)
 
--- a container that such a byte continues takes nothing
+-- If an inert byte is next and the line continues a container, nothing is taken.
 inert_next : (c : Container) (r q : Rest) → r.owed ≡ 0 → begins_inert r.left ≡ true → prefix c r ≡ Some q → q ≡ r
 unfolding prefix
 inert_next (BlockQuote kind) r q o h is = absurd (none-some q (sym (inert_prefix kind r o h) ∙ is))
@@ -51,7 +52,7 @@ inert_then : (c : Container) (o : Option Rest) (r q : Rest) → ((m : Rest) → 
 inert_then c None r q same owed h is = absurd (none-some q is)
 inert_then c (Some m) r q same owed h is = inert_next c r q owed h (sym (ap (prefix c) (same m refl)) ∙ is)
 
--- neither do the containers of a path
+-- If an inert byte is next and the line continues a path, nothing is taken.
 pub inert_path : (path : List Container) (r q : Rest) → r.owed ≡ 0 → begins_inert r.left ≡ true → after path r ≡ Some q → q ≡ r
 unfolding after
 inert_path [] r q o h is = same_some r r q refl is

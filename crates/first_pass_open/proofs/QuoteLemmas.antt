@@ -1,4 +1,4 @@
--- A line that is over continues all open nodes except block quotes.
+-- A line of which only its end is left continues every open node that is no block quote.
 use Rattle.std.proofs.Common.{◌≡◌, ℕ, zero, suc, ◌+◌, ◌-◌, ◌<◌, ◌≤◌, nat_le, ◌||◌, Bool, true, false, List, [], ◌∷◌, ◌++◌, length, get_or, take, reverse}
 use Rattle.std.proofs.Common.{Option, Some, None, refl, sym, ap, subst, ◌∙◌, arith}
 use Rattle.std.specs.Option.{option_map}
@@ -26,7 +26,7 @@ byte_none : (r : Rest) (bs : List ℕ) → at_line_end bs ≡ true → column_of
 byte_none r [] h = refl
 byte_none r (b ∷ bs) h = grind (arith, nat_tests, h)
 
--- a line is over: no column is left, only its end
+-- only the end of the line or of the text is left, and no column is owed
 pub record IsOver (r : Rest) : Type 0 where
   pub none : r.owed ≡ 0
   pub ends : at_line_end r.left ≡ true
@@ -41,7 +41,7 @@ columns_passed n r o =
     ∙ or_true (nat_le n (indent r)) in
     item_prefix n r h ∙ ap (λ q. Some q) e
 
--- such a line continues a container that is no block quote,
+-- Such a line continues a container that is no block quote, and nothing is taken.
 passed : (c : Container) (r : Rest) → IsOver r → is_quote c ≡ false → prefix c r ≡ Some r
 passed (BlockQuote kind) r o h = absurd cc
 passed (ListItem n) r o h = columns_passed n r o
@@ -52,7 +52,7 @@ both_none : (a b : Bool) → (a || b) ≡ false → (a ≡ false) × (b ≡ fals
 both_none true b h = absurd cc
 both_none false b h = (refl, h)
 
--- and a path of such containers inside one that it continues
+-- If such a line is left after a path, it continues also containers inside the path, if none is a block quote.
 path_passed : (p path : List Container) (r s : Rest) → after path r ≡ Some s → IsOver s → has_quote p ≡ false → after (p ++ path) r ≡ Some s
 path_passed [] path r s taken o h = taken
 path_passed (c ∷ p) path r s taken o h =
@@ -75,7 +75,7 @@ quote_append (c ∷ p) q h k =
     let none = both_none (is_quote c) (has_quote p) h in
     ap (λ t. t || has_quote (p ++ q)) none.0 ∙ quote_append p q none.1 k
 
--- nor is a block quote among fewer open nodes
+-- If no block quote is among some open nodes, none is among fewer of them.
 with_fewer : (o : Option Container) (p q : List Container) → has_quote (with_container o p) ≡ false → (has_quote p ≡ false → has_quote q ≡ false)
     → has_quote (with_container o q) ≡ false
 with_fewer None p q h k = k h
@@ -91,7 +91,8 @@ fewer options ns (ix ∷ spine) (suc k) (suc n) h none =
     with_fewer (container_at options ns ix) (path_in options ns (take n spine)) (path_in options ns (take k spine)) none
     (λ bound. fewer options ns spine k n (omega arith) bound)
 
--- A line continues the outermost i open nodes and is over then, and no block quote is open inside those.
+-- Suppose that only the end of a line is left after the prefixes of the outermost i open nodes, and that no block quote
+-- is open inside those. Then the line continues all open nodes, and nothing more is taken.
 pub rest_passed : (options : Options) (f : Forest Item) (n i : ℕ) (r s : Rest) → has_quote_after options f n ≡ false → n ≤ i
     → after (path_in options f.nodes (outer i f.spine)) r ≡ Some s → IsOver s → after (path_of options f) r ≡ Some s
 rest_passed options f n i r s none h taken o =
@@ -105,7 +106,8 @@ one_none : (o : Option Container) → is_quote_node o ≡ false → has_quote (w
 one_none None h = refl
 one_none (Some c) h = ap (λ t. t || false) h
 
--- one more open node, which is no block quote
+-- If no block quote is open inside the outermost n + 1 open nodes, and the innermost of these is none, then none is
+-- open inside the outermost n.
 pub none_after_more : (options : Options) (f : Forest Item) (places : List TreeIndex) (n : ℕ) (item : Item) → places ≡ reverse f.spine → n < length places
     → option_map (λ n. n.1) (slice_get f.nodes (get_or places n root).0) ≡ Some item → is_quote_node (container_of options item.body) ≡ false
     → has_quote_after options f (n + 1) ≡ false → has_quote_after options f n ≡ false
@@ -129,7 +131,7 @@ are_in-take n zero spine a = tt
 are_in-take n (suc k) [] a = tt
 are_in-take n (suc k) (ix ∷ spine) a = (a.0, are_in-take n k spine a.1)
 
--- a chain in the innermost open node makes no difference
+-- A chain in the innermost open node does not change whether a block quote is open inside the outermost n.
 pub quote_after-chained : (options : Options) (f : Forest Item) (chain : List Item) (n : ℕ) → AreIn (length f.nodes) f.spine
     → has_quote_after options (chained f chain) n ≡ has_quote_after options f n
 quote_after-chained options f chain n a =

@@ -14,7 +14,7 @@ use Rattle.first_pass_items.specs.declared.option_set.Options.{Options}
 use Rattle.first_pass_grammar.specs.Containers.{Context, context, footnote_columns, prefix, is_quote, is_definition}
 use Rattle.first_pass_grammar.specs.Kinds.{Continued}
 
--- the container of a node under these options, if it is one
+-- the container that a node with this body is under these options, if it is one
 abbrev pub container_of : Options → ItemBody → Option Container
 container_of options (BlockQuoteBody kind) = Some (BlockQuote kind)
 container_of options (ListItemBody columns) = Some (ListItem columns)
@@ -22,14 +22,16 @@ container_of options (FootnoteDefinitionBody label) = Some (FootnoteDefinition (
 container_of options (DefinitionListDefinition columns) = Some (Definition columns)
 container_of options _ = None
 
+-- the same for the node at a place of the tree
 abbrev pub container_at : Options → List (ℕ × Item) → TreeIndex → Option Container
 container_at options ns ix = option_and_then (container_of options) (body_at ns ix.0)
 
--- every line continues a node that is no container, with an empty prefix
+-- the rest of a line after the prefix of a container; without a container, after an empty prefix, which every line has
 abbrev pub prefix_of : Option Container → Rest → Option Rest
 prefix_of None r = Some r
 prefix_of (Some c) r = prefix c r
 
+-- the path with this container as its innermost one, if it is given
 abbrev pub with_container : Option Container → List Container → List Container
 with_container None path = path
 with_container (Some c) path = c ∷ path
@@ -39,6 +41,7 @@ abbrev pub path_in : Options → List (ℕ × Item) → List TreeIndex → List 
 path_in options ns [] = []
 path_in options ns (ix ∷ spine) = with_container (container_at options ns ix) (path_in options ns spine)
 
+-- all containers among the open nodes of a tree, the innermost first
 abbrev pub path_of : Options → Forest Item → List Container
 path_of options f = path_in options f.nodes f.spine
 
@@ -46,15 +49,15 @@ path_of options f = path_in options f.nodes f.spine
 abbrev pub context_of : Options → Forest Item → Context
 context_of options f = context options (path_of options f)
 
--- the outermost m open nodes
+-- the outermost m of these open nodes, the innermost first
 abbrev pub outer : ℕ → List TreeIndex → List TreeIndex
 outer m spine = drop (length spine - m) spine
 
--- all open nodes except the outermost m, the innermost first (this project)
+-- all of these open nodes except the outermost m, the innermost first (this project)
 abbrev pub inner : ℕ → List TreeIndex → List TreeIndex
 inner m spine = take (length spine - m) spine
 
--- an open node is a block quote (CommonMark 5.1)
+-- an open node, given by its container, is a block quote (CommonMark 5.1)
 abbrev pub is_quote_node : Option Container → Bool
 is_quote_node None = false
 is_quote_node (Some c) = is_quote c
@@ -64,16 +67,16 @@ abbrev pub has_quote : List Container → Bool
 has_quote [] = false
 has_quote (c ∷ path) = is_quote c || has_quote path
 
--- one of the open nodes after the first m, counted from the outermost, is a block quote (CommonMark 5.1)
+-- a block quote is open inside the outermost m open nodes (CommonMark 5.1)
 abbrev pub has_quote_after : Options → Forest Item → ℕ → Bool
 has_quote_after options f m = has_quote (path_in options f.nodes (inner m f.spine))
 
--- an open node is a definition of a definition list (this project)
+-- an open node, given by its container, is a definition of a definition list (this project)
 abbrev pub is_definition_node : Option Container → Bool
 is_definition_node None = false
 is_definition_node (Some c) = is_definition c
 
--- the open node directly inside the outermost n is a definition of a definition list (this project)
+-- the open node directly inside the outermost n open nodes is a definition of a definition list (this project)
 abbrev pub definition_at_depth : Options → Forest Item → ℕ → Bool
 definition_at_depth options f n = is_definition_node (option_and_then (container_at options f.nodes) (slice_get (reverse f.spine) n))
 

@@ -13,8 +13,8 @@ use first_pass_items::option_set::Options;
 use first_pass_scan::line_start::LineStart;
 use first_pass_tree::forest::Tree;
 
-// Takes the columns of the indent of an item or a definition, or fewer if the line ends after them. Returns whether
-// they are there; takes nothing if they are not.
+// Takes this many columns, or fewer if the line then ends: the prefix of a list item, of a definition, or of a footnote
+// definition in GitHub's form. Returns whether it is there; takes nothing if it is not.
 #[inline(always)]
 #[tactic(auto, unfolding(first_pass_grammar::specs::Containers::prefix))]
 fn takes_columns<'a>(columns: usize, line_start: &mut LineStart<'a>) -> bool
@@ -29,14 +29,15 @@ fn takes_columns<'a>(columns: usize, line_start: &mut LineStart<'a>) -> bool
     true
 }
 
-// Takes the prefix with which the line continues a node. Returns whether it is there; takes nothing if it is not.
+// Takes the prefix that a line needs to continue a node with this body. A node that is no container has an empty
+// prefix. Returns whether the prefix is there; takes nothing if it is not.
 #[inline(always)]
 #[tactic(auto, unfolding(first_pass_grammar::specs::Containers::prefix))]
 fn takes_prefix<'a>(body: ItemBody, line_start: &mut LineStart<'a>, options: Options) -> bool
     ensures { MatchOption (prefix_of (container_of options body) line_start.old)
         ((result ≡ false) × (line_start.new ≡ line_start.old)) (λ next. (result ≡ true) × (line_start.new ≡ next)) }
 {
-    // A few tests in place of a match on all kinds of nodes, whose jump is seldom predicted.
+    // A few tests in place of one match on all kinds of nodes: processors seldom predict the jump of such a match.
     let columns = match body {
         ItemBody::ListItem(columns) | ItemBody::DefinitionListDefinition(columns) => Some(columns),
         _ => None,
@@ -53,11 +54,10 @@ fn takes_prefix<'a>(body: ItemBody, line_start: &mut LineStart<'a>, options: Opt
     true
 }
 
-/// Returns how many of the open nodes the line continues, counted from the outermost up to the first that it does not
-/// continue. `line_start` is then after their prefixes (CommonMark 5). A list item and a definition have the columns
-/// of their indent as prefix. A footnote definition has four columns, or fewer and then the end of the line, if the
-/// options have GitHub's footnotes; otherwise nothing. Every line continues a node that is no container. The last
-/// argument is not used.
+/// Takes the prefixes of the open nodes in turn, from the outermost inwards, until one is not there (CommonMark 5).
+/// Returns how many were taken, which is the number of open nodes that the line continues. `prefix` of the grammar
+/// defines the prefix of each container. A node that is no container has an empty prefix. `_gfm_blockquote` is not
+/// used.
 #[inline(always)]
 pub fn scan_containers<'a>(
     tree: &Tree<Item>,
@@ -89,12 +89,13 @@ fn is_quote(body: ItemBody) -> bool
     matches!(body, ItemBody::BlockQuote(_))
 }
 
-// With fewer open nodes than this, `quotes_end` does not search for a block quote.
+// With fewer open nodes than this, `quotes_end` returns their number at once.
 const MANY_OPEN: usize = 16;
 
-/// Returns the number of open nodes from the outermost to the innermost block quote, that one included; 0 without a
-/// block quote. A line that ends after the prefixes of these nodes continues all the others too. If few nodes are open,
-/// returns their number. The result is valid as long as no node is opened or closed (CommonMark 5.1, 5.2).
+/// Returns a number n of open nodes, so that no block quote is open inside the outermost n. A line that ends after the
+/// prefixes of these n continues all other open nodes too (CommonMark 5.1, 5.2). If fewer than `MANY_OPEN` nodes are
+/// open, n is their number. Otherwise the innermost block quote is the last of the n; without a block quote, n is 0.
+/// The result is valid until a node is opened or closed.
 pub fn quotes_end(tree: &Tree<Item>) -> usize
     ensures { (options : OptionSet) → has_quote_after options tree.now result ≡ false }
 {
@@ -113,9 +114,9 @@ pub fn quotes_end(tree: &Tree<Item>) -> usize
     end
 }
 
-/// Returns the rest of `bytes` after the prefixes of all open nodes on their first line; `None` if that line does not
-/// continue all of them. None of the open nodes after the first `quotes_end`, counted from the outermost, may be a
-/// block quote (CommonMark 5).
+/// Takes the prefixes of all open nodes from the first line of `bytes`, and returns the rest after them. Returns `None`
+/// if the line does not continue all these nodes (CommonMark 5). `quotes_end` is a number as the function of this name
+/// returns it: no block quote may be open inside the outermost `quotes_end` open nodes.
 #[inline(always)]
 pub fn continued_rest<'b>(
     bytes: &'b [u8],
@@ -139,8 +140,8 @@ pub fn continued_rest<'b>(
     Some(rest)
 }
 
-/// Takes the prefix of a block quote, and returns the number of bytes of the line before its marker. If the prefix is
-/// not there, takes nothing and returns `None` (CommonMark 5.1).
+/// Takes the prefix of a block quote, and returns how many bytes of the line are before its `>`. If the prefix is not
+/// there, takes nothing and returns `None` (CommonMark 5.1).
 #[inline(always)]
 #[tactic(auto, unfolding(first_pass_grammar::specs::Containers::prefix))]
 pub fn scan_quote<'a>(line_start: &mut LineStart<'a>) -> Option<usize>
@@ -148,7 +149,7 @@ pub fn scan_quote<'a>(line_start: &mut LineStart<'a>) -> Option<usize>
         × (line_start.new ≡ line_start.old))
         (λ next. (result ≡ Some (after_columns 3 line_start.old).taken) × (line_start.new ≡ next)) }
 {
-    // Most markers have no indentation: look for one at once, and only then after up to three columns.
+    // Most markers have no indentation. So a marker is first looked for here, and then after up to three columns.
     let at = line_start.bytes_scanned();
     if line_start.scan_blockquote_marker() {
         return Some(at);

@@ -1,5 +1,5 @@
-//! How a line continues the open containers, and its front: what is left after the prefixes of those that it continues
-//! (CommonMark 5).
+//! How far a line continues the open containers, and the front of the line: what is left after the prefixes of the
+//! containers that it continues (CommonMark 5).
 
 ghost use Rattle.std.specs.Prelude.{◌≡◌, ◌<◌, ◌≤◌, ℕ, drop, length, is_some, Some, None, false, IfSome, IsTrue, IsUtf8, IsCharBoundary};
 ghost use Rattle.first_pass_items.specs.declared.option_set.Options.{Options};
@@ -16,18 +16,18 @@ use first_pass_lines::places::rest_of;
 use first_pass_scan::line_start::LineStart;
 use first_pass_tree::forest::Tree;
 
-/// How a line continues the open containers, and its front.
+/// How far a line continues the open nodes, and the front of the line, which is `rest`.
 #[derive(Drop)]
 pub struct Front<'a> {
-    /// How many of the open nodes the line continues, the outermost first.
+    /// How many open nodes the line continues, counted from the outermost.
     pub continued: usize,
-    /// Whether these are all open nodes.
+    /// Whether the line continues all open nodes.
     pub continues_all: bool,
-    /// The front of the line: the rest of the text after their prefixes.
+    /// The front of the line: the rest of the text after the prefixes of the open nodes that the line continues.
     pub rest: LineStart<'a>,
 }
 
-/// Returns how the first line of `bytes` continues the open nodes of `tree`, and its front.
+/// Returns how far the first line of `bytes` continues the open nodes of `tree`, and the front of that line.
 #[inline(always)]
 pub fn front_of<'b>(bytes: &'b [u8], tree: &Tree<Item>, options: Options) -> Front<'b>
     ensures within { result.continued ≤ length tree.now.spine }
@@ -51,7 +51,8 @@ pub fn front_of<'b>(bytes: &'b [u8], tree: &Tree<Item>, options: Options) -> Fro
     }
 }
 
-/// Returns the same for the line at `start`, an offset into the text.
+/// Returns how far a line continues the open nodes of `tree`, and the front of the line. The line begins at `start`, an
+/// offset into the text of `source`.
 #[inline(always)]
 pub fn scan_front<'a>(source: &Source<'a>, tree: &Tree<Item>, start: usize) -> Front<'a>
     requires { IsCharBoundary source.now.text.now start }
@@ -76,8 +77,8 @@ pub fn scan_front<'a>(source: &Source<'a>, tree: &Tree<Item>, start: usize) -> F
     front_of(rest_of(source.text.as_bytes(), start), tree, source.options)
 }
 
-/// Returns the rest of the text after the prefixes of all open containers on the line at `start`; `None` if that line
-/// does not continue all of them. `start` is an offset into the text (CommonMark 5).
+/// Takes the prefixes of all open containers from the line that begins at `start`, an offset into the text. Returns the
+/// rest of the text after them, or `None` if the line does not continue all these containers (CommonMark 5).
 #[inline(always)]
 pub fn scan_continued<'a>(
     source: &Source<'a>,
@@ -97,9 +98,8 @@ pub fn scan_continued<'a>(
     Some(front.rest)
 }
 
-/// Returns the same as `scan_continued`. None of the open nodes after the first `quotes_end`, counted from the
-/// outermost, may be a block quote. The call does not walk over those nodes if the line ends before their prefixes
-/// (CommonMark 5).
+/// Returns the same as `scan_continued`. If the line ends after the prefixes of the outermost `quotes_end` open nodes,
+/// the call does not visit the open nodes inside them. None of those may be a block quote (CommonMark 5).
 #[inline(always)]
 pub fn scan_continued_past<'a>(
     source: &Source<'a>,
@@ -123,8 +123,8 @@ pub fn scan_continued_past<'a>(
     Some(rest)
 }
 
-/// Returns whether the open node directly inside the outermost `kept` is a definition of a definition list; `false`
-/// if no more are open.
+/// Returns whether the open node directly inside the outermost `kept` open nodes is a definition of a definition list;
+/// `false` if only `kept` nodes or fewer are open.
 pub fn is_definition_at_depth(tree: &Tree<Item>, kept: usize) -> bool
     ensures { (options : Options) → result ≡ definition_at_depth options tree.now kept }
 {

@@ -1,4 +1,4 @@
-//! The start of the text of a line.
+//! The indentation at a place in a line.
 
 ghost use Rattle.std.specs.Prelude.{◌≡◌, min};
 ghost use Rattle.first_pass_lines.specs.Rest.{indent};
@@ -6,7 +6,7 @@ ghost use Rattle.first_pass_grammar.specs.Kinds.{all_taken};
 
 use first_pass_scan::line_start::LineStart;
 
-/// Takes all columns of indentation of the line, and returns their number, or 4 if there are more (CommonMark 2.2).
+/// Takes all columns of indentation at the place, and returns their number, or 4 if there are more (CommonMark 2.2).
 #[inline(always)]
 pub fn scan_indentation<'a>(line_start: &mut LineStart<'a>) -> usize
     ensures columns { result ≡ min 4 (indent line_start.old) }

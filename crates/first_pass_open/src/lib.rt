@@ -1,4 +1,4 @@
-//! The open nodes, how far a line continues them, and a leaf block while its lines are read.
+//! A text and its places, how far a line continues the open nodes, and how a block is opened and closed.
 #![tactic(auto)]
 
 pub mod containers;

@@ -1,4 +1,4 @@
-//! A leaf block in a tree while its lines are read.
+//! How a block is opened, filled and closed in a tree.
 
 ghost use Rattle.std.specs.Prelude.{◌≡◌, slice_get, length, IsSome, Some, IfOk, OnOk};
 ghost use Rattle.first_pass_items.specs.declared.item.Item.{Item};
@@ -9,15 +9,16 @@ use first_pass_tree::forest::Tree;
 use first_pass_tree::tree_index::TreeIndex;
 use std::alloc::AllocError;
 
-/// How far the lines of a block are read: the end of the block, and the start of the next unread line, or the end of
-/// the text.
+/// How far a block and the reading of its lines go. `end` is the end of the block. `next` is the start of the first
+/// unread line, or the end of the text if no line is left.
 #[derive(Clone, Copy)]
 pub struct BlockLines {
     pub end: usize,
     pub next: usize,
 }
 
-/// Appends a block that starts at an offset, opens it, and returns its index. Fails only if an allocation fails.
+/// Appends a block that starts at the offset `start`, opens it, and returns its index. Its end is 0 until it is closed.
+/// Fails only if an allocation fails.
 #[inline(always)]
 pub fn open_block(
     tree: &mut Tree<Item>,
@@ -35,7 +36,8 @@ pub fn open_block(
     tree.push()
 }
 
-/// Closes the innermost open node at an offset, and returns its index. There has to be an open node.
+/// Closes the innermost open node, sets its end to the offset `end`, and returns its index. A node other than the root
+/// has to be open.
 pub fn close_block(tree: &mut Tree<Item>, end: usize) -> TreeIndex
     requires { IsSome (slice_get tree.old.spine 0) }
     ensures tree { tree.new ≡ closed_by tree.old end tree.old.spine }
@@ -47,8 +49,8 @@ pub fn close_block(tree: &mut Tree<Item>, end: usize) -> TreeIndex
     ix
 }
 
-/// Appends an item, if there is one: the break between two lines, or the marker of a task list item. Fails only if an
-/// allocation fails.
+/// If a node is given, appends it to the innermost open node. It is the break between two lines, or a task list item
+/// marker. Fails only if an allocation fails.
 pub fn append_item(tree: &mut Tree<Item>, item: Option<Item>) -> Result<(), AllocError>
     ensures { OnOk result (tree.new ≡ with_child tree.old item) }
 {

@@ -33,7 +33,7 @@ impl<'a> Place<'a> {
         self.line + self.rest.bytes_scanned()
     }
 
-    /// Returns the rest of the line and all that follows it.
+    /// Returns the bytes from the place to the end of the text.
     #[inline(always)]
     pub fn left(&self) -> &'a [u8]
         ensures { result.now ≡ self.now.rest.left }

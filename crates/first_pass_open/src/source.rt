@@ -1,5 +1,5 @@
-//! The text, and what else stays the same while it is read: the allocator, the options, and the bytes that may begin
-//! inline markup.
+//! The text, and what else stays the same while it is read: the allocator, the options, and the bytes at which a token
+//! may begin.
 
 ghost use Rattle.std.specs.Prelude.{◌≡◌, ◌<◌, ◌^◌, length};
 ghost use Rattle.first_pass_walk.specs.Walk.{MarksSpecial};
@@ -8,22 +8,22 @@ use first_pass_items::option_set::Options;
 use first_pass_walk::walk::special_bytes;
 use std::alloc::Global;
 
-/// A text with its options and the tables for reading it. No call changes it.
+/// A text, the allocator and the options for reading it, and the table of special bytes. No call changes it.
 #[derive(Drop)]
 pub struct Source<'a> {
-    /// The source of memory.
+    /// The allocator.
     pub alloc: Global,
-    /// The whole text; offsets are into this text.
+    /// The whole text, into which all offsets point.
     pub text: &'a str,
     /// The options.
     pub options: Options,
-    /// The bytes that may begin inline markup under the options.
+    /// Whether each byte is special under the options: a token other than plain text may begin at it.
     pub special: [bool; 256],
     ghost marks: { MarksSpecial special options },
 }
 
 impl<'a> Source<'a> {
-    /// Returns a text to be read under these options.
+    /// Returns the source of a text that is to be read under these options.
     pub fn new(alloc: Global, text: &'a str, options: Options) -> Source<'a>
         ensures text { result.text.now ≡ text.now }
         ensures options { result.options ≡ options }
@@ -36,8 +36,8 @@ impl<'a> Source<'a> {
         }
     }
 
-    /// Gives the caller the fact that the text has fewer than 2^63 bytes, so two offsets into it can be added. Does
-    /// nothing at run time.
+    /// Does nothing; its contract states that the text has fewer than 2^63 bytes. So the sum of two offsets into it
+    /// does not overflow.
     pub fn recall_length(&self)
         ensures { length self.now.text.now < 2 ^ 63 }
     {

@@ -3,7 +3,7 @@ use Rattle.first_pass_items.specs.declared.option_set.Options.{Options}
 use Rattle.first_pass_open.specs.Path.{has_quote_after}
 use Rattle.first_pass_open.proofs.containers.quotes_end.Given as goal
 
--- no block quote is open inside this many outer nodes
+-- no block quote is open inside the outermost `end` open nodes
 abbrev pub invariant-loop-end : goal.invariant-loop-end
 invariant-loop-end l = record {
   within : l.«end» ≤ length l.spine;

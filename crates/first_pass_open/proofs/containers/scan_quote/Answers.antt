@@ -3,7 +3,7 @@ use Rattle.first_pass_grammar.specs.Containers.{prefix}
 use Rattle.first_pass_open.proofs.PlainLemmas.{inert_prefix}
 use Rattle.first_pass_open.proofs.containers.scan_quote.Goals as goal
 
--- In each of these, no marker is right here, and nothing was taken yet.
+-- In each of these cases, the first search found no marker and took nothing.
 pub returns-then-is_at_inert : goal.returns-then-is_at_inert
 returns-then-is_at_inert c =
     let same : c.scan_blockquote_marker.new.self ≡ c.args.line_start.now = search rules in

@@ -4,7 +4,7 @@ use Rattle.first_pass_open.proofs.PathLemmas.{columns_prefix}
 use Rattle.first_pass_open.proofs.containers.takes_prefix.Goals as goal
 use Rattle.first_pass_open.proofs.containers.takes_prefix.Goals.{After-takes_columns, in_default, in-ListItem, in-ListItem-2}
 
--- the body has these columns
+-- The body is that of a list item or of a definition with these columns.
 body_is : (c : After-takes_columns) → (c.args.body ≡ ListItem c.in-Some.columns) ⊎ (c.args.body ≡ DefinitionListDefinition c.in-Some.columns)
 body_is c = elim c.match-body.branch [
   | in_default w ↦ (let no = w.columns-is in cc)
