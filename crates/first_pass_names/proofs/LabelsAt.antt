@@ -1,4 +1,4 @@
--- The link definition named by a label at the start of bytes.
+-- Lemmas about `link_at`: its result, from the label that was read and the definition that was looked up.
 use Rattle.std.proofs.Common.{◌≡◌, ℕ, false, List, Option, Some, None, IsSomeAnd, MatchOption, refl, ap, ◌∙◌}
 use Rattle.std.specs.Option.{option_map}
 use Rattle.first_pass_items.specs.declared.cow_str.CowStr.{CowStr}
@@ -9,18 +9,18 @@ use Rattle.first_pass_labels.specs.declared.label_table.LinkDef.{LinkDef}
 use Rattle.first_pass_links.specs.Labels.{label_at}
 use Rattle.first_pass_names.specs.TableEntries.{link_at}
 
--- a call returned this label, or none if there is none
+-- the call that reads a label returned this one with its length, or `None` if there is no label
 abbrev pub IsReadAs : Option (ℕ × List ℕ) → Option (ℕ × CowStr) → Type 0
 IsReadAs label answer = MatchOption label (answer ≡ None) (λ l. IsSomeAnd answer (λ found. (found.0 ≡ l.0) × (text_of found.1 ≡ l.1)))
 
--- if no label was read, none is there
+-- if no label was read, `link_at` gives `None`
 pub link_none : (links : List (CowStr × LinkDef)) (bs : List ℕ) (label : Option (ℕ × List ℕ)) → label_at (λ further. Some 0) false bs ≡ label
     → IsReadAs label None → None ≡ link_at links bs
 unfolding link_at
 link_none links bs None e read = rw e refl
 link_none links bs (Some l) e read = absurd read
 
--- the definition under the label that was read
+-- if a label was read, `link_at` gives its length and the definition that the look-up found, or `None` if the look-up found none
 pub link_there : (links : List (CowStr × LinkDef)) (bs : List ℕ) (label : Option (ℕ × List ℕ)) (size : ℕ) (text : CowStr) (found : Option LinkDef)
     → label_at (λ further. Some 0) false bs ≡ label → IsReadAs label (Some (size, text)) → found ≡ defined_under (folded (text_of text)) links
     → option_map (λ link. (size, link)) found ≡ link_at links bs

@@ -1,4 +1,4 @@
--- The tables beside a tree, in contracts.
+-- What contracts say about `Allocations`: the entries of its two tables, and the names, which are its three lists.
 use Rattle.std.specs.Prelude.{◌≡◌, ℕ, false, List, [], ◌++◌, map, Option, Some}
 use Rattle.std.specs.Option.{option_map, option_and_then}
 use Rattle.first_pass_items.specs.declared.cow_str.CowStr.{CowStr}
@@ -15,7 +15,7 @@ use Rattle.first_pass_labels.specs.declared.label_table.LinkDef.{LinkDef}
 use Rattle.first_pass_labels.specs.declared.label_table.FootnoteDef.{FootnoteDef}
 use Rattle.first_pass_names.specs.declared.items.Allocations.{Allocations}
 
--- a link definition with its label
+-- an entry of the table of links as the grammar has it: with each string as its bytes
 abbrev pub link_entry : CowStr × LinkDef → LinkEntry
 link_entry e = record {
   label = text_of e.0;
@@ -26,61 +26,64 @@ link_entry e = record {
   places = e.1.places;
 }
 
--- the label of a footnote, in the spelling of its entry (this project)
+-- an entry of the table of footnotes as the grammar has it: only the bytes of the label, as it is spelled (this project)
 abbrev pub footnote_label : CowStr × FootnoteDef → List ℕ
 footnote_label e = text_of e.0
 
--- the entries of the tables, with the origin of each string (this project)
+-- the entries of both tables; each string is a `CowStr`, which tells whether it is borrowed (this project)
 pub record Entries : Type 0 where
   pub links : List (CowStr × LinkDef)
   pub footnotes : List (CowStr × FootnoteDef)
 
--- the entries of both tables (this project)
+-- the entries of both tables of `Allocations` (this project)
 abbrev pub entries : Allocations → Entries
 entries a = record { links = a.refdefs; footnotes = a.footdefs }
 
--- these with one more link definition, unless its label has an entry (CommonMark 4.7)
+-- the entries with one more link definition, unless one with a matching label is there (CommonMark 4.7)
 abbrev pub with_definition : Entries → CowStr → LinkDef → Entries
 with_definition es label definition = record { links = with_first es.links label definition; footnotes = es.footnotes }
 
--- these with one more footnote definition, unless its label has an entry; no use of it is counted yet (this project)
+-- the entries with one more footnote label, with use count 0, unless a matching label is there (this project)
 abbrev pub with_footnote : Entries → CowStr → Entries
 with_footnote es label = record { links = es.links; footnotes = with_first es.footnotes label (record { use_count = 0 }) }
 
--- a copy of a string, which is borrowed if the string is (this project)
+-- the copy has the bytes of the string `text`, and is borrowed if the string is borrowed (this project)
 pub record IsCopy (text copy : CowStr) : Type 0 where
   pub same : text_of copy ≡ text_of text
   pub borrowed : (bytes : List ℕ) → Borrows bytes text → Borrows bytes copy
 
--- a footnote definition is added with a copy of its label (this project)
+-- the new entries are the old ones with a copy of this footnote label added by `with_footnote` (this project)
 pub record AddsFootnote (old new : Entries) (label : CowStr) : Type 0 where
   pub copy : CowStr
   pub is_copy : IsCopy label copy
   pub added : new ≡ with_footnote old copy
 
--- the definitions of the entries, as bytes (CommonMark 4.7)
+-- the tables as the grammar has them, from these entries (CommonMark 4.7)
 abbrev pub tables_in : Entries → Tables
 tables_in es = record { links = map link_entry es.links; footnotes = map footnote_label es.footnotes }
 
--- the definitions of the tables, as bytes
+-- the tables of `Allocations` as the grammar has them
 abbrev pub tables_of : Allocations → Tables
 tables_of a = tables_in (entries a)
 
--- the entries of each table (CommonMark 4.7, and this project)
+-- the entries of the table of links (CommonMark 4.7)
 abbrev pub refdefs_of : Allocations → List (CowStr × LinkDef)
 refdefs_of a = a.refdefs
 
+-- the entries of the table of footnotes (this project)
 abbrev pub footdefs_of : Allocations → List (CowStr × FootnoteDef)
 footdefs_of a = a.footdefs
 
--- The link definition with the label at the start of these bytes, which are after a `[`, and the length of that label
--- with its `]`. No line of the label has a prefix (CommonMark 4.7, 6.3).
+-- What `Allocations::link_at` finds in these entries of the table of links. The bytes are those after a `[`. The result
+-- is the length of the label at their start, with its `]`, and the definition that has a matching label. Prefixes of
+-- containers count as part of the label (CommonMark 4.7, 6.3).
 unfoldable pub link_at : List (CowStr × LinkDef) → List ℕ → Option (ℕ × LinkDef)
 link_at links bs =
     option_and_then (λ (label : ℕ × List ℕ). option_map (λ (link : LinkDef). (label.0, link)) (defined_under (folded label.1) links))
     (label_at (λ further. Some 0) false bs)
 
--- the strings, the alignments of table columns, and the attributes of headings that nodes name by an index
+-- the three lists of `Allocations` that nodes refer to by index: strings, column alignments of tables, and attributes
+-- of headings
 abbrev pub names_of : Allocations → Names
 names_of a = record {
   texts = a.texts.items;
@@ -88,19 +91,20 @@ names_of a = record {
   headings = map attributes_in a.headings.items;
 }
 
--- no names
+-- three empty lists
 abbrev pub no_names : Names
 no_names = record { texts = []; alignments = []; headings = [] }
 
--- Strings are added after the old ones, so that each index names what it named before. No alignments or attributes are
--- added (this project).
+-- The new names are the old ones with strings added at the end of their list. So each index refers to the same entry
+-- as before. The other two lists are equal (this project).
 pub record AddsTexts (new old : Names) : Type 0 where
   pub more : List CowStr
   pub texts : new.texts ≡ old.texts ++ more
   pub alignments : new.alignments ≡ old.alignments
   pub headings : new.headings ≡ old.headings
 
--- each index names what it named before, and no entry of a table changed
+-- From the old to the new `Allocations`, the three lists only got more entries at their ends, and both tables stayed
+-- the same. The old value comes first here, but last in `Extends` and `AddsTexts`.
 pub record NamesMore (old new : Allocations) : Type 0 where
   pub names : Extends (names_of new) (names_of old)
   pub entries : entries new ≡ entries old

@@ -1,4 +1,4 @@
-//! The tables beside a tree: what nodes name by an index, and what the text defines.
+//! What belongs to a tree but is not in it: the tables of what the text defines, and the lists that nodes refer to.
 
 ghost use Rattle.std.specs.Option.{option_map};
 ghost use Rattle.first_pass_attributes.specs.Attributes.{attributes_in};
@@ -21,8 +21,8 @@ use std::alloc::{AllocError, Global};
 use std::boxed::BoxedStr;
 use std::ops::{DerefStr, Index};
 
-/// The tables beside a tree: the definitions of the text, and the texts, alignments and heading attributes that nodes
-/// name by an index.
+/// Two tables of what the text defines (link definitions and footnote labels), and three lists. The lists have the
+/// strings, column alignments and heading attributes that nodes refer to by index.
 #[derive(Drop)]
 pub struct Allocations<'a> {
     pub(crate) texts: Vec<CowStr<'a>>,
@@ -33,7 +33,7 @@ pub struct Allocations<'a> {
 }
 
 impl<'a> Allocations<'a> {
-    /// Returns empty tables, which take no memory.
+    /// Returns empty tables and empty lists. Allocates nothing.
     pub fn new(alloc: Global) -> Allocations<'a>
         ensures tables { tables_of result ≡ no_tables }
         ensures names { names_of result ≡ no_names }
@@ -47,21 +47,21 @@ impl<'a> Allocations<'a> {
         }
     }
 
-    /// Returns the link definitions: for each label the first.
+    /// Returns the table of link definitions. Of definitions with matching labels, it has only the first.
     pub fn refdefs(&self) -> &RefDefs<'a>
         ensures { result.now ≡ refdefs_of self.now }
     {
         &self.refdefs
     }
 
-    /// Returns the footnote definitions: each label once, spelled as in its first definition.
+    /// Returns the table of footnotes. Of definitions with matching labels, it has only the label of the first.
     pub fn footdefs(&self) -> &FootDefs<'a>
         ensures { result.now ≡ footdefs_of self.now }
     {
         &self.footdefs
     }
 
-    /// Appends a text to those that nodes name, and returns its index. Fails only if an allocation fails; then
+    /// Appends a string to the list of strings, and returns its index there. Fails only if an allocation fails; then
     /// nothing changes.
     pub fn allocate_cow(&mut self, cow: CowStr<'a>) -> Result<CowIndex, AllocError>
         ensures index { IfOk result (λ ix. ix.0 ≡ length (names_of self.old).texts) }
@@ -74,8 +74,8 @@ impl<'a> Allocations<'a> {
         Ok(ix)
     }
 
-    /// Appends the alignments of the columns of a table to those that nodes name, and returns their index. Fails only
-    /// if an allocation fails; then nothing changes (GFM 4.10).
+    /// Appends the column alignments of a table (GFM 4.10) to their list, and returns the index of this entry. Fails
+    /// only if an allocation fails; then nothing changes.
     pub fn allocate_alignment(
         &mut self,
         alignment: Vec<Alignment>,
@@ -90,7 +90,7 @@ impl<'a> Allocations<'a> {
         Ok(ix)
     }
 
-    /// Appends the attributes of a heading to those that nodes name, and returns their index. Fails only if an
+    /// Appends the attributes of a heading to their list, and returns the index of this entry. Fails only if an
     /// allocation fails; then nothing changes.
     pub fn allocate_heading(
         &mut self,
@@ -106,9 +106,9 @@ impl<'a> Allocations<'a> {
         Ok(ix)
     }
 
-    /// Adds a link definition to the table, unless the table has one with a matching label: the first of several
-    /// matching definitions stays (CommonMark 4.7). The label, destination and title are kept as given: slices of the
-    /// text stay borrowed. Fails only if an allocation fails; then nothing changes.
+    /// Adds a link definition to its table, unless the table has one with a matching label (CommonMark 4.7). The
+    /// label, destination and title are not copied, so those that are slices of the text stay slices. Fails only if an
+    /// allocation fails; then nothing changes.
     pub fn define_link(
         &mut self,
         label: LabelKey<'a>,
@@ -126,9 +126,9 @@ impl<'a> Allocations<'a> {
         Ok(())
     }
 
-    /// Adds the label of a footnote definition to the table, unless the table has one with the same folding: the
-    /// first of several stays, as it is spelled. No use of the footnote is counted yet. A slice of the text stays
-    /// borrowed. Fails only if an allocation fails; then nothing changes (this project).
+    /// Adds the label of a footnote definition to its table, with use count 0, unless the table has a matching label.
+    /// If `label` is a slice of the text, the table gets that slice, and otherwise a copy. Fails only if an allocation
+    /// fails; then nothing changes (this project).
     pub fn define_footnote(&mut self, alloc: Global, label: &CowStr<'a>) -> Result<(), AllocError>
         ensures entries { OnOk result (AddsFootnote (entries self.old) (entries self.new) label.now) }
         ensures tables { OnOk result
@@ -142,10 +142,10 @@ impl<'a> Allocations<'a> {
         Ok(())
     }
 
-    /// Returns the length of the link label at the start of `text`, and the link definition that it names. `text` is
-    /// the bytes after a `[`; the length is in bytes, with the `]`. Returns `None` if no label is there, or if no
-    /// definition has it. The label may cross line endings; no container prefix is left out on further lines. Fails
-    /// only if an allocation fails (CommonMark 4.7, 6.3).
+    /// Looks up the link label at the start of `text`, which is what follows a `[` (CommonMark 4.7, 6.3). Returns the
+    /// length of the label in bytes, with its `]`, and the link definition that has a matching label. Returns `None`
+    /// if no label is there, or if no definition matches. The label may have line endings. Prefixes of containers in
+    /// its further lines count as part of it. Fails only if an allocation fails.
     pub fn link_at(
         &self,
         alloc: Global,
@@ -163,7 +163,7 @@ impl<'a> Allocations<'a> {
         }
     }
 
-    /// Returns the text that a node names by this index; an empty text if the index names none.
+    /// Returns the string at this index of the list of strings, or an empty string if the list is too short.
     pub fn text_at(&self, ix: CowIndex) -> &str
         ensures { result.now ≡ text_named (names_of self.now) ix }
     {
@@ -173,8 +173,8 @@ impl<'a> Allocations<'a> {
         }
     }
 
-    /// Returns the alignments of the columns of a table that a node names by this index; none if the index names
-    /// none.
+    /// Returns the column alignments of a table at this index of their list, or an empty slice if the list is too
+    /// short.
     pub fn alignments_at(&self, ix: AlignmentIndex) -> &[Alignment]
         ensures { result.now ≡ alignments_named (names_of self.now) ix }
     {
@@ -184,7 +184,7 @@ impl<'a> Allocations<'a> {
         }
     }
 
-    /// Returns the attributes of a heading that a node names by this index; `None` if the index names none.
+    /// Returns the attributes of a heading at this index of their list, or `None` if the list is too short.
     pub fn attributes_at(&self, ix: HeadingIndex) -> Option<&HeadingAttributes<'a>>
         ensures { option_map (λ h. attributes_in h.now) result ≡ slice_get (names_of self.now).headings ix.0 }
     {
@@ -192,7 +192,7 @@ impl<'a> Allocations<'a> {
     }
 }
 
-// A copy of the text, borrowed if the text is borrowed.
+// Returns a copy of a string. It is borrowed if the string is borrowed. Fails only if an allocation fails.
 fn copy_of<'a>(alloc: Global, text: &CowStr<'a>) -> Result<CowStr<'a>, AllocError>
     ensures { IfOk result (λ copy. IsCopy text.now copy) }
 {
@@ -205,14 +205,15 @@ fn copy_of<'a>(alloc: Global, text: &CowStr<'a>) -> Result<CowStr<'a>, AllocErro
     }
 }
 
-// The prefix of a further line of a label: none.
+// Returns the length of the prefix that is not part of a label in one of its further lines: always 0.
 fn no_prefix(_line: &[u8]) -> Result<Option<usize>, AllocError>
     ensures { result ≡ Ok (Some 0) }
 {
     Ok(Some(0))
 }
 
-// The label at the start of `text`, with its length in bytes.
+// Returns the length of the label at the start of `text` in bytes, with its `]`, and the label as it is read. Returns
+// `None` if no label is there. Fails only if an allocation fails.
 fn scan_label<'t>(alloc: Global, text: &'t str) -> Result<Option<(usize, CowStr<'t>)>, AllocError>
     ensures { IfOk result (λ answer. MatchOption (label_at (λ further. Some 0) false text.now)
         (answer ≡ None)
@@ -228,7 +229,7 @@ impl<'a> Index<CowIndex> for Allocations<'a> {
 
     ghost index_gives = { λ allocs ix named. slice_get (names_of allocs).texts ix.0 ≡ Some named };
 
-    /// Returns the text that a node names by this index.
+    /// Returns the string at this index of the list of strings. The list must be long enough.
     fn index(&self, ix: CowIndex) -> &CowStr<'a> {
         &self.texts[ix.0]
     }
@@ -241,7 +242,7 @@ impl<'a> Index<AlignmentIndex> for Allocations<'a> {
 
     ghost index_gives = { λ allocs ix named. slice_get (names_of allocs).alignments ix.0 ≡ Some named.items };
 
-    /// Returns the alignments of the columns of a table that a node names by this index.
+    /// Returns the column alignments of a table at this index of their list. The list must be long enough.
     fn index(&self, ix: AlignmentIndex) -> &Vec<Alignment> {
         &self.alignments[ix.0]
     }
@@ -254,7 +255,7 @@ impl<'a> Index<HeadingIndex> for Allocations<'a> {
 
     ghost index_gives = { λ allocs ix named. slice_get (names_of allocs).headings ix.0 ≡ Some (attributes_in named) };
 
-    /// Returns the attributes of a heading that a node names by this index.
+    /// Returns the attributes of a heading at this index of their list. The list must be long enough.
     fn index(&self, ix: HeadingIndex) -> &HeadingAttributes<'a> {
         &self.headings[ix.0]
     }

@@ -1,5 +1,5 @@
-//! The tables beside the tree, with the texts, alignments and heading attributes that nodes name by an index. The
-//! texts of tokens are added here.
+//! What belongs to a tree but is not in it: the tables of link definitions and footnote labels, and three lists. Nodes
+//! refer to entries of the lists by index. The lists have strings, column alignments and heading attributes.
 #![tactic(auto)]
 
 pub mod items;

@@ -1,4 +1,4 @@
-//! The tokens of lines and of cells, with the texts that they name in the tables.
+//! Appends the tokens of a line or of a table cell to a tree, and their strings to the list of strings.
 
 ghost use Rattle.std.specs.Prelude.{◌≡◌, ◌≤◌, length, false, IfOk, IfSome, OnOk, IsUtf8};
 ghost use Rattle.first_pass_walk.specs.Walk.{MarksSpecial};
@@ -17,10 +17,13 @@ use first_pass_tree::forest::Tree;
 use std::alloc::AllocError;
 
 impl<'a> Allocations<'a> {
-    /// Appends the tokens of one line to the innermost open node, and the texts that they name to the tables: see
-    /// `first_pass_tokens::line::append_line`. `braces` holds the brace contexts before the line, then those after
-    /// it. Returns the offset after the line ending, and the line break there (CommonMark 6.7, 6.8), which is not
-    /// appended. Fails only if an allocation fails.
+    /// Appends the tokens of one line to the innermost open node, and their strings to the list of strings.
+    /// `first_pass_tokens::line::append_line` explains the tokens. On entry, `braces` has the brace contexts before
+    /// the line; on return, those after it.
+    ///
+    /// The line ends after its first line ending. If `content` has none, it ends at `content.end`, or else with the
+    /// text. Returns this end, and the break at the line ending (CommonMark 6.7, 6.8), which is not appended. The
+    /// break is `None` if there is no line ending. Fails only if an allocation fails.
     #[inline(always)]
     pub fn append_line(
         &mut self,
@@ -44,10 +47,13 @@ impl<'a> Allocations<'a> {
         line::append_line(content, tree, &mut self.texts, braces)
     }
 
-    /// Appends the tokens of one cell of a table row to the innermost open node, and the texts that they name to the
-    /// tables: see `first_pass_tokens::line::append_cell`. `braces` holds the brace contexts before the cell, then
-    /// those after it. Returns the end of the content: the offset of the pipe, the line ending or the end of the text
-    /// (GFM 4.10). Fails only if an allocation fails.
+    /// Appends the tokens of one cell of a table row to the innermost open node, and their strings to the list of
+    /// strings. `first_pass_tokens::line::append_cell` explains the tokens. On entry, `braces` has the brace contexts
+    /// before the cell; on return, those after it.
+    ///
+    /// Returns the offset at which the content of the cell ends: that of the first line ending, or of an earlier pipe
+    /// that ends the cell (GFM 4.10). Without either, it is `content.end`, or else the length of the text. Fails only
+    /// if an allocation fails.
     #[inline(always)]
     pub fn append_cell(
         &mut self,
