@@ -1,4 +1,5 @@
--- One more blank line that changes nothing.
+-- When one more blank line leaves the state unchanged. The lemmas on this assume that a counting blank line is
+-- directly before.
 use Rattle.std.proofs.Common.{◌≡◌, ℕ, Bool, true, false, List, [], ◌∷◌, slice_get, Option, Some, None, is_some, refl, sym, ap, ◌∙◌, if◌then◌else◌}
 use Rattle.std.specs.Option.{option_map, option_and_then}
 use Rattle.first_pass_items.specs.declared.item.Item.{Item}
@@ -26,12 +27,12 @@ none_by r (Some (DefinitionListDefinition columns)) none h =
     (ap (λ t. if t then emptied_definition r.tree r.tree.spine else r.tree) none) h
 none_by r (Some b) none h = same_blank r h
 
--- if no item is empty
+-- it is unchanged if it records no empty item
 pub kept_none : (r : PassState) → is_some r.begin_list_item ≡ false → r.blank ≡ true → blank_read r ≡ r
 unfolding blank_read
 kept_none r none h = none_by r (top_body r.tree) none h
 
--- if nothing is open
+-- it is unchanged if only the root is open
 pub kept_closed : (r : PassState) → slice_get r.tree.spine 0 ≡ None → r.blank ≡ true → blank_read r ≡ r
 unfolding blank_read
 kept_closed r none h = ap (λ o. blank_read_by r (option_and_then (λ (ix : TreeIndex). body_at r.tree.nodes ix.0) o)) none ∙ same_blank r h
@@ -50,7 +51,7 @@ either : {A : Type 0} (t : Bool) (x y : A) → x ≡ y → (if t then x else y) 
 either true x y e = e
 either false x y e = refl
 
--- if an item or a definition takes only blank lines
+-- it is unchanged if the innermost open node is an item or a definition that takes only blank lines
 pub kept_item : (r : PassState) → top_body r.tree ≡ Some (ListItemBody 0) → r.blank ≡ true → blank_read r ≡ r
 unfolding blank_read
 kept_item r e h =
@@ -72,7 +73,7 @@ other_by r (ListItemBody columns) item definition h = absurd (item columns refl)
 other_by r (DefinitionListDefinition columns) item definition h = absurd (definition columns refl)
 other_by r b item definition h = same_blank r h
 
--- if the innermost open node is neither
+-- it is unchanged if the innermost open node is neither an item nor a definition
 pub kept_other : (r : PassState) (b : ItemBody) → top_body r.tree ≡ Some b → ((n : ℕ) → b ≡ ListItemBody n → ⊥) → ((n : ℕ) → b ≡ DefinitionListDefinition n → ⊥)
     → r.blank ≡ true → blank_read r ≡ r
 unfolding blank_read

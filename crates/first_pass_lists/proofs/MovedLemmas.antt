@@ -1,4 +1,5 @@
--- After a node is closed, its last child is a child of the current node; after the child is moved out, it is current.
+-- A node that was just closed is current. Its last child is then a child of the current node. When this child is moved
+-- out of the closed node, the child becomes current.
 use Rattle.std.proofs.Common.{◌≡◌, ℕ, zero, suc, ◌+◌, ◌-◌, ◌<◌, ◌≤◌, ◌==◌, Bool, true, false, List, [], ◌∷◌, length, map, slice_get, slice_index}
 use Rattle.std.proofs.Common.{Option, Some, None, IfSome, IsSome, if◌then◌else◌, bit_and, refl, sym, ◌∙◌, ap, subst, ⊎_elim, arith}
 use Rattle.std.specs.Prelude.{IsSomeAnd}
@@ -19,7 +20,7 @@ use Rattle.first_pass_open.specs.OpenBlock.{closed_by}
 use Rattle.first_pass_lists.specs.declared.state.PassState.{PassState}
 use Rattle.first_pass_lists.specs.Closing.{popped_by, popped_at, current_moved, definitions_closed}
 
--- two trees are alike except for their items
+-- two trees have the same depths, the same open nodes and the same current node; their items may differ
 record IsAlike (f g : Forest Item) : Type 0 where
   depths_are : depths g.nodes ≡ depths f.nodes
   spine_is : g.spine ≡ f.spine
@@ -63,8 +64,8 @@ child_closed f e ix last rest forest spine current =
       current = last-order ds (length rest + 1) (length f.spine + 1) ix.0 last.0 opened.0 l (omega (arith, deep));
     }
 
--- the current node is the last child of the innermost open one; after that is closed, it is a child of the current
--- node
+-- The current node is the last child of the innermost open node. After the innermost open node is closed, this child
+-- is a child of the current node.
 pub child_after : (r s : PassState) (e : ℕ) (spine : List TreeIndex) (last : TreeIndex) → IsForest r.tree → r.tree.spine ≡ spine → IsSome (slice_get spine 0)
     → r.tree.current ≡ Some last → s ≡ popped_at e r spine → IsChildOfCurrent s.tree last
 child_after r s e [] last forest is some current now = cc
@@ -73,12 +74,13 @@ child_after r s e (ix ∷ rest) last forest is some current now =
     subst (λ (q : PassState). IsChildOfCurrent q.tree last) (sym now)
     (child_alike f _ last (closed_alike r f ix (body_at f.nodes ix.0)) (child_closed r.tree e ix last rest forest is current))
 
--- nodes from a place on are one less deep
+-- if all nodes of a list are moved up one level, the depth at each position is one less
 all_lower : (ns : List (ℕ × Item)) (k : ℕ) → slice_index (depths (map shallower ns)) k ≡ slice_index (depths ns) k - 1
 all_lower [] k = omega arith
 all_lower (n ∷ ns) zero = refl
 all_lower (n ∷ ns) (suc k) = all_lower ns k
 
+-- if the nodes from a position on are moved up one level, the depth there and at each later position is one less
 lower : (ns : List (ℕ × Item)) (place k : ℕ) → place ≤ k → slice_index (depths (map_from shallower place ns)) k ≡ slice_index (depths ns) k - 1
 lower ns zero k l = all_lower ns k
 lower [] (suc place) k l = omega arith
@@ -132,7 +134,7 @@ closed_by_parts : (r : PassState) (e : ℕ) (s : List TreeIndex) (c : Option Tre
 unfolding definitions_closed
 closed_by_parts r e s c spine current = ap (λ s. current_moved (popped_at e r s) r.tree.current) spine ∙ ap (current_moved (popped_at e r s)) current
 
--- if the innermost definition list is closed, its last child is then current
+-- after the innermost open node is closed and its last child is moved out, that child is current
 pub closed_current : (r : PassState) (e : ℕ) (ix last : TreeIndex) (rest : List TreeIndex) → IsForest r.tree → r.tree.spine ≡ ix ∷ rest
     → r.tree.current ≡ Some last → (definitions_closed e r).tree.current ≡ Some last
 closed_current r e ix last rest forest spine current =

@@ -1,4 +1,4 @@
--- Closing and opening nodes makes no item empty.
+-- If the state records no empty item, it still records none after nodes are closed or opened.
 use Rattle.std.proofs.Common.{◌≡◌, ℕ, Bool, true, false, List, ◌∷◌, Option, Some, None, []}
 use Rattle.std.proofs.Common.{refl, if◌then◌else◌}
 use Rattle.first_pass_items.specs.declared.item.Item.{Item}
@@ -20,7 +20,7 @@ none_by : (r : PassState) (o : Option ℕ) → r.begin_list_item ≡ o → (item
 none_by r None h = h
 none_by r (Some e) h = refl
 
--- no item is empty after that
+-- after an empty item is closed, the state records none
 pub finished_none : (r : PassState) → (item_finished r).begin_list_item ≡ None
 unfolding item_finished
 finished_none r = none_by r r.begin_list_item refl
@@ -88,6 +88,6 @@ pub list_continued_none : (start byte number : ℕ) (r : PassState) → (list_co
 unfolding list_continued
 list_continued_none start byte number r = continued_by (is_list_of byte (top_body (item_finished r).tree)) start byte number (item_finished r) (finished_none r)
 
--- an item of this byte and number, opened in its list, which continues or begins
+-- an item with this byte, number and indent is opened at an offset, in the list that continues or in a new one
 abbrev pub item_opened : ℕ → ℕ → ℕ → ℕ → PassState → PassState
 item_opened start byte number columns r = begun start (ListItemBody columns) (list_continued start byte number r)

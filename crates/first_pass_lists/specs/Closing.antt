@@ -1,4 +1,7 @@
--- How items and lists are opened and closed, and the state of the pass between two lines.
+-- How containers and lists are opened and closed: the result of each call on the state of the pass. In these comments,
+-- a definition list is also a list, and its definitions are its items. An item is empty as long as it has only blank
+-- lines. A possible title is a paragraph right after a definition. A `:` after it makes it the next title of the
+-- definition list. Otherwise it comes after that list. A position is that of a node in reading order.
 use Rattle.std.specs.Prelude.{ℕ, ◌==◌, ◌&&◌, not, Bool, true, false, List, [], ◌∷◌, length}
 use Rattle.std.specs.Prelude.{Option, Some, None, is_some, slice_get, if◌then◌else◌}
 use Rattle.std.specs.Int.RustNames.{bit_and}
@@ -31,12 +34,13 @@ with_tree r tree = record r { tree = tree }
 abbrev pub with_block : PassState → Forest Item → PassState
 with_block r tree = record r { tree = tree; begin_list_item = None }
 
--- a list becomes loose; any other node is unchanged
+-- a list at a position becomes loose, given the body there; any other node is unchanged
 abbrev pub loosened_by : Forest Item → TreeIndex → Option ItemBody → Forest Item
 loosened_by f ix (Some (ListBody flags byte number)) = with_body_at f ix (ListBody (list_flags false) byte number)
 loosened_by f ix (Some (DefinitionList flags)) = with_body_at f ix (DefinitionList (list_flags false))
 loosened_by f ix _ = f
 
+-- the same; the body is read from the tree
 abbrev pub loosened_at : Forest Item → TreeIndex → Forest Item
 loosened_at f ix = loosened_by f ix (body_at f.nodes ix.0)
 
@@ -48,32 +52,36 @@ top_body f = option_and_then (λ ix. body_at f.nodes ix.0) (slice_get f.spine 0)
 abbrev pub current_body : Forest Item → Option ItemBody
 current_body f = option_and_then (λ ix. body_at f.nodes ix.0) f.current
 
--- a definition list; a list of either kind
+-- the body of a definition list
 abbrev pub is_definition_list : Option ItemBody → Bool
 is_definition_list (Some (DefinitionList flags)) = true
 is_definition_list _ = false
 
+-- the body of a list of items or of a definition list
 abbrev pub is_list : Option ItemBody → Bool
 is_list (Some (ListBody flags byte number)) = true
 is_list (Some (DefinitionList flags)) = true
 is_list _ = false
 
+-- the body of a list of items whose markers end in the byte `ch`
 abbrev pub is_list_of : ℕ → Option ItemBody → Bool
 is_list_of ch (Some (ListBody flags byte number)) = byte == ch
 is_list_of ch _ = false
 
--- an item of either kind of list; a definition is one
+-- the body of a list item or of a definition
 abbrev pub is_item : Option ItemBody → Bool
 is_item (Some (ListItemBody columns)) = true
 is_item (Some (DefinitionListDefinition columns)) = true
 is_item _ = false
 
+-- the body of a footnote definition
 abbrev pub is_footnote : Option ItemBody → Bool
 is_footnote (Some (FootnoteDefinitionBody label)) = true
 is_footnote _ = false
 
--- The innermost open node is closed. The paragraphs of a tight list become tight. If the node is an item or a
--- definition, the state then records no empty item.
+-- The state after a node is closed. Given are the state before, the tree with the node closed, and the position and
+-- the body of the node. If the node is a tight list, the paragraphs directly in its items become tight. If it is an
+-- item or a definition, the state records no empty item.
 abbrev pub popped_by : PassState → Forest Item → TreeIndex → Option ItemBody → PassState
 popped_by r f ix (Some (ListBody flags byte number)) = record r { tree = if bit_and flags.0 1 == 1 then tight_items f ix else f }
 popped_by r f ix (Some (DefinitionList flags)) = record r { tree = if bit_and flags.0 1 == 1 then tight_items f ix else f }
@@ -81,11 +89,13 @@ popped_by r f ix (Some (ListItemBody columns)) = record r { tree = f; begin_list
 popped_by r f ix (Some (DefinitionListDefinition columns)) = record r { tree = f; begin_list_item = None }
 popped_by r f ix _ = record r { tree = f }
 
+-- the innermost open node, at the first of these positions, is closed at an offset
 abbrev pub popped_at : ℕ → PassState → List TreeIndex → PassState
 popped_at e r [] = r
 popped_at e r (ix ∷ rest) = popped_by r (closed_by r.tree e (ix ∷ rest)) ix (body_at (closed_by r.tree e (ix ∷ rest)).nodes ix.0)
 
--- the current node is moved out of the list that was just closed
+-- the last child of the list that was just closed is moved out of it; the child was the current node before the
+-- closing
 abbrev pub current_moved : PassState → Option TreeIndex → PassState
 current_moved r None = r
 current_moved r (Some ix) = with_tree r (moved_from r.tree ix.0)
@@ -99,42 +109,48 @@ definitions_closed e r = current_moved (popped_at e r r.tree.spine) r.tree.curre
 abbrev pub top_end : Forest Item → ℕ
 top_end f = option_map_or (λ x. x.«end») (option_and_then (λ ix. item_at f ix) (slice_get f.spine 0)) 0
 
--- the current node, if it is a possible title and the innermost open node is a definition list
+-- The position of the current node, if that is a possible title and the innermost open node is a definition list.
+-- Given are the body of the innermost open node, and the position and the body of the current node.
 abbrev pub title_by : Option ItemBody → TreeIndex → Option ItemBody → Option TreeIndex
 title_by top ix (Some MaybeDefinitionListTitle) = if is_definition_list top then Some ix else None
 title_by top ix _ = None
 
+-- the same for a tree
 abbrev pub possible_title : Forest Item → Option TreeIndex
 possible_title f = option_and_then (λ ix. title_by (top_body f) ix (body_at f.nodes ix.0)) f.current
 
--- A possible title, the current node, becomes a paragraph after the innermost definition list. The list is closed at
--- the end that its node has had since the title was read: the end of its last definition (this project).
+-- The innermost open node is a definition list, and the current node is its possible title. The list is closed at the
+-- end of its last definition, which `title_kept` has recorded in the list. The possible title becomes a paragraph
+-- after the list (this project).
 abbrev pub title_closed : PassState → TreeIndex → PassState
 title_closed r title = definitions_closed (top_end r.tree) (with_tree r (with_body_at r.tree title ParagraphBody))
 
+-- the same, if there is a possible title; otherwise the innermost open node is closed at an offset
 abbrev pub popped_after : ℕ → PassState → Option TreeIndex → PassState
 popped_after e r None = popped_at e r r.tree.spine
 popped_after e r (Some title) = title_closed r title
 
--- the innermost open node is closed at an offset; or, if a possible title is last in it, at the end of its last
--- definition
+-- The innermost open node is closed at an offset. But if it is a definition list whose last child is a possible title,
+-- it is closed at the end of its last definition.
 unfoldable pub popped : ℕ → PassState → PassState
 popped e r = popped_after e r (possible_title r.tree)
 
--- an item that has only blank lines, of which the last counts, is closed at the end of its marker's line; afterwards
--- the state records no empty item
+-- The innermost open node is closed, if it is an empty item or definition and a counting blank line is directly
+-- before. It ends at the offset that is given, which is after the line of its marker. In any case, the state then
+-- records no empty item.
 abbrev pub item_finished_by : PassState → Option ℕ → PassState
 item_finished_by r None = r
 item_finished_by r (Some e) = record (if r.blank && is_item (top_body r.tree) then popped e r else r) { begin_list_item = None }
 
+-- the same with the offset that the state records
 unfoldable pub item_finished : PassState → PassState
 item_finished r = item_finished_by r r.begin_list_item
 
--- the innermost open node is closed, if it is a list
+-- the innermost open node is closed at an offset, if it is a list
 abbrev pub list_closed : ℕ → PassState → PassState
 list_closed e r = if is_list (top_body r.tree) then popped e r else r
 
--- the innermost open node is closed, if it is a footnote definition
+-- the innermost open node is closed at an offset, if it is a footnote definition
 abbrev pub footnote_left : ℕ → PassState → PassState
 footnote_left e r = if is_footnote (top_body r.tree) then popped e r else r
 
@@ -142,109 +158,126 @@ footnote_left e r = if is_footnote (top_body r.tree) then popped e r else r
 abbrev pub old_footnote_finished : ℕ → PassState → PassState
 old_footnote_finished e r = if r.blank then footnote_left e r else r
 
--- the list whose item contains a block becomes loose if a counting blank line is before the block
+-- the second of these open nodes, innermost first, becomes loose, if it is a list
 abbrev pub gap_tree : Forest Item → List TreeIndex → Forest Item
 gap_tree f [] = f
 gap_tree f (ix ∷ []) = f
 gap_tree f (ix ∷ outer ∷ rest) = loosened_at f outer
 
+-- If a counting blank line is before a block, and the block is directly in an item, the list of that item becomes
+-- loose. The blank line then no longer counts.
 abbrev pub gap_noted : PassState → PassState
 gap_noted r = if r.blank then record r { tree = gap_tree r.tree r.tree.spine; blank = false } else r
 
 -- The current node, right after a definition, turned out to be a heading or a table. The definition list is closed at
--- an offset without it. If a counting blank line is before it, the list whose item contains both becomes loose
+-- an offset, and the current node is moved out of it. Suppose that a counting blank line is before the current node,
+-- and that the definition list is directly in an item of another list. Then that other list becomes loose
 -- (this project).
 unfoldable pub definitions_left : ℕ → PassState → PassState
 definitions_left e r = gap_noted (definitions_closed e r)
 
--- the state before a block that ends a list at an offset
+-- The state when a new block is added. First an empty item is closed. If the innermost open node is then a list, it is
+-- closed at an offset. If a counting blank line is before a block directly in an item, the list of that item becomes
+-- loose.
 unfoldable pub list_finished : ℕ → PassState → PassState
 list_finished e r = gap_noted (list_closed e (item_finished r))
 
+-- the innermost open node becomes loose, if it is a list
 abbrev pub loosened_top : Forest Item → List TreeIndex → Forest Item
 loosened_top f [] = f
 loosened_top f (ix ∷ rest) = loosened_at f ix
 
--- the state in which the innermost list continues
+-- The innermost open node, a list, continues. A counting blank line directly before makes it loose, and then no longer
+-- counts.
 abbrev pub list_kept : PassState → PassState
 list_kept r = if r.blank then record r { tree = loosened_top r.tree r.tree.spine; blank = false } else r
 
--- a container or a list that starts at an offset is opened
+-- a container or a list with this body is opened at an offset
 abbrev pub begun : ℕ → ItemBody → PassState → PassState
 begun start body r =
     record r { tree = pushed (appended r.tree (record { start = start; «end» = 0; body = body })) (record { 0 = length r.tree.nodes }) }
 
--- the tree with another body at the current place
+-- the tree with another body of the node at a position, if one is given
 abbrev pub with_current : Forest Item → ItemBody → Option TreeIndex → Forest Item
 with_current f body None = f
 with_current f body (Some c) = with_body_at f c body
 
--- The current node, a paragraph right after a definition, is a possible title. The end of that definition, an offset,
--- is recorded in the innermost definition list. A blank line before the paragraph no longer counts (this project).
+-- The current node, a paragraph right after a definition, becomes a possible title. The innermost open node, the
+-- definition list, records an offset, which is the end of that definition. A blank line before the paragraph no longer
+-- counts (this project).
 unfoldable pub title_kept : ℕ → PassState → PassState
 title_kept e r = record r { tree = with_end (with_current r.tree MaybeDefinitionListTitle r.tree.current) e (slice_get r.tree.spine 0); blank = false }
 
--- A `:` may begin a definition, given the bodies of the innermost open node and of the current node. It may after a
--- paragraph directly in a container or at the top level. In a definition list it may after a possible title, or after a
--- definition that takes more than blank lines (this project).
+-- A `:` may begin a definition after the current node. Given are the bodies of the innermost open node and of the
+-- current node. After a paragraph it may, unless the innermost open node is a list. If that node is a definition list,
+-- it may after a possible title, and after a definition whose indent is not 0. A definition with the indent 0 takes
+-- only blank lines (this project).
 abbrev pub precedes_definition : Option ItemBody → Option ItemBody → Bool
 precedes_definition top (Some ParagraphBody) = not (is_list top)
 precedes_definition top (Some MaybeDefinitionListTitle) = is_definition_list top
 precedes_definition top (Some (DefinitionListDefinition columns)) = is_definition_list top && not (columns == 0)
 precedes_definition top _ = false
 
+-- the same for a tree
 abbrev pub takes_definition : Forest Item → Bool
 takes_definition f = precedes_definition (top_body f) (current_body f)
 
--- a paragraph that begins here may become the next title: the innermost open node is a definition list whose last
--- child is no possible title (this project)
+-- A paragraph that begins here may become the next title. This is so if the innermost open node is a definition list
+-- whose last child is not a possible title (this project).
 abbrev pub is_after_definition : Forest Item → Bool
 is_after_definition f = is_definition_list (top_body f) && not (is_some (possible_title f))
 
--- The definition list for a new definition is open, given the parts of the current node. A possible title becomes its
--- next title. A paragraph becomes the title of a new list, which is tight so far. After a definition nothing changes
--- (this project).
+-- The tree in which a new definition can be opened. Given are the position, the start, the end and the body of the
+-- current node. A possible title becomes the next title of the open definition list. A paragraph becomes the title of
+-- a new list, which is tight so far and is opened. Otherwise nothing changes (this project).
 abbrev pub definitions_by : Forest Item → TreeIndex → ℕ → ℕ → ItemBody → Forest Item
 definitions_by f c start e MaybeDefinitionListTitle = with_body_at f c DefinitionListTitle
 definitions_by f c start e ParagraphBody =
     pushed (wrapped (with_body_at f c (DefinitionList (list_flags true))) c (record { start = start; «end» = e; body = DefinitionListTitle })) c
 definitions_by f c start e _ = f
 
+-- the same, given the item of the current node
 abbrev pub definitions_at : Forest Item → TreeIndex → Option Item → Forest Item
 definitions_at f c None = f
 definitions_at f c (Some x) = definitions_by f c x.start x.«end» x.body
 
+-- the same, given the position of the current node
 abbrev pub definitions_opened : Forest Item → Option TreeIndex → Forest Item
 definitions_opened f None = f
 definitions_opened f (Some c) = definitions_at f c (item_at f c)
 
--- a definition with an indent is opened at an offset, in the open definition list or in a new one; a counting blank
--- line before it makes that list loose (this project)
+-- A definition with an indent is opened at an offset, in the open definition list or in a new one. A counting blank
+-- line before the definition makes that list loose (this project).
 unfoldable pub definition_begun : ℕ → ℕ → PassState → PassState
 definition_begun start indent r = begun start (DefinitionListDefinition indent) (list_kept (with_tree r (definitions_opened r.tree r.tree.current)))
 
--- A footnote definition with its label is opened at an offset. If the innermost open node is a list, it is closed
--- there. If the innermost open node is then a footnote definition, that is closed too.
+-- A footnote definition with its label is opened at an offset. Before that, an empty item is closed. If the innermost
+-- open node is then a list, it is closed at the offset. If the innermost open node is then a footnote definition, it
+-- is closed there too. If a counting blank line is before a footnote definition directly in an item, the list of that
+-- item becomes loose (this project).
 unfoldable pub footnote_begun : ℕ → CowIndex → PassState → PassState
 footnote_begun start label r = begun start (FootnoteDefinitionBody label) (gap_noted (footnote_left start (list_closed start (item_finished r))))
 
--- the state before an item with this byte and number: in the list that continues, or in a new one
+-- The state in which an item with this byte and number can be opened at an offset. First an empty item is closed. If
+-- the innermost open node is then a list with this byte, it continues. Otherwise what a new block ends is closed, and
+-- a new list is opened.
 unfoldable pub list_continued : ℕ → ℕ → ℕ → PassState → PassState
 list_continued start byte number r =
     let s = item_finished r in
     if is_list_of byte (top_body s.tree) then list_kept s else begun start (ListBody (list_flags true) byte number) (list_finished start s)
 
--- the innermost open node, an item or a definition, takes only blank lines
+-- the innermost open node, an item, takes only blank lines from now on
 abbrev pub emptied : Forest Item → List TreeIndex → Forest Item
 emptied f [] = f
 emptied f (ix ∷ rest) = with_body_at f ix (ListItemBody 0)
 
+-- the innermost open node, a definition, takes only blank lines from now on
 abbrev pub emptied_definition : Forest Item → List TreeIndex → Forest Item
 emptied_definition f [] = f
 emptied_definition f (ix ∷ rest) = with_body_at f ix (DefinitionListDefinition 0)
 
--- a blank line is read: it does not count directly in a block quote, and an empty item or definition takes only blank
--- lines from then on
+-- A blank line is read, given the body of the innermost open node. In a block quote the line does not count, and
+-- nothing changes. Otherwise it counts, and an empty item or definition takes only blank lines from then on.
 abbrev pub blank_read_by : PassState → Option ItemBody → PassState
 blank_read_by r (Some (BlockQuoteBody kind)) = r
 blank_read_by r (Some (ListItemBody columns)) = record r { tree = if is_some r.begin_list_item then emptied r.tree r.tree.spine else r.tree; blank = true }
@@ -252,10 +285,11 @@ blank_read_by r (Some (DefinitionListDefinition columns)) =
     record r { tree = if is_some r.begin_list_item then emptied_definition r.tree r.tree.spine else r.tree; blank = true }
 blank_read_by r _ = record r { blank = true }
 
+-- the same for a state
 unfoldable pub blank_read : PassState → PassState
 blank_read r = blank_read_by r (top_body r.tree)
 
--- An innermost footnote definition in the old form is closed at the start of a line, after a counting blank line
--- (this project).
+-- If the innermost open node is a footnote definition in the old form, it is closed at the start of a line, after a
+-- counting blank line (this project).
 abbrev pub footnote_ended : Options → ℕ → PassState → PassState
 footnote_ended options e r = if gfm_footnotes options then r else old_footnote_finished e r

@@ -1,4 +1,5 @@
-//! When a list continues, becomes loose and is closed: the state of the pass between two lines, and the calls on it.
+//! The state of the pass, and the calls that change it. They open containers and lists, continue lists, make them
+//! loose, and close them.
 #![tactic(auto)]
 
 pub mod list;

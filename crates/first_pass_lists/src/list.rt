@@ -1,4 +1,9 @@
-//! Lists and definition lists, and their items: how they continue, become loose and are closed (CommonMark 5.2, 5.3).
+//! The calls on the state of the pass. They open, continue and close lists and definition lists, and make them loose
+//! (CommonMark 5.2, 5.3). They also open block quotes and footnote definitions, and read blank lines.
+//!
+//! In these comments, a definition list is also a list, and its definitions are its items. An item is empty as long as
+//! it has only blank lines. A possible title is a paragraph right after a definition (`MaybeDefinitionListTitle`). A
+//! `:` after it makes it the next title of the definition list. Otherwise it comes after that list (this project).
 
 ghost use Rattle.std.specs.Prelude.{◌≡◌, ◌==◌, ◌<◌, length, None, true, IsSome, slice_get, OnOk, IfSome, bit_and, if◌then◌else◌};
 ghost use Rattle.first_pass_lists.specs.Closing.{loosened_at, top_body, is_list, is_item, is_list_of, popped_at, popped, item_finished, list_closed, footnote_left, old_footnote_finished, footnote_begun, with_tree, gap_noted, list_finished, list_kept, list_continued, begun, blank_read, is_footnote};
@@ -27,8 +32,9 @@ pub struct ListMarker {
     pub indent: usize,
 }
 
-/// Unless the list is loose, makes tight the paragraphs directly in its items (CommonMark 5.3). The list is the current
-/// node. Notes where it ends: before its last child, if that is given.
+/// The list, which is the current node, was just closed. If it is tight, the paragraphs directly in its items become
+/// tight (CommonMark 5.3). Then the tree records where the nodes of the list end. If `left` is given, it is the last
+/// child and is about to leave the list, so the nodes end before it.
 #[inline(never)]
 fn tighten_list(
     tree: &mut Tree<Item>,
@@ -65,9 +71,11 @@ fn loosen(tree: &mut Tree<Item>, ix: TreeIndex)
 }
 
 impl PassState {
-    /// Closes the innermost open node at the offset `ix`. A node other than the root must be open. The paragraphs of a
-    /// list become tight, unless it is loose (CommonMark 5.3). A definition list whose last child is a possible title
-    /// ends where its last definition does, and the title becomes a paragraph after it (this project).
+    /// Closes the innermost open node at the offset `ix`. A node other than the root must be open. If the node is a
+    /// tight list, the paragraphs directly in its items become tight (CommonMark 5.3). If it is an item or a
+    /// definition, the state then records no empty item. If it is a definition list whose last child is a possible
+    /// title, it ends where its last definition ends. The possible title becomes a paragraph after that list (this
+    /// project).
     #[tactic(auto, unfolding(crate::specs::Closing::popped))]
     pub fn pop(&mut self, ix: usize)
         requires { IsSome (slice_get self.old.tree.spine 0) }
@@ -79,8 +87,8 @@ impl PassState {
         }
     }
 
-    // Closes the innermost open node at the offset `ix`. A node other than the root must be open. The paragraphs of a
-    // list become tight, unless it is loose. If the last child is given, it is about to leave the list.
+    // As `pop`, but leaves a possible title as it is. `left` is given only for a definition list: it is the last
+    // child, which the caller then moves out of the list.
     #[tactic(auto, using(crate::proofs::WithinLemmas::closed_within))]
     fn close_innermost(&mut self, ix: usize, left: Option<TreeIndex>)
         requires { IsSome (slice_get self.old.tree.spine 0) }
@@ -113,8 +121,8 @@ impl PassState {
         None
     }
 
-    // Closes the innermost definition list where its last definition ends. The possible title after that, the current
-    // node, becomes a paragraph after the list.
+    // Closes the innermost open node, a definition list, where its last definition ends. Its possible title, which is
+    // the current node, becomes a paragraph after the list.
     fn leave_possible_title(&mut self, title: TreeIndex)
         requires open { IsSome (slice_get self.old.tree.spine 0) }
         requires title { title.0 < length self.old.tree.nodes }
@@ -137,7 +145,8 @@ impl PassState {
         self.tree[ix].end
     }
 
-    // Closes the innermost definition list at the offset `end`, and moves its last child, the current node, out of it.
+    // Closes the innermost open node, a definition list, at the offset `end`. Moves its last child, the current node,
+    // out of it.
     #[tactic(auto, unfolding(crate::specs::Closing::definitions_closed))]
     fn close_definitions(&mut self, end: usize)
         requires { IsSome (slice_get self.old.tree.spine 0) }
@@ -151,9 +160,10 @@ impl PassState {
         }
     }
 
-    /// Closes the innermost definition list at the offset `end`, where its last definition ends. The current node
-    /// follows that definition. It began like a paragraph, but turned out to be a heading or a table, so it comes after
-    /// the list. If a counting blank line is before it, the list whose item contains both becomes loose (this project).
+    /// Closes the innermost open node, a definition list, at the offset `end`, where its last definition ends. The
+    /// current node follows that definition. It began like a paragraph, but turned out to be a heading or a table. So
+    /// it is moved out, and follows the list. Suppose that a counting blank line is before the current node, and that
+    /// the definition list is directly in an item of another list. Then that other list becomes loose (this project).
     #[tactic(auto, unfolding(crate::specs::Closing::definitions_left))]
     pub fn leave_definitions(&mut self, end: usize)
         requires { IsSome (slice_get self.old.tree.spine 0) }
@@ -163,8 +173,9 @@ impl PassState {
         self.mark_gap();
     }
 
-    /// Makes the current node a possible title: a `:` after it will make it a title. It is a paragraph right after a
-    /// definition, which ends at the offset `end`. A blank line before it no longer counts (this project).
+    /// Makes the current node a possible title. It is a paragraph right after a definition, which ends at the offset
+    /// `end`. The definition list, the innermost open node, records this end. A blank line before the paragraph no
+    /// longer counts (this project).
     #[tactic(auto, using(first_pass_open::proofs::BlockLemmas::open_node_in), unfolding(crate::specs::Closing::title_kept))]
     pub fn keep_possible_title(&mut self, end: usize)
         ensures { self.new ≡ title_kept end self.old }
@@ -181,9 +192,9 @@ impl PassState {
         self.blank = false;
     }
 
-    /// Whether a `:` may begin a definition here. It may after a paragraph, unless the innermost open node is a list.
-    /// In a definition list it may after a possible title, or after a definition that takes more than blank lines (this
-    /// project).
+    /// Whether a `:` may begin a definition after the current node. After a paragraph it may, unless the innermost
+    /// open node is a list. If that node is a definition list, it may after a possible title, and after a definition
+    /// whose indent is not 0. A definition with the indent 0 takes only blank lines (this project).
     pub fn takes_definition(&self) -> bool
         ensures { result ≡ takes_definition self.now.tree }
     {
@@ -199,8 +210,8 @@ impl PassState {
         }
     }
 
-    /// Whether a paragraph that begins here may become the next title: the innermost open node is a definition list
-    /// whose last child is no possible title, so that it is right after a definition (this project).
+    /// Whether a paragraph that begins here may become the next title. This is so if the innermost open node is a
+    /// definition list whose last child is not a possible title. That last child is then a definition (this project).
     pub fn is_after_definition(&self) -> bool
         ensures { result ≡ is_after_definition self.now.tree }
     {
@@ -234,9 +245,10 @@ impl PassState {
         )
     }
 
-    /// Opens a definition with an indent at the offset `start`: in the open definition list, or in a new one whose
-    /// title is the current node, a paragraph. A counting blank line before the definition makes that list loose
-    /// (this project).
+    /// Opens a definition at the offset `start`; a line needs `indent` columns to continue it. If the current node is
+    /// a paragraph, it becomes the title of a new definition list, and the definition is in that list. Otherwise the
+    /// definition is in the open definition list, and a possible title that precedes it becomes a title. A counting
+    /// blank line before the definition makes the list loose (this project).
     #[tactic(auto, unfolding(crate::specs::Closing::definition_begun))]
     pub fn open_definition(&mut self, start: usize, indent: usize) -> Result<(), AllocError>
         ensures { OnOk result (self.new ≡ definition_begun start indent self.old) }
@@ -251,8 +263,8 @@ impl PassState {
         Ok(())
     }
 
-    // Makes the current node the title of a definition, if it is a possible title or a paragraph. For a paragraph,
-    // opens a definition list.
+    // If the current node is a possible title, makes it a title. If it is a paragraph, opens a tight definition list
+    // in its place, whose first child is that paragraph as a title.
     fn open_definition_list(&mut self) -> Result<(), AllocError>
         ensures { OnOk result (self.new
             ≡ with_tree self.old (definitions_opened self.old.tree self.old.tree.current)) }
@@ -282,9 +294,9 @@ impl PassState {
         Ok(())
     }
 
-    /// Closes the innermost open node at the end of its marker's line, if it is an item or a definition that has only
-    /// blank lines, of which the last counts (CommonMark 5.2, and this project). Afterwards the state records no empty
-    /// item.
+    /// Closes the innermost open node, if it is an empty item or definition and a counting blank line is directly
+    /// before. The node then ends after the line of its marker (CommonMark 5.2, and this project). In any case, the
+    /// state then records no empty item.
     #[tactic(auto, using(crate::proofs::WithinLemmas::item_is_open), unfolding(crate::specs::Closing::item_finished))]
     pub fn finish_empty_list_item(&mut self)
         ensures { self.new ≡ item_finished self.old }
@@ -312,10 +324,9 @@ impl PassState {
         )
     }
 
-    /// Closes what a new block ends: first an empty item, if a counting blank line is before the block. Then, if the
-    /// innermost open node is a list, closes it at the offset `ix`. A definition list whose last child is a possible
-    /// title ends where its last definition does. If a counting blank line is before the block, the list whose item
-    /// contains it becomes loose.
+    /// Prepares the state for a new block. First closes an empty item as `finish_empty_list_item` does. If the
+    /// innermost open node is then a list, closes it at the offset `ix` as `pop` does. Suppose that a counting blank
+    /// line is before the block, and that the block is directly in an item. Then the list of that item becomes loose.
     #[inline(always)]
     #[tactic(auto, unfolding(crate::specs::Closing::list_finished))]
     pub fn finish_list(&mut self, ix: usize)
@@ -326,7 +337,7 @@ impl PassState {
         self.mark_gap();
     }
 
-    // Closes the innermost open node, if it is a list, at the offset `ix`.
+    // If the innermost open node is a list, closes it at the offset `ix` as `pop` does.
     #[tactic(auto, using(crate::proofs::WithinLemmas::list_is_open))]
     fn leave_list(&mut self, ix: usize)
         ensures { self.new ≡ list_closed ix self.old }
@@ -336,9 +347,10 @@ impl PassState {
         }
     }
 
-    /// Closes the innermost open node at the offset `ix`, the start of the current line, if the node is a footnote
-    /// definition and a counting blank line is directly before. If a list is open in a footnote definition, that
-    /// definition is not the innermost open node, and so stays open (this project, on footnotes in their old form).
+    /// Closes the innermost open node at the offset `ix`, which is the start of a line. It does so only if the node is
+    /// a footnote definition, and a counting blank line is directly before that line. If a list is open in a footnote
+    /// definition, that definition is not the innermost open node, and so stays open. This call is for footnote
+    /// definitions in the old form (this project).
     pub fn finish_old_footnote(&mut self, ix: usize)
         ensures { self.new ≡ old_footnote_finished ix self.old }
     {
@@ -347,7 +359,7 @@ impl PassState {
         }
     }
 
-    // Closes the innermost open node, if it is a footnote definition, at the offset `ix`.
+    // If the innermost open node is a footnote definition, closes it at the offset `ix`.
     #[tactic(auto, using(first_pass_open::proofs::BlockLemmas::open_node_in))]
     fn leave_footnote(&mut self, ix: usize)
         ensures { self.new ≡ footnote_left ix self.old }
@@ -360,7 +372,8 @@ impl PassState {
         }
     }
 
-    // Makes loose the list whose item contains the next block, if a counting blank line is before that block.
+    // If a counting blank line is before the next block, and that block is directly in an item, the list of that item
+    // becomes loose. The blank line then no longer counts.
     #[tactic(auto, using(crate::proofs::WithinLemmas::second_within))]
     fn mark_gap(&mut self)
         ensures { self.new ≡ gap_noted self.old }
@@ -374,8 +387,9 @@ impl PassState {
         }
     }
 
-    /// Reads a blank line, which does not count directly in a block quote. An item or a definition that was empty
-    /// takes only blank lines from then on.
+    /// Reads a blank line. If the innermost open node is a block quote, the line does not count, and nothing changes.
+    /// Otherwise it counts. If the innermost open node is an empty item or definition, its indent becomes 0: it takes
+    /// only blank lines from then on.
     #[tactic(auto, using(first_pass_open::proofs::BlockLemmas::open_node_in), unfolding(crate::specs::Closing::blank_read))]
     pub fn read_blank_line(&mut self)
         ensures { self.new ≡ blank_read self.old }
@@ -432,8 +446,10 @@ impl PassState {
         matches!(self.tree[ix].body, ItemBody::FootnoteDefinition(_))
     }
 
-    /// Continues the innermost list if its byte is `ch`; a counting blank line before makes it loose. Otherwise opens a
-    /// list with that byte and the number `index` at the offset `start`.
+    /// Makes a list with the byte `ch` the innermost open node, so that an item can be opened in it. First closes an
+    /// empty item as `finish_empty_list_item` does. If the innermost open node is then a list with this byte, that
+    /// list continues, and a counting blank line directly before makes it loose. Otherwise calls `finish_list`, and
+    /// opens a list with this byte and the number `index`. Both are at the offset `start`.
     #[tactic(auto, unfolding(crate::specs::Closing::list_continued))]
     pub fn continue_list(&mut self, start: usize, ch: u8, index: u64) -> Result<(), AllocError>
         ensures { OnOk result (self.new ≡ list_continued start ch index self.old) }
@@ -468,7 +484,8 @@ impl PassState {
         false
     }
 
-    // Continues the innermost open node, a list; a counting blank line before makes it loose.
+    // Continues the innermost open node, a list. A counting blank line directly before makes it loose, and then no
+    // longer counts.
     #[tactic(auto, using(first_pass_open::proofs::BlockLemmas::open_node_in))]
     fn keep_list(&mut self)
         ensures { self.new ≡ list_kept self.old }
@@ -482,7 +499,8 @@ impl PassState {
         }
     }
 
-    /// Opens the item of a marker at the offset `start`, in the list that continues or in a new one.
+    /// Opens the item of a marker at the offset `start`. `continue_list` decides whether it is in the innermost list
+    /// or in a new one.
     pub fn open_item(&mut self, start: usize, marker: ListMarker) -> Result<(), AllocError>
         ensures { OnOk result (self.new
             ≡ begun start (ListItemBody marker.indent) (list_continued start marker.byte marker.number self.old)) }
@@ -492,7 +510,8 @@ impl PassState {
         Ok(())
     }
 
-    /// Opens a block quote of a kind at the offset `start`, in the line at `line`.
+    /// Opens a block quote of a kind at the offset `start`, that of its `>`. Before that, calls `finish_list` at the
+    /// offset `line`, where reading of its line began.
     pub fn open_quote(
         &mut self,
         line: usize,
@@ -506,11 +525,11 @@ impl PassState {
         Ok(())
     }
 
-    /// Opens a footnote definition at the offset `start`, that of its `[`, with the label that an index names. Before
-    /// that, closes an empty item as `finish_empty_list_item` does. If the innermost open node is then a list, it is
-    /// closed at `start`. If the innermost open node is then a footnote definition, that is closed too, so that none is
-    /// directly in another. If a counting blank line is before, the list whose item contains the new one becomes loose
-    /// (this project).
+    /// Opens a footnote definition at the offset `start`, that of its `[`. Its label is the string that the index
+    /// `label` names. Before that, closes an empty item as `finish_empty_list_item` does. If the innermost open node
+    /// is then a list, it is closed at `start`. If the innermost open node is then a footnote definition, it is closed
+    /// there too; so none is directly in another. Suppose that a counting blank line is directly before, and that the
+    /// new footnote definition is directly in an item. Then the list of that item becomes loose (this project).
     #[tactic(auto, unfolding(crate::specs::Closing::footnote_begun))]
     pub fn open_footnote(&mut self, start: usize, label: CowIndex) -> Result<(), AllocError>
         ensures { OnOk result (self.new ≡ footnote_begun start label self.old) }

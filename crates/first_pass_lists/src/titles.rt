@@ -1,4 +1,5 @@
-//! Moving what follows the leading titles and definitions of a definition list out of it (this project).
+//! A call of the original that the pass does not make. A definition list keeps its leading titles and definitions, and
+//! all later children move out of it (this project).
 
 ghost use Rattle.std.specs.Prelude.{◌≡◌, ◌<◌, ◌≤◌, length, Some};
 ghost use Rattle.first_pass_tree.specs.Forest.{body_at, depths, last_before};
@@ -8,10 +9,10 @@ use first_pass_items::item::{Item, ItemBody};
 use first_pass_tree::forest::Tree;
 use first_pass_tree::tree_index::TreeIndex;
 
-/// The current node, `list_ix`, is a definition list. Moves its first child that is neither a title nor a definition,
-/// and all after that, out of the list. The list then ends with the last child that is left. If that first child is a
-/// possible title, it becomes a paragraph. If there is no such child, nothing changes. If no child precedes it, nothing
-/// is moved.
+/// Moves the later children out of the definition list `list_ix`, the current node. The call looks for the first child
+/// that is neither a title nor a definition. If there is none, nothing changes. If that child is a possible title, it
+/// becomes a paragraph. If it is also the first child of all, nothing is moved. Otherwise it and all nodes after it
+/// move out of the list, which then ends where its last remaining child ends.
 #[tactic(auto, unfolding(crate::specs::Titles::fixed_up))]
 pub fn fixup_end_of_definition_list(tree: &mut Tree<Item>, list_ix: TreeIndex)
     requires { tree.old.current ≡ Some list_ix }
@@ -33,8 +34,8 @@ pub fn fixup_end_of_definition_list(tree: &mut Tree<Item>, list_ix: TreeIndex)
     tree.move_out(TreeIndex(other));
 }
 
-// The place of the first node from `from` on that has this depth and is neither a title nor a definition; the number
-// of nodes if there is none.
+// The position of the first node of this depth that is neither a title nor a definition. The search starts at the
+// position `from`. If there is no such node, the number of nodes.
 fn first_other(nodes: &[(usize, Item)], depth: usize, from: usize) -> usize
     requires { from ≤ length nodes.now }
     ensures { result ≡ first_other depth from nodes.now }
@@ -49,7 +50,7 @@ fn first_other(nodes: &[(usize, Item)], depth: usize, from: usize) -> usize
     place
 }
 
-// The place of the last node of this depth before another place, or 0.
+// The position of the last node of this depth before the position `before`; 0 if there is none.
 fn last_of_depth(nodes: &[(usize, Item)], depth: usize, before: usize) -> usize
     requires { before ≤ length nodes.now }
     ensures { result ≡ last_before (depths nodes.now) depth before }
@@ -64,7 +65,7 @@ fn last_of_depth(nodes: &[(usize, Item)], depth: usize, before: usize) -> usize
     0
 }
 
-// Whether this is a title or a definition.
+// Whether this is the body of a title or of a definition.
 fn is_in_group(body: &ItemBody) -> bool
     ensures { result ≡ is_in_group body.now }
 {
@@ -74,7 +75,7 @@ fn is_in_group(body: &ItemBody) -> bool
     )
 }
 
-// Makes a possible title at a place a paragraph.
+// If the node at the position `place` is a possible title, makes it a paragraph.
 fn leave_untitled(tree: &mut Tree<Item>, place: usize)
     requires { place < length tree.old.nodes }
     ensures { tree.new ≡ left_untitled tree.old place }

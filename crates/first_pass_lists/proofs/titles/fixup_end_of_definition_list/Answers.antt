@@ -13,7 +13,7 @@ use Rattle.first_pass_tree.proofs.Keeps.{depths-modify, depth_read, current-with
 use Rattle.first_pass_lists.specs.Titles.{place, is_other_at, is_possible_title, first_other, left_untitled}
 use Rattle.first_pass_lists.proofs.titles.fixup_end_of_definition_list.Goals as goal
 
--- a place with this depth is before the end of the search
+-- the position r is before n, and the node there has the depth d
 record IsFound (ds : List ℕ) (d n r : ℕ) : Type 0 where
   pub within : r < n
   pub depth : slice_index ds r ≡ d
@@ -30,7 +30,7 @@ found ds d (suc k) h = found_by (slice_index ds k == d) ds d k refl (found ds d 
 kept_at : (ds : List ℕ) (d n r list : ℕ) → r ≡ last_before ds d n → list < r → IsFound ds d n r
 kept_at ds d n r list is above = subst (IsFound ds d n) (sym is) (found ds d n (omega arith))
 
--- a child of the current node after it, and no more
+-- the position n is that of a node after the list, with the depth of a child of the current node
 record IsOther (f : Forest Item) (list n : ℕ) : Type 0 where
   pub within : n < length f.nodes
   pub depth : slice_index (depths f.nodes) n ≡ length f.spine + 2
@@ -66,7 +66,7 @@ other_at f ns spine r list nodes way is within =
       above = omega (arith, first);
     }
 
--- a forest with other ranges and bodies: the same number of nodes, with the same depths
+-- two trees have the same depths, the same open nodes and the same current node; their items may differ
 record IsLike (f g : Forest Item) : Type 0 where
   pub depths : depths g.nodes ≡ depths f.nodes
   pub spine : g.spine ≡ f.spine
