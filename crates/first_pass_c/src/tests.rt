@@ -60,39 +60,18 @@ const TEXT: &[u8] = b"# a {#i .c k=v}\n~~~ x&copy;\nb\n~~~\n[L]: /u 't'\n\n[^f]:
 // Footnotes and heading attributes.
 const OPTIONS: u32 = 68;
 
-#[test]
-fn a_text_is_read_whole(rt: HostRuntime) -> Result<(), Fail> {
-    let mut nodes = [NODE; 9];
-    let mut attributes = [ATTRIBUTE; 4];
-    let mut definitions = [DEFINITION; 3];
-    let mut names = [b'?'; 14];
-    let mut counts = COUNTS;
-    let status = first_pass_read(
-        rt.alloc(),
-        TEXT,
-        OPTIONS,
-        &mut nodes,
-        &mut attributes,
-        &mut definitions,
-        &mut names,
-        &mut counts,
-    );
-    assert!(rt; status == 0);
-    assert!(rt; counts.nodes == 8 && counts.attributes == 3 && counts.definitions == 2);
-    assert!(rt; counts.links == 1 && counts.names == 13);
-    assert!(rt; nodes[1].kind == 4 && nodes[1].next == 3 && nodes[1].name_length == 3);
-    assert!(rt; nodes[3].kind == 5 && nodes[3].start == 16 && nodes[3].end == 33);
-    assert!(rt; nodes[7].depth == 3 && nodes[7].start == 53 && nodes[8].kind == 99);
-    assert!(rt; attributes[0].kind == 0 && attributes[1].kind == 1 && attributes[2].kind == 2);
-    assert!(rt; attributes[2].value == 7 && attributes[3].kind == 99);
-    assert!(rt; definitions[0].start == 34 && definitions[0].title_length == 1);
-    assert!(rt; definitions[1].label == 12 && definitions[2].start == 99);
-    assert!(rt; names.as_slice() == "x\u{a9}fickvL/utf?".as_bytes());
-    Ok(())
+// The arrays and the counts after a call.
+#[derive(Drop)]
+struct Filled {
+    nodes: [FlatNode; 9],
+    attributes: [FlatAttribute; 4],
+    definitions: [FlatDefinition; 3],
+    names: [u8; 14],
+    counts: FlatCounts,
 }
 
-// Reads a text with these array lengths; returns the status and the counts.
-fn read_within(alloc: Global, text: &[u8], bits: u32, room: [usize; 4]) -> (u32, FlatCounts) {
+// Reads a text with these array lengths; returns the status and what the arrays and the counts hold then.
+fn read_within(alloc: Global, text: &[u8], bits: u32, room: [usize; 4]) -> (u32, Filled) {
     let mut nodes = [NODE; 9];
     let mut attributes = [ATTRIBUTE; 4];
     let mut definitions = [DEFINITION; 3];
@@ -108,7 +87,37 @@ fn read_within(alloc: Global, text: &[u8], bits: u32, room: [usize; 4]) -> (u32,
         &mut names[..room[3].min(14)],
         &mut counts,
     );
-    (status, counts)
+    let filled = Filled {
+        nodes,
+        attributes,
+        definitions,
+        names,
+        counts,
+    };
+    (status, filled)
+}
+
+#[test]
+fn a_text_is_read_whole(rt: HostRuntime) -> Result<(), Fail> {
+    let (status, filled) = read_within(rt.alloc(), TEXT, OPTIONS, [9, 4, 3, 14]);
+    let (nodes, attributes, definitions) = (filled.nodes, filled.attributes, filled.definitions);
+    assert!(rt; status == 0);
+    assert!(rt; has_counts(&filled.counts));
+    assert!(rt; nodes[1].kind == 4 && nodes[1].next == 3 && nodes[1].name_length == 3);
+    assert!(rt; nodes[3].kind == 5 && nodes[3].start == 16 && nodes[3].end == 33);
+    assert!(rt; nodes[7].depth == 3 && nodes[7].start == 53 && nodes[8].kind == 99);
+    assert!(rt; attributes[0].kind == 0 && attributes[1].kind == 1 && attributes[2].kind == 2);
+    assert!(rt; attributes[2].value == 7 && attributes[3].kind == 99);
+    assert!(rt; definitions[0].start == 34 && definitions[0].title_length == 1);
+    assert!(rt; definitions[1].label == 12 && definitions[2].start == 99);
+    assert!(rt; filled.names.as_slice() == "x\u{a9}fickvL/utf?".as_bytes());
+    Ok(())
+}
+
+// Whether these are the counts of `TEXT`.
+fn has_counts(counts: &FlatCounts) -> bool {
+    (counts.nodes == 8 && counts.attributes == 3 && counts.definitions == 2)
+        && (counts.links == 1 && counts.names == 13)
 }
 
 #[test]
@@ -117,10 +126,8 @@ fn room_that_is_just_enough_suffices(rt: HostRuntime) -> Result<(), Fail> {
     assert!(rt; read_within(alloc, TEXT, OPTIONS, [8, 3, 2, 13]).0 == 0);
     let rooms = [[7, 3, 2, 13], [8, 2, 2, 13], [8, 3, 1, 13], [8, 3, 2, 12]];
     for room in rooms {
-        let (status, counts) = read_within(alloc, TEXT, OPTIONS, room);
-        assert!(rt; status == 4);
-        assert!(rt; counts.nodes == 8 && counts.attributes == 3 && counts.definitions == 2);
-        assert!(rt; counts.links == 1 && counts.names == 13);
+        let (status, filled) = read_within(alloc, TEXT, OPTIONS, room);
+        assert!(rt; status == 4 && has_counts(&filled.counts));
     }
     Ok(())
 }
@@ -129,9 +136,9 @@ fn room_that_is_just_enough_suffices(rt: HostRuntime) -> Result<(), Fail> {
 fn each_fault_has_its_status(rt: HostRuntime) -> Result<(), Fail> {
     let alloc = rt.alloc();
     let not_utf8 = read_within(alloc, b"\xff", OPTIONS, [8, 3, 2, 13]);
-    assert!(rt; not_utf8.0 == 2 && not_utf8.1.nodes == 99);
+    assert!(rt; not_utf8.0 == 2 && not_utf8.1.counts.nodes == 99);
     let bad_options = read_within(alloc, b"\xff", 1, [8, 3, 2, 13]);
-    assert!(rt; bad_options.0 == 3 && bad_options.1.nodes == 99);
+    assert!(rt; bad_options.0 == 3 && bad_options.1.counts.nodes == 99);
     assert!(rt; read_within(alloc, b"a", 65536, [8, 3, 2, 13]).0 == 3);
     assert!(rt; read_within(alloc, b"", 65534, [1, 0, 0, 0]).0 == 0);
     Ok(())

@@ -10,6 +10,8 @@ use first_pass_timing::clock::TimeSource;
 use std::alloc::{AllocError, Global};
 use std::io;
 use std::io::{ErrorKind, Read, Write};
+use std::process::Abort;
+use std::test::Fail;
 
 /// A clock with given readings, which fails after them.
 #[derive(Drop)]
@@ -136,6 +138,18 @@ fn words_of(alloc: Global, words: &[&str]) -> Result<Vec<String>, AllocError> {
     Ok(list)
 }
 
+/// Words that represent no options.
+pub const BAD_OPTIONS: &[&[&str]] = &[
+    &[""],
+    &["+1"],
+    &["-1"],
+    &["x"],
+    &["1"],
+    &["65536"],
+    &["99999999999999999999999"],
+    &["0", "0"],
+];
+
 /// A program that writes a report of a text.
 #[derive(Clone, Copy)]
 pub enum Program {
@@ -161,6 +175,21 @@ pub fn run(
         Program::Links => links_run(alloc, words, reader, writer),
         Program::Tree => tree_run(alloc, words, reader, writer),
     })
+}
+
+/// Asserts that a program refuses bad options before it reads or writes.
+pub fn assert_bad_options_come_first(
+    rt: &(impl Abort + AllocGlobal),
+    program: Program,
+) -> Result<(), Fail> {
+    for words in BAD_OPTIONS {
+        let mut input = FailingReader::new(b"\xff", usize::MAX, 1);
+        let mut sink = FailingWriter::new(rt.alloc(), usize::MAX, 1);
+        let answer = run(rt.alloc(), program, words, &mut input, &mut sink)?;
+        assert!(rt; answer == Err(RunFault::BadOptions), "{words:?}");
+        assert!(rt; input.reads == 0 && sink.writes == 0, "{words:?}");
+    }
+    Ok(())
 }
 
 /// Runs the work of `bench` with these words. Fails if the allocation of the words fails.

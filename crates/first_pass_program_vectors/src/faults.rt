@@ -1,6 +1,8 @@
 //! Each fault of a run, and the output before it.
 
-use crate::fakes::{FailingReader, FailingWriter, Odd, Program, run};
+use crate::fakes::{
+    FailingReader, FailingWriter, Odd, Program, assert_bad_options_come_first, run,
+};
 use first_pass_host::fault::RunFault;
 use std::alloc::{AllocError, Global};
 use std::process::Abort;
@@ -35,24 +37,7 @@ fn write(
 
 #[test]
 fn bad_options_come_first(rt: HostRuntime) -> Result<(), Fail> {
-    let bad: &[&[&str]] = &[
-        &[""],
-        &["+1"],
-        &["-1"],
-        &["x"],
-        &["1"],
-        &["65536"],
-        &["99999999999999999999999"],
-        &["0", "0"],
-    ];
-    for words in bad {
-        let mut input = FailingReader::new(b"\xff", WHOLE, 1);
-        let mut sink = FailingWriter::new(rt.alloc(), WHOLE, 1);
-        let answer = run(rt.alloc(), Program::Blocks, words, &mut input, &mut sink)?;
-        assert!(rt; answer == Err(RunFault::BadOptions), "{words:?}");
-        assert!(rt; input.reads == 0 && sink.writes == 0, "{words:?}");
-    }
-    Ok(())
+    assert_bad_options_come_first(&rt, Program::Blocks)
 }
 
 #[test]

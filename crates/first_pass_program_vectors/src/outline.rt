@@ -1,6 +1,8 @@
 //! The lines that `outline` writes, and each fault of its run.
 
-use crate::fakes::{FailingReader, FailingWriter, Odd, Program, run};
+use crate::fakes::{
+    FailingReader, FailingWriter, Odd, Program, assert_bad_options_come_first, run,
+};
 use first_pass_host::fault::RunFault;
 use std::alloc::Global;
 use std::process::Abort;
@@ -42,23 +44,7 @@ fn headings_are_listed(rt: HostRuntime) -> Result<(), Fail> {
 
 #[test]
 fn bad_options_come_first(rt: HostRuntime) -> Result<(), Fail> {
-    let bad: &[&[&str]] = &[
-        &[""],
-        &["+1"],
-        &["x"],
-        &["1"],
-        &["65536"],
-        &["0", "0"],
-        &["99999999999999999999999"],
-    ];
-    for words in bad {
-        let mut input = FailingReader::new(b"\xff", WHOLE, 1);
-        let mut sink = FailingWriter::new(rt.alloc(), WHOLE, 1);
-        let answer = run(rt.alloc(), Program::Outline, words, &mut input, &mut sink)?;
-        assert!(rt; answer == Err(RunFault::BadOptions), "{words:?}");
-        assert!(rt; input.reads == 0 && sink.writes == 0, "{words:?}");
-    }
-    Ok(())
+    assert_bad_options_come_first(&rt, Program::Outline)
 }
 
 #[test]

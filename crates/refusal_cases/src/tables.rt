@@ -202,32 +202,29 @@ fn allocate_heading(alloc: Global) -> Result<Outcome, AllocError> {
     Ok(outcome)
 }
 
-fn key<'a>(alloc: Global, label: &'a str) -> Result<LabelKey<'a>, AllocError> {
-    LabelKey::new(alloc, CowStr::Borrowed(label))
-}
+/// The places of a definition that no text contains.
+const NO_PLACES: LinkPlaces = LinkPlaces {
+    label_end: 0,
+    dest_start: 0,
+    dest_end: 0,
+    title_start: 0,
+};
 
-fn link<'a>(dest: &'a str) -> LinkDef<'a> {
-    LinkDef {
+// Adds a link definition with this label and destination. Making the key of the label may fail too.
+fn define(
+    alloc: Global,
+    allocs: &mut Allocations<'_>,
+    label: &'static str,
+    dest: &'static str,
+) -> Result<(), AllocError> {
+    let label = LabelKey::new(alloc, CowStr::Borrowed(label))?;
+    let definition = LinkDef {
         dest: CowStr::Borrowed(dest),
         title: None,
         span: 0..0,
-        places: LinkPlaces {
-            label_end: 0,
-            dest_start: 0,
-            dest_end: 0,
-            title_start: 0,
-        },
-    }
-}
-
-// Adds a link definition whose label and destination are a word. Making the key of the label may fail too.
-fn define_word(
-    alloc: Global,
-    allocs: &mut Allocations<'_>,
-    word: &'static str,
-) -> Result<(), AllocError> {
-    let label = key(alloc, word)?;
-    allocs.define_link(label, link(word))
+        places: NO_PLACES,
+    };
+    allocs.define_link(label, definition)
 }
 
 fn define_link(alloc: Global) -> Result<Outcome, AllocError> {
@@ -235,13 +232,13 @@ fn define_link(alloc: Global) -> Result<Outcome, AllocError> {
     let mut outcome = Outcome::Usual;
     for links in 0..WORDS.len() {
         let word = WORDS[links];
-        let mut answer = define_word(alloc, &mut allocs, word);
+        let mut answer = define(alloc, &mut allocs, word, word);
         if answer.is_err() {
             outcome = outcome.refused(has(&allocs, Counts { links, ..NONE }));
             if outcome != Outcome::Refused {
                 return Ok(outcome);
             }
-            answer = define_word(alloc, &mut allocs, word);
+            answer = define(alloc, &mut allocs, word, word);
         }
         let after = Counts {
             links: links + 1,
@@ -305,7 +302,7 @@ fn has_only(allocs: &Allocations<'_>, wanted: &str) -> bool {
 fn get(alloc: Global) -> Result<Outcome, AllocError> {
     let mut allocs = Allocations::new(alloc);
     let long = "A Label Of More Than Twenty-Two Bytes";
-    allocs.define_link(key(alloc, long)?, link("x"))?;
+    define(alloc, &mut allocs, long, "x")?;
     let (found, outcome) = match finds(&allocs) {
         Ok(found) => (found, Outcome::Usual),
         Err(_) => {
