@@ -1,25 +1,23 @@
 //! Calls of `first_pass_attributes`.
 
+use crate::call::Call;
 use first_pass_attributes::attrs::{
     HeadingAttributes, extract_attribute_block_content_from_header_text,
     parse_inside_attribute_block,
 };
 use first_pass_cases::answer::Answer;
-use std::alloc::{AllocError, Global};
+use std::alloc::AllocError;
 
 /// Makes a call for a heading's attribute block or for its attributes. Returns `false` for any other call.
-pub fn answer_attributes(
-    alloc: Global,
-    call: &str,
-    text: &str,
-    answer: &mut Answer,
-) -> Result<bool, AllocError> {
-    match call {
+pub fn answer_attributes(call: &Call<'_>, answer: &mut Answer) -> Result<bool, AllocError> {
+    match call.name {
         "extract_attribute_block_content_from_header_text" => append_block(
-            text.as_bytes(),
+            call.text.as_bytes(),
             answer,
         )?,
-        "parse_inside_attribute_block" => match parse_inside_attribute_block(alloc, text)? {
+        "parse_inside_attribute_block" => match parse_inside_attribute_block(
+            call.alloc, call.text,
+        )? {
             Some(attributes) => append_attributes(&attributes, answer)?,
             None => answer.none()?,
         },

@@ -1,9 +1,9 @@
 //! Calls of `first_pass_open` and `first_pass_kinds` with open containers, and the tree and the options for such
 //! calls.
 
+use crate::call::Call;
 use bitflags::Flags;
 use first_pass_cases::answer::Answer;
-use first_pass_cases::given::Given;
 use first_pass_items::item::{CowIndex, Item, ItemBody};
 use first_pass_items::option_set::Options;
 use first_pass_kinds::interrupt::interrupts_without_table;
@@ -13,17 +13,11 @@ use first_pass_tree::forest::Tree;
 use std::alloc::{AllocError, Global};
 
 /// Makes a call for open containers. Returns `false` for any other call.
-pub fn answer_containers(
-    alloc: Global,
-    call: &str,
-    given: &Given,
-    text: &str,
-    answer: &mut Answer,
-) -> Result<bool, AllocError> {
-    match call {
-        "scan_containers" => append_containers(alloc, text, given, answer)?,
+pub fn answer_containers(call: &Call<'_>, answer: &mut Answer) -> Result<bool, AllocError> {
+    match call.name {
+        "scan_containers" => append_containers(call, answer)?,
         "interrupts_without_table" => {
-            answer.flag(interrupts_without_table(text.as_bytes(), given.flag(0)))?
+            answer.flag(interrupts_without_table(call.text.as_bytes(), call.given.flag(0)))?
         }
         _ => return Ok(false),
     }
@@ -32,15 +26,11 @@ pub fn answer_containers(
 
 /// The number of open nodes that a line continues, and the number of bytes of their prefixes. The first argument is
 /// the path of the open containers (see `open_path`), the second one the options.
-fn append_containers(
-    alloc: Global,
-    text: &str,
-    given: &Given,
-    answer: &mut Answer,
-) -> Result<(), AllocError> {
-    let tree = open_path(alloc, given.number(0))?;
-    let mut line_start = LineStart::new(text.as_bytes());
-    let kept = scan_containers(&tree, &mut line_start, options_of(given.number(1)), false);
+fn append_containers(call: &Call<'_>, answer: &mut Answer) -> Result<(), AllocError> {
+    let tree = open_path(call.alloc, call.given.number(0))?;
+    let mut line_start = LineStart::new(call.text.as_bytes());
+    let options = options_of(call.given.number(1));
+    let kept = scan_containers(&tree, &mut line_start, options, false);
     answer.number(kept)?;
     answer.number(line_start.bytes_scanned())
 }
@@ -62,13 +52,19 @@ pub fn open_path(alloc: Global, path: usize) -> Result<Tree<Item>, AllocError> {
                 9 => ItemBody::FootnoteDefinition(CowIndex(0)),
                 columns => ItemBody::ListItem(columns),
             };
-            tree.append(Item {
-                start: 0,
-                end: 0,
-                body,
-            })?;
-            tree.push()?;
+            open_node(&mut tree, body)?;
         }
     }
     Ok(tree)
+}
+
+/// Opens an empty node.
+pub fn open_node(tree: &mut Tree<Item>, body: ItemBody) -> Result<(), AllocError> {
+    tree.append(Item {
+        start: 0,
+        end: 0,
+        body,
+    })?;
+    tree.push()?;
+    Ok(())
 }

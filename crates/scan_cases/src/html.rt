@@ -1,5 +1,6 @@
 //! Calls of `first_pass_html`.
 
+use crate::call::Call;
 use first_pass_cases::answer::Answer;
 use first_pass_html::ends::{HtmlEnd, holds_raw_end_tag};
 use first_pass_html::names::is_block_name;
@@ -8,8 +9,9 @@ use first_pass_html::tags::scan_html_type_7;
 use std::alloc::AllocError;
 
 /// Makes a call for the start of an HTML block. Returns `false` for any other call.
-pub fn answer_html(call: &str, bytes: &[u8], answer: &mut Answer) -> Result<bool, AllocError> {
-    match call {
+pub fn answer_html(call: &Call<'_>, answer: &mut Answer) -> Result<bool, AllocError> {
+    let bytes = call.text.as_bytes();
+    match call.name {
         "get_html_end_tag" => match get_html_end_tag(bytes) {
             Some(HtmlEnd::AnyRawTag) => answer.word("AnyRawTag")?,
             Some(HtmlEnd::Text(text)) => answer.text(text)?,

@@ -1,5 +1,6 @@
 //! Calls of `first_pass_scan` and `first_pass_metadata` for lines that open or close a leaf block.
 
+use crate::call::Call;
 use first_pass_cases::answer::Answer;
 use first_pass_cases::given::Given;
 use first_pass_lines::lines::level_number;
@@ -12,13 +13,9 @@ use first_pass_scan::leaf_scan::{
 use std::alloc::AllocError;
 
 /// Makes a call for a thematic break, an underline, a fence or an indent. Returns `false` for any other call.
-pub fn answer_leaves(
-    call: &str,
-    given: &Given,
-    bytes: &[u8],
-    answer: &mut Answer,
-) -> Result<bool, AllocError> {
-    match call {
+pub fn answer_leaves(call: &Call<'_>, answer: &mut Answer) -> Result<bool, AllocError> {
+    let (given, bytes) = (call.given, call.text.as_bytes());
+    match call.name {
         "scan_hrule" => answer.length(scan_hrule(bytes))?,
         "scan_setext_heading" => match scan_setext_heading(bytes) {
             Some((len, level)) => {
@@ -49,13 +46,9 @@ pub fn answer_leaves(
 
 /// Makes a call for a metadata block. Returns `false` for any other call. The first two arguments are flags for `---`
 /// and `+++`; offsets may follow.
-pub fn answer_metadata(
-    call: &str,
-    given: &Given,
-    bytes: &[u8],
-    answer: &mut Answer,
-) -> Result<bool, AllocError> {
-    match call {
+pub fn answer_metadata(call: &Call<'_>, answer: &mut Answer) -> Result<bool, AllocError> {
+    let (given, bytes) = (call.given, call.text.as_bytes());
+    match call.name {
         "scan_metadata_block" => {
             let rest = rest_of(bytes, given.number(2).min(bytes.len()));
             answer.maybe_byte(scan_metadata_block(rest, given.flag(0), given.flag(1)))?

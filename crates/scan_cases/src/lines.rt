@@ -1,7 +1,7 @@
 //! Calls of `first_pass_lines`.
 
+use crate::call::Call;
 use first_pass_cases::answer::Answer;
-use first_pass_cases::given::Given;
 use first_pass_lines::lines::{
     begins, is_ascii_white, is_line_end, is_space_or_tab, is_white, level_number, scan_atx_heading,
     scan_blank_line, scan_blanks, scan_eol, scan_nextline, scan_whitespace_no_nl,
@@ -10,14 +10,10 @@ use first_pass_lines::places::{next_line, rest_of};
 use std::alloc::AllocError;
 
 /// Makes a call of a line's scanners. Returns `false` for any other call.
-pub fn answer_lines(
-    call: &str,
-    given: &Given,
-    bytes: &[u8],
-    answer: &mut Answer,
-) -> Result<bool, AllocError> {
-    let start = given.number(0).min(bytes.len());
-    match call {
+pub fn answer_lines(call: &Call<'_>, answer: &mut Answer) -> Result<bool, AllocError> {
+    let bytes = call.text.as_bytes();
+    let start = call.given.number(0).min(bytes.len());
+    match call.name {
         "scan_eol" => answer.length(scan_eol(bytes))?,
         "scan_blank_line" => answer.length(scan_blank_line(bytes))?,
         "scan_nextline" => answer.number(scan_nextline(bytes))?,
@@ -32,15 +28,11 @@ pub fn answer_lines(
 }
 
 /// Makes a test of the first byte. Returns `false` for any other call.
-pub fn answer_bytes(
-    call: &str,
-    given: &Given,
-    bytes: &[u8],
-    answer: &mut Answer,
-) -> Result<bool, AllocError> {
+pub fn answer_bytes(call: &Call<'_>, answer: &mut Answer) -> Result<bool, AllocError> {
+    let bytes = call.text.as_bytes();
     let byte = bytes.first().copied().unwrap_or(0);
-    match call {
-        "begins" => answer.flag(begins(given.byte(0), bytes))?,
+    match call.name {
+        "begins" => answer.flag(begins(call.given.byte(0), bytes))?,
         "is_line_end" => answer.flag(is_line_end(byte))?,
         "is_white" => answer.flag(is_white(byte))?,
         "is_blank" => answer.flag(is_space_or_tab(byte))?,

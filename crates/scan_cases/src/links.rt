@@ -2,8 +2,8 @@
 
 ghost use Rattle.std.specs.Prelude.{◌≡◌, ◌<◌, length, slice_index, IfSome};
 
+use crate::call::Call;
 use first_pass_cases::answer::Answer;
-use first_pass_cases::given::Given;
 use first_pass_entities::entity::scan_entity;
 use first_pass_items::cow_str::CowStr;
 use first_pass_links::destination::scan_link_dest;
@@ -13,18 +13,15 @@ use std::alloc::{AllocError, Global};
 use std::ops::DerefStr;
 
 /// Makes a call for a reference, an escape, a destination or a label. Returns `false` for any other call.
-pub fn answer_links(
-    alloc: Global,
-    call: &str,
-    given: &Given,
-    text: &str,
-    answer: &mut Answer,
-) -> Result<bool, AllocError> {
-    match call {
-        "scan_entity" => append_reference(text.as_bytes(), answer)?,
-        "unescape" => append_cow(&unescape(alloc, text, given.flag(0))?, answer)?,
-        "scan_link_dest" => append_destination(text, given, answer)?,
-        "scan_link_label_rest" => append_label(alloc, text, given, answer)?,
+pub fn answer_links(call: &Call<'_>, answer: &mut Answer) -> Result<bool, AllocError> {
+    match call.name {
+        "scan_entity" => append_reference(call.text.as_bytes(), answer)?,
+        "unescape" => append_cow(
+            &unescape(call.alloc, call.text, call.given.flag(0))?,
+            answer,
+        )?,
+        "scan_link_dest" => append_destination(call, answer)?,
+        "scan_link_label_rest" => append_label(call, answer)?,
         _ => return Ok(false),
     }
     Ok(true)
@@ -56,12 +53,12 @@ pub fn append_cow(cow: &CowStr<'_>, answer: &mut Answer) -> Result<(), AllocErro
 
 /// The number of bytes of a destination, and its text. The arguments are its offset and the greatest nesting of its
 /// parentheses.
-fn append_destination(text: &str, given: &Given, answer: &mut Answer) -> Result<(), AllocError> {
-    let start = given.number(0);
+fn append_destination(call: &Call<'_>, answer: &mut Answer) -> Result<(), AllocError> {
+    let (text, start) = (call.text, call.given.number(0));
     if !text.is_char_boundary(start) {
         return answer.none();
     }
-    match scan_link_dest(text, start, given.number(1)) {
+    match scan_link_dest(text, start, call.given.number(1)) {
         Some((len, destination)) => {
             answer.number(len)?;
             answer.text(destination)
@@ -72,15 +69,11 @@ fn append_destination(text: &str, given: &Given, answer: &mut Answer) -> Result<
 
 /// The number of bytes of a label after its bracket, and its text. The label is in a cell if the first flag is set,
 /// and in a block quote if the second one is.
-fn append_label(
-    alloc: Global,
-    text: &str,
-    given: &Given,
-    answer: &mut Answer,
-) -> Result<(), AllocError> {
-    let found = match given.flag(1) {
-        true => quoted_label(alloc, text, given.flag(0))?,
-        false => scan_link_label_rest(alloc, text, |_line: &[u8]| Ok(Some(0)), given.flag(0))?,
+fn append_label(call: &Call<'_>, answer: &mut Answer) -> Result<(), AllocError> {
+    let (alloc, text, in_table) = (call.alloc, call.text, call.given.flag(0));
+    let found = match call.given.flag(1) {
+        true => quoted_label(alloc, text, in_table)?,
+        false => scan_link_label_rest(alloc, text, |_line: &[u8]| Ok(Some(0)), in_table)?,
     };
     match found {
         Some((len, label)) => {

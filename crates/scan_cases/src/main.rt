@@ -20,6 +20,7 @@
 #![tactic(auto)]
 
 mod attributes;
+mod call;
 mod containers;
 mod definitions;
 mod html;

@@ -1,22 +1,17 @@
 //! Calls of `first_pass_scan` for markers of containers, and for the start of a line.
 
+use crate::call::Call;
 use first_pass_cases::answer::Answer;
-use first_pass_cases::given::Given;
 use first_pass_items::item::BlockQuoteKind;
 use first_pass_scan::line_start::{LineStart, scan_listitem};
 use std::alloc::AllocError;
 
 /// Makes a call for a marker or a line ending, and appends the number of bytes that it consumed. Returns `false` for
 /// any other call.
-pub fn answer_markers(
-    call: &str,
-    given: &Given,
-    bytes: &[u8],
-    answer: &mut Answer,
-) -> Result<bool, AllocError> {
-    let mut line = LineStart::new(bytes);
-    let indent = given.number(0).min(3);
-    match call {
+pub fn answer_markers(call: &Call<'_>, answer: &mut Answer) -> Result<bool, AllocError> {
+    let mut line = LineStart::new(call.text.as_bytes());
+    let indent = call.given.number(0).min(3);
+    match call.name {
         "scan_list_marker_with_indent" => {
             append_marker(line.scan_list_marker_with_indent(indent), answer)?
         }
@@ -29,7 +24,7 @@ pub fn answer_markers(
             answer.flag(line.scan_blockquote_marker())?;
             answer.number(line.remaining_space())?
         }
-        "scan_listitem" => return append_item(scan_listitem(bytes), answer),
+        "scan_listitem" => return append_item(scan_listitem(call.text.as_bytes()), answer),
         "is_at_eol" => answer.flag(line.is_at_eol())?,
         _ => return Ok(false),
     }

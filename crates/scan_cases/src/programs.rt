@@ -1,5 +1,6 @@
 //! Calls of `first_pass_host` and `first_pass_timing`: the words of the programs, and the line that `bench` writes.
 
+use crate::call::Call;
 use crate::walks::append_bits;
 use bitflags::Flags;
 use first_pass_cases::answer::Answer;
@@ -11,13 +12,9 @@ use std::alloc::{AllocError, Global};
 
 /// Makes a call for words or for a line of `bench`. Returns `false` for any other call. The result for a task is the
 /// bits of its options and its number of runs.
-pub fn answer_programs(
-    alloc: Global,
-    call: &str,
-    text: &str,
-    answer: &mut Answer,
-) -> Result<bool, AllocError> {
-    match call {
+pub fn answer_programs(call: &Call<'_>, answer: &mut Answer) -> Result<bool, AllocError> {
+    let (alloc, text) = (call.alloc, call.text);
+    match call.name {
         "parse_options" => append_bits(parse_options(words_of(alloc, text)?.as_slice()), answer)?,
         "parse_task" => match parse_task(words_of(alloc, text)?.as_slice()) {
             Some(task) => {

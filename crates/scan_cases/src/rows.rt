@@ -1,7 +1,7 @@
 //! Calls of `first_pass_table_scan`: header rows and delimiter rows.
 
+use crate::call::Call;
 use first_pass_cases::answer::Answer;
-use first_pass_cases::given::Given;
 use first_pass_items::item::Alignment;
 use first_pass_scan::line_start::LineStart;
 use first_pass_table_scan::table_scan::scan_table_head;
@@ -9,21 +9,16 @@ use first_pass_table_scan::table_start::{scan_delimiter_row, scan_head_columns};
 use std::alloc::{AllocError, Global};
 
 /// Makes a call for a header row or a delimiter row. Returns `false` for any other call.
-pub fn answer_rows(
-    alloc: Global,
-    call: &str,
-    given: &Given,
-    bytes: &[u8],
-    answer: &mut Answer,
-) -> Result<bool, AllocError> {
-    match call {
+pub fn answer_rows(call: &Call<'_>, answer: &mut Answer) -> Result<bool, AllocError> {
+    let (alloc, bytes) = (call.alloc, call.text.as_bytes());
+    match call.name {
         "scan_head_columns" => answer.number(scan_head_columns(bytes))?,
         "scan_table_head" => {
             let (len, columns) = scan_table_head(alloc, bytes)?;
             answer.number(len)?;
             append_alignments(columns.as_slice(), answer)?
         }
-        "scan_delimiter_row" => append_delimiters(alloc, bytes, given.flag(0), answer)?,
+        "scan_delimiter_row" => append_delimiters(alloc, bytes, call.given.flag(0), answer)?,
         _ => return Ok(false),
     }
     Ok(true)

@@ -1,6 +1,7 @@
 //! The table and its lines, in order.
 
 use crate::attributes::answer_attributes;
+use crate::call::Call;
 use crate::containers::answer_containers;
 use crate::definitions::answer_definitions;
 use crate::html::answer_html;
@@ -89,23 +90,28 @@ fn append_difference(report: &mut String, line: &str, came: &str) -> Result<(), 
 /// Makes a call and appends its result. Returns `false` if no call has this name.
 fn ask(alloc: Global, case: &Case<'_>, answer: &mut Answer) -> Result<bool, AllocError> {
     let read = read_shown(alloc, case.shown)?;
-    let (call, given, text) = (case.call, &case.given, read.as_str());
+    let call = Call {
+        alloc,
+        name: case.call,
+        given: &case.given,
+        text: read.as_str(),
+    };
     Ok(
-        answer_lines(call, given, text.as_bytes(), answer)?
-            || answer_bytes(call, given, text.as_bytes(), answer)?
-            || answer_leaves(call, given, text.as_bytes(), answer)?
-            || answer_metadata(call, given, text.as_bytes(), answer)?
-            || answer_markers(call, given, text.as_bytes(), answer)?
-            || answer_rows(alloc, call, given, text.as_bytes(), answer)?
-            || answer_texts(alloc, call, text, answer)?
-            || answer_tokens(alloc, call, given, text, answer)?
-            || answer_programs(alloc, call, text, answer)?
-            || answer_html(call, text.as_bytes(), answer)?
-            || answer_links(alloc, call, given, text, answer)?
-            || answer_attributes(alloc, call, text, answer)?
-            || answer_containers(alloc, call, given, text, answer)?
-            || answer_definitions(alloc, call, given, text, answer)?
-            || answer_walks(alloc, call, given, text, answer)?
-            || answer_flanks(call, given, text, answer)?,
+        answer_lines(&call, answer)?
+            || answer_bytes(&call, answer)?
+            || answer_leaves(&call, answer)?
+            || answer_metadata(&call, answer)?
+            || answer_markers(&call, answer)?
+            || answer_rows(&call, answer)?
+            || answer_texts(&call, answer)?
+            || answer_tokens(&call, answer)?
+            || answer_programs(&call, answer)?
+            || answer_html(&call, answer)?
+            || answer_links(&call, answer)?
+            || answer_attributes(&call, answer)?
+            || answer_containers(&call, answer)?
+            || answer_definitions(&call, answer)?
+            || answer_walks(&call, answer)?
+            || answer_flanks(&call, answer)?,
     )
 }

@@ -1,22 +1,19 @@
 //! Calls of the texts of `first_pass_items`.
 
+use crate::call::Call;
 use first_pass_cases::answer::Answer;
 use first_pass_items::cow_str::{CowStr, InlineStr};
-use std::alloc::{AllocError, Global};
+use std::alloc::AllocError;
 use std::boxed::BoxedStr;
 use std::ops::DerefStr;
 
 /// Makes a call of a text. Returns `false` for any other call.
-pub fn answer_texts(
-    alloc: Global,
-    call: &str,
-    text: &str,
-    answer: &mut Answer,
-) -> Result<bool, AllocError> {
-    match call {
+pub fn answer_texts(call: &Call<'_>, answer: &mut Answer) -> Result<bool, AllocError> {
+    let text = call.text;
+    match call.name {
         "CowStr::Inlined" => append_inlined(InlineStr::try_from_str(text), answer)?,
         "CowStr::Boxed" => {
-            let boxed = CowStr::Boxed(BoxedStr::from_str(alloc, text)?);
+            let boxed = CowStr::Boxed(BoxedStr::from_str(call.alloc, text)?);
             answer.text(boxed.deref())?
         }
         "CowStr::Borrowed" => answer.text(CowStr::Borrowed(text).deref())?,

@@ -1,97 +1,73 @@
 //! Calls of `first_pass_tokens`: the tokens of lines and of cells.
 
-use crate::containers::options_of;
+use crate::call::Call;
+use crate::containers::{open_node, options_of};
 use first_pass_cases::answer::Answer;
-use first_pass_cases::given::Given;
 use first_pass_items::item::{Item, ItemBody};
-use first_pass_items::option_set::Options;
 use first_pass_tokens::braces::BraceContexts;
 use first_pass_tokens::line::{append_cell, append_line};
 use first_pass_tokens::pieces::Content;
 use first_pass_tree::forest::Tree;
 use first_pass_walk::walk::special_bytes;
-use std::alloc::{AllocError, Global};
+use std::alloc::AllocError;
 
 /// Makes a call for tokens under the options with the given bits. Returns `false` for any other call.
-pub fn answer_tokens(
-    alloc: Global,
-    call: &str,
-    given: &Given,
-    text: &str,
-    answer: &mut Answer,
-) -> Result<bool, AllocError> {
-    let options = options_of(given.number(0));
-    match call {
-        "append_line" => append_tokens(&paragraph(alloc, text, options)?, answer)?,
-        "append_cell" => append_tokens(&row(alloc, text, options)?, answer)?,
+pub fn answer_tokens(call: &Call<'_>, answer: &mut Answer) -> Result<bool, AllocError> {
+    match call.name {
+        "append_line" => append_tokens(&tokens_of(call, false)?, answer)?,
+        "append_cell" => append_tokens(&tokens_of(call, true)?, answer)?,
         _ => return Ok(false),
     }
     Ok(true)
 }
 
-/// A paragraph with the lines of a text, each with its line break.
-fn paragraph(alloc: Global, text: &str, options: Options) -> Result<Tree<Item>, AllocError> {
+/// The lines of a paragraph, each with its line break, or the cells of a row. In a row the text begins after the pipe
+/// before the first cell, each further cell begins after the pipe that ends the one before, and a node `end` marks the
+/// end of each.
+fn tokens_of(call: &Call<'_>, row: bool) -> Result<Tree<Item>, AllocError> {
+    let (alloc, text) = (call.alloc, call.text);
+    let options = options_of(call.given.number(0));
     let special = special_bytes(&options);
-    let mut tree = opened(alloc, ItemBody::Paragraph)?;
-    let mut texts = Vec::new(alloc);
-    let mut braces = BraceContexts::new();
-    let mut at = 0;
-    while at < text.len() {
-        let content = Content {
-            options,
-            whole: text,
-            special: &special,
-            start: at,
-            end: None,
-            row: false,
-        };
-        let (next, line_break) = append_line(content, &mut tree, &mut texts, &mut braces)?;
-        if let Some(item) = line_break {
-            tree.append(item)?;
-        }
-        at = next;
-    }
-    Ok(tree)
-}
-
-/// The cells of a row. The text begins after the pipe before the first cell, and each further cell begins after the
-/// pipe that ends the one before. A node `end` marks the end of each.
-fn row(alloc: Global, text: &str, options: Options) -> Result<Tree<Item>, AllocError> {
-    let special = special_bytes(&options);
-    let mut tree = opened(alloc, ItemBody::TableRow)?;
-    let mut texts = Vec::new(alloc);
-    let mut braces = BraceContexts::new();
-    let mut at = 0;
-    while at < text.len() {
-        let content = Content {
-            options,
-            whole: text,
-            special: &special,
-            start: at,
-            end: None,
-            row: true,
-        };
-        at = append_cell(content, &mut tree, &mut texts, &mut braces)?;
-        tree.append(Item {
-            start: at,
-            end: at,
-            body: ItemBody::TableCell,
-        })?;
-        at += 1;
-    }
-    Ok(tree)
-}
-
-/// A tree with one open block.
-fn opened(alloc: Global, body: ItemBody) -> Result<Tree<Item>, AllocError> {
     let mut tree = Tree::with_capacity(alloc, 8)?;
-    tree.append(Item {
-        start: 0,
-        end: 0,
-        body,
-    })?;
-    tree.push()?;
+    let body = match row {
+        true => ItemBody::TableRow,
+        false => ItemBody::Paragraph,
+    };
+    open_node(&mut tree, body)?;
+    let mut texts = Vec::new(alloc);
+    let mut braces = BraceContexts::new();
+    let mut at = 0;
+    while at < text.len() {
+        let content = Content {
+            options,
+            whole: text,
+            special: &special,
+            start: at,
+            end: None,
+            row,
+        };
+        if row {
+            at = append_cell(content, &mut tree, &mut texts, &mut braces)?;
+            tree.append(end_of_cell(at))?;
+            at += 1;
+        } else {
+            let (next, line_break) = append_line(content, &mut tree, &mut texts, &mut braces)?;
+            if let Some(item) = line_break {
+                tree.append(item)?;
+            }
+            at = next;
+        }
+    }
     Ok(tree)
+}
+
+/// The node that marks the end of a cell.
+fn end_of_cell(at: usize) -> Item {
+    Item {
+        start: at,
+        end: at,
+        body: ItemBody::TableCell,
+    }
 }
 
 /// Each node in the open block: its name, its start and its end.

@@ -1,5 +1,6 @@
 //! Calls of the options, of `first_pass_walk`, and for delimiter runs.
 
+use crate::call::Call;
 use crate::containers::options_of;
 use bitflags::Flags;
 use first_pass_cases::answer::Answer;
@@ -10,16 +11,11 @@ use first_pass_walk::walk::{LoopInstruction, iterate_special_bytes, next_special
 use std::alloc::{AllocError, Global};
 
 /// Makes a call of the options, or of the bytes that they make special. Returns `false` for any other call.
-pub fn answer_walks(
-    alloc: Global,
-    call: &str,
-    given: &Given,
-    text: &str,
-    answer: &mut Answer,
-) -> Result<bool, AllocError> {
-    match call {
+pub fn answer_walks(call: &Call<'_>, answer: &mut Answer) -> Result<bool, AllocError> {
+    let (given, text) = (call.given, call.text);
+    match call.name {
         "Options::from_name" => append_bits(Options::from_name(text), answer)?,
-        "special_bytes" => append_special(alloc, given.number(0), answer)?,
+        "special_bytes" => append_special(call.alloc, given.number(0), answer)?,
         "next_special" => {
             let lut = special_bytes(&Options::empty());
             answer.length(next_special(&lut, text.as_bytes(), given.number(0)))?
@@ -78,12 +74,8 @@ fn append_special(alloc: Global, bits: usize, answer: &mut Answer) -> Result<(),
 /// Makes a call for whether a delimiter run can open or close. Returns `false` for any other call. The arguments are
 /// the mode, the offset of the run, and its number of bytes. Mode 0 is no table, 1 a line that may be a row, and 2 a
 /// cell.
-pub fn answer_flanks(
-    call: &str,
-    given: &Given,
-    text: &str,
-    answer: &mut Answer,
-) -> Result<bool, AllocError> {
+pub fn answer_flanks(call: &Call<'_>, answer: &mut Answer) -> Result<bool, AllocError> {
+    let (given, text) = (call.given, call.text);
     let (at, len) = (given.number(1), given.number(2));
     let mode = match given.number(0) {
         0 => TableParseMode::Disabled,
@@ -97,7 +89,7 @@ pub fn answer_flanks(
     if !suffix.is_char_boundary(len) {
         return Ok(false);
     }
-    match call {
+    match call.name {
         "delim_run_can_open" => answer.flag(delim_run_can_open(text, suffix, len, at, mode))?,
         "delim_run_can_close" => answer.flag(delim_run_can_close(text, suffix, len, at, mode))?,
         _ => return Ok(false),

@@ -1,5 +1,5 @@
 use Rattle.std.proofs.Common.{◌-◌, ◌+◌, ◌≤◌, length}
-use Rattle.scan_cases.proofs.tokens.row.Given as goal
+use Rattle.scan_cases.proofs.tokens.tokens_of.Given as goal
 
 abbrev pub invariant-loop-at : goal.invariant-loop-at
 invariant-loop-at l = l.at ≤ length l.text + 1
