@@ -21,7 +21,7 @@ use Rattle.first_pass_grammar.specs.OpenOrder.{IsOrderedTo}
 use Rattle.first_pass_grammar.specs.Order.{extent_of, is_task_marker, IsBetween}
 use Rattle.first_pass_open.specs.OpenBlock.{begun_item, with_child}
 use Rattle.first_pass_open.specs.Path.{path_of}
-use Rattle.first_pass_open.specs.Between.{StandsBefore}
+use Rattle.first_pass_open.specs.Between.{MarkerBetween}
 use Rattle.first_pass_open.proofs.PathLemmas.{get_front}
 use Rattle.first_pass_text.proofs.OrderParagraph.{TextInOrder, text_is_in_order}
 use Rattle.first_pass_order.proofs.OrderLemmas.{ordered_appended, ordered_later}
@@ -59,7 +59,7 @@ marker_escaped : (body : ItemBody) → is_task_marker body ≡ true → is_escap
 marker_escaped (TaskListMarker checked) h e = false≢true e
 marker_escaped body h e = false≢true h
 
-marked_tokens : (text : List ℕ) (d from start to : ℕ) (marker : Option Item) (chain : List Item) → StandsBefore text from start marker
+marked_tokens : (text : List ℕ) (d from start to : ℕ) (marker : Option Item) (chain : List Item) → MarkerBetween text from start marker
     → AreInOrder text start to chain → EscapesStand text start chain → AreTokens text d start (at_depth d (leaves (marker_items marker ++ chain)))
 marked_tokens text d from start to None chain stands h e = chain_tokens text d start to chain h e
 marked_tokens text d from start to (Some m) chain stands h e =

@@ -20,8 +20,8 @@ use Rattle.first_pass_grammar.specs.OpenOrder.{IsOrderedTo}
 use Rattle.first_pass_grammar.specs.WholeTables.{HasWholeTables}
 use Rattle.first_pass_names.specs.TableEntries.{names_of, tables_of, NamesMore, AddsTexts}
 use Rattle.first_pass_tokens.specs.Braces.{no_braces}
-use Rattle.first_pass_open.specs.Between.{line_end_at, AddsBetween, IsInItem, StandsBefore}
-use Rattle.first_pass_lists.specs.Closing.{state_with, with_block, item_finished}
+use Rattle.first_pass_open.specs.Between.{line_end_at, AddsBetween, MarkerIsInItem, MarkerBetween}
+use Rattle.first_pass_lists.specs.Closing.{state_with, with_block, empty_item_closed}
 use Rattle.first_pass_lists.specs.declared.state.PassState.{PassState}
 use Rattle.first_pass_raw.specs.RawBlocks.{IsPlaceAt, range_of, AppendsRaw, AddsIndented, AddsRaw, fenced_after, metadata_after, html_to_end, html_to_blank}
 use Rattle.first_pass_raw.specs.declared.fenced_code.Fence.{Fence}
@@ -72,7 +72,7 @@ pub record RemembersAt (old new : FirstPass) (ix : ℕ) (r : PassState) : Type 0
 -- and this project)
 pub record FinishesItem (old new : FirstPass) : Type 0 where
   pub kept : KeepsTables old new
-  pub state : state_of new ≡ item_finished (state_of old)
+  pub state : state_of new ≡ empty_item_closed (state_of old)
   pub order : (at : ℕ) → IsReadTo (source_text old) (state_of old) at → IsReadTo (source_text old) (state_of new) at
 
 -- A leaf block that begins at an offset is added, and reading continues at another. No item is empty after it, and
@@ -160,9 +160,9 @@ pub record AddsParagraph (old new : FirstPass) (start : ℕ) (marker : Option It
   pub braces : braces_of new ≡ braces_of old
   pub named : IfSome marker (λ x. index_of x.body ≡ None) → StayNamed old new
   pub state : state_of new ≡ with_block (state_of old) (tree_of new)
-  pub fits : IsInItem (tree_of old) marker → (from : ℕ) → StandsBefore (source_text old) from start marker
+  pub fits : MarkerIsInItem (tree_of old) marker → (from : ℕ) → MarkerBetween (source_text old) from start marker
       → AddsBetween (source_text old) from next (tree_of old) (tree_of new)
-  pub order : IsInItem (tree_of old) marker → (at : ℕ) → StandsBefore (source_text old) at start marker
+  pub order : MarkerIsInItem (tree_of old) marker → (at : ℕ) → MarkerBetween (source_text old) at start marker
       → IsOrderedAt (source_text old) (state_of old) at → IsOrderedAt (source_text old) (state_of new) next
 
 -- A raw line between two offsets is appended, after the columns owed before it. The state is in order up to the line's

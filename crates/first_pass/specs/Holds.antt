@@ -17,7 +17,7 @@ use Rattle.first_pass_grammar.specs.Leaves.{Document, document, TextLines, AreTe
 use Rattle.first_pass_grammar.specs.OpenOrder.{IsOrderedTo}
 use Rattle.first_pass_grammar.specs.Order.{is_text_block}
 use Rattle.first_pass_names.specs.TableEntries.{names_of}
-use Rattle.first_pass_open.specs.Between.{line_end_at, StandsBefore}
+use Rattle.first_pass_open.specs.Between.{line_end_at, MarkerBetween}
 use Rattle.first_pass_open.specs.OpenBlock.{IsJustPushed, begun_item, with_child}
 use Rattle.first_pass_open.specs.Path.{path_of}
 use Rattle.first_pass_text.specs.CutTexts.{BecomesHeading}
@@ -59,7 +59,7 @@ pub record HoldsText (d : Document) (f : Forest Item) (block : TreeIndex) (l : T
   pub opened : IsJustPushed before block
   pub paragraph : item_at before block ≡ Some (begun_item start Paragraph)
   pub boundary : IsCharBoundary d.text start
-  pub stands : StandsBefore d.text from start marker
+  pub stands : MarkerBetween d.text from start marker
   pub lines : AreTextLines d (path_of d.options before) (spot start no_braces) [] (lines_from d.text (line_end_at d.text start)) l
   pub tree_is : f ≡ chained before (marker_items marker ++ l.chain)
   pub ordered : IsOrderedTo d.text (with_child before marker) start

@@ -20,7 +20,7 @@ use Rattle.first_pass_grammar.specs.Definitions.{prefix_crossed, space_at, title
 use Rattle.first_pass_grammar.specs.Headings.{before_attributes, heading_attributes_of}
 use Rattle.first_pass_grammar.specs.Kinds.{all_taken, is_ordinary_after_tag, footnote_interrupts, interrupts_with, is_blank_rest}
 use Rattle.first_pass_grammar.specs.TableHeads.{table_interrupts}
-use Rattle.first_pass_kinds.specs.Memory.{may_head, line_may_head}
+use Rattle.first_pass_kinds.specs.Memory.{may_head_table, line_may_head_table}
 use Rattle.first_pass_definitions.specs.Found.{AreInOrder, HasParts, IsTarget, IsReference, BorrowsLabel}
 use Rattle.first_pass_definitions.specs.Memory.{LabelAsks, TargetAsks, ReferenceAsks, space_asks, title_asks}
 use Rattle.first_pass.specs.declared.state.FirstPass.{FirstPass}
@@ -88,7 +88,7 @@ pub record FindsInterrupt (pass : FirstPass) (bs : List ℕ) (whole : Bool) (kep
       || (footnote_interrupts (context_in pass).options false bs
       || ((has (source_options pass) definition_list && colon_interrupts (source_options pass) whole (tree_of pass) kept bs)
       || table_interrupts (context_in pass) bs))))
-  pub err : OnErr result (may_head (context_in pass) bs ≡ true)
+  pub err : OnErr result (may_head_table (context_in pass) bs ≡ true)
 
 -- The result is the rest of the first line of these bytes after its prefixes and its indentation, if the line continues
 -- a run of link reference definitions. The pass is unchanged (CommonMark 4.7, 5.1, and this project).
@@ -96,4 +96,4 @@ pub record FindsNextLine (old new : FirstPass) (bs : List ℕ) (result : Result 
   pub unchanged : new ≡ old
   pub value : IfOk result (λ rest. let line = front (context_in old).path (line_rest bs) in
       rest ≡ (if is_ordinary_after_tag (context_in old) (line_rest bs) || is_blank_rest (all_taken line) then None else Some (all_taken line)))
-  pub err : OnErr result (line_may_head (context_in old) (line_rest bs) ≡ true)
+  pub err : OnErr result (line_may_head_table (context_in old) (line_rest bs) ≡ true)

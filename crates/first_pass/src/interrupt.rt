@@ -14,7 +14,7 @@ use bitflags::Flags;
 use first_pass_blocks::definition::scan_next_line_or_lazy_continuation;
 use first_pass_items::item::{Item, ItemBody};
 use first_pass_items::option_set::Options;
-use first_pass_kinds::interrupt::{interrupts_as_footnote, interrupts_without_table};
+use first_pass_kinds::interrupt::{interrupts_as_footnote, interrupts_by_standard};
 use first_pass_kinds::table_start::interrupts_as_table;
 use first_pass_lines::lines::begins;
 use first_pass_open::front::is_definition_at_depth;
@@ -51,7 +51,7 @@ pub fn scan_paragraph_interrupt_no_table(
     let whole = current_container && !tree.is_in_table();
     let bytes = text.as_bytes();
     Ok(
-        interrupts_without_table(bytes, whole)
+        interrupts_by_standard(bytes, whole)
             || interrupts_as_footnote(bytes, has_footnote)
             || definition_list
                 && interrupts_as_colon(bytes, current_container, tree, tree_position),

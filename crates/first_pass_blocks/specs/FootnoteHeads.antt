@@ -11,7 +11,7 @@ use Rattle.first_pass_tree.specs.Forest.{in_table}
 use Rattle.first_pass_lines.specs.Lines.{is_white, blank_len}
 use Rattle.first_pass_lines.specs.Rest.{indent}
 use Rattle.first_pass_lines.specs.Places.{Place, offset, line_place, line_end, IsPlaceOf}
-use Rattle.first_pass_links.specs.Footnotes.{begins_footnote}
+use Rattle.first_pass_links.specs.Footnotes.{begins_footnote_mark}
 use Rattle.first_pass_entities.specs.Texts.{Borrows}
 use Rattle.first_pass_grammar.specs.Names.{with_named}
 use Rattle.first_pass_items.specs.declared.cow_str.CowStr.{CowStr}
@@ -32,7 +32,7 @@ use Rattle.first_pass_blocks.specs.Views.{allocs_of, context_in, state_of, sourc
 -- (this project)
 abbrev pub footnote_mark_at : Options → Place → Option ℕ
 footnote_mark_at options p =
-    if has options footnotes && (nat_lt (indent p.rest) 4 && begins_footnote (unindented p).rest.left) then Some (offset (unindented p)) else None
+    if has options footnotes && (nat_lt (indent p.rest) 4 && begins_footnote_mark (unindented p).rest.left) then Some (offset (unindented p)) else None
 
 -- the length of a head, given its length up to after the colon and the bytes after that; in GitHub's form it includes
 -- the white space there (this project)

@@ -20,8 +20,8 @@ use Rattle.first_pass_grammar.specs.Skeleton.{Continues, Inside, AtPlace, OnlyAL
 use Rattle.first_pass_grammar.specs.Completion.{lines_from, IsPlain}
 use Rattle.first_pass_open.specs.Path.{context_of}
 use Rattle.first_pass_open.specs.declared.source.Source.{Source}
-use Rattle.first_pass_open.specs.Between.{StandsBefore}
-use Rattle.first_pass_lists.specs.Closing.{top_body, is_list, takes_definition}
+use Rattle.first_pass_open.specs.Between.{MarkerBetween}
+use Rattle.first_pass_lists.specs.Closing.{top_body, is_list, may_begin_definition}
 use Rattle.first_pass_lists.specs.declared.state.PassState.{PassState}
 use Rattle.first_pass_ready.specs.State.{Ready, ReadyAt}
 use Rattle.first_pass_order.specs.Ordered.{AreNested, CanClose, IsReadFrom}
@@ -58,7 +58,7 @@ ReadyLazy d defined r p lines = ReadyInQuote d defined r (AtPlace p OnlyALeaf) l
 
 -- under these options a `:` may begin a definition in this tree (this project)
 abbrev pub may_define : Options → Forest Item → Bool
-may_define options f = has options definition_list && takes_definition f
+may_define options f = has options definition_list && may_begin_definition f
 
 -- ready for a leaf block at a place: no container begins there, or the line follows the tag of a block quote
 abbrev pub ReadyLeaf : Document → Tables → PassState → Place → List Place → Type 0
@@ -93,7 +93,7 @@ pub record OrderedText (text : List ℕ) (f : Forest Item) (marker : Item) (at :
   pub ordered : IsOrderedTo text f from
   pub nested : AreNested f.nodes f.spine
   pub plain : is_list (top_body f) ≡ false
-  pub stands : StandsBefore text from at (Some marker)
+  pub stands : MarkerBetween text from at (Some marker)
 
 -- the state is in order up to a position
 abbrev pub OrderedOn : Options → List ℕ → PassState → Position → Type 0
@@ -109,7 +109,7 @@ pub record GrowsText (text : List ℕ) (line : ℕ) (old new : List (ℕ × Item
   pub from : ℕ
   pub grows : GrowsBy line from old new
   pub order : line ≤ from
-  pub stands : StandsBefore text from at (Some marker)
+  pub stands : MarkerBetween text from at (Some marker)
   pub before : from < at
 
 -- the nodes grew by at most four (as `counted_nodes` counts) for each byte from the start of a line to a position in it or
@@ -127,7 +127,7 @@ abbrev pub GrowsFrom : List ℕ → Position → ℕ → List (ℕ × Item) → 
 GrowsFrom text (LineAt n) next old new = GrowsBy n next old new
 GrowsFrom text (InLine p) next old new = GrowsBy (offset p) next old new
 GrowsFrom text (LeafAt p) next old new = GrowsBy (offset p) next old new
-GrowsFrom text (TaskAt p marker) next old new = (from : ℕ) → StandsBefore text from (offset p) (Some marker) → from < next → GrowsBy from next old new
+GrowsFrom text (TaskAt p marker) next old new = (from : ℕ) → MarkerBetween text from (offset p) (Some marker) → from < next → GrowsBy from next old new
 GrowsFrom text (TaggedAt n) next old new = GrowsBy n next old new
 
 -- a place is in the line at an offset, and the next line begins at another

@@ -7,7 +7,7 @@ use Rattle.first_pass_tree.specs.Forest.{Forest, IsForest, item_at}
 use Rattle.first_pass_grammar.specs.Before.{is_paragraph_body}
 use Rattle.first_pass_grammar.specs.Leaves.{document}
 use Rattle.first_pass_names.specs.TableEntries.{names_of, NamesMore}
-use Rattle.first_pass_lists.specs.Closing.{current_body, with_tree, title_kept, definitions_left}
+use Rattle.first_pass_lists.specs.Closing.{current_body, with_tree, title_begun, definitions_left}
 use Rattle.first_pass_lists.specs.declared.state.PassState.{PassState}
 use Rattle.first_pass_open.specs.Between.{AddsBetween}
 use Rattle.first_pass_blocks.specs.declared.state.BlockPass.{BlockPass}
@@ -25,7 +25,7 @@ is_paragraph_last f = option_map_or is_paragraph_body (current_body f) false
 -- The current node was read right after a definition that ends at an offset. A paragraph may be the next title. A
 -- heading or a table ends the definition list (this project).
 abbrev pub title_read : ℕ → PassState → PassState
-title_read e r = if is_paragraph_last r.tree then title_kept e r else definitions_left e r
+title_read e r = if is_paragraph_last r.tree then title_begun e r else definitions_left e r
 
 -- A pass read the paragraph, heading or table whose text begins at an offset right after a definition. The remaining
 -- lines begin at another offset (this project).

@@ -18,7 +18,7 @@ use first_pass_items::option_set::Options;
 use first_pass_lines::lines::{begins, scan_blank_line};
 use first_pass_lines::places::next_line;
 use first_pass_lists::state::PassState;
-use first_pass_open::containers::quotes_end;
+use first_pass_open::containers::nodes_to_quote;
 use first_pass_open::front::{scan_continued_past, scan_front};
 use first_pass_open::open_block::append_item;
 use first_pass_open::place::Place;
@@ -80,13 +80,13 @@ pub(crate) fn read_blank_lines<'a>(state: &PassState, source: &Source<'a>, start
     if state.is_in_footnote() && !source.options.has_gfm_footnotes() {
         return start;
     }
-    let quotes_end = quotes_end(&state.tree);
-    if quotes_end == state.tree.spine_len() {
+    let nodes_to_quote = nodes_to_quote(&state.tree);
+    if nodes_to_quote == state.tree.spine_len() {
         return start;
     }
     let mut next = start;
     while next < source.text.len() {
-        let Some(rest) = scan_continued_past(source, &state.tree, next, quotes_end) else {
+        let Some(rest) = scan_continued_past(source, &state.tree, next, nodes_to_quote) else {
             return next;
         };
         if scan_blank_line(rest.left()).is_none() {
@@ -177,7 +177,7 @@ fn begins_no_container<'a>(rest: &LineStart<'a>) -> bool
 fn may_define(source: &Source<'_>, state: &PassState) -> bool
     ensures { result ≡ may_define source.now.options state.now.tree }
 {
-    source.options.contains(Options::ENABLE_DEFINITION_LIST) && state.takes_definition()
+    source.options.contains(Options::ENABLE_DEFINITION_LIST) && state.may_begin_definition()
 }
 
 // Opens a container that begins in the line of a place, which is after its marker. Also opens the list that it needs,

@@ -7,14 +7,14 @@ ghost use Rattle.first_pass_grammar.specs.Kinds.{all_taken, is_ordinary_after_ta
 ghost use Rattle.first_pass_open.specs.Path.{context_of};
 ghost use Rattle.first_pass_tree.specs.Forest.{in_table};
 ghost use Rattle.first_pass_names.specs.TableEntries.{tables_of};
-ghost use Rattle.first_pass_kinds.specs.Memory.{line_may_head};
+ghost use Rattle.first_pass_kinds.specs.Memory.{line_may_head_table};
 ghost use Rattle.first_pass_blocks.specs.Runs.{PutsDefinitions, ReadsRun};
 ghost use Rattle.first_pass_blocks.specs.Views.{allocs_of, context_in, source_text, tree_of};
 
 use crate::state::BlockPass;
 use first_pass_definitions::reference::parse_refdef_total;
 use first_pass_items::item::Item;
-use first_pass_kinds::interrupt::scan_line_after_tag;
+use first_pass_kinds::interrupt::scan_flowing_line;
 use first_pass_lines::lines::scan_blank_line;
 use first_pass_lines::places::{next_line, rest_of};
 use first_pass_open::source::Source;
@@ -46,10 +46,10 @@ pub fn scan_next_line_or_lazy_continuation<'input>(
         rest ≡ (if is_ordinary_after_tag around (line_rest bytes.now) || is_blank_rest (all_taken line)
         then None
         else Some (all_taken line))) }
-    ensures err { OnErr result (line_may_head (context_of source.now.options tree.now)
+    ensures err { OnErr result (line_may_head_table (context_of source.now.options tree.now)
         (line_rest bytes.now) ≡ true) }
 {
-    let line = scan_line_after_tag(source, bytes, tree)?;
+    let line = scan_flowing_line(source, bytes, tree)?;
     let Some(rest) = line else {
         return Ok(None);
     };

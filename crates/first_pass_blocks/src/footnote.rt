@@ -12,7 +12,7 @@ use first_pass_definitions::footnote::scan_footnote;
 use first_pass_items::option_set::Options;
 use first_pass_lines::lines::{scan_blank_line, scan_whitespace_no_nl};
 use first_pass_lines::places::rest_of;
-use first_pass_links::footnote::begins_footnote;
+use first_pass_links::footnote::begins_footnote_mark;
 use first_pass_open::indentation::scan_indentation;
 use first_pass_open::place::Place;
 use first_pass_open::source::Source;
@@ -84,7 +84,7 @@ fn footnote_mark<'a>(source: &Source<'a>, place: &Place<'a>) -> Option<usize>
         return None;
     }
     let mut next = place.copy();
-    if scan_indentation(&mut next.rest) >= 4 || !begins_footnote(next.left()) {
+    if scan_indentation(&mut next.rest) >= 4 || !begins_footnote_mark(next.left()) {
         return None;
     }
     Some(next.offset())

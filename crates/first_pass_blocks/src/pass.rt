@@ -6,7 +6,7 @@ ghost use Rattle.first_pass_grammar.specs.Leaves.{document};
 ghost use Rattle.first_pass_grammar.specs.Derivation.{no_tables, Derives, IsOnlyDerived};
 ghost use Rattle.first_pass_grammar.specs.Completion.{lines_from};
 ghost use Rattle.first_pass_grammar.specs.Kinds.{Paragraph, unindented, IsKind};
-ghost use Rattle.first_pass_grammar.specs.Counting.{filled_cells, counted_nodes};
+ghost use Rattle.first_pass_grammar.specs.Counting.{inserted_cells, counted_nodes};
 ghost use Rattle.first_pass_grammar.specs.WholeTables.{AreWholeTables, HasWholeTables};
 ghost use Rattle.first_pass_grammar.specs.Order.{IsOrdered};
 ghost use Rattle.first_pass_grammar.specs.Names.{Names, AreNamed};
@@ -30,7 +30,7 @@ use crate::text::parse_text;
 use first_pass_grammar::AfterMarker;
 use first_pass_items::item::Item;
 use first_pass_items::option_set::Options;
-use first_pass_kinds::interrupt::scan_line_after_tag;
+use first_pass_kinds::interrupt::scan_flowing_line;
 use first_pass_kinds::kinds::{BlockStart, kind_at};
 use first_pass_lines::places::{next_line, rest_of};
 use first_pass_lists::state::PassState;
@@ -124,7 +124,7 @@ impl<'a> BlockPass<'a> {
         ensures { IfOk result (λ next. ReadsBlock self.old self.new start (TaggedAt start) next) }
     {
         let bytes = rest_of(self.source.text.as_bytes(), start);
-        match scan_line_after_tag(&self.source, bytes, &self.state.tree)? {
+        match scan_flowing_line(&self.source, bytes, &self.state.tree)? {
             None => Ok(start),
             Some(rest) => {
                 let next = self.parse_leaf(Place { line: start, rest })?;
@@ -275,7 +275,7 @@ pub fn run_first_pass<'a>(
     ensures settled { IfOk result (λ answer. AreSettled answer.0.nodes) }
     ensures order { IfOk result (λ answer. IsOrdered text.now answer.0.nodes) }
     ensures node_bound { IfOk result (λ answer.
-        length answer.0.nodes ≤ 1 + 4 * length text.now + filled_cells answer.0.nodes) }
+        length answer.0.nodes ≤ 1 + 4 * length text.now + inserted_cells answer.0.nodes) }
     ensures counted { IfOk result (λ answer. counted_nodes answer.0.nodes ≤ 1 + 4 * length text.now) }
     ensures named { IfOk result (λ answer. AreNamed (names_of answer.1) answer.0.nodes) }
     ensures links { IfOk result (λ answer. AreWritten text.now (refdefs_of answer.1)) }

@@ -9,7 +9,7 @@ ghost use Rattle.first_pass_grammar.specs.Leaves.{document};
 ghost use Rattle.first_pass_grammar.specs.TableHeads.{headed_table};
 ghost use Rattle.first_pass_kinds.specs.TableHeads.{table_head_len};
 ghost use Rattle.first_pass_open.specs.Path.{context_of};
-ghost use Rattle.first_pass_open.specs.Between.{AddsBetween, IsInItem, StandsBefore};
+ghost use Rattle.first_pass_open.specs.Between.{AddsBetween, MarkerIsInItem, MarkerBetween};
 ghost use Rattle.first_pass_blocks.specs.TextsAdded.{AddsText};
 
 use first_pass_items::item::{Item, ItemBody};
@@ -74,8 +74,8 @@ pub fn parse_text<'a>(
     ensures block { IfOk result (λ next.
         AddsText (document source.now.text.now source.now.options (names_of allocs.new)) start_ix tasklist_marker
         tree.old tree.new next) }
-    ensures fits { IfOk result (λ next. IsInItem tree.old tasklist_marker → (from : ℕ)
-        → StandsBefore source.now.text.now from start_ix tasklist_marker
+    ensures fits { IfOk result (λ next. MarkerIsInItem tree.old tasklist_marker → (from : ℕ)
+        → MarkerBetween source.now.text.now from start_ix tasklist_marker
         → AddsBetween source.now.text.now from next tree.old tree.new) }
 {
     match scan_headed_table(source, tree, start_ix)? {

@@ -5,7 +5,7 @@ use Rattle.first_pass_items.specs.declared.option_set.Options.{Options}
 use Rattle.first_pass_grammar.specs.Names.{Names, AreNamed}
 use Rattle.first_pass_grammar.specs.Leaves.{document}
 use Rattle.first_pass_grammar.specs.Derivation.{Derives, IsOnlyDerived, Tables}
-use Rattle.first_pass_grammar.specs.Counting.{filled_cells}
+use Rattle.first_pass_grammar.specs.Counting.{inserted_cells}
 use Rattle.first_pass_grammar.specs.Order.{IsOrdered}
 use Rattle.first_pass_grammar.specs.WholeTables.{AreWholeTables}
 use Rattle.first_pass_names.specs.TableEntries.{names_of, tables_of}
@@ -35,7 +35,7 @@ pub record IsTreeOf (text : List ℕ) (bits : ℕ) (names : Names) (nodes : List
   pub only : IsOnlyDerived text options names nodes tables
   pub settled : AreSettled nodes
   pub order : IsOrdered text nodes
-  pub node_bound : length nodes ≤ 1 + 4 * length text + filled_cells nodes
+  pub node_bound : length nodes ≤ 1 + 4 * length text + inserted_cells nodes
   pub named : AreNamed names nodes
   pub whole_tables : AreWholeTables names nodes
 

@@ -12,11 +12,11 @@ use Rattle.first_pass_lines.specs.Lines.{begins, eol_len, blank_len}
 use Rattle.first_pass_lines.specs.Places.{line_rest}
 use Rattle.first_pass_links.specs.Destinations.{unescaped_upto, destination_at}
 use Rattle.first_pass_items.specs.OptionWords.{gfm_footnotes}
-use Rattle.first_pass_links.specs.Footnotes.{begins_footnote}
+use Rattle.first_pass_links.specs.Footnotes.{begins_footnote_mark}
 use Rattle.first_pass_grammar.specs.Containers.{Context}
 use Rattle.first_pass_grammar.specs.Definitions.{title_prefix, title_at, title_after, title_beyond, alone_after, space_at, target_at}
 use Rattle.first_pass_grammar.specs.Definitions.{deepest_nesting, prefix_crossed, LinkReference, reference_definition_at}
-use Rattle.first_pass_kinds.specs.Memory.{line_may_head}
+use Rattle.first_pass_kinds.specs.Memory.{line_may_head_table}
 use Rattle.first_pass_labels.specs.declared.label_table.LinkDef.{LinkDef}
 use Rattle.first_pass_labels.specs.declared.label_table.LinkPlaces.{LinkPlaces}
 use Rattle.first_pass_definitions.specs.Reading.{stops_title_line, goes_on_at}
@@ -45,9 +45,10 @@ further_asks : (around : Context) (bs : List ℕ) (n next : ℕ) (o : Option ℕ
     → option_map_or (λ e. line_asks around (drop (n + e) bs)) o false ≡ true
 further_asks around bs n next None h = cc
 further_asks around bs n next (Some e) h =
-    prefix_asks (λ k. n + e + k) (line_may_head around (line_rest (drop (n + e) bs))) next (title_prefix around (drop (n + e) bs)) h
+    prefix_asks (λ k. n + e + k) (line_may_head_table around (line_rest (drop (n + e) bs))) next (title_prefix around (drop (n + e) bs)) h
 
-table_asks : (around : Context) (bs : List ℕ) (n : ℕ) (o : Option ℕ) → option_map_or (λ e. line_may_head around (line_rest (drop (n + e) bs))) o false ≡ true
+table_asks : (around : Context) (bs : List ℕ) (n : ℕ) (o : Option ℕ)
+    → option_map_or (λ e. line_may_head_table around (line_rest (drop (n + e) bs))) o false ≡ true
     → option_map_or (λ e. line_asks around (drop (n + e) bs)) o false ≡ true
 table_asks around bs n None h = h
 table_asks around bs n (Some e) h = ap (λ b. is_some (title_prefix around (drop (n + e) bs)) || b) h ∙ or_true (is_some (title_prefix around (drop (n + e) bs)))
@@ -75,7 +76,7 @@ goes_asks around close from stop next bs f e h (inr l) = f l
 -- or a line follows that may head a table
 pub meets_asks : (around : Context) (close from stop : ℕ) (bs : List ℕ)
     → (0 < from → text_asks around close bs ≡ true) → stop ≡ from + unescaped_upto (stops_title_line close) 0 (drop from bs)
-    → option_map_or (λ e. line_may_head around (line_rest (drop (stop + e) bs))) (eol_len (drop stop bs)) false ≡ true → (from ≡ 0) ⊎ (0 < from)
+    → option_map_or (λ e. line_may_head_table around (line_rest (drop (stop + e) bs))) (eol_len (drop stop bs)) false ≡ true → (from ≡ 0) ⊎ (0 < from)
     → text_asks around close bs ≡ true
 meets_asks around close from stop bs f e h (inl z) =
     text_asks_at around close stop bs (first_stop close from stop bs z e) (table_asks around bs stop (eol_len (drop stop bs)) h)
@@ -88,17 +89,17 @@ none_or_some (suc n) = inr (omega arith)
 -- a label
 pub label_asks : (around : Context) (prefix : List ℕ → Option ℕ) (t u : Bool) (bs : List ℕ) (post : Bor (List ℕ) → Result (Option ℕ) AllocError → Type 0)
     → t ≡ u → CanErr prefix t bs post
-    → ((at : ℕ) → ErrsAfter bs at post → line_may_head around (line_rest (drop (at + 1) bs)) ≡ true)
+    → ((at : ℕ) → ErrsAfter bs at post → line_may_head_table around (line_rest (drop (at + 1) bs)) ≡ true)
     → IsRewritten prefix u bs ⊎ (HasNoBracket prefix bs × MeetsTable around bs)
 label_asks around prefix t u bs post k (inl z) f = inl (subst (λ x. IsRewritten prefix x bs) k z)
 label_asks around prefix t u bs post k (inr (n, s)) f = inr (n, (s.0, s.1.within, s.1.line_end, f s.0 s.1))
 
 -- and that of a footnote
 pub footnote_asks : (around : Context) (prefix : List ℕ → Option ℕ) (t u : Bool) (bs : List ℕ) (post : Bor (List ℕ) → Result (Option ℕ) AllocError → Type 0)
-    → t ≡ u → begins_footnote bs ≡ true → CanErr prefix t (drop 2 bs) post
+    → t ≡ u → begins_footnote_mark bs ≡ true → CanErr prefix t (drop 2 bs) post
     → ((at : ℕ) → ErrsAfter (drop 2 bs) at post
-    → (gfm_footnotes around.options ≡ false) × (line_may_head around (line_rest (drop (at + 1) (drop 2 bs))) ≡ true))
-    → (begins_footnote bs ≡ true)
+    → (gfm_footnotes around.options ≡ false) × (line_may_head_table around (line_rest (drop (at + 1) (drop 2 bs))) ≡ true))
+    → (begins_footnote_mark bs ≡ true)
     × (IsRewritten prefix u (drop 2 bs) ⊎ (HasNoBracket prefix (drop 2 bs) × (gfm_footnotes around.options ≡ false) × MeetsTable around (drop 2 bs)))
 footnote_asks around prefix t u bs post k m (inl z) f = (m, inl (subst (λ x. IsRewritten prefix x (drop 2 bs)) k z))
 footnote_asks around prefix t u bs post k m (inr (n, s)) f = let both = f s.0 s.1 in (m, inr (n, both.0, (s.0, s.1.within, s.1.line_end, both.1)))

@@ -10,12 +10,12 @@ use Rattle.std.specs.Option.{option_map, option_and_then, option_map_or}
 use Rattle.std.proofs.lemmas.List.{drop-drop, get_or-drop}
 use Rattle.std.proofs.lemmas.Option.{cond_some}
 use Rattle.first_pass_lines.specs.Lines.{is_line_end, ends_line, begins, blank_len}
-use Rattle.first_pass_links.specs.Destinations.{unescaped_upto, ends_brackets, bracketed_at, ends_run, longer, if_closed, closes_none, nesting_after}
-use Rattle.first_pass_links.specs.Destinations.{run_len}
+use Rattle.first_pass_links.specs.Destinations.{unescaped_upto, ends_bracketed, bracketed_at, ends_run, longer, if_closed, closes_none, nesting_after}
+use Rattle.first_pass_links.specs.Destinations.{bare_len}
 use Rattle.first_pass_links.specs.Destinations.{unbracketed, destination_at}
 use Rattle.first_pass_links.specs.Escapes.{begins_escape}
 use Rattle.first_pass_links.proofs.Destinations.{first_byte}
-use Rattle.first_pass_links.specs.Labels.{joined, bytes_of, offsets_of, label_len, is_label, shown, label_at}
+use Rattle.first_pass_links.specs.Labels.{joined, bytes_of, offsets_of, label_len, is_label, as_read, label_at}
 use Rattle.first_pass_grammar.specs.Containers.{Context}
 use Rattle.first_pass_grammar.specs.Definitions.{prefix_crossed, space_at, with_line_feeds, ends_title, title_end, title_text, title_prefix, title_at}
 use Rattle.first_pass_grammar.specs.Definitions.{alone_after, title_beyond, title_after, after_destination, deepest_nesting, Target, target_of}
@@ -115,7 +115,7 @@ abbrev ArePlain : Option ℕ → List ℕ → Type 0
 ArePlain o bs = (k i : ℕ) → o ≡ Some k → i < k → Plain bs i
 
 abbrev RunPlain : ℕ → ℕ → ℕ → List ℕ → Type 0
-RunPlain deepest nesting m bs = ArePlain (run_len deepest nesting m bs) bs
+RunPlain deepest nesting m bs = ArePlain (bare_len deepest nesting m bs) bs
 
 closed_by : (t : Bool) (k i : ℕ) → (if t then Some zero else None) ≡ Some k → i < k → ⊥
 closed_by true k i h l = let e : 0 ≡ k = some_same 0 k h in absurd (omega arith)
@@ -133,20 +133,20 @@ no_control b h = grind (arith, nat_tests, h)
 run_by : (e x c d : Bool) (deepest nesting b : ℕ) (bs : List ℕ) → ends_run b ≡ e → begins_escape (b ∷ bs) ≡ x
     → RunPlain deepest nesting 1 bs ⊎ (begins_escape (b ∷ bs) ≡ false) → RunPlain deepest (nesting_after b nesting) 0 bs
     → ArePlain (if e then if_closed nesting
-    else (if x then longer 1 (run_len deepest nesting 1 bs)
+    else (if x then longer 1 (bare_len deepest nesting 1 bs)
     else (if c then Some 0
     else (if d then None
-    else longer 1 (run_len deepest (nesting_after b nesting) 0 bs))))) (b ∷ bs)
+    else longer 1 (bare_len deepest (nesting_after b nesting) 0 bs))))) (b ∷ bs)
 run_by true x c d deepest nesting b bs h g p q = λ k i f l. absurd (closed_by (nesting == 0) k i f l)
 run_by false true c d deepest nesting b bs h g (inl p) q =
-    λ k i f l. one_more (run_len deepest nesting 1 bs) b bs k i f l (no_control b h) (λ n j. p n j)
+    λ k i f l. one_more (bare_len deepest nesting 1 bs) b bs k i f l (no_control b h) (λ n j. p n j)
 run_by false true c d deepest nesting b bs h g (inr p) q = cc
 run_by false false true d deepest nesting b bs h g p q = λ k i f l. (let e : 0 ≡ k = some_same 0 k f in absurd (omega arith))
 run_by false false false true deepest nesting b bs h g p q = λ k i f l. cc
 run_by false false false false deepest nesting b bs h g p q =
-    λ k i f l. one_more (run_len deepest (nesting_after b nesting) 0 bs) b bs k i f l (no_control b h) (λ n j. q n j)
+    λ k i f l. one_more (bare_len deepest (nesting_after b nesting) 0 bs) b bs k i f l (no_control b h) (λ n j. q n j)
 
-nothing_by : (m deepest nesting k i : ℕ) → run_len deepest nesting m [] ≡ Some k → i < k → Plain [] i
+nothing_by : (m deepest nesting k i : ℕ) → bare_len deepest nesting m [] ≡ Some k → i < k → Plain [] i
 nothing_by m deepest nesting k i h l = refl
 
 punctuation_plain : (b : ℕ) → is_ascii_punctuation b ≡ true → is_line_end b ≡ false
@@ -161,14 +161,14 @@ aside_by true deepest nesting b bs h f = inl (f (escaped_plain b bs h))
 aside_by false deepest nesting b bs h f = inr h
 
 run_plain : (deepest nesting m : ℕ) (bs : List ℕ) → Inside m bs → RunPlain deepest nesting m bs
-unfolding run_len
+unfolding bare_len
 run_plain deepest nesting m [] p = λ k i h l. nothing_by m deepest nesting k i h l
 run_plain deepest nesting zero (b ∷ bs) p = λ k i h l.
     run_by (ends_run b) (begins_escape (b ∷ bs)) (closes_none b nesting) (nat_lt deepest (nesting_after b nesting)) deepest nesting b bs refl refl
     (aside_by (begins_escape (b ∷ bs)) deepest nesting b bs refl (run_plain deepest nesting 1 bs)) (run_plain deepest (nesting_after b nesting) 0 bs tt)
     k i h l
 run_plain deepest nesting (suc zero) (b ∷ bs) p =
-    λ k i h l. one_more (run_len deepest nesting 0 bs) b bs k i h l p (λ n j. run_plain deepest nesting 0 bs tt n j)
+    λ k i h l. one_more (bare_len deepest nesting 0 bs) b bs k i h l p (λ n j. run_plain deepest nesting 0 bs tt n j)
 run_plain deepest nesting (suc (suc m)) (b ∷ bs) p = absurd p
 
 bracket_by : (xs : List ℕ) (n : ℕ) (d : ℕ × List ℕ) → (if begins 62 (drop n (drop 1 xs)) then Some (n + 2, take n (drop 1 xs)) else None) ≡ Some d
@@ -189,11 +189,11 @@ run_last_by false bs n d z h f =
     (omega arith, f (d.0 - 1) (omega arith))
 
 dest_by : (t : Bool) (deepest : ℕ) (bs : List ℕ) (d : ℕ × List ℕ) → begins 60 bs ≡ t
-    → (if t then bracketed_at (drop 1 bs) else option_and_then (unbracketed bs) (run_len deepest 0 0 bs)) ≡ Some d → (0 < d.0) × Plain bs (d.0 - 1)
+    → (if t then bracketed_at (drop 1 bs) else option_and_then (unbracketed bs) (bare_len deepest 0 0 bs)) ≡ Some d → (0 < d.0) × Plain bs (d.0 - 1)
 unfolding bracketed_at
-dest_by true deepest bs d z h = bracket_by bs (unescaped_upto ends_brackets 0 (drop 1 bs)) d h
+dest_by true deepest bs d z h = bracket_by bs (unescaped_upto ends_bracketed 0 (drop 1 bs)) d h
 dest_by false deepest bs d z h =
-    let n = and_some (unbracketed bs) (run_len deepest 0 0 bs) d h in
+    let n = and_some (unbracketed bs) (bare_len deepest 0 0 bs) d h in
     run_last_by (n.0 == 0) bs n.0 d refl n.2 (λ i l. run_plain deepest 0 0 bs tt n.0 i n.1 l)
 
 dest_last : (deepest : ℕ) (bs : List ℕ) (d : ℕ × List ℕ) → destination_at deepest bs ≡ Some d → (0 < d.0) × Plain bs (d.0 - 1)
@@ -400,7 +400,7 @@ label_last prefix in_table bs l h =
     let whole = joined prefix 0 0 bs in
     let n = label_len (bytes_of whole) in
     let label = take n (bytes_of whole) in
-    let p = cond_some (begins 93 (drop n (bytes_of whole)) && is_label label) (slice_index (offsets_of whole) n + 1, shown in_table label) l h in
+    let p = cond_some (begins 93 (drop n (bytes_of whole)) && is_label label) (slice_index (offsets_of whole) n + 1, as_read in_table label) l h in
     let b = and_parts _ _ p.0 in
     let e : slice_index (offsets_of whole) n + 1 ≡ l.0 = ap (λ (q : ℕ × List ℕ). q.0) p.1 in
     let i : slice_index (offsets_of whole) n ≡ l.0 - 1 = omega arith in

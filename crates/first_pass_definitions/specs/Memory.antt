@@ -1,5 +1,5 @@
 -- When reading a link reference definition, or the label of a footnote, may need memory (CommonMark 4.7). Which
--- lines may head a table: `line_may_head`.
+-- lines may head a table: `line_may_head_table`.
 use Rattle.std.specs.Prelude.{◌≡◌, ◌≢◌, ◌⊎◌, ◌<◌, ◌+◌, ◌==◌, ◌&&◌, ◌||◌, not, ℕ, Bool, true, false, List, length, drop, slice_get, slice_index, Some}
 use Rattle.std.specs.Prelude.{IsSomeAnd, is_some}
 use Rattle.std.specs.List.{list_any, prefix_len}
@@ -11,17 +11,17 @@ use Rattle.first_pass_links.specs.Escapes.{unescaped}
 use Rattle.first_pass_links.specs.Destinations.{unescaped_upto, destination_at}
 use Rattle.first_pass_links.specs.Labels.{IsRewritten, HasNoBracket, label_at}
 use Rattle.first_pass_items.specs.OptionWords.{gfm_footnotes}
-use Rattle.first_pass_links.specs.Footnotes.{begins_footnote}
+use Rattle.first_pass_links.specs.Footnotes.{begins_footnote_mark}
 use Rattle.first_pass_grammar.specs.Containers.{Context}
 use Rattle.first_pass_grammar.specs.Footnotes.{footnote_prefix}
 use Rattle.first_pass_grammar.specs.Definitions.{Target, title_end, title_prefix, prefix_crossed, space_at, target_at, deepest_nesting, reference_definition_at}
-use Rattle.first_pass_kinds.specs.Memory.{line_may_head}
+use Rattle.first_pass_kinds.specs.Memory.{line_may_head_table}
 use Rattle.first_pass_definitions.specs.Reading.{stops_title_line}
 
 -- some line after a line ending of the text may head a table (this project)
 abbrev pub MeetsTable : Context → List ℕ → Type 0
 MeetsTable around bs =
-    (at : ℕ) × (at < length bs) × (ends_line (slice_index bs at) (drop (at + 1) bs) ≡ true) × (line_may_head around (line_rest (drop (at + 1) bs)) ≡ true)
+    (at : ℕ) × (at < length bs) × (ends_line (slice_index bs at) (drop (at + 1) bs) ≡ true) × (line_may_head_table around (line_rest (drop (at + 1) bs)) ≡ true)
 
 -- A label has to be copied, since reading changes it; or no bracket ends it, and some line after a line ending of the
 -- text may head a table (CommonMark 4.7, GFM 4.10).
@@ -32,17 +32,17 @@ LabelAsks around in_table bs =
 -- the same for the label of a footnote after its `[^`, which in GitHub's form crosses no line ending (this project)
 abbrev pub FootnoteAsks : Context → Bool → List ℕ → Type 0
 FootnoteAsks around in_table bs =
-    (begins_footnote bs ≡ true) × (IsRewritten (footnote_prefix around) in_table (drop 2 bs)
+    (begins_footnote_mark bs ≡ true) × (IsRewritten (footnote_prefix around) in_table (drop 2 bs)
     ⊎ (HasNoBracket (footnote_prefix around) (drop 2 bs) × (gfm_footnotes around.options ≡ false) × MeetsTable around (drop 2 bs)))
 
 -- white space has a line ending before a line that may head a table (CommonMark 4.7, GFM 4.10)
 abbrev pub space_asks : Context → List ℕ → Bool
 space_asks around bs =
-    let n = prefix_len is_white bs in option_map_or (λ e. line_may_head around (line_rest (drop (n + e) bs))) (eol_len (drop n bs)) false
+    let n = prefix_len is_white bs in option_map_or (λ e. line_may_head_table around (line_rest (drop (n + e) bs))) (eol_len (drop n bs)) false
 
 -- the title continues in the line that begins here, or that line may head a table (CommonMark 4.7, GFM 4.10)
 abbrev pub line_asks : Context → List ℕ → Bool
-line_asks around bs = is_some (title_prefix around bs) || line_may_head around (line_rest bs)
+line_asks around bs = is_some (title_prefix around bs) || line_may_head_table around (line_rest bs)
 
 -- A line ending comes before any unescaped closing byte of the title, and in parentheses before any unescaped `(`. The
 -- line after the first line ending continues the title or may head a table (CommonMark 4.7, GFM 4.10).

@@ -8,7 +8,7 @@ ghost use Rattle.first_pass_grammar.specs.Footnotes.{footnote_prefix, footnote_a
 ghost use Rattle.first_pass_open.specs.Path.{context_of};
 ghost use Rattle.first_pass_items.specs.OptionWords.{gfm_footnotes};
 ghost use Rattle.first_pass_lines.specs.Places.{line_rest};
-ghost use Rattle.first_pass_kinds.specs.Memory.{line_may_head};
+ghost use Rattle.first_pass_kinds.specs.Memory.{line_may_head_table};
 ghost use Rattle.first_pass_definitions.specs.Memory.{FootnoteAsks};
 
 use crate::label::scan_label_prefix;
@@ -69,7 +69,7 @@ fn scan_footnote_prefix(
     ensures old { OnErr result (gfm_footnotes source.now.options ≡ false) }
     ensures err { OnErr result ((at : ℕ) → IsCharBoundary source.now.text.now at
         → bytes.now ≡ drop at source.now.text.now
-        → line_may_head (context_of source.now.options tree.now) (line_rest bytes.now) ≡ true) }
+        → line_may_head_table (context_of source.now.options tree.now) (line_rest bytes.now) ≡ true) }
 {
     if source.options.has_gfm_footnotes() {
         return Ok(None);

@@ -8,7 +8,7 @@ ghost use Rattle.first_pass_tree.specs.Forest.{in_table};
 ghost use Rattle.first_pass_grammar.specs.Definitions.{prefix_crossed};
 ghost use Rattle.first_pass_open.specs.Path.{context_of};
 ghost use Rattle.first_pass_lines.specs.Places.{line_rest};
-ghost use Rattle.first_pass_kinds.specs.Memory.{line_may_head};
+ghost use Rattle.first_pass_kinds.specs.Memory.{line_may_head_table};
 ghost use Rattle.first_pass_definitions.specs.Memory.{LabelAsks};
 
 use first_pass_items::cow_str::CowStr;
@@ -71,7 +71,7 @@ pub(crate) fn scan_label_prefix(
         → bytes.now ≡ drop at source.now.text.now → IsCharBoundary bytes.now n)) }
     ensures err { OnErr result ((at : ℕ) → IsCharBoundary source.now.text.now at
         → bytes.now ≡ drop at source.now.text.now
-        → line_may_head (context_of source.now.options tree.now) (line_rest bytes.now) ≡ true) }
+        → line_may_head_table (context_of source.now.options tree.now) (line_rest bytes.now) ≡ true) }
 {
     let whole = source.text.len();
     if bytes.len() > whole || !source.text.is_char_boundary(whole - bytes.len()) {

@@ -1,5 +1,5 @@
 //! Link reference definitions: their labels, white space, destinations and titles, over the lines that they cross;
-//! heads of footnote definitions. Which lines may head a table: `line_may_head` of `first_pass_kinds`.
+//! heads of footnote definitions. Which lines may head a table: `line_may_head_table` of `first_pass_kinds`.
 #![tactic(auto)]
 
 pub mod footnote;

@@ -15,7 +15,7 @@ ghost use Rattle.first_pass_grammar.specs.Definitions.{title_at, title_end, titl
 ghost use Rattle.first_pass_open.specs.Path.{context_of};
 ghost use Rattle.first_pass_kinds.specs.Rests.{IsRestOf};
 ghost use Rattle.first_pass_lines.specs.Places.{line_rest};
-ghost use Rattle.first_pass_kinds.specs.Memory.{line_may_head};
+ghost use Rattle.first_pass_kinds.specs.Memory.{line_may_head_table};
 ghost use Rattle.first_pass_definitions.specs.Memory.{title_asks, text_asks};
 
 use first_pass_items::cow_str::CowStr;
@@ -151,7 +151,7 @@ fn scan_title_break(
         ≡ goes_on_at (title_prefix (context_of source.now.options tree.now)) bytes.now at) }
     ensures place { IfOk result (λ answer. IfSome answer (λ next. (at < next) × IsCharBoundary bytes.now next)) }
     ensures texts { IfOk result (λ answer. IfSome answer (λ next. begins line_feed (drop next bytes.now) ≡ false)) }
-    ensures err { OnErr result (option_map_or (λ e. line_may_head (context_of source.now.options tree.now)
+    ensures err { OnErr result (option_map_or (λ e. line_may_head_table (context_of source.now.options tree.now)
         (line_rest (drop (at + e) bytes.now))) (eol_len (drop at bytes.now)) false ≡ true) }
 {
     let Some(line_end) = scan_eol(rest_of(bytes, at)) else {
@@ -176,7 +176,8 @@ fn scan_title_prefix(
         answer ≡ title_prefix (context_of source.now.options tree.now) bytes.now) }
     ensures place { IfOk result (λ answer. IfSome answer (λ n. IsCharBoundary bytes.now n)) }
     ensures text { IfOk result (λ answer. IfSome answer (λ n. blank_len (drop n bytes.now) ≡ None)) }
-    ensures err { OnErr result (line_may_head (context_of source.now.options tree.now) (line_rest bytes.now) ≡ true) }
+    ensures err { OnErr result (line_may_head_table (context_of source.now.options tree.now)
+        (line_rest bytes.now) ≡ true) }
 {
     let start = source.text.len() - bytes.len();
     let Some(rest) = scan_line_crossed(source, tree, start, false)? else {

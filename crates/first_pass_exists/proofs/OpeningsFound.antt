@@ -12,7 +12,7 @@ use Rattle.first_pass_items.specs.declared.item.Item.{Item}
 use Rattle.first_pass_items.specs.declared.option_set.Options.{Options}
 use Rattle.first_pass_items.specs.OptionWords.{has, tasklists, footnotes, gfm_footnotes}
 use Rattle.first_pass_items.specs.Bytes.{colon, left_bracket, circumflex}
-use Rattle.first_pass_links.specs.Footnotes.{begins_footnote, head_after, footnote_head}
+use Rattle.first_pass_links.specs.Footnotes.{begins_footnote_mark, head_after, footnote_head}
 use Rattle.first_pass_links.specs.Labels.{label_at}
 use Rattle.first_pass_grammar.specs.Footnotes.{footnote_prefix, footnote_at, footnote_head_at, label_bytes, place_past, past_head}
 use Rattle.first_pass_grammar.specs.LinkRuns.{lines_beyond}
@@ -194,7 +194,7 @@ head_shorter_by : (prefix : List ℕ → Option ℕ) (bs : List ℕ) (head : ℕ
     → length (drop head.0 bs) < length bs
 unfolding footnote_head
 head_shorter_by prefix bs head h =
-    let begun = begun_head bs (begins_footnote bs) (option_and_then (head_after (drop 2 bs)) (label_at prefix false (drop 2 bs))) head h in
+    let begun = begun_head bs (begins_footnote_mark bs) (option_and_then (head_after (drop 2 bs)) (label_at prefix false (drop 2 bs))) head h in
     let size = head_size (drop 2 bs) (label_at prefix false (drop 2 bs)) head begun.1 in
     let some = some_bytes left_bracket bs (and_parts (begins left_bracket bs) (begins circumflex (drop 1 bs)) begun.0).0 in
     let left = length-drop head.0 bs in

@@ -22,15 +22,15 @@ last_cell cell x = if is_row x.body then None else (if is_cell x.body then Some 
 -- A filled cell after another cell. A row with too few cells is filled with empty ones, which all start at the row's
 -- end, and no two written cells start at the same offset. So a filled cell starts where the cell before it in its row
 -- does (GFM 4.10, and this project).
-abbrev pub is_filled_after : Option ℕ → Item → Bool
-is_filled_after None x = false
-is_filled_after (Some start) x = is_cell x.body && (x.start == start)
+abbrev pub is_inserted_after : Option ℕ → Item → Bool
+is_inserted_after None x = false
+is_inserted_after (Some start) x = is_cell x.body && (x.start == start)
 
 -- the number of these nodes that are not filled cells after other cells; `cell` is the start of the row's last cell so
 -- far, if it has one (this project)
 unfoldable pub own : Option ℕ → List (ℕ × Item) → ℕ
 own cell [] = 0
-own cell (n ∷ nodes) = (if is_filled_after cell n.1 then 0 else 1) + own (last_cell cell n.1) nodes
+own cell (n ∷ nodes) = (if is_inserted_after cell n.1 then 0 else 1) + own (last_cell cell n.1) nodes
 
 -- the number of counted nodes of a tree or a block: of the cells that a row is filled with, only the first
 -- counts (this project)
@@ -42,16 +42,16 @@ abbrev pub row_end : Option ℕ → Item → Option ℕ
 row_end «end» x = if is_row x.body then Some x.«end» else «end»
 
 -- A filled cell is a cell that starts at the end of its row (GFM 4.10, and this project).
-abbrev pub is_filled : Option ℕ → Item → Bool
-is_filled None x = false
-is_filled (Some «end») x = is_cell x.body && (x.start == «end»)
+abbrev pub is_inserted : Option ℕ → Item → Bool
+is_inserted None x = false
+is_inserted (Some «end») x = is_cell x.body && (x.start == «end»)
 
 -- the number of filled cells among these nodes; `end` is the end of the row before them, if there is one (this
 -- project)
-unfoldable pub filled_in_row : Option ℕ → List (ℕ × Item) → ℕ
-filled_in_row «end» [] = 0
-filled_in_row «end» (n ∷ nodes) = (if is_filled «end» n.1 then 1 else 0) + filled_in_row (row_end «end» n.1) nodes
+unfoldable pub inserted_in_row : Option ℕ → List (ℕ × Item) → ℕ
+inserted_in_row «end» [] = 0
+inserted_in_row «end» (n ∷ nodes) = (if is_inserted «end» n.1 then 1 else 0) + inserted_in_row (row_end «end» n.1) nodes
 
 -- the number of filled cells in a tree (GFM 4.10, and this project)
-abbrev pub filled_cells : List (ℕ × Item) → ℕ
-filled_cells nodes = filled_in_row None nodes
+abbrev pub inserted_cells : List (ℕ × Item) → ℕ
+inserted_cells nodes = inserted_in_row None nodes

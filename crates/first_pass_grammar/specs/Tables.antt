@@ -111,9 +111,9 @@ TakesRows d path before (row ∷ rows) (line ∷ lines) left =
     HasCells d path line before row × (0 < length row.cells) × TakesRows d path row.after rows lines left
 
 -- the number of cells that all these rows are filled with, for this many columns (GFM 4.10)
-abbrev pub all_filled : ℕ → List FoundRow → ℕ
-all_filled columns [] = 0
-all_filled columns (row ∷ rows) = filled columns row.cells + all_filled columns rows
+abbrev pub all_inserted : ℕ → List FoundRow → ℕ
+all_inserted columns [] = 0
+all_inserted columns (row ∷ rows) = filled columns row.cells + all_inserted columns rows
 
 -- a table up to a line: its number of columns, how many more cells its rows may be filled with, and the brace contexts
 -- before the line (GFM 4.10, and this project)
@@ -139,14 +139,14 @@ row_blocks columns rows = side_by_side (map (λ (row : FoundRow). row_block Tabl
 
 -- a table after these rows
 abbrev pub with_rows : TableSoFar → List FoundRow → TableSoFar
-with_rows table rows = table_so_far table.columns (table.room - all_filled table.columns rows) (braces_after_rows table.braces rows)
+with_rows table rows = table_so_far table.columns (table.room - all_inserted table.columns rows) (braces_after_rows table.braces rows)
 
 -- The longest run of rows of a table at the start of these lines that are filled, in total, with no more cells than
 -- allowed (GFM 4.10, and this project).
 pub record AreRows (d : Document) (path : List Container) (table : TableSoFar) (lines : List Place) (t : Taken) : Type 0 where
   pub rows : List FoundRow
   pub takes : TakesRows d path table.braces rows lines t.left
-  pub fits : all_filled table.columns rows ≤ table.room
+  pub fits : all_inserted table.columns rows ≤ table.room
   pub ends : EndRows d path (with_rows table rows) t.left
   pub items_are : t.items ≡ row_blocks table.columns rows
 

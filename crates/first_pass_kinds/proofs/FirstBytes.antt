@@ -20,7 +20,7 @@ use Rattle.first_pass_grammar.specs.declared.kind.Container.TheVariants.{BlockQu
 use Rattle.first_pass_grammar.specs.Containers.{Context, has_columns, prefix, after, or_shorter, front}
 use Rattle.first_pass_grammar.specs.Kinds.{Continued, continued, all_taken, begins_html_to_end, begins_html_to_blank, item_interrupts}
 use Rattle.first_pass_grammar.specs.Kinds.{interrupts_with, interrupts, underline_of}
-use Rattle.first_pass_kinds.specs.declared.interrupt.NextLine.TheVariants.{More, Other}
+use Rattle.first_pass_kinds.specs.declared.interrupt.NextLine.TheVariants.{More, NotText}
 use Rattle.first_pass_kinds.specs.NextLines.{next_line_of}
 use Rattle.first_pass_kinds.proofs.PlainLines.{none_either, plain_more}
 
@@ -132,7 +132,7 @@ unfolding interrupts
 eol_ends around c r h = rw h (either (nat_lt (indent r) 4))
 
 -- A line that is only a line ending, or the end of the text, is no line of the paragraph text before it.
-pub eol_first : (around : Context) (start : ℕ) (bs : List ℕ) → at_line_end bs ≡ true → Other ≡ next_line_of around start (line_rest bs)
+pub eol_first : (around : Context) (start : ℕ) (bs : List ℕ) → at_line_end bs ≡ true → NotText ≡ next_line_of around start (line_rest bs)
 eol_first around start bs h =
     let ends : at_line_end (all_taken (front around.path (line_rest bs))).left ≡ true =
     ap (λ (r : Rest). at_line_end r.left) (text_same around.path (line_rest bs) (eol_none bs h)) ∙ h in

@@ -1,4 +1,4 @@
--- If `is_no_interrupt` holds of the first byte, only a table, a footnote or a definition interrupts a paragraph.
+-- If `cannot_interrupt` holds of the first byte, only a table, a footnote or a definition interrupts a paragraph.
 -- Thematic breaks, metadata and HTML blocks do not begin with `#`.
 use Rattle.std.proofs.Common.{◌≡◌, inl, inr, ℕ, ◌==◌, nat_lt, Bool, true, false, true≢false, List, [], ◌∷◌, Option, Some, None, if◌then◌else◌}
 use Rattle.std.proofs.Common.{refl, sym, ap, ◌∙◌, subst, arith, is_some, ◌||◌}
@@ -17,7 +17,7 @@ use Rattle.first_pass_metadata.specs.Metadata.{metadata_byte}
 use Rattle.first_pass_html.specs.Tags.{BeginsTagLine}
 use Rattle.first_pass_grammar.specs.Kinds.{AtxHeading, HtmlToEnd, HtmlToBlank, all_taken, is_blank_rest, metadata_at, html_kind, later_kind, IsKind}
 use Rattle.first_pass_grammar.specs.Kinds.{begins_html_to_end, begins_html_to_blank, interrupts_with}
-use Rattle.first_pass_kinds.specs.Marks.{is_no_interrupt, begins_no_interrupt}
+use Rattle.first_pass_kinds.specs.Marks.{cannot_interrupt, begins_no_interruption}
 use Rattle.first_pass_kinds.proofs.KindLemmas.{AfterMetadata, last_here}
 use Rattle.first_pass_kinds.proofs.PlainKinds.{tag_begins}
 
@@ -35,28 +35,28 @@ unsigned : (b : ℕ) (bs : List ℕ) → b == 35 ≡ false → atx_level (b ∷ 
 unfolding atx_level
 unsigned b bs other = rw other (either (ends_signs (b ∷ bs)) None refl)
 
--- `is_no_interrupt` holds of b and not of c: then the two bytes differ
-isnt : (b c : ℕ) → is_no_interrupt b ≡ true → is_no_interrupt c ≡ false → b == c ≡ false
+-- `cannot_interrupt` holds of b and not of c: then the two bytes differ
+isnt : (b c : ℕ) → cannot_interrupt b ≡ true → cannot_interrupt c ≡ false → b == c ≡ false
 isnt b c h k = elim (cases_eq b c) [
-  | inl same ↦ absurd (true≢false (sym h ∙ ap is_no_interrupt same ∙ k))
+  | inl same ↦ absurd (true≢false (sym h ∙ ap cannot_interrupt same ∙ k))
   | inr other ↦ ne_eqb b c other
 ]
 
-no_digit : (b : ℕ) → is_no_interrupt b ≡ true → is_ascii_digit b ≡ false
-unfolding is_no_interrupt
+no_digit : (b : ℕ) → cannot_interrupt b ≡ true → is_ascii_digit b ≡ false
+unfolding cannot_interrupt
 no_digit b h = grind (arith, nat_tests, h)
 
--- If `is_no_interrupt` holds of its first byte, a line interrupts a paragraph only as a table, a footnote or a
+-- If `cannot_interrupt` holds of its first byte, a line interrupts a paragraph only as a table, a footnote or a
 -- definition.
-unmarked_first : (whole : Bool) (b : ℕ) (bs : List ℕ) → is_no_interrupt b ≡ true → interrupts_with whole (b ∷ bs) ≡ false
-unfolding is_no_interrupt hrule_len code_fence list_marker listitem
+unmarked_first : (whole : Bool) (b : ℕ) (bs : List ℕ) → cannot_interrupt b ≡ true → interrupts_with whole (b ∷ bs) ≡ false
+unfolding cannot_interrupt hrule_len code_fence list_marker listitem
 unmarked_first whole b bs h =
     rw (unsigned b bs (isnt b 35 h refl))
     (rw (isnt b 10 h refl) (rw (isnt b 13 h refl) (rw (isnt b 45 h refl) (rw (isnt b 95 h refl) (rw (isnt b 42 h refl)
     (rw (isnt b 96 h refl) (rw (isnt b 126 h refl) (rw (isnt b 62 h refl) (rw (isnt b 43 h refl) (rw (no_digit b h)
     (rw (isnt b 60 h refl) refl)))))))))))
 
-pub unmarked_interrupts : (whole : Bool) (bs : List ℕ) → begins_no_interrupt bs ≡ true → interrupts_with whole bs ≡ false
+pub unmarked_interrupts : (whole : Bool) (bs : List ℕ) → begins_no_interruption bs ≡ true → interrupts_with whole bs ≡ false
 unmarked_interrupts whole [] h = absurd (true≢false (sym h))
 unmarked_interrupts whole (b ∷ bs) h = unmarked_first whole b bs h
 

@@ -8,12 +8,12 @@ use Rattle.first_pass_scan.specs.Markers.{is_bullet}
 
 -- a byte that is no line ending, and at which no thematic break, ATX heading, code fence, block quote, list item or
 -- HTML block begins (this project)
-unfoldable pub is_no_interrupt : ℕ → Bool
-is_no_interrupt b =
+unfoldable pub cannot_interrupt : ℕ → Bool
+cannot_interrupt b =
     not (is_line_end b || is_rule_byte b || b == number_sign || b == backquote || b == tilde || b == greater_than || is_bullet b || is_ascii_digit b
     || b == less_than)
 
 -- the first byte is such a byte (this project)
-abbrev pub begins_no_interrupt : List ℕ → Bool
-begins_no_interrupt [] = false
-begins_no_interrupt (b ∷ bs) = is_no_interrupt b
+abbrev pub begins_no_interruption : List ℕ → Bool
+begins_no_interruption [] = false
+begins_no_interruption (b ∷ bs) = cannot_interrupt b

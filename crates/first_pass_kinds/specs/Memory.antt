@@ -9,10 +9,10 @@ use Rattle.first_pass_grammar.specs.Kinds.{all_taken}
 
 -- With tables, the bytes begin with a pipe: they may be a header row that interrupts a paragraph, and the alignments of
 -- its table need an allocation (this project).
-abbrev pub may_head : Context → List ℕ → Bool
-may_head around bs = has around.options tables && begins pipe bs
+abbrev pub may_head_table : Context → List ℕ → Bool
+may_head_table around bs = has around.options tables && begins pipe bs
 
 -- A line may head a table: tables are on, and the line begins with `|` at fewer than four columns, after the prefixes
 -- of the containers that it continues (this project).
-abbrev pub line_may_head : Context → Rest → Bool
-line_may_head around line = nat_lt (indent (front around.path line)) 4 && may_head around (all_taken (front around.path line)).left
+abbrev pub line_may_head_table : Context → Rest → Bool
+line_may_head_table around line = nat_lt (indent (front around.path line)) 4 && may_head_table around (all_taken (front around.path line)).left

@@ -6,13 +6,13 @@ use Rattle.first_pass_lines.specs.Places.{offset, place_at}
 use Rattle.first_pass_grammar.specs.Containers.{Context, front}
 use Rattle.first_pass_grammar.specs.Kinds.{unindented, underline_of, ends_paragraph, colon_ends}
 use Rattle.first_pass_kinds.specs.declared.interrupt.NextLine.{NextLine}
-use Rattle.first_pass_kinds.specs.declared.interrupt.NextLine.TheVariants.{More, Underline, Other}
+use Rattle.first_pass_kinds.specs.declared.interrupt.NextLine.TheVariants.{More, Underline, NotText}
 
 -- the role of a line after paragraph text, given the underline that it is, if any, whether it ends the paragraph text,
 -- and the offset after its prefixes and indentation (CommonMark 4.3, 4.8, and for a `:` this project)
 abbrev pub next_by : Option (ℕ × HeadingLevel) → Bool → ℕ → NextLine
 next_by (Some underline) ends at = Underline underline.1
-next_by None true at = Other
+next_by None true at = NotText
 next_by None false at = More at
 
 abbrev pub next_line_of : Context → ℕ → Rest → NextLine

@@ -14,9 +14,9 @@ ghost use Rattle.first_pass_grammar.specs.Containers.{after, front};
 ghost use Rattle.first_pass_grammar.specs.Kinds.{all_taken, interrupts_with, continued, interrupts_in, interrupts, item_interrupts, is_ordinary_after_tag, unindented};
 ghost use Rattle.first_pass_grammar.specs.Definitions.{is_underline, crossed};
 ghost use Rattle.first_pass_open.specs.Path.{path_of, context_of, continued_to};
-ghost use Rattle.first_pass_kinds.specs.Marks.{begins_no_interrupt};
+ghost use Rattle.first_pass_kinds.specs.Marks.{begins_no_interruption};
 ghost use Rattle.first_pass_kinds.specs.NextLines.{next_line_of};
-ghost use Rattle.first_pass_kinds.specs.Memory.{may_head, line_may_head};
+ghost use Rattle.first_pass_kinds.specs.Memory.{may_head_table, line_may_head_table};
 ghost use Rattle.std.specs.Option.{option_map};
 
 use crate::kinds::html_kind;
@@ -38,7 +38,7 @@ use first_pass_tree::forest::Tree;
 use std::alloc::AllocError;
 
 // Whether `bytes` begins with a list item that interrupts a paragraph. `current_container` is as for
-// `interrupts_without_table`.
+// `interrupts_by_standard`.
 fn interrupts_as_item(bytes: &[u8], current_container: bool) -> bool
     ensures { result ≡ item_interrupts current_container bytes.now (listitem bytes.now) }
 {
@@ -65,23 +65,23 @@ fn is_bullet(byte: u8) -> bool
 /// continues all open containers, and does not follow a table row. Then an item interrupts only if it has a bullet or
 /// the number 1, and a rest that is not blank (CommonMark 4.8, 4.1, 4.2, 4.5, 5.1, 5.2, 4.6).
 #[inline(always)]
-pub fn interrupts_without_table(bytes: &[u8], current_container: bool) -> bool
+pub fn interrupts_by_standard(bytes: &[u8], current_container: bool) -> bool
     ensures { result ≡ interrupts_with current_container bytes.now }
 {
-    if begins_no_interrupt(bytes) {
+    if begins_no_interruption(bytes) {
         return false;
     }
     if begins_plain_item(bytes) {
         return true;
     }
-    interrupts_by_mark(bytes, current_container)
+    interrupts_by_scanners(bytes, current_container)
 }
 
 // Whether there is a first byte, and it rules out every interruption except by a table, a footnote or a definition.
 #[inline(always)]
-#[tactic(auto, unfolding(crate::specs::Marks::is_no_interrupt))]
-fn begins_no_interrupt(bytes: &[u8]) -> bool
-    ensures { result ≡ begins_no_interrupt bytes.now }
+#[tactic(auto, unfolding(crate::specs::Marks::cannot_interrupt))]
+fn begins_no_interruption(bytes: &[u8]) -> bool
+    ensures { result ≡ begins_no_interruption bytes.now }
 {
     match bytes {
         [] => false,
@@ -110,9 +110,9 @@ fn begins_plain_item(bytes: &[u8]) -> bool
     }
 }
 
-// The same as `interrupts_without_table`, mark by mark: for the lines that the two tests above leave open. Only HTML
-// begins with `<`.
-fn interrupts_by_mark(bytes: &[u8], current_container: bool) -> bool
+// The same as `interrupts_by_standard`, scanner by scanner: for the lines that the two tests above leave open. Only
+// HTML begins with `<`.
+fn interrupts_by_scanners(bytes: &[u8], current_container: bool) -> bool
     ensures { result ≡ interrupts_with current_container bytes.now }
 {
     if begins(b'<', bytes) {
@@ -148,7 +148,7 @@ fn begins_definition(bytes: &[u8], options: Options) -> bool
 
 /// Returns whether `bytes` interrupts a paragraph inside the open containers. `bytes` is the rest of a line after its
 /// indentation of fewer than four columns, and all the text that follows. The line continues the outermost `kept`
-/// open nodes. It interrupts as in `interrupts_without_table`; as the head of a footnote definition; as the `:` of a
+/// open nodes. It interrupts as in `interrupts_by_standard`; as the head of a footnote definition; as the `:` of a
 /// definition, if the first container that the line does not continue is a definition; or as the header row of a
 /// table (CommonMark 4.8, GFM 4.10). Fails only if an allocation fails, which can happen only if the line may head a
 /// table.
@@ -161,9 +161,9 @@ pub fn scan_interruption(
 ) -> Result<bool, AllocError>
     ensures value { IfOk result (λ yes. yes ≡ interrupts_in (context_of source.now.options tree.now)
         (continued_to source.now.options tree.now kept) bytes.now) }
-    ensures err { OnErr result (may_head (context_of source.now.options tree.now) bytes.now ≡ true) }
+    ensures err { OnErr result (may_head_table (context_of source.now.options tree.now) bytes.now ≡ true) }
 {
-    if interrupts_without_table(bytes, kept == tree.spine_len()) {
+    if interrupts_by_standard(bytes, kept == tree.spine_len()) {
         return Ok(true);
     }
     if interrupts_as_footnote(bytes, source.options.contains(Options::ENABLE_FOOTNOTES)) {
@@ -184,7 +184,7 @@ pub enum NextLine {
     /// The underline that makes the paragraph text a setext heading of this level.
     Underline(HeadingLevel),
     /// Another line: the paragraph text ends before it, and is no setext heading.
-    Other,
+    NotText,
 }
 
 // The level of the setext heading whose underline is `rest`, or `None` if `rest` is no underline. `whole`: the line
@@ -203,7 +203,7 @@ fn scan_underline(rest: &LineStart<'_>, whole: bool, columns: usize) -> Option<H
 
 // How a line continues the open nodes, the columns of its indentation, and what follows them.
 #[derive(Drop)]
-struct LineText<'a> {
+struct UnindentedFront<'a> {
     // How many of the open nodes the line continues, the outermost first.
     continued: usize,
     // Whether these are all open nodes.
@@ -216,7 +216,7 @@ struct LineText<'a> {
 
 // Reads the container prefixes and the indentation of the line at the offset `start`.
 #[inline(always)]
-fn scan_text<'a>(source: &Source<'a>, tree: &Tree<Item>, start: usize) -> LineText<'a>
+fn scan_unindented<'a>(source: &Source<'a>, tree: &Tree<Item>, start: usize) -> UnindentedFront<'a>
     requires { IsCharBoundary source.now.text.now start }
     ensures whole { result.continues_all
         ≡ is_some (after (path_of source.now.options tree.now) (line_rest (drop start source.now.text.now))) }
@@ -234,7 +234,7 @@ fn scan_text<'a>(source: &Source<'a>, tree: &Tree<Item>, start: usize) -> LineTe
     let front = scan_front(source, tree, start);
     let mut rest = front.rest;
     let columns = scan_indentation(&mut rest);
-    LineText {
+    UnindentedFront {
         continued: front.continued,
         continues_all: front.continues_all,
         columns,
@@ -261,7 +261,7 @@ pub fn scan_next_line(
         (unindented (place_at start (front (path_of source.now.options tree.now)
         (line_rest (drop start source.now.text.now)))))) }
     ensures utf8 { IsUtf8 source.now.text.now }
-    ensures err { OnErr result (line_may_head (context_of source.now.options tree.now)
+    ensures err { OnErr result (line_may_head_table (context_of source.now.options tree.now)
         (line_rest (drop start source.now.text.now)) ≡ true) }
 {
     source.recall_length();
@@ -273,9 +273,9 @@ pub fn scan_next_line(
         return Ok(NextLine::More(start));
     }
     if scan_eol(bytes).is_some() {
-        return Ok(NextLine::Other);
+        return Ok(NextLine::NotText);
     }
-    let text = scan_text(source, tree, start);
+    let text = scan_unindented(source, tree, start);
     if is_plain_front(text.rest.left()) {
         return Ok(NextLine::More(start + text.rest.bytes_scanned()));
     }
@@ -283,13 +283,13 @@ pub fn scan_next_line(
         return Ok(NextLine::Underline(level));
     }
     if scan_paragraph_end(source, tree, &text.rest, text.columns, text.continued)? {
-        return Ok(NextLine::Other);
+        return Ok(NextLine::NotText);
     }
     if begins_definition(text.rest.left(), source.options)
         && text.continues_all
         && text.columns < 4
     {
-        return Ok(NextLine::Other);
+        return Ok(NextLine::NotText);
     }
     Ok(NextLine::More(start + text.rest.bytes_scanned()))
 }
@@ -300,7 +300,7 @@ pub fn scan_next_line(
 /// then it is read like any other. Fails only if an allocation fails, which can happen only if the line may head a
 /// table.
 #[tactic(auto, unfolding(first_pass_grammar::specs::Kinds::interrupts))]
-pub fn scan_line_after_tag<'b>(
+pub fn scan_flowing_line<'b>(
     source: &Source<'_>,
     bytes: &'b [u8],
     tree: &Tree<Item>,
@@ -309,7 +309,7 @@ pub fn scan_line_after_tag<'b>(
         rest ≡ (if is_ordinary_after_tag (context_of source.now.options tree.now) (line_rest bytes.now)
         then None
         else Some (all_taken (front (path_of source.now.options tree.now) (line_rest bytes.now))))) }
-    ensures err { OnErr result (line_may_head (context_of source.now.options tree.now)
+    ensures err { OnErr result (line_may_head_table (context_of source.now.options tree.now)
         (line_rest bytes.now) ≡ true) }
 {
     let front = front_of(bytes, tree, source.options);
@@ -338,7 +338,7 @@ fn scan_paragraph_end(
         (continued_to source.now.options tree.now kept) rest.now.left
         else at_line_end rest.now.left)) }
     ensures err { OnErr result ((nat_lt columns 4
-        && may_head (context_of source.now.options tree.now) rest.now.left) ≡ true) }
+        && may_head_table (context_of source.now.options tree.now) rest.now.left) ≡ true) }
 {
     if columns < 4 {
         scan_interruption(source, tree, rest.left(), kept)
@@ -368,7 +368,7 @@ fn scan_definition_end(
         (continued_to source.now.options tree.now front.now.continued) front.now.rest
         || (is_underline front.now.rest && (not in_label || front.now.continues_all)))) }
     ensures err { OnErr result ((nat_lt (indent front.now.rest) 4
-        && may_head (context_of source.now.options tree.now) (all_taken front.now.rest).left) ≡ true) }
+        && may_head_table (context_of source.now.options tree.now) (all_taken front.now.rest).left) ≡ true) }
 {
     let mut text = front.rest.copy();
     let columns = scan_indentation(&mut text);
@@ -400,7 +400,7 @@ pub fn scan_line_crossed<'a>(
         (line_rest (drop start source.now.text.now))) }
     ensures place { IfOk result (λ rest. IfSome rest (λ r. IsPlaceOf source.now.text.now (place_at start r))) }
     ensures utf8 { IsUtf8 source.now.text.now }
-    ensures err { OnErr result (line_may_head (context_of source.now.options tree.now)
+    ensures err { OnErr result (line_may_head_table (context_of source.now.options tree.now)
         (line_rest (drop start source.now.text.now)) ≡ true) }
 {
     let front = scan_front(source, tree, start);

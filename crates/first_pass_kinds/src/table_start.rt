@@ -8,7 +8,7 @@ ghost use Rattle.first_pass_lines.specs.Lines.{begins};
 ghost use Rattle.first_pass_lines.specs.Plain.{begins_inert};
 ghost use Rattle.first_pass_grammar.specs.TableHeads.{table_at, table_interrupts, ends_in_backslash, headed_table};
 ghost use Rattle.first_pass_open.specs.Path.{path_of, context_of};
-ghost use Rattle.first_pass_kinds.specs.Memory.{may_head};
+ghost use Rattle.first_pass_kinds.specs.Memory.{may_head_table};
 ghost use Rattle.first_pass_kinds.specs.TableHeads.{table_head_len};
 
 use bitflags::Flags;
@@ -91,7 +91,7 @@ pub fn interrupts_as_table(
     bytes: &[u8],
 ) -> Result<bool, AllocError>
     ensures value { IfOk result (λ yes. yes ≡ table_interrupts (context_of source.now.options tree.now) bytes.now) }
-    ensures err { OnErr result (may_head (context_of source.now.options tree.now) bytes.now ≡ true) }
+    ensures err { OnErr result (may_head_table (context_of source.now.options tree.now) bytes.now ≡ true) }
 {
     if !begins(b'|', bytes) || !source.options.contains(Options::ENABLE_TABLES) {
         return Ok(false);

@@ -6,7 +6,7 @@ use Rattle.std.proofs.lemmas.Bool.Decides.{nat_tests}
 use Rattle.std.proofs.lemmas.List.{drop_more, drop-drop, drop_all, get_or-drop}
 use Rattle.first_pass_lines.specs.Lines.{begins}
 use Rattle.first_pass_links.specs.Escapes.{begins_escape}
-use Rattle.first_pass_links.specs.Destinations.{unescaped_upto, ends_run, closes_none, nesting_after, run_len, longer, if_closed}
+use Rattle.first_pass_links.specs.Destinations.{unescaped_upto, ends_run, closes_none, nesting_after, bare_len, longer, if_closed}
 
 pub longer-longer : (a b : ℕ) (o : Option ℕ) → longer a (longer b o) ≡ longer (a + b) o
 longer-longer a b None = refl
@@ -64,21 +64,21 @@ pub upto_ended : (stops : ℕ → Bool) (bs : List ℕ) (at : ℕ) → length bs
 upto_ended stops bs at l = ap (unescaped_upto stops 0) (drop_all at bs l) ∙ upto-nil stops
 
 -- runs
-pub run-nil : (deepest nesting : ℕ) → run_len deepest nesting 0 [] ≡ if_closed nesting
-unfolding run_len
+pub run-nil : (deepest nesting : ℕ) → bare_len deepest nesting 0 [] ≡ if_closed nesting
+unfolding bare_len
 run-nil deepest nesting = refl
 
-pub run-end : (deepest nesting b : ℕ) (bs : List ℕ) → ends_run b ≡ true → run_len deepest nesting 0 (b ∷ bs) ≡ if_closed nesting
-unfolding run_len
+pub run-end : (deepest nesting b : ℕ) (bs : List ℕ) → ends_run b ≡ true → bare_len deepest nesting 0 (b ∷ bs) ≡ if_closed nesting
+unfolding bare_len
 run-end deepest nesting b bs h = rw h
 
 pub run-escape : (deepest nesting b p : ℕ) (bs : List ℕ)
-    → ends_run b ≡ false → begins_escape (b ∷ p ∷ bs) ≡ true → run_len deepest nesting 0 (b ∷ p ∷ bs) ≡ longer 1 (longer 1 (run_len deepest nesting 0 bs))
-unfolding run_len
+    → ends_run b ≡ false → begins_escape (b ∷ p ∷ bs) ≡ true → bare_len deepest nesting 0 (b ∷ p ∷ bs) ≡ longer 1 (longer 1 (bare_len deepest nesting 0 bs))
+unfolding bare_len
 run-escape deepest nesting b p bs h h' = rw (h, h')
 
-pub run-unopened : (deepest nesting b : ℕ) (bs : List ℕ) → closes_none b nesting ≡ true → run_len deepest nesting 0 (b ∷ bs) ≡ Some 0
-unfolding run_len
+pub run-unopened : (deepest nesting b : ℕ) (bs : List ℕ) → closes_none b nesting ≡ true → bare_len deepest nesting 0 (b ∷ bs) ≡ Some 0
+unfolding bare_len
 run-unopened deepest nesting b bs h =
     let p = and_parts _ _ h in
     let e : ends_run b ≡ false = rw (eqb-true b 41 p.0) in
@@ -86,13 +86,13 @@ run-unopened deepest nesting b bs h =
     rw (e, k, h)
 
 pub run-deep : (deepest nesting b : ℕ) (bs : List ℕ) → ends_run b ≡ false → begins_escape (b ∷ bs) ≡ false → closes_none b nesting ≡ false
-    → nat_lt deepest (nesting_after b nesting) ≡ true → run_len deepest nesting 0 (b ∷ bs) ≡ None
-unfolding run_len
+    → nat_lt deepest (nesting_after b nesting) ≡ true → bare_len deepest nesting 0 (b ∷ bs) ≡ None
+unfolding bare_len
 run-deep deepest nesting b bs h i j k = rw (h, i, j, k)
 
 pub run-byte : (deepest nesting b : ℕ) (bs : List ℕ) → ends_run b ≡ false → begins_escape (b ∷ bs) ≡ false → closes_none b nesting ≡ false
-    → nat_lt deepest (nesting_after b nesting) ≡ false → run_len deepest nesting 0 (b ∷ bs) ≡ longer 1 (run_len deepest (nesting_after b nesting) 0 bs)
-unfolding run_len
+    → nat_lt deepest (nesting_after b nesting) ≡ false → bare_len deepest nesting 0 (b ∷ bs) ≡ longer 1 (bare_len deepest (nesting_after b nesting) 0 bs)
+unfolding bare_len
 run-byte deepest nesting b bs h i j k = rw (h, i, j, k)
 
 backslash_nests : (b nesting : ℕ) (bs : List ℕ) → begins_escape (b ∷ bs) ≡ true → nesting_after b nesting ≡ nesting
@@ -101,55 +101,55 @@ backslash_nests b nesting bs h = rw (eqb-true b 92 (and_parts _ _ h).0)
 -- one unit further: an escape, or a byte
 run_unit_by : (t : Bool) (deepest nesting b : ℕ) (bs : List ℕ)
     → begins_escape (b ∷ bs) ≡ t → ends_run b ≡ false → closes_none b nesting ≡ false → nat_lt deepest (nesting_after b nesting) ≡ false
-    → run_len deepest nesting 0 (b ∷ bs) ≡ longer (if t then 2 else 1) (run_len deepest (nesting_after b nesting) 0 (drop (if t then 2 else 1) (b ∷ bs)))
+    → bare_len deepest nesting 0 (b ∷ bs) ≡ longer (if t then 2 else 1) (bare_len deepest (nesting_after b nesting) 0 (drop (if t then 2 else 1) (b ∷ bs)))
 run_unit_by true deepest nesting b [] h e u n = let z = second b [] h in absurd (omega arith)
 run_unit_by true deepest nesting b (p ∷ bs) h e u n =
-    run-escape deepest nesting b p bs e h ∙ longer-longer 1 1 (run_len deepest nesting 0 bs)
-    ∙ ap (λ k. longer 2 (run_len deepest k 0 bs)) (sym (backslash_nests b nesting (p ∷ bs) h))
+    run-escape deepest nesting b p bs e h ∙ longer-longer 1 1 (bare_len deepest nesting 0 bs)
+    ∙ ap (λ k. longer 2 (bare_len deepest k 0 bs)) (sym (backslash_nests b nesting (p ∷ bs) h))
 run_unit_by false deepest nesting b bs h e u n = run-byte deepest nesting b bs e h u n
 
 pub run_unit : (deepest nesting : ℕ) (bs : List ℕ) (at n : ℕ) → at < length bs → n ≡ (if begins_escape (drop at bs) then 2 else 1)
     → ends_run (get_or bs at 0) ≡ false → closes_none (get_or bs at 0) nesting ≡ false → nesting_after (get_or bs at 0) nesting ≤ deepest
-    → longer (at + n) (run_len deepest (nesting_after (get_or bs at 0) nesting) 0 (drop (at + n) bs)) ≡ longer at (run_len deepest nesting 0 (drop at bs))
+    → longer (at + n) (bare_len deepest (nesting_after (get_or bs at 0) nesting) 0 (drop (at + n) bs)) ≡ longer at (bare_len deepest nesting 0 (drop at bs))
 run_unit deepest nesting bs at n l e s u i =
     let b = get_or bs at 0 in
     let following = nesting_after b nesting in
     let d = drop_more bs at 0 l in
     let x = run_unit_by _ deepest nesting b (drop (at + 1) bs) refl s u (le-ltb _ _ i) in
-    let v : run_len deepest nesting 0 (drop at bs)
-    ≡ longer (if begins_escape (drop at bs) then 2 else 1) (run_len deepest following 0 (drop (if begins_escape (drop at bs) then 2 else 1) (drop at bs))) =
+    let v : bare_len deepest nesting 0 (drop at bs)
+    ≡ longer (if begins_escape (drop at bs) then 2 else 1) (bare_len deepest following 0 (drop (if begins_escape (drop at bs) then 2 else 1) (drop at bs))) =
     subst (λ xs.
-    run_len deepest nesting 0 xs ≡ longer (if begins_escape xs then 2 else 1) (run_len deepest following 0 (drop (if begins_escape xs then 2 else 1) xs)))
+    bare_len deepest nesting 0 xs ≡ longer (if begins_escape xs then 2 else 1) (bare_len deepest following 0 (drop (if begins_escape xs then 2 else 1) xs)))
     (sym d) x
     in
-    let w : run_len deepest nesting 0 (drop at bs) ≡ longer n (run_len deepest following 0 (drop n (drop at bs))) =
-    v ∙ ap (λ m. longer m (run_len deepest following 0 (drop m (drop at bs)))) (sym e)
+    let w : bare_len deepest nesting 0 (drop at bs) ≡ longer n (bare_len deepest following 0 (drop n (drop at bs))) =
+    v ∙ ap (λ m. longer m (bare_len deepest following 0 (drop m (drop at bs)))) (sym e)
     in
-    sym (ap (longer at) w ∙ longer-longer at n (run_len deepest following 0 (drop n (drop at bs)))
-    ∙ ap (λ xs. longer (at + n) (run_len deepest following 0 xs)) (drop-drop n at bs))
+    sym (ap (longer at) w ∙ longer-longer at n (bare_len deepest following 0 (drop n (drop at bs)))
+    ∙ ap (λ xs. longer (at + n) (bare_len deepest following 0 xs)) (drop-drop n at bs))
 
 -- the bytes that stop a run
 deep_by : (t : Bool) (deepest nesting b : ℕ) (bs : List ℕ) → begins_escape (b ∷ bs) ≡ t → ends_run b ≡ false → closes_none b nesting ≡ false → nesting ≤ deepest
-    → deepest < nesting_after b nesting → run_len deepest nesting 0 (b ∷ bs) ≡ None
+    → deepest < nesting_after b nesting → bare_len deepest nesting 0 (b ∷ bs) ≡ None
 deep_by true deepest nesting b bs h e u i s = let z = backslash_nests b nesting bs h in absurd (omega arith)
 deep_by false deepest nesting b bs h e u i s = run-deep deepest nesting b bs e h u (lt-ltb _ _ s)
 
 pub run_deep : (deepest nesting : ℕ) (bs : List ℕ) (at : ℕ) → at < length bs → ends_run (get_or bs at 0) ≡ false → closes_none (get_or bs at 0) nesting ≡ false
-    → nesting ≤ deepest → deepest < nesting_after (get_or bs at 0) nesting → run_len deepest nesting 0 (drop at bs) ≡ None
+    → nesting ≤ deepest → deepest < nesting_after (get_or bs at 0) nesting → bare_len deepest nesting 0 (drop at bs) ≡ None
 run_deep deepest nesting bs at l e u i s =
-    ap (run_len deepest nesting 0) (drop_more bs at 0 l) ∙ deep_by _ deepest nesting (get_or bs at 0) (drop (at + 1) bs) refl e u i s
+    ap (bare_len deepest nesting 0) (drop_more bs at 0 l) ∙ deep_by _ deepest nesting (get_or bs at 0) (drop (at + 1) bs) refl e u i s
 
 pub run_unopened : (deepest nesting : ℕ) (bs : List ℕ) (at : ℕ)
-    → at < length bs → closes_none (get_or bs at 0) nesting ≡ true → run_len deepest nesting 0 (drop at bs) ≡ Some 0
+    → at < length bs → closes_none (get_or bs at 0) nesting ≡ true → bare_len deepest nesting 0 (drop at bs) ≡ Some 0
 run_unopened deepest nesting bs at l e =
-    ap (run_len deepest nesting 0) (drop_more bs at 0 l) ∙ run-unopened deepest nesting (get_or bs at 0) (drop (at + 1) bs) e
+    ap (bare_len deepest nesting 0) (drop_more bs at 0 l) ∙ run-unopened deepest nesting (get_or bs at 0) (drop (at + 1) bs) e
 
 pub run_stopped : (deepest nesting : ℕ) (bs : List ℕ) (at : ℕ)
-    → at < length bs → ends_run (get_or bs at 0) ≡ true → run_len deepest nesting 0 (drop at bs) ≡ if_closed nesting
-run_stopped deepest nesting bs at l e = ap (run_len deepest nesting 0) (drop_more bs at 0 l) ∙ run-end deepest nesting (get_or bs at 0) (drop (at + 1) bs) e
+    → at < length bs → ends_run (get_or bs at 0) ≡ true → bare_len deepest nesting 0 (drop at bs) ≡ if_closed nesting
+run_stopped deepest nesting bs at l e = ap (bare_len deepest nesting 0) (drop_more bs at 0 l) ∙ run-end deepest nesting (get_or bs at 0) (drop (at + 1) bs) e
 
-pub run_ended : (deepest nesting : ℕ) (bs : List ℕ) (at : ℕ) → length bs ≤ at → run_len deepest nesting 0 (drop at bs) ≡ if_closed nesting
-run_ended deepest nesting bs at l = ap (run_len deepest nesting 0) (drop_all at bs l) ∙ run-nil deepest nesting
+pub run_ended : (deepest nesting : ℕ) (bs : List ℕ) (at : ℕ) → length bs ≤ at → bare_len deepest nesting 0 (drop at bs) ≡ if_closed nesting
+run_ended deepest nesting bs at l = ap (bare_len deepest nesting 0) (drop_all at bs l) ∙ run-nil deepest nesting
 
 -- the first byte from an offset on
 first_by : (k : ℕ) (text bs : List ℕ) (at : ℕ) → bs ≡ drop at text → begins k bs ≡ true → (at < length text) × (get_or text at 0 ≡ k)

@@ -9,7 +9,7 @@ use Rattle.first_pass_items.specs.declared.cow_str.CowStr.{CowStr}
 use Rattle.first_pass_items.specs.CowText.{text_of}
 use Rattle.first_pass_lines.specs.Lines.{begins}
 use Rattle.first_pass_links.specs.Labels.{label_at}
-use Rattle.first_pass_links.specs.Footnotes.{begins_footnote, head_after, footnote_head}
+use Rattle.first_pass_links.specs.Footnotes.{begins_footnote_mark, head_after, footnote_head}
 use Rattle.first_pass_links.proofs.Destinations.{first_byte}
 use Rattle.first_pass_links.proofs.Labels.{place_past}
 
@@ -18,7 +18,7 @@ second_by true u h = h
 second_by false u h = cc
 
 -- a character begins after `[^`
-pub after_mark : (text : List ℕ) → IsUtf8 text → begins_footnote text ≡ true → IsCharBoundary text 2
+pub after_mark : (text : List ℕ) → IsUtf8 text → begins_footnote_mark text ≡ true → IsCharBoundary text 2
 after_mark text u h =
     let there = first_byte 94 text 1 (second_by (begins 91 text) (begins 94 (drop 1 text)) h) in
     IsCharBoundary-after_ascii text 1 u there.0 (omega (arith, there.1))
@@ -34,7 +34,7 @@ abbrev pub IsAnswer : Option (ℕ × List ℕ) → Option (ℕ × CowStr) → Ty
 IsAnswer o answer = MatchOption o (answer ≡ None) (λ label. IsSomeAnd answer (λ found. (found.0 ≡ label.0) × (text_of found.1 ≡ label.1)))
 
 -- no head without `[^`
-pub no_mark : (prefix : List ℕ → Option ℕ) (t : Bool) (text : List ℕ) → begins_footnote text ≡ false → footnote_head prefix t text ≡ None
+pub no_mark : (prefix : List ℕ → Option ℕ) (t : Bool) (text : List ℕ) → begins_footnote_mark text ≡ false → footnote_head prefix t text ≡ None
 unfolding footnote_head
 no_mark prefix t text h = ap (λ (b : Bool). if b then option_and_then (head_after (drop 2 text)) (label_at prefix t (drop 2 text)) else None) h
 
@@ -42,13 +42,13 @@ label_missing : (o : Option (ℕ × List ℕ)) → IsAnswer o None → o ≡ Non
 label_missing None h = refl
 label_missing (Some l) h = absurd h
 
-pub head_of : (prefix : List ℕ → Option ℕ) (t : Bool) (text : List ℕ) → begins_footnote text ≡ true
+pub head_of : (prefix : List ℕ → Option ℕ) (t : Bool) (text : List ℕ) → begins_footnote_mark text ≡ true
     → footnote_head prefix t text ≡ option_and_then (head_after (drop 2 text)) (label_at prefix t (drop 2 text))
 unfolding footnote_head
 head_of prefix t text h = ap (λ (b : Bool). if b then option_and_then (head_after (drop 2 text)) (label_at prefix t (drop 2 text)) else None) h
 
 -- no head without a label
-pub no_label : (prefix : List ℕ → Option ℕ) (t : Bool) (text : List ℕ) → begins_footnote text ≡ true → IsAnswer (label_at prefix t (drop 2 text)) None
+pub no_label : (prefix : List ℕ → Option ℕ) (t : Bool) (text : List ℕ) → begins_footnote_mark text ≡ true → IsAnswer (label_at prefix t (drop 2 text)) None
     → footnote_head prefix t text ≡ None
 no_label prefix t text h k =
     head_of prefix t text h ∙ ap (option_and_then (head_after (drop 2 text))) (label_missing (label_at prefix t (drop 2 text)) k)
@@ -62,7 +62,7 @@ colon_by true bs (Some l) n label k h =
 colon_by false bs (Some l) n label k h = let e : begins 58 (drop l.0 bs) ≡ false = ap (λ m. begins 58 (drop m bs)) (sym k.0) ∙ h in rw e refl
 
 -- the head after a label, by whether a colon follows it
-pub head_by : (u : Bool) (prefix : List ℕ → Option ℕ) (t : Bool) (text : List ℕ) (n : ℕ) (label : CowStr) → begins_footnote text ≡ true
+pub head_by : (u : Bool) (prefix : List ℕ → Option ℕ) (t : Bool) (text : List ℕ) (n : ℕ) (label : CowStr) → begins_footnote_mark text ≡ true
     → IsAnswer (label_at prefix t (drop 2 text)) (Some (n, label)) → begins 58 (drop (n + 2) text) ≡ u
     → IsAnswer (footnote_head prefix t text) (if u then Some (n + 3, label) else None)
 head_by u prefix t text n label h k c =

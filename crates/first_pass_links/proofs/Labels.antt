@@ -15,7 +15,7 @@ use Rattle.first_pass_lines.specs.Lines.{begins, ends_line, is_ascii_white}
 use Rattle.first_pass_links.specs.declared.label.Unit.{Unit}
 use Rattle.first_pass_links.specs.Escapes.{begins_escape, without_pipe_escapes}
 use Rattle.first_pass_links.specs.Changes.{begins_pipe_escape}
-use Rattle.first_pass_links.specs.Labels.{is_bracket, begins_character, joined, bytes_of, offsets_of, label_len, single_spaced, shown, label_at}
+use Rattle.first_pass_links.specs.Labels.{is_bracket, begins_character, joined, bytes_of, offsets_of, label_len, single_spaced, as_read, label_at}
 use Rattle.first_pass_links.specs.Units.{part, read_of, left_at, kept_unit, space_unit, dropped_unit, backslash_unit, IsUnit, Reads, IsWhiteRun, IsBlankRest}
 use Rattle.first_pass_links.specs.Units.{EndsWhiteRun, weight}
 use Rattle.first_pass_links.proofs.PipeEscapes.{cell-nil, cell-other, cell-kept, cell-dropped, pipe_after}
@@ -145,7 +145,7 @@ label_after in_table known cs =
     let bs = bytes_of cs in
     let n = label_len bs in
     if begins 93 (drop n bs) && is_label_after known (take n bs)
-    then Some (slice_index (offsets_of cs) n + 1, known.bytes ++ shown in_table (take n bs))
+    then Some (slice_index (offsets_of cs) n + 1, known.bytes ++ as_read in_table (take n bs))
     else None
 
 -- before anything is read, it is the label of the text
@@ -177,11 +177,11 @@ found n bs = (n, bs)
 
 label_by : (t : Bool) (known : Known) (us cs : List (ℕ × ℕ)) (w : List ℕ) (n m : ℕ)
     → n ≡ length us + m
-    → shown t (bytes_of us ++ take m (bytes_of cs)) ≡ w ++ shown t (take m (bytes_of cs))
+    → as_read t (bytes_of us ++ take m (bytes_of cs)) ≡ w ++ as_read t (take m (bytes_of cs))
     → (if begins 93 (drop n (bytes_of (us ++ cs))) && is_label_after known (take n (bytes_of (us ++ cs)))
-    then Some (found (slice_index (offsets_of (us ++ cs)) n + 1) (known.bytes ++ shown t (take n (bytes_of (us ++ cs))))) else None)
+    then Some (found (slice_index (offsets_of (us ++ cs)) n + 1) (known.bytes ++ as_read t (take n (bytes_of (us ++ cs))))) else None)
     ≡ (if begins 93 (drop m (bytes_of cs)) && is_label_after (known_more known (bytes_of us) w) (take m (bytes_of cs))
-    then Some (found (slice_index (offsets_of cs) m + 1) ((known.bytes ++ w) ++ shown t (take m (bytes_of cs)))) else None)
+    then Some (found (slice_index (offsets_of cs) m + 1) ((known.bytes ++ w) ++ as_read t (take m (bytes_of cs)))) else None)
 label_by t known us cs w n m e s =
     let bytes = map-append (λ (c : ℕ × ℕ). c.1) us cs in
     let offsets = map-append (λ (c : ℕ × ℕ). c.0) us cs in
@@ -193,14 +193,14 @@ label_by t known us cs w n m e s =
     ap (λ xs. slice_index xs n) offsets ∙ index_past (offsets_of us) (offsets_of cs) n m (omega arith) in
     let test : is_label_after known (take n (bytes_of (us ++ cs))) ≡ is_label_after (known_more known (bytes_of us) w) (take m (bytes_of cs)) =
     ap (is_label_after known) f ∙ is_label-append known (bytes_of us) (take m (bytes_of cs)) w in
-    let text : known.bytes ++ shown t (take n (bytes_of (us ++ cs))) ≡ (known.bytes ++ w) ++ shown t (take m (bytes_of cs)) =
-    ap (λ xs. known.bytes ++ xs) (ap (shown t) f ∙ s) ∙ sym (append_assoc known.bytes w (shown t (take m (bytes_of cs))))
+    let text : known.bytes ++ as_read t (take n (bytes_of (us ++ cs))) ≡ (known.bytes ++ w) ++ as_read t (take m (bytes_of cs)) =
+    ap (λ xs. known.bytes ++ xs) (ap (as_read t) f ∙ s) ∙ sym (append_assoc known.bytes w (as_read t (take m (bytes_of cs))))
     in
     rw (d, test, i, text)
 
 pub label_unit : (t : Bool) (known : Known) (us cs : List (ℕ × ℕ)) (w : List ℕ)
     → label_len (bytes_of us ++ bytes_of cs) ≡ length us + label_len (bytes_of cs)
-    → ((n : ℕ) → shown t (bytes_of us ++ take n (bytes_of cs)) ≡ w ++ shown t (take n (bytes_of cs)))
+    → ((n : ℕ) → as_read t (bytes_of us ++ take n (bytes_of cs)) ≡ w ++ as_read t (take n (bytes_of cs)))
     → label_after t known (us ++ cs) ≡ label_after t (known_more known (bytes_of us) w) cs
 unfolding label_after
 label_unit t known us cs w e s =
@@ -224,22 +224,22 @@ pub single-last : (b : ℕ) (bs : List ℕ) → is_ascii_white b ≡ true → is
 unfolding single_spaced
 single-last b bs h k = rw (h, k)
 
-shown-solid : (t : Bool) (b : ℕ) (bs : List ℕ) → (b == 92) ≡ false → is_ascii_white b ≡ false → shown t (b ∷ bs) ≡ b ∷ shown t bs
-shown-solid true b bs h k = ap single_spaced (cell-other b bs h) ∙ single-solid b (without_pipe_escapes bs) k
-shown-solid false b bs h k = single-solid b bs k
+as_read-solid : (t : Bool) (b : ℕ) (bs : List ℕ) → (b == 92) ≡ false → is_ascii_white b ≡ false → as_read t (b ∷ bs) ≡ b ∷ as_read t bs
+as_read-solid true b bs h k = ap single_spaced (cell-other b bs h) ∙ single-solid b (without_pipe_escapes bs) k
+as_read-solid false b bs h k = single-solid b bs k
 
-shown-backslash : (t : Bool) (bs : List ℕ) → begins 124 bs ≡ false → shown t (92 ∷ bs) ≡ 92 ∷ shown t bs
-shown-backslash true bs h = ap single_spaced (cell-kept 92 bs h) ∙ single-solid 92 (without_pipe_escapes bs) refl
-shown-backslash false bs h = single-solid 92 bs refl
+as_read-backslash : (t : Bool) (bs : List ℕ) → begins 124 bs ≡ false → as_read t (92 ∷ bs) ≡ 92 ∷ as_read t bs
+as_read-backslash true bs h = ap single_spaced (cell-kept 92 bs h) ∙ single-solid 92 (without_pipe_escapes bs) refl
+as_read-backslash false bs h = single-solid 92 bs refl
 
-shown-pipe : (bs : List ℕ) → shown true (92 ∷ 124 ∷ bs) ≡ 124 ∷ shown true bs
-shown-pipe bs = ap single_spaced (cell-dropped 92 (124 ∷ bs) refl refl) ∙ shown-solid true 124 bs refl refl
+as_read-pipe : (bs : List ℕ) → as_read true (92 ∷ 124 ∷ bs) ≡ 124 ∷ as_read true bs
+as_read-pipe bs = ap single_spaced (cell-dropped 92 (124 ∷ bs) refl refl) ∙ as_read-solid true 124 bs refl refl
 
-shown-byte : (t : Bool) (p : ℕ) (bs : List ℕ) → is_ascii_white p ≡ false → (p == 92) && begins 124 bs ≡ false → shown t (p ∷ bs) ≡ p ∷ shown t bs
-shown-byte false p bs h k = single-solid p bs h
-shown-byte true p bs h k = elim (cases_Bool (p == 92)) [
+as_read-byte : (t : Bool) (p : ℕ) (bs : List ℕ) → is_ascii_white p ≡ false → (p == 92) && begins 124 bs ≡ false → as_read t (p ∷ bs) ≡ p ∷ as_read t bs
+as_read-byte false p bs h k = single-solid p bs h
+as_read-byte true p bs h k = elim (cases_Bool (p == 92)) [
   | inl e ↦ (let z : begins 124 bs ≡ false = rw e at k in ap single_spaced (cell-kept p bs z) ∙ single-solid p (without_pipe_escapes bs) h)
-  | inr e ↦ shown-solid true p bs e h
+  | inr e ↦ as_read-solid true p bs e h
 ]
 
 -- runs of white space
@@ -285,10 +285,10 @@ single-run (b ∷ c ∷ u) bs h l e =
     let q = white_parts c u p.1 in
     single-more b (c ∷ (u ++ bs)) p.0 q.0 ∙ single-run (c ∷ u) bs p.1 (omega arith) e
 
-shown-run : (t : Bool) (u bs : List ℕ)
-    → list_all is_ascii_white u ≡ true → 0 < length u → is_ascii_white (slice_index bs 0) ≡ false → shown t (u ++ bs) ≡ 32 ∷ shown t bs
-shown-run true u bs h l e = ap single_spaced (cell-run u bs h) ∙ single-run u (without_pipe_escapes bs) h l (cell_first bs e)
-shown-run false u bs h l e = single-run u bs h l e
+as_read-run : (t : Bool) (u bs : List ℕ)
+    → list_all is_ascii_white u ≡ true → 0 < length u → is_ascii_white (slice_index bs 0) ≡ false → as_read t (u ++ bs) ≡ 32 ∷ as_read t bs
+as_read-run true u bs h l e = ap single_spaced (cell-run u bs h) ∙ single-run u (without_pipe_escapes bs) h l (cell_first bs e)
+as_read-run false u bs h l e = single-run u bs h l e
 
 run_counts : (u : List ℕ) → list_all is_ascii_white u ≡ true → (count_by begins_character u ≡ length u) × (list_any is_solid u ≡ false)
 run_counts [] h = (refl, refl)
@@ -307,9 +307,10 @@ pub unit_reads : (h : List ℕ → Option ℕ) (t : Bool) (text : List ℕ) (at 
     → count_by begins_character (bytes_of us) ≡ unit.characters
     → list_any is_solid (bytes_of us) ≡ unit.solid
     → label_len (bytes_of us ++ bytes_of (left_at h text unit.next)) ≡ length us + label_len (bytes_of (left_at h text unit.next))
-    → (unit.kept ≡ unit.resumed) ⊎ (weight (read_of text at unit) < weight (bytes_of us))
+    → (unit.paused ≡ unit.resumed) ⊎ (weight (read_of text at unit) < weight (bytes_of us))
     → ((n : ℕ)
-    → shown t (bytes_of us ++ take n (bytes_of (left_at h text unit.next))) ≡ read_of text at unit ++ shown t (take n (bytes_of (left_at h text unit.next))))
+    → as_read t (bytes_of us ++ take n (bytes_of (left_at h text unit.next)))
+    ≡ read_of text at unit ++ as_read t (take n (bytes_of (left_at h text unit.next))))
     → Reads h t text at unit
 unit_reads h t text at unit us joins count something passed changes reads =
     record { run = us; joins = joins; count = count; something = something; passed = passed; changes = changes; reads = reads }
@@ -342,7 +343,7 @@ byte_reads h t text at c l white bracket plain e =
     (rw white)
     (upto-byte is_bracket b X (rw plain) bracket)
     (inl refl)
-    (λ n. shown-solid t b (take n X) plain white ∙ ap (λ xs. xs ++ shown t (take n X)) (sym (read-kept text at (at + 1) c true ∙ part-one text at l)))
+    (λ n. as_read-solid t b (take n X) plain white ∙ ap (λ xs. xs ++ as_read t (take n X)) (sym (read-kept text at (at + 1) c true ∙ part-one text at l)))
 
 no_pipe : (b : ℕ) → is_ascii_punctuation b ≡ false → (b == 124) ≡ false
 no_pipe b h = grind (arith, nat_tests, h)
@@ -350,17 +351,17 @@ no_pipe b h = grind (arith, nat_tests, h)
 three : (n : ℕ) → 2 + (1 + n) ≡ 3 + n
 three n = omega arith
 
-pair_shown : (t : Bool) (b : ℕ) (bs : List ℕ) → is_ascii_white b ≡ false → (t ≡ true → (b == 124) ≡ false)
-    → (t ≡ true → (b == 92) ≡ true → begins 124 bs ≡ false) → shown t (92 ∷ b ∷ bs) ≡ 92 ∷ b ∷ shown t bs
-pair_shown true b bs s f g =
-    shown-backslash true (b ∷ bs) (f refl) ∙ ap (λ xs. 92 ∷ xs) (elim (cases_Bool (b == 92)) [
-      | inl e ↦ (let z : (b == 92) && begins 124 bs ≡ false = rw e (g refl e) in shown-byte true b bs s z)
-      | inr e ↦ shown-solid true b bs e s
+pair_as_read : (t : Bool) (b : ℕ) (bs : List ℕ) → is_ascii_white b ≡ false → (t ≡ true → (b == 124) ≡ false)
+    → (t ≡ true → (b == 92) ≡ true → begins 124 bs ≡ false) → as_read t (92 ∷ b ∷ bs) ≡ 92 ∷ b ∷ as_read t bs
+pair_as_read true b bs s f g =
+    as_read-backslash true (b ∷ bs) (f refl) ∙ ap (λ xs. 92 ∷ xs) (elim (cases_Bool (b == 92)) [
+      | inl e ↦ (let z : (b == 92) && begins 124 bs ≡ false = rw e (g refl e) in as_read-byte true b bs s z)
+      | inr e ↦ as_read-solid true b bs e s
     ])
-pair_shown false b bs s f g = single-solid 92 (b ∷ bs) refl ∙ ap (λ xs. 92 ∷ xs) (single-solid b bs s)
+pair_as_read false b bs s f g = single-solid 92 (b ∷ bs) refl ∙ ap (λ xs. 92 ∷ xs) (single-solid b bs s)
 
-pipe_escape_shown : (bs : List ℕ) → shown true (92 ∷ 92 ∷ 124 ∷ bs) ≡ 92 ∷ 124 ∷ shown true bs
-pipe_escape_shown bs = shown-backslash true (92 ∷ 124 ∷ bs) refl ∙ ap (λ xs. 92 ∷ xs) (shown-pipe bs)
+pipe_escape_as_read : (bs : List ℕ) → as_read true (92 ∷ 92 ∷ 124 ∷ bs) ≡ 92 ∷ 124 ∷ as_read true bs
+pipe_escape_as_read bs = as_read-backslash true (92 ∷ 124 ∷ bs) refl ∙ ap (λ xs. 92 ∷ xs) (as_read-pipe bs)
 
 read-space : (text : List ℕ) (at next characters : ℕ) (t : Bool)
     → (next == at + 1 && slice_index text at == 32) ≡ t → at < length text → read_of text at (space_unit text at next characters) ≡ 32 ∷ []
@@ -403,7 +404,7 @@ run_heavier text at next characters (b ∷ c ∷ us) l w f some k lone = let m =
 
 run_lighter : (x : Bool) (text : List ℕ) (at next characters : ℕ) (us : List ℕ)
     → (next == at + 1 && slice_index text at == 32) ≡ x → at < length text → (x ≡ false → 1 < weight us)
-    → ((space_unit text at next characters).kept ≡ (space_unit text at next characters).resumed)
+    → ((space_unit text at next characters).paused ≡ (space_unit text at next characters).resumed)
     ⊎ (weight (read_of text at (space_unit text at next characters)) < weight us)
 run_lighter true text at next characters us k l f = rw k (inl refl)
 run_lighter false text at next characters us k l f =
@@ -446,10 +447,10 @@ run_reads_by x h t text at next characters kind r ends e =
     (run_lighter x text at next characters (bytes_of r.run) kind l
     (λ no. run_heavier text at next characters (bytes_of r.run) (len ∙ count) r.white (run_first h text at next characters r some l) some (kind ∙ no)
     ends.lone))
-    (λ n. ap (λ k. shown t (bytes_of r.run ++ take n (bytes_of (left_at h text k)))) f.0
-    ∙ shown-run t (bytes_of r.run) (take n X) r.white (omega arith) (taken_fails is_ascii_white refl n X first')
-    ∙ ap (λ xs. xs ++ shown t (take n X)) (sym (read-space text at next characters x kind l))
-    ∙ ap (λ k. read_of text at (space_unit text at next characters) ++ shown t (take n (bytes_of (left_at h text k)))) (sym f.0))
+    (λ n. ap (λ k. as_read t (bytes_of r.run ++ take n (bytes_of (left_at h text k)))) f.0
+    ∙ as_read-run t (bytes_of r.run) (take n X) r.white (omega arith) (taken_fails is_ascii_white refl n X first')
+    ∙ ap (λ xs. xs ++ as_read t (take n X)) (sym (read-space text at next characters x kind l))
+    ∙ ap (λ k. read_of text at (space_unit text at next characters) ++ as_read t (take n (bytes_of (left_at h text k)))) (sym f.0))
 
 -- a backslash that escapes nothing
 lone_reads : (h : List ℕ → Option ℕ) (t : Bool) (text : List ℕ) (at : ℕ) → at < length text → get_or text at 0 ≡ 92
@@ -465,8 +466,8 @@ lone_reads h t text at l e p =
     refl
     (upto-byte is_bracket 92 X f refl)
     (inl refl)
-    (λ n. shown-backslash t (take n X) (q n)
-    ∙ ap (λ xs. xs ++ shown t (take n X)) (sym (read-kept text at (at + 1) 1 true ∙ part-one text at l ∙ ap (λ b. b ∷ []) e)))
+    (λ n. as_read-backslash t (take n X) (q n)
+    ∙ ap (λ xs. xs ++ as_read t (take n X)) (sym (read-kept text at (at + 1) 1 true ∙ part-one text at l ∙ ap (λ b. b ∷ []) e)))
 
 -- a backslash that escapes a byte
 pair_joins : (h : List ℕ → Option ℕ) (text : List ℕ) (at : ℕ) → at + 1 < length text → get_or text at 0 ≡ 92 → is_ascii_white (get_or text (at + 1) 0) ≡ false
@@ -495,9 +496,9 @@ pair_reads h t text at l e p no_pipe_here no_pipe_next =
     refl
     (upto-escape is_bracket 92 b X p)
     (inl refl)
-    (λ n. pair_shown t b (take n X) f.0 no_pipe_here
+    (λ n. pair_as_read t b (take n X) f.0 no_pipe_here
     (λ i j. begins_from 124 (take n X) (taken_fails (λ x. x == 124) refl n X (first_fails (λ x. x == 124) refl h text (at + 2) (no_pipe_next i j))))
-    ∙ ap (λ xs. xs ++ shown t (take n X)) (sym (read-kept text at (at + 2) 2 true ∙ part-two text at l ∙ ap (λ x. x ∷ b ∷ []) e)))
+    ∙ ap (λ xs. xs ++ as_read t (take n X)) (sym (read-kept text at (at + 2) 2 true ∙ part-two text at l ∙ ap (λ x. x ∷ b ∷ []) e)))
 
 pipe_lighter : weight (124 ∷ []) < weight (92 ∷ 124 ∷ [])
 unfolding weight
@@ -522,7 +523,7 @@ pipe_reads h text at l e p =
     refl
     (upto-escape is_bracket 92 124 X refl)
     (inr (let less = pipe_lighter in let e = ap weight w in omega arith))
-    (λ n. shown-pipe (take n X) ∙ ap (λ xs. xs ++ shown true (take n X)) (sym w))
+    (λ n. as_read-pipe (take n X) ∙ ap (λ xs. xs ++ as_read true (take n X)) (sym w))
 
 -- and one after a backslash, which escapes the pipe
 pipe_escape_reads : (h : List ℕ → Option ℕ) (text : List ℕ) (at : ℕ) → at + 2 < length text → get_or text at 0 ≡ 92 → get_or text (at + 1) 0 ≡ 92
@@ -543,7 +544,7 @@ pipe_escape_reads h text at l e p q =
     refl
     (upto-escape is_bracket 92 92 (124 ∷ X) refl ∙ ap (λ n. 2 + n) (upto-byte is_bracket 124 X refl refl) ∙ three (label_len X))
     (inr (let less = pipe_escape_lighter in let e = ap weight w in omega arith))
-    (λ n. pipe_escape_shown (take n X) ∙ ap (λ xs. xs ++ shown true (take n X)) (sym w))
+    (λ n. pipe_escape_as_read (take n X) ∙ ap (λ xs. xs ++ as_read true (take n X)) (sym w))
 
 -- a run of white space
 pub run_reads : (h : List ℕ → Option ℕ) (t : Bool) (text : List ℕ) (at next characters : ℕ)
@@ -757,18 +758,18 @@ pub open_stops : (h : List ℕ → Option ℕ) (t : Bool) (text : List ℕ) (at 
 open_stops h t text at l e = λ known. ap (label_after t known) (bracket_left h text at 91 l e refl) ∙ open_by t known at (left_at h text (at + 1))
 
 close_by : (t : Bool) (known : Known) (at : ℕ) (cs : List (ℕ × ℕ))
-    → label_after t known ((at, 93) ∷ cs) ≡ (if is_label_after known [] then Some (found (at + 1) (known.bytes ++ shown t [])) else None)
+    → label_after t known ((at, 93) ∷ cs) ≡ (if is_label_after known [] then Some (found (at + 1) (known.bytes ++ as_read t [])) else None)
 unfolding label_after
 close_by t known at cs = rw (upto-stop is_bracket 93 (bytes_of cs) refl refl)
 
 pub closes : (h : List ℕ → Option ℕ) (t : Bool) (text : List ℕ) (at : ℕ) (known : Known) → at < length text → get_or text at 0 ≡ 93
-    → label_after t known (left_at h text at) ≡ (if is_label_after known [] then Some (found (at + 1) (known.bytes ++ shown t [])) else None)
+    → label_after t known (left_at h text at) ≡ (if is_label_after known [] then Some (found (at + 1) (known.bytes ++ as_read t [])) else None)
 closes h t text at known l e = ap (label_after t known) (bracket_left h text at 93 l e refl) ∙ close_by t known at (left_at h text (at + 1))
 
-pub shown-nil : (t : Bool) → shown t [] ≡ []
+pub as_read-nil : (t : Bool) → as_read t [] ≡ []
 unfolding single_spaced without_pipe_escapes
-shown-nil true = refl
-shown-nil false = refl
+as_read-nil true = refl
+as_read-nil false = refl
 
 pub closed : (h : List ℕ → Option ℕ) (t : Bool) (text : List ℕ) (at : ℕ) (known : Known) → at < length text → get_or text at 0 ≡ 93 → known.characters ≤ 999
     → known.solid ≡ true → label_after t known (left_at h text at) ≡ Some (at + 1, known.bytes)
@@ -776,7 +777,7 @@ closed h t text at known l e bound solid =
     let k : known.characters + 0 ≡ known.characters = omega arith in
     let i : is_label_after known [] ≡ true = rw (k, le-leb known.characters 999 bound, solid) in
     closes h t text at known l e
-    ∙ rw i (ap (λ bs. Some (found (at + 1) (known.bytes ++ bs))) (shown-nil t) ∙ ap (λ bs. Some (found (at + 1) bs)) (append-nil known.bytes))
+    ∙ rw i (ap (λ bs. Some (found (at + 1) (known.bytes ++ bs))) (as_read-nil t) ∙ ap (λ bs. Some (found (at + 1) bs)) (append-nil known.bytes))
 
 pub blank_label : (h : List ℕ → Option ℕ) (t : Bool) (text : List ℕ) (at : ℕ) (known : Known)
     → at < length text → get_or text at 0 ≡ 93 → known.solid ≡ false → label_after t known (left_at h text at) ≡ None

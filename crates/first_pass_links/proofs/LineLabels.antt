@@ -8,8 +8,8 @@ use Rattle.std.proofs.lemmas.Bool.Decides.{nat_tests}
 use Rattle.first_pass_lines.specs.Lines.{begins, ends_line}
 use Rattle.first_pass_links.specs.Escapes.{begins_escape}
 use Rattle.first_pass_links.specs.Destinations.{unescaped_upto}
-use Rattle.first_pass_links.specs.Labels.{is_bracket, ends_line_label, joined, bytes_of, offsets_of, label_len, is_label, shown, label_at}
-use Rattle.first_pass_links.specs.Footnotes.{begins_footnote, head_after, footnote_head}
+use Rattle.first_pass_links.specs.Labels.{is_bracket, ends_line_label, joined, bytes_of, offsets_of, label_len, is_label, as_read, label_at}
+use Rattle.first_pass_links.specs.Footnotes.{begins_footnote_mark, head_after, footnote_head}
 use Rattle.first_pass_links.proofs.Destinations.{second, upto-nil, upto-stop, upto-byte, upto-escape}
 use Rattle.first_pass_links.proofs.Labels.{joined-nil, joined-byte, joined-stop, first_of}
 use Rattle.first_pass_links.proofs.Footnotes.{head_of, no_mark}
@@ -166,12 +166,12 @@ abbrev pub label_if : Bool → ℕ → List ℕ → Option (ℕ × List ℕ)
 label_if u m label = if u then Some (m, label) else None
 
 label_form : (t : Bool) (bytes offsets xs : List ℕ) (n k : ℕ) → begins 93 (drop n bytes) ≡ true → take n bytes ≡ take k xs → slice_index offsets n ≡ k
-    → label_if (begins 93 (drop n bytes) && is_label (take n bytes)) (slice_index offsets n + 1) (shown t (take n bytes))
-    ≡ label_if (is_label (take k xs)) (k + 1) (shown t (take k xs))
+    → label_if (begins 93 (drop n bytes) && is_label (take n bytes)) (slice_index offsets n + 1) (as_read t (take n bytes))
+    ≡ label_if (is_label (take k xs)) (k + 1) (as_read t (take k xs))
 label_form t bytes offsets xs n k e f g = rw (e, f, g) refl
 
 label_some : (t : Bool) (xs : List ℕ) → begins 93 (drop (line_label_len xs) xs) ≡ true
-    → label_at no_further_line t xs ≡ label_if (is_label (take (line_label_len xs) xs)) (line_label_len xs + 1) (shown t (take (line_label_len xs) xs))
+    → label_at no_further_line t xs ≡ label_if (is_label (take (line_label_len xs) xs)) (line_label_len xs + 1) (as_read t (take (line_label_len xs) xs))
 unfolding label_at
 label_some t xs h =
     let s = same_label 0 xs in
@@ -187,19 +187,19 @@ head_form false true xs label m h = refl
 head_form false false xs label m h = refl
 
 -- no head if no `]` ends the label in its line
-pub head_none : (text : List ℕ) → begins_footnote text ≡ true → begins 93 (drop (line_label_len (drop 2 text)) (drop 2 text)) ≡ false → (t : Bool)
+pub head_none : (text : List ℕ) → begins_footnote_mark text ≡ true → begins 93 (drop (line_label_len (drop 2 text)) (drop 2 text)) ≡ false → (t : Bool)
     → is_some (footnote_head no_further_line t text) ≡ false
 head_none text h e t = ap is_some (head_of no_further_line t text h ∙ ap (option_and_then (head_after (drop 2 text))) (label_none t (drop 2 text) e))
 
 -- if a `]` ends the label in its line: a head is there exactly if a colon follows and `is_label` holds for the bytes
 -- before the `]`
-pub head_some : (text : List ℕ) → begins_footnote text ≡ true → begins 93 (drop (line_label_len (drop 2 text)) (drop 2 text)) ≡ true → (t : Bool)
+pub head_some : (text : List ℕ) → begins_footnote_mark text ≡ true → begins 93 (drop (line_label_len (drop 2 text)) (drop 2 text)) ≡ true → (t : Bool)
     → is_some (footnote_head no_further_line t text)
     ≡ (begins 58 (drop (line_label_len (drop 2 text) + 1) (drop 2 text)) && is_label (take (line_label_len (drop 2 text)) (drop 2 text)))
 head_some text h e t =
     let xs = drop 2 text in
     ap is_some (head_of no_further_line t text h ∙ ap (option_and_then (head_after xs)) (label_some t xs e))
-    ∙ head_form (is_label (take (line_label_len xs) xs)) _ xs (shown t (take (line_label_len xs) xs)) (line_label_len xs + 1) refl
+    ∙ head_form (is_label (take (line_label_len xs) xs)) _ xs (as_read t (take (line_label_len xs) xs)) (line_label_len xs + 1) refl
 
-pub head_unmarked : (text : List ℕ) → begins_footnote text ≡ false → (t : Bool) → is_some (footnote_head no_further_line t text) ≡ false
+pub head_unmarked : (text : List ℕ) → begins_footnote_mark text ≡ false → (t : Bool) → is_some (footnote_head no_further_line t text) ≡ false
 head_unmarked text h t = ap is_some (no_mark no_further_line t text h)

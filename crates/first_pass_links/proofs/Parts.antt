@@ -81,7 +81,7 @@ lighter_weight : (text written : List ℕ) (from : ℕ)
 lighter_weight text written from (inl h) = let e = ap weight h.1 ∙ weight-nil in omega arith
 lighter_weight text written from (inr h) = omega arith
 
-pub unit_kept : (text written : List ℕ) (from at : ℕ) (unit : Unit) → IsLighter text written from at → IsUnit text at unit → unit.kept ≡ unit.resumed
+pub unit_kept : (text written : List ℕ) (from at : ℕ) (unit : Unit) → IsLighter text written from at → IsUnit text at unit → unit.paused ≡ unit.resumed
     → written ++ part text from unit.next ≡ (written ++ part text from at) ++ read_of text at unit
 unit_kept text written from at unit r u e =
     let order = r.order in
@@ -95,17 +95,17 @@ unit_kept text written from at unit r u e =
     ∙ ap (λ xs. written ++ xs) (part-split text from at unit.next order (omega arith)))
 
 pub unit_changed : (text written : List ℕ) (from at : ℕ) (unit : Unit) → IsLighter text written from at → IsUnit text at unit
-    → ((written ++ part text from unit.kept) ++ (if unit.space then 32 ∷ [] else [])) ++ part text unit.resumed unit.next
+    → ((written ++ part text from unit.paused) ++ (if unit.space then 32 ∷ [] else [])) ++ part text unit.resumed unit.next
     ≡ (written ++ part text from at) ++ read_of text at unit
 unit_changed text written from at unit r u =
     let order = r.order in
     let begins = u.begins in
-    let p = part-split text from at unit.kept order begins in
+    let p = part-split text from at unit.paused order begins in
     ap (λ xs. ((written ++ xs) ++ (if unit.space then 32 ∷ [] else [])) ++ part text unit.resumed unit.next) (sym p) ∙ simp append_assoc
 
 change_facts : (text written : List ℕ) (from at : ℕ) (unit : Unit) → IsLighter text written from at → IsUnit text at unit
-    → IsCharBoundary text unit.resumed × (weight (if unit.space then 32 ∷ [] else []) < weight (part text unit.kept unit.resumed))
-    → IsLighter text ((written ++ part text from unit.kept) ++ (if unit.space then 32 ∷ [] else [])) unit.resumed unit.next
+    → IsCharBoundary text unit.resumed × (weight (if unit.space then 32 ∷ [] else []) < weight (part text unit.paused unit.resumed))
+    → IsLighter text ((written ++ part text from unit.paused) ++ (if unit.space then 32 ∷ [] else [])) unit.resumed unit.next
 change_facts text written from at unit r u c =
     let order = r.order in
     let begins = u.begins in
@@ -114,14 +114,14 @@ change_facts text written from at unit r u c =
     let light = lighter_weight text written from r.lighter in
     let less = c.1 in
     let mid : List ℕ = if unit.space then 32 ∷ [] else [] in
-    let a = weight-append (written ++ part text from unit.kept) mid in
-    let b = weight-append written (part text from unit.kept) in
-    let d = ap weight (take-part text from unit.kept (omega arith)) ∙ weight-append (take from text) (part text from unit.kept) in
-    let e = ap weight (take-part text unit.kept unit.resumed keeps) ∙ weight-append (take unit.kept text) (part text unit.kept unit.resumed) in
+    let a = weight-append (written ++ part text from unit.paused) mid in
+    let b = weight-append written (part text from unit.paused) in
+    let d = ap weight (take-part text from unit.paused (omega arith)) ∙ weight-append (take from text) (part text from unit.paused) in
+    let e = ap weight (take-part text unit.paused unit.resumed keeps) ∙ weight-append (take unit.paused text) (part text unit.paused unit.resumed) in
     record { order = resumes; within = u.within; boundary = c.0; lighter = inr (omega arith) }
 
-pub unit_read : (text written : List ℕ) (from at : ℕ) (unit : Unit) → IsLighter text written from at → IsUnit text at unit → (unit.kept ≡ unit.resumed → ⊥)
-    → IsLighter text ((written ++ part text from unit.kept) ++ (if unit.space then 32 ∷ [] else [])) unit.resumed unit.next
+pub unit_read : (text written : List ℕ) (from at : ℕ) (unit : Unit) → IsLighter text written from at → IsUnit text at unit → (unit.paused ≡ unit.resumed → ⊥)
+    → IsLighter text ((written ++ part text from unit.paused) ++ (if unit.space then 32 ∷ [] else [])) unit.resumed unit.next
 unit_read text written from at unit r u n = elim u.change [
   | inl e ↦ absurd (n e)
   | inr c ↦ change_facts text written from at unit r u (c.1, c.2)

@@ -6,8 +6,8 @@ use Rattle.std.proofs.lemmas.Bool.Decides.{nat_tests}
 use Rattle.std.proofs.lemmas.List.{drop_more, map-append, length-map, get_or-drop}
 use Rattle.first_pass_lines.specs.Lines.{is_ascii_white}
 use Rattle.first_pass_links.specs.Escapes.{begins_escape}
-use Rattle.first_pass_links.specs.Destinations.{ends_run, closes_none, nesting_after, run_len, longer}
-use Rattle.first_pass_links.specs.Labels.{is_bracket, begins_character, bytes_of, label_len, shown}
+use Rattle.first_pass_links.specs.Destinations.{ends_run, closes_none, nesting_after, bare_len, longer}
+use Rattle.first_pass_links.specs.Labels.{is_bracket, begins_character, bytes_of, label_len, as_read}
 use Rattle.first_pass_links.specs.Plain.{is_ordinary}
 use Rattle.first_pass_links.specs.Units.{part, read_of, left_at, kept_unit, Reads}
 use Rattle.first_pass_links.specs.Runs.{is_run_byte}
@@ -49,29 +49,29 @@ no_escape bs at l h = ap begins_escape (drop_more bs at 0 l) ∙ rw h refl
 
 -- a run continues after plain bytes
 run_plain_byte : (deepest nesting : ℕ) (bs : List ℕ) (at : ℕ) → at < length bs → is_ordinary (get_or bs at 0) ≡ true → nesting ≤ deepest
-    → longer (at + 1) (run_len deepest nesting 0 (drop (at + 1) bs)) ≡ longer at (run_len deepest nesting 0 (drop at bs))
+    → longer (at + 1) (bare_len deepest nesting 0 (drop (at + 1) bs)) ≡ longer at (bare_len deepest nesting 0 (drop at bs))
 run_plain_byte deepest nesting bs at l plain bound =
     let b = get_or bs at 0 in
     let same = plain_nests b nesting plain in
     let one : suc zero ≡ (if begins_escape (drop at bs) then 2 else 1) = rw (no_escape bs at l (plain_backslash b plain)) refl in
-    ap (λ n. longer (at + 1) (run_len deepest n 0 (drop (at + 1) bs))) (sym same)
+    ap (λ n. longer (at + 1) (bare_len deepest n 0 (drop (at + 1) bs))) (sym same)
     ∙ run_unit deepest nesting bs at 1 l one (plain_ends b plain) (plain_closes b nesting plain) (omega arith)
 
 pub run_plain : (deepest nesting : ℕ) (bs : List ℕ) (at r : ℕ) → at + r ≤ length bs → ArePlain bs at r → nesting ≤ deepest
-    → longer (at + r) (run_len deepest nesting 0 (drop (at + r) bs)) ≡ longer at (run_len deepest nesting 0 (drop at bs))
+    → longer (at + r) (bare_len deepest nesting 0 (drop (at + r) bs)) ≡ longer at (bare_len deepest nesting 0 (drop at bs))
 run_plain deepest nesting bs at zero within plain bound =
     let e : at + zero ≡ at = omega arith in
-    ap (λ j. longer j (run_len deepest nesting 0 (drop j bs))) e
+    ap (λ j. longer j (bare_len deepest nesting 0 (drop j bs))) e
 run_plain deepest nesting bs at (suc r) within plain bound =
     let e : at + suc r ≡ at + r + 1 = omega arith in
-    ap (λ j. longer j (run_len deepest nesting 0 (drop j bs))) e
+    ap (λ j. longer j (bare_len deepest nesting 0 (drop j bs))) e
     ∙ run_plain_byte deepest nesting bs (at + r) (omega arith) (plain r (omega arith)) bound
     ∙ run_plain deepest nesting bs at r (omega arith) (λ k below. plain k (omega arith)) bound
 
 -- and after an escape or one other byte, with the plain bytes after it
 pub run_part : (deepest nesting : ℕ) (bs : List ℕ) (n r : ℕ) → 0 < length bs → is_run_byte (get_or bs 0 0) ≡ true → n ≡ (if begins_escape bs then 2 else 1)
     → n + r ≤ length bs → ArePlain bs n r → nesting ≤ deepest
-    → longer (n + r) (run_len deepest nesting 0 (drop (n + r) bs)) ≡ run_len deepest nesting 0 bs
+    → longer (n + r) (bare_len deepest nesting 0 (drop (n + r) bs)) ≡ bare_len deepest nesting 0 bs
 run_part deepest nesting bs n r some first unit within plain bound =
     let b = get_or bs 0 0 in
     let f = plain_facts b nesting first in
@@ -79,10 +79,10 @@ run_part deepest nesting bs n r some first unit within plain bound =
     let same = f.2 in
     let shallow : nesting_after b nesting ≤ deepest = omega arith in
     run_plain deepest nesting bs n r within plain bound
-    ∙ ap (λ k. longer n (run_len deepest k 0 (drop n bs))) (sym same)
-    ∙ ap (λ j. longer j (run_len deepest (nesting_after b nesting) 0 (drop j bs))) (sym z)
+    ∙ ap (λ k. longer n (bare_len deepest k 0 (drop n bs))) (sym same)
+    ∙ ap (λ j. longer j (bare_len deepest (nesting_after b nesting) 0 (drop j bs))) (sym z)
     ∙ run_unit deepest nesting bs 0 n some unit f.0 f.1 shallow
-    ∙ longer-none (run_len deepest nesting 0 bs)
+    ∙ longer-none (bare_len deepest nesting 0 bs)
 
 parenthesis_is_other : (b : ℕ) → (b == 40 || b == 41) ≡ true → (b == 92) ≡ false
 parenthesis_is_other b h = grind (arith, nat_tests, h)
@@ -113,13 +113,13 @@ module _ (h : List ℕ → Option ℕ) (t : Bool) (text : List ℕ) (at m n c d 
         changes = inl refl;
         reads = λ k.
             let long : length two.run + k ≡ length vs + k = omega (arith, length-map two.run (λ (e : ℕ × ℕ). e.1)) in
-            ap (λ l. shown t (l ++ take k X)) both ∙ ap (shown t) (append_assoc us vs (take k X))
-            ∙ ap (λ l. shown t (us ++ l)) (sym (ap (take (length vs + k)) later ∙ take_past vs X (length vs + k) k refl))
+            ap (λ l. as_read t (l ++ take k X)) both ∙ ap (as_read t) (append_assoc us vs (take k X))
+            ∙ ap (λ l. as_read t (us ++ l)) (sym (ap (take (length vs + k)) later ∙ take_past vs X (length vs + k) k refl))
             ∙ one.reads (length vs + k)
-            ∙ ap (λ l. read_of text at (kept_unit m c true) ++ shown t l) (ap (take (length vs + k)) later ∙ take_past vs X (length vs + k) k refl)
+            ∙ ap (λ l. read_of text at (kept_unit m c true) ++ as_read t l) (ap (take (length vs + k)) later ∙ take_past vs X (length vs + k) k refl)
             ∙ ap (λ l. read_of text at (kept_unit m c true) ++ l) (two.reads k)
-            ∙ sym (append_assoc (read_of text at (kept_unit m c true)) (read_of text m (kept_unit n d true)) (shown t (take k X)))
-            ∙ ap (λ l. l ++ shown t (take k X)) (read_both first second);
+            ∙ sym (append_assoc (read_of text at (kept_unit m c true)) (read_of text m (kept_unit n d true)) (as_read t (take k X)))
+            ∙ ap (λ l. l ++ as_read t (take k X)) (read_both first second);
       }
     where
       read_both : at ≤ m → m ≤ n

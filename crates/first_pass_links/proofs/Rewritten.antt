@@ -9,13 +9,13 @@ use Rattle.first_pass_lines.specs.Lines.{begins, ends_line, is_ascii_white}
 use Rattle.first_pass_links.specs.Escapes.{without_pipe_escapes}
 use Rattle.first_pass_links.specs.declared.label.Unit.{Unit}
 use Rattle.first_pass_links.specs.Labels.{is_bracket, AnswersWith, CanErr, IsRewritten, HasNoBracket, before_bracket, bytes_of, label_len, single_spaced}
-use Rattle.first_pass_links.specs.Labels.{shown}
+use Rattle.first_pass_links.specs.Labels.{as_read}
 use Rattle.first_pass_links.specs.Units.{read_of, left_at, Reads, IsWhiteRun, StopsByError, weight}
 use Rattle.first_pass_links.proofs.Parts.{weight-append, weight-length, weight-nil, weight-space, weight-other}
 use Rattle.std.proofs.lemmas.Bool.Decides.{nat_tests}
 use Rattle.first_pass_links.proofs.Destinations.{upto-nil, upto-byte}
 use Rattle.first_pass_links.proofs.PipeEscapes.{cell-nil, cell-other, cell-kept, cell-dropped}
-use Rattle.first_pass_links.proofs.Labels.{take_past, upto-run, single-solid, single-more, single-last, shown-nil, left-end, left-stop}
+use Rattle.first_pass_links.proofs.Labels.{take_past, upto-run, single-solid, single-more, single-last, as_read-nil, left-end, left-stop}
 
 pub on_err : {A E P : Type 0} (r : Result A E) → P → OnErr r P
 on_err (Ok x) p = tt
@@ -75,7 +75,7 @@ single_by b bs true true h k l = subst (λ xs. Lightens xs (b ∷ bs)) (sym (sin
 single_by b bs true false h k l = subst (λ xs. Lightens xs (b ∷ bs)) (sym (single-last b bs h k)) (space_for b (single_spaced bs) bs h l)
 
 single_lightens : (bs : List ℕ) → Lightens (single_spaced bs) bs
-single_lightens [] = inr (shown-nil false)
+single_lightens [] = inr (as_read-nil false)
 single_lightens (b ∷ bs) = single_by b bs _ _ refl refl (single_lightens bs)
 
 cell_by : (b : ℕ) (bs : List ℕ) (x y : Bool)
@@ -88,9 +88,9 @@ cell_lightens : (bs : List ℕ) → Lightens (without_pipe_escapes bs) bs
 cell_lightens [] = inr cell-nil
 cell_lightens (b ∷ bs) = cell_by b bs _ _ refl refl (cell_lightens bs)
 
-shown_lightens : (t : Bool) (bs : List ℕ) → Lightens (shown t bs) bs
-shown_lightens false bs = single_lightens bs
-shown_lightens true bs =
+as_read_lightens : (t : Bool) (bs : List ℕ) → Lightens (as_read t bs) bs
+as_read_lightens false bs = single_lightens bs
+as_read_lightens true bs =
     lightens_through (single_spaced (without_pipe_escapes bs)) (without_pipe_escapes bs) bs (single_lightens (without_pipe_escapes bs)) (cell_lightens bs)
 
 -- white space that is read is a space
@@ -109,17 +109,17 @@ single_weighs_by b bs true false h k l =
     ap weight e ∙ (let z : weight (32 ∷ single_spaced bs) ≡ length (32 ∷ single_spaced bs) = omega arith in z) ∙ sym (ap length e)
 
 single_weighs : (bs : List ℕ) → weight (single_spaced bs) ≡ length (single_spaced bs)
-single_weighs [] = ap weight (shown-nil false) ∙ weight-nil ∙ sym (ap length (shown-nil false))
+single_weighs [] = ap weight (as_read-nil false) ∙ weight-nil ∙ sym (ap length (as_read-nil false))
 single_weighs (b ∷ bs) = single_weighs_by b bs _ _ refl refl (single_weighs bs)
 
-shown_weighs : (t : Bool) (bs : List ℕ) → weight (shown t bs) ≡ length (shown t bs)
-shown_weighs false bs = single_weighs bs
-shown_weighs true bs = single_weighs (without_pipe_escapes bs)
+as_read_weighs : (t : Bool) (bs : List ℕ) → weight (as_read t bs) ≡ length (as_read t bs)
+as_read_weighs false bs = single_weighs bs
+as_read_weighs true bs = single_weighs (without_pipe_escapes bs)
 
 -- bytes with white space other than a space are read differently
-heavy_differs : (t : Bool) (xs ys : List ℕ) (b : ℕ) → is_ascii_white b ≡ true → (b == 32) ≡ false → shown t (xs ++ b ∷ ys) ≢ xs ++ b ∷ ys
+heavy_differs : (t : Bool) (xs ys : List ℕ) (b : ℕ) → is_ascii_white b ≡ true → (b == 32) ≡ false → as_read t (xs ++ b ∷ ys) ≢ xs ++ b ∷ ys
 heavy_differs t xs ys b h k = λ e.
-    let w = shown_weighs t (xs ++ b ∷ ys) in
+    let w = as_read_weighs t (xs ++ b ∷ ys) in
     let same = ap weight e in
     let long = ap length e in
     let a = weight-append xs (b ∷ ys) in
@@ -144,7 +144,7 @@ pub record IsTracked (h : List ℕ → Option ℕ) (t : Bool) (text : List ℕ) 
   pub read : List ℕ
   pub whole : all_from h text 0 ≡ done ++ all_from h text at
   pub passed : label_len (all_from h text 0) ≡ length done + label_len (all_from h text at)
-  pub reads : (n : ℕ) → shown t (done ++ take n (all_from h text at)) ≡ read ++ shown t (take n (all_from h text at))
+  pub reads : (n : ℕ) → as_read t (done ++ take n (all_from h text at)) ≡ read ++ as_read t (take n (all_from h text at))
   pub light : weight read ≤ weight done
   pub lighter : same ⊎ (weight read < weight done)
 
@@ -154,15 +154,15 @@ track_none h t text same s = record { done = []; read = []; whole = refl; passed
 unit_light : (h : List ℕ → Option ℕ) (t : Bool) (text : List ℕ) (at : ℕ) (unit : Unit) (r : Reads h t text at unit)
     → weight (read_of text at unit) ≤ weight (bytes_of r.run)
 unit_light h t text at unit r =
-    let e : shown t (bytes_of r.run) ≡ read_of text at unit =
-    ap (shown t) (sym (append-nil (bytes_of r.run))) ∙ r.reads 0 ∙ ap (λ xs. read_of text at unit ++ xs) (shown-nil t) ∙ append-nil (read_of text at unit)
+    let e : as_read t (bytes_of r.run) ≡ read_of text at unit =
+    ap (as_read t) (sym (append-nil (bytes_of r.run))) ∙ r.reads 0 ∙ ap (λ xs. read_of text at unit ++ xs) (as_read-nil t) ∙ append-nil (read_of text at unit)
     in
-    let w = lightens_weight (shown t (bytes_of r.run)) (bytes_of r.run) (shown_lightens t (bytes_of r.run)) in
+    let w = lightens_weight (as_read t (bytes_of r.run)) (bytes_of r.run) (as_read_lightens t (bytes_of r.run)) in
     let z = ap weight e in
     omega arith
 
 pub track_unit : (h : List ℕ → Option ℕ) (t : Bool) (text : List ℕ) (at : ℕ) (unit : Unit) (old new : Type 0)
-    → IsTracked h t text at old → Reads h t text at unit → (unit.kept ≡ unit.resumed → old → new) → IsTracked h t text unit.next new
+    → IsTracked h t text at old → Reads h t text at unit → (unit.paused ≡ unit.resumed → old → new) → IsTracked h t text unit.next new
 track_unit h t text at unit old new k r f =
     let us = bytes_of r.run in
     let X = all_from h text unit.next in
@@ -183,9 +183,9 @@ track_unit h t text at unit old new k r f =
       passed = omega arith;
       reads = λ m.
           let cut : take (length us + m) (all_from h text at) ≡ us ++ take m X = ap (take (length us + m)) joins ∙ take_past us X (length us + m) m refl in
-          ap (shown t) (append_assoc k.done us (take m X)) ∙ ap (λ xs. shown t (k.done ++ xs)) (sym cut) ∙ k.reads (length us + m)
-          ∙ ap (λ xs. k.read ++ shown t xs) cut
-          ∙ ap (λ xs. k.read ++ xs) (r.reads m) ∙ sym (append_assoc k.read w (shown t (take m X)));
+          ap (as_read t) (append_assoc k.done us (take m X)) ∙ ap (λ xs. as_read t (k.done ++ xs)) (sym cut) ∙ k.reads (length us + m)
+          ∙ ap (λ xs. k.read ++ as_read t xs) cut
+          ∙ ap (λ xs. k.read ++ xs) (r.reads m) ∙ sym (append_assoc k.read w (as_read t (take m X)));
       light = omega arith;
       lighter = elim r.changes [
         | inl e ↦ elim k.lighter [ inl s ↦ inl (f e s) | inr less ↦ inr (omega arith) ]
@@ -206,9 +206,10 @@ track_written h t text at same k n = λ e.
     let is = tracked_before h t text at same k in
     let r = k.reads (label_len (all_from h text at)) in
     let a = weight-append k.done B in
-    let b = weight-append k.read (shown t B) in
-    let w = lightens_weight (shown t B) B (shown_lightens t B) in
-    let z : weight (k.read ++ shown t B) ≡ weight (k.done ++ B) = ap weight (sym r) ∙ ap (λ xs. weight (shown t xs)) (sym is) ∙ ap weight e ∙ ap weight is in
+    let b = weight-append k.read (as_read t B) in
+    let w = lightens_weight (as_read t B) B (as_read_lightens t B) in
+    let z : weight (k.read ++ as_read t B) ≡ weight (k.done ++ B) = ap weight (sym r) ∙ ap (λ xs. weight (as_read t xs)) (sym is) ∙ ap weight e
+    ∙ ap weight is in
     elim k.lighter [ inl s ↦ n s | inr less ↦ omega arith ]
 
 -- white space from an offset up to a line ending at `next`
@@ -247,7 +248,7 @@ stop_by (Some m) h t text at next same k w f =
     in
     let is : before_bracket h text ≡ (k.done ++ R) ++ b ∷ take (label_len Y) Y =
     tracked_before h t text at same k ∙ ap (λ xs. k.done ++ xs) B ∙ sym (append_assoc k.done R (b ∷ take (label_len Y) Y)) in
-    inl (λ z. heavy_differs t (k.done ++ R) (take (label_len Y) Y) b s.0 s.1 (ap (shown t) (sym is) ∙ z ∙ is))
+    inl (λ z. heavy_differs t (k.done ++ R) (take (label_len Y) Y) b s.0 s.1 (ap (as_read t) (sym is) ∙ z ∙ is))
 
 pub track_stop : (h : List ℕ → Option ℕ) (t : Bool) (text : List ℕ) (at : ℕ) (same : Type 0) (post : Bor (List ℕ) → Result (Option ℕ) AllocError → Type 0)
     → IsTracked h t text at same → StopsByError text at post → AnswersWith text h post → CanErr h t text post

@@ -5,7 +5,7 @@ use Rattle.std.specs.Char.{is_ascii_punctuation}
 use Rattle.std.proofs.lemmas.Bool.{cases_Bool, eqb-true, and_parts, le-ltb, lt-ltb}
 use Rattle.std.proofs.lemmas.Bool.Decides.{nat_tests}
 use Rattle.first_pass_links.specs.Escapes.{begins_escape}
-use Rattle.first_pass_links.specs.Destinations.{ends_run, closes_none, nesting_after, run_len, longer, if_closed}
+use Rattle.first_pass_links.specs.Destinations.{ends_run, closes_none, nesting_after, bare_len, longer, if_closed}
 use Rattle.first_pass_links.specs.Runs.{is_run_byte, IsBare, nothing, escape, plain, nested, ends_before, BeginsRun}
 use Rattle.first_pass_links.proofs.Destinations.{longer-longer, second, run-nil, run-end, run-escape, run-unopened, run-deep, run-byte}
 
@@ -29,34 +29,34 @@ two_parts : (a : ℕ) (o : Option ℕ) → longer 1 (longer a o) ≡ longer (suc
 two_parts a o = longer-longer 1 a o ∙ (let e : 1 + a ≡ suc a = omega arith in ap (λ n. longer n o) e)
 
 counts : (deepest : ℕ) (d : ℕ) (run following : List ℕ) → IsBare d run following → (nesting : ℕ) → d + nesting ≡ deepest
-    → run_len deepest nesting 0 (run ++ following) ≡ longer (length run) (run_len deepest nesting 0 following)
-counts deepest _ _ _ (nothing d following) nesting e = sym (longer-none (run_len deepest nesting 0 following))
+    → bare_len deepest nesting 0 (run ++ following) ≡ longer (length run) (bare_len deepest nesting 0 following)
+counts deepest _ _ _ (nothing d following) nesting e = sym (longer-none (bare_len deepest nesting 0 following))
 counts deepest _ _ _ (escape d b more following p r) nesting e =
     run-escape deepest nesting 92 b (more ++ following) refl p ∙ ap (λ o. longer 1 (longer 1 o)) (counts deepest d more following r nesting e)
-    ∙ ap (longer 1) (two_parts (length more) (run_len deepest nesting 0 following)) ∙ two_parts (suc (length more)) (run_len deepest nesting 0 following)
+    ∙ ap (longer 1) (two_parts (length more) (bare_len deepest nesting 0 following)) ∙ two_parts (suc (length more)) (bare_len deepest nesting 0 following)
 counts deepest _ _ _ (plain d b more following p alone r) nesting e =
     let f = plain_facts b nesting p in
     let shallow : nesting_after b nesting ≤ deepest = let z = f.2 in omega arith in
     run-byte deepest nesting b (more ++ following) f.0 alone f.1 (le-ltb _ _ shallow)
-    ∙ ap (λ k. longer 1 (run_len deepest k 0 (more ++ following))) f.2
-    ∙ ap (longer 1) (counts deepest d more following r nesting e) ∙ two_parts (length more) (run_len deepest nesting 0 following)
+    ∙ ap (λ k. longer 1 (bare_len deepest k 0 (more ++ following))) f.2
+    ∙ ap (longer 1) (counts deepest d more following r nesting e) ∙ two_parts (length more) (bare_len deepest nesting 0 following)
 counts deepest _ _ _ (nested d inside more following r s) nesting e =
     let shallow : nesting + 1 ≤ deepest = omega arith in
     let back : nesting + 1 - 1 ≡ nesting = omega arith in
     let open_none : (nesting + 1 == 0) ≡ false = grind (arith, nat_tests) in
-    let left = run_len deepest nesting 0 following in
+    let left = bare_len deepest nesting 0 following in
     let l = length-append inside (41 ∷ more) in
-    ap (run_len deepest nesting 0) (ap (λ xs. 40 ∷ xs) (append_assoc inside (41 ∷ more) following))
+    ap (bare_len deepest nesting 0) (ap (λ xs. 40 ∷ xs) (append_assoc inside (41 ∷ more) following))
     ∙ run-byte deepest nesting 40 (inside ++ 41 ∷ (more ++ following)) refl refl refl (le-ltb _ _ shallow)
     ∙ ap (longer 1) (counts deepest d inside (41 ∷ (more ++ following)) r (nesting + 1) (omega arith)
     ∙ ap (longer (length inside))
     (run-byte deepest (nesting + 1) 41 (more ++ following) refl refl (rw open_none) (le-ltb _ _ (let z : nesting + 1 - 1 ≤ deepest = omega arith in z))
-    ∙ ap (λ k. longer 1 (run_len deepest k 0 (more ++ following))) back
+    ∙ ap (λ k. longer 1 (bare_len deepest k 0 (more ++ following))) back
     ∙ ap (longer 1) (counts deepest (suc d) more following s nesting e)))
     ∙ three_parts (length inside) (length more) 0 left
     ∙ ap (λ n. longer n left) (let z : suc (length inside + suc (length more)) ≡ suc (length (inside ++ 41 ∷ more)) = omega arith in z)
 
-ended : (deepest : ℕ) (bs : List ℕ) → ends_before bs ≡ true → run_len deepest 0 0 bs ≡ Some 0
+ended : (deepest : ℕ) (bs : List ℕ) → ends_before bs ≡ true → bare_len deepest 0 0 bs ≡ Some 0
 ended deepest [] h = run-nil deepest 0
 ended deepest (b ∷ bs) h = elim (cases_Bool (ends_run b)) [
   | inl e ↦ run-end deepest 0 b bs e
@@ -70,11 +70,11 @@ take_drop (suc n) (b ∷ bs) l =
     let i = take_drop n bs (omega arith) in
     (ap (λ xs. b ∷ xs) i.0, ap suc i.1)
 
-pub run_found : (deepest n : ℕ) (bs : List ℕ) → BeginsRun deepest bs n → run_len deepest 0 0 bs ≡ Some n
+pub run_found : (deepest n : ℕ) (bs : List ℕ) → BeginsRun deepest bs n → bare_len deepest 0 0 bs ≡ Some n
 run_found deepest n bs h =
     let parts = take_drop n bs h.within in
     let z : n + 0 ≡ n = omega arith in
-    ap (run_len deepest 0 0) (sym parts.0) ∙ counts deepest deepest (take n bs) (drop n bs) h.run 0 (omega arith)
+    ap (bare_len deepest 0 0) (sym parts.0) ∙ counts deepest deepest (take n bs) (drop n bs) h.run 0 (omega arith)
     ∙ ap (longer (length (take n bs))) (ended deepest (drop n bs) h.ends) ∙ ap (λ k. longer k (Some 0)) parts.1 ∙ ap (λ k. Some k) z
 
 -- bytes that close k parentheses opened before them: a run before each of these `)`, and one after the last
@@ -184,46 +184,47 @@ ends_open k d n bs e =
 
 -- the length that is computed after each byte
 abbrev Counted : ℕ → List ℕ → Type 0
-Counted deepest bs = (k d n : ℕ) → d + k ≡ deepest → run_len deepest k 0 bs ≡ Some n → Ends k d bs n
+Counted deepest bs = (k d n : ℕ) → d + k ≡ deepest → bare_len deepest k 0 bs ≡ Some n → Ends k d bs n
 
 counted_escape : (deepest : ℕ) (bs : List ℕ) → (begins_escape (92 ∷ bs) ≡ true) → Counted deepest (drop 1 bs) → Counted deepest (92 ∷ bs)
 counted_escape deepest [] p i = λ k d n e h. let z = second 92 [] p in absurd (omega arith)
 counted_escape deepest (b ∷ bs) p i =
     λ k d n e h.
-    let x = longer_some 1 n (longer 1 (run_len deepest k 0 bs)) (sym (run-escape deepest k 92 b bs refl p) ∙ h) in
-    let y = longer_some 1 x.0 (run_len deepest k 0 bs) x.1 in
+    let x = longer_some 1 n (longer 1 (bare_len deepest k 0 bs)) (sym (run-escape deepest k 92 b bs refl p) ∙ h) in
+    let y = longer_some 1 x.0 (bare_len deepest k 0 bs) x.1 in
     subst (Ends k d (92 ∷ b ∷ bs)) (ap (λ m. 1 + m) y.2 ∙ x.2) (ends_escape k d b y.0 bs p (i k d y.0 e y.1))
 
 counted_open : (deepest : ℕ) (bs : List ℕ) → Counted deepest bs → Counted deepest (40 ∷ bs)
 counted_open deepest bs i = λ k d n e h. open_by deepest bs i k d n e h
   where
-    open_by : (deepest : ℕ) (bs : List ℕ) → Counted deepest bs → (k d n : ℕ) → d + k ≡ deepest → run_len deepest k 0 (40 ∷ bs) ≡ Some n → Ends k d (40 ∷ bs) n
+    open_by : (deepest : ℕ) (bs : List ℕ) → Counted deepest bs → (k d n : ℕ) → d + k ≡ deepest → bare_len deepest k 0 (40 ∷ bs) ≡ Some n → Ends k d (40 ∷ bs) n
     open_by deepest bs i k zero n e h =
-        let z : run_len deepest k 0 (40 ∷ bs) ≡ None = run-deep deepest k 40 bs refl refl refl (lt-ltb _ _ (let z : deepest < k + 1 = omega arith in z)) in cc
+        let z : bare_len deepest k 0 (40 ∷ bs) ≡ None = run-deep deepest k 40 bs refl refl refl (lt-ltb _ _ (let z : deepest < k + 1 = omega arith in z)) in cc
     open_by deepest bs i k (suc d) n e h =
         let f : k + 1 ≡ suc k = omega arith in
-        let x = longer_some 1 n (run_len deepest (k + 1) 0 bs)
+        let x = longer_some 1 n (bare_len deepest (k + 1) 0 bs)
         (sym (run-byte deepest k 40 bs refl refl refl (le-ltb _ _ (let z : k + 1 ≤ deepest = omega arith in z))) ∙ h) in
-        subst (Ends k (suc d) (40 ∷ bs)) x.2 (ends_open k d x.0 bs (i (suc k) d x.0 (omega arith) (ap (λ m. run_len deepest m 0 bs) (sym f) ∙ x.1)))
+        subst (Ends k (suc d) (40 ∷ bs)) x.2 (ends_open k d x.0 bs (i (suc k) d x.0 (omega arith) (ap (λ m. bare_len deepest m 0 bs) (sym f) ∙ x.1)))
 
-counted_close : (deepest : ℕ) (bs : List ℕ) → Counted deepest bs → (k d n : ℕ) → d + k ≡ deepest → run_len deepest k 0 (41 ∷ bs) ≡ Some n → Ends k d (41 ∷ bs) n
+counted_close : (deepest : ℕ) (bs : List ℕ) → Counted deepest bs → (k d n : ℕ) → d + k ≡ deepest → bare_len deepest k 0 (41 ∷ bs) ≡ Some n
+    → Ends k d (41 ∷ bs) n
 counted_close deepest bs i zero d n e h =
     let z : 0 ≡ n = let f = run-unopened deepest 0 41 bs refl in cc in
     record { run = []; following = 41 ∷ bs; parts = refl; count = z; closes = nothing d (41 ∷ bs); ends = refl }
 counted_close deepest bs i (suc k) d n e h =
     let f : suc k - 1 ≡ k = omega arith in
-    let x = longer_some 1 n (run_len deepest (suc k - 1) 0 bs)
+    let x = longer_some 1 n (bare_len deepest (suc k - 1) 0 bs)
     (sym (run-byte deepest (suc k) 41 bs refl refl (some_open k) (le-ltb _ _ (let z : suc k - 1 ≤ deepest = omega arith in z))) ∙ h) in
-    subst (Ends (suc k) d (41 ∷ bs)) x.2 (ends_close k d x.0 bs (i k (suc d) x.0 (omega arith) (ap (λ m. run_len deepest m 0 bs) (sym f) ∙ x.1)))
+    subst (Ends (suc k) d (41 ∷ bs)) x.2 (ends_close k d x.0 bs (i k (suc d) x.0 (omega arith) (ap (λ m. bare_len deepest m 0 bs) (sym f) ∙ x.1)))
 
 counted_plain : (deepest b : ℕ) (bs : List ℕ) → is_run_byte b ≡ true → begins_escape (b ∷ bs) ≡ false → Counted deepest bs → Counted deepest (b ∷ bs)
 counted_plain deepest b bs p alone i =
     λ k d n e h.
     let f = plain_facts b k p in
     let z = f.2 in
-    let x = longer_some 1 n (run_len deepest (nesting_after b k) 0 bs)
+    let x = longer_some 1 n (bare_len deepest (nesting_after b k) 0 bs)
     (sym (run-byte deepest k b bs f.0 alone f.1 (le-ltb _ _ (let l : nesting_after b k ≤ deepest = omega arith in l))) ∙ h) in
-    subst (Ends k d (b ∷ bs)) x.2 (ends_plain k d b x.0 bs p alone (i k d x.0 e (ap (λ m. run_len deepest m 0 bs) (sym f.2) ∙ x.1)))
+    subst (Ends k d (b ∷ bs)) x.2 (ends_plain k d b x.0 bs p alone (i k d x.0 e (ap (λ m. bare_len deepest m 0 bs) (sym f.2) ∙ x.1)))
 
 plain_from : (b : ℕ) → ends_run b ≡ false → (b == 40) ≡ false → (b == 41) ≡ false → is_run_byte b ≡ true
 plain_from b x y z = rw (x, y, z) refl
@@ -254,7 +255,7 @@ take_all : (xs ys : List ℕ) → (take (length xs) (xs ++ ys) ≡ xs) × (drop 
 take_all [] ys = (refl, refl)
 take_all (x ∷ xs) ys = let i = take_all xs ys in (ap (λ zs. x ∷ zs) i.0, i.1)
 
-pub run_counted : (deepest n : ℕ) (bs : List ℕ) → run_len deepest 0 0 bs ≡ Some n → BeginsRun deepest bs n
+pub run_counted : (deepest n : ℕ) (bs : List ℕ) → bare_len deepest 0 0 bs ≡ Some n → BeginsRun deepest bs n
 run_counted deepest n bs h =
     let z : deepest + 0 ≡ deepest = omega arith in
     let e = counted_upto (length bs) deepest bs (omega arith) 0 deepest n z h in

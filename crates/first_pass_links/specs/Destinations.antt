@@ -18,14 +18,14 @@ unescaped_upto stops zero (b ∷ bs) =
 
 -- a byte that ends the search inside `<..>` unless it is escaped: `<`, `>`, or a byte of a line ending, which is never
 -- escaped (CommonMark 6.3)
-abbrev pub ends_brackets : ℕ → Bool
-ends_brackets b = is_line_end b || b == less_than || b == greater_than
+abbrev pub ends_bracketed : ℕ → Bool
+ends_bracketed b = is_line_end b || b == less_than || b == greater_than
 
 -- a destination inside `<..>`, after its `<`: its length with both brackets, and the text between them (CommonMark
 -- 6.3)
 unfoldable pub bracketed_at : List ℕ → Option (ℕ × List ℕ)
 bracketed_at bs =
-    let n = unescaped_upto ends_brackets 0 bs in
+    let n = unescaped_upto ends_bracketed 0 bs in
     if begins greater_than (drop n bs) then Some (n + 2, take n bs) else None
 
 -- a byte that ends a destination outside `<..>`: an ASCII control character or a space (CommonMark 6.3)
@@ -51,15 +51,15 @@ nesting_after b nesting = if b == left_parenthesis then nesting + 1 else (if b =
 -- The length of a run inside `nesting` open parentheses; its first n bytes are not tested. The run ends before a
 -- control character or a space, or before an unescaped `)` that closes none. Unescaped parentheses are balanced, and
 -- nested at most `deepest` deep (CommonMark 6.3).
-unfoldable pub run_len : ℕ → ℕ → ℕ → List ℕ → Option ℕ
-run_len deepest nesting n [] = if_closed nesting
-run_len deepest nesting (suc n) (b ∷ bs) = longer 1 (run_len deepest nesting n bs)
-run_len deepest nesting zero (b ∷ bs) =
+unfoldable pub bare_len : ℕ → ℕ → ℕ → List ℕ → Option ℕ
+bare_len deepest nesting n [] = if_closed nesting
+bare_len deepest nesting (suc n) (b ∷ bs) = longer 1 (bare_len deepest nesting n bs)
+bare_len deepest nesting zero (b ∷ bs) =
     if ends_run b then if_closed nesting
-    else (if begins_escape (b ∷ bs) then longer 1 (run_len deepest nesting 1 bs)
+    else (if begins_escape (b ∷ bs) then longer 1 (bare_len deepest nesting 1 bs)
     else (if closes_none b nesting then Some 0
     else (if nat_lt deepest (nesting_after b nesting) then None
-    else longer 1 (run_len deepest (nesting_after b nesting) 0 bs))))
+    else longer 1 (bare_len deepest (nesting_after b nesting) 0 bs))))
 
 -- a destination outside `<..>`: a run that is not empty (CommonMark 6.3)
 abbrev pub unbracketed : List ℕ → ℕ → Option (ℕ × List ℕ)
@@ -68,4 +68,4 @@ unbracketed bs n = if n == 0 then None else Some (n, take n bs)
 -- the destination at the start of these bytes: its length, and its text (CommonMark 6.3)
 unfoldable pub destination_at : ℕ → List ℕ → Option (ℕ × List ℕ)
 destination_at deepest bs =
-    if begins less_than bs then bracketed_at (drop 1 bs) else option_and_then (unbracketed bs) (run_len deepest 0 0 bs)
+    if begins less_than bs then bracketed_at (drop 1 bs) else option_and_then (unbracketed bs) (bare_len deepest 0 0 bs)

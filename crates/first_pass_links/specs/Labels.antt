@@ -67,8 +67,8 @@ single_spaced (b ∷ bs) =
 
 -- a label as it is read: runs of white space are single spaces; in a table, backslashes before pipes are dropped
 -- (CommonMark 6.3, GFM 4.10)
-abbrev pub shown : Bool → List ℕ → List ℕ
-shown in_table bs = single_spaced (read_in in_table bs)
+abbrev pub as_read : Bool → List ℕ → List ℕ
+as_read in_table bs = single_spaced (read_in in_table bs)
 
 -- a label has at most 999 characters, and one of them at least is not white space (CommonMark 6.3)
 abbrev pub is_label : List ℕ → Bool
@@ -82,7 +82,7 @@ label_at prefix in_table text =
     let n = label_len (bytes_of whole) in
     let label = take n (bytes_of whole) in
     if begins right_bracket (drop n (bytes_of whole)) && is_label label
-    then Some (slice_index (offsets_of whole) n + 1, shown in_table label)
+    then Some (slice_index (offsets_of whole) n + 1, as_read in_table label)
     else None
 
 -- the source of a label: the joined text before the first bracket that is not escaped, or all of it if there is none
@@ -93,7 +93,7 @@ before_bracket prefix text = let bs = bytes_of (joined prefix 0 0 text) in take 
 -- the label as it is read differs from its source: it has a line ending, white space other than single spaces, or in
 -- a table a backslash before a pipe (CommonMark 6.3)
 abbrev pub IsRewritten : (List ℕ → Option ℕ) → Bool → List ℕ → Type 0
-IsRewritten prefix in_table text = shown in_table (before_bracket prefix text) ≢ before_bracket prefix text
+IsRewritten prefix in_table text = as_read in_table (before_bracket prefix text) ≢ before_bracket prefix text
 
 -- the joined text has no unescaped bracket (CommonMark 6.3)
 abbrev pub HasNoBracket : (List ℕ → Option ℕ) → List ℕ → Type 0

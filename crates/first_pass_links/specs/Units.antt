@@ -11,7 +11,7 @@ use Rattle.first_pass_lines.specs.Lines.{begins, is_ascii_white}
 use Rattle.first_pass_links.specs.Escapes.{begins_escape}
 use Rattle.first_pass_links.specs.Changes.{begins_pipe_escape}
 use Rattle.first_pass_links.specs.declared.label.Unit.{Unit}
-use Rattle.first_pass_links.specs.Labels.{AnswersWith, ErrsAfter, begins_character, joined, bytes_of, label_len, shown}
+use Rattle.first_pass_links.specs.Labels.{AnswersWith, ErrsAfter, begins_character, joined, bytes_of, label_len, as_read}
 
 -- the bytes from one offset up to another (this project)
 abbrev pub part : List ℕ → ℕ → ℕ → List ℕ
@@ -19,18 +19,18 @@ part text from to = take (to - from) (drop from text)
 
 -- a unit of which all bytes are kept (CommonMark 6.3)
 abbrev pub kept_unit : ℕ → ℕ → Bool → Unit
-kept_unit next characters solid = record { next = next; characters = characters; solid = solid; kept = next; resumed = next; space = false }
+kept_unit next characters solid = record { next = next; characters = characters; solid = solid; paused = next; resumed = next; space = false }
 
 -- a run of white space: a space replaces it, unless it is a single space (CommonMark 6.3)
 abbrev pub space_unit : List ℕ → ℕ → ℕ → ℕ → Unit
 space_unit text at next characters =
     if next == at + 1 && slice_index text at == space
     then kept_unit next characters false
-    else record { next = next; characters = characters; solid = false; kept = at; resumed = next; space = true }
+    else record { next = next; characters = characters; solid = false; paused = at; resumed = next; space = true }
 
 -- a unit without the backslash at an offset (GFM 4.10)
 abbrev pub dropped_unit : ℕ → ℕ → ℕ → Unit
-dropped_unit next characters place = record { next = next; characters = characters; solid = true; kept = place; resumed = place + 1; space = false }
+dropped_unit next characters place = record { next = next; characters = characters; solid = true; paused = place; resumed = place + 1; space = false }
 
 -- the unit that begins with a backslash: `\\|` or `\|` in a table, without the backslash directly before the pipe;
 -- otherwise an escape, or a backslash that escapes nothing (CommonMark 2.4, GFM 4.10)
@@ -43,7 +43,7 @@ backslash_unit in_table at bs =
 -- the text that is read from a unit: its bytes except those that are left out, and a space if one replaces these
 -- (CommonMark 6.3)
 abbrev pub read_of : List ℕ → ℕ → Unit → List ℕ
-read_of text at unit = part text at unit.kept ++ ((if unit.space then space ∷ [] else []) ++ part text unit.resumed unit.next)
+read_of text at unit = part text at unit.paused ++ ((if unit.space then space ∷ [] else []) ++ part text unit.resumed unit.next)
 
 -- the rest of the joined text of a label from an offset on, each byte with its offset (this project)
 abbrev pub left_at : (List ℕ → Option ℕ) → List ℕ → ℕ → List (ℕ × ℕ)
@@ -57,15 +57,15 @@ weight (b ∷ bs) = (if is_ascii_white b && not (b == space) then 2 else 1) + we
 
 -- a unit at an offset, and the bytes that it leaves out, if any (this project)
 pub record IsUnit (text : List ℕ) (at : ℕ) (unit : Unit) : Type 0 where
-  pub begins : at ≤ unit.kept
-  pub order : unit.kept ≤ unit.resumed
+  pub begins : at ≤ unit.paused
+  pub order : unit.paused ≤ unit.resumed
   pub resumes : unit.resumed ≤ unit.next
   pub later : at < unit.next
   pub within : unit.next ≤ length text
   pub bound : unit.characters ≤ unit.next - at
-  pub change : (unit.kept ≡ unit.resumed) ⊎ ((slice_index text unit.kept < ascii_end) × IsCharBoundary text unit.resumed
-      × (weight (if unit.space then space ∷ [] else []) < weight (part text unit.kept unit.resumed)))
-  pub same : unit.kept ≡ unit.resumed → unit.space ≡ false
+  pub change : (unit.paused ≡ unit.resumed) ⊎ ((slice_index text unit.paused < ascii_end) × IsCharBoundary text unit.resumed
+      × (weight (if unit.space then space ∷ [] else []) < weight (part text unit.paused unit.resumed)))
+  pub same : unit.paused ≡ unit.resumed → unit.space ≡ false
 
 -- A unit is read. Its bytes are the next of the joined text, and have this many characters. No bracket among them
 -- ends the label. From this unit on, the label as it is read is the text of this unit, then the text of the remaining
@@ -76,9 +76,9 @@ pub record Reads (prefix : List ℕ → Option ℕ) (in_table : Bool) (text : Li
   pub count : count_by begins_character (bytes_of run) ≡ unit.characters
   pub something : list_any (λ b. not (is_ascii_white b)) (bytes_of run) ≡ unit.solid
   pub passed : label_len (bytes_of run ++ bytes_of (left_at prefix text unit.next)) ≡ length run + label_len (bytes_of (left_at prefix text unit.next))
-  pub changes : (unit.kept ≡ unit.resumed) ⊎ (weight (read_of text at unit) < weight (bytes_of run))
-  pub reads : (n : ℕ) → shown in_table (bytes_of run ++ take n (bytes_of (left_at prefix text unit.next)))
-      ≡ read_of text at unit ++ shown in_table (take n (bytes_of (left_at prefix text unit.next)))
+  pub changes : (unit.paused ≡ unit.resumed) ⊎ (weight (read_of text at unit) < weight (bytes_of run))
+  pub reads : (n : ℕ) → as_read in_table (bytes_of run ++ take n (bytes_of (left_at prefix text unit.next)))
+      ≡ read_of text at unit ++ as_read in_table (take n (bytes_of (left_at prefix text unit.next)))
 
 -- `from` is between characters, and at most `at`, which is an offset into the text. Either `from` is 0 and nothing is
 -- written, or `written` is lighter than the bytes before `from` (this project).

@@ -5,7 +5,7 @@ ghost use Rattle.std.specs.Str.{IsCharBoundary};
 ghost use Rattle.first_pass_items.specs.Bytes.{ascii_end, left_parenthesis, right_parenthesis};
 ghost use Rattle.first_pass_links.specs.Escapes.{begins_escape};
 ghost use Rattle.first_pass_links.specs.Runs.{is_run_byte};
-ghost use Rattle.first_pass_links.specs.Destinations.{unescaped_upto, ends_brackets, ends_run, closes_none, nesting_after, run_len, longer, destination_at};
+ghost use Rattle.first_pass_links.specs.Destinations.{unescaped_upto, ends_bracketed, ends_run, closes_none, nesting_after, bare_len, longer, destination_at};
 
 use crate::plain::plain_run;
 use first_pass_lines::lines::begins;
@@ -43,11 +43,11 @@ pub fn scan_link_dest(text: &str, start_ix: usize, max_next: usize) -> Option<(u
 
 // The number of bytes before the first line ending, the first unescaped `<` or `>`, or the end.
 fn scan_brackets(bytes: &[u8]) -> usize
-    ensures value { result ≡ unescaped_upto ends_brackets 0 bytes.now }
+    ensures value { result ≡ unescaped_upto ends_bracketed 0 bytes.now }
     ensures within { result ≤ length bytes.now }
 {
     let mut at = 0;
-    while at < bytes.len() && !ends_brackets(bytes[at]) {
+    while at < bytes.len() && !ends_bracketed(bytes[at]) {
         at += unit_len(rest_of(bytes, at));
     }
     at
@@ -56,7 +56,7 @@ fn scan_brackets(bytes: &[u8]) -> usize
 // The length of the run at the start, which is a destination outside `<..>` unless it is empty. `None` if an unescaped
 // `(` is not closed, or if unescaped parentheses nest more than `deepest` deep.
 fn scan_run(bytes: &[u8], deepest: usize) -> Option<usize>
-    ensures value { result ≡ run_len deepest 0 0 bytes.now }
+    ensures value { result ≡ bare_len deepest 0 0 bytes.now }
     ensures within { IfSome result (λ len. len ≤ length bytes.now) }
     ensures ends { IfSome result (λ len. len < length bytes.now → slice_index bytes.now len < ascii_end) }
 {
@@ -88,7 +88,7 @@ fn text_len(bytes: &[u8]) -> usize
     ensures within { result ≤ length bytes.now }
     ensures some { 0 < result }
     ensures passed { (deepest nesting : ℕ) → nesting ≤ deepest
-        → longer result (run_len deepest nesting 0 (drop result bytes.now)) ≡ run_len deepest nesting 0 bytes.now }
+        → longer result (bare_len deepest nesting 0 (drop result bytes.now)) ≡ bare_len deepest nesting 0 bytes.now }
 {
     let unit = unit_len(bytes);
     if unit == 2 {
@@ -124,8 +124,8 @@ fn nesting_after(byte: u8, nesting: usize) -> usize
     }
 }
 
-fn ends_brackets(byte: u8) -> bool
-    ensures { result ≡ ends_brackets byte }
+fn ends_bracketed(byte: u8) -> bool
+    ensures { result ≡ ends_bracketed byte }
 {
     matches!(byte, b'\n' | b'\r' | b'<' | b'>')
 }

@@ -5,9 +5,9 @@ ghost use Rattle.std.specs.Str.{IsCharBoundary};
 ghost use Rattle.first_pass_items.specs.CowText.{text_of};
 ghost use Rattle.first_pass_entities.specs.Texts.{Borrows};
 ghost use Rattle.first_pass_links.specs.Labels.{AnswersWith, AnswersPlaces, CanErr};
-ghost use Rattle.first_pass_links.specs.Footnotes.{begins_footnote as begins_head, footnote_head};
+ghost use Rattle.first_pass_links.specs.Footnotes.{begins_footnote_mark as begins_head, footnote_head};
 
-use crate::label::{is_label, scan_line_label, scan_link_label_rest};
+use crate::label::{is_label, scan_label_end, scan_link_label_rest};
 use first_pass_items::cow_str::CowStr;
 use first_pass_lines::lines::begins;
 use first_pass_lines::places::rest_of;
@@ -45,7 +45,7 @@ where
         → CanErr prefix is_in_table (drop 2 text.now) (F.post linebreak_handler))) }
 {
     let bytes = text.as_bytes();
-    if !begins_footnote(bytes) {
+    if !begins_footnote_mark(bytes) {
         return Ok(None);
     }
     let Some((len, label)) = scan_link_label_rest(
@@ -68,11 +68,11 @@ where
 pub fn begins_footnote_in_line(bytes: &[u8]) -> bool
     ensures { (in_table : Bool) → result ≡ is_some (footnote_head (λ further. None) in_table bytes.now) }
 {
-    if !begins_footnote(bytes) {
+    if !begins_footnote_mark(bytes) {
         return false;
     }
     let label = rest_of(bytes, 2);
-    let len = scan_line_label(label);
+    let len = scan_label_end(label);
     if !begins(b']', rest_of(label, len)) {
         return false;
     }
@@ -80,7 +80,7 @@ pub fn begins_footnote_in_line(bytes: &[u8]) -> bool
 }
 
 /// Returns whether `bytes` begins with `[^`.
-pub fn begins_footnote(bytes: &[u8]) -> bool
+pub fn begins_footnote_mark(bytes: &[u8]) -> bool
     ensures { result ≡ begins_head bytes.now }
 {
     begins(b'[', bytes) && begins(b'^', &bytes[1..])

@@ -86,7 +86,7 @@ where
 
 /// Returns the number of bytes before the first unescaped bracket, the first line ending, or the end. If a `]` follows
 /// these bytes and `is_label` holds for them, they are a label without a line ending (CommonMark 6.3).
-pub(crate) fn scan_line_label(bytes: &[u8]) -> usize
+pub(crate) fn scan_label_end(bytes: &[u8]) -> usize
     ensures value { result ≡ unescaped_upto ends_line_label 0 bytes.now }
     ensures within { result ≤ length bytes.now }
 {
@@ -126,14 +126,14 @@ fn holds_text(bytes: &[u8]) -> bool
     bytes.iter().any(|b| !is_ascii_white(*b))
 }
 
-// Bytes of a label that are read together, up to the offset `next`. Those from `kept` up to `resumed` are left out; if
-// `space` is true, a space replaces them. If no bytes are left out, `kept` and `resumed` are both `next`.
+// Bytes of a label that are read together, up to the offset `next`. Those from `paused` up to `resumed` are left out;
+// if `space` is true, a space replaces them. If no bytes are left out, `paused` and `resumed` are both `next`.
 #[derive(Clone, Copy, Drop)]
 struct Unit {
     next: usize,
     characters: usize,
     solid: bool,
-    kept: usize,
+    paused: usize,
     resumed: usize,
     space: bool,
 }
@@ -256,7 +256,7 @@ fn space_unit(bytes: &[u8], at: usize, next: usize, characters: usize) -> Unit
         next,
         characters,
         solid: false,
-        kept: at,
+        paused: at,
         resumed: next,
         space: true,
     }
@@ -284,7 +284,7 @@ fn kept_unit(next: usize, characters: usize, solid: bool) -> Unit
         next,
         characters,
         solid,
-        kept: next,
+        paused: next,
         resumed: next,
         space: false,
     }
@@ -299,7 +299,7 @@ fn dropped_unit(next: usize, characters: usize, place: usize) -> Unit
         next,
         characters,
         solid: true,
-        kept: place,
+        paused: place,
         resumed: place + 1,
         space: false,
     }
@@ -320,13 +320,13 @@ fn write_unit(
     ensures read { IfOk result (λ next. IsLighter text.now (string_bytes written.new) next unit.next) }
     ensures bytes { IfOk result (λ next. string_bytes written.new ++ part text.now next unit.next
         ≡ (string_bytes written.old ++ part text.now from at) ++ read_of text.now at unit) }
-    ensures same { IfOk result (λ next. unit.kept ≡ unit.resumed → next ≡ from) }
-    ensures err { OnErr result (unit.kept ≢ unit.resumed) }
+    ensures same { IfOk result (λ next. unit.paused ≡ unit.resumed → next ≡ from) }
+    ensures err { OnErr result (unit.paused ≢ unit.resumed) }
 {
-    if unit.kept == unit.resumed {
+    if unit.paused == unit.resumed {
         return Ok(from);
     }
-    written.push_str(&text[from..unit.kept])?;
+    written.push_str(&text[from..unit.paused])?;
     written.push_str(replacement(unit.space))?;
     Ok(unit.resumed)
 }

@@ -10,19 +10,19 @@ use Rattle.first_pass_tree.specs.Forest.{Forest, with_body_at, body_at}
 use Rattle.first_pass_grammar.specs.Derivation.{list_flags}
 use Rattle.first_pass_open.specs.OpenBlock.{closed_by}
 use Rattle.first_pass_lists.specs.Closing.{top_end, possible_title, current_moved, definitions_closed, with_tree, popped_after}
-use Rattle.first_pass_lists.specs.Closing.{top_body, is_list, is_list_of, popped_by, popped_at, popped, item_finished_by, item_finished, list_closed, gap_tree}
+use Rattle.first_pass_lists.specs.Closing.{top_body, is_list, is_list_of, popped_by, popped_at, popped, empty_item_closed_by, empty_item_closed, list_closed, gap_tree}
 use Rattle.first_pass_lists.specs.Closing.{list_finished, loosened_top, list_kept, begun, list_continued, is_footnote, footnote_left}
 use Rattle.first_pass_lists.specs.Closing.{footnote_begun}
 use Rattle.first_pass_items.specs.declared.item.CowIndex.{CowIndex}
 use Rattle.first_pass_lists.specs.declared.state.PassState.{PassState}
 
-none_by : (r : PassState) (o : Option ℕ) → r.begin_list_item ≡ o → (item_finished_by r o).begin_list_item ≡ None
+none_by : (r : PassState) (o : Option ℕ) → r.begin_list_item ≡ o → (empty_item_closed_by r o).begin_list_item ≡ None
 none_by r None h = h
 none_by r (Some e) h = refl
 
 -- after an empty item is closed, the state records none
-pub finished_none : (r : PassState) → (item_finished r).begin_list_item ≡ None
-unfolding item_finished
+pub finished_none : (r : PassState) → (empty_item_closed r).begin_list_item ≡ None
+unfolding empty_item_closed
 finished_none r = none_by r r.begin_list_item refl
 
 popped_by_none : (r : PassState) (f : Forest Item) (ix : TreeIndex) (b : Option ItemBody) → r.begin_list_item ≡ None
@@ -66,13 +66,13 @@ noted_none false r f none = none
 pub list_finished_none : (e : ℕ) (r : PassState) → (list_finished e r).begin_list_item ≡ None
 unfolding list_finished
 list_finished_none e r =
-    let l : PassState = list_closed e (item_finished r) in
-    noted_none l.blank l (gap_tree l.tree l.tree.spine) (left_none (is_list (top_body (item_finished r).tree)) e (item_finished r) (finished_none r))
+    let l : PassState = list_closed e (empty_item_closed r) in
+    noted_none l.blank l (gap_tree l.tree l.tree.spine) (left_none (is_list (top_body (empty_item_closed r).tree)) e (empty_item_closed r) (finished_none r))
 
 pub footnote_begun_none : (start : ℕ) (label : CowIndex) (r : PassState) → (footnote_begun start label r).begin_list_item ≡ None
 unfolding footnote_begun
 footnote_begun_none start label r =
-    let s : PassState = item_finished r in
+    let s : PassState = empty_item_closed r in
     let l : PassState = list_closed start s in
     let q : PassState = footnote_left start l in
     noted_none q.blank q (gap_tree q.tree q.tree.spine)
@@ -86,7 +86,8 @@ continued_by false start byte number r none = list_finished_none start r
 
 pub list_continued_none : (start byte number : ℕ) (r : PassState) → (list_continued start byte number r).begin_list_item ≡ None
 unfolding list_continued
-list_continued_none start byte number r = continued_by (is_list_of byte (top_body (item_finished r).tree)) start byte number (item_finished r) (finished_none r)
+list_continued_none start byte number r =
+    continued_by (is_list_of byte (top_body (empty_item_closed r).tree)) start byte number (empty_item_closed r) (finished_none r)
 
 -- an item with this byte, number and indent is opened at an offset, in the list that continues or in a new one
 abbrev pub item_opened : ℕ → ℕ → ℕ → ℕ → PassState → PassState

@@ -120,7 +120,7 @@ abbrev pub possible_title : Forest Item → Option TreeIndex
 possible_title f = option_and_then (λ ix. title_by (top_body f) ix (body_at f.nodes ix.0)) f.current
 
 -- The innermost open node is a definition list, and the current node is its possible title. The list is closed at the
--- end of its last definition, which `title_kept` has recorded in the list. The possible title becomes a paragraph
+-- end of its last definition, which `title_begun` has recorded in the list. The possible title becomes a paragraph
 -- after the list (this project).
 abbrev pub title_closed : PassState → TreeIndex → PassState
 title_closed r title = definitions_closed (top_end r.tree) (with_tree r (with_body_at r.tree title ParagraphBody))
@@ -138,13 +138,13 @@ popped e r = popped_after e r (possible_title r.tree)
 -- The innermost open node is closed, if it is an empty item or definition and a counting blank line is directly
 -- before. It ends at the offset that is given, which is after the line of its marker. In any case, the state then
 -- records no empty item.
-abbrev pub item_finished_by : PassState → Option ℕ → PassState
-item_finished_by r None = r
-item_finished_by r (Some e) = record (if r.blank && is_item (top_body r.tree) then popped e r else r) { begin_list_item = None }
+abbrev pub empty_item_closed_by : PassState → Option ℕ → PassState
+empty_item_closed_by r None = r
+empty_item_closed_by r (Some e) = record (if r.blank && is_item (top_body r.tree) then popped e r else r) { begin_list_item = None }
 
 -- the same with the offset that the state records
-unfoldable pub item_finished : PassState → PassState
-item_finished r = item_finished_by r r.begin_list_item
+unfoldable pub empty_item_closed : PassState → PassState
+empty_item_closed r = empty_item_closed_by r r.begin_list_item
 
 -- the innermost open node is closed at an offset, if it is a list
 abbrev pub list_closed : ℕ → PassState → PassState
@@ -166,21 +166,21 @@ gap_tree f (ix ∷ outer ∷ rest) = loosened_at f outer
 
 -- If a counting blank line is before a block, and the block is directly in an item, the list of that item becomes
 -- loose. The blank line then no longer counts.
-abbrev pub gap_noted : PassState → PassState
-gap_noted r = if r.blank then record r { tree = gap_tree r.tree r.tree.spine; blank = false } else r
+abbrev pub gap_loosened : PassState → PassState
+gap_loosened r = if r.blank then record r { tree = gap_tree r.tree r.tree.spine; blank = false } else r
 
 -- The current node, right after a definition, turned out to be a heading or a table. The definition list is closed at
 -- an offset, and the current node is moved out of it. Suppose that a counting blank line is before the current node,
 -- and that the definition list is directly in an item of another list. Then that other list becomes loose
 -- (this project).
 unfoldable pub definitions_left : ℕ → PassState → PassState
-definitions_left e r = gap_noted (definitions_closed e r)
+definitions_left e r = gap_loosened (definitions_closed e r)
 
 -- The state when a new block is added. First an empty item is closed. If the innermost open node is then a list, it is
 -- closed at an offset. If a counting blank line is before a block directly in an item, the list of that item becomes
 -- loose.
 unfoldable pub list_finished : ℕ → PassState → PassState
-list_finished e r = gap_noted (list_closed e (item_finished r))
+list_finished e r = gap_loosened (list_closed e (empty_item_closed r))
 
 -- the innermost open node becomes loose, if it is a list
 abbrev pub loosened_top : Forest Item → List TreeIndex → Forest Item
@@ -205,8 +205,8 @@ with_current f body (Some c) = with_body_at f c body
 -- The current node, a paragraph right after a definition, becomes a possible title. The innermost open node, the
 -- definition list, records an offset, which is the end of that definition. A blank line before the paragraph no longer
 -- counts (this project).
-unfoldable pub title_kept : ℕ → PassState → PassState
-title_kept e r = record r { tree = with_end (with_current r.tree MaybeDefinitionListTitle r.tree.current) e (slice_get r.tree.spine 0); blank = false }
+unfoldable pub title_begun : ℕ → PassState → PassState
+title_begun e r = record r { tree = with_end (with_current r.tree MaybeDefinitionListTitle r.tree.current) e (slice_get r.tree.spine 0); blank = false }
 
 -- A `:` may begin a definition after the current node. Given are the bodies of the innermost open node and of the
 -- current node. After a paragraph it may, unless the innermost open node is a list. If that node is a definition list,
@@ -219,8 +219,8 @@ precedes_definition top (Some (DefinitionListDefinition columns)) = is_definitio
 precedes_definition top _ = false
 
 -- the same for a tree
-abbrev pub takes_definition : Forest Item → Bool
-takes_definition f = precedes_definition (top_body f) (current_body f)
+abbrev pub may_begin_definition : Forest Item → Bool
+may_begin_definition f = precedes_definition (top_body f) (current_body f)
 
 -- A paragraph that begins here may become the next title. This is so if the innermost open node is a definition list
 -- whose last child is not a possible title (this project).
@@ -256,14 +256,14 @@ definition_begun start indent r = begun start (DefinitionListDefinition indent) 
 -- is closed there too. If a counting blank line is before a footnote definition directly in an item, the list of that
 -- item becomes loose (this project).
 unfoldable pub footnote_begun : ℕ → CowIndex → PassState → PassState
-footnote_begun start label r = begun start (FootnoteDefinitionBody label) (gap_noted (footnote_left start (list_closed start (item_finished r))))
+footnote_begun start label r = begun start (FootnoteDefinitionBody label) (gap_loosened (footnote_left start (list_closed start (empty_item_closed r))))
 
 -- The state in which an item with this byte and number can be opened at an offset. First an empty item is closed. If
 -- the innermost open node is then a list with this byte, it continues. Otherwise what a new block ends is closed, and
 -- a new list is opened.
 unfoldable pub list_continued : ℕ → ℕ → ℕ → PassState → PassState
 list_continued start byte number r =
-    let s = item_finished r in
+    let s = empty_item_closed r in
     if is_list_of byte (top_body s.tree) then list_kept s else begun start (ListBody (list_flags true) byte number) (list_finished start s)
 
 -- the innermost open node, an item, takes only blank lines from now on

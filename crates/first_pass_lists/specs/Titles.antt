@@ -19,14 +19,14 @@ is_possible_title (Some MaybeDefinitionListTitle) = true
 is_possible_title _ = false
 
 -- the body of a title or of a definition, which are the children of a definition list (this project)
-abbrev pub is_in_group : ItemBody → Bool
-is_in_group DefinitionListTitle = true
-is_in_group (DefinitionListDefinition _) = true
-is_in_group _ = false
+abbrev pub is_title_or_definition : ItemBody → Bool
+is_title_or_definition DefinitionListTitle = true
+is_title_or_definition (DefinitionListDefinition _) = true
+is_title_or_definition _ = false
 
 -- a node of this depth that is neither a title nor a definition
 abbrev pub is_other_at : ℕ → (ℕ × Item) → Bool
-is_other_at d n = n.0 == d && not (is_in_group n.1.body)
+is_other_at d n = n.0 == d && not (is_title_or_definition n.1.body)
 
 -- The position of the first node of this depth that is neither a title nor a definition. The search starts at the
 -- position `from`. If there is no such node, the number of nodes.

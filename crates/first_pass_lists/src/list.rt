@@ -6,8 +6,8 @@
 //! `:` after it makes it the next title of the definition list. Otherwise it comes after that list (this project).
 
 ghost use Rattle.std.specs.Prelude.{◌≡◌, ◌==◌, ◌<◌, length, None, true, IsSome, slice_get, OnOk, IfSome, bit_and, if◌then◌else◌};
-ghost use Rattle.first_pass_lists.specs.Closing.{loosened_at, top_body, is_list, is_item, is_list_of, popped_at, popped, item_finished, list_closed, footnote_left, old_footnote_finished, footnote_begun, with_tree, gap_noted, list_finished, list_kept, list_continued, begun, blank_read, is_footnote};
-ghost use Rattle.first_pass_lists.specs.Closing.{is_definition_list, top_end, possible_title, title_closed, title_kept, definitions_closed, definitions_left, definitions_opened, definition_begun, takes_definition, is_after_definition};
+ghost use Rattle.first_pass_lists.specs.Closing.{loosened_at, top_body, is_list, is_item, is_list_of, popped_at, popped, empty_item_closed, list_closed, footnote_left, old_footnote_finished, footnote_begun, with_tree, gap_loosened, list_finished, list_kept, list_continued, begun, blank_read, is_footnote};
+ghost use Rattle.first_pass_lists.specs.Closing.{is_definition_list, top_end, possible_title, title_closed, title_begun, definitions_closed, definitions_left, definitions_opened, definition_begun, may_begin_definition, is_after_definition};
 ghost use Rattle.first_pass_tree.specs.Tight.{tight_items};
 ghost use Rattle.first_pass_open.specs.OpenBlock.{closed_by};
 ghost use Rattle.first_pass_items.specs.declared.item.ItemBody.TheVariants.{BlockQuote as BlockQuoteBody, ListItem as ListItemBody};
@@ -176,9 +176,9 @@ impl PassState {
     /// Makes the current node a possible title. It is a paragraph right after a definition, which ends at the offset
     /// `end`. The definition list, the innermost open node, records this end. A blank line before the paragraph no
     /// longer counts (this project).
-    #[tactic(auto, using(first_pass_open::proofs::BlockLemmas::open_node_in), unfolding(crate::specs::Closing::title_kept))]
+    #[tactic(auto, using(first_pass_open::proofs::BlockLemmas::open_node_in), unfolding(crate::specs::Closing::title_begun))]
     pub fn keep_possible_title(&mut self, end: usize)
-        ensures { self.new ≡ title_kept end self.old }
+        ensures { self.new ≡ title_begun end self.old }
     {
         self.tree.recall_forest();
         if let Some(title) = self.tree.cur() {
@@ -195,8 +195,8 @@ impl PassState {
     /// Whether a `:` may begin a definition after the current node. After a paragraph it may, unless the innermost
     /// open node is a list. If that node is a definition list, it may after a possible title, and after a definition
     /// whose indent is not 0. A definition with the indent 0 takes only blank lines (this project).
-    pub fn takes_definition(&self) -> bool
-        ensures { result ≡ takes_definition self.now.tree }
+    pub fn may_begin_definition(&self) -> bool
+        ensures { result ≡ may_begin_definition self.now.tree }
     {
         let Some(ix) = self.tree.cur() else {
             return false;
@@ -297,9 +297,9 @@ impl PassState {
     /// Closes the innermost open node, if it is an empty item or definition and a counting blank line is directly
     /// before. The node then ends after the line of its marker (CommonMark 5.2, and this project). In any case, the
     /// state then records no empty item.
-    #[tactic(auto, using(crate::proofs::WithinLemmas::item_is_open), unfolding(crate::specs::Closing::item_finished))]
+    #[tactic(auto, using(crate::proofs::WithinLemmas::item_is_open), unfolding(crate::specs::Closing::empty_item_closed))]
     pub fn finish_empty_list_item(&mut self)
-        ensures { self.new ≡ item_finished self.old }
+        ensures { self.new ≡ empty_item_closed self.old }
     {
         if let Some(marker_end) = self.begin_list_item {
             if self.blank && self.is_in_item() {
@@ -376,7 +376,7 @@ impl PassState {
     // becomes loose. The blank line then no longer counts.
     #[tactic(auto, using(crate::proofs::WithinLemmas::second_within))]
     fn mark_gap(&mut self)
-        ensures { self.new ≡ gap_noted self.old }
+        ensures { self.new ≡ gap_loosened self.old }
     {
         if self.blank {
             self.tree.recall_forest();

@@ -3,7 +3,7 @@
 
 ghost use Rattle.std.specs.Prelude.{◌≡◌, ◌<◌, ◌≤◌, length, Some};
 ghost use Rattle.first_pass_tree.specs.Forest.{body_at, depths, last_before};
-ghost use Rattle.first_pass_lists.specs.Titles.{first_other, fixed_up, is_in_group, is_possible_title, left_untitled};
+ghost use Rattle.first_pass_lists.specs.Titles.{first_other, fixed_up, is_title_or_definition, is_possible_title, left_untitled};
 
 use first_pass_items::item::{Item, ItemBody};
 use first_pass_tree::forest::Tree;
@@ -42,7 +42,7 @@ fn first_other(nodes: &[(usize, Item)], depth: usize, from: usize) -> usize
 {
     let mut place = from;
     while place < nodes.len() {
-        if nodes[place].0 == depth && !is_in_group(&nodes[place].1.body) {
+        if nodes[place].0 == depth && !is_title_or_definition(&nodes[place].1.body) {
             return place;
         }
         place += 1;
@@ -66,8 +66,8 @@ fn last_of_depth(nodes: &[(usize, Item)], depth: usize, before: usize) -> usize
 }
 
 // Whether this is the body of a title or of a definition.
-fn is_in_group(body: &ItemBody) -> bool
-    ensures { result ≡ is_in_group body.now }
+fn is_title_or_definition(body: &ItemBody) -> bool
+    ensures { result ≡ is_title_or_definition body.now }
 {
     matches!(
         body,

@@ -19,11 +19,11 @@ pub record AddsBetween (text : List ℕ) (from to : ℕ) (old new : Forest Item)
 
 -- Before a block that starts at the second offset: the first offset is not after the second. If a marker is given, it
 -- is a task list item marker between them.
-abbrev pub StandsBefore : List ℕ → ℕ → ℕ → Option Item → Type 0
-StandsBefore text from to None = from ≤ to
-StandsBefore text from to (Some x) = (is_task_marker x.body ≡ true) × IsBetween text from to (extent_of x)
+abbrev pub MarkerBetween : List ℕ → ℕ → ℕ → Option Item → Type 0
+MarkerBetween text from to None = from ≤ to
+MarkerBetween text from to (Some x) = (is_task_marker x.body ≡ true) × IsBetween text from to (extent_of x)
 
 -- if a task list item marker is given, the innermost open node is a list item (GFM 5.3)
-abbrev pub IsInItem : Forest Item → Option Item → Type 0
-IsInItem f None = Unit {0}
-IsInItem f (Some x) = is_in_item f ≡ true
+abbrev pub MarkerIsInItem : Forest Item → Option Item → Type 0
+MarkerIsInItem f None = Unit {0}
+MarkerIsInItem f (Some x) = is_in_item f ≡ true

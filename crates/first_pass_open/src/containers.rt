@@ -89,14 +89,14 @@ fn is_quote(body: ItemBody) -> bool
     matches!(body, ItemBody::BlockQuote(_))
 }
 
-// With fewer open nodes than this, `quotes_end` returns their number at once.
+// With fewer open nodes than this, `nodes_to_quote` returns their number at once.
 const MANY_OPEN: usize = 16;
 
 /// Returns a number n of open nodes, so that no block quote is open inside the outermost n. A line that ends after the
 /// prefixes of these n continues all other open nodes too (CommonMark 5.1, 5.2). If fewer than `MANY_OPEN` nodes are
 /// open, n is their number. Otherwise the innermost block quote is the last of the n; without a block quote, n is 0.
 /// The result is valid until a node is opened or closed.
-pub fn quotes_end(tree: &Tree<Item>) -> usize
+pub fn nodes_to_quote(tree: &Tree<Item>) -> usize
     ensures { (options : OptionSet) → has_quote_after options tree.now result ≡ false }
 {
     tree.recall_forest();
@@ -115,22 +115,22 @@ pub fn quotes_end(tree: &Tree<Item>) -> usize
 }
 
 /// Takes the prefixes of all open nodes from the first line of `bytes`, and returns the rest after them. Returns `None`
-/// if the line does not continue all these nodes (CommonMark 5). `quotes_end` is a number as the function of this name
-/// returns it: no block quote may be open inside the outermost `quotes_end` open nodes.
+/// if the line does not continue all these nodes (CommonMark 5). `nodes_to_quote` is a number as the function of this
+/// name returns it: no block quote may be open inside the outermost `nodes_to_quote` open nodes.
 #[inline(always)]
 pub fn continued_rest<'b>(
     bytes: &'b [u8],
     tree: &Tree<Item>,
     options: Options,
-    quotes_end: usize,
+    nodes_to_quote: usize,
 ) -> Option<LineStart<'b>>
-    requires { has_quote_after options tree.now quotes_end ≡ false }
+    requires { has_quote_after options tree.now nodes_to_quote ≡ false }
     ensures { result ≡ after (path_of options tree.now) (line_rest bytes.now) }
 {
     tree.recall_forest();
     let mut rest = LineStart::new(bytes);
     for (i, ix) in tree.walk_spine().iter().enumerate() {
-        if quotes_end <= i && rest.remaining_space() == 0 && rest.is_at_eol() {
+        if nodes_to_quote <= i && rest.remaining_space() == 0 && rest.is_at_eol() {
             return Some(rest);
         }
         if !takes_prefix(tree[*ix].body, &mut rest, options) {

@@ -98,17 +98,17 @@ pub fn scan_continued<'a>(
     Some(front.rest)
 }
 
-/// Returns the same as `scan_continued`. If the line ends after the prefixes of the outermost `quotes_end` open nodes,
-/// the call does not visit the open nodes inside them. None of those may be a block quote (CommonMark 5).
+/// Returns the same as `scan_continued`. If the line ends after the prefixes of the outermost `nodes_to_quote` open
+/// nodes, the call does not visit the open nodes inside them. None of those may be a block quote (CommonMark 5).
 #[inline(always)]
 pub fn scan_continued_past<'a>(
     source: &Source<'a>,
     tree: &Tree<Item>,
     start: usize,
-    quotes_end: usize,
+    nodes_to_quote: usize,
 ) -> Option<LineStart<'a>>
     requires boundary { IsCharBoundary source.now.text.now start }
-    requires quotes { has_quote_after source.now.options tree.now quotes_end ≡ false }
+    requires quotes { has_quote_after source.now.options tree.now nodes_to_quote ≡ false }
     ensures value { result
         ≡ after (path_of source.now.options tree.now) (line_rest (drop start source.now.text.now)) }
     ensures place { IfSome result (λ rest. IsPlaceOf source.now.text.now (place_at start rest)) }
@@ -118,7 +118,7 @@ pub fn scan_continued_past<'a>(
         rest_of(source.text.as_bytes(), start),
         tree,
         source.options,
-        quotes_end,
+        nodes_to_quote,
     )?;
     Some(rest)
 }

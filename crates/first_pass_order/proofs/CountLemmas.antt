@@ -23,21 +23,21 @@ use Rattle.first_pass_lines.proofs.PlaceFacts.{place_length}
 use Rattle.first_pass_grammar.specs.Derivation.{list_flags}
 use Rattle.first_pass_grammar.specs.Kinds.{Kind, Blank, is_blank_rest, first_kind, IsKindBy, IsKind}
 use Rattle.first_pass_grammar.specs.Openers.{task_by, task_after}
-use Rattle.first_pass_grammar.specs.Counting.{is_cell, is_row, last_cell, is_filled_after, own, counted_nodes}
+use Rattle.first_pass_grammar.specs.Counting.{is_cell, is_row, last_cell, is_inserted_after, own, counted_nodes}
 use Rattle.first_pass_grammar.specs.Order.{GrowsBy}
 use Rattle.first_pass_grammar.proofs.Count.CountedNodes.{alike_first, own_first, own_ended, own_changed, own_one, own_added}
 use Rattle.first_pass_open.specs.OpenBlock.{with_child}
 use Rattle.first_pass_open.proofs.PlaceLemmas.{option_on, task_shorter}
-use Rattle.first_pass_lists.specs.Closing.{popped_at, popped, item_finished}
+use Rattle.first_pass_lists.specs.Closing.{popped_at, popped, empty_item_closed}
 use Rattle.first_pass_lists.specs.Closing.{list_finished, list_kept, begun}
 use Rattle.first_pass_lists.specs.Closing.{blank_read, footnote_begun, with_tree, current_body, current_moved}
-use Rattle.first_pass_lists.specs.Closing.{definitions_closed, definitions_left, with_current, title_kept}
+use Rattle.first_pass_lists.specs.Closing.{definitions_closed, definitions_left, with_current, title_begun}
 use Rattle.first_pass_lists.specs.Closing.{definitions_by, definitions_at, definitions_opened, definition_begun}
 use Rattle.first_pass_items.specs.declared.item.CowIndex.{CowIndex}
 use Rattle.first_pass_lists.specs.declared.state.PassState.{PassState}
 use Rattle.first_pass_open.specs.OpenBlock.{begun_item}
 use Rattle.first_pass_order.proofs.AlikeNodes.{AreAlike, NoNodes, OneMore}
-use Rattle.first_pass_order.proofs.PropertyKept.{IsLeft, Property, HoldsAt, popped_at_keeps, popped_keeps, item_finished_keeps, noted_keeps, kept_keeps}
+use Rattle.first_pass_order.proofs.PropertyKept.{IsLeft, Property, HoldsAt, popped_at_keeps, popped_keeps, empty_item_closed_keeps, noted_keeps, kept_keeps}
 use Rattle.first_pass_order.proofs.PropertyKept.{blank_keeps}
 use Rattle.first_pass_order.proofs.PropertyKept.{list_finished_keeps, quote_keeps, item_keeps, note_keeps}
 use Rattle.first_pass_open.specs.Between.{AddsBetween}
@@ -51,7 +51,7 @@ count r = counted_nodes r.tree.nodes
 own_shallower : (cell : Option ℕ) (nodes : List (ℕ × Item)) → own cell (map shallower nodes) ≡ own cell nodes
 unfolding own
 own_shallower cell [] = refl
-own_shallower cell (n ∷ nodes) = ap (λ k. (if is_filled_after cell n.1 then 0 else 1) + k) (own_shallower (last_cell cell n.1) nodes)
+own_shallower cell (n ∷ nodes) = ap (λ k. (if is_inserted_after cell n.1 then 0 else 1) + k) (own_shallower (last_cell cell n.1) nodes)
 
 own_moved : (place : ℕ) (cell : Option ℕ) (nodes : List (ℕ × Item)) → own cell (map_from shallower place nodes) ≡ own cell nodes
 own_moved zero cell nodes = own_shallower cell nodes
@@ -89,8 +89,8 @@ counted r = record { holds = (let same : count r ≤ count r = omega arith in sa
 pub popped_count : (e most : ℕ) (r : PassState) → count r ≤ most → count (popped e r) ≤ most
 popped_count e most r h = popped_keeps count_kept 0 e most r (λ t is. tt) tt tt h
 
-pub item_finished_count : (r : PassState) → count (item_finished r) ≤ count r
-item_finished_count r = item_finished_keeps count_kept 0 (count r) r (counted r)
+pub empty_item_closed_count : (r : PassState) → count (empty_item_closed r) ≤ count r
+empty_item_closed_count r = empty_item_closed_keeps count_kept 0 (count r) r (counted r)
 
 pub list_finished_count : (e : ℕ) (r : PassState) → count (list_finished e r) ≤ count r
 list_finished_count e r = list_finished_keeps count_kept 0 e 0 (count r) r (counted r) (λ t is. tt) (λ list. tt) tt tt tt
@@ -137,16 +137,16 @@ title_count : (f : Forest Item) (o : Option TreeIndex) → option_and_then (λ i
 title_count f None is = refl
 title_count f (Some c) is = own_changed f.nodes c.0 Paragraph MaybeDefinitionListTitle is refl refl
 
-pub title_kept_count : (e : ℕ) (r : PassState) → current_body r.tree ≡ Some Paragraph → count (title_kept e r) ≡ count r
-unfolding title_kept
-title_kept_count e r is =
+pub title_begun_count : (e : ℕ) (r : PassState) → current_body r.tree ≡ Some Paragraph → count (title_begun e r) ≡ count r
+unfolding title_begun
+title_begun_count e r is =
     end_count (with_current r.tree MaybeDefinitionListTitle r.tree.current) e (slice_get r.tree.spine 0) ∙ title_count r.tree r.tree.current is
 
 -- a definition adds one node; with a new list, whose title was a paragraph, two
 own_deeper : (cell : Option ℕ) (nodes : List (ℕ × Item)) → own cell (map deeper nodes) ≡ own cell nodes
 unfolding own
 own_deeper cell [] = refl
-own_deeper cell (n ∷ nodes) = ap (λ k. (if is_filled_after cell n.1 then 0 else 1) + k) (own_deeper (last_cell cell n.1) nodes)
+own_deeper cell (n ∷ nodes) = ap (λ k. (if is_inserted_after cell n.1 then 0 else 1) + k) (own_deeper (last_cell cell n.1) nodes)
 
 filled_one : (t : Bool) (m : ℕ) → (if t then 0 else 1) + m ≤ m + 1
 filled_one true m = omega arith
@@ -158,9 +158,9 @@ unfolding own
 own_wrapped cell nodes zero d x cells rows =
     let same : last_cell cell x ≡ cell = rw (rows, cells) refl in
     let e : own (last_cell cell x) (map deeper nodes) ≡ own cell nodes = ap (λ c. own c (map deeper nodes)) same ∙ own_deeper cell nodes in
-    let most = filled_one (is_filled_after cell x) (own (last_cell cell x) (map deeper nodes)) in
+    let most = filled_one (is_inserted_after cell x) (own (last_cell cell x) (map deeper nodes)) in
     omega arith
-own_wrapped cell [] (suc j) d x cells rows = (let most = filled_one (is_filled_after cell x) 0 in omega arith)
+own_wrapped cell [] (suc j) d x cells rows = (let most = filled_one (is_inserted_after cell x) 0 in omega arith)
 own_wrapped cell (n ∷ nodes) (suc j) d x cells rows = (let h = own_wrapped (last_cell cell n.1) nodes j d x cells rows in omega arith)
 
 opened_by_count : (f : Forest Item) (c : TreeIndex) (start e : ℕ) (b : ItemBody) → body_at f.nodes c.0 ≡ Some b

@@ -19,7 +19,7 @@ use Rattle.first_pass_grammar.specs.Order.{Node, laid}
 use Rattle.first_pass_grammar.specs.OpenOrder.{laid_open, AreAt, FitsOpen, IsOrderedTo}
 use Rattle.first_pass_grammar.proofs.Order.Orders.{laid_open-beside, laid_open-level, length-places}
 use Rattle.first_pass_order.proofs.RowSplits.{last_child, fits_open_titled, as_list, open_definitions, laid-deeper, extents-deeper}
-use Rattle.first_pass_lists.specs.Closing.{with_tree, top_body, is_list, precedes_definition, takes_definition, list_kept}
+use Rattle.first_pass_lists.specs.Closing.{with_tree, top_body, is_list, precedes_definition, may_begin_definition, list_kept}
 use Rattle.first_pass_lists.specs.Closing.{definitions_by, definitions_at, definitions_opened, definition_begun, is_definition_list as is_definitions}
 use Rattle.first_pass_lists.specs.declared.state.PassState.{PassState}
 use Rattle.first_pass_order.specs.Ordered.{top_of, AreNested}
@@ -272,7 +272,7 @@ opened_with text f a (Some c) forest current may h =
     opened_at text f a c (item_at f c) forest current refl (ap (precedes_definition (top_body f)) (sym (body_item (slice_get f.nodes c.0))) ∙ may) h
 
 -- a definition is opened at an offset
-pub ordered_definition : (text : List ℕ) (r : PassState) (a start columns : ℕ) → IsForest r.tree → takes_definition r.tree ≡ true → a ≤ start
+pub ordered_definition : (text : List ℕ) (r : PassState) (a start columns : ℕ) → IsForest r.tree → may_begin_definition r.tree ≡ true → a ≤ start
     → start ≤ length text → IsCharBoundary text start → IsOrderedTo text r.tree a → AreNested r.tree.nodes r.tree.spine
     → IsOrderedTo text (definition_begun start columns r).tree start × IsSettled (definition_begun start columns r)
 unfolding definition_begun

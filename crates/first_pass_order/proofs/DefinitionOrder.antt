@@ -23,8 +23,8 @@ use Rattle.first_pass_grammar.proofs.Order.Orders.{ended_at, extents-append, len
 use Rattle.first_pass_grammar.proofs.Order.Orders.{length-places, below_ended, extents-ended, between-any}
 use Rattle.first_pass_order.proofs.RowSplits.{last_child, fits_open_ends}
 use Rattle.first_pass_open.specs.Between.{AddsBetween}
-use Rattle.first_pass_lists.specs.Closing.{with_tree, gap_noted, top_body, current_body, top_end}
-use Rattle.first_pass_lists.specs.Closing.{definitions_closed, possible_title, definitions_left, title_kept, is_after_definition}
+use Rattle.first_pass_lists.specs.Closing.{with_tree, gap_loosened, top_body, current_body, top_end}
+use Rattle.first_pass_lists.specs.Closing.{definitions_closed, possible_title, definitions_left, title_begun, is_after_definition}
 use Rattle.first_pass_lists.specs.Closing.{is_definition_list as is_definitions}
 use Rattle.first_pass_lists.specs.declared.state.PassState.{PassState}
 use Rattle.first_pass_order.specs.Ordered.{top_of, AreNested, EndsBeforeLast, EndsBeforeTitle, HasDefinition, CanClose, IsReadTo}
@@ -32,7 +32,7 @@ use Rattle.first_pass_order.proofs.Nests.{classes_body, classes_ended, nested_sa
 use Rattle.first_pass_order.proofs.Nests.{title_there, definitions_closed_outside, noted_outside, outside_closes, nested_front, top_front}
 use Rattle.first_pass_order.proofs.OrderLemmas.{ordered_same, ordered_added, ordered_none}
 use Rattle.first_pass_order.proofs.OrderLemmas.{LiesIn, lies_in, extents-body}
-use Rattle.first_pass_order.proofs.PopOrder.{ordered_gap_noted, noted_empty}
+use Rattle.first_pass_order.proofs.PopOrder.{ordered_gap_loosened, noted_empty}
 use Rattle.first_pass_order.proofs.AlikeNodes.{LooksAlike, like_itself}
 use Rattle.first_pass_order.proofs.PropertyKept.{IsLeft, is_left}
 use Rattle.first_pass_order.proofs.LeftOrder.{extents-end, modify-front, end_there, left_ordered}
@@ -325,13 +325,13 @@ module _ (text : List ℕ) (r : PassState) (read : Forest Item) (at start next :
       let top = ap is_definitions (top_front r.tree.nodes (at_depth (length r.tree.spine + 1) items) r.tree.spine closes.nested) ∙ list_top in
       let outside = noted_outside shut (definitions_closed_outside e a more top) in
       subst (λ (z : Forest Item). IsReadTo text (definitions_left e (with_tree r z)) next) (sym the_block.tree_is) (
-        ordered_none text (gap_noted shut) next (noted_empty shut ∙ closed_none e a none) within (ordered_gap_noted text shut next closed),
-        outside_closes text (gap_noted shut) next outside,
+        ordered_none text (gap_loosened shut) next (noted_empty shut ∙ closed_none e a none) within (ordered_gap_loosened text shut next closed),
+        outside_closes text (gap_loosened shut) next outside,
       )
 
-  title_kept_read : current_body read ≡ Some Paragraph → IsReadTo text (title_kept the_definition.definition.«end» (with_tree r read)) next
-  unfolding title_kept kept_tree
-  title_kept_read paragraph =
+  title_begun_read : current_body read ≡ Some Paragraph → IsReadTo text (title_begun the_definition.definition.«end» (with_tree r read)) next
+  unfolding title_begun kept_tree
+  title_begun_read paragraph =
       let e : ℕ = the_definition.definition.«end» in
       let items : List (ℕ × Item) = the_block.items in
       let ix : TreeIndex = the_definition.place in
@@ -340,11 +340,11 @@ module _ (text : List ℕ) (r : PassState) (read : Forest Item) (at start next :
       sym (ap (λ (f : Forest Item). current_body f) the_block.tree_is) ∙ paragraph in
       let kept : Forest Item =
       kept_tree text r.tree ix rest the_definition.spine place_within items e next ordered_before.0 ordered_before.2 block_fits within in
-      let same : (title_kept e (with_tree r (added r.tree items))).tree ≡ kept =
+      let same : (title_begun e (with_tree r (added r.tree items))).tree ≡ kept =
       ap (λ (s : List TreeIndex). with_end (with_body_at (added r.tree items) (record { 0 = length r.tree.nodes }) MaybeDefinitionListTitle) e (slice_get s 0))
       the_definition.spine in
-      subst (λ (z : Forest Item). IsReadTo text (title_kept e (with_tree r z)) next) (sym the_block.tree_is) (
-        ordered_none text (title_kept e (with_tree r (added r.tree items))) next none within
+      subst (λ (z : Forest Item). IsReadTo text (title_begun e (with_tree r z)) next) (sym the_block.tree_is) (
+        ordered_none text (title_begun e (with_tree r (added r.tree items))) next none within
             (subst (λ (z : Forest Item). IsOrderedTo text z next) (sym same)
             (kept_ordered text r.tree ix rest the_definition.spine place_within items e next ordered_before.0 ordered_before.2 block_fits within there)),
         subst (λ (z : Forest Item). CanClose text z next) (sym same)
@@ -358,6 +358,6 @@ module _ (text : List ℕ) (r : PassState) (read : Forest Item) (at start next :
   read_definitions_left e is = subst (λ z. IsReadTo text (definitions_left z (with_tree r read)) next) (sym last_end ∙ is) definitions_left_read
 
   -- a paragraph: it is a possible title
-  pub read_title_kept : (e : ℕ) → option_map_or (λ x. x.«end») (option_and_then (item_at r.tree) r.tree.current) 0 ≡ e
-      → current_body read ≡ Some Paragraph → IsReadTo text (title_kept e (with_tree r read)) next
-  read_title_kept e is paragraph = subst (λ z. IsReadTo text (title_kept z (with_tree r read)) next) (sym last_end ∙ is) (title_kept_read paragraph)
+  pub read_title_begun : (e : ℕ) → option_map_or (λ x. x.«end») (option_and_then (item_at r.tree) r.tree.current) 0 ≡ e
+      → current_body read ≡ Some Paragraph → IsReadTo text (title_begun e (with_tree r read)) next
+  read_title_begun e is paragraph = subst (λ z. IsReadTo text (title_begun z (with_tree r read)) next) (sym last_end ∙ is) (title_begun_read paragraph)

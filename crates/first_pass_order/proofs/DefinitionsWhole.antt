@@ -19,7 +19,7 @@ use Rattle.first_pass_grammar.specs.Names.{Names}
 use Rattle.first_pass_grammar.specs.WholeTables.{Mark, shown, marks, ShowsNothing, AreEachNode, SilentFrom, may_be_title, HaveNoRows, IsSilentLast}
 use Rattle.first_pass_grammar.specs.WholeTables.{HasWholeTables}
 use Rattle.first_pass_completion.proofs.SilentNodes.{marks_modified, none_shown, from_at, from_modified}
-use Rattle.first_pass_lists.specs.Closing.{with_tree, current_body, with_current, title_kept, list_kept, definitions_by, definitions_at, definitions_opened}
+use Rattle.first_pass_lists.specs.Closing.{with_tree, current_body, with_current, title_begun, list_kept, definitions_by, definitions_at, definitions_opened}
 use Rattle.first_pass_lists.specs.Closing.{definition_begun}
 use Rattle.first_pass_lists.specs.declared.state.PassState.{PassState}
 use Rattle.first_pass_order.proofs.DefinitionBegun.{take_front, here_within, list_length}
@@ -155,6 +155,6 @@ module _ (names : Names) where
         last = ended_last g e (slice_get f.spine 0) c current still;
       }
 
-  pub title_kept_whole : (e : ℕ) (r : PassState) → current_body r.tree ≡ Some Paragraph → IsReadWhole names r → IsReadWhole names (title_kept e r)
-  unfolding title_kept
-  title_kept_whole e r is h = kept_by e r r.tree.current refl is h
+  pub title_begun_whole : (e : ℕ) (r : PassState) → current_body r.tree ≡ Some Paragraph → IsReadWhole names r → IsReadWhole names (title_begun e r)
+  unfolding title_begun
+  title_begun_whole e r is h = kept_by e r r.tree.current refl is h

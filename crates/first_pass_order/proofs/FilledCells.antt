@@ -7,7 +7,7 @@ use Rattle.first_pass_items.specs.declared.item.Item.{Item}
 use Rattle.first_pass_items.specs.declared.item.ItemBody.{ItemBody}
 use Rattle.first_pass_items.specs.declared.item.ItemBody.TheVariants.{Table, TableHead, TableRow, TableCell}
 use Rattle.first_pass_grammar.specs.Names.{Names}
-use Rattle.first_pass_grammar.specs.Counting.{is_cell, is_filled_after, own, counted_nodes, is_filled, filled_in_row, filled_cells}
+use Rattle.first_pass_grammar.specs.Counting.{is_cell, is_inserted_after, own, counted_nodes, is_inserted, inserted_in_row, inserted_cells}
 use Rattle.first_pass_grammar.specs.WholeTables.{Mark, ATable, ARow, ACell, shown, marks, RowCells, row_marks, TableRows, table_marks, StartApart, HaveCells}
 use Rattle.first_pass_grammar.specs.WholeTables.{AreFull, AreWholeTables}
 
@@ -43,7 +43,7 @@ at_end «end» [] = 0
 at_end «end» (m ∷ ms) = (if starts_at «end» m then 1 else 0) + at_end (end_after «end» m) ms
 
 -- one of the two counts each node
-filled_is : (cell : Option ℕ) (start e : ℕ) → is_filled_after cell (record { start = start; «end» = e; body = TableCell }) ≡ is_at cell start
+filled_is : (cell : Option ℕ) (start e : ℕ) → is_inserted_after cell (record { start = start; «end» = e; body = TableCell }) ≡ is_at cell start
 filled_is None start e = refl
 filled_is (Some at) start e = refl
 
@@ -51,7 +51,7 @@ one_or_other : (t : Bool) (m k n : ℕ) → m + k ≡ n → (if t then 0 else 1)
 one_or_other true m k n h = omega arith
 one_or_other false m k n h = omega arith
 
-plain_past : (cell : Option ℕ) (x : Item) → is_cell x.body ≡ false → is_filled_after cell x ≡ false
+plain_past : (cell : Option ℕ) (x : Item) → is_cell x.body ≡ false → is_inserted_after cell x ≡ false
 plain_past None x h = refl
 plain_past (Some at) x h = rw h refl
 
@@ -86,18 +86,18 @@ counted names cell [] = refl
 counted names cell (n ∷ nodes) = counted_with names cell n.0 n.1.start n.1.«end» n.1.body nodes (λ after. counted names after nodes)
 
 -- the cells at their row's end are the filled ones
-filled_at : («end» : Option ℕ) (start e : ℕ) → is_filled «end» (record { start = start; «end» = e; body = TableCell }) ≡ is_at «end» start
+filled_at : («end» : Option ℕ) (start e : ℕ) → is_inserted «end» (record { start = start; «end» = e; body = TableCell }) ≡ is_at «end» start
 filled_at None start e = refl
 filled_at (Some at) start e = refl
 
-unfilled : («end» : Option ℕ) (x : Item) → is_cell x.body ≡ false → is_filled «end» x ≡ false
+unfilled : («end» : Option ℕ) (x : Item) → is_cell x.body ≡ false → is_inserted «end» x ≡ false
 unfilled None x h = refl
 unfilled (Some at) x h = rw h refl
 
 filled_with : (names : Names) («end» : Option ℕ) (depth start e : ℕ) (b : ItemBody) (nodes : List (ℕ × Item))
-    → ((after : Option ℕ) → filled_in_row after nodes ≡ at_end after (marks names nodes))
-    → filled_in_row «end» ((depth, record { start = start; «end» = e; body = b }) ∷ nodes) ≡ at_end «end» (shown names depth start e b ++ marks names nodes)
-unfolding filled_in_row at_end
+    → ((after : Option ℕ) → inserted_in_row after nodes ≡ at_end after (marks names nodes))
+    → inserted_in_row «end» ((depth, record { start = start; «end» = e; body = b }) ∷ nodes) ≡ at_end «end» (shown names depth start e b ++ marks names nodes)
+unfolding inserted_in_row at_end
 filled_with names end depth start e (Table ix) nodes h =
     (let rest = h end in let none = unfilled end (record { start = start; «end» = e; body = Table ix }) refl in rw none (omega arith))
 filled_with names end depth start e TableHead nodes h =
@@ -108,8 +108,8 @@ filled_with names end depth start e TableCell nodes h = rw (filled_at end start 
 filled_with names end depth start e b nodes h =
     (let rest = h end in let none = unfilled end (record { start = start; «end» = e; body = b }) refl in rw none (omega arith))
 
-filled_are : (names : Names) («end» : Option ℕ) (nodes : List (ℕ × Item)) → filled_in_row «end» nodes ≡ at_end «end» (marks names nodes)
-unfolding filled_in_row at_end marks
+filled_are : (names : Names) («end» : Option ℕ) (nodes : List (ℕ × Item)) → inserted_in_row «end» nodes ≡ at_end «end» (marks names nodes)
+unfolding inserted_in_row at_end marks
 filled_are names end [] = refl
 filled_are names end (n ∷ nodes) = filled_with names end n.0 n.1.start n.1.«end» n.1.body nodes (λ after. filled_are names after nodes)
 
@@ -157,7 +157,7 @@ tables_few [] full = λ cell end. omega arith
 tables_few (table ∷ tables) full =
     λ cell end. (let rows = rows_few table.columns (suc table.depth) table.rows (table_marks tables) full.0 (tables_few tables full.2) cell end in omega arith)
 
-pub all_nodes : (names : Names) (nodes : List (ℕ × Item)) → AreWholeTables names nodes → length nodes ≤ counted_nodes nodes + filled_cells nodes
+pub all_nodes : (names : Names) (nodes : List (ℕ × Item)) → AreWholeTables names nodes → length nodes ≤ counted_nodes nodes + inserted_cells nodes
 unfolding AreWholeTables
 all_nodes names nodes (tables, are, full) =
     let sum = counted names None nodes in

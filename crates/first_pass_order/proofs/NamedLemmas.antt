@@ -26,13 +26,13 @@ use Rattle.first_pass_names.proofs.NameLemmas.{extends_none}
 use Rattle.first_pass_open.specs.Path.{path_of}
 use Rattle.first_pass_order.specs.LeafBlocks.{AddsKind}
 use Rattle.first_pass_order.proofs.AlikeNodes.{AreAlike, NoNodes, OneMore}
-use Rattle.first_pass_order.proofs.PropertyKept.{IsLeft, Property, HoldsAt, popped_keeps, item_finished_keeps, kept_keeps, blank_keeps}
+use Rattle.first_pass_order.proofs.PropertyKept.{IsLeft, Property, HoldsAt, popped_keeps, empty_item_closed_keeps, kept_keeps, blank_keeps}
 use Rattle.first_pass_order.proofs.PropertyKept.{list_finished_keeps, list_continued_keeps, quote_keeps, item_keeps, note_keeps}
 use Rattle.first_pass_open.specs.OpenBlock.{with_child, begun_item}
-use Rattle.first_pass_lists.specs.Closing.{list_continued, popped, item_finished}
+use Rattle.first_pass_lists.specs.Closing.{list_continued, popped, empty_item_closed}
 use Rattle.first_pass_lists.specs.Closing.{list_finished, list_kept, begun}
 use Rattle.first_pass_lists.specs.Closing.{blank_read, footnote_begun, with_tree}
-use Rattle.first_pass_lists.specs.Closing.{with_current, title_kept}
+use Rattle.first_pass_lists.specs.Closing.{with_current, title_begun}
 use Rattle.first_pass_lists.specs.Closing.{definitions_by, definitions_at, definitions_opened, definition_begun}
 use Rattle.first_pass_items.specs.declared.item.CowIndex.{CowIndex}
 use Rattle.first_pass_lists.specs.declared.state.PassState.{PassState}
@@ -106,8 +106,8 @@ module _ (names : Names) where
   pub popped_named : (e : ℕ) (r : PassState) → AreReadNamed r → AreReadNamed (popped e r)
   popped_named e r h = popped_keeps named_kept 0 e 0 r (λ t is. tt) tt tt h
 
-  pub item_finished_named : (r : PassState) → AreReadNamed r → AreReadNamed (item_finished r)
-  item_finished_named r h = item_finished_keeps named_kept 0 0 r (named_at r h)
+  pub empty_item_closed_named : (r : PassState) → AreReadNamed r → AreReadNamed (empty_item_closed r)
+  empty_item_closed_named r h = empty_item_closed_keeps named_kept 0 0 r (named_at r h)
 
   pub list_finished_named : (e : ℕ) (r : PassState) → AreReadNamed r → AreReadNamed (list_finished e r)
   list_finished_named e r h = list_finished_keeps named_kept 0 e 0 0 r (named_at r h) (λ t is. tt) (λ list. tt) tt tt tt
@@ -138,9 +138,9 @@ module _ (names : Names) where
   title_named f None h = h
   title_named f (Some c) h = body_named f c MaybeDefinitionListTitle tt h
 
-  pub title_kept_named : (e : ℕ) (r : PassState) → AreReadNamed r → AreReadNamed (title_kept e r)
-  unfolding title_kept
-  title_kept_named e r h =
+  pub title_begun_named : (e : ℕ) (r : PassState) → AreReadNamed r → AreReadNamed (title_begun e r)
+  unfolding title_begun
+  title_begun_named e r h =
       end_named (with_current r.tree MaybeDefinitionListTitle r.tree.current) e (slice_get r.tree.spine 0) (title_named r.tree r.tree.current h)
 
   -- a definition, in the open list or in a new one

@@ -24,7 +24,7 @@ use Rattle.first_pass_lists.specs.Closing.{state_with, with_tree, loosened_by, l
 use Rattle.first_pass_lists.specs.Closing.{is_footnote}
 use Rattle.first_pass_lists.specs.Closing.{popped_at, current_moved, definitions_closed, title_by, possible_title, title_closed, top_end}
 use Rattle.first_pass_lists.specs.Closing.{popped_after}
-use Rattle.first_pass_lists.specs.Closing.{popped, item_finished_by, item_finished, list_closed, footnote_left, gap_noted, list_finished}
+use Rattle.first_pass_lists.specs.Closing.{popped, empty_item_closed_by, empty_item_closed, list_closed, footnote_left, gap_loosened, list_finished}
 use Rattle.first_pass_lists.specs.Closing.{loosened_top, list_kept, begun, footnote_begun, list_continued, blank_read_by}
 use Rattle.first_pass_lists.specs.Closing.{blank_read}
 use Rattle.first_pass_lists.specs.declared.state.PassState.{PassState}
@@ -405,25 +405,26 @@ popped_nested : (e : ℕ) (r : PassState) → is_item (top_body r.tree) ≡ true
 popped_nested e r item h = popped_settled e r h (λ list. absurd (true≢false (sym item ∙ definitions_other (top_body r.tree) list)))
 
 finished_by_nested : (r : PassState) (o : Option ℕ) → AreNested r.tree.nodes r.tree.spine
-    → AreNested (item_finished_by r o).tree.nodes (item_finished_by r o).tree.spine
+    → AreNested (empty_item_closed_by r o).tree.nodes (empty_item_closed_by r o).tree.spine
 finished_by_nested r None h = h
 finished_by_nested r (Some e) h =
     cond_both (r.blank && is_item (top_body r.tree)) (popped e r) r (λ (q : PassState). AreNested q.tree.nodes q.tree.spine)
     (λ b. (popped_nested e r (and_parts r.blank (is_item (top_body r.tree)) b).1 h).nested) (λ b. h)
 
-finished_by_last : (r : PassState) (o : Option ℕ) → AreNested r.tree.nodes r.tree.spine → HasDefinition r.tree → HasDefinition (item_finished_by r o).tree
+finished_by_last : (r : PassState) (o : Option ℕ) → AreNested r.tree.nodes r.tree.spine → HasDefinition r.tree → HasDefinition (empty_item_closed_by r o).tree
 finished_by_last r None h last = last
 finished_by_last r (Some e) h last =
     cond_both (r.blank && is_item (top_body r.tree)) (popped e r) r (λ (q : PassState). HasDefinition q.tree)
     (λ b. (popped_nested e r (and_parts r.blank (is_item (top_body r.tree)) b).1 h).last) (λ b. last)
 
-pub item_finished_last : (r : PassState) → AreNested r.tree.nodes r.tree.spine → HasDefinition r.tree → HasDefinition (item_finished r).tree
-unfolding item_finished
-item_finished_last r h last = finished_by_last r r.begin_list_item h last
+pub empty_item_closed_last : (r : PassState) → AreNested r.tree.nodes r.tree.spine → HasDefinition r.tree → HasDefinition (empty_item_closed r).tree
+unfolding empty_item_closed
+empty_item_closed_last r h last = finished_by_last r r.begin_list_item h last
 
-pub item_finished_nested : (r : PassState) → AreNested r.tree.nodes r.tree.spine → AreNested (item_finished r).tree.nodes (item_finished r).tree.spine
-unfolding item_finished
-item_finished_nested r h = finished_by_nested r r.begin_list_item h
+pub empty_item_closed_nested : (r : PassState) → AreNested r.tree.nodes r.tree.spine
+    → AreNested (empty_item_closed r).tree.nodes (empty_item_closed r).tree.spine
+unfolding empty_item_closed
+empty_item_closed_nested r h = finished_by_nested r r.begin_list_item h
 
 -- closing an innermost list
 left_by : (e : ℕ) (r : PassState) (t : Bool) → is_list (top_body r.tree) ≡ t → AreNested r.tree.nodes r.tree.spine → IsOutside (if t then popped e r else r)
@@ -450,13 +451,13 @@ like_list f g a = ap (λ s. is_list (top_of g.nodes s)) a.spine ∙ top_list_sam
 pub like_item : (f g : Forest Item) → LooksAlike f g → is_item (top_body g) ≡ is_item (top_body f)
 like_item f g a = ap (λ s. is_item (top_of g.nodes s)) a.spine ∙ top_item_same f.nodes g.nodes f.spine (classes_alike f.nodes g.nodes a.nodes)
 
-pub noted_outside : (r : PassState) → IsOutside r → IsOutside (gap_noted r)
-noted_outside r h = (like_nested r.tree (gap_noted r).tree (like_noted r) h.0, like_list r.tree (gap_noted r).tree (like_noted r) ∙ h.1)
+pub noted_outside : (r : PassState) → IsOutside r → IsOutside (gap_loosened r)
+noted_outside r h = (like_nested r.tree (gap_loosened r).tree (like_noted r) h.0, like_list r.tree (gap_loosened r).tree (like_noted r) ∙ h.1)
 
 -- before a block that ends a list
 pub list_finished_outside : (e : ℕ) (r : PassState) → AreNested r.tree.nodes r.tree.spine → IsOutside (list_finished e r)
 unfolding list_finished
-list_finished_outside e r h = noted_outside (list_closed e (item_finished r)) (list_left_outside e (item_finished r) (item_finished_nested r h))
+list_finished_outside e r h = noted_outside (list_closed e (empty_item_closed r)) (list_left_outside e (empty_item_closed r) (empty_item_closed_nested r h))
 
 -- opening a container
 last_there : (nodes : List (ℕ × Item)) (n : ℕ × Item) → body_at (nodes ++ n ∷ []) (length nodes) ≡ Some n.1.body
@@ -521,8 +522,8 @@ kept_other r other =
 pub list_continued_settled : (start byte number : ℕ) (r : PassState) → AreNested r.tree.nodes r.tree.spine → IsSettled (list_continued start byte number r)
 unfolding list_continued
 list_continued_settled start byte number r h =
-    let s : PassState = item_finished r in
-    let k = item_finished_nested r h in
+    let s : PassState = empty_item_closed r in
+    let k = empty_item_closed_nested r h in
     let body : ItemBody = ListBody (list_flags true) byte number in
     let kept : is_list_of byte (top_body s.tree) ≡ true → IsSettled (list_kept s) =
     (λ list. let other = kept_other s (list_of_other byte (top_body s.tree) list) in
@@ -537,10 +538,10 @@ list_continued_settled start byte number r h =
 pub footnote_begun_settled : (start : ℕ) (index : CowIndex) (r : PassState) → AreNested r.tree.nodes r.tree.spine → IsSettled (footnote_begun start index r)
 unfolding footnote_begun
 footnote_begun_settled start index r h =
-    let s : PassState = item_finished r in
+    let s : PassState = empty_item_closed r in
     let q : PassState = footnote_left start (list_closed start s) in
-    begun_outside start (FootnoteDefinitionBody index) (gap_noted q) refl
-    (noted_outside q (footnote_left_outside start (list_closed start s) (list_left_outside start s (item_finished_nested r h))))
+    begun_outside start (FootnoteDefinitionBody index) (gap_loosened q) refl
+    (noted_outside q (footnote_left_outside start (list_closed start s) (list_left_outside start s (empty_item_closed_nested r h))))
 
 -- the marker of a task, and a block that is added
 pub child_outside : (f : Forest Item) (marker : Option Item) → AreNested f.nodes f.spine → is_list (top_body f) ≡ false

@@ -12,19 +12,19 @@ use Rattle.first_pass_tree.specs.Forest.{Forest, with_body_at, body_at}
 use Rattle.first_pass_grammar.specs.OpenOrder.{IsOrderedTo}
 use Rattle.first_pass_open.specs.OpenBlock.{closed_by}
 use Rattle.first_pass_lists.specs.Closing.{with_tree, top_body, is_list, is_item, popped_at, current_moved}
-use Rattle.first_pass_lists.specs.Closing.{definitions_closed, top_end, possible_title, title_closed, popped_after, popped, item_finished}
+use Rattle.first_pass_lists.specs.Closing.{definitions_closed, top_end, possible_title, title_closed, popped_after, popped, empty_item_closed}
 use Rattle.first_pass_lists.specs.Closing.{gap_tree, list_finished, list_kept, list_continued}
-use Rattle.first_pass_lists.specs.Closing.{blank_read_by, blank_read, gap_noted, footnote_begun}
+use Rattle.first_pass_lists.specs.Closing.{blank_read_by, blank_read, gap_loosened, footnote_begun}
 use Rattle.first_pass_items.specs.declared.item.CowIndex.{CowIndex}
 use Rattle.first_pass_lists.specs.declared.state.PassState.{PassState}
 use Rattle.first_pass_order.specs.Ordered.{reached, IsOrderedAt, EndsBeforeTitle, IsReadTo}
 use Rattle.first_pass_order.proofs.AlikeNodes.{like_blank}
-use Rattle.first_pass_order.proofs.Nests.{title_there, popped_settled, item_finished_nested, like_item, like_nested}
-use Rattle.first_pass_order.proofs.Nests.{item_finished_last, blank_last, settled_closes, outside_closes, list_finished_outside, list_continued_settled}
+use Rattle.first_pass_order.proofs.Nests.{title_there, popped_settled, empty_item_closed_nested, like_item, like_nested}
+use Rattle.first_pass_order.proofs.Nests.{empty_item_closed_last, blank_last, settled_closes, outside_closes, list_finished_outside, list_continued_settled}
 use Rattle.first_pass_order.proofs.Nests.{footnote_begun_settled}
 use Rattle.first_pass_order.proofs.LeftOrder.{title_later, order_kept, ordered_at, may_leave}
 use Rattle.std.proofs.lemmas.Bool.{true≢false}
-use Rattle.first_pass_order.proofs.PropertyKept.{popped_here, item_finished_keeps, item_finished_leaves, noted_keeps, kept_keeps, blank_keeps, no_item_list}
+use Rattle.first_pass_order.proofs.PropertyKept.{popped_here, empty_item_closed_keeps, empty_item_closed_leaves, noted_keeps, kept_keeps, blank_keeps, no_item_list}
 use Rattle.first_pass_lists.proofs.NoEmptyItem.{finished_none, popped_at_none}
 use Rattle.first_pass_order.proofs.PropertyKept.{list_finished_keeps, list_continued_keeps, note_keeps}
 use Rattle.first_pass_lists.proofs.NoEmptyItem.{list_finished_none, list_continued_none}
@@ -42,7 +42,7 @@ title_empty r title none =
     let g : Forest Item = with_body_at r.tree title Paragraph in
     empty_moved (popped_at (top_end r.tree) (with_tree r g) g.spine) g.current ∙ popped_at_none (top_end r.tree) (with_tree r g) g.spine none
 
-pub noted_empty : (r : PassState) → (gap_noted r).begin_list_item ≡ r.begin_list_item
+pub noted_empty : (r : PassState) → (gap_loosened r).begin_list_item ≡ r.begin_list_item
 noted_empty r =
     cond_both r.blank (record r { tree = gap_tree r.tree r.tree.spine; blank = false }) r (λ (q : PassState). q.begin_list_item ≡ r.begin_list_item)
     (λ b. refl) (λ b. refl)
@@ -89,17 +89,17 @@ ordered_popped text r at e closes later within ends h =
     (omega arith, within) ends)
 
 -- an item that began with two blank lines is finished
-pub ordered_item_finished : (text : List ℕ) (r : PassState) (at : ℕ) → IsOrderedAt text r at → IsOrderedAt text (item_finished r) at
-ordered_item_finished text r at h =
-    ordered_none text (item_finished r) at (finished_none r) h.within (item_finished_keeps (order_kept text) at 0 r (ordered_at text r at h))
+pub ordered_empty_item_closed : (text : List ℕ) (r : PassState) (at : ℕ) → IsOrderedAt text r at → IsOrderedAt text (empty_item_closed r) at
+ordered_empty_item_closed text r at h =
+    ordered_none text (empty_item_closed r) at (finished_none r) h.within (empty_item_closed_keeps (order_kept text) at 0 r (ordered_at text r at h))
 
-item_finished_closes : (text : List ℕ) (r : PassState) (at : ℕ) → EndsBeforeTitle text r.tree at → EndsBeforeTitle text (item_finished r).tree at
-item_finished_closes text r at h title is =
-    let l = item_finished_leaves (order_kept text) at r (may_leave text r.tree at h) title is in
+empty_item_closed_closes : (text : List ℕ) (r : PassState) (at : ℕ) → EndsBeforeTitle text r.tree at → EndsBeforeTitle text (empty_item_closed r).tree at
+empty_item_closed_closes text r at h title is =
+    let l = empty_item_closed_leaves (order_kept text) at r (may_leave text r.tree at h) title is in
     record { before = l.before; ends = l.ends; row = l.row; last = l.last; fits = l.fits }
 
-pub ordered_gap_noted : (text : List ℕ) (r : PassState) (a : ℕ) → IsOrderedTo text r.tree a → IsOrderedTo text (gap_noted r).tree a
-ordered_gap_noted text r a h = noted_keeps (order_kept text) a 0 r h
+pub ordered_gap_loosened : (text : List ℕ) (r : PassState) (a : ℕ) → IsOrderedTo text r.tree a → IsOrderedTo text (gap_loosened r).tree a
+ordered_gap_loosened text r a h = noted_keeps (order_kept text) a 0 r h
 
 -- a list that continues
 pub ordered_list_kept : (text : List ℕ) (r : PassState) (a : ℕ) → IsOrderedTo text r.tree a → IsOrderedTo text (list_kept r).tree a
@@ -107,7 +107,7 @@ ordered_list_kept text r a h = kept_keeps (order_kept text) a 0 r h
 
 -- a list is finished before a block
 pub ordered_list_finished : (text : List ℕ) (r : PassState) (at e b : ℕ) → EndsBeforeTitle text r.tree at → at ≤ b → e ≤ b → b ≤ length text
-    → IsCharBoundary text e → (is_list (top_body (item_finished r).tree) ≡ true → at ≤ e) → IsOrderedAt text r at → IsOrderedAt text (list_finished e r) b
+    → IsCharBoundary text e → (is_list (top_body (empty_item_closed r).tree) ≡ true → at ≤ e) → IsOrderedAt text r at → IsOrderedAt text (list_finished e r) b
 ordered_list_finished text r at e b closes later short within ends order h =
     let e_within : e ≤ length text = omega arith in
     ordered_none text (list_finished e r) b (list_finished_none e r) within
@@ -163,13 +163,13 @@ read_popped text r at e later within ends h =
     (ordered_popped text r at e h.1.title later within ends h.0, settled_closes text (popped e r) e (popped_settled e r h.1.nested h.1.last))
 
 -- the same for closing in order
-pub read_item_finished : (text : List ℕ) (r : PassState) (at : ℕ) → IsReadTo text r at → IsReadTo text (item_finished r) at
-read_item_finished text r at h = (
-  ordered_item_finished text r at h.0,
+pub read_empty_item_closed : (text : List ℕ) (r : PassState) (at : ℕ) → IsReadTo text r at → IsReadTo text (empty_item_closed r) at
+read_empty_item_closed text r at h = (
+  ordered_empty_item_closed text r at h.0,
   record {
-    nested = item_finished_nested r h.1.nested;
-    last = item_finished_last r h.1.nested h.1.last;
-    title = item_finished_closes text r at h.1.title;
+    nested = empty_item_closed_nested r h.1.nested;
+    last = empty_item_closed_last r h.1.nested h.1.last;
+    title = empty_item_closed_closes text r at h.1.title;
   },
 )
 
@@ -207,8 +207,8 @@ pub pop_keeps_order : (text : List ℕ) (r q : PassState) (at e : ℕ) → q ≡
 pop_keeps_order text r q at e is later within ends h = subst (λ (s : PassState). IsReadTo text s e) (sym is) (read_popped text r at e later within ends h)
 
 -- the state after a call of finish_empty_list_item
-pub finish_item_keeps_order : (text : List ℕ) (r q : PassState) (at : ℕ) → q ≡ item_finished r → IsReadTo text r at → IsReadTo text q at
-finish_item_keeps_order text r q at is h = subst (λ (s : PassState). IsReadTo text s at) (sym is) (read_item_finished text r at h)
+pub finish_item_keeps_order : (text : List ℕ) (r q : PassState) (at : ℕ) → q ≡ empty_item_closed r → IsReadTo text r at → IsReadTo text q at
+finish_item_keeps_order text r q at is h = subst (λ (s : PassState). IsReadTo text s at) (sym is) (read_empty_item_closed text r at h)
 
 -- the state after a call of finish_list
 pub finish_list_keeps_order : (text : List ℕ) (r q : PassState) (at e : ℕ) → q ≡ list_finished e r → at ≤ e → e ≤ length text → IsCharBoundary text e

@@ -16,7 +16,7 @@ use Rattle.first_pass_grammar.specs.Derivation.{list_flags}
 use Rattle.first_pass_open.specs.OpenBlock.{closed_by, opened_block}
 use Rattle.first_pass_lists.specs.Closing.{with_tree, top_body, is_list, is_list_of, is_item, is_footnote, is_definition_list, popped_at}
 use Rattle.first_pass_lists.specs.Closing.{current_moved, definitions_closed}
-use Rattle.first_pass_lists.specs.Closing.{top_end, possible_title, title_closed, popped_after, popped, item_finished_by, item_finished, list_closed, gap_noted}
+use Rattle.first_pass_lists.specs.Closing.{top_end, possible_title, title_closed, popped_after, popped, empty_item_closed_by, empty_item_closed, list_closed, gap_loosened}
 use Rattle.first_pass_lists.specs.Closing.{list_finished, list_kept, begun, list_continued, footnote_left, footnote_begun, blank_read}
 use Rattle.first_pass_lists.specs.declared.state.PassState.{PassState}
 use Rattle.first_pass_lists.proofs.MovedLemmas.{closed_current}
@@ -155,7 +155,7 @@ module _ (p : Property) where
 
   -- an item that began with two blank lines is closed at the end of its marker's line
   finished_by_keeps : (b k : ℕ) (r : PassState) (o : Option ℕ) → ((e : ℕ) → o ≡ Some e → p.Goes e e × p.Bounds e) → p.Goes (reached o b) b
-      → p.Holds (reached o b) k r.tree → p.Holds b k (item_finished_by r o).tree
+      → p.Holds (reached o b) k r.tree → p.Holds b k (empty_item_closed_by r o).tree
   finished_by_keeps b k r None marked goes h = h
   finished_by_keeps b k r (Some e) marked goes h =
       cond_both (r.blank && is_item (top_body r.tree)) (popped e r) r (λ (q : PassState). p.Holds b k q.tree)
@@ -163,19 +163,19 @@ module _ (p : Property) where
       (popped_keeps e e k r (item_leaves e r.tree (and_parts r.blank (is_item (top_body r.tree)) t).1) (marked e refl).0 (marked e refl).1 h))
       (λ t. p.later e b k r.tree goes h)
 
-  pub item_finished_keeps : (a k : ℕ) (r : PassState) → HoldsAt a k r → p.Holds a k (item_finished r).tree
-  unfolding item_finished
-  item_finished_keeps a k r h = finished_by_keeps a k r r.begin_list_item h.marked h.goes h.holds
+  pub empty_item_closed_keeps : (a k : ℕ) (r : PassState) → HoldsAt a k r → p.Holds a k (empty_item_closed r).tree
+  unfolding empty_item_closed
+  empty_item_closed_keeps a k r h = finished_by_keeps a k r r.begin_list_item h.marked h.goes h.holds
 
-  finished_by_leaves : (a : ℕ) (r : PassState) (o : Option ℕ) → MayLeave a r.tree → MayLeave a (item_finished_by r o).tree
+  finished_by_leaves : (a : ℕ) (r : PassState) (o : Option ℕ) → MayLeave a r.tree → MayLeave a (empty_item_closed_by r o).tree
   finished_by_leaves a r None h = h
   finished_by_leaves a r (Some e) h =
       cond_both (r.blank && is_item (top_body r.tree)) (popped e r) r (λ (q : PassState). MayLeave a q.tree)
       (λ t. none_leaves a (popped e r).tree (popped_item e r (and_parts r.blank (is_item (top_body r.tree)) t).1)) (λ t. h)
 
-  pub item_finished_leaves : (a : ℕ) (r : PassState) → MayLeave a r.tree → MayLeave a (item_finished r).tree
-  unfolding item_finished
-  item_finished_leaves a r h = finished_by_leaves a r r.begin_list_item h
+  pub empty_item_closed_leaves : (a : ℕ) (r : PassState) → MayLeave a r.tree → MayLeave a (empty_item_closed r).tree
+  unfolding empty_item_closed
+  empty_item_closed_leaves a r h = finished_by_leaves a r r.begin_list_item h
 
   -- the innermost open node is closed, an empty item if there is one
   popped_with : (b e k : ℕ) (r : PassState) (o : Option ℕ) → ((x : ℕ) → o ≡ Some x → is_item (top_body r.tree) ≡ true) → MayLeave b r.tree
@@ -188,8 +188,8 @@ module _ (p : Property) where
   popped_here b e k r h leaves item goes ends = popped_with b e k r r.begin_list_item item leaves goes ends h.holds
 
   -- a blank line is noted, a list continues, or a blank line is read
-  pub noted_keeps : (a k : ℕ) (r : PassState) → p.Holds a k r.tree → p.Holds a k (gap_noted r).tree
-  noted_keeps a k r h = p.like a k r.tree (gap_noted r).tree (like_noted r) h
+  pub noted_keeps : (a k : ℕ) (r : PassState) → p.Holds a k r.tree → p.Holds a k (gap_loosened r).tree
+  noted_keeps a k r h = p.like a k r.tree (gap_loosened r).tree (like_noted r) h
 
   pub kept_keeps : (a k : ℕ) (r : PassState) → p.Holds a k r.tree → p.Holds a k (list_kept r).tree
   kept_keeps a k r h = p.like a k r.tree (list_kept r).tree (like_kept r) h
@@ -205,17 +205,17 @@ module _ (p : Property) where
 
   -- before a block that ends a list
   pub list_finished_keeps : (a e b k : ℕ) (r : PassState) → HoldsAt a k r → MayLeave a r.tree
-      → (is_list (top_body (item_finished r).tree) ≡ true → p.Goes a e) → p.Bounds e
+      → (is_list (top_body (empty_item_closed r).tree) ≡ true → p.Goes a e) → p.Bounds e
       → p.Goes e b → p.Goes a b → p.Holds b k (list_finished e r).tree
   unfolding list_finished
   list_finished_keeps a e b k r h leaves goes ends short later =
-      let q : PassState = item_finished r in
+      let q : PassState = empty_item_closed r in
       noted_keeps b k (list_closed e q)
-      (left_by a e b k q (is_list (top_body q.tree)) (λ t. (item_finished_leaves a r leaves, goes t)) ends short later (item_finished_keeps a k r h))
+      (left_by a e b k q (is_list (top_body q.tree)) (λ t. (empty_item_closed_leaves a r leaves, goes t)) ends short later (empty_item_closed_keeps a k r h))
 
   -- a container is opened there
   pub quote_keeps : (a e b start k : ℕ) (body : ItemBody) (r : PassState) → HoldsAt a k r → MayLeave a r.tree
-      → (is_list (top_body (item_finished r).tree) ≡ true → p.Goes a e)
+      → (is_list (top_body (empty_item_closed r).tree) ≡ true → p.Goes a e)
       → p.Bounds e → p.Goes e b → p.Goes a b → p.Goes b start → p.Bounds start → p.Opens body
       → p.Holds start (suc k) (begun start body (list_finished e r)).tree
   quote_keeps a e b start k body r h leaves goes ends short later on starts opens =
@@ -239,9 +239,10 @@ module _ (p : Property) where
       → p.Bounds start → p.Opens (ListBody (list_flags true) byte number) → p.Holds start (suc k) (list_continued start byte number r).tree
   unfolding list_continued
   list_continued_keeps a start byte number k r h leaves here goes there starts lists =
-      let s : PassState = item_finished r in
-      continued_by a start byte number k s (is_list_of byte (top_body s.tree)) (finished_none r) (item_finished_leaves a r leaves) here goes there starts lists
-      (item_finished_keeps a k r h)
+      let s : PassState = empty_item_closed r in
+      continued_by a start byte number k s (is_list_of byte (top_body s.tree)) (finished_none r)
+      (empty_item_closed_leaves a r leaves) here goes there starts lists
+      (empty_item_closed_keeps a k r h)
 
   pub item_keeps : (a start byte number columns k : ℕ) (r : PassState) → HoldsAt a k r → MayLeave a r.tree → p.Goes a a → p.Goes a start → p.Goes start start
       → p.Bounds start → p.Opens (ListBody (list_flags true) byte number) → p.Opens (ListItemBody columns)
@@ -255,11 +256,11 @@ module _ (p : Property) where
       → p.Opens (FootnoteDefinitionBody index) → p.Holds start (suc k) (footnote_begun start index r).tree
   unfolding footnote_begun
   note_keeps a start k index r h leaves goes there starts opens =
-      let s : PassState = item_finished r in
+      let s : PassState = empty_item_closed r in
       let l : PassState = list_closed start s in
       let q : PassState = footnote_left start l in
-      p.opened start start k (gap_noted q).tree (FootnoteDefinitionBody index) there starts opens
+      p.opened start start k (gap_loosened q).tree (FootnoteDefinitionBody index) there starts opens
       (noted_keeps start k q
       (left_by start start start k l (is_footnote (top_body l.tree)) (λ note. (note_leaves start l.tree note, there)) starts there there
-      (left_by a start start k s (is_list (top_body s.tree)) (λ list. (item_finished_leaves a r leaves, goes)) starts there goes
-      (item_finished_keeps a k r h))))
+      (left_by a start start k s (is_list (top_body s.tree)) (λ list. (empty_item_closed_leaves a r leaves, goes)) starts there goes
+      (empty_item_closed_keeps a k r h))))

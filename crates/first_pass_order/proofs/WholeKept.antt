@@ -41,7 +41,7 @@ use Rattle.first_pass_grammar.proofs.WholeTables.WholeForests.{whole_both, whole
 use Rattle.first_pass_names.proofs.NameLemmas.{extends_none}
 use Rattle.first_pass_open.specs.OpenBlock.{closed_by, with_child}
 use Rattle.first_pass_open.specs.Path.{path_of}
-use Rattle.first_pass_lists.specs.Closing.{popped, item_finished}
+use Rattle.first_pass_lists.specs.Closing.{popped, empty_item_closed}
 use Rattle.first_pass_lists.specs.Closing.{list_finished, begun}
 use Rattle.first_pass_lists.specs.Closing.{blank_read}
 use Rattle.first_pass_lists.specs.Closing.{footnote_begun, possible_title}
@@ -53,7 +53,7 @@ use Rattle.std.proofs.Common.{inl, inr}
 use Rattle.first_pass_open.specs.OpenBlock.{begun_item, opened_block}
 use Rattle.first_pass_order.proofs.Nests.{title_there}
 use Rattle.first_pass_order.proofs.AlikeNodes.{IsBodyLike, IsAlike, AreAlike, NoNodes, OneMore, LooksAlike}
-use Rattle.first_pass_order.proofs.PropertyKept.{IsLeft, Property, MayLeave, none_leaves, HoldsAt, popped_keeps, item_finished_keeps, list_finished_keeps}
+use Rattle.first_pass_order.proofs.PropertyKept.{IsLeft, Property, MayLeave, none_leaves, HoldsAt, popped_keeps, empty_item_closed_keeps, list_finished_keeps}
 use Rattle.first_pass_order.proofs.PropertyKept.{quote_keeps, item_keeps, note_keeps, blank_keeps}
 use Rattle.first_pass_lists.proofs.NoEmptyItem.{item_opened}
 
@@ -330,8 +330,8 @@ module _ (names : Names) where
   pub popped_whole : (e : ℕ) (r : PassState) → IsForest r.tree → IsReadWhole r → IsReadWhole (popped e r)
   popped_whole e r forest h = popped_keeps whole_kept 0 e 0 r (may_leave r.tree forest h) tt tt h
 
-  pub item_finished_whole : (r : PassState) → IsReadWhole r → IsReadWhole (item_finished r)
-  item_finished_whole r h = item_finished_keeps whole_kept 0 0 r (whole_at r h)
+  pub empty_item_closed_whole : (r : PassState) → IsReadWhole r → IsReadWhole (empty_item_closed r)
+  empty_item_closed_whole r h = empty_item_closed_keeps whole_kept 0 0 r (whole_at r h)
 
   pub list_finished_whole : (e : ℕ) (r : PassState) → IsForest r.tree → IsReadWhole r → IsReadWhole (list_finished e r)
   list_finished_whole e r forest h = list_finished_keeps whole_kept 0 e 0 0 r (whole_at r h) (may_leave r.tree forest h) (λ list. tt) tt tt tt

@@ -9,7 +9,7 @@ use Rattle.first_pass_items.specs.declared.item.ItemBody.{ItemBody}
 use Rattle.first_pass_items.specs.declared.item.ItemBody.TheVariants.{FootnoteDefinition}
 use Rattle.first_pass_labels.specs.LabelTables.{with_first, with_all}
 use Rattle.first_pass_grammar.specs.Names.{Names}
-use Rattle.first_pass_places.specs.FootnoteNodes.{label_with_index, labels_from, entry_bytes, AreFirstNodes, AddsNode}
+use Rattle.first_pass_places.specs.FootnoteNodes.{label_with_index, labels_from, entry_bytes, AreFirstFootnotes, AddsNode}
 
 pub all_after : {X : Type 0} (es ds fs : List (CowStr × X)) → with_all es (ds ++ fs) ≡ with_all (with_all es ds) fs
 unfolding with_all
@@ -28,12 +28,12 @@ labels_more names index (m ∷ nodes) n =
     ∙ sym (append_assoc (label_with_index names index m.1.body) (labels_from names (index + 1) nodes)
     (label_with_index names (index + length (m ∷ nodes)) n.1.body))
 
-pub none_first : (names : Names) → AreFirstNodes names [] []
+pub none_first : (names : Names) → AreFirstFootnotes names [] []
 unfolding labels_from with_all
 none_first names = record { definitions = []; labels = refl; first = refl }
 
 pub one_more : (names : Names) (index : ℕ) (nodes : List (ℕ × Item)) (n : ℕ × Item) (old new : List (CowStr × ℕ)) → length nodes ≡ index
-    → AreFirstNodes names nodes old → AddsNode names index n.1 old new → AreFirstNodes names (nodes ++ n ∷ []) new
+    → AreFirstFootnotes names nodes old → AddsNode names index n.1 old new → AreFirstFootnotes names (nodes ++ n ∷ []) new
 one_more names index nodes n old new size h more = record {
   definitions = h.definitions ++ more.definitions;
   labels = map-append entry_bytes h.definitions more.definitions
@@ -44,10 +44,10 @@ one_more names index nodes n old new size h more = record {
 }
 
 pub next_node : (names : Names) (nodes : List (ℕ × Item)) (i : ℕ) (d : ℕ × Item) (old new : List (CowStr × ℕ)) → i < length nodes
-    → AreFirstNodes names (take i nodes) old → AddsNode names i (get_or nodes i d).1 old new → AreFirstNodes names (take (i + 1) nodes) new
+    → AreFirstFootnotes names (take i nodes) old → AddsNode names i (get_or nodes i d).1 old new → AreFirstFootnotes names (take (i + 1) nodes) new
 next_node names nodes i d old new within h more =
     let size : length (take i nodes) ≡ i = length-take-le i nodes (omega arith) in
-    subst (λ l. AreFirstNodes names l new) (sym (take_more nodes i d within)) (one_more names i (take i nodes) (get_or nodes i d) old new size h more)
+    subst (λ l. AreFirstFootnotes names l new) (sym (take_more nodes i d within)) (one_more names i (take i nodes) (get_or nodes i d) old new size h more)
 
 pub no_footnote : (names : Names) (index : ℕ) (body : ItemBody) → ((ix : CowIndex) → body ≡ FootnoteDefinition ix → ⊥) → label_with_index names index body ≡ []
 no_footnote names index (FootnoteDefinition ix) h = absurd (h ix refl)

@@ -13,7 +13,7 @@ use Rattle.first_pass_items.specs.declared.item.CowIndex.{CowIndex}
 use Rattle.first_pass_lines.specs.Lines.{begins}
 use Rattle.first_pass_lines.specs.Places.{Place, offset}
 use Rattle.first_pass_lines.specs.Rest.{indent}
-use Rattle.first_pass_links.specs.Footnotes.{begins_footnote, head_after, footnote_head}
+use Rattle.first_pass_links.specs.Footnotes.{begins_footnote_mark, head_after, footnote_head}
 use Rattle.first_pass_links.specs.Labels.{label_at, label_len}
 use Rattle.first_pass_grammar.specs.declared.kind.Container.{Container}
 use Rattle.first_pass_grammar.specs.Containers.{Context}
@@ -47,25 +47,25 @@ label_of_head bs (Some found) head e =
 head_label : (prefix : List ℕ → Option ℕ) (bs : List ℕ) (head : ℕ × List ℕ) → footnote_head prefix false bs ≡ Some head
     → (found : ℕ × List ℕ) × (label_at prefix false (drop 2 bs) ≡ Some found) × (found.1 ≡ head.1)
 unfolding footnote_head
-head_label prefix bs head e = label_of_head (drop 2 bs) (label_at prefix false (drop 2 bs)) head (some_if (begins_footnote bs) _ head e)
+head_label prefix bs head e = label_of_head (drop 2 bs) (label_at prefix false (drop 2 bs)) head (some_if (begins_footnote_mark bs) _ head e)
 
 -- a head has two bytes or more
 test_if : (t : Bool) (o : Option (ℕ × List ℕ)) (head : ℕ × List ℕ) → (if t then o else None) ≡ Some head → t ≡ true
 test_if true o head e = refl
 test_if false o head e = absurd (none-some head e)
 
-two_bytes : (bs : List ℕ) → begins_footnote bs ≡ true → 2 ≤ length bs
+two_bytes : (bs : List ℕ) → begins_footnote_mark bs ≡ true → 2 ≤ length bs
 two_bytes [] h = absurd (true≢false (sym h))
 two_bytes (b ∷ []) h = absurd (true≢false (sym (and_parts (begins left_bracket (b ∷ [])) (begins circumflex []) h).1))
 two_bytes (b ∷ c ∷ bs) h = omega arith
 
 head_long : (prefix : List ℕ → Option ℕ) (bs : List ℕ) (head : ℕ × List ℕ) → footnote_head prefix false bs ≡ Some head → 2 ≤ length bs
 unfolding footnote_head
-head_long prefix bs head e = two_bytes bs (test_if (begins_footnote bs) _ head e)
+head_long prefix bs head e = two_bytes bs (test_if (begins_footnote_mark bs) _ head e)
 
-pub head_begins : (prefix : List ℕ → Option ℕ) (bs : List ℕ) (head : ℕ × List ℕ) → footnote_head prefix false bs ≡ Some head → begins_footnote bs ≡ true
+pub head_begins : (prefix : List ℕ → Option ℕ) (bs : List ℕ) (head : ℕ × List ℕ) → footnote_head prefix false bs ≡ Some head → begins_footnote_mark bs ≡ true
 unfolding footnote_head
-head_begins prefix bs head e = test_if (begins_footnote bs) _ head e
+head_begins prefix bs head e = test_if (begins_footnote_mark bs) _ head e
 
 pub head_here : (around : Context) (p : Place) (head : ℕ × List ℕ) → footnote_head_at around p ≡ Some head
     → footnote_head (footnote_prefix around) false (unindented p).rest.left ≡ Some head

@@ -19,7 +19,7 @@ use Rattle.first_pass_labels.proofs.TextOrder.{in_order_table}
 use Rattle.first_pass_grammar.specs.Derivation.{Tables, footnotes_of, Derives}
 use Rattle.first_pass_grammar.specs.Leaves.{Document}
 use Rattle.first_pass_grammar.specs.LinkTables.{with_label, with_labels}
-use Rattle.first_pass_places.specs.FootnoteNodes.{AreFirstNodes, entry_bytes, entry_label}
+use Rattle.first_pass_places.specs.FootnoteNodes.{AreFirstFootnotes, entry_bytes, entry_label}
 use Rattle.first_pass_places.proofs.FootnoteEntries.{all_after}
 use Rattle.first_pass_places.proofs.LabelRows.{derived_labels, labels_without_places}
 
@@ -77,7 +77,7 @@ label_bytes (x ∷ definitions) = ap (λ (ls : List (List ℕ)). entry_label x �
 
 -- the table of the nodes of a derived tree
 pub same_footnotes : (d : Document) (nodes : List (ℕ × Item)) (tables : Tables) (table : List (CowStr × ℕ)) → Derives d nodes tables
-    → AreFirstNodes d.names nodes table → map entry_label table ≡ tables.footnotes
+    → AreFirstFootnotes d.names nodes table → map entry_label table ≡ tables.footnotes
 same_footnotes d nodes tables table h first =
     let labels : map entry_label first.definitions ≡ footnotes_of h.skeleton =
     label_bytes first.definitions ∙ ap (map (λ (p : List ℕ × ℕ). p.0)) first.labels ∙ labels_without_places d.names 0 nodes ∙ derived_labels d nodes tables h in

@@ -14,7 +14,7 @@ use Rattle.first_pass_lines.specs.Lines.{begins, ends_line}
 use Rattle.first_pass_lines.specs.Rest.{Rest, after_columns}
 use Rattle.first_pass_lines.specs.Places.{line_rest}
 use Rattle.first_pass_links.specs.Escapes.{begins_escape}
-use Rattle.first_pass_links.specs.Labels.{is_bracket, is_label, joined, bytes_of, offsets_of, label_len, label_at, shown}
+use Rattle.first_pass_links.specs.Labels.{is_bracket, is_label, joined, bytes_of, offsets_of, label_len, label_at, as_read}
 use Rattle.first_pass_links.proofs.Destinations.{second, upto-stop, upto-byte, upto-escape}
 use Rattle.first_pass_grammar.specs.Containers.{Context, front}
 use Rattle.first_pass_grammar.specs.Definitions.{crossed, prefix_crossed}
@@ -179,7 +179,7 @@ label_ends prefix plain in_table bs found e =
     let n : ℕ = label_len (bytes_of whole) in
     let label : List ℕ = take n (bytes_of whole) in
     let is = label_if (begins right_bracket (drop n (bytes_of whole)) && is_label label) (slice_index (offsets_of whole) n + 1)
-    (shown in_table label) found e in
+    (as_read in_table label) found e in
     let place = ends_at prefix plain 0 0 bs refl (and_parts (begins right_bracket (drop n (bytes_of whole))) (is_label label) is.0).0 in
     omega (arith, is.1, place)
 

@@ -16,7 +16,7 @@ use Rattle.first_pass_lines.specs.Places.{Place, offset, start_of}
 use Rattle.first_pass_scan.specs.LeafLines.{hrule_len, code_fence}
 use Rattle.first_pass_lines.specs.Lines.{atx_level}
 use Rattle.first_pass_scan.specs.Markers.{task_of}
-use Rattle.first_pass_links.specs.Footnotes.{begins_footnote}
+use Rattle.first_pass_links.specs.Footnotes.{begins_footnote_mark}
 use Rattle.first_pass_grammar.specs.declared.kind.AfterMarker.{AfterMarker}
 use Rattle.first_pass_grammar.specs.declared.kind.AfterMarker.TheVariants.{OnLine, TaskText, LineEnds, OnlyTag}
 use Rattle.first_pass_grammar.specs.declared.kind.Container.{Container}
@@ -46,14 +46,14 @@ use Rattle.first_pass_grammar.proofs.Sequences.OpenerFacts.{start_cases}
 use Rattle.first_pass_grammar.proofs.Sequences.PlacesKept.{IsAt, AreAt, at_unindented, at_front, at_taken, at_quote, at_item, at_marker}
 use Rattle.first_pass_grammar.proofs.WholeTables.FullHeads.{heads_are_full}
 use Rattle.first_pass_grammar.proofs.WholeTables.WholeBlocks.{PlainMay, PlainFrom, WholeOpening, opens_as, sequence_whole}
-use Rattle.first_pass_places.specs.NamePlaces.{HasAsciiMark}
+use Rattle.first_pass_places.specs.NamePlaces.{HasWholeStart}
 use Rattle.first_pass_places.specs.RangeEnds.{IsAsciiAt}
 use Rattle.first_pass_places.proofs.FootnotePlaces.{head_begins, head_here}
 use Rattle.first_pass_places.proofs.RangeBoundaries.{ascii_fence, ascii_footnote}
 
--- an item that starts on a character boundary meets `HasAsciiMark`
+-- an item that starts on a character boundary meets `HasWholeStart`
 abbrev pub IsMarked : List ℕ → Item → Type 0
-IsMarked text x = IsCharBoundary text x.start → HasAsciiMark x.body text x.start
+IsMarked text x = IsCharBoundary text x.start → HasWholeStart x.body text x.start
 
 -- the first of these items, if there is one, meets `IsMarked`
 abbrev pub FirstMarked : List ℕ → List (ℕ × Item) → Type 0
@@ -108,7 +108,7 @@ task_shows : (body : ItemBody) → IsTask body → ShowsNothing body
 task_shows (TaskListMarker checked) h = λ names depth start end. refl
 task_shows body h = absurd (true≢false (sym h))
 
-task_marked : (body : ItemBody) (text : List ℕ) (start : ℕ) → IsTask body → IsCharBoundary text start → HasAsciiMark body text start
+task_marked : (body : ItemBody) (text : List ℕ) (start : ℕ) → IsTask body → IsCharBoundary text start → HasWholeStart body text start
 task_marked (TaskListMarker checked) text start h b = b
 task_marked body text start h b = absurd (true≢false (sym h))
 
@@ -338,7 +338,7 @@ module _ (d : Document) where
       let there = head_at d.text (gfm_footnotes d.options) q (lines_beyond (offset q) lines)
       (place_after_at d.text size (unindented p) (at_unindented d.text p i)) (beyond_at d.text (offset q) lines h) in
       let begins = head_begins (footnote_prefix (around d l.path)) (unindented p).rest.left (size, label) (head_here (around d l.path) p (size, label) is) in
-      let mark = ascii_footnote d.text (offset (unindented p)) (sym (ap begins_footnote (at_unindented d.text p i)) ∙ begins) in
+      let mark = ascii_footnote d.text (offset (unindented p)) (sym (ap begins_footnote_mark (at_unindented d.text p i)) ∙ begins) in
       subst IsOpened (sym e) (mark, (there.0, tt), there.1)
 
   any_opened : (l : Level) (p : Place) (lines : List Place) (o : Opening) → IsAt d.text p → AreAt d.text lines → Opens d l p lines o → IsOpened o

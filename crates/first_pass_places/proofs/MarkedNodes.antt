@@ -1,4 +1,4 @@
--- Each node of a derived tree that starts on a character boundary meets `HasAsciiMark`.
+-- Each node of a derived tree that starts on a character boundary meets `HasWholeStart`.
 use Rattle.std.proofs.Common.{◌≡◌, ℕ, ◌+◌, ◌==◌, suc, Bool, true, false, List, [], ◌∷◌, ◌++◌, length, map, Option, Some, None, IsCharBoundary, sym, subst}
 use Rattle.std.proofs.Common.{if◌then◌else◌}
 use Rattle.std.specs.Option.{option_map, option_map_or}
@@ -28,13 +28,13 @@ use Rattle.first_pass_grammar.proofs.Each.EachRow.{HoldsOfRow, HoldsOfEachRow, e
 use Rattle.first_pass_grammar.proofs.Each.EachToken.{HoldsOfTokens, HoldsOfRaw}
 use Rattle.first_pass_grammar.proofs.Names.TokensNamed.{NamesWithin}
 use Rattle.first_pass_grammar.proofs.Sequences.LinesLeft.{lines_are_at}
-use Rattle.first_pass_places.specs.NamePlaces.{HasAsciiMark, HaveAsciiMarks}
+use Rattle.first_pass_places.specs.NamePlaces.{HasWholeStart, HaveWholeStarts}
 use Rattle.first_pass_places.specs.RangeEnds.{IsAsciiAt}
 use Rattle.first_pass_places.proofs.MarkedBlocks.{IsMarked, FirstMarked, OpenerMarked, AreMarkedHeads, AreMarkedLeaves, marked_blocks}
 
 -- a body that has no mark of its own
 abbrev IsPlain : ItemBody → Type 0
-IsPlain body = (text : List ℕ) (start : ℕ) → IsCharBoundary text start → HasAsciiMark body text start
+IsPlain body = (text : List ℕ) (start : ℕ) → IsCharBoundary text start → HasWholeStart body text start
 
 abbrev IsAny : ItemBody → Type 0
 IsAny body = Unit {0}
@@ -83,23 +83,23 @@ abbrev IsPlainBlock : List (ℕ × Item) → Type 0
 IsPlainBlock items = IsBlockOf IsAny IsPlain items
 
 -- nodes with marks
-plain_marks : (text : List ℕ) (nodes : List (ℕ × Item)) → AreEachNode IsPlain nodes → HaveAsciiMarks text nodes
+plain_marks : (text : List ℕ) (nodes : List (ℕ × Item)) → AreEachNode IsPlain nodes → HaveWholeStarts text nodes
 plain_marks text [] h = tt
 plain_marks text (n ∷ nodes) h = (h.0 text n.1.start, plain_marks text nodes h.1)
 
-block_marks : (text : List ℕ) (items : List (ℕ × Item)) → FirstMarked text items → IsPlainBlock items → HaveAsciiMarks text items
+block_marks : (text : List ℕ) (items : List (ℕ × Item)) → FirstMarked text items → IsPlainBlock items → HaveWholeStarts text items
 block_marks text [] h k = tt
 block_marks text (x ∷ items) h k = (h, plain_marks text items k.2)
 
-title_marks : (text : List ℕ) (items : List (ℕ × Item)) → HaveAsciiMarks text items → HaveAsciiMarks text (as_title items)
+title_marks : (text : List ℕ) (items : List (ℕ × Item)) → HaveWholeStarts text items → HaveWholeStarts text (as_title items)
 title_marks text [] h = tt
 title_marks text (x ∷ items) h = ((λ b. b), h.1)
 
-deeper_marks : (text : List ℕ) (depth : ℕ) (nodes : List (ℕ × Item)) → HaveAsciiMarks text nodes → HaveAsciiMarks text (at_depth depth nodes)
+deeper_marks : (text : List ℕ) (depth : ℕ) (nodes : List (ℕ × Item)) → HaveWholeStarts text nodes → HaveWholeStarts text (at_depth depth nodes)
 deeper_marks text depth [] h = tt
 deeper_marks text depth (n ∷ nodes) h = (h.0, deeper_marks text depth nodes h.1)
 
-tight_mark : (text : List ℕ) (start : ℕ) (body : ItemBody) → HasAsciiMark body text start → HasAsciiMark (tight_body body) text start
+tight_mark : (text : List ℕ) (start : ℕ) (body : ItemBody) → HasWholeStart body text start → HasWholeStart (tight_body body) text start
 tight_mark text start Paragraph h = h
 tight_mark text start body h = h
 
@@ -108,11 +108,11 @@ tight_by : (text : List ℕ) (t : Bool) (x : Item) → IsMarked text x
 tight_by text true x h = λ b. tight_mark text x.start x.body (h b)
 tight_by text false x h = h
 
-tight_marks : (text : List ℕ) (depth : ℕ) (nodes : List (ℕ × Item)) → HaveAsciiMarks text nodes → HaveAsciiMarks text (map (tightened depth) nodes)
+tight_marks : (text : List ℕ) (depth : ℕ) (nodes : List (ℕ × Item)) → HaveWholeStarts text nodes → HaveWholeStarts text (map (tightened depth) nodes)
 tight_marks text depth [] h = tt
 tight_marks text depth (n ∷ nodes) h = (tight_by text (n.0 == depth) n.1 h.0, tight_marks text depth nodes h.1)
 
-both_marks : (text : List ℕ) (nodes more : List (ℕ × Item)) → HaveAsciiMarks text nodes → HaveAsciiMarks text more → HaveAsciiMarks text (nodes ++ more)
+both_marks : (text : List ℕ) (nodes more : List (ℕ × Item)) → HaveWholeStarts text nodes → HaveWholeStarts text more → HaveWholeStarts text (nodes ++ more)
 both_marks text [] more h k = k
 both_marks text (n ∷ nodes) more h k = (h.0, both_marks text nodes more h.1 k)
 
@@ -216,7 +216,7 @@ leaves_hold text (Node head e kids next) h = (leaves_hold text kids h.0, leaves_
 
 -- the nodes of rows
 row_marks : (text : List ℕ) (depth : ℕ) (tight loose : Bool) (start : ℕ) (w : What) (inner : Rows) → HoldsOfRow (FirstMarked text) w inner
-    → HoldsOfRow IsPlainBlock w inner → WhatMarked text start w → HaveAsciiMarks text (row_items depth tight loose start w)
+    → HoldsOfRow IsPlainBlock w inner → WhatMarked text start w → HaveWholeStarts text (row_items depth tight loose start w)
 row_marks text depth true loose start (ALeaf block) inner h k m =
     tight_marks text depth (at_depth depth block.items) (deeper_marks text depth block.items (block_marks text block.items h.0 k.0))
 row_marks text depth false loose start (ALeaf block) inner h k m = deeper_marks text depth block.items (block_marks text block.items h.0 k.0)
@@ -230,7 +230,7 @@ row_marks text depth tight loose start (ATitle block) inner h k m =
 row_marks text depth tight loose start (ADefinition columns e) inner h k m = ((λ b. b), tt)
 
 rows_marks : (text : List ℕ) (depth : ℕ) (tight : Bool) (rows : Rows) → HoldsOfEachRow (FirstMarked text) rows → HoldsOfEachRow IsPlainBlock rows
-    → RowsMarked text rows → HaveAsciiMarks text (items_of depth tight rows)
+    → RowsMarked text rows → HaveWholeStarts text (items_of depth tight rows)
 unfolding HoldsOfEachRow items_of
 rows_marks text depth tight End h k m = tt
 rows_marks text depth tight (OneOf row inner next) h k m =
@@ -242,7 +242,7 @@ rows_marks text depth tight (OneOf row inner next) h k m =
     (rows_marks text depth tight next h.2 k.2 m.2))
 
 -- the nodes of a derived tree
-pub derived_marks : (d : Document) (nodes : List (ℕ × Item)) (tables : Tables) → Derives d nodes tables → HaveAsciiMarks d.text nodes
+pub derived_marks : (d : Document) (nodes : List (ℕ × Item)) (tables : Tables) → Derives d nodes tables → HaveWholeStarts d.text nodes
 derived_marks d nodes tables h =
     let s : Skeleton = h.skeleton in
     let rows : Rows = rows_of false nothing (length d.text) s in
@@ -250,4 +250,4 @@ derived_marks d nodes tables h =
     let plain = each_leaf IsAny IsPlain d any_blocks (within_plain d.names.texts) s (level [] nothing) Line (lines_at 0 d.text) (Lines []) tt h.sequence in
     let all = rows_marks d.text 1 false rows (each_row (FirstMarked d.text) false nothing (length d.text) s (leaves_hold d.text s marks.0))
     (each_row IsPlainBlock false nothing (length d.text) s plain) (sequence_rows d.text false nothing (length d.text) s marks.1) in
-    subst (HaveAsciiMarks d.text) (sym h.forest_is) (both_marks d.text (root_of (length d.text) ∷ []) (items_of 1 false rows) ((λ b. b), tt) all)
+    subst (HaveWholeStarts d.text) (sym h.forest_is) (both_marks d.text (root_of (length d.text) ∷ []) (items_of 1 false rows) ((λ b. b), tt) all)

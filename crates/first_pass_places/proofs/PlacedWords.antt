@@ -1,4 +1,4 @@
--- The attributes that `attributes_from_places` reads at the places from `attribute_places` are those of the words of
+-- The attributes that `attributes_from_places` reads at the ranges from `attribute_ranges` are those of the words of
 -- the block.
 use Rattle.std.proofs.Common.{◌≡◌, ℕ, suc, ◌+◌, ◌-◌, ◌<◌, ◌≤◌, ◌==◌, ◌||◌, not, cond, Bool, true, false, nat_lt, List, [], ◌∷◌, ◌++◌, All, length}
 use Rattle.std.proofs.Common.{take, drop, map, filter, position, slice_index, Option, Some, None, refl, sym, ap, subst, ◌∙◌, arith, inl, inr, if◌then◌else◌}
@@ -16,26 +16,26 @@ use Rattle.first_pass_attributes.specs.Attributes.{Attributes, is_between_words,
 use Rattle.first_pass_attributes.specs.Attributes.{no_attributes, with_words, attributes_of}
 use Rattle.first_pass_places.specs.declared.attributes.AttributeKind.{AttributeKind}
 use Rattle.first_pass_places.specs.declared.attributes.AttributeKind.TheVariants.{Id, Class, Key}
-use Rattle.first_pass_places.specs.declared.attributes.AttributePlace.{AttributePlace}
-use Rattle.first_pass_places.specs.AttributeBlockPlaces.{attribute_range}
+use Rattle.first_pass_places.specs.declared.attributes.AttributeRanges.{AttributeRanges}
+use Rattle.first_pass_places.specs.AttributeBlockPlaces.{attribute_block_range}
 use Rattle.first_pass_places.specs.AttributePlaces.{range_of, is_word_range, ranges_from, word_ranges, place_of, key_with, key_place, attribute_place}
-use Rattle.first_pass_places.specs.AttributePlaces.{places_in, attribute_places}
+use Rattle.first_pass_places.specs.AttributePlaces.{places_in, attribute_ranges}
 use Rattle.first_pass_places.specs.InfoStrings.{bytes_in}
 use Rattle.first_pass_places.specs.PlacedAttributes.{is_id, is_class, is_key, name_at, key_at, attributes_from_places}
 use Rattle.first_pass_places.proofs.BlockPlaces.{part_at, part_short}
 
 -- the ids, the classes and the keys at places
-abbrev ids_at : List ℕ → List AttributePlace → List (List ℕ)
+abbrev ids_at : List ℕ → List AttributeRanges → List (List ℕ)
 ids_at text places = map (name_at text) (filter (λ place. is_id place.kind) places)
 
-abbrev classes_at : List ℕ → List AttributePlace → List (List ℕ)
+abbrev classes_at : List ℕ → List AttributeRanges → List (List ℕ)
 classes_at text places = map (name_at text) (filter (λ place. is_class place.kind) places)
 
-abbrev keys_at : List ℕ → List AttributePlace → List (List ℕ × Option (List ℕ))
+abbrev keys_at : List ℕ → List AttributeRanges → List (List ℕ × Option (List ℕ))
 keys_at text places = map (key_at text) (filter (λ place. is_key place.kind) places)
 
 -- the ids, classes and keys at these places are those of these words
-record AreSame (text : List ℕ) (places : List AttributePlace) (ws : List (List ℕ)) : Type 0 where
+record AreSame (text : List ℕ) (places : List AttributeRanges) (ws : List (List ℕ)) : Type 0 where
   ids : ids_at text places ≡ marked number_sign ws
   classes : classes_at text places ≡ marked full_stop ws
   keys : keys_at text places ≡ map key_and_value (filter gives_key ws)
@@ -63,7 +63,7 @@ record IsMarked (text : List ℕ) (range : Range ℕ) (sign stop : Bool) : Type 
   begins_stop : begins full_stop (bytes_in text range) ≡ stop
 
 -- an id
-id_same : (text : List ℕ) (range : Range ℕ) (places : List AttributePlace) (ws : List (List ℕ)) → IsMarked text range true false → AreSame text places ws
+id_same : (text : List ℕ) (range : Range ℕ) (places : List AttributeRanges) (ws : List (List ℕ)) → IsMarked text range true false → AreSame text places ws
     → AreSame text (place_of Id (range_of (range.start + 1) range.«end») ∷ places) (bytes_in text range ∷ ws)
 id_same text range places ws is same =
     let word : List ℕ = bytes_in text range in
@@ -78,7 +78,7 @@ id_same text range places ws is same =
     }
 
 -- a class
-class_same : (text : List ℕ) (range : Range ℕ) (places : List AttributePlace) (ws : List (List ℕ)) → IsMarked text range false true → AreSame text places ws
+class_same : (text : List ℕ) (range : Range ℕ) (places : List AttributeRanges) (ws : List (List ℕ)) → IsMarked text range false true → AreSame text places ws
     → AreSame text (place_of Class (range_of (range.start + 1) range.«end») ∷ places) (bytes_in text range ∷ ws)
 class_same text range places ws is same =
     let word : List ℕ = bytes_in text range in
@@ -115,16 +115,16 @@ kind_by : (range : Range ℕ) (o : Option ℕ) → (option_map_or (key_with rang
 kind_by range None = refl
 kind_by range (Some at) = refl
 
-key_same : (text : List ℕ) (range : Range ℕ) (places : List AttributePlace) (ws : List (List ℕ)) → IsMarked text range false false → AreSame text places ws
+key_same : (text : List ℕ) (range : Range ℕ) (places : List AttributeRanges) (ws : List (List ℕ)) → IsMarked text range false false → AreSame text places ws
     → AreSame text (key_place text range ∷ places) (bytes_in text range ∷ ws)
 key_same text range places ws is same =
     let word : List ℕ = bytes_in text range in
-    let place : AttributePlace = key_place text range in
+    let place : AttributeRanges = key_place text range in
     let kind : place.kind ≡ Key = kind_by range (position (λ b. b == equals_sign) word) in
     let a_key : gives_key word ≡ true = ap (λ t. not (t || begins full_stop word)) is.begins_sign ∙ ap not is.begins_stop in
-    let ids : List AttributePlace = filter (λ p. is_id p.kind) places in
-    let classes : List AttributePlace = filter (λ p. is_class p.kind) places in
-    let keys : List AttributePlace = filter (λ p. is_key p.kind) places in
+    let ids : List AttributeRanges = filter (λ p. is_id p.kind) places in
+    let classes : List AttributeRanges = filter (λ p. is_class p.kind) places in
+    let keys : List AttributeRanges = filter (λ p. is_key p.kind) places in
     record {
       ids = ap (λ (k : AttributeKind). map (name_at text) (cond (is_id k) (place ∷ ids) ids)) kind ∙ same.ids
           ∙ sym (ap (λ t. map (drop 1) (cond t (word ∷ filter (begins number_sign) ws) (filter (begins number_sign) ws))) is.begins_sign);
@@ -137,7 +137,7 @@ key_same text range places ws is same =
     }
 
 -- one word more
-more_by : (text : List ℕ) (range : Range ℕ) (places : List AttributePlace) (ws : List (List ℕ)) (t v : Bool) → IsMarked text range t v
+more_by : (text : List ℕ) (range : Range ℕ) (places : List AttributeRanges) (ws : List (List ℕ)) (t v : Bool) → IsMarked text range t v
     → (slice_index text range.start == number_sign) ≡ t → (slice_index text range.start == full_stop) ≡ v → AreSame text places ws
     → AreSame text ((if t then place_of Id (range_of (range.start + 1) range.«end»)
     else (if v then place_of Class (range_of (range.start + 1) range.«end») else key_place text range)) ∷ places) (bytes_in text range ∷ ws)
@@ -149,7 +149,7 @@ more_by text range places ws true false is e f same = id_same text range places 
 more_by text range places ws false true is e f same = class_same text range places ws is same
 more_by text range places ws false false is e f same = key_same text range places ws is same
 
-more_same : (text : List ℕ) (range : Range ℕ) (places : List AttributePlace) (ws : List (List ℕ)) → range.start + 1 < range.«end» → AreSame text places ws
+more_same : (text : List ℕ) (range : Range ℕ) (places : List AttributeRanges) (ws : List (List ℕ)) → range.start + 1 < range.«end» → AreSame text places ws
     → AreSame text (attribute_place text range ∷ places) (bytes_in text range ∷ ws)
 more_same text range places ws order same =
     let word : List ℕ = bytes_in text range in
@@ -239,7 +239,7 @@ long_words (part ∷ parts) =
 abbrev attributes_from : List (List ℕ) → List (List ℕ) → List (List ℕ × Option (List ℕ)) → Attributes
 attributes_from ids classes keys = record { id = last_or None ids; classes = classes; attrs = keys }
 
-same_attributes : (text : List ℕ) (places : List AttributePlace) (ws : List (List ℕ)) → AreSame text places ws
+same_attributes : (text : List ℕ) (places : List AttributeRanges) (ws : List (List ℕ)) → AreSame text places ws
     → attributes_from_places text places ≡ with_words no_attributes ws
 unfolding with_words
 same_attributes text places ws same =
@@ -263,7 +263,7 @@ block_attributes text block =
     same_attributes text (map (attribute_place text) ranges) ws same ∙ ap (with_words no_attributes) (sym (long_words parts))
 
 -- the attributes of a heading
-pub placed_attributes : (text : List ℕ) (x : Item) (block : Range ℕ) → attribute_range text x ≡ Some block
-    → attributes_from_places text (attribute_places text x) ≡ attributes_of (bytes_in text block)
+pub placed_attributes : (text : List ℕ) (x : Item) (block : Range ℕ) → attribute_block_range text x ≡ Some block
+    → attributes_from_places text (attribute_ranges text x) ≡ attributes_of (bytes_in text block)
 placed_attributes text x block e =
     ap (λ (o : Option (Range ℕ)). attributes_from_places text (option_map_or (places_in text) o [])) e ∙ block_attributes text block

@@ -23,13 +23,13 @@ use Rattle.first_pass_lines.proofs.PlaceFacts.{line_end_boundary, line_is_place,
 use Rattle.first_pass_scan.specs.LeafLines.{run_len, has_backquote, code_fence}
 use Rattle.first_pass_links.specs.Destinations.{unescaped_upto}
 use Rattle.first_pass_links.specs.Escapes.{begins_escape}
-use Rattle.first_pass_links.specs.Footnotes.{begins_footnote}
+use Rattle.first_pass_links.specs.Footnotes.{begins_footnote_mark}
 use Rattle.first_pass_links.specs.Labels.{is_bracket, label_len}
 use Rattle.first_pass_grammar.specs.CodeBlocks.{trimmed, info_string}
-use Rattle.first_pass_places.specs.AttributeBlockPlaces.{attribute_range, block_range, has_attributes, upto_last}
+use Rattle.first_pass_places.specs.AttributeBlockPlaces.{attribute_block_range, block_range, has_attributes, upto_last}
 use Rattle.first_pass_places.specs.FootnoteLabels.{label_range}
 use Rattle.first_pass_places.specs.InfoStrings.{fence_end, info_range}
-use Rattle.first_pass_places.specs.NamePlaces.{HasAsciiMark, HasNameOnBoundaries, HaveAsciiMarks, name_range, name_range_by}
+use Rattle.first_pass_places.specs.NamePlaces.{HasWholeStart, HasNameOnBoundaries, HaveWholeStarts, name_range, name_range_by}
 use Rattle.first_pass_places.specs.RangeEnds.{IsAsciiAt, EndsAreBoundaries}
 use Rattle.first_pass_places.proofs.BlockPlaces.{is_in, part_at, part_short}
 use Rattle.first_pass_places.proofs.InfoFacts.{begins_with, trimmed_length}
@@ -59,7 +59,7 @@ ascii_fence text start count byte h =
     omega (arith, small, here)
 
 -- the second byte of the `[^` of a footnote definition is ASCII
-pub ascii_footnote : (text : List ℕ) (start : ℕ) → begins_footnote (drop start text) ≡ true → IsAsciiAt text (start + 1)
+pub ascii_footnote : (text : List ℕ) (start : ℕ) → begins_footnote_mark (drop start text) ≡ true → IsAsciiAt text (start + 1)
 ascii_footnote text start h =
     let rest : List ℕ = drop 1 (drop start text) in
     let byte : circumflex ≡ slice_index rest 0 = begins_with circumflex rest (and_parts (begins left_bracket (drop start text)) (begins circumflex rest) h).1 in
@@ -259,24 +259,24 @@ range_if text true range h = h
 range_if text false range h = tt
 
 pub attributes_between : (text : List ℕ) (x : Item) → IsUtf8 text → IsCharBoundary text x.start
-    → IfSome (attribute_range text x) (λ range. EndsAreBoundaries text range)
+    → IfSome (attribute_block_range text x) (λ range. EndsAreBoundaries text range)
 attributes_between text x u b = range_if text (has_attributes x.body) (block_range text x.start x.«end») (block_between text x.start x.«end» u b)
 
 -- what a node names
-name_by : (body : ItemBody) (text : List ℕ) (x : Item) → IsUtf8 text → x.start ≤ length text → HasAsciiMark body text x.start
+name_by : (body : ItemBody) (text : List ℕ) (x : Item) → IsUtf8 text → x.start ≤ length text → HasWholeStart body text x.start
     → IfSome (name_range_by body text x) (λ range. EndsAreBoundaries text range)
 name_by (FencedCodeBlock ix) text x u within mark = info_between text x.start u within mark
 name_by (FootnoteDefinition ix) text x u within mark = label_between text x.start u mark
 name_by _ text x u within mark = attributes_between text x u mark
 
 pub name_between : (text : List ℕ) (x : Item) (found : Option (Range ℕ)) → found ≡ name_range text x → x.start ≤ x.«end» → x.«end» ≤ length text
-    → IsUtf8 text → HasAsciiMark x.body text x.start → IfSome found (λ range. EndsAreBoundaries text range)
+    → IsUtf8 text → HasWholeStart x.body text x.start → IfSome found (λ range. EndsAreBoundaries text range)
 name_between text x found is order within u mark =
     let starts : x.start ≤ length text = omega (arith, order, within) in
     subst (λ (o : Option (Range ℕ)). IfSome o (λ range. EndsAreBoundaries text range)) (sym is) (name_by x.body text x u starts mark)
 
 -- what each of these nodes names
-pub names_between : (text : List ℕ) (nodes : List (ℕ × Item)) → IsUtf8 text → HaveAsciiMarks text nodes
+pub names_between : (text : List ℕ) (nodes : List (ℕ × Item)) → IsUtf8 text → HaveWholeStarts text nodes
     → All (λ n. HasNameOnBoundaries text n.1) nodes
 names_between text [] u h = All-nil (λ (n : ℕ × Item). HasNameOnBoundaries text n.1)
 names_between text (n ∷ nodes) u h =
@@ -285,7 +285,7 @@ names_between text (n ∷ nodes) u h =
 
 -- a node of another kind
 pub other_name : (body : ItemBody) (text : List ℕ) (x : Item) → ((ix : CowIndex) → body ≡ FencedCodeBlock ix → ⊥)
-    → ((ix : CowIndex) → body ≡ FootnoteDefinition ix → ⊥) → name_range_by body text x ≡ attribute_range text x
+    → ((ix : CowIndex) → body ≡ FootnoteDefinition ix → ⊥) → name_range_by body text x ≡ attribute_block_range text x
 other_name (FencedCodeBlock ix) text x no_code no_footnote = absurd (no_code ix refl)
 other_name (FootnoteDefinition ix) text x no_code no_footnote = absurd (no_footnote ix refl)
 other_name _ text x no_code no_footnote = refl

@@ -16,9 +16,9 @@ use Rattle.first_pass_items.specs.Bytes.{number_sign, full_stop, equals_sign}
 use Rattle.first_pass_items.specs.declared.item.Item.{Item}
 use Rattle.first_pass_attributes.specs.Attributes.{is_between_words}
 use Rattle.first_pass_places.specs.declared.attributes.AttributeKind.TheVariants.{Id, Class, Key}
-use Rattle.first_pass_places.specs.AttributeBlockPlaces.{attribute_range}
+use Rattle.first_pass_places.specs.AttributeBlockPlaces.{attribute_block_range}
 use Rattle.first_pass_places.specs.AttributePlaces.{range_of, is_word_range, word_range, word_ranges, place_of, key_with, key_place}
-use Rattle.first_pass_places.specs.AttributePlaces.{attribute_place, places_in, attribute_places}
+use Rattle.first_pass_places.specs.AttributePlaces.{attribute_place, places_in, attribute_ranges}
 use Rattle.first_pass_places.specs.InfoStrings.{bytes_in}
 use Rattle.first_pass_places.specs.RangeEnds.{EndsAreBoundaries, HasWholeCharacters}
 use Rattle.first_pass_places.proofs.BlockPlaces.{is_in, part_at, part_short}
@@ -121,5 +121,5 @@ places_by text (Some block) u h =
     (slice_index text (slice_index_or words k d).start == full_stop) u (between k d less) refl refl)
 
 -- the attributes of a heading
-pub places_between : (text : List ℕ) (x : Item) → IsUtf8 text → IsCharBoundary text x.start → All (HasWholeCharacters text) (attribute_places text x)
-places_between text x u b = places_by text (attribute_range text x) u (attributes_between text x u b)
+pub places_between : (text : List ℕ) (x : Item) → IsUtf8 text → IsCharBoundary text x.start → All (HasWholeCharacters text) (attribute_ranges text x)
+places_between text x u b = places_by text (attribute_block_range text x) u (attributes_between text x u b)

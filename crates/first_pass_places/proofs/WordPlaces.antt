@@ -12,8 +12,8 @@ use Rattle.std.proofs.lemmas.List.Splits.{slice_split_none, slice_split_at}
 use Rattle.std.proofs.lemmas.List.Sums.{prefix_len_passes, prefix_len_stops, prefix_len-le-length}
 use Rattle.first_pass_items.specs.declared.item.Item.{Item}
 use Rattle.first_pass_attributes.specs.Attributes.{is_between_words}
-use Rattle.first_pass_places.specs.AttributeBlockPlaces.{attribute_range}
-use Rattle.first_pass_places.specs.AttributePlaces.{range_of, is_word_range, word_range, ranges_from, word_ranges, attribute_place, places_in, attribute_places}
+use Rattle.first_pass_places.specs.AttributeBlockPlaces.{attribute_block_range}
+use Rattle.first_pass_places.specs.AttributePlaces.{range_of, is_word_range, word_range, ranges_from, word_ranges, attribute_place, places_in, attribute_ranges}
 
 -- an empty range has no words
 no_word_range : (at : ℕ) → word_range at (at + 0) ≡ []
@@ -84,10 +84,10 @@ pub one_word_range : (from next : ℕ) → from + 1 < next → length (word_rang
 one_word_range from next h = grind (arith, nat_tests, h)
 
 -- if a block has words of two bytes or more, the heading has attributes
-pub words_are_places : (text : List ℕ) (x : Item) (block : Range ℕ) → attribute_range text x ≡ Some block
-    → 0 < length (word_ranges text block.start block.«end») → 0 < length (attribute_places text x)
+pub words_are_places : (text : List ℕ) (x : Item) (block : Range ℕ) → attribute_block_range text x ≡ Some block
+    → 0 < length (word_ranges text block.start block.«end») → 0 < length (attribute_ranges text x)
 words_are_places text x block e some =
     let words : List (Range ℕ) = word_ranges text block.start block.«end» in
-    let same : length (attribute_places text x) ≡ length (map (attribute_place text) words) =
+    let same : length (attribute_ranges text x) ≡ length (map (attribute_place text) words) =
     ap (λ (o : Option (Range ℕ)). length (option_map_or (places_in text) o [])) e in
     omega (arith, same, length-map words (attribute_place text), some)

@@ -24,5 +24,5 @@ has_attributes (Heading level index) = is_some index
 has_attributes _ = false
 
 -- the range between the braces of a heading's attribute block, if the node is a heading with attributes (this project)
-abbrev pub attribute_range : List ℕ → Item → Option (Range ℕ)
-attribute_range text x = if has_attributes x.body then Some (block_range text x.start x.«end») else None
+abbrev pub attribute_block_range : List ℕ → Item → Option (Range ℕ)
+attribute_block_range text x = if has_attributes x.body then Some (block_range text x.start x.«end») else None

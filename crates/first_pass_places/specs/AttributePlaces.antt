@@ -8,8 +8,8 @@ use Rattle.first_pass_items.specs.declared.item.Item.{Item}
 use Rattle.first_pass_attributes.specs.Attributes.{is_between_words}
 use Rattle.first_pass_places.specs.declared.attributes.AttributeKind.{AttributeKind}
 use Rattle.first_pass_places.specs.declared.attributes.AttributeKind.TheVariants.{Id, Class, Key}
-use Rattle.first_pass_places.specs.declared.attributes.AttributePlace.{AttributePlace}
-use Rattle.first_pass_places.specs.AttributeBlockPlaces.{attribute_range}
+use Rattle.first_pass_places.specs.declared.attributes.AttributeRanges.{AttributeRanges}
+use Rattle.first_pass_places.specs.AttributeBlockPlaces.{attribute_block_range}
 use Rattle.first_pass_places.specs.InfoStrings.{bytes_in}
 
 -- the range from one offset up to another (this project)
@@ -34,11 +34,11 @@ unfoldable pub word_ranges : List ℕ → ℕ → ℕ → List (Range ℕ)
 word_ranges text start «end» = filter is_word_range (ranges_from start (slice_split is_between_words (slice_range text start «end»)))
 
 -- an attribute of a kind without a value, in a range (this project)
-abbrev pub place_of : AttributeKind → Range ℕ → AttributePlace
+abbrev pub place_of : AttributeKind → Range ℕ → AttributeRanges
 place_of kind range = record { kind = kind; name = range; value = None }
 
 -- the ranges of a key and its value in a range; a `=` after `at` bytes separates them (this project)
-abbrev pub key_with : Range ℕ → ℕ → AttributePlace
+abbrev pub key_with : Range ℕ → ℕ → AttributeRanges
 key_with range at = record {
   kind = Key;
   name = range_of range.start (range.start + at);
@@ -46,20 +46,20 @@ key_with range at = record {
 }
 
 -- the place of a key, up to the first `=` in a range, and of its value, if there is a `=` (this project)
-abbrev pub key_place : List ℕ → Range ℕ → AttributePlace
+abbrev pub key_place : List ℕ → Range ℕ → AttributeRanges
 key_place text range = option_map_or (key_with range) (position (λ b. b == equals_sign) (bytes_in text range)) (place_of Key range)
 
 -- the place of the attribute of a word: `#` begins an id, and `.` a class (this project)
-abbrev pub attribute_place : List ℕ → Range ℕ → AttributePlace
+abbrev pub attribute_place : List ℕ → Range ℕ → AttributeRanges
 attribute_place text range =
     if slice_index text range.start == number_sign
     then place_of Id (range_of (range.start + 1) range.«end»)
     else (if slice_index text range.start == full_stop then place_of Class (range_of (range.start + 1) range.«end») else key_place text range)
 
 -- the places of the attributes in a range, in the order of the text (this project)
-abbrev pub places_in : List ℕ → Range ℕ → List AttributePlace
+abbrev pub places_in : List ℕ → Range ℕ → List AttributeRanges
 places_in text range = map (attribute_place text) (word_ranges text range.start range.«end»)
 
 -- the places of the attributes of a heading; none for any other node, and without an attribute block (this project)
-abbrev pub attribute_places : List ℕ → Item → List AttributePlace
-attribute_places text x = option_map_or (places_in text) (attribute_range text x) []
+abbrev pub attribute_ranges : List ℕ → Item → List AttributeRanges
+attribute_ranges text x = option_map_or (places_in text) (attribute_block_range text x) []

@@ -29,7 +29,7 @@ entry_label entry = text_of entry.0
 
 -- for each folding that a footnote label of these nodes has, the table has the first such label and the index of its
 -- node (this project)
-pub record AreFirstNodes (names : Names) (nodes : List (ℕ × Item)) (table : List (CowStr × ℕ)) : Type 0 where
+pub record AreFirstFootnotes (names : Names) (nodes : List (ℕ × Item)) (table : List (CowStr × ℕ)) : Type 0 where
   pub definitions : List (CowStr × ℕ)
   pub labels : map entry_bytes definitions ≡ labels_from names 0 nodes
   pub first : table ≡ table_of definitions

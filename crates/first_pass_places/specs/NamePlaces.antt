@@ -11,7 +11,7 @@ use Rattle.first_pass_links.specs.Labels.{label_at}
 use Rattle.first_pass_grammar.specs.CodeBlocks.{NamesInfo}
 use Rattle.first_pass_grammar.specs.Leaves.{Document}
 use Rattle.first_pass_grammar.specs.Names.{Names, NamesText}
-use Rattle.first_pass_places.specs.AttributeBlockPlaces.{attribute_range, block_range}
+use Rattle.first_pass_places.specs.AttributeBlockPlaces.{attribute_block_range, block_range}
 use Rattle.first_pass_places.specs.FootnoteLabels.{label_range}
 use Rattle.first_pass_places.specs.InfoStrings.{bytes_in, info_range}
 use Rattle.first_pass_places.specs.RangeEnds.{IsAsciiAt, EndsAreBoundaries}
@@ -20,7 +20,7 @@ use Rattle.first_pass_places.specs.RangeEnds.{IsAsciiAt, EndsAreBoundaries}
 abbrev pub name_range_by : ItemBody → List ℕ → Item → Option (Range ℕ)
 name_range_by (FencedCodeBlock ix) text x = Some (info_range text x.start)
 name_range_by (FootnoteDefinition ix) text x = Some (label_range text x.start)
-name_range_by _ text x = attribute_range text x
+name_range_by _ text x = attribute_block_range text x
 
 -- the range that a node's info string, label or attributes have in the text, if the node names one of these (this
 -- project)
@@ -30,15 +30,15 @@ name_range text x = name_range_by x.body text x
 -- The mark of a node with this body that begins at an offset is ASCII: the first byte of its code fence (CommonMark
 -- 4.5), or the second byte of the `[^` of a footnote definition. Any other node begins on a character boundary (this
 -- project).
-abbrev pub HasAsciiMark : ItemBody → List ℕ → ℕ → Type 0
-HasAsciiMark (FencedCodeBlock ix) text start = IsAsciiAt text start
-HasAsciiMark (FootnoteDefinition ix) text start = IsAsciiAt text (start + 1)
-HasAsciiMark _ text start = IsCharBoundary text start
+abbrev pub HasWholeStart : ItemBody → List ℕ → ℕ → Type 0
+HasWholeStart (FencedCodeBlock ix) text start = IsAsciiAt text start
+HasWholeStart (FootnoteDefinition ix) text start = IsAsciiAt text (start + 1)
+HasWholeStart _ text start = IsCharBoundary text start
 
--- each of these nodes that starts on a character boundary meets `HasAsciiMark` (this project)
-abbrev pub HaveAsciiMarks : List ℕ → List (ℕ × Item) → Type 0
-HaveAsciiMarks text [] = Unit {0}
-HaveAsciiMarks text (n ∷ nodes) = (IsCharBoundary text n.1.start → HasAsciiMark n.1.body text n.1.start) × HaveAsciiMarks text nodes
+-- each of these nodes that starts on a character boundary meets `HasWholeStart` (this project)
+abbrev pub HaveWholeStarts : List ℕ → List (ℕ × Item) → Type 0
+HaveWholeStarts text [] = Unit {0}
+HaveWholeStarts text (n ∷ nodes) = (IsCharBoundary text n.1.start → HasWholeStart n.1.body text n.1.start) × HaveWholeStarts text nodes
 
 -- both ends of the range of a node's info string, label or attributes are on character boundaries, if the node is in
 -- the text and starts on a character boundary (this project)
@@ -61,15 +61,15 @@ NamesAttributesIn names (Some ix) bs = slice_get names.headings ix.0 ≡ Some (a
 
 -- Reading the range that an info string (CommonMark 4.5), a label or attributes have gives what a node with this body
 -- names. Of a label, some prefix of each further line is left out (this project).
-abbrev pub IsNamedBy : Names → List ℕ → Item → ItemBody → Type 0
-IsNamedBy names text x (FencedCodeBlock ix) = NamesInfo names ix (bytes_in text (info_range text x.start))
-IsNamedBy names text x (FootnoteDefinition ix) = (prefix : List ℕ → Option ℕ) × NamesLabelAt names prefix ix text (label_range text x.start)
-IsNamedBy names text x (Heading level index) = NamesAttributesIn names index (bytes_in text (block_range text x.start x.«end»))
-IsNamedBy names text x _ = Unit {0}
+abbrev pub IsReadFromTextBy : Names → List ℕ → Item → ItemBody → Type 0
+IsReadFromTextBy names text x (FencedCodeBlock ix) = NamesInfo names ix (bytes_in text (info_range text x.start))
+IsReadFromTextBy names text x (FootnoteDefinition ix) = (prefix : List ℕ → Option ℕ) × NamesLabelAt names prefix ix text (label_range text x.start)
+IsReadFromTextBy names text x (Heading level index) = NamesAttributesIn names index (bytes_in text (block_range text x.start x.«end»))
+IsReadFromTextBy names text x _ = Unit {0}
 
 -- reading the range that a node's info string, label or attributes have gives what the node names (this project)
 abbrev pub IsReadFromText : Names → List ℕ → Item → Type 0
-IsReadFromText names text x = IsNamedBy names text x x.body
+IsReadFromText names text x = IsReadFromTextBy names text x x.body
 
 -- for the first of these nodes, if there is one, reading the range that its info string, label or attributes have gives
 -- what the node names (this project)

@@ -2,7 +2,7 @@
 use Rattle.std.specs.Prelude.{ℕ, ◌<◌, List, slice_index, IfSome, IsCharBoundary}
 use Rattle.std.specs.declared.ops.Range.{Range}
 use Rattle.first_pass_items.specs.Bytes.{ascii_end}
-use Rattle.first_pass_places.specs.declared.attributes.AttributePlace.{AttributePlace}
+use Rattle.first_pass_places.specs.declared.attributes.AttributeRanges.{AttributeRanges}
 
 -- both ends of a range are on character boundaries (this project)
 abbrev pub EndsAreBoundaries : List ℕ → Range ℕ → Type 0
@@ -13,5 +13,5 @@ abbrev pub IsAsciiAt : List ℕ → ℕ → Type 0
 IsAsciiAt text at = slice_index text at < ascii_end
 
 -- the name of an attribute, and its value, if it has one, begin and end on character boundaries (this project)
-abbrev pub HasWholeCharacters : List ℕ → AttributePlace → Type 0
+abbrev pub HasWholeCharacters : List ℕ → AttributeRanges → Type 0
 HasWholeCharacters text place = EndsAreBoundaries text place.name × IfSome place.value (EndsAreBoundaries text)

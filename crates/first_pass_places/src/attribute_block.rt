@@ -2,7 +2,7 @@
 
 ghost use Rattle.std.specs.Prelude.{◌≡◌, ◌≤◌, ◌==◌, not, length, IfSome, IsCharBoundary};
 ghost use Rattle.std.specs.List.{suffix_len};
-ghost use Rattle.first_pass_places.specs.AttributeBlockPlaces.{attribute_range, upto_last};
+ghost use Rattle.first_pass_places.specs.AttributeBlockPlaces.{attribute_block_range, upto_last};
 ghost use Rattle.first_pass_places.specs.RangeEnds.{EndsAreBoundaries};
 
 use first_pass_items::item::{Item, ItemBody};
@@ -16,21 +16,21 @@ use std::ops::Range;
 pub fn attribute_block_range(text: &str, heading: &Item) -> Option<Range<usize>>
     requires order { heading.now.start ≤ heading.now.«end» }
     requires within { heading.now.«end» ≤ length text.now }
-    ensures value { result ≡ attribute_range text.now heading.now }
+    ensures value { result ≡ attribute_block_range text.now heading.now }
     ensures order { IfSome result (λ range. range.start ≤ range.«end») }
     ensures within { IfSome result (λ range. range.«end» ≤ length text.now) }
     ensures boundary { IsCharBoundary text.now heading.now.start
         → IfSome result (λ range. EndsAreBoundaries text.now range) }
 {
-    attribute_range(text.as_bytes(), heading)
+    attribute_block_range_in(text.as_bytes(), heading)
 }
 
 /// Returns the range between the braces of a heading's attribute block, if the node is a heading with attributes.
 #[tactic(auto, unfolding(crate::specs::AttributeBlockPlaces::block_range))]
-pub(crate) fn attribute_range(text: &[u8], heading: &Item) -> Option<Range<usize>>
+pub(crate) fn attribute_block_range_in(text: &[u8], heading: &Item) -> Option<Range<usize>>
     requires order { heading.now.start ≤ heading.now.«end» }
     requires within { heading.now.«end» ≤ length text.now }
-    ensures value { result ≡ attribute_range text.now heading.now }
+    ensures value { result ≡ attribute_block_range text.now heading.now }
     ensures order { IfSome result (λ range. range.start ≤ range.«end») }
     ensures within { IfSome result (λ range. range.«end» ≤ length text.now) }
 {

@@ -4,10 +4,10 @@ ghost use Rattle.std.specs.Prelude.{◌≡◌, ◌<◌, ◌≤◌, ◌++◌, ◌
 ghost use Rattle.std.specs.List.{position, prefix_len};
 ghost use Rattle.first_pass_items.specs.Bytes.{equals_sign};
 ghost use Rattle.first_pass_attributes.specs.Attributes.{is_between_words};
-ghost use Rattle.first_pass_places.specs.AttributePlaces.{attribute_place, attribute_places, key_place, range_of, word_range, word_ranges};
+ghost use Rattle.first_pass_places.specs.AttributePlaces.{attribute_place, attribute_ranges, key_place, range_of, word_range, word_ranges};
 ghost use Rattle.first_pass_places.specs.RangeEnds.{HasWholeCharacters};
 
-use crate::attribute_block::attribute_range;
+use crate::attribute_block::attribute_block_range_in;
 use first_pass_items::item::Item;
 use std::alloc::{AllocError, Global};
 use std::ops::Range;
@@ -25,7 +25,7 @@ pub enum AttributeKind {
 
 /// Where an attribute of a heading is written, as byte offsets into the text (this project).
 #[derive(Drop)]
-pub struct AttributePlace {
+pub struct AttributeRanges {
     pub kind: AttributeKind,
     /// The range of the id or the class without its mark, or of the key.
     pub name: Range<usize>,
@@ -42,30 +42,30 @@ pub fn attribute_ranges(
     alloc: Global,
     text: &str,
     heading: &Item,
-) -> Result<Vec<AttributePlace>, AllocError>
+) -> Result<Vec<AttributeRanges>, AllocError>
     requires order { heading.now.start ≤ heading.now.«end» }
     requires within { heading.now.«end» ≤ length text.now }
-    ensures value { IfOk result (λ places. places.items ≡ attribute_places text.now heading.now) }
+    ensures value { IfOk result (λ places. places.items ≡ attribute_ranges text.now heading.now) }
     ensures boundary { IsCharBoundary text.now heading.now.start
         → IfOk result (λ places. All (HasWholeCharacters text.now) places.items) }
-    ensures err { OnErr result (0 < length (attribute_places text.now heading.now)) }
+    ensures err { OnErr result (0 < length (attribute_ranges text.now heading.now)) }
 {
-    attribute_places(alloc, text.as_bytes(), heading)
+    attribute_ranges_in(alloc, text.as_bytes(), heading)
 }
 
 // Where the attributes of a heading are written.
-fn attribute_places(
+fn attribute_ranges_in(
     alloc: Global,
     text: &[u8],
     heading: &Item,
-) -> Result<Vec<AttributePlace>, AllocError>
+) -> Result<Vec<AttributeRanges>, AllocError>
     requires order { heading.now.start ≤ heading.now.«end» }
     requires within { heading.now.«end» ≤ length text.now }
-    ensures value { IfOk result (λ places. places.items ≡ attribute_places text.now heading.now) }
-    ensures err { OnErr result (0 < length (attribute_places text.now heading.now)) }
+    ensures value { IfOk result (λ places. places.items ≡ attribute_ranges text.now heading.now) }
+    ensures err { OnErr result (0 < length (attribute_ranges text.now heading.now)) }
 {
     let mut places = Vec::new(alloc);
-    if let Some(block) = attribute_range(text, heading) {
+    if let Some(block) = attribute_block_range_in(text, heading) {
         add_words(&mut places, text, block.start, block.end)?;
     }
     Ok(places)
@@ -73,7 +73,7 @@ fn attribute_places(
 
 // Adds the ranges of the attributes between two offsets to `places`.
 fn add_words(
-    places: &mut Vec<AttributePlace>,
+    places: &mut Vec<AttributeRanges>,
     text: &[u8],
     start: usize,
     end: usize,
@@ -94,7 +94,7 @@ fn add_words(
 
 // If the word has two bytes or more, adds the ranges of its attribute to `places`.
 fn add_word(
-    places: &mut Vec<AttributePlace>,
+    places: &mut Vec<AttributeRanges>,
     text: &[u8],
     start: usize,
     end: usize,
@@ -126,18 +126,18 @@ fn is_between_words(byte: u8) -> bool
 }
 
 // Where the attribute of a word is written.
-fn attribute_place(text: &[u8], start: usize, end: usize) -> AttributePlace
+fn attribute_place(text: &[u8], start: usize, end: usize) -> AttributeRanges
     requires order { start < end }
     requires within { end ≤ length text.now }
     ensures { result ≡ attribute_place text.now (range_of start end) }
 {
     match text[start] {
-        b'#' => AttributePlace {
+        b'#' => AttributeRanges {
             kind: AttributeKind::Id,
             name: start + 1..end,
             value: None,
         },
-        b'.' => AttributePlace {
+        b'.' => AttributeRanges {
             kind: AttributeKind::Class,
             name: start + 1..end,
             value: None,
@@ -147,18 +147,18 @@ fn attribute_place(text: &[u8], start: usize, end: usize) -> AttributePlace
 }
 
 // Where a key and its value are written.
-fn key_place(text: &[u8], start: usize, end: usize) -> AttributePlace
+fn key_place(text: &[u8], start: usize, end: usize) -> AttributeRanges
     requires order { start < end }
     requires within { end ≤ length text.now }
     ensures { result ≡ key_place text.now (range_of start end) }
 {
     match scan_key(&text[start..end]) {
-        None => AttributePlace {
+        None => AttributeRanges {
             kind: AttributeKind::Key,
             name: start..end,
             value: None,
         },
-        Some(at) => AttributePlace {
+        Some(at) => AttributeRanges {
             kind: AttributeKind::Key,
             name: start..start + at,
             value: Some(start + at + 1..end),

@@ -2,7 +2,7 @@
 
 ghost use Rattle.std.specs.Prelude.{◌<◌, length, IfOk, OnOk, OnErr};
 ghost use Rattle.first_pass_names.specs.TableEntries.{names_of};
-ghost use Rattle.first_pass_places.specs.FootnoteNodes.{AreFirstNodes, AddsNode, label_with_index, labels_from};
+ghost use Rattle.first_pass_places.specs.FootnoteNodes.{AreFirstFootnotes, AddsNode, label_with_index, labels_from};
 
 use first_pass_items::cow_str::CowStr;
 use first_pass_items::item::{Item, ItemBody};
@@ -19,7 +19,7 @@ pub fn footnote_nodes<'d>(
     nodes: &[(usize, Item)],
     allocs: &'d Allocations<'_>,
 ) -> Result<LabelTable<'d, usize>, AllocError>
-    ensures value { IfOk result (λ table. AreFirstNodes (names_of allocs.now) nodes.now table) }
+    ensures value { IfOk result (λ table. AreFirstFootnotes (names_of allocs.now) nodes.now table) }
     ensures err { OnErr result (0 < length (labels_from (names_of allocs.now) 0 nodes.now)) }
 {
     let mut table = LabelTable::new(alloc);

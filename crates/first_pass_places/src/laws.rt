@@ -22,12 +22,12 @@ ghost use Rattle.first_pass_grammar.specs.Kinds.{unindented};
 ghost use Rattle.first_pass_grammar.specs.Leaves.{Document, IsHeading, around, heading_block, heading_text_at};
 ghost use Rattle.first_pass_grammar.specs.Tables.{Taken};
 ghost use Rattle.first_pass_grammar.specs.Texts.{IsPlainText};
-ghost use Rattle.first_pass_places.specs.AttributeBlockPlaces.{attribute_range};
-ghost use Rattle.first_pass_places.specs.AttributePlaces.{attribute_places};
+ghost use Rattle.first_pass_places.specs.AttributeBlockPlaces.{attribute_block_range};
+ghost use Rattle.first_pass_places.specs.AttributePlaces.{attribute_ranges};
 ghost use Rattle.first_pass_places.specs.FootnoteLabels.{label_range};
-ghost use Rattle.first_pass_places.specs.FootnoteNodes.{AreFirstNodes, entry_label};
+ghost use Rattle.first_pass_places.specs.FootnoteNodes.{AreFirstFootnotes, entry_label};
 ghost use Rattle.first_pass_places.specs.InfoStrings.{bytes_in};
-ghost use Rattle.first_pass_places.specs.NamePlaces.{FirstIsReadFromText, HasNameOnBoundaries, HaveAsciiMarks, NamesLabelAt};
+ghost use Rattle.first_pass_places.specs.NamePlaces.{FirstIsReadFromText, HasNameOnBoundaries, HaveWholeStarts, NamesLabelAt};
 ghost use Rattle.first_pass_places.specs.PlacedAttributes.{attributes_from_places};
 
 /// The info string that a fenced code block names is what the bytes in `info_range` give, with escapes and references
@@ -69,19 +69,19 @@ pub fn setext_attributes_are_read()
         → FirstIsReadFromText d t.items }
 {}
 
-/// The attributes that `attributes_from_places` reads at the places from `attribute_places` are those of the bytes
+/// The attributes that `attributes_from_places` reads at the ranges from `attribute_ranges` are those of the bytes
 /// between the braces of the heading's block: the last id, and the classes and the keys with their values in order
 /// (this project).
 pub fn attributes_are_read()
-    ensures { (text : List ℕ) (x : Item) (block : Range ℕ) → attribute_range text x ≡ Some block
-        → attributes_from_places text (attribute_places text x) ≡ attributes_of (bytes_in text block) }
+    ensures { (text : List ℕ) (x : Item) (block : Range ℕ) → attribute_block_range text x ≡ Some block
+        → attributes_from_places text (attribute_ranges text x) ≡ attributes_of (bytes_in text block) }
 {}
 
 /// In a derived tree, if a fenced code block or a footnote definition starts on a character boundary, its mark is ASCII
 /// (CommonMark 4.5, and this project).
-pub fn nodes_have_ascii_marks()
+pub fn nodes_have_whole_starts()
     ensures { (d : Document) (nodes : List (ℕ × Item)) (tables : Tables) → Derives d nodes tables
-        → HaveAsciiMarks d.text nodes }
+        → HaveWholeStarts d.text nodes }
 {}
 
 /// In a derived tree of a text in UTF-8, both ends of the range of a node's info string, label or attributes are on
@@ -91,9 +91,9 @@ pub fn names_have_whole_characters()
         → All (λ n. HasNameOnBoundaries d.text n.1) nodes }
 {}
 
-/// For the nodes of a derived tree, a table that meets `AreFirstNodes` has the same labels as the tree's table of
+/// For the nodes of a derived tree, a table that meets `AreFirstFootnotes` has the same labels as the tree's table of
 /// footnotes, in the same order (this project).
 pub fn footnotes_have_nodes()
     ensures { (d : Document) (nodes : List (ℕ × Item)) (tables : Tables) (table : List (CowStr × ℕ))
-        → Derives d nodes tables → AreFirstNodes d.names nodes table → map entry_label table ≡ tables.footnotes }
+        → Derives d nodes tables → AreFirstFootnotes d.names nodes table → map entry_label table ≡ tables.footnotes }
 {}

@@ -16,7 +16,7 @@ use crate::verdict::Verdict;
 use first_pass_items::item::Item;
 use first_pass_lines::places::next_line;
 use first_pass_names::items::Allocations;
-use first_pass_open::containers::quotes_end;
+use first_pass_open::containers::nodes_to_quote;
 use first_pass_open::front::scan_continued_past;
 use first_pass_open::open_block::BlockLines;
 use first_pass_open::source::Source;
@@ -76,10 +76,10 @@ pub fn read_lines<'a, J: JudgesLines>(
 {
     tree.recall_forest();
     let kind = judge.kind();
-    let quotes_end = quotes_end(tree);
+    let nodes_to_quote = nodes_to_quote(tree);
     let mut ix = start;
     while ix < source.text.len() {
-        let Some(mut line_start) = scan_continued_past(source, tree, ix, quotes_end) else {
+        let Some(mut line_start) = scan_continued_past(source, tree, ix, nodes_to_quote) else {
             return Ok(BlockLines { end: ix, next: ix });
         };
         let next = next_line(source.text.as_bytes(), ix);

@@ -16,7 +16,7 @@ use first_pass_items::item::{Item, ItemBody};
 use first_pass_lines::lines::scan_blank_line;
 use first_pass_lines::places::next_line;
 use first_pass_names::items::Allocations;
-use first_pass_open::containers::quotes_end;
+use first_pass_open::containers::nodes_to_quote;
 use first_pass_open::front::scan_continued_past;
 use first_pass_open::open_block::{close_block, open_block};
 use first_pass_open::source::Source;
@@ -52,14 +52,14 @@ pub fn parse_indented_code_block<'a>(
     let text = source.text;
     open_block(tree, start_ix, ItemBody::IndentCodeBlock)?;
     tree.recall_forest();
-    let quotes_end = quotes_end(tree);
+    let nodes_to_quote = nodes_to_quote(tree);
     let mut next = append_line(tree, allocs, text, start_ix, remaining_space)?;
     let mut kept = Kept {
         last: tree.cur(),
         end: next,
     };
     let mut blank = false;
-    'lines: while let Some(line_start) = indented_line(source, tree, next, quotes_end) {
+    'lines: while let Some(line_start) = indented_line(source, tree, next, nodes_to_quote) {
         let at = next + line_start.bytes_scanned();
         blank = scan_blank_line(line_start.left()).is_some();
         next = append_line(tree, allocs, text, at, line_start.remaining_space())?;
@@ -131,22 +131,22 @@ fn cut_after(tree: &mut Tree<Item>, kept: Kept)
 }
 
 // The rest of the line at `start`, after its container prefixes and four columns or fewer, if it continues indented
-// code. None of the open nodes after the first `quotes_end`, counted from the outermost, may be a block quote.
+// code. None of the open nodes after the first `nodes_to_quote`, counted from the outermost, may be a block quote.
 fn indented_line<'a>(
     source: &Source<'a>,
     tree: &Tree<Item>,
     start: usize,
-    quotes_end: usize,
+    nodes_to_quote: usize,
 ) -> Option<LineStart<'a>>
     requires boundary { IsCharBoundary source.now.text.now start }
-    requires quotes { has_quote_after source.now.options tree.now quotes_end ≡ false }
+    requires quotes { has_quote_after source.now.options tree.now nodes_to_quote ≡ false }
     ensures value { result ≡ code_rest_at source.now.text.now (path_of source.now.options tree.now) start }
     ensures place { IfSome result (λ line_start. IsPlaceOf source.now.text.now (place_at start line_start)) }
 {
     if start == source.text.len() {
         return None;
     }
-    let mut line_start = scan_continued_past(source, tree, start, quotes_end)?;
+    let mut line_start = scan_continued_past(source, tree, start, nodes_to_quote)?;
     if !line_start.scan_space(4) && !line_start.is_at_eol() {
         return None;
     }

@@ -23,7 +23,7 @@ use Rattle.first_pass_grammar.specs.Completion.{IsPlain, last_plain, last_define
 use Rattle.first_pass_open.specs.OpenBlock.{closed_by}
 use Rattle.first_pass_open.specs.Path.{path_of}
 use Rattle.first_pass_lists.specs.Closing.{top_body, top_end, is_definition_list, title_by, possible_title, precedes_definition}
-use Rattle.first_pass_lists.specs.Closing.{takes_definition}
+use Rattle.first_pass_lists.specs.Closing.{may_begin_definition}
 use Rattle.first_pass_ready.specs.State.{frame_of, frame_at, AreOpen, closed_in_definitions, closed_elsewhere, closed_below, closed_none, closed_with}
 use Rattle.first_pass_ready.specs.State.{closed_in}
 use Rattle.first_pass_ready.proofs.OpenLemmas.{open_path}
@@ -154,7 +154,7 @@ takes_by f None = takes_none (top_body f)
 takes_by f (Some c) =
     takes_item (top_end f) c.0 (top_body f) (item_at f c) ∙ ap (precedes_definition (top_body f)) (sym (body_by (slice_get f.nodes c.0)))
 
-pub takes_same : (f : Forest Item) → takes_after (last_in f) ≡ takes_definition f
+pub takes_same : (f : Forest Item) → takes_after (last_in f) ≡ may_begin_definition f
 takes_same f = takes_by f f.current
 
 -- if no definition list is innermost, the body of the current node decides what is last

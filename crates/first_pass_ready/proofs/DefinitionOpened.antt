@@ -33,7 +33,7 @@ use Rattle.first_pass_completion.proofs.States.{open_nodes}
 use Rattle.first_pass_completion.proofs.TitleNodes.{reflagged, length-with_title}
 use Rattle.first_pass_open.specs.Path.{path_of}
 use Rattle.first_pass_lists.specs.Closing.{with_tree, loosened_by, top_body, top_end, is_definition_list, is_list, possible_title, title_by}
-use Rattle.first_pass_lists.specs.Closing.{precedes_definition, takes_definition, loosened_top, definitions_by, definitions_at}
+use Rattle.first_pass_lists.specs.Closing.{precedes_definition, may_begin_definition, loosened_top, definitions_by, definitions_at}
 use Rattle.first_pass_lists.specs.Closing.{definitions_opened, definition_begun}
 use Rattle.first_pass_lists.specs.declared.state.PassState.{PassState}
 use Rattle.first_pass_ready.specs.State.{frame_of, frame_at, AreOpen, closed_in, ReadyAt}
@@ -377,7 +377,7 @@ kept_as r g true is none = (refl, refl, none)
 kept_as r g false is none = (refl, is, none)
 
 pub definition_is_open : (d : Document) (defined : Tables) (r : PassState) (p : Place) (lines following : List Place) (columns : ℕ) (from : Continues)
-    → MayBegin d defined r p lines → takes_definition r.tree ≡ true
+    → MayBegin d defined r p lines → may_begin_definition r.tree ≡ true
     → Opens d (level_of d.options r.tree r.blank) p lines (OpensNode (definition_head p columns) from following)
     → HasBegun d defined r (definition_begun (offset p) columns r) (Definition columns) from following
 unfolding definition_begun

@@ -39,7 +39,7 @@ use Rattle.first_pass_kinds.proofs.KindLemmas.{blank_kind}
 use Rattle.first_pass_completion.proofs.States.{open_nodes}
 use Rattle.first_pass_completion.proofs.Completions.{counted_after, completes-enter, completes-blank_line, completes-only_blank}
 use Rattle.first_pass_open.specs.OpenBlock.{closed_by}
-use Rattle.first_pass_lists.specs.Closing.{top_body, is_item, popped_by, popped, item_finished_by, item_finished, emptied, emptied_definition, blank_read_by}
+use Rattle.first_pass_lists.specs.Closing.{top_body, is_item, popped_by, popped, empty_item_closed_by, empty_item_closed, emptied, emptied_definition, blank_read_by}
 use Rattle.first_pass_lists.specs.Closing.{blank_read}
 use Rattle.first_pass_lists.specs.declared.state.PassState.{PassState}
 use Rattle.first_pass_open.specs.Path.{container_of, container_at, with_container, path_in, path_of}
@@ -500,7 +500,7 @@ module _ (d : Document) (defined : Tables) (r : PassState) (line : Place) (lines
   ready_blank_line stays h ready = blank_with r.begin_list_item refl stays h ready
 
   module _ (e : ℕ) (empty : ReadyEmpty d defined r e (line ∷ lines)) where
-    finished_is : (blank : Bool) → r.blank ≡ blank → item_finished_by r (Some e) ≡ record (if blank then popped e r else r) { begin_list_item = None }
+    finished_is : (blank : Bool) → r.blank ≡ blank → empty_item_closed_by r (Some e) ≡ record (if blank then popped e r else r) { begin_list_item = None }
     finished_is blank is =
         let b = own e empty in
         ap (λ o. record (if r.blank && is_item o then popped e r else r) { begin_list_item = None }) (top_item e empty b.0 b.1)
@@ -546,13 +546,13 @@ module _ (d : Document) (defined : Tables) (r : PassState) (line : Place) (lines
         (ready_enter d defined r.tree false line lines rest goes (stays_unblank d.options r.tree) now)
 
   entered_with : (o : Option ℕ) → ends_here d.options r.tree r.blank ≡ false → is_blank_rest rest ≡ false → ReadyWith d defined r (line ∷ lines) o
-      → (let q : PassState = item_finished_by r o in ReadyAt d defined q.tree q.blank (Inside (at_rest line rest)) lines)
+      → (let q : PassState = empty_item_closed_by r o in ReadyAt d defined q.tree q.blank (Inside (at_rest line rest)) lines)
   entered_with None stays h ready = ready_enter d defined r.tree r.blank line lines rest goes stays ready
   entered_with (Some e) stays h ready = subst (λ (q : PassState). ReadyAt d defined q.tree q.blank (Inside (at_rest line rest)) lines)
       (sym (finished_is e ready r.blank refl)) (emptied_ends e ready r.blank refl h ready.ready)
 
   -- the place in a line that is not blank and that all open containers continue
   pub ready_line : ends_here d.options r.tree r.blank ≡ false → is_blank_rest rest ≡ false → Ready d defined r (line ∷ lines)
-      → ReadyAt d defined (item_finished r).tree (item_finished r).blank (Inside (at_rest line rest)) lines
-  unfolding Ready item_finished
+      → ReadyAt d defined (empty_item_closed r).tree (empty_item_closed r).blank (Inside (at_rest line rest)) lines
+  unfolding Ready empty_item_closed
   ready_line stays h ready = entered_with r.begin_list_item stays h ready

@@ -29,7 +29,7 @@ use Rattle.first_pass_completion.proofs.TitleNodes.{reflagged}
 use Rattle.first_pass_completion.proofs.Flags.{IsListAround, completes-reflag}
 use Rattle.first_pass_completion.proofs.SilentNodes.{from_modified}
 use Rattle.first_pass_lists.specs.Closing.{loosened_by, loosened_at, top_body, top_end, is_definition_list, is_list, possible_title, popped}
-use Rattle.first_pass_lists.specs.Closing.{item_finished_by, item_finished, list_closed, gap_tree, gap_noted, list_finished}
+use Rattle.first_pass_lists.specs.Closing.{empty_item_closed_by, empty_item_closed, list_closed, gap_tree, gap_loosened, list_finished}
 use Rattle.first_pass_lists.specs.declared.state.PassState.{PassState}
 use Rattle.first_pass_open.specs.Path.{container_of, with_container, path_in, path_of}
 use Rattle.first_pass_ready.specs.State.{frame_of, frame_at, is_footnote_in_another, closed_elsewhere, closed_in, AreOpen, ReadyAt}
@@ -522,7 +522,7 @@ noted_as d defined r p lines opening false is none opens left =
 pub ready_finished : (d : Document) (defined : Tables) (r : PassState) (p : Place) (lines : List Place) (at : ℕ) (opening : Opening)
     → MayBegin d defined r p lines → OpensOther d (path_of d.options r.tree) p opening → Opens d (level_of d.options r.tree r.blank) p lines opening
     → EndsListAt at (top_body r.tree) (closed_in r.tree) opening → Finished d defined r (list_finished at r) p lines opening
-unfolding list_finished item_finished
+unfolding list_finished empty_item_closed
 ready_finished d defined r p lines at opening may begins opens away =
     let l : PassState = list_closed at r in
     let kept = kept_left r at r.tree.spine (top_body r.tree) refl refl in
@@ -531,8 +531,8 @@ ready_finished d defined r p lines at opening may begins opens away =
     ready_left d defined r p lines at opening may.forest begins.stays opens begins.block begins.other away may.ready in
     let left' : LeftPlain d defined l.tree l.blank p lines opening = subst (λ t. LeftPlain d defined l.tree t p lines opening) (sym kept.0) left in
     let done = noted_as d defined l p lines opening l.blank refl (kept.1 may.none) (subst (λ z. OpensOther d z p opening) (sym path) begins) left' in
-    let same : item_finished_by r r.begin_list_item ≡ r = ap (item_finished_by r) may.none in
-    subst (λ q. Finished d defined r (gap_noted (list_closed at q)) p lines opening) (sym same)
+    let same : empty_item_closed_by r r.begin_list_item ≡ r = ap (empty_item_closed_by r) may.none in
+    subst (λ q. Finished d defined r (gap_loosened (list_closed at q)) p lines opening) (sym same)
     (record { ready = done.ready; opens = done.opens; path = done.path ∙ path; blank = done.blank; none = done.none })
 
 path_noted : (options : Options) (t : Bool) (r : PassState)
@@ -542,9 +542,9 @@ path_noted options false r = refl
 
 -- a new block ends no container
 pub path_finished : (options : Options) (at : ℕ) (r : PassState) → r.begin_list_item ≡ None → path_of options (list_finished at r).tree ≡ path_of options r.tree
-unfolding list_finished item_finished
+unfolding list_finished empty_item_closed
 path_finished options at r none =
-    let same : item_finished_by r r.begin_list_item ≡ r = ap (item_finished_by r) none in
+    let same : empty_item_closed_by r r.begin_list_item ≡ r = ap (empty_item_closed_by r) none in
     let l : PassState = list_closed at r in
-    subst (λ q. path_of options (gap_noted (list_closed at q)).tree ≡ path_of options r.tree) (sym same)
+    subst (λ q. path_of options (gap_loosened (list_closed at q)).tree ≡ path_of options r.tree) (sym same)
     (path_noted options l.blank l ∙ path_left options r at r.tree.spine (top_body r.tree) refl refl)

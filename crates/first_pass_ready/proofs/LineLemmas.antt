@@ -14,7 +14,7 @@ use Rattle.first_pass_grammar.specs.Leaves.{Document}
 use Rattle.first_pass_grammar.specs.Skeleton.{Inside}
 use Rattle.first_pass_grammar.specs.Derivation.{Tables}
 use Rattle.first_pass_grammar.specs.Completion.{lines_from}
-use Rattle.first_pass_lists.specs.Closing.{item_finished}
+use Rattle.first_pass_lists.specs.Closing.{empty_item_closed}
 use Rattle.first_pass_lists.specs.Closing.{blank_read}
 use Rattle.first_pass_lists.specs.declared.state.PassState.{PassState}
 use Rattle.first_pass_open.specs.Path.{path_in, path_of, outer}
@@ -85,7 +85,7 @@ blank_line_read d defined old new start r line blank ready =
 -- a line that is not blank
 pub line_entered : (d : Document) (defined : Tables) (old new : PassState) (start : ℕ) (r : Rest)
     → IsSettled d defined old new start r → is_some (blank_len r.left) ≡ false → Ready d defined old (lines_from d.text start)
-    → ReadyAt d defined (item_finished new).tree (item_finished new).blank (Inside (place_at start r))
+    → ReadyAt d defined (empty_item_closed new).tree (empty_item_closed new).blank (Inside (place_at start r))
     (lines_from d.text (start + line_len (drop start d.text)))
 line_entered d defined old new start r line blank ready =
     let now = line.ready ready in

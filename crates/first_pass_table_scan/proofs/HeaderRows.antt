@@ -125,7 +125,8 @@ pub open_at : (row : List ℕ) (at : ℕ)
 open_at row at = ap (λ t. is_pipe (get_or row at 0) && not t) (sym (backslash_if (nat_lt 0 at) (slice_index row (at - 1))))
 
 -- a row with one more byte, which is a pipe that counts, or not
-pub step-open : (row : List ℕ) (i pipes end : ℕ) → i < length row → is_open_at row i ≡ true → IsCounted row i pipes end → IsCounted row (i + 1) (pipes + 1) (i + 1)
+pub step-open : (row : List ℕ) (i pipes end : ℕ) → i < length row → is_open_at row i ≡ true → IsCounted row i pipes end
+    → IsCounted row (i + 1) (pipes + 1) (i + 1)
 step-open row i pipes end l t old =
     let x : ℕ = get_or row i 0 in
     let b : ℕ = byte_before row i in

@@ -28,7 +28,7 @@ use Rattle.first_pass_lines.proofs.LineFacts.{line_len-fits}
 use Rattle.first_pass_tokens.specs.LineTokens.{AreLineTokens}
 use Rattle.first_pass_text.proofs.AttributeEnds.{content_read, before_none, length_some, braces_within}
 use Rattle.first_pass_attributes.specs.AttributeBlocks.{Braces}
-use Rattle.first_pass_text.specs.declared.heading.AttributePlace.{AttributePlace}
+use Rattle.first_pass_text.specs.declared.heading.AttributeBlock.{AttributeBlock}
 use Rattle.std.specs.Option.{option_map, option_map_or, unwrap_or}
 use Rattle.first_pass_open.specs.Between.{line_end_at}
 use Rattle.first_pass_text.specs.Appends.{with_closed_break, AppendsHeading, attribute_place}
@@ -153,16 +153,16 @@ heading_read d start next cut index old new cut_is next_is a named =
     )
 
 -- the end of a heading's line, from the place of its block or after its content
-place_at : List ℕ → ℕ → Braces → AttributePlace
+place_at : List ℕ → ℕ → Braces → AttributeBlock
 place_at text start b = record { opening = start + b.opening; line_end = line_end_at text start }
 
-cut_of : (text : List ℕ) (start : ℕ) (o : Option Braces) → option_map (λ (p : AttributePlace). p.opening) (option_map (place_at text start) o) ≡ cut_by start o
+cut_of : (text : List ℕ) (start : ℕ) (o : Option Braces) → option_map (λ (p : AttributeBlock). p.opening) (option_map (place_at text start) o) ≡ cut_by start o
 unfolding place_at
 cut_of text start None = refl
 cut_of text start (Some b) = refl
 
 end_of : (text : List ℕ) (start next : ℕ) (o : Option Braces) → next ≡ line_end_at (text_upto text (cut_by start o)) start
-    → option_map_or (λ (p : AttributePlace). p.line_end) (option_map (place_at text start) o) next ≡ line_end_at text start
+    → option_map_or (λ (p : AttributeBlock). p.line_end) (option_map (place_at text start) o) next ≡ line_end_at text start
 unfolding place_at
 end_of text start next None e = e
 end_of text start next (Some b) e = refl
@@ -181,12 +181,12 @@ place_some options text start opening to block h e f =
     let at : opening ≡ start + block.opening = e ∙ ap (λ n. start + n) (length_some options (heading_line text start) block h) in
     rw (at, f) (sym (ap (option_map (place_at text start)) h))
 
-pub place_cut : (text : List ℕ) (options : Options) (start : ℕ) (place : Option AttributePlace) → place ≡ attribute_place options text start
-    → option_map (λ (p : AttributePlace). p.opening) place
+pub place_cut : (text : List ℕ) (options : Options) (start : ℕ) (place : Option AttributeBlock) → place ≡ attribute_place options text start
+    → option_map (λ (p : AttributeBlock). p.opening) place
     ≡ option_map (λ (b : Braces). start + b.opening) (heading_attribute_block options (heading_line text start))
 unfolding place_at
 place_cut text options start place e =
-    ap (option_map (λ (p : AttributePlace). p.opening)) e ∙ cut_of text start (heading_attribute_block options (heading_line text start))
+    ap (option_map (λ (p : AttributeBlock). p.opening)) e ∙ cut_of text start (heading_attribute_block options (heading_line text start))
 
 fits_by : (text : List ℕ) (options : Options) (start : ℕ) (o : Option Braces) → heading_attribute_block options (heading_line text start) ≡ o
     → start ≤ length text
@@ -201,19 +201,19 @@ fits_by text options start (Some block) h within =
     (fits, omega arith)
 
 -- the content that ends before a block is in the text
-pub place_fits : (text : List ℕ) (options : Options) (start : ℕ) (place : Option AttributePlace) (cut : Option ℕ) → place ≡ attribute_place options text start
-    → cut ≡ option_map (λ (p : AttributePlace). p.opening) place → start ≤ length text
+pub place_fits : (text : List ℕ) (options : Options) (start : ℕ) (place : Option AttributeBlock) (cut : Option ℕ) → place ≡ attribute_place options text start
+    → cut ≡ option_map (λ (p : AttributeBlock). p.opening) place → start ≤ length text
     → IfSome cut (λ e. e ≤ length text) × (start ≤ length (text_upto text cut))
 place_fits text options start place cut e f within =
     subst (λ c. IfSome c (λ e. e ≤ length text) × (start ≤ length (text_upto text c))) (sym (f ∙ place_cut text options start place e))
     (fits_by text options start (heading_attribute_block options (heading_line text start)) refl within)
 
-pub place_end : (text : List ℕ) (options : Options) (start next : ℕ) (place : Option AttributePlace) → place ≡ attribute_place options text start
-    → next ≡ line_end_at (text_upto text (option_map (λ (p : AttributePlace). p.opening) place)) start
-    → option_map_or (λ (p : AttributePlace). p.line_end) place next ≡ line_end_at text start
+pub place_end : (text : List ℕ) (options : Options) (start next : ℕ) (place : Option AttributeBlock) → place ≡ attribute_place options text start
+    → next ≡ line_end_at (text_upto text (option_map (λ (p : AttributeBlock). p.opening) place)) start
+    → option_map_or (λ (p : AttributeBlock). p.line_end) place next ≡ line_end_at text start
 unfolding place_at
 place_end text options start next place e f =
-    ap (λ o. option_map_or (λ (p : AttributePlace). p.line_end) o next) e
+    ap (λ o. option_map_or (λ (p : AttributeBlock). p.line_end) o next) e
     ∙ end_of text start next (heading_attribute_block options (heading_line text start))
     (f ∙ ap (λ c. line_end_at (text_upto text c) start) (place_cut text options start place e))
 

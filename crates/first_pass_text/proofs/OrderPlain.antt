@@ -21,7 +21,7 @@ use Rattle.first_pass_grammar.specs.Order.{FitsBetween, IsBetween}
 use Rattle.first_pass_grammar.specs.OpenOrder.{is_in_item, within_top}
 use Rattle.first_pass_text.specs.Appends.{AddsPlainText}
 use Rattle.first_pass_grammar.proofs.Order.Orders.{length-block, row_of, row_of-laid, row_of-fits}
-use Rattle.first_pass_open.specs.Between.{AddsBetween, IsInItem, StandsBefore}
+use Rattle.first_pass_open.specs.Between.{AddsBetween, MarkerIsInItem, MarkerBetween}
 use Rattle.first_pass_open.specs.Path.{path_of}
 use Rattle.first_pass_items.specs.declared.item.ItemBody.{ItemBody}
 use Rattle.first_pass_items.specs.declared.item.ItemBody.TheVariants.{TaskListMarker, Paragraph as ParagraphBody, Heading as HeadingBody}
@@ -75,7 +75,7 @@ text_extent start next = record { start = start; «end» = next; text_block = tr
 
 -- the children of a paragraph
 kids_fit : (text : List ℕ) (w : Within) (from start next : ℕ) (marker : Option Item) (chain : List Item)
-    → AreInOrder text start next chain → StandsBefore text from start marker → StandsIn w marker
+    → AreInOrder text start next chain → MarkerBetween text from start marker → StandsIn w marker
     → (from ≤ start) × Fits text (below w from (text_extent start next)) start next (row_of (marker_items marker ++ chain))
 unfolding Fits row_of
 kids_fit text w from start next None chain h stands inside =
@@ -96,7 +96,7 @@ block_laid start next body chain =
 inside_top : (t : Bool) → t ≡ true → (if t then InItem else Elsewhere) ≡ InItem
 inside_top t h = rw h refl
 
-top_stands : (old : Forest Item) (marker : Option Item) → IsInItem old marker → StandsIn (within_top old) marker
+top_stands : (old : Forest Item) (marker : Option Item) → MarkerIsInItem old marker → StandsIn (within_top old) marker
 top_stands old None h = h
 top_stands old (Some m) h = inside_top (is_in_item old) h
 
@@ -112,7 +112,7 @@ record ChildrenStand (text : List ℕ) (w : Within) (from start to : ℕ) (kids 
   is : kids ≡ marker_items lead ++ chain
   order : AreInOrder text start to chain
   bytes : HaveBytes chain
-  stands : StandsBefore text from start lead
+  stands : MarkerBetween text from start lead
   inside : StandsIn w lead
 
 -- A block with such children is a paragraph or a heading, from one character boundary to another.
@@ -198,7 +198,7 @@ kept_place text options start last broken block within e =
 
 -- the end of a chain with a marker before it
 pub marked_end : (text : List ℕ) (from start stop : ℕ) (marker : Option Item) (chain : List Item)
-    → StandsBefore text from start marker → start ≤ stop → chain_end start chain ≤ stop
+    → MarkerBetween text from start marker → start ≤ stop → chain_end start chain ≤ stop
     → chain_end start (marker_items marker ++ chain) ≤ stop
 marked_end text from start stop None chain stands low e = e
 marked_end text from start stop (Some m) [] stands low e = let b : IsBetween text from start (extent_of m) = stands.1 in omega (arith, b.before)
@@ -218,7 +218,7 @@ module _ (d : Document) (w : Within) (from start : ℕ) (l : TextLines) (h : Tex
 
   -- the children of a paragraph
   text_stand : (marker : Option Item)
-      → StandsBefore d.text from start marker → StandsIn w marker → ChildrenStand d.text w from start next_start (text_children marker l)
+      → MarkerBetween d.text from start marker → StandsIn w marker → ChildrenStand d.text w from start next_start (text_children marker l)
   text_stand marker stands inside = record {
     lead = marker;
     chain = close_break l.break l.chain;
@@ -230,7 +230,7 @@ module _ (d : Document) (w : Within) (from start : ℕ) (l : TextLines) (h : Tex
   }
 
   -- the children of a heading that is cut
-  cut_stand : (e : ℕ) (marker : Option Item) → StandsBefore d.text from start marker → StandsIn w marker → start ≤ e → e ≤ h.stop → IsCharBoundary d.text e
+  cut_stand : (e : ℕ) (marker : Option Item) → MarkerBetween d.text from start marker → StandsIn w marker → start ≤ e → e ≤ h.stop → IsCharBoundary d.text e
       → ChildrenStand d.text w from start next_start (close_break l.break (cut e (marker_items marker ++ l.chain)))
   cut_stand e None stands inside above upto at =
       let c = cut_text_in_order d start e l h above upto at in
@@ -264,7 +264,7 @@ module _ (d : Document) (w : Within) (from start : ℕ) (l : TextLines) (h : Tex
   -- the children of a heading, with its attribute block or without one
   heading_stand : (marker : Option Item) (o : Option Braces) → heading_attribute_block d.options (heading_bytes d start marker l) ≡ o
       → IsCharBoundary d.text start
-      → StandsBefore d.text from start marker → StandsIn w marker → ChildrenStand d.text w from start next_start (heading_children d start marker l)
+      → MarkerBetween d.text from start marker → StandsIn w marker → ChildrenStand d.text w from start next_start (heading_children d start marker l)
   heading_stand marker None none starts stands inside =
       subst (ChildrenStand d.text w from start next_start) (sym (children_by d start marker l None none)) (text_stand marker stands inside)
   heading_stand marker (Some block) some starts stands inside =
@@ -312,13 +312,13 @@ ended_between d w from start marker l items next (Some underline) ends s (index,
     (record { extent = refl; starts = s.starts; ends = ends }) (omega arith) s.heading)
 
 -- The text is after an offset before its marker.
-low_start : (text : List ℕ) (from start : ℕ) (marker : Option Item) → StandsBefore text from start marker → from ≤ start
+low_start : (text : List ℕ) (from start : ℕ) (marker : Option Item) → MarkerBetween text from start marker → from ≤ start
 low_start text from start None stands = stands
 low_start text from start (Some m) stands = let b : IsBetween text from start (extent_of m) = stands.1 in omega (arith, b.following, b.order, b.before)
 
 pub plain_fits : (d : Document) (start : ℕ) (marker : Option Item) (old new : Forest Item) (next : ℕ)
     → AddsPlainText d start marker old new next
-    → IsUtf8 d.text → IsCharBoundary d.text start → IsInItem old marker → (from : ℕ) → StandsBefore d.text from start marker
+    → IsUtf8 d.text → IsCharBoundary d.text start → MarkerIsInItem old marker → (from : ℕ) → MarkerBetween d.text from start marker
     → AddsBetween d.text from next old new
 plain_fits d start marker old new next adds utf8 boundary inside from stands =
     let (l, are, ended) = adds.is d.names (extends_none d.names) in

@@ -40,7 +40,7 @@ use Rattle.first_pass_scan.specs.LeafLines.{setext_underline}
 use Rattle.std.specs.Option.{option_map}
 use Rattle.std.proofs.lemmas.Option.{none-some}
 use Rattle.first_pass_kinds.specs.declared.interrupt.NextLine.{NextLine}
-use Rattle.first_pass_kinds.specs.declared.interrupt.NextLine.TheVariants.{More, Underline, Other}
+use Rattle.first_pass_kinds.specs.declared.interrupt.NextLine.TheVariants.{More, Underline, NotText}
 
 -- At the end of the text a paragraph ends.
 interrupts-end : (c : Context) (how : Continued) → interrupts c how (line_rest []) ≡ true
@@ -220,7 +220,7 @@ goes_by (Some underline) t v at next e f = cc
 goes_by None true v at next e f = cc
 goes_by None false v at next e f = (refl, let same : More at ≡ More v = sym f ∙ e in cc)
 
-pub stops_by : (o : Option (ℕ × HeadingLevel)) (t : Bool) (v : ℕ) (next : NextLine) → next ≡ next_by o t v → next ≡ Other
+pub stops_by : (o : Option (ℕ × HeadingLevel)) (t : Bool) (v : ℕ) (next : NextLine) → next ≡ next_by o t v → next ≡ NotText
     → ((is_some o || t) ≡ true) × (None ≡ option_map (λ (found : ℕ × HeadingLevel). found.1) o)
 stops_by (Some underline) t v next e f = cc
 stops_by None true v next e f = (refl, refl)

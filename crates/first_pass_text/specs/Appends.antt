@@ -21,7 +21,7 @@ use Rattle.first_pass_grammar.specs.Texts.{underline_first, IsPlainText}
 use Rattle.first_pass_grammar.specs.Tables.{taking}
 use Rattle.first_pass_grammar.specs.Headings.{heading_attribute_block}
 use Rattle.first_pass_items.specs.declared.option_set.Options.{Options}
-use Rattle.first_pass_text.specs.declared.heading.AttributePlace.{AttributePlace}
+use Rattle.first_pass_text.specs.declared.heading.AttributeBlock.{AttributeBlock}
 use Rattle.first_pass_text.specs.declared.paragraph.TextEnd.{TextEnd}
 
 -- the rest of a line from an offset on, with its line ending (CommonMark 2.1)
@@ -30,7 +30,7 @@ line_from text start = take (line_len (drop start text)) (drop start text)
 
 -- of the rest of a line from an offset on, if an attribute block ends it: the start of the block, and the end of the
 -- line (this project)
-abbrev pub attribute_place : Options → List ℕ → ℕ → Option AttributePlace
+abbrev pub attribute_place : Options → List ℕ → ℕ → Option AttributeBlock
 attribute_place options text start =
     option_map (λ block. record { opening = start + block.opening; line_end = line_end_at text start }) (heading_attribute_block options (line_from text start))
 

@@ -90,7 +90,7 @@ fn kept_len(text: &[u8]) -> usize
 
 // The start of an ATX heading's attribute block, and the end of its line: offsets into the text.
 #[derive(Clone, Copy, Drop)]
-struct AttributePlace {
+struct AttributeBlock {
     opening: usize,
     line_end: usize,
 }
@@ -104,7 +104,7 @@ fn name_attribute_block<'a>(
     source: &Source<'a>,
     allocs: &mut Allocations<'a>,
     start: usize,
-) -> Result<(Option<AttributePlace>, Option<HeadingIndex>), AllocError>
+) -> Result<(Option<AttributeBlock>, Option<HeadingIndex>), AllocError>
     requires { start ≤ length source.now.text.now }
     ensures more { OnOk result (NamesMore allocs.old allocs.new) }
     ensures place { IfOk result (λ found. found.0 ≡ attribute_place source.now.options source.now.text.now start) }
@@ -121,18 +121,18 @@ fn name_attribute_block<'a>(
         return Ok((None, None));
     }
     let index = name_attributes(allocs, attributes)?;
-    Ok((Some(AttributePlace { opening, line_end }), index))
+    Ok((Some(AttributeBlock { opening, line_end }), index))
 }
 
 // The start of the attribute block, if there is one.
-fn opening_of(place: Option<AttributePlace>) -> Option<usize>
+fn opening_of(place: Option<AttributeBlock>) -> Option<usize>
     ensures { result ≡ option_map (λ p. p.opening) place }
 {
     place.map(|block| block.opening)
 }
 
 // The end of a heading's line: that in the place of its attribute block, or `next` if it has no block.
-fn line_end_of(place: Option<AttributePlace>, next: usize) -> usize
+fn line_end_of(place: Option<AttributeBlock>, next: usize) -> usize
     ensures { result ≡ option_map_or (λ p. p.line_end) place next }
 {
     match place {

@@ -7,7 +7,7 @@ ghost use Rattle.first_pass_grammar.specs.Texts.{by_backslash};
 ghost use Rattle.first_pass_grammar.specs.Leaves.{document};
 ghost use Rattle.first_pass_tree.specs.Forest.{is_text};
 ghost use Rattle.first_pass_text.specs.Appends.{AppendsLines, AddsPlainText, with_closed_break};
-ghost use Rattle.first_pass_open.specs.Between.{AddsBetween, IsInItem, StandsBefore};
+ghost use Rattle.first_pass_open.specs.Between.{AddsBetween, MarkerIsInItem, MarkerBetween};
 
 use crate::attributes::{Underlined, make_heading};
 use crate::line_break::{break_item, held_break};
@@ -81,8 +81,8 @@ pub fn parse_paragraph<'a>(
     ensures block { IfOk result (λ next.
         AddsPlainText (document source.now.text.now source.now.options (names_of allocs.new)) start_ix
         tasklist_marker tree.old tree.new next) }
-    ensures fits { IfOk result (λ next. IsInItem tree.old tasklist_marker → (from : ℕ)
-        → StandsBefore source.now.text.now from start_ix tasklist_marker
+    ensures fits { IfOk result (λ next. MarkerIsInItem tree.old tasklist_marker → (from : ℕ)
+        → MarkerBetween source.now.text.now from start_ix tasklist_marker
         → AddsBetween source.now.text.now from next tree.old tree.new) }
 {
     tree.recall_forest();
@@ -148,7 +148,7 @@ fn append_text_lines<'a>(
                     underline: Some(level),
                 });
             }
-            NextLine::Other => {
+            NextLine::NotText => {
                 return Ok(TextEnd {
                     next,
                     line_break: break_item(held),

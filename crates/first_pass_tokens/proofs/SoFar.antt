@@ -96,7 +96,8 @@ single_piece z at within (inl plain) = plain_piece z at within plain
 single_piece z at within (inr is) = (is.0, pipe_piece z at is.1)
 
 -- a content ends alike at equal bytes
-ends_alike : (z : Inline) (at k : ℕ) → k < length z.text → slice_index z.text k ≡ slice_index z.text at → content_ends_at z at ≡ false → content_ends_at z k ≡ false
+ends_alike : (z : Inline) (at k : ℕ) → k < length z.text → slice_index z.text k ≡ slice_index z.text at
+    → content_ends_at z at ≡ false → content_ends_at z k ≡ false
 unfolding content_ends_at
 ends_alike z at k within same on =
     or_from _ _ (lt-leb (length z.text) k within) (ap (λ (b : ℕ). is_line_end b || ends_cell z b) same ∙ (or_parts (nat_le (length z.text) at) _ on).1)
@@ -433,7 +434,8 @@ pub record IsLineEnd (z : Inline) (tree new : Forest Item) (pending : HeldText) 
 -- the same for the result at the end of a line
 pub read_ended : {texts : List CowStr} (z : Inline) (old tree new : Forest Item) (pending : HeldText) (end : ℕ) (after : MathBraces)
     (r : Result (ℕ × Option Item) AllocError)
-    → z.row ≡ false → IsHeldTo texts z old tree (spot end after) pending → IsLineEnd z tree new pending end r → IfOk r (λ a. AppendsLine texts z old new a after)
+    → z.row ≡ false → IsHeldTo texts z old tree (spot end after) pending → IsLineEnd z tree new pending end r
+    → IfOk r (λ a. AppendsLine texts z old new a after)
 read_ended {texts} z old tree new pending end after (Ok a) plain read ended =
     subst (λ (c : ℕ × Option Item). AppendsLine texts z old new c after) (sym (ended.answer_is z.braces))
     (read_line z old tree new pending end after plain read (ended.tree_is z.braces))

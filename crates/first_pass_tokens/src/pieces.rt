@@ -84,8 +84,8 @@ pub fn special_found(text: &[u8], content: Content<'_>, at: usize) -> TokenStart
     }
 }
 
-/// Returns the token at a bracket: at `<` with no backslash after it, at `[` and at `]`. Returns `None` at any other byte.
-/// The result is the same as that of `special_found`, which tests many other bytes first.
+/// Returns the token at a bracket: at `<` with no backslash after it, at `[` and at `]`. Returns `None` at any other
+/// byte. The result is the same as that of `special_found`, which tests many other bytes first.
 #[inline(always)]
 #[tactic(auto, using(crate::proofs::BracketFacts::less_ready, crate::proofs::BracketFacts::left_ready, crate::proofs::BracketFacts::right_ready))]
 pub fn bracket_token(text: &[u8], at: usize) -> Option<Piece>

@@ -150,10 +150,10 @@ fn wide(alloc: Global, columns: usize, lines: &[(&str, usize)]) -> Result<Tree<I
 
 // The number of filled-in cells.
 fn count_filled(tree: &Tree<Item>) -> usize {
-    let is_filled = |node: &&(usize, Item)| {
+    let is_inserted = |node: &&(usize, Item)| {
         node.1.body == ItemBody::TableCell && node.1.start == node.1.end
     };
-    tree.nodes().iter().filter(is_filled).count()
+    tree.nodes().iter().filter(is_inserted).count()
 }
 
 fn item(start: usize, end: usize, body: ItemBody) -> Item {

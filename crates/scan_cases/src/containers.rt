@@ -6,7 +6,7 @@ use bitflags::Flags;
 use first_pass_cases::answer::Answer;
 use first_pass_items::item::{CowIndex, Item, ItemBody};
 use first_pass_items::option_set::Options;
-use first_pass_kinds::interrupt::interrupts_without_table;
+use first_pass_kinds::interrupt::interrupts_by_standard;
 use first_pass_open::containers::scan_containers;
 use first_pass_scan::line_start::LineStart;
 use first_pass_tree::forest::Tree;
@@ -16,8 +16,8 @@ use std::alloc::{AllocError, Global};
 pub fn answer_containers(call: &Call<'_>, answer: &mut Answer) -> Result<bool, AllocError> {
     match call.name {
         "scan_containers" => append_containers(call, answer)?,
-        "interrupts_without_table" => {
-            answer.flag(interrupts_without_table(call.text.as_bytes(), call.given.flag(0)))?
+        "interrupts_by_standard" => {
+            answer.flag(interrupts_by_standard(call.text.as_bytes(), call.given.flag(0)))?
         }
         _ => return Ok(false),
     }

@@ -28,7 +28,7 @@ use Rattle.first_pass_grammar.proofs.Names.TextsNamed.{text_named}
 use Rattle.first_pass_names.specs.TableEntries.{tables_of, tables_in, names_of, NamesMore}
 use Rattle.first_pass_names.proofs.NameLemmas.{extends_equal, extends_none}
 use Rattle.first_pass_blocks.specs.Written.{TablesAreWritten}
-use Rattle.first_pass_lists.specs.Closing.{with_tree, current_body, is_list, top_body, is_after_definition, list_finished, title_kept, definitions_left}
+use Rattle.first_pass_lists.specs.Closing.{with_tree, current_body, is_list, top_body, is_after_definition, list_finished, title_begun, definitions_left}
 use Rattle.first_pass_lists.specs.declared.state.PassState.{PassState}
 use Rattle.first_pass_open.specs.Between.{line_end_at, AddsBetween}
 use Rattle.first_pass_open.specs.Path.{path_of}
@@ -45,19 +45,19 @@ use Rattle.first_pass_blocks.specs.TextsAdded.{AddsText, IsTextAt}
 use Rattle.first_pass_blocks.specs.Titles.{current_end, is_paragraph_last, title_read, ReadsTitle}
 use Rattle.first_pass_ready.proofs.AddedLemmas.{body_after}
 use Rattle.first_pass_ready.proofs.BegunLemmas.{no_table}
-use Rattle.first_pass_order.proofs.CountLemmas.{count, list_finished_count, title_kept_count, definitions_left_count, block_count, leaf_left, left_before}
-use Rattle.first_pass_order.proofs.DefinitionOrder.{read_definitions_left, read_title_kept}
+use Rattle.first_pass_order.proofs.CountLemmas.{count, list_finished_count, title_begun_count, definitions_left_count, block_count, leaf_left, left_before}
+use Rattle.first_pass_order.proofs.DefinitionOrder.{read_definitions_left, read_title_begun}
 use Rattle.first_pass_ready.proofs.FinishLemmas.{EndsListAt, path_finished}
 use Rattle.first_pass_blocks.proofs.Leaves.FirstItems.{text_silent_first}
 use Rattle.first_pass_blocks.proofs.LineByLine.HandedOn.{list_finished_blank}
 use Rattle.first_pass_blocks.proofs.Leaves.LeafLemmas.{ready_ended, text_away, LeafBegins, opens_flow, ready_added, text_opens}
 use Rattle.first_pass_ready.proofs.LeftBlocks.{left_is}
 use Rattle.first_pass_lists.proofs.NoEmptyItem.{list_finished_none}
-use Rattle.first_pass_order.proofs.NamedLemmas.{block_added, list_finished_named, title_kept_named}
+use Rattle.first_pass_order.proofs.NamedLemmas.{block_added, list_finished_named, title_begun_named}
 use Rattle.first_pass_blocks.proofs.Order.OrderSteps.{line_or-below, ordered_finished, ordered_leaf, upto_later, place_before_end, unindented_later}
 use Rattle.first_pass_blocks.proofs.Leaves.TextsFlat.{text_flat}
 use Rattle.first_pass_blocks.proofs.Leaves.TitleLemmas.{ready_kept, away_left}
-use Rattle.first_pass_order.proofs.DefinitionsWhole.{title_kept_whole}
+use Rattle.first_pass_order.proofs.DefinitionsWhole.{title_begun_whole}
 use Rattle.first_pass_order.proofs.WholeKept.{IsReadWhole, list_finished_whole, kept_of, block_whole, added_text_whole}
 use Rattle.first_pass_blocks.proofs.LinkDefinitions.WrittenLemmas.{written_stay}
 use Rattle.first_pass_blocks.proofs.StateAt.{IsAt}
@@ -332,7 +332,7 @@ module _ (old new : BlockPass) (p : Place) (at next : ℕ) (is_at : IsAt (source
   grown from low apart = block_count text from next r.tree read (fits from low) apart
 
   -- a paragraph
-  kept_text : is_paragraph_last read ≡ true → state_of new ≡ title_kept last (with_tree r read) → ReadsText old new p at next
+  kept_text : is_paragraph_last read ≡ true → state_of new ≡ title_begun last (with_tree r read) → ReadsText old new p at next
   kept_text para is =
       let q' : PassState = with_tree r read in
       let current : current_body read ≡ Some ParagraphBody = is_paragraph_by (current_body read) para in
@@ -344,22 +344,22 @@ module _ (old new : BlockPass) (p : Place) (at next : ℕ) (is_at : IsAt (source
         ready = λ more extends q xs defined stands at_is run ready.
             let d = document text (source_options old) more in
             subst (λ z. Ready d (with_definitions defined xs) z (lines_from text next)) (sym is)
-            (subst (λ (f : Forest Item). Ready d (with_definitions defined xs) (title_kept last (with_tree r f)) (lines_from text next)) (sym block.tree_is)
+            (subst (λ (f : Forest Item). Ready d (with_definitions defined xs) (title_begun last (with_tree r f)) (lines_from text next)) (sym block.tree_is)
             (ready_kept d defined r p q at next xs block.items is_at.forest kind stands at_is run (block.is_text more extends) after is_at.none begins ready));
         order = λ q stands at_is o. subst (λ z. IsReadTo text z next) (sym is)
-            (read_title_kept text r read (line_or r.tree q.line (offset q)) at next is_at.forest after is_at.none o.0 o.1 (in_order q at_is) fits
+            (read_title_begun text r read (line_or r.tree q.line (offset q)) at next is_at.forest after is_at.none o.0 o.1 (in_order q at_is) fits
             block.boundary.0 last refl current);
         node_bound = λ from low apart. let g = grown from low apart in
-            let same = ap count is ∙ title_kept_count last q' current in
+            let same = ap count is ∙ title_begun_count last q' current in
             omega arith;
         named = λ q stands at_is more h. subst (λ (z : PassState). AreNamed own z.tree.nodes) (sym is)
-            (title_kept_named own last q' (block_added own (names_of (allocs_of old)) r.tree read block.items more block.tree_is
+            (title_begun_named own last q' (block_added own (names_of (allocs_of old)) r.tree read block.items more block.tree_is
             (text_named (document text (source_options old) own) _ q None _ _ tt (block.is_text own (extends_none own) q stands (sym at_is))) h));
         tables = λ q stands at_is more h k.
             let t = block.is_text own (extends_none own) q stands (sym at_is) in
             let d = document text (source_options old) own in
             subst (IsReadWhole own) (sym is)
-            (title_kept_whole own last q' current (block_whole own (names_of (allocs_of old)) r.tree read block.items more block.tree_is
+            (title_begun_whole own last q' current (block_whole own (names_of (allocs_of old)) r.tree read block.items more block.tree_is
             (added_text_whole d _ q None _ _ stands tt t) (text_silent_first d _ q None _ _ tt t) h (kept_of (names_of (allocs_of old)) r.tree k)));
       }
 
@@ -393,7 +393,7 @@ module _ (old new : BlockPass) (p : Place) (at next : ℕ) (is_at : IsAt (source
       omega arith)
 
   title_by : (q : Place) → IsPlaceOf text q → at ≡ offset q → (t : Bool) → is_paragraph_last read ≡ t
-      → state_of new ≡ (if t then title_kept last (with_tree r read) else definitions_left last (with_tree r read)) → ReadsText old new p at next
+      → state_of new ≡ (if t then title_begun last (with_tree r read) else definitions_left last (with_tree r read)) → ReadsText old new p at next
   title_by q stands at_is true para is = kept_text para is
   title_by q stands at_is false para is = left_text q stands at_is para is
 

@@ -37,7 +37,7 @@ use Rattle.first_pass_completion.proofs.TitleNodes.{as_possible}
 use Rattle.first_pass_tree.proofs.BodyLemmas.{body-kept}
 use Rattle.first_pass_open.specs.Path.{path_of, context_of}
 use Rattle.first_pass_open.proofs.PathLemmas.{AreIn, get_front, open_are_in}
-use Rattle.first_pass_lists.specs.Closing.{with_tree, top_body, top_end, title_by, is_after_definition, title_kept}
+use Rattle.first_pass_lists.specs.Closing.{with_tree, top_body, top_end, title_by, is_after_definition, title_begun}
 use Rattle.first_pass_lists.specs.declared.state.PassState.{PassState}
 use Rattle.first_pass_ready.specs.State.{closed_in_definitions, closed_below, closed_none, closed_with, closed_in, AreOpen, ReadyAt, Ready}
 use Rattle.first_pass_blocks.specs.Positions.{ReadyLeaf}
@@ -115,8 +115,8 @@ module _ (f : Forest Item) (x : ℕ × Item) (items : List (ℕ × Item)) (e : �
   kept_nodes [] more n = refl
   kept_nodes (m ∷ nodes) more n = ap (λ z. m ∷ z) (kept_nodes nodes more n)
 
-  kept_is : (r : PassState) → title_kept e (with_tree r (added f (x ∷ items))) ≡ record r { tree = kept; blank = false }
-  unfolding title_kept ended
+  kept_is : (r : PassState) → title_begun e (with_tree r (added f (x ∷ items))) ≡ record r { tree = kept; blank = false }
+  unfolding title_begun ended
   kept_is r =
       let c : TreeIndex = record { 0 = length f.nodes } in
       let end_at : Item → Item = λ (y : Item). record { start = y.start; «end» = e; body = y.body } in
@@ -197,7 +197,7 @@ module _ (d : Document) (defined : Tables) (r : PassState) (p : Place) (lines le
     (is : block.items ≡ x ∷ items) (begins : begins_paragraph block.items ≡ true) (gap : block.gap ≡ false) (forest : IsForest r.tree)
     (b : IsAfterDefinition r.tree) (none : r.begin_list_item ≡ None) (shows : AreEachNode ShowsNothing items) where
   title_ready : Opens d (level_of d.options r.tree r.blank) p lines (OpensLeaf (Block block) Line left) → ReadyAt d defined r.tree r.blank (Inside p) lines
-      → Ready d (with_definitions defined block.definitions) (title_kept (current_end r.tree) (with_tree r (added r.tree (x ∷ items)))) left
+      → Ready d (with_definitions defined block.definitions) (title_begun (current_end r.tree) (with_tree r (added r.tree (x ∷ items)))) left
   title_ready opens ready =
       let f : Forest Item = r.tree in
       let e : ℕ = current_end f in
@@ -250,7 +250,7 @@ module _ (d : Document) (defined : Tables) (r : PassState) (p q : Place) (at nex
 
   kept_by : (first : ℕ × Item) (more : List (ℕ × Item)) → items ≡ first ∷ more → begins_paragraph items ≡ true
       → ReadyLeaf d defined r p (lines_from d.text (line_end p))
-      → Ready d (with_definitions defined xs) (title_kept (current_end r.tree) (with_tree r (added r.tree (first ∷ more)))) (lines_from d.text next)
+      → Ready d (with_definitions defined xs) (title_begun (current_end r.tree) (with_tree r (added r.tree (first ∷ more)))) (lines_from d.text next)
   kept_by first more is begins (inl (bare, no_start, ready)) =
       let lines : List Place = lines_from d.text (line_end p) in
       let left : List Place = lines_from d.text next in
@@ -262,10 +262,10 @@ module _ (d : Document) (defined : Tables) (r : PassState) (p q : Place) (at nex
 
   -- a paragraph is kept as a possible title
   pub ready_kept : begins_paragraph items ≡ true → ReadyLeaf d defined r p (lines_from d.text (line_end p))
-      → Ready d (with_definitions defined xs) (title_kept (current_end r.tree) (with_tree r (added r.tree items))) (lines_from d.text next)
+      → Ready d (with_definitions defined xs) (title_begun (current_end r.tree) (with_tree r (added r.tree items))) (lines_from d.text next)
   ready_kept begins ready =
       let t = text_flat d (path_of d.options r.tree) q (lines_from d.text (line_end q)) _ (text q place (sym at_is)) in
-      subst (λ z. Ready d (with_definitions defined xs) (title_kept (current_end r.tree) (with_tree r (added r.tree z))) (lines_from d.text next)) (sym t.is)
+      subst (λ z. Ready d (with_definitions defined xs) (title_begun (current_end r.tree) (with_tree r (added r.tree z))) (lines_from d.text next)) (sym t.is)
       (kept_by t.first t.more t.is begins ready)
 
 -- a heading or a table ends the list where its last definition ends

@@ -24,13 +24,13 @@ use Rattle.first_pass_open.proofs.FrontLemmas.{outer-all}
 use Rattle.first_pass_open.proofs.PathLemmas.{open_are_in, path_in-append}
 use Rattle.first_pass_open.proofs.PlaceLemmas.{after_keeps, line_start_end}
 use Rattle.first_pass_raw.proofs.RawOrder.{first_line}
-use Rattle.first_pass_lists.specs.Closing.{top_body, is_list, list_closed, item_finished, gap_noted, list_finished, blank_read}
+use Rattle.first_pass_lists.specs.Closing.{top_body, is_list, list_closed, empty_item_closed, gap_loosened, list_finished, blank_read}
 use Rattle.first_pass_lists.specs.declared.state.PassState.{PassState}
 use Rattle.first_pass_order.specs.Ordered.{IsOrderedAt, IsHandedOn, IsOrderedFrom, AreNested, IsReadTo, IsReadFrom}
 use Rattle.first_pass_blocks.specs.Positions.{OrderedUpTo}
 use Rattle.first_pass_order.proofs.Nests.{tree_closes}
 use Rattle.first_pass_order.proofs.OrderLemmas.{ordered_none}
-use Rattle.first_pass_order.proofs.PopOrder.{read_blank_read, read_item_finished}
+use Rattle.first_pass_order.proofs.PopOrder.{read_blank_read, read_empty_item_closed}
 use Rattle.first_pass_blocks.proofs.Order.OrderSteps.{ordered_tree, place_before_end}
 use Rattle.first_pass_lists.proofs.NoEmptyItem.{finished_none}
 use Rattle.first_pass_items.specs.declared.option_set.Options.{Options}
@@ -69,13 +69,13 @@ pub path_added : (options : Options) (f : Forest Item) (items : List (ℕ × Ite
 path_added options f items forest = path_in-append options f.nodes (at_depth (length f.spine + 1) items) f.spine (open_are_in f.nodes f.spine forest.opened)
 
 -- a new block leaves no counting blank line
-noted_blank : (r : PassState) (t : Bool) → r.blank ≡ t → (gap_noted r).blank ≡ false
+noted_blank : (r : PassState) (t : Bool) → r.blank ≡ t → (gap_loosened r).blank ≡ false
 noted_blank r true is = rw is refl
 noted_blank r false is = rw is refl
 
 pub list_finished_blank : (at : ℕ) (r : PassState) → (list_finished at r).blank ≡ false
 unfolding list_finished
-list_finished_blank at r = noted_blank (list_closed at (item_finished r)) (list_closed at (item_finished r)).blank refl
+list_finished_blank at r = noted_blank (list_closed at (empty_item_closed r)) (list_closed at (empty_item_closed r)).blank refl
 
 line_by : (path : List Container) (line q : Place) (o : Option Rest) → option_map (at_rest line) o ≡ Some q → (r : Rest) × (o ≡ Some r) × (q ≡ at_rest line r)
 line_by path line q None h = cc
@@ -155,8 +155,8 @@ ordered_blank_line options text old closed at u w b closes same (inr (h, nested,
 
 -- and before any other line, at which no block has ended in this way, an empty item that blank lines ended is closed.
 pub ordered_other_line : (options : Options) (text : List ℕ) (old closed : PassState) (at : ℕ) → (IsReadTo text old at → IsReadTo text closed at)
-    → (IsHandedOn options text old at → ⊥) → IsReadFrom options text old at → OrderedUpTo text (item_finished closed).tree at
+    → (IsHandedOn options text old at → ⊥) → IsReadFrom options text old at → OrderedUpTo text (empty_item_closed closed).tree at
 ordered_other_line options text old closed at closes none (inl o) =
-    let read = read_item_finished text closed at (closes o) in
-    (ordered_tree text (item_finished closed) at (finished_none closed) read.0, read.1)
+    let read = read_empty_item_closed text closed at (closes o) in
+    (ordered_tree text (empty_item_closed closed) at (finished_none closed) read.0, read.1)
 ordered_other_line options text old closed at closes none (inr h) = absurd (none h.0)

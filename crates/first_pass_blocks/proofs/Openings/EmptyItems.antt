@@ -29,7 +29,7 @@ use Rattle.first_pass_grammar.proofs.Sequences.Tightening.{modify-append}
 use Rattle.first_pass_open.specs.OpenBlock.{with_child}
 use Rattle.first_pass_open.specs.Path.{container_of, with_container, path_in, path_of}
 use Rattle.first_pass_open.proofs.PathLemmas.{get_front}
-use Rattle.first_pass_lists.specs.Closing.{top_body, is_list, is_definition_list, takes_definition, list_continued, list_kept, with_tree, definitions_opened}
+use Rattle.first_pass_lists.specs.Closing.{top_body, is_list, is_definition_list, may_begin_definition, list_continued, list_kept, with_tree, definitions_opened}
 use Rattle.first_pass_lists.specs.Closing.{definition_begun}
 use Rattle.first_pass_lists.specs.declared.state.PassState.{PassState}
 use Rattle.first_pass_ready.specs.State.{closed_in, item_columns, emptied_as, emptied_top, ReadyAt, ReadyBeforeLine, ReadyInItem}
@@ -280,7 +280,7 @@ definition_opens d path p lines columns rest e false over n = rw (over.blank, n)
 
 -- a definition with nothing after its marker
 pub ready_empty_definition : (d : Document) (defined : Tables) (r : PassState) (p : Place) (lines : List Place) (columns : ℕ) (rest : Rest) (e : ℕ)
-    → ContainerBegins d defined r p lines (definition_start p (columns, rest)) → takes_definition r.tree ≡ true → EndsLine d rest lines e
+    → ContainerBegins d defined r p lines (definition_start p (columns, rest)) → may_begin_definition r.tree ≡ true → EndsLine d rest lines e
     → Ready d defined (empty_item_read (definition_begun (offset p) columns r) None e) lines
 unfolding Ready definition_begun
 ready_empty_definition d defined r p lines columns rest e b takes over =

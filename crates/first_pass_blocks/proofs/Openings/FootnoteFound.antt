@@ -11,7 +11,7 @@ use Rattle.first_pass_lines.specs.Places.{Place, offset, line_end, IsPlaceOf}
 use Rattle.first_pass_lines.proofs.LineFacts.{line_len-inside}
 use Rattle.first_pass_lines.proofs.PlaceFacts.{place_length}
 use Rattle.first_pass_links.specs.Labels.{label_at}
-use Rattle.first_pass_links.specs.Footnotes.{begins_footnote, head_after, footnote_head}
+use Rattle.first_pass_links.specs.Footnotes.{begins_footnote_mark, head_after, footnote_head}
 use Rattle.first_pass_grammar.specs.Containers.{Context}
 use Rattle.first_pass_grammar.specs.Kinds.{unindented}
 use Rattle.first_pass_grammar.specs.Leaves.{document}
@@ -37,7 +37,7 @@ no_mark_by false u v n o h = refl
 pub no_mark : (around : Context) (p : Place) → footnote_mark_at around.options p ≡ None → footnote_head_at around p ≡ None
 unfolding footnote_head_at footnote_head
 no_mark around p h =
-    no_mark_by (has around.options footnotes) (nat_lt (indent p.rest) 4) (begins_footnote (unindented p).rest.left) (offset (unindented p))
+    no_mark_by (has around.options footnotes) (nat_lt (indent p.rest) 4) (begins_footnote_mark (unindented p).rest.left) (offset (unindented p))
     (option_and_then (head_after (drop 2 (unindented p).rest.left)) (label_at (footnote_prefix around) false (drop 2 (unindented p).rest.left))) h
 
 marked_by : (t u v : Bool) (at n : ℕ) → (if t && (u && v) then Some at else None) ≡ Some n → (at ≡ n) × ((t && u) ≡ true)
@@ -55,7 +55,7 @@ pub head_at_mark : (text : List ℕ) (around : Context) (p : Place) (n : ℕ) �
     → (offset (unindented p) ≡ n) × (footnote_head_at around p ≡ footnote_at false around (drop n text)) × ((unindented p).rest.left ≡ drop n text)
 unfolding footnote_head_at
 head_at_mark text around p n i h =
-    let m = marked_by (has around.options footnotes) (nat_lt (indent p.rest) 4) (begins_footnote (unindented p).rest.left) (offset (unindented p)) n h in
+    let m = marked_by (has around.options footnotes) (nat_lt (indent p.rest) 4) (begins_footnote_mark (unindented p).rest.left) (offset (unindented p)) n h in
     let left : (unindented p).rest.left ≡ drop n text = i.left ∙ ap (λ (k : ℕ). drop k text) m.0 in (
       m.0,
       if_true (has around.options footnotes && nat_lt (indent p.rest) 4) (footnote_at false around (unindented p).rest.left) m.1

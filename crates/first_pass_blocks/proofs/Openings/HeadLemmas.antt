@@ -8,7 +8,7 @@ use Rattle.std.specs.List.{prefix_len}
 use Rattle.first_pass_items.specs.OptionWords.{gfm_footnotes}
 use Rattle.first_pass_lines.specs.Rest.{indent}
 use Rattle.first_pass_links.specs.Labels.{label_at}
-use Rattle.first_pass_links.specs.Footnotes.{begins_footnote, head_after, footnote_head}
+use Rattle.first_pass_links.specs.Footnotes.{begins_footnote_mark, head_after, footnote_head}
 use Rattle.first_pass_grammar.specs.Leaves.{Document}
 use Rattle.first_pass_grammar.specs.LinkRuns.{lines_beyond}
 use Rattle.first_pass_blocks.proofs.LinkDefinitions.RunLemmas.{lines_after_it}
@@ -115,7 +115,7 @@ head_by bs (Some label) head true is = colon_by bs label.0 label.1 head (begins 
 head_ends : (prefix : List ℕ → Option ℕ) (nested : Bool) (bs : List ℕ) (head : ℕ × List ℕ) → footnote_head prefix nested bs ≡ Some head
     → (3 ≤ head.0) × (head.0 ≤ length bs) × (slice_index bs (head.0 - 1) ≡ 58)
 unfolding footnote_head
-head_ends prefix nested bs head is = head_by bs (label_at prefix nested (drop 2 bs)) head (begins_footnote bs) is
+head_ends prefix nested bs head is = head_by bs (label_at prefix nested (drop 2 bs)) head (begins_footnote_mark bs) is
 
 -- the offset after the white space that is read with a head
 white_after : (text : List ℕ) (e : ℕ) → (let w : ℕ = prefix_len is_white (drop e text) in

@@ -7,7 +7,7 @@ use Rattle.first_pass_items.specs.declared.option_set.Options.{Options}
 use Rattle.first_pass_lines.specs.Lines.{begins}
 use Rattle.first_pass_lines.specs.Rest.{Rest, indent}
 use Rattle.first_pass_lines.specs.Places.{Place, offset}
-use Rattle.first_pass_links.specs.Footnotes.{begins_footnote}
+use Rattle.first_pass_links.specs.Footnotes.{begins_footnote_mark}
 use Rattle.first_pass_scan.specs.Markers.{definition_of}
 use Rattle.first_pass_scan.proofs.PlainFacts.{inert_indent}
 use Rattle.first_pass_grammar.specs.Containers.{Context}
@@ -23,7 +23,7 @@ use Rattle.first_pass_blocks.specs.Starts.{BeginsNoContainer}
 use Rattle.first_pass_blocks.proofs.Openings.FootnoteFound.{no_mark}
 
 -- no footnote definition begins without a `[`
-no_bracket : (r q : Rest) → q ≡ r → begins left_bracket r.left ≡ false → begins_footnote q.left ≡ false
+no_bracket : (r q : Rest) → q ≡ r → begins left_bracket r.left ≡ false → begins_footnote_mark q.left ≡ false
 no_bracket r q same h = rw (same, h) refl
 
 unmarked : (t u v : Bool) (n : ℕ) → v ≡ false → (if t && (u && v) then Some n else None) ≡ None

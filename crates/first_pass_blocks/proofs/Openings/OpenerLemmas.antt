@@ -35,7 +35,7 @@ use Rattle.first_pass_grammar.proofs.Sequences.Finishes.{CompletesAt}
 use Rattle.first_pass_completion.proofs.Flags.{completes-reflag_list}
 use Rattle.first_pass_completion.proofs.States.{open_nodes}
 use Rattle.first_pass_open.specs.Path.{path_in, path_of}
-use Rattle.first_pass_lists.specs.Closing.{loosened_at, loosened_by, top_body, takes_definition, is_list, is_list_of, item_finished_by, item_finished}
+use Rattle.first_pass_lists.specs.Closing.{loosened_at, loosened_by, top_body, may_begin_definition, is_list, is_list_of, empty_item_closed_by, empty_item_closed}
 use Rattle.first_pass_lists.specs.Closing.{list_finished, loosened_top, list_kept, begun, list_continued, definition_begun}
 use Rattle.first_pass_lists.specs.declared.list.ListMarker.{ListMarker}
 use Rattle.first_pass_lists.specs.declared.state.PassState.{PassState}
@@ -308,9 +308,9 @@ module _ (d : Document) (defined : Tables) (r : PassState) (p : Place) (lines : 
 
   -- an item is open, in the list that continues or in a new one
   pub item_is_open : ItemIsOpen (item_opened (offset p) byte number columns r)
-  unfolding list_continued item_finished
+  unfolding list_continued empty_item_closed
   item_is_open =
-      let same : item_finished_by r r.begin_list_item ≡ r = ap (item_finished_by r) may.none in
+      let same : empty_item_closed_by r r.begin_list_item ≡ r = ap (empty_item_closed_by r) may.none in
       subst (λ q. ItemIsOpen (begun (offset p) (ListItemBody columns)
       (if is_list_of byte (top_body q.tree) then list_kept q else begun (offset p) (ListBody (list_flags true) byte number) (list_finished (offset p) q))))
       (sym same)
@@ -367,7 +367,7 @@ on_line : (d : Document) (path : List Container) (p : Place) (lines : List Place
 on_line d path p lines columns rest h = rw h refl
 
 pub ready_definition : (d : Document) (defined : Tables) (r : PassState) (p : Place) (lines : List Place) (columns : ℕ) (rest : Rest)
-    → ContainerBegins d defined r p lines (definition_start p (columns, rest)) → takes_definition r.tree ≡ true → is_blank_rest rest ≡ false
+    → ContainerBegins d defined r p lines (definition_start p (columns, rest)) → may_begin_definition r.tree ≡ true → is_blank_rest rest ≡ false
     → (let q : PassState = definition_begun (offset p) columns r in ReadyAt d defined q.tree q.blank (Inside (at_rest p rest)) lines)
 ready_definition d defined r p lines columns rest b takes some =
     let q : PassState = definition_begun (offset p) columns r in

@@ -33,7 +33,7 @@ use Rattle.first_pass_open.specs.declared.source.Source.{Source}
 use Rattle.first_pass_open.proofs.PlaceLemmas.{item_keeps, item_shorter, definition_keeps, definition_shorter, markers_keep, mark_is_task}
 use Rattle.first_pass_open.proofs.PlaceLemmas.{prefix_keeps, quote_prefix_shorter}
 use Rattle.first_pass_open.proofs.PlaceLemmas.{place_end}
-use Rattle.first_pass_lists.specs.Closing.{top_body, takes_definition, with_tree, is_list, list_kept, loosened_top, begun, list_finished, list_continued}
+use Rattle.first_pass_lists.specs.Closing.{top_body, may_begin_definition, with_tree, is_list, list_kept, loosened_top, begun, list_finished, list_continued}
 use Rattle.first_pass_lists.specs.Closing.{definitions_opened}
 use Rattle.first_pass_lists.specs.Closing.{definition_begun}
 use Rattle.first_pass_lists.specs.declared.state.PassState.{PassState}
@@ -59,7 +59,7 @@ use Rattle.first_pass_blocks.proofs.Openings.EmptyItems.{IsNoParagraph, empty_it
 use Rattle.first_pass_blocks.proofs.Openings.StartFound.{may_if}
 use Rattle.first_pass_grammar.specs.Skeleton.{Inside}
 use Rattle.first_pass_blocks.specs.declared.openers.Start.{Start as FoundStart}
-use Rattle.first_pass_open.specs.Between.{StandsBefore}
+use Rattle.first_pass_open.specs.Between.{MarkerBetween}
 
 -- the marker of a task is no paragraph
 pub mark_by : (b : ItemBody) → is_task_marker b ≡ true → is_paragraph_body b ≡ false
@@ -152,9 +152,9 @@ module _ (source : Source) (r : PassState) (p : Place) (utf8 : IsUtf8 source.tex
 
     -- the marker of a task, if there is one, is after the marker of the item
     task_stands : (from : ℕ) (marker : Option Item) → marker ≡ (task_after source.options p.line following).0 → from ≤ offset (place_at p.line following)
-        → StandsBefore text from (offset (at_rest p rest)) marker
+        → MarkerBetween text from (offset (at_rest p rest)) marker
     task_stands from marker same low =
-        subst (StandsBefore text from (offset (at_rest p rest))) (sym same)
+        subst (MarkerBetween text from (offset (at_rest p rest))) (sym same)
         (mark_stands text source.options p.line following from utf8
         (item_keeps text p.line p.rest ((byte, number, columns), following) utf8 is at).0 low)
 
@@ -309,7 +309,7 @@ module _ (source : Source) (r : PassState) (p : Place) (utf8 : IsUtf8 source.tex
         )
 
   -- a definition
-  module _ (columns : ℕ) (rest : Rest) (is : definition_marker_at p.rest ≡ Some (columns, rest)) (takes : takes_definition r.tree ≡ true)
+  module _ (columns : ℕ) (rest : Rest) (is : definition_marker_at p.rest ≡ Some (columns, rest)) (takes : may_begin_definition r.tree ≡ true)
       (begins : start_at source.options may p ≡ Some (definition_start p (columns, rest))) where
     abbrev opened_definition : PassState
     opened_definition = definition_begun (offset p) columns r
@@ -376,9 +376,9 @@ module _ (source : Source) (r : PassState) (p : Place) (utf8 : IsUtf8 source.tex
   OpensIt s = start_at source.options may p ≡ Some s → IsOpened source line r p s
 
   definition_may : (marker : ℕ × Rest) → item_at p.rest ≡ None → start_at source.options may p ≡ Some (definition_start p marker)
-      → takes_definition r.tree ≡ true
+      → may_begin_definition r.tree ≡ true
   definition_may marker no_item begins =
-      (and_parts (has source.options definition_list) (takes_definition r.tree) (may_if source.options may p marker no_item begins)).1
+      (and_parts (has source.options definition_list) (may_begin_definition r.tree) (may_if source.options may p marker no_item begins)).1
 
   pub start_opens : (s : Start) → start_at source.options may p ≡ Some s → IsOpened source line r p s
   start_opens s begins_it =

@@ -25,14 +25,14 @@ use Rattle.first_pass_grammar.specs.Openers.{task_by, task_after}
 use Rattle.first_pass_grammar.specs.Derivation.{node_of}
 use Rattle.first_pass_grammar.specs.OpenOrder.{IsOrderedTo}
 use Rattle.first_pass_open.specs.OpenBlock.{with_child}
-use Rattle.first_pass_lists.specs.Closing.{state_with, top_body, is_list, is_item, takes_definition, item_finished_by, item_finished, list_finished, begun}
+use Rattle.first_pass_lists.specs.Closing.{state_with, top_body, is_list, is_item, may_begin_definition, empty_item_closed_by, empty_item_closed, list_finished, begun}
 use Rattle.first_pass_lists.specs.Closing.{list_continued, definition_begun, footnote_begun}
 use Rattle.first_pass_lists.specs.declared.state.PassState.{PassState}
 use Rattle.first_pass_grammar.specs.Openers.{after_task}
 use Rattle.first_pass_blocks.specs.Positions.{line_or, OrderedUpTo, OrderedIn, OrderedText, OrderedOn}
 use Rattle.first_pass_blocks.specs.Starts.{after_at}
 use Rattle.first_pass_order.specs.Ordered.{reached, AreNested, CanClose, IsOrderedAt, IsReadTo}
-use Rattle.first_pass_open.specs.Between.{AddsBetween, StandsBefore}
+use Rattle.first_pass_open.specs.Between.{AddsBetween, MarkerBetween}
 use Rattle.first_pass_open.proofs.PathLemmas.{get_front}
 use Rattle.first_pass_ready.proofs.OpenLemmas.{get_end}
 use Rattle.first_pass_open.proofs.PlaceLemmas.{all_keep, task_keeps, option_on, quote_less}
@@ -138,7 +138,7 @@ ordered_item text r line start byte number columns low high boundary none (o, c)
     )
 
 -- a definition is opened at a place in a line
-pub ordered_definition_in : (text : List ℕ) (r : PassState) (line start columns : ℕ) → IsForest r.tree → takes_definition r.tree ≡ true
+pub ordered_definition_in : (text : List ℕ) (r : PassState) (line start columns : ℕ) → IsForest r.tree → may_begin_definition r.tree ≡ true
     → line ≤ start → start ≤ length text → IsCharBoundary text start
     → OrderedUpTo text r.tree (line_or r.tree line start) → OrderedUpTo text (definition_begun start columns r).tree start
 ordered_definition_in text r line start columns forest takes low high boundary (o, c) =
@@ -157,7 +157,7 @@ pub record NewBlock (text : List ℕ) (r : PassState) (line at e start : ℕ) : 
 
 -- the start of a new block is in order, after what it ends
 pub ordered_finished : (text : List ℕ) (r : PassState) (line at e start : ℕ) → NewBlock text r line at e start → IsReadTo text (list_finished e r) start
-unfolding item_finished
+unfolding empty_item_closed
 ordered_finished text r line at e start b =
     let low = b.low in
     let mid = b.later in
@@ -166,7 +166,7 @@ ordered_finished text r line at e start b =
     let a : ℕ = line_or r.tree line at in
     let below : a ≤ at = line_or-below r.tree line at low in
     let before = ordered_none text r a b.none (omega arith) b.order.0 in
-    let same : item_finished_by r r.begin_list_item ≡ r = ap (item_finished_by r) b.none in
+    let same : empty_item_closed_by r r.begin_list_item ≡ r = ap (empty_item_closed_by r) b.none in
     let on : IsOrderedAt text (list_finished e r) start = elim b.ends [
       | inl (is, first) ↦
           subst (λ z. IsOrderedAt text (list_finished z r) start) (sym is)
@@ -199,7 +199,7 @@ ordered_note_in text r at start index low high boundary none (o, c) = (
 -- a task list item marker, if there is one, is after an item's own
 mark_by : (text : List ℕ) (line : ℕ) (r : Rest) (o : Option (Bool × Rest)) (from : ℕ) → IsUtf8 text
     → ((task : Bool × Rest) → o ≡ Some task → task_of r ≡ Some task) → IsPlaceOf text (place_at line r) → from ≤ offset (place_at line r)
-    → StandsBefore text from (offset (place_at line (task_by line r o).1)) (task_by line r o).0
+    → MarkerBetween text from (offset (place_at line (task_by line r o).1)) (task_by line r o).0
 mark_by text line r None from u h i low = low
 mark_by text line r (Some task) from u h i low =
     let k = task_keeps text line r task u (h task refl) i in
@@ -207,12 +207,12 @@ mark_by text line r (Some task) from u h i low =
     (refl, record { following = low; order = order; before = omega arith; starts = i.boundary; ends = k.0.boundary })
 
 pub mark_stands : (text : List ℕ) (options : Options) (line : ℕ) (r : Rest) (from : ℕ) → IsUtf8 text → IsPlaceOf text (place_at line r)
-    → from ≤ offset (place_at line r) → StandsBefore text from (offset (place_at line (task_after options line r).1)) (task_after options line r).0
+    → from ≤ offset (place_at line r) → MarkerBetween text from (offset (place_at line (task_after options line r).1)) (task_after options line r).0
 mark_stands text options line r from u i low =
     mark_by text line r (if has options 16 then task_of r else None) from u (λ task h. option_on (has options 16) (task_of r) task h) i low
 
 -- a marker that is before an offset is before a later one
-pub stands_later : (text : List ℕ) (from a b : ℕ) (marker : Option Item) → a ≤ b → StandsBefore text from a marker → StandsBefore text from b marker
+pub stands_later : (text : List ℕ) (from a b : ℕ) (marker : Option Item) → a ≤ b → MarkerBetween text from a marker → MarkerBetween text from b marker
 stands_later text from a b None low h = (let t : from ≤ a = h in let later : from ≤ b = omega arith in later)
 stands_later text from a b (Some x) low h =
     (let m : x.«end» ≤ a = h.1.before in
@@ -221,14 +221,14 @@ stands_later text from a b (Some x) low h =
 -- an item with something after its markers
 pub ordered_container : (options : Options) (text : List ℕ) (q : PassState) (start e : ℕ) (p : Place) (marker : Option Item)
     → is_list (top_body q.tree) ≡ false → offset p ≤ length text → IsCharBoundary text p.line → OrderedUpTo text q.tree start
-    → StandsBefore text start (offset p) marker → OrderedOn options text q (after_at p e (after_task marker))
+    → MarkerBetween text start (offset p) marker → OrderedOn options text q (after_at p e (after_task marker))
 ordered_container options text q start e p None none high boundary o stands =
     (boundary, ordered_on text q.tree p.line start (offset p) none stands high o)
 ordered_container options text q start e p (Some x) none high boundary (o, c) stands =
     record { from = start; ordered = o; nested = c.nested; plain = none; stands = stands }
 
 marked_by : (text : List ℕ) (f : Forest Item) (start next : ℕ) (marker : Option Item) → next ≤ length text → IsOrderedTo text f start
-    → StandsBefore text start next marker → IsOrderedTo text (with_child f marker) next
+    → MarkerBetween text start next marker → IsOrderedTo text (with_child f marker) next
 marked_by text f start next None high o stands = ordered_later text f start next stands high o
 marked_by text f start next (Some x) high o stands = ordered_appended text f start next x stands.1 high o
 
@@ -239,7 +239,7 @@ item_no_list body item = cc
 
 -- an item or a definition with nothing after its markers
 pub ordered_empty_item : (text : List ℕ) (start next : ℕ) (body : ItemBody) (r : PassState) (marker : Option Item) (blank : Bool)
-    → is_item (Some body) ≡ true → IsCharBoundary text next → OrderedUpTo text (begun start body r).tree start → StandsBefore text start next marker
+    → is_item (Some body) ≡ true → IsCharBoundary text next → OrderedUpTo text (begun start body r).tree start → MarkerBetween text start next marker
     → IsReadTo text (state_with (with_child (begun start body r).tree marker) (Some next) blank) next
 ordered_empty_item text start next body r marker blank item boundary (o, c) stands =
     let f : Forest Item = (begun start body r).tree in
@@ -270,7 +270,7 @@ read_block text old r from next nested plain a high none o =
 
 -- the paragraph of a task
 pub ordered_text : (text : List ℕ) (f : Forest Item) (new : PassState) (marker : Item) (at next : ℕ)
-    → ((from : ℕ) → StandsBefore text from at (Some marker) → AddsBetween text from next f new.tree) → next ≤ length text → new.begin_list_item ≡ None
+    → ((from : ℕ) → MarkerBetween text from at (Some marker) → AddsBetween text from next f new.tree) → next ≤ length text → new.begin_list_item ≡ None
     → OrderedText text f marker at → IsReadTo text new next
 ordered_text text f new marker at next fits within none o =
     read_block text f new o.from next o.nested o.plain (fits o.from o.stands) within none o.ordered
@@ -285,7 +285,7 @@ block_ordered text old new at start next o low fits within none =
     ordered_block text old.tree new e next (fits e (omega arith)) within none o.ordered
 
 -- a marker that may be after an offset may be after an earlier one
-stands_earlier : (text : List ℕ) (a b to : ℕ) (marker : Option Item) → a ≤ b → StandsBefore text b to marker → StandsBefore text a to marker
+stands_earlier : (text : List ℕ) (a b to : ℕ) (marker : Option Item) → a ≤ b → MarkerBetween text b to marker → MarkerBetween text a to marker
 stands_earlier text a b to None low h = (let t : b ≤ to = h in omega arith)
 stands_earlier text a b to (Some x) low h =
     (let m : b ≤ x.start = h.1.following in
@@ -293,8 +293,8 @@ stands_earlier text a b to (Some x) low h =
 
 -- the same for a paragraph, after a task list item marker or not
 pub text_ordered : (text : List ℕ) (old new : PassState) (at start next : ℕ) (marker : Option Item) → IsOrderedAt text old at
-    → StandsBefore text at start marker
-    → ((from : ℕ) → StandsBefore text from start marker → AddsBetween text from next old.tree new.tree) → next ≤ length text → new.begin_list_item ≡ None
+    → MarkerBetween text at start marker
+    → ((from : ℕ) → MarkerBetween text from start marker → AddsBetween text from next old.tree new.tree) → next ≤ length text → new.begin_list_item ≡ None
     → IsOrderedAt text new next
 text_ordered text old new at start next marker o stands fits within none =
     let e : ℕ = reached old.begin_list_item at in

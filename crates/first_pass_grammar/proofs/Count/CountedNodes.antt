@@ -6,7 +6,7 @@ use Rattle.first_pass_items.specs.declared.item.Item.{Item}
 use Rattle.first_pass_items.specs.declared.item.ItemBody.{ItemBody}
 use Rattle.first_pass_items.specs.declared.item.ItemBody.TheVariants.{TableCell}
 use Rattle.first_pass_tree.specs.Forest.{modify, at_depth, body_at}
-use Rattle.first_pass_grammar.specs.Counting.{is_row, is_cell, last_cell, is_filled_after, own, counted_nodes}
+use Rattle.first_pass_grammar.specs.Counting.{is_row, is_cell, last_cell, is_inserted_after, own, counted_nodes}
 
 -- a node counts at most once
 one_at_most : (t : Bool) (m n : ℕ) → m ≤ n → (if t then 0 else 1) + m ≤ 1 + n
@@ -17,7 +17,7 @@ one_at_most false m n h = omega arith
 pub own_at_most : (cell : Option ℕ) (nodes : List (ℕ × Item)) → own cell nodes ≤ length nodes
 unfolding own
 own_at_most cell [] = omega arith
-own_at_most cell (n ∷ nodes) = (let h = one_at_most (is_filled_after cell n.1) _ _ (own_at_most (last_cell cell n.1) nodes) in omega arith)
+own_at_most cell (n ∷ nodes) = (let h = one_at_most (is_inserted_after cell n.1) _ _ (own_at_most (last_cell cell n.1) nodes) in omega arith)
 
 -- no more nodes count after a cell than after no cell
 fresh_by : (row is : Bool) (start : ℕ) (cell : Option ℕ) (nodes : List (ℕ × Item)) → own cell nodes ≤ own None nodes
@@ -30,7 +30,7 @@ pub own_fresh : (cell : Option ℕ) (nodes : List (ℕ × Item)) → own cell no
 unfolding own
 own_fresh cell [] = omega arith
 own_fresh cell (n ∷ nodes) =
-    one_at_most (is_filled_after cell n.1) _ _ (fresh_by (is_row n.1.body) (is_cell n.1.body) n.1.start cell nodes (own_fresh cell nodes))
+    one_at_most (is_inserted_after cell n.1) _ _ (fresh_by (is_row n.1.body) (is_cell n.1.body) n.1.start cell nodes (own_fresh cell nodes))
 
 -- a list with more after it has no more than both together
 join_one : (t : Bool) (m a b : ℕ) → m ≤ a + b → (if t then 0 else 1) + m ≤ (if t then 0 else 1) + a + b
@@ -40,7 +40,7 @@ join_one false m a b h = omega arith
 pub own_join : (cell : Option ℕ) (nodes more : List (ℕ × Item)) → own cell (nodes ++ more) ≤ own cell nodes + counted_nodes more
 unfolding own
 own_join cell [] more = (let h = own_fresh cell more in omega arith)
-own_join cell (n ∷ nodes) more = join_one (is_filled_after cell n.1) _ _ _ (own_join (last_cell cell n.1) nodes more)
+own_join cell (n ∷ nodes) more = join_one (is_inserted_after cell n.1) _ _ _ (own_join (last_cell cell n.1) nodes more)
 
 -- with one more node
 pub own_one : (cell : Option ℕ) (nodes : List (ℕ × Item)) (n : ℕ × Item) → own cell (nodes ++ n ∷ []) ≤ own cell nodes + 1
@@ -50,7 +50,7 @@ own_one cell nodes n = (let join = own_join cell nodes (n ∷ []) in let most = 
 pub own_at_depth : (cell : Option ℕ) (depth : ℕ) (nodes : List (ℕ × Item)) → own cell (at_depth depth nodes) ≡ own cell nodes
 unfolding own
 own_at_depth cell depth [] = refl
-own_at_depth cell depth (n ∷ nodes) = ap (λ k. (if is_filled_after cell n.1 then 0 else 1) + k) (own_at_depth (last_cell cell n.1) depth nodes)
+own_at_depth cell depth (n ∷ nodes) = ap (λ k. (if is_inserted_after cell n.1 then 0 else 1) + k) (own_at_depth (last_cell cell n.1) depth nodes)
 
 -- a block after other nodes adds at most its own ones
 pub own_added : (nodes block : List (ℕ × Item)) (depth : ℕ) → counted_nodes (nodes ++ at_depth depth block) ≤ counted_nodes nodes + counted_nodes block
@@ -67,7 +67,7 @@ pub record CountAlike (x y : Item) : Type 0 where
 pub alike_ended : (x : Item) (e : ℕ) → CountAlike x (record x { «end» = e })
 alike_ended x e = record { start = refl; cell = refl; row = refl }
 
-filled_alike : (x y : Item) (cell : Option ℕ) → CountAlike x y → is_filled_after cell y ≡ is_filled_after cell x
+filled_alike : (x y : Item) (cell : Option ℕ) → CountAlike x y → is_inserted_after cell y ≡ is_inserted_after cell x
 filled_alike x y None h = refl
 filled_alike x y (Some start) h = (let s = h.start in let c = h.cell in cc)
 
@@ -80,8 +80,8 @@ pub alike_first : (cell : Option ℕ) (d e : ℕ) (x y : Item) (nodes more : Lis
 unfolding own
 alike_first cell d e x y nodes more h same =
     ap (λ (t : Bool). (if t then 0 else 1) + own (last_cell cell y) more) (filled_alike x y cell h)
-    ∙ ap (λ (c : Option ℕ). (if is_filled_after cell x then 0 else 1) + own c more) (last_alike x y cell h)
-    ∙ ap (λ (k : ℕ). (if is_filled_after cell x then 0 else 1) + k) (same (last_cell cell x))
+    ∙ ap (λ (c : Option ℕ). (if is_inserted_after cell x then 0 else 1) + own c more) (last_alike x y cell h)
+    ∙ ap (λ (k : ℕ). (if is_inserted_after cell x then 0 else 1) + k) (same (last_cell cell x))
 
 -- after the same node
 pub own_first : (cell : Option ℕ) (n : ℕ × Item) (nodes more : List (ℕ × Item))
@@ -118,7 +118,7 @@ cell_no_row b h = cc
 cell_next : (cell : Option ℕ) (start : ℕ) (x : Item) → is_cell x.body ≡ true → x.start ≡ start → last_cell cell x ≡ Some start
 cell_next cell start x is at = (let row = cell_no_row x.body is in rw (row, is) (ap Some at))
 
-cell_again : (start : ℕ) (x : Item) → is_cell x.body ≡ true → x.start ≡ start → is_filled_after (Some start) x ≡ true
+cell_again : (start : ℕ) (x : Item) → is_cell x.body ≡ true → x.start ≡ start → is_inserted_after (Some start) x ≡ true
 cell_again start x is at = (let same = eq-eqb x.start start at in rw (is, same) refl)
 
 -- cells that all start where the cell before them starts count nothing, so the cells that a row is filled with count
@@ -135,4 +135,4 @@ unfolding own AreCellsAt
 own_filled cell start [] h = omega arith
 own_filled cell start (n ∷ nodes) h =
     let none = own_refilled start nodes h.2 in
-    rw (cell_next cell start n.1 h.0 h.1, none) (one_at_most (is_filled_after cell n.1) 0 0 (omega arith))
+    rw (cell_next cell start n.1 h.0 h.1, none) (one_at_most (is_inserted_after cell n.1) 0 0 (omega arith))

@@ -8,7 +8,7 @@ use Rattle.first_pass_items.specs.declared.item.ItemBody.TheVariants.{TableRow}
 use Rattle.first_pass_lines.specs.Places.{Place}
 use Rattle.first_pass_grammar.specs.declared.kind.Container.{Container}
 use Rattle.first_pass_grammar.specs.Leaves.{Document, around}
-use Rattle.first_pass_grammar.specs.Tables.{filled, row_block, row_text, Taken, taking, FoundRow, HasCells, braces_after_rows, TakesRows, all_filled}
+use Rattle.first_pass_grammar.specs.Tables.{filled, row_block, row_text, Taken, taking, FoundRow, HasCells, braces_after_rows, TakesRows, all_inserted}
 use Rattle.first_pass_grammar.specs.Tables.{TableSoFar, table_so_far, with_rows, EndRows, row_blocks, AreRows}
 
 -- a line with these cells is a row if it has a cell and needs no more filled cells than allowed
@@ -60,7 +60,8 @@ none_of table cells (inr over) = grind (arith, nat_tests)
 -- rows end after a first row and other rows if they end after all of them
 rows_after : (table : TableSoFar) (row : FoundRow) (rows : List FoundRow) → with_rows (with_row table row) rows ≡ with_rows table (row ∷ rows)
 rows_after table row rows =
-    let room : table.room - filled table.columns row.cells - all_filled table.columns rows ≡ table.room - all_filled table.columns (row ∷ rows) = omega arith in
+    let room : table.room - filled table.columns row.cells - all_inserted table.columns rows
+    ≡ table.room - all_inserted table.columns (row ∷ rows) = omega arith in
     ap (λ (k : ℕ). table_so_far table.columns k (braces_after_rows row.after rows)) room
 
 -- each longest run of rows is found by the count
@@ -72,7 +73,7 @@ none_counted d path table (line ∷ lines) (inl none) = inl (none, refl)
 none_counted d path table (line ∷ lines) (inr (row, has, over)) = inr (row, has, inl (none_of table row.cells over, refl))
 
 all_counted : (d : Document) (path : List Container) (table : TableSoFar) (rows : List FoundRow) (lines left : List Place)
-    → TakesRows d path table.braces rows lines left → all_filled table.columns rows ≤ table.room → EndRows d path (with_rows table rows) left
+    → TakesRows d path table.braces rows lines left → all_inserted table.columns rows ≤ table.room → EndRows d path (with_rows table rows) left
     → RowsWithRoom d path table lines (taking (row_blocks table.columns rows) left)
 unfolding TakesRows RowsWithRoom
 all_counted d path table [] lines left same fits ends =

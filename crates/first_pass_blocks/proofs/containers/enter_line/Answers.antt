@@ -7,14 +7,14 @@ use Rattle.first_pass_grammar.specs.Names.{Names}
 use Rattle.first_pass_grammar.specs.Derivation.{Tables}
 use Rattle.first_pass_grammar.specs.Skeleton.{Inside}
 use Rattle.first_pass_grammar.specs.Completion.{lines_from}
-use Rattle.first_pass_lists.specs.Closing.{item_finished}
+use Rattle.first_pass_lists.specs.Closing.{empty_item_closed}
 use Rattle.first_pass_lists.specs.declared.state.PassState.{PassState}
 use Rattle.first_pass_order.specs.Ordered.{IsReadTo}
 use Rattle.first_pass_blocks.specs.Positions.{OrderedUpTo}
 use Rattle.first_pass_ready.specs.State.{Ready, ReadyAt}
-use Rattle.first_pass_order.proofs.NamedLemmas.{AreReadNamed, blank_named, item_finished_named}
-use Rattle.first_pass_order.proofs.WholeKept.{IsReadWhole, blank_whole, item_finished_whole}
-use Rattle.first_pass_order.proofs.CountLemmas.{count, item_finished_count, blank_count}
+use Rattle.first_pass_order.proofs.NamedLemmas.{AreReadNamed, blank_named, empty_item_closed_named}
+use Rattle.first_pass_order.proofs.WholeKept.{IsReadWhole, blank_whole, empty_item_closed_whole}
+use Rattle.first_pass_order.proofs.CountLemmas.{count, empty_item_closed_count, blank_count}
 use Rattle.first_pass_blocks.proofs.LineByLine.HandedOn.{handed_whole, ordered_blank_line, ordered_other_line}
 use Rattle.first_pass_blocks.proofs.Order.OrderSteps.{ordered_at_place}
 use Rattle.first_pass_ready.proofs.LineLemmas.{IsSettled, settled, at_line, blank_line_read, line_entered, line_kept}
@@ -94,7 +94,7 @@ returns-clause-entered c =
     let kept = c.close_containers.ensures.kept in
     let w = c.requires.within in
     let same = ap count c.finish_empty_list_item.ensures in
-    let item = item_finished_count now in
+    let item = empty_item_closed_count now in
     let before = ap count is in
     let node_bound = ended_count options start closed in
     let first = kept.count in
@@ -106,7 +106,7 @@ returns-clause-entered c =
         ready = λ names defined ready.
             let d : Document = document text source.options names in
             subst (λ (q : PassState). ReadyAt d defined q.tree q.blank (Inside p) (lines_from text (line_end p))) (sym c.finish_empty_list_item.ensures)
-            (subst (λ n. ReadyAt d defined (item_finished now).tree (item_finished now).blank (Inside p) (lines_from text n)) (sym here.1)
+            (subst (λ n. ReadyAt d defined (empty_item_closed now).tree (empty_item_closed now).blank (Inside p) (lines_from text n)) (sym here.1)
             (line_entered d defined _ now start _ (settled_line a names defined) (blank a ∙ c.if-is_some.false) ready));
         order = λ ordered. ordered_at_place text _ start p refl c.requires.boundary here.0
             (subst (λ (q : PassState). OrderedUpTo text q.tree start) (sym c.finish_empty_list_item.ensures)
@@ -117,9 +117,9 @@ returns-clause-entered c =
             refl c.scan_front-front.ensures.within c.scan_front-front.ensures.taken c.scan_front-front.ensures.stops h).1 in
             let none = blank a ∙ c.if-is_some.false in cc) ordered));
         node_bound = λ first grows. omega arith;
-        named = λ names h. subst (AreReadNamed names) (sym c.finish_empty_list_item.ensures) (item_finished_named names now
+        named = λ names h. subst (AreReadNamed names) (sym c.finish_empty_list_item.ensures) (empty_item_closed_named names now
             (subst (AreReadNamed names) (sym is) (ended_named options names start closed (kept.named names h))));
-        tables = λ names h. subst (IsReadWhole names) (sym c.finish_empty_list_item.ensures) (item_finished_whole names now
+        tables = λ names h. subst (IsReadWhole names) (sym c.finish_empty_list_item.ensures) (empty_item_closed_whole names now
             (subst (IsReadWhole names) (sym is) (ended_whole options names start closed (kept.tables names h))));
       },
     )

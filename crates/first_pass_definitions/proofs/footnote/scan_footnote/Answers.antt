@@ -7,7 +7,7 @@ use Rattle.first_pass_links.proofs.Footnotes.{after_mark}
 use Rattle.first_pass_tree.specs.Forest.{in_table}
 use Rattle.first_pass_grammar.specs.Footnotes.{footnote_prefix, label_bytes}
 use Rattle.first_pass_open.specs.Path.{context_of}
-use Rattle.first_pass_kinds.specs.Memory.{line_may_head}
+use Rattle.first_pass_kinds.specs.Memory.{line_may_head_table}
 use Rattle.first_pass_definitions.specs.Memory.{FootnoteAsks}
 use Rattle.first_pass_definitions.proofs.Asks.{footnote_asks, place_from}
 use Rattle.first_pass_definitions.proofs.footnote.scan_footnote.Goals as goal
@@ -33,5 +33,6 @@ returns-clause-err c =
     (λ at s. let mark = after_mark bs c.range_from.utf8 f.0 in
     let inside = place_from bs s.following.now (drop 2 bs) 2 (at + 1) mark refl s.boundary s.past_is in
     let there = place_from text s.following.now bs c.args.start (2 + (at + 1)) c.requires c.range_from.ensures.value inside.0 inside.1 in
-    let u = there.0 in let v = there.1 in let p = s.errs in (search rules, ap (λ xs. line_may_head around (line_rest xs)) (sym s.past_is) ∙ search rules)))
+    let u = there.0 in let v = there.1 in let p = s.errs in
+    (search rules, ap (λ xs. line_may_head_table around (line_rest xs)) (sym s.past_is) ∙ search rules)))
     c.scan_footnote_head.ensures.err)

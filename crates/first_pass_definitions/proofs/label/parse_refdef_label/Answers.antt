@@ -4,7 +4,7 @@ use Rattle.first_pass_lines.specs.Places.{line_rest}
 use Rattle.first_pass_tree.specs.Forest.{in_table}
 use Rattle.first_pass_grammar.specs.Definitions.{prefix_crossed}
 use Rattle.first_pass_open.specs.Path.{context_of}
-use Rattle.first_pass_kinds.specs.Memory.{line_may_head}
+use Rattle.first_pass_kinds.specs.Memory.{line_may_head_table}
 use Rattle.first_pass_definitions.specs.Memory.{LabelAsks}
 use Rattle.first_pass_definitions.proofs.Asks.{label_asks, place_from}
 use Rattle.first_pass_definitions.proofs.Places.{label_fits}
@@ -28,5 +28,5 @@ returns-clause-err c =
     let u = there.0 in let v = there.1 in search rules))
     (λ at s.
     let there = place_from text s.following.now bs c.args.start (at + 1) c.requires c.range_from.ensures.value s.boundary s.past_is in
-    ap (λ xs. line_may_head around (line_rest xs)) (sym s.past_is) ∙ (let u = there.0 in let v = there.1 in let p = s.errs in search rules)))
+    ap (λ xs. line_may_head_table around (line_rest xs)) (sym s.past_is) ∙ (let u = there.0 in let v = there.1 in let p = s.errs in search rules)))
     c.scan_link_label_rest.ensures.err)

@@ -11,7 +11,7 @@ use Rattle.first_pass_open.specs.Path.{context_of}
 use Rattle.first_pass_definitions.specs.Reading.{stops_title_line, goes_on_at}
 use Rattle.std.specs.Option.{option_map_or}
 use Rattle.first_pass_lines.specs.Places.{line_rest}
-use Rattle.first_pass_kinds.specs.Memory.{line_may_head}
+use Rattle.first_pass_kinds.specs.Memory.{line_may_head_table}
 use Rattle.first_pass_definitions.proofs.Titles.{TitleLine, after_nothing, whole_title, stop_place, title_found, no_title, title_further, any_last, closes-low}
 use Rattle.first_pass_definitions.proofs.Asks.{goes_asks, meets_asks, none_or_some, on_err}
 use Rattle.first_pass_definitions.proofs.title.scan_title_text.Goals as goal
@@ -120,7 +120,7 @@ returns-in_err-next-clause-err c =
     let stop : ℕ = c.loop-bytes.from + c.scan_title_line.result in
     on_err c.from_residual-in_err-next.result
     (meets_asks around c.args.close c.loop-bytes.from stop c.args.text.now c.loop-bytes.invariant.asked (line_stops at)
-    (subst (λ (bs : List ℕ). option_map_or (λ e. line_may_head around (line_rest (drop (stop + e) bs))) (eol_len (drop stop bs)) false ≡ true)
+    (subst (λ (bs : List ℕ). option_map_or (λ e. line_may_head_table around (line_rest (drop (stop + e) bs))) (eol_len (drop stop bs)) false ≡ true)
     c.as_bytes-bytes.ensures.value c.in_err-next.ensures.err)
     (none_or_some c.loop-bytes.from))
 

@@ -8,7 +8,7 @@ use Rattle.first_pass_grammar.specs.Kinds.{Continued, all_taken, interrupts_in, 
 use Rattle.first_pass_grammar.specs.Containers.{Context}
 use Rattle.first_pass_open.specs.Path.{context_of, continued_to}
 use Rattle.first_pass_grammar.specs.Definitions.{is_underline}
-use Rattle.first_pass_kinds.specs.Memory.{may_head}
+use Rattle.first_pass_kinds.specs.Memory.{may_head_table}
 use Rattle.first_pass_kinds.proofs.interrupt.scan_definition_end.Goals as goal
 
 bound : (n m : ℕ) → n ≡ min 4 m → nat_lt n 4 ≡ nat_lt m 4
@@ -90,10 +90,11 @@ on_err (Err e) p = p
 
 -- it fails only if a table may begin
 err_at : (around : Context) (r : Rest) (columns : ℕ) (bs : List ℕ)
-    → columns ≡ min 4 (indent r) → bs ≡ (all_taken r).left → (nat_lt columns 4 && may_head around bs) ≡ true →
-    (nat_lt (indent r) 4 && may_head around (all_taken r).left) ≡ true
+    → columns ≡ min 4 (indent r) → bs ≡ (all_taken r).left → (nat_lt columns 4 && may_head_table around bs) ≡ true →
+    (nat_lt (indent r) 4 && may_head_table around (all_taken r).left) ≡ true
 err_at around r columns bs e f h =
-    ap (λ t. t && may_head around (all_taken r).left) (sym (bound columns (indent r) e)) ∙ ap (λ xs. nat_lt columns 4 && may_head around xs) (sym f) ∙ h
+    ap (λ t. t && may_head_table around (all_taken r).left) (sym (bound columns (indent r) e)) ∙ ap (λ xs. nat_lt columns 4 && may_head_table around xs) (sym f)
+    ∙ h
 
 pub returns-in_err-scan_paragraph_end-clause-err : goal.returns-in_err-scan_paragraph_end-clause-err
 returns-in_err-scan_paragraph_end-clause-err c =

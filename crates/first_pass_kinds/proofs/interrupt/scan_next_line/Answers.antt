@@ -33,5 +33,5 @@ returns-then-is_some-clause-place c =
 pub returns-then-is_plain_front-2-clause-value : goal.returns-then-is_plain_front-2-clause-value
 returns-then-is_plain_front-2-clause-value c =
     ap (λ n. More (c.args.start + n)) c.bytes_scanned.ensures
-    ∙ plain_more (context_of c.args.source.now.options c.args.tree.now) c.args.start _ c.scan_text-text.result.rest c.scan_text-text.ensures.rest
+    ∙ plain_more (context_of c.args.source.now.options c.args.tree.now) c.args.start _ c.scan_unindented-text.result.rest c.scan_unindented-text.ensures.rest
     (ap begins_plain (sym c.left.ensures) ∙ sym c.is_plain_front-2.ensures ∙ c.if-is_plain_front-2.true)

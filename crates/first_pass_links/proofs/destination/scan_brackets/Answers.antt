@@ -1,7 +1,7 @@
 use Rattle.std.proofs.Common.{◌≡◌, ℕ, ◌==◌, true, false, sym, ap, ◌∙◌, arith, if◌then◌else◌}
 use Rattle.std.proofs.lemmas.Bool.Decides.{nat_tests}
 use Rattle.first_pass_links.specs.Escapes.{begins_escape}
-use Rattle.first_pass_links.specs.Destinations.{ends_brackets}
+use Rattle.first_pass_links.specs.Destinations.{ends_bracketed}
 use Rattle.first_pass_links.proofs.Destinations.{upto_unit, upto_stopped, upto_ended}
 use Rattle.first_pass_links.proofs.destination.scan_brackets.Goals as goal
 
@@ -9,24 +9,24 @@ pub loop-at-preserved : goal.loop-at-preserved
 loop-at-preserved c =
     let bs = c.args.bytes.now in
     let e = c.unit_len-at.ensures.value ∙ ap (λ xs. if begins_escape xs then 2 else 1) c.rest_of.ensures.value in
-    let u = upto_unit ends_brackets bs c.loop-at.at c.unit_len-at.result c.loop-at-test.true e (sym c.ends_brackets.ensures ∙ c.if-not-ends_brackets.true) in
+    let u = upto_unit ends_bracketed bs c.loop-at.at c.unit_len-at.result c.loop-at-test.true e (sym c.ends_bracketed.ensures ∙ c.if-not-ends_bracketed.true) in
     let within = c.unit_len-at.ensures.within in
     let whole = c.rest_of.ensures.whole in
     let passed = c.loop-at.invariant.passed in
     record { within = omega arith; passed = u ∙ passed }
 
-no_backslash : (b : ℕ) → ends_brackets b ≡ true → (b == 92) ≡ false
+no_backslash : (b : ℕ) → ends_bracketed b ≡ true → (b == 92) ≡ false
 no_backslash b h = grind (arith, nat_tests, h)
 
-pub returns-else-not-ends_brackets-clause-value : goal.returns-else-not-ends_brackets-clause-value
-returns-else-not-ends_brackets-clause-value c =
-    let s = sym c.ends_brackets.ensures ∙ c.if-not-ends_brackets.false in
-    let e = upto_stopped ends_brackets c.args.bytes.now c.loop-at.at c.loop-at-test.true s (no_backslash _ s) in
+pub returns-else-not-ends_bracketed-clause-value : goal.returns-else-not-ends_bracketed-clause-value
+returns-else-not-ends_bracketed-clause-value c =
+    let s = sym c.ends_bracketed.ensures ∙ c.if-not-ends_bracketed.false in
+    let e = upto_stopped ends_bracketed c.args.bytes.now c.loop-at.at c.loop-at-test.true s (no_backslash _ s) in
     let passed = c.loop-at.invariant.passed in
     omega arith
 
 pub returns-after-loop-at-clause-value : goal.returns-after-loop-at-clause-value
 returns-after-loop-at-clause-value c =
-    let e = upto_ended ends_brackets c.args.bytes.now c.loop-at.at (omega arith) in
+    let e = upto_ended ends_bracketed c.args.bytes.now c.loop-at.at (omega arith) in
     let passed = c.loop-at.invariant.passed in
     omega arith

@@ -1,6 +1,6 @@
 use Rattle.std.proofs.Common.{◌≡◌, ◌==◌, ℕ, inl, inr, ◌+◌, drop, Some, None, sym, ap, ◌∙◌, arith}
 use Rattle.std.proofs.lemmas.Bool.{cases_Bool, eqb-true}
-use Rattle.first_pass_links.specs.Destinations.{run_len, longer, if_closed}
+use Rattle.first_pass_links.specs.Destinations.{bare_len, longer, if_closed}
 use Rattle.first_pass_links.proofs.PlainRuns.{parenthesis_unit}
 use Rattle.first_pass_links.proofs.Destinations.{run_unit, run_deep, run_unopened, run_stopped, run_ended}
 use Rattle.first_pass_links.proofs.destination.scan_run.Goals as goal
@@ -37,14 +37,14 @@ loop-at-preserved c =
       within = omega arith;
       nested = omega arith;
       shallow = shallow;
-      passed = ap (λ n. longer (at + 1) (run_len c.args.deepest n 0 (drop (at + 1) bs))) following ∙ u ∙ c.loop-at.invariant.passed;
+      passed = ap (λ n. longer (at + 1) (bare_len c.args.deepest n 0 (drop (at + 1) bs))) following ∙ u ∙ c.loop-at.invariant.passed;
     }
 
 -- after the loop the run has ended
 pub returns-then-nesting-eq0-clause-value : goal.returns-then-nesting-eq0-clause-value
 returns-then-nesting-eq0-clause-value c =
     let z : c.loop-at.at + 0 ≡ c.loop-at.at = omega arith in
-    let e : run_len c.args.deepest c.loop-at.nesting 0 (drop c.loop-at.at c.args.bytes.now) ≡ if_closed c.loop-at.nesting = elim c.loop-at-test.branch [
+    let e : bare_len c.args.deepest c.loop-at.nesting 0 (drop c.loop-at.at c.args.bytes.now) ≡ if_closed c.loop-at.nesting = elim c.loop-at-test.branch [
       | then-loop-at-test+else-not-ends_run w ↦
           run_stopped c.args.deepest c.loop-at.nesting c.args.bytes.now c.loop-at.at w.loop-at-test.true (sym w.ends_run.ensures ∙ w.if-not-ends_run.false)
       | else-loop-at-test w ↦ run_ended c.args.deepest c.loop-at.nesting c.args.bytes.now c.loop-at.at w.loop-at-test.false
@@ -56,7 +56,7 @@ open_run n h = elim (cases_Bool (n == 0)) [ inl e ↦ absurd (h (eqb-true n 0 e)
 
 pub returns-else-nesting-eq0-clause-value : goal.returns-else-nesting-eq0-clause-value
 returns-else-nesting-eq0-clause-value c =
-    let e : run_len c.args.deepest c.loop-at.nesting 0 (drop c.loop-at.at c.args.bytes.now) ≡ if_closed c.loop-at.nesting = elim c.loop-at-test.branch [
+    let e : bare_len c.args.deepest c.loop-at.nesting 0 (drop c.loop-at.at c.args.bytes.now) ≡ if_closed c.loop-at.nesting = elim c.loop-at-test.branch [
       | then-loop-at-test+else-not-ends_run w ↦
           run_stopped c.args.deepest c.loop-at.nesting c.args.bytes.now c.loop-at.at w.loop-at-test.true (sym w.ends_run.ensures ∙ w.if-not-ends_run.false)
       | else-loop-at-test w ↦ run_ended c.args.deepest c.loop-at.nesting c.args.bytes.now c.loop-at.at w.loop-at-test.false

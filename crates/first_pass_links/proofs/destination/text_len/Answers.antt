@@ -1,5 +1,5 @@
 use Rattle.std.proofs.Common.{◌≡◌, ◌+◌, drop, sym, ap, ◌∙◌, arith}
-use Rattle.first_pass_links.specs.Destinations.{run_len, longer}
+use Rattle.first_pass_links.specs.Destinations.{bare_len, longer}
 use Rattle.first_pass_links.proofs.PlainRuns.{are_plain, run_part}
 use Rattle.first_pass_links.proofs.destination.text_len.Goals as goal
 
@@ -9,7 +9,7 @@ returns-then-unit-eq2-clause-passed c =
     let bs = c.args.bytes.now in
     let n = c.unit_len-unit.result in
     let e : n + 0 ≡ n = omega arith in
-    ap (λ j. longer j (run_len deepest nesting 0 (drop j bs))) (sym e)
+    ap (λ j. longer j (bare_len deepest nesting 0 (drop j bs))) (sym e)
     ∙ run_part deepest nesting bs n 0 c.requires.some c.requires.part c.unit_len-unit.ensures.value (omega (arith, c.unit_len-unit.ensures.within))
     (λ k below. absurd (omega arith)) bound
 

@@ -23,28 +23,28 @@ and_false : (u b : Bool) → b ≡ false → b ≡ (b && u)
 and_false u true h = absurd (false≢true (sym h))
 and_false u false h = refl
 
-pub returns-then-not-begins_footnote : goal.returns-then-not-begins_footnote
-returns-then-not-begins_footnote c = λ t. sym (head_unmarked c.args.bytes.now (sym c.begins_footnote.ensures ∙ c.if-not-begins_footnote.true) t)
+pub returns-then-not-begins_footnote_mark : goal.returns-then-not-begins_footnote_mark
+returns-then-not-begins_footnote_mark c = λ t. sym (head_unmarked c.args.bytes.now (sym c.begins_footnote_mark.ensures ∙ c.if-not-begins_footnote_mark.true) t)
 
 pub returns-then-not-begins : goal.returns-then-not-begins
 returns-then-not-begins c = λ t.
-    let e = bracket c.args.bytes.now _ _ _ _ c.rest_of-label.ensures.value c.scan_line_label-len.ensures.value c.rest_of.ensures.value c.begins.ensures.value in
-    sym (head_none c.args.bytes.now (sym c.begins_footnote.ensures ∙ c.if-not-begins_footnote.false) (e ∙ c.if-not-begins.true) t)
+    let e = bracket c.args.bytes.now _ _ _ _ c.rest_of-label.ensures.value c.scan_label_end-len.ensures.value c.rest_of.ensures.value c.begins.ensures.value in
+    sym (head_none c.args.bytes.now (sym c.begins_footnote_mark.ensures ∙ c.if-not-begins_footnote_mark.false) (e ∙ c.if-not-begins.true) t)
 
 pub returns-then-begins : goal.returns-then-begins
 returns-then-begins c = λ t.
     let l = c.rest_of-label.ensures.value in
-    let k = c.scan_line_label-len.ensures.value in
+    let k = c.scan_label_end-len.ensures.value in
     let e = bracket c.args.bytes.now _ _ _ _ l k c.rest_of.ensures.value c.begins.ensures.value ∙ c.if-not-begins.false in
     and_true c.is_label.result c.begins-2.result c.if-begins.true
     ∙ colon c.args.bytes.now _ _ _ _ _ l k c.rest_of-2.ensures.value c.begins-2.ensures.value c.is_label.ensures
-    ∙ sym (head_some c.args.bytes.now (sym c.begins_footnote.ensures ∙ c.if-not-begins_footnote.false) e t)
+    ∙ sym (head_some c.args.bytes.now (sym c.begins_footnote_mark.ensures ∙ c.if-not-begins_footnote_mark.false) e t)
 
 pub returns-else-begins : goal.returns-else-begins
 returns-else-begins c = λ t.
     let l = c.rest_of-label.ensures.value in
-    let k = c.scan_line_label-len.ensures.value in
-    let u = is_label (take c.scan_line_label-len.result c.rest_of-label.result.now) in
+    let k = c.scan_label_end-len.ensures.value in
+    let u = is_label (take c.scan_label_end-len.result c.rest_of-label.result.now) in
     let e = bracket c.args.bytes.now _ _ _ _ l k c.rest_of.ensures.value c.begins.ensures.value ∙ c.if-not-begins.false in
     and_false u c.begins-2.result c.if-begins.false ∙ colon c.args.bytes.now _ _ _ u _ l k c.rest_of-2.ensures.value c.begins-2.ensures.value refl
-    ∙ sym (head_some c.args.bytes.now (sym c.begins_footnote.ensures ∙ c.if-not-begins_footnote.false) e t)
+    ∙ sym (head_some c.args.bytes.now (sym c.begins_footnote_mark.ensures ∙ c.if-not-begins_footnote_mark.false) e t)

@@ -1,24 +1,24 @@
 use Rattle.std.proofs.Common.{◌≡◌, ◌+◌, Some, None, true, false, drop, refl, sym, ap, subst, ◌∙◌, arith}
 use Rattle.std.specs.Str.{IsCharBoundary}
 use Rattle.first_pass_lines.specs.Lines.{begins}
-use Rattle.first_pass_links.specs.Footnotes.{begins_footnote}
+use Rattle.first_pass_links.specs.Footnotes.{begins_footnote_mark}
 use Rattle.first_pass_links.specs.Labels.{label_at, CanErr}
 use Rattle.first_pass_links.proofs.Footnotes.{IsAnswer, after_mark, further, no_mark, no_label, head_by, after_colon}
 use Rattle.first_pass_links.proofs.Rewritten.{on_err}
 use Rattle.first_pass_links.proofs.footnote.scan_footnote_head.Goals as goal
-use Rattle.first_pass_links.proofs.footnote.scan_footnote_head.Goals.{Else-not-begins_footnote, In_default, After-begins}
+use Rattle.first_pass_links.proofs.footnote.scan_footnote_head.Goals.{Else-not-begins_footnote_mark, In_default, After-begins}
 
-pub returns-then-not-begins_footnote-clause-value : goal.returns-then-not-begins_footnote-clause-value
-returns-then-not-begins_footnote-clause-value g c = λ prefix a.
+pub returns-then-not-begins_footnote_mark-clause-value : goal.returns-then-not-begins_footnote_mark-clause-value
+returns-then-not-begins_footnote_mark-clause-value g c = λ prefix a.
     let e = no_mark prefix c.args.is_in_table c.args.text.now
-    (ap begins_footnote (sym c.as_bytes-bytes.ensures.value) ∙ sym c.begins_footnote.ensures ∙ c.if-not-begins_footnote.true) in
+    (ap begins_footnote_mark (sym c.as_bytes-bytes.ensures.value) ∙ sym c.begins_footnote_mark.ensures ∙ c.if-not-begins_footnote_mark.true) in
     rw e refl
 
 -- the text begins with `[^`
-mark_is : (g : _) (c : Else-not-begins_footnote g) → begins_footnote c.args.text.now ≡ true
-mark_is g c = ap begins_footnote (sym c.as_bytes-bytes.ensures.value) ∙ sym c.begins_footnote.ensures ∙ c.if-not-begins_footnote.false
+mark_is : (g : _) (c : Else-not-begins_footnote_mark g) → begins_footnote_mark c.args.text.now ≡ true
+mark_is g c = ap begins_footnote_mark (sym c.as_bytes-bytes.ensures.value) ∙ sym c.begins_footnote_mark.ensures ∙ c.if-not-begins_footnote_mark.false
 
-mark_place : (g : _) (c : Else-not-begins_footnote g) → IsCharBoundary c.args.text.now 2
+mark_place : (g : _) (c : Else-not-begins_footnote_mark g) → IsCharBoundary c.args.text.now 2
 mark_place g c = after_mark c.args.text.now c.utf8.text (mark_is g c)
 
 pub range_from-requires : goal.range_from-requires
@@ -27,12 +27,12 @@ range_from-requires g c = λ h. mark_place g c
 pub scan_link_label_rest-requires-clause-places : goal.scan_link_label_rest-requires-clause-places
 scan_link_label_rest-requires-clause-places g c = λ following n at b e.
     let there = further c.args.text.now following.now c.range_from.result.now at
-    (mark_place g (goal.at.scan_link_label_rest-requires-clause-places g c).Else-not-begins_footnote) c.range_from.ensures.value b e in
+    (mark_place g (goal.at.scan_link_label_rest-requires-clause-places g c).Else-not-begins_footnote_mark) c.range_from.ensures.value b e in
     c.requires.places following n (2 + at) there.0 there.1
 
 pub returns-in_default-clause-value : goal.returns-in_default-clause-value
 returns-in_default-clause-value g c = λ prefix a.
-    let before = (goal.at.returns-in_default-clause-value g c).Else-not-begins_footnote in
+    let before = (goal.at.returns-in_default-clause-value g c).Else-not-begins_footnote_mark in
     let k = rw c.in_default.is at c.in_ok-len.ensures.value prefix (λ following answer at b e.
     let there = further c.args.text.now following.now c.range_from.result.now at (mark_place g before) c.range_from.ensures.value b e in
     a following answer (2 + at) there.0 there.1) in
@@ -47,7 +47,7 @@ colon_is g c =
 
 pub returns-then-not-begins-clause-value : goal.returns-then-not-begins-clause-value
 returns-then-not-begins-clause-value g c = λ prefix a.
-    let before = (goal.at.returns-then-not-begins-clause-value g c).Else-not-begins_footnote in
+    let before = (goal.at.returns-then-not-begins-clause-value g c).Else-not-begins_footnote_mark in
     let k = rw c.in-Some.is at c.in_ok-len.ensures.value prefix (λ following answer at b e.
     let there = further c.args.text.now following.now c.range_from.result.now at (mark_place g before) c.range_from.ensures.value b e in
     a following answer (2 + at) there.0 there.1) in
@@ -57,7 +57,7 @@ returns-then-not-begins-clause-value g c = λ prefix a.
 
 pub returns-clause-value : goal.returns-clause-value
 returns-clause-value g c = λ prefix a.
-    let before = (goal.at.returns-clause-value g c).Else-not-begins_footnote in
+    let before = (goal.at.returns-clause-value g c).Else-not-begins_footnote_mark in
     let k = rw c.in-Some.is at c.in_ok-len.ensures.value prefix (λ following answer at b e.
     let there = further c.args.text.now following.now c.range_from.result.now at (mark_place g before) c.range_from.ensures.value b e in
     a following answer (2 + at) there.0 there.1) in
@@ -72,7 +72,7 @@ returns-clause-fits g c =
 
 pub returns-in_err-len-clause-err : goal.returns-in_err-len-clause-err
 returns-in_err-len-clause-err g c =
-    let before = (goal.at.returns-in_err-len-clause-err g c).Else-not-begins_footnote in
+    let before = (goal.at.returns-in_err-len-clause-err g c).Else-not-begins_footnote_mark in
     on_err c.from_residual.result (
       mark_is g before,
       λ prefix a.

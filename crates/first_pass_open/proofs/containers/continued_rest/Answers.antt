@@ -12,8 +12,8 @@ loop-i-init c =
 
 pub returns-then-is_at_eol : goal.returns-then-is_at_eol
 returns-then-is_at_eol c =
-    sym (rest_passed c.args.options c.args.tree.now c.args.quotes_end c.loop-i.i (line_rest c.args.bytes.now) c.loop-i.rest c.requires
-    c.if-quotes_end-i.true c.loop-i.invariant
+    sym (rest_passed c.args.options c.args.tree.now c.args.nodes_to_quote c.loop-i.i (line_rest c.args.bytes.now) c.loop-i.rest c.requires
+    c.if-nodes_to_quote-i.true c.loop-i.invariant
     record { none = sym c.remaining_space.ensures.value ∙ c.if-remaining_space-eq0.true; ends = sym c.is_at_eol.ensures ∙ c.if-is_at_eol.true })
 
 pub index-requires : goal.index-requires

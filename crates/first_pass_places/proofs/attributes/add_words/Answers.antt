@@ -2,7 +2,7 @@ use Rattle.std.proofs.Common.{◌≡◌, ℕ, ◌+◌, List, ◌++◌, map, leng
 use Rattle.std.specs.declared.ops.Range.{Range}
 use Rattle.std.proofs.lemmas.List.{append-nil, map-append}
 use Rattle.first_pass_links.proofs.Rewritten.{on_err}
-use Rattle.first_pass_places.specs.declared.attributes.AttributePlace.{AttributePlace}
+use Rattle.first_pass_places.specs.declared.attributes.AttributeRanges.{AttributeRanges}
 use Rattle.first_pass_places.specs.AttributePlaces.{attribute_place, word_range, word_ranges}
 use Rattle.first_pass_places.proofs.WordPlaces.{one_word_range, next_word, no_words}
 use Rattle.first_pass_places.proofs.attributes.add_words.Goals as goal
@@ -13,7 +13,7 @@ loop-from-preserved c =
     let end : ℕ = c.args.end in
     let from : ℕ = c.loop-from.from in
     let next : ℕ = from + c.scan_word.result in
-    let items : List AttributePlace = c.loop-from.places.items in
+    let items : List AttributeRanges = c.loop-from.places.items in
     let first : List (Range ℕ) = word_range from next in
     let rest : List (Range ℕ) = word_ranges text (next + 1) end in
     let words : word_ranges text from end ≡ first ++ rest =
@@ -47,6 +47,6 @@ returns-in_err-add_word-clause-err c =
 pub returns-clause-value : goal.returns-clause-value
 returns-clause-value c =
     let text : List ℕ = c.args.text.now in
-    let items : List AttributePlace = c.loop-from.places.items in
+    let items : List AttributeRanges = c.loop-from.places.items in
     let none = no_words text c.loop-from.from c.args.end c.loop-from-test.false in
     sym (append-nil items) ∙ ap (λ l. items ++ map (attribute_place text) l) (sym none) ∙ c.loop-from.invariant.added

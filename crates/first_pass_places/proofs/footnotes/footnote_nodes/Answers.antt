@@ -2,13 +2,13 @@ use Rattle.std.proofs.Common.{take, sym, subst}
 use Rattle.std.proofs.lemmas.List.{take_all}
 use Rattle.first_pass_links.proofs.Rewritten.{on_err}
 use Rattle.first_pass_names.specs.TableEntries.{names_of}
-use Rattle.first_pass_places.specs.FootnoteNodes.{AreFirstNodes}
+use Rattle.first_pass_places.specs.FootnoteNodes.{AreFirstFootnotes}
 use Rattle.first_pass_places.proofs.FootnoteEntries.{label_among, none_first, next_node}
 use Rattle.first_pass_places.proofs.footnotes.footnote_nodes.Goals as goal
 
 pub loop-index-init : goal.loop-index-init
 loop-index-init c =
-    subst (AreFirstNodes (names_of c.args.allocs.now) (take 0 c.args.nodes.now)) (sym c.new-table.ensures) (none_first (names_of c.args.allocs.now))
+    subst (AreFirstFootnotes (names_of c.args.allocs.now) (take 0 c.args.nodes.now)) (sym c.new-table.ensures) (none_first (names_of c.args.allocs.now))
 
 pub loop-index-preserved : goal.loop-index-preserved
 loop-index-preserved c =
@@ -23,5 +23,5 @@ returns-in_err-add_footnote-clause-err c =
 
 pub returns-clause-value : goal.returns-clause-value
 returns-clause-value c =
-    subst (λ l. AreFirstNodes (names_of c.args.allocs.now) l c.loop-index.table) (take_all c.loop-index.index c.args.nodes.now c.loop-index-test.false)
+    subst (λ l. AreFirstFootnotes (names_of c.args.allocs.now) l c.loop-index.table) (take_all c.loop-index.index c.args.nodes.now c.loop-index-test.false)
     c.loop-index.invariant

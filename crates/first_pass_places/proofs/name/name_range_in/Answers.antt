@@ -21,7 +21,7 @@ returns-in-FootnoteDefinition-clause-boundary c =
 
 pub returns-in_default-clause-boundary : goal.returns-in_default-clause-boundary
 returns-in_default-clause-boundary c =
-    name_between c.args.text.now c.args.node.now c.attribute_range.result
-    (c.attribute_range.ensures.value
+    name_between c.args.text.now c.args.node.now c.attribute_block_range_in.result
+    (c.attribute_block_range_in.ensures.value
     ∙ sym (other_name c.args.node.now.body c.args.text.now c.args.node.now c.in_default.not-FencedCodeBlock c.in_default.not-FootnoteDefinition))
     c.requires.order c.requires.within

@@ -36,7 +36,7 @@ pub scan_continued_past-requires-clause-quotes : goal.scan_continued_past-requir
 scan_continued_past-requires-clause-quotes g c =
     lines_quotes _ (document c.args.source.now.text.now c.args.source.now.options (names_of c.loop-ix.allocs)) _ _ c.args.tree.now c.loop-ix.tree _
     c.loop-ix.invariant.read (open_are_in c.args.tree.now.nodes c.args.tree.now.spine c.recall_forest.ensures.opened)
-    (c.quotes_end-quotes_end.ensures c.args.source.now.options)
+    (c.nodes_to_quote-nodes_to_quote.ensures c.args.source.now.options)
 
 -- the line, up to the start of the next one
 line_here : (g : _) (c : After-next_line-next g) → IsLineAt c.args.source.now.text.now c.loop-ix.ix c.next_line-next.result

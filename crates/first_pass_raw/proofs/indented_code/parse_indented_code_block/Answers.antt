@@ -55,8 +55,8 @@ indented_line-requires-clause-quotes c =
     let forest = subst (IsForest {T = Item}) c.in_ok-open_block.ensures.tree c.recall_forest-2.ensures in
     let first = c.lines.invariant.read (first_at text c.args.start_ix c.args.remaining_space) (first_is text c.args.start_ix c.args.remaining_space) refl in
     next_quotes _ _ _ _ _ _ _ _ first forest
-    (subst (λ (f : Forest Item). has_quote_after c.args.source.now.options f c.quotes_end-quotes_end.result ≡ false) c.in_ok-open_block.ensures.tree
-    (c.quotes_end-quotes_end.ensures c.args.source.now.options))
+    (subst (λ (f : Forest Item). has_quote_after c.args.source.now.options f c.nodes_to_quote-nodes_to_quote.result ≡ false) c.in_ok-open_block.ensures.tree
+    (c.nodes_to_quote-nodes_to_quote.ensures c.args.source.now.options))
 
 -- The next line continues the code.
 continues : (c : In_ok-next-2) → ContinuesCode (document c.args.source.now.text.now c.args.source.now.options (names_of c.lines.allocs))

@@ -83,11 +83,11 @@ returns-in-Underline-clause-lines c =
     (so_far_stop (line_read (goal.at.returns-in-Underline-clause-lines c).In_ok-at) _ (omega (arith, c.recall_length.ensures))
     (underlined_by _ _ _ _ _ c.in_ok-at.ensures.value c.in-Underline.is))
 
-pub returns-in-Other-clause-lines : goal.returns-in-Other-clause-lines
-returns-in-Other-clause-lines c =
-    ended_by (c.break_item-in-Other.ensures ∙ c.held_break-held.ensures)
-    (so_far_stop (line_read (goal.at.returns-in-Other-clause-lines c).In_ok-at) _ (omega (arith, c.recall_length.ensures))
-    (stops_by _ _ _ _ c.in_ok-at.ensures.value c.in-Other.is))
+pub returns-in-NotText-clause-lines : goal.returns-in-NotText-clause-lines
+returns-in-NotText-clause-lines c =
+    ended_by (c.break_item-in-NotText.ensures ∙ c.held_break-held.ensures)
+    (so_far_stop (line_read (goal.at.returns-in-NotText-clause-lines c).In_ok-at) _ (omega (arith, c.recall_length.ensures))
+    (stops_by _ _ _ _ c.in_ok-at.ensures.value c.in-NotText.is))
 
 pub returns-in-Underline-clause-more : goal.returns-in-Underline-clause-more
 returns-in-Underline-clause-more c = record {
@@ -96,8 +96,8 @@ returns-in-Underline-clause-more c = record {
   entries = c.in_ok-next.ensures.entries ∙ c.lines.invariant.entries;
 }
 
-pub returns-in-Other-clause-more : goal.returns-in-Other-clause-more
-returns-in-Other-clause-more c = record {
+pub returns-in-NotText-clause-more : goal.returns-in-NotText-clause-more
+returns-in-NotText-clause-more c = record {
   names = extends_both (names_of c.append_line.new.self) (names_of c.lines.allocs) (names_of c.args.allocs.now) c.in_ok-next.ensures.names
       c.lines.invariant.grown;
   entries = c.in_ok-next.ensures.entries ∙ c.lines.invariant.entries;

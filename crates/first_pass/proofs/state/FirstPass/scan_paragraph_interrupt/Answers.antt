@@ -7,7 +7,7 @@ use Rattle.first_pass_tree.specs.Forest.{Forest, in_table}
 use Rattle.first_pass_links.specs.Footnotes.{footnote_head}
 use Rattle.first_pass_grammar.specs.Kinds.{interrupts_with}
 use Rattle.first_pass_grammar.specs.TableHeads.{table_interrupts}
-use Rattle.first_pass_kinds.specs.Memory.{may_head}
+use Rattle.first_pass_kinds.specs.Memory.{may_head_table}
 use Rattle.first_pass.specs.Interrupts.{colon_interrupts}
 use Rattle.first_pass.specs.Views.{context_in, tree_of}
 use Rattle.first_pass.proofs.state.FirstPass.scan_paragraph_interrupt.Goals as goal
@@ -81,6 +81,6 @@ returns c =
           IfOk-weaker c.interrupts_as_table.result _ _ (λ answer h. h ∙ ap (table_interrupts around) c.as_bytes.ensures.value ∙ none)
           c.interrupts_as_table.ensures.value;
       err =
-          subst (λ (b : List ℕ). OnErr c.interrupts_as_table.result (may_head around b ≡ true)) c.as_bytes.ensures.value
+          subst (λ (b : List ℕ). OnErr c.interrupts_as_table.result (may_head_table around b ≡ true)) c.as_bytes.ensures.value
           c.interrupts_as_table.ensures.err;
     }

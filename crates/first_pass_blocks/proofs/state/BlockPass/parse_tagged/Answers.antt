@@ -41,7 +41,7 @@ returns-in-None c =
     let self = c.args.self.now in
     let at = c.args.start in
     let text = self.source.text.now in
-    let h = said _ (context_in self) text _ _ at c.as_bytes.ensures.value c.rest_of-bytes.ensures.value c.in_ok-scan_line_after_tag.ensures.value in
+    let h = said _ (context_in self) text _ _ at c.as_bytes.ensures.value c.rest_of-bytes.ensures.value c.in_ok-scan_flowing_line.ensures.value in
     let any = any_by (is_ordinary_after_tag (context_in self) (line_rest (drop at text))) _ _ c.in-None.is h in
     record {
       source = refl;
@@ -67,7 +67,7 @@ returns-in_ok-next-in-Some c =
     let p : Place = unindented (place_at at (front path (line_rest (drop at text)))) in
     let q : Place = place_at at c.in-Some.rest in
     let e = c.in_ok-next-in-Some.ensures in
-    let h = said _ (context_in self) text _ _ at c.as_bytes.ensures.value c.rest_of-bytes.ensures.value c.in_ok-scan_line_after_tag.ensures.value in
+    let h = said _ (context_in self) text _ _ at c.as_bytes.ensures.value c.rest_of-bytes.ensures.value c.in_ok-scan_flowing_line.ensures.value in
     let its = its_by (is_ordinary_after_tag (context_in self) (line_rest (drop at text))) _ c.in-Some.rest _ c.in-Some.is h in
     let same : q ≡ p = ap (place_at at) its.1 in
     let here = text_place text at path (subst IsUtf8 c.as_bytes.ensures.value c.as_bytes.ensures.utf8) c.requires.boundary in
@@ -97,7 +97,7 @@ parse_leaf-requires-clause-place c =
     let text = c.args.self.now.source.text.now in
     let at = c.args.start in
     let path = path_of c.args.self.now.source.options c.args.self.now.state.tree in
-    let h = said _ (context_in c.args.self.now) text _ _ at c.as_bytes.ensures.value c.rest_of-bytes.ensures.value c.in_ok-scan_line_after_tag.ensures.value in
+    let h = said _ (context_in c.args.self.now) text _ _ at c.as_bytes.ensures.value c.rest_of-bytes.ensures.value c.in_ok-scan_flowing_line.ensures.value in
     let its = its_by (is_ordinary_after_tag (context_in c.args.self.now) (line_rest (drop at text))) _ c.in-Some.rest _ c.in-Some.is h in
     subst (λ r. IsPlaceOf text (place_at at r)) (sym its.1) (text_place text at path (subst IsUtf8 c.as_bytes.ensures.value c.as_bytes.ensures.utf8)
     c.requires.boundary).0

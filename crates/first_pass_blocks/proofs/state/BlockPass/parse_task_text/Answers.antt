@@ -9,7 +9,7 @@ use Rattle.first_pass_open.proofs.PlaceLemmas.{all_keep, read_to}
 use Rattle.first_pass_order.proofs.CountLemmas.{block_count}
 use Rattle.first_pass_blocks.proofs.Order.OrderSteps.{ordered_text, unindented_later}
 use Rattle.first_pass_lines.specs.Places.{offset}
-use Rattle.first_pass_open.specs.Between.{AddsBetween, StandsBefore}
+use Rattle.first_pass_open.specs.Between.{AddsBetween, MarkerBetween}
 use Rattle.first_pass_names.specs.TableEntries.{tables_of, tables_in, names_of}
 use Rattle.first_pass_blocks.proofs.LinkDefinitions.WrittenLemmas.{written_stay}
 use Rattle.first_pass_names.proofs.NameLemmas.{extends_none}
@@ -57,7 +57,7 @@ returns c =
     let low = unindented_later text p.line p.rest c.requires.utf8 c.requires.place in
     let ends = ap (line_end_at text) there ∙ line_end_of text p i in
     let later = e.block.later in
-    let fits : (from : ℕ) → StandsBefore text from (offset p) (Some c.args.marker) → AddsBetween text from next old.tree tree =
+    let fits : (from : ℕ) → MarkerBetween text from (offset p) (Some c.args.marker) → AddsBetween text from next old.tree tree =
     λ from stands. let b = stands.1 in let before = b.before in
     e.fits c.requires.after.2 from (stands.0, record { following = b.following; order = b.order; before = omega arith; starts = b.starts; ends = b.ends }) in
     record {

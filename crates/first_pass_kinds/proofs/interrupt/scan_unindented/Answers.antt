@@ -3,7 +3,7 @@ use Rattle.first_pass_lines.specs.Rest.{indent}
 use Rattle.first_pass_grammar.specs.Kinds.{all_taken}
 use Rattle.first_pass_open.specs.Path.{path_of}
 use Rattle.first_pass_open.proofs.PlaceLemmas.{text_place}
-use Rattle.first_pass_kinds.proofs.interrupt.scan_text.Goals as goal
+use Rattle.first_pass_kinds.proofs.interrupt.scan_unindented.Goals as goal
 
 pub returns-clause-columns : goal.returns-clause-columns
 returns-clause-columns c = c.scan_indentation-columns.ensures.columns ∙ ap (λ r. min 4 (indent r)) c.scan_front-front.ensures.front

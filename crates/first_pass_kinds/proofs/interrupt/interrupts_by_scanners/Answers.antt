@@ -1,7 +1,7 @@
 use Rattle.std.proofs.Common.{is_some, sym, ap, ◌∙◌}
 use Rattle.first_pass_kinds.specs.BlockStart.{kind_of}
 use Rattle.first_pass_kinds.proofs.MarkBytes.{tag_interrupts, mapped_some}
-use Rattle.first_pass_kinds.proofs.interrupt.interrupts_by_mark.Goals as goal
+use Rattle.first_pass_kinds.proofs.interrupt.interrupts_by_scanners.Goals as goal
 
 pub returns-then-begins : goal.returns-then-begins
 returns-then-begins c =

@@ -1,5 +1,5 @@
 use Rattle.first_pass_places.proofs.MarkedNodes.{derived_marks}
-use Rattle.first_pass_places.proofs.laws.nodes_have_ascii_marks.Goals as goal
+use Rattle.first_pass_places.proofs.laws.nodes_have_whole_starts.Goals as goal
 
 pub returns : goal.returns
 returns c = derived_marks

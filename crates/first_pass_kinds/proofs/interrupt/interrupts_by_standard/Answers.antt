@@ -1,12 +1,12 @@
 use Rattle.std.proofs.Common.{sym, ◌∙◌}
 use Rattle.first_pass_kinds.proofs.FirstBytes.{item_plain}
 use Rattle.first_pass_kinds.proofs.MarkBytes.{unmarked_interrupts}
-use Rattle.first_pass_kinds.proofs.interrupt.interrupts_without_table.Goals as goal
+use Rattle.first_pass_kinds.proofs.interrupt.interrupts_by_standard.Goals as goal
 
-pub returns-then-begins_no_interrupt : goal.returns-then-begins_no_interrupt
-returns-then-begins_no_interrupt c =
+pub returns-then-begins_no_interruption : goal.returns-then-begins_no_interruption
+returns-then-begins_no_interruption c =
     sym (unmarked_interrupts c.args.current_container c.args.bytes.now
-    (sym c.begins_no_interrupt.ensures ∙ c.if-begins_no_interrupt.true))
+    (sym c.begins_no_interruption.ensures ∙ c.if-begins_no_interruption.true))
 
 pub returns-then-begins_plain_item : goal.returns-then-begins_plain_item
 returns-then-begins_plain_item c =

@@ -1,7 +1,7 @@
 use Rattle.std.proofs.Common.{◌≡◌, ◌≤◌, ◌+◌, ◌-◌, length, drop}
 use Rattle.first_pass_links.specs.Destinations.{unescaped_upto}
 use Rattle.first_pass_links.specs.Labels.{ends_line_label}
-use Rattle.first_pass_links.proofs.label.scan_line_label.Given as goal
+use Rattle.first_pass_links.proofs.label.scan_label_end.Given as goal
 
 -- no byte before this offset ends the label
 abbrev pub invariant-loop-at : goal.invariant-loop-at
