@@ -2,10 +2,11 @@
 //! the options, by default 0.
 #![tactic(auto)]
 
-use first_pass_program::run::PrintedBlocks;
+use first_pass_blocks::parser::BlockParser;
+use first_pass_printed::run::PrintedBlocks;
 use first_pass_run::program::run_program;
 use std::process::ExitCode;
 
 fn main(rt: HostRuntime) -> ExitCode {
-    run_program(&rt, &PrintedBlocks)
+    run_program(&rt, &PrintedBlocks(BlockParser))
 }

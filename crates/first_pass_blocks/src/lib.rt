@@ -7,6 +7,7 @@ pub mod footnote;
 pub mod laws;
 mod leaf;
 mod openers;
+pub mod parser;
 pub mod pass;
 pub mod state;
 pub mod text;

@@ -1,21 +1,21 @@
-//! The work of the program `tree`.
+//! The report of the program `tree`.
 
-ghost use Rattle.first_pass_host.specs.Streams.{stream_between};
-ghost use Rattle.first_pass_run.specs.Runs.{Runs};
 ghost use Rattle.first_pass_json.specs.Told.{IsOutput};
 
 use crate::written::write_json;
-use first_pass_blocks::pass::run_first_pass;
 use first_pass_host::fault::RunFault;
 use first_pass_items::option_set::Options;
-use first_pass_run::report::{Report, run_report};
+use first_pass_names::parse::Parse;
+use first_pass_run::report::Report;
 use std::alloc::Global;
-use std::io::{Read, Write};
+use std::io::Write;
 
-/// The report of the program `tree`: a text's blocks and its tables as lines of JSON.
-pub struct JsonTree;
+/// The report of the program `tree`, over any parser: a line of JSON for each node of the tree of a text's blocks, in
+/// reading order. Then it has one for each link definition, and one for each footnote's label, both in the byte order
+/// of their folded labels.
+pub struct JsonTree<P>(pub P);
 
-impl Report for JsonTree {
+impl<P: Parse> Report for JsonTree<P> {
     ghost says = { λ _ options text output. IsOutput options text output };
 
     fn write_report<W: Write>(
@@ -25,27 +25,7 @@ impl Report for JsonTree {
         options: Options,
         output: &mut W,
     ) -> Result<(), RunFault> {
-        let (tree, allocs) = run_first_pass(alloc, text, options)?;
+        let (tree, allocs) = self.0.parse(alloc, text, options)?;
         write_json(alloc, tree.nodes(), &allocs, output)
     }
-}
-
-/// Reads the input to its end and writes a line of JSON for each node of the tree of its blocks, in reading order.
-/// Then writes one for each link definition, and one for each footnote's label, both in the byte order of their folded
-/// labels. `words` are those after the program's name (see `parse_options`).
-///
-/// Faults are found in this order: the options, before the first read and without an allocation; the reads; UTF-8 of
-/// the whole input; the pass; the writes. `OutOfMemory` is found at the allocation that fails. After a fault, nothing
-/// or a beginning of the whole output was written. Reader and writer are borrowed, so that the contract can describe
-/// their final state.
-pub fn tree_run<R: Read, W: Write>(
-    alloc: Global,
-    words: &[String],
-    input: &mut R,
-    output: &mut W,
-) -> Result<(), RunFault>
-    ensures { Runs IsOutput words.now (stream_between (R.remaining input.old) (R.remaining input.new))
-        (stream_between (W.contents output.old) (W.contents output.new)) result }
-{
-    run_report(&JsonTree, alloc, words, input, output)
 }

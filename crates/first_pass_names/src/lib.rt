@@ -4,3 +4,4 @@
 
 pub mod items;
 pub mod lines;
+pub mod parse;

@@ -1,3 +1,4 @@
 pub mod HeadingValues
 pub mod Printed
+pub mod Runs
 pub mod Visible

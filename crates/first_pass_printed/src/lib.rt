@@ -4,5 +4,6 @@
 pub mod heading;
 pub mod links;
 pub mod node;
+pub mod run;
 pub mod table;
 pub mod written;

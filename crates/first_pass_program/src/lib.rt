@@ -1,4 +1,4 @@
-//! The work of the program `blocks`.
+//! The runs of the programs `blocks`, `links` and `tree`.
 #![tactic(auto)]
 
 pub mod run;

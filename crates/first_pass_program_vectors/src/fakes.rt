@@ -2,10 +2,8 @@
 
 use first_pass_bench::bench::bench_run;
 use first_pass_host::fault::RunFault;
-use first_pass_json::run::tree_run;
 use first_pass_outline::run::outline_run;
-use first_pass_program::run::blocks_run;
-use first_pass_references::run::links_run;
+use first_pass_program::run::{blocks_run, links_run, tree_run};
 use first_pass_timing::clock::TimeSource;
 use std::alloc::{AllocError, Global};
 use std::io;

@@ -2,10 +2,11 @@
 //! each pair of brackets whose label has a link definition. BITS is the decimal value of the options, by default 0.
 #![tactic(auto)]
 
+use first_pass_blocks::parser::BlockParser;
 use first_pass_references::run::ListedLinks;
 use first_pass_run::program::run_program;
 use std::process::ExitCode;
 
 fn main(rt: HostRuntime) -> ExitCode {
-    run_program(&rt, &ListedLinks)
+    run_program(&rt, &ListedLinks(BlockParser))
 }

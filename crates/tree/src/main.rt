@@ -2,10 +2,11 @@
 //! JSON. BITS is the decimal value of the options, by default 0.
 #![tactic(auto)]
 
+use first_pass_blocks::parser::BlockParser;
 use first_pass_json::run::JsonTree;
 use first_pass_run::program::run_program;
 use std::process::ExitCode;
 
 fn main(rt: HostRuntime) -> ExitCode {
-    run_program(&rt, &JsonTree)
+    run_program(&rt, &JsonTree(BlockParser))
 }
