@@ -48,6 +48,7 @@ const ALL_STOPS: u64 = 0xFFFF;
 
 /// Same as `next_special`, but reads 16 bytes at a time. The table must not mark a letter, a space or a byte of a
 /// character beyond ASCII.
+#[inline(always)]
 pub fn next_special_in_words(lut: &[bool; 256], bytes: &[u8], ix: usize) -> Option<usize>
     requires { SparesWords lut.now }
     ensures found { IfSome result (λ j. IsNextMarked lut.now bytes.now ix j) }
