@@ -4,6 +4,7 @@ use Rattle.std.proofs.Common.{subst, ◌∙◌, arith, length-drop, if◌then◌
 use Rattle.std.proofs.lemmas.Bool.{eqb-true, and_parts, le-ltb, lt-ltb}
 use Rattle.std.proofs.lemmas.Bool.Decides.{nat_tests}
 use Rattle.std.proofs.lemmas.List.{drop_more, drop-drop, drop_all, get_or-drop}
+use Rattle.first_pass_items.specs.Bytes.{right_parenthesis, backslash}
 use Rattle.first_pass_lines.specs.Lines.{begins}
 use Rattle.first_pass_links.specs.Escapes.{begins_escape}
 use Rattle.first_pass_links.specs.Destinations.{unescaped_upto, ends_run, closes_none, nesting_after, bare_len, longer, if_closed}
@@ -56,7 +57,7 @@ upto_unit stops bs at n l e s =
     omega arith
 
 pub upto_stopped : (stops : ℕ → Bool) (bs : List ℕ) (at : ℕ)
-    → at < length bs → stops (get_or bs at 0) ≡ true → (get_or bs at 0 == 92) ≡ false → unescaped_upto stops 0 (drop at bs) ≡ 0
+    → at < length bs → stops (get_or bs at 0) ≡ true → (get_or bs at 0 == backslash) ≡ false → unescaped_upto stops 0 (drop at bs) ≡ 0
 upto_stopped stops bs at l s h =
     ap (unescaped_upto stops 0) (drop_more bs at 0 l) ∙ upto-stop stops (get_or bs at 0) (drop (at + 1) bs) (rw h) s
 
@@ -81,8 +82,8 @@ pub run-unopened : (deepest nesting b : ℕ) (bs : List ℕ) → closes_none b n
 unfolding bare_len
 run-unopened deepest nesting b bs h =
     let p = and_parts _ _ h in
-    let e : ends_run b ≡ false = rw (eqb-true b 41 p.0) in
-    let k : begins_escape (b ∷ bs) ≡ false = rw (eqb-true b 41 p.0) in
+    let e : ends_run b ≡ false = rw (eqb-true b right_parenthesis p.0) in
+    let k : begins_escape (b ∷ bs) ≡ false = rw (eqb-true b right_parenthesis p.0) in
     rw (e, k, h)
 
 pub run-deep : (deepest nesting b : ℕ) (bs : List ℕ) → ends_run b ≡ false → begins_escape (b ∷ bs) ≡ false → closes_none b nesting ≡ false
@@ -96,7 +97,7 @@ unfolding bare_len
 run-byte deepest nesting b bs h i j k = rw (h, i, j, k)
 
 backslash_nests : (b nesting : ℕ) (bs : List ℕ) → begins_escape (b ∷ bs) ≡ true → nesting_after b nesting ≡ nesting
-backslash_nests b nesting bs h = rw (eqb-true b 92 (and_parts _ _ h).0)
+backslash_nests b nesting bs h = rw (eqb-true b backslash (and_parts _ _ h).0)
 
 -- one unit further: an escape, or a byte
 run_unit_by : (t : Bool) (deepest nesting b : ℕ) (bs : List ℕ)

@@ -12,6 +12,7 @@ use Rattle.std.proofs.lemmas.List.{drop_more, take_more, drop-drop, get_or-drop,
 use Rattle.std.proofs.lemmas.List.Sums.{prefix_len-le-length}
 use Rattle.std.proofs.lemmas.Option.{some_pair_parts, none-some}
 use Rattle.std.proofs.lemmas.Str.{encode_ascii, length-encode, IsCharBoundary-after_ascii}
+use Rattle.first_pass_items.specs.Bytes.{ampersand, backslash, pipe, ascii_end}
 use Rattle.first_pass_lines.specs.Lanes.{IsRunIn}
 use Rattle.first_pass_lines.specs.Lines.{begins}
 use Rattle.first_pass_entities.specs.Entities.{entity_at}
@@ -67,20 +68,20 @@ changed_at zero c (b ∷ bs) l s h = absurd (omega arith)
 changed_at (suc n) c (b ∷ bs) l s h = after_changed b n c bs h
 
 -- a byte that is neither a backslash nor `&`, and a pipe
-no_entity : (b : ℕ) (bs : List ℕ) → (b == 38) ≡ false → entity_at (b ∷ bs) ≡ None
+no_entity : (b : ℕ) (bs : List ℕ) → (b == ampersand) ≡ false → entity_at (b ∷ bs) ≡ None
 unfolding entity_at
 no_entity b bs h = rw h
 
-pub no_replacement : (b : ℕ) (bs : List ℕ) → (b == 92) ≡ false → (b == 38) ≡ false → replaced_at (b ∷ bs) ≡ None
+pub no_replacement : (b : ℕ) (bs : List ℕ) → (b == backslash) ≡ false → (b == ampersand) ≡ false → replaced_at (b ∷ bs) ≡ None
 unfolding replaced_at
 no_replacement b bs h h' = rw h (no_entity b bs h')
 
-pub no_change : (t : Bool) (b : ℕ) (bs : List ℕ) → (b == 92) ≡ false → (b == 38) ≡ false → change_at t (b ∷ bs) ≡ None
+pub no_change : (t : Bool) (b : ℕ) (bs : List ℕ) → (b == backslash) ≡ false → (b == ampersand) ≡ false → change_at t (b ∷ bs) ≡ None
 unfolding change_at
 no_change true b bs h h' = rw h (no_replacement b bs h h')
 no_change false b bs h h' = no_replacement b bs h h'
 
-escape_at : (p : ℕ) (bs : List ℕ) → is_ascii_punctuation p ≡ true → replaced_at (92 ∷ p ∷ bs) ≡ Some (2, p)
+escape_at : (p : ℕ) (bs : List ℕ) → is_ascii_punctuation p ≡ true → replaced_at (backslash ∷ p ∷ bs) ≡ Some (2, p)
 unfolding replaced_at
 escape_at p bs h = rw h
 
@@ -89,53 +90,54 @@ unfolding replaced_at
 entity_replaced bs h = rw h
 
 -- in a cell
-cell_pipe_escape : (bs : List ℕ) → unescaped true (92 ∷ 92 ∷ 124 ∷ bs) ≡ 124 ∷ unescaped true bs
+cell_pipe_escape : (bs : List ℕ) → unescaped true (backslash ∷ backslash ∷ pipe ∷ bs) ≡ pipe ∷ unescaped true bs
 cell_pipe_escape bs =
-    let e : without_pipe_escapes (92 ∷ 92 ∷ 124 ∷ bs) ≡ 92 ∷ 124 ∷ without_pipe_escapes bs =
-    cell-kept 92 (92 ∷ 124 ∷ bs) refl ∙ ap (λ xs. 92 ∷ xs) (cell-dropped 92 (124 ∷ bs) refl refl ∙ pipe_after (124 ∷ bs) refl)
+    let e : without_pipe_escapes (backslash ∷ backslash ∷ pipe ∷ bs) ≡ backslash ∷ pipe ∷ without_pipe_escapes bs =
+    cell-kept backslash (backslash ∷ pipe ∷ bs) refl ∙ ap (λ xs. backslash ∷ xs) (cell-dropped backslash (pipe ∷ bs) refl refl ∙ pipe_after (pipe ∷ bs) refl)
     in
-    ap (unescaped_after 0) e ∙ after_changed 92 1 124 (124 ∷ without_pipe_escapes bs) (escape_at 124 (without_pipe_escapes bs) refl)
-    ∙ ap (λ xs. xs ++ unescaped true bs) (encode_ascii 124 (omega arith))
+    ap (unescaped_after 0) e ∙ after_changed backslash 1 pipe (pipe ∷ without_pipe_escapes bs) (escape_at pipe (without_pipe_escapes bs) refl)
+    ∙ ap (λ xs. xs ++ unescaped true bs) (encode_ascii pipe (omega arith))
 
-cell_pipe : (bs : List ℕ) → unescaped true (92 ∷ 124 ∷ bs) ≡ 124 ∷ unescaped true bs
+cell_pipe : (bs : List ℕ) → unescaped true (backslash ∷ pipe ∷ bs) ≡ pipe ∷ unescaped true bs
 cell_pipe bs =
-    ap (unescaped_after 0) (cell-dropped 92 (124 ∷ bs) refl refl ∙ pipe_after (124 ∷ bs) refl)
-    ∙ after_plain 124 (without_pipe_escapes bs) (no_replacement 124 (without_pipe_escapes bs) refl refl)
+    ap (unescaped_after 0) (cell-dropped backslash (pipe ∷ bs) refl refl ∙ pipe_after (pipe ∷ bs) refl)
+    ∙ after_plain pipe (without_pipe_escapes bs) (no_replacement pipe (without_pipe_escapes bs) refl refl)
 
-cell_escape_by : (p : ℕ) (bs : List ℕ) → is_ascii_punctuation p ≡ true → p < 128 → without_pipe_escapes (92 ∷ p ∷ bs) ≡ 92 ∷ p ∷ without_pipe_escapes bs
-    → unescaped true (92 ∷ p ∷ bs) ≡ p ∷ unescaped true bs
+cell_escape_by : (p : ℕ) (bs : List ℕ) → is_ascii_punctuation p ≡ true → p < ascii_end
+    → without_pipe_escapes (backslash ∷ p ∷ bs) ≡ backslash ∷ p ∷ without_pipe_escapes bs → unescaped true (backslash ∷ p ∷ bs) ≡ p ∷ unescaped true bs
 cell_escape_by p bs h l e =
-    ap (unescaped_after 0) e ∙ after_changed 92 1 p (p ∷ without_pipe_escapes bs) (escape_at p (without_pipe_escapes bs) h)
+    ap (unescaped_after 0) e ∙ after_changed backslash 1 p (p ∷ without_pipe_escapes bs) (escape_at p (without_pipe_escapes bs) h)
     ∙ ap (λ xs. xs ++ unescaped true bs) (encode_ascii p l)
 
-cell_escape : (t u : Bool) (p : ℕ) (bs : List ℕ) → (p == 124) ≡ t → (p == 92) ≡ u → is_ascii_punctuation p ≡ true → p < 128 → (p == 92) && begins 124 bs ≡ false
-    → unescaped true (92 ∷ p ∷ bs) ≡ p ∷ unescaped true bs
+cell_escape : (t u : Bool) (p : ℕ) (bs : List ℕ) → (p == pipe) ≡ t → (p == backslash) ≡ u → is_ascii_punctuation p ≡ true → p < ascii_end
+    → (p == backslash) && begins pipe bs ≡ false → unescaped true (backslash ∷ p ∷ bs) ≡ p ∷ unescaped true bs
 cell_escape true u p bs h h' i l k =
-    let e = eqb-true p 124 h in
-    subst (λ x. unescaped true (92 ∷ x ∷ bs) ≡ x ∷ unescaped true bs) (sym e) (cell_pipe bs)
+    let e = eqb-true p pipe h in
+    subst (λ x. unescaped true (backslash ∷ x ∷ bs) ≡ x ∷ unescaped true bs) (sym e) (cell_pipe bs)
 cell_escape false true p bs h h' i l k =
-    let e : begins 124 bs ≡ false = rw h' at k in
-    cell_escape_by p bs i l (cell-kept 92 (p ∷ bs) h ∙ ap (λ xs. 92 ∷ xs) (cell-kept p bs e))
+    let e : begins pipe bs ≡ false = rw h' at k in
+    cell_escape_by p bs i l (cell-kept backslash (p ∷ bs) h ∙ ap (λ xs. backslash ∷ xs) (cell-kept p bs e))
 cell_escape false false p bs h h' i l k =
-    cell_escape_by p bs i l (cell-kept 92 (p ∷ bs) h ∙ ap (λ xs. 92 ∷ xs) (cell-other p bs h'))
+    cell_escape_by p bs i l (cell-kept backslash (p ∷ bs) h ∙ ap (λ xs. backslash ∷ xs) (cell-other p bs h'))
 
 -- a change is not empty, and has more bytes than its character
 pub record IsShorter (bs : List ℕ) (n c : ℕ) : Type 0 where
   pub some : 0 < n
   pub within : n ≤ length bs
   pub shorter : length (encode_utf8 c) < n
-  pub first : get_or bs 0 0 < 128
-  pub last : get_or bs (n - 1) 0 < 128
+  pub first : get_or bs 0 0 < ascii_end
+  pub last : get_or bs (n - 1) 0 < ascii_end
 
 -- a change of bytes, and the bytes after it
 pub record Changes (t : Bool) (bs : List ℕ) (n c : ℕ) : Type 0 where
   pub shorter : IsShorter bs n c
   pub changed : unescaped t bs ≡ encode_utf8 c ++ unescaped t (drop n bs)
 
-punctuation_is_ascii : (p : ℕ) → is_ascii_punctuation p ≡ true → (0 < p) × (p < 128)
+punctuation_is_ascii : (p : ℕ) → is_ascii_punctuation p ≡ true → (0 < p) × (p < ascii_end)
 punctuation_is_ascii p h = grind (arith, nat_tests, h)
 
-escaped : (t : Bool) (p : ℕ) (bs : List ℕ) → is_ascii_punctuation p ≡ true → (t && begins_pipe_escape (92 ∷ p ∷ bs)) ≡ false → Changes t (92 ∷ p ∷ bs) 2 p
+escaped : (t : Bool) (p : ℕ) (bs : List ℕ) → is_ascii_punctuation p ≡ true → (t && begins_pipe_escape (backslash ∷ p ∷ bs)) ≡ false
+    → Changes t (backslash ∷ p ∷ bs) 2 p
 escaped true p bs h k =
     let l = (punctuation_is_ascii p h).1 in
     let e = encode_ascii p l in
@@ -149,54 +151,56 @@ escaped false p bs h k =
     let z = ap length (encode_ascii p l) in
     record {
       shorter = record { some = omega arith; within = omega arith; shorter = omega arith; first = omega arith; last = l };
-      changed = after_changed 92 1 p (p ∷ bs) (escape_at p bs h);
+      changed = after_changed backslash 1 p (p ∷ bs) (escape_at p bs h);
     }
 
-escape_parts : (bs : List ℕ) → begins_escape bs ≡ true → bs ≡ 92 ∷ slice_index bs 1 ∷ drop 2 bs
+escape_parts : (bs : List ℕ) → begins_escape bs ≡ true → bs ≡ backslash ∷ slice_index bs 1 ∷ drop 2 bs
 escape_parts [] h = cc
 escape_parts (b ∷ []) h = absurd (grind (arith, nat_tests, h))
-escape_parts (b ∷ p ∷ bs) h = let q = and_parts _ _ h in ap (λ x. x ∷ p ∷ bs) (eqb-true b 92 q.0)
+escape_parts (b ∷ p ∷ bs) h = let q = and_parts _ _ h in ap (λ x. x ∷ p ∷ bs) (eqb-true b backslash q.0)
 
 escape_from : (t : Bool) (bs : List ℕ) (n c : ℕ)
     → begins_escape bs ≡ true → (t && begins_pipe_escape bs) ≡ false → 2 ≡ n → slice_index bs 1 ≡ c → Changes t bs n c
 escape_from t bs n c h k e f =
     let p = escape_parts bs h in
     let i : is_ascii_punctuation (slice_index bs 1) ≡ true = (and_parts _ _ h).1 in
-    let k' : (t && begins_pipe_escape (92 ∷ slice_index bs 1 ∷ drop 2 bs)) ≡ false = subst (λ xs. (t && begins_pipe_escape xs) ≡ false) p k in
+    let k' : (t && begins_pipe_escape (backslash ∷ slice_index bs 1 ∷ drop 2 bs)) ≡ false = subst (λ xs. (t && begins_pipe_escape xs) ≡ false) p k in
     let x = escaped t (slice_index bs 1) (drop 2 bs) i k' in
     let y : Changes t bs 2 (slice_index bs 1) = subst (λ xs. Changes t xs 2 (slice_index bs 1)) (sym p) x in
     subst (Changes t bs n) f (subst (λ m. Changes t bs m (slice_index bs 1)) e y)
 
-pipe_escape_parts : (bs : List ℕ) → begins 92 bs ≡ true → begins 92 (drop 1 bs) ≡ true → begins 124 (drop 2 bs) ≡ true → bs ≡ 92 ∷ 92 ∷ 124 ∷ drop 3 bs
+pipe_escape_parts : (bs : List ℕ) → begins backslash bs ≡ true → begins backslash (drop 1 bs) ≡ true → begins pipe (drop 2 bs) ≡ true
+    → bs ≡ backslash ∷ backslash ∷ pipe ∷ drop 3 bs
 pipe_escape_parts [] h i j = cc
 pipe_escape_parts (b ∷ []) h i j = cc
 pipe_escape_parts (b ∷ c ∷ []) h i j = cc
-pipe_escape_parts (b ∷ c ∷ d ∷ bs) h i j = rw (eqb-true b 92 h, eqb-true c 92 i, eqb-true d 124 j)
+pipe_escape_parts (b ∷ c ∷ d ∷ bs) h i j = rw (eqb-true b backslash h, eqb-true c backslash i, eqb-true d pipe j)
 
 -- three bytes: a backslash that escapes the pipe, a backslash that is dropped, and the pipe
-pipe_escape : (bs : List ℕ) (n c : ℕ) → begins_pipe_escape bs ≡ true → 3 ≡ n → 124 ≡ c → Changes true bs n c
+pipe_escape : (bs : List ℕ) (n c : ℕ) → begins_pipe_escape bs ≡ true → 3 ≡ n → pipe ≡ c → Changes true bs n c
 pipe_escape bs n c h e f =
     let p = and_parts _ _ h in
     let q = and_parts _ _ p.0 in
-    let parts : bs ≡ 92 ∷ 92 ∷ 124 ∷ drop 3 bs = pipe_escape_parts bs q.0 q.1 p.1 in
-    let z = ap length (encode_ascii 124 (omega arith)) in
-    let x : Changes true (92 ∷ 92 ∷ 124 ∷ drop 3 bs) 3 124 = record {
+    let parts : bs ≡ backslash ∷ backslash ∷ pipe ∷ drop 3 bs = pipe_escape_parts bs q.0 q.1 p.1 in
+    let z = ap length (encode_ascii pipe (omega arith)) in
+    let x : Changes true (backslash ∷ backslash ∷ pipe ∷ drop 3 bs) 3 pipe = record {
       shorter = record { some = omega arith; within = omega arith; shorter = omega arith; first = omega arith; last = omega arith };
-      changed = cell_pipe_escape (drop 3 bs) ∙ ap (λ xs. xs ++ unescaped true (drop 3 bs)) (sym (encode_ascii 124 (omega arith)));
+      changed = cell_pipe_escape (drop 3 bs) ∙ ap (λ xs. xs ++ unescaped true (drop 3 bs)) (sym (encode_ascii pipe (omega arith)));
     } in
-    subst (Changes true bs n) f (subst (λ m. Changes true bs m 124) e (subst (λ xs. Changes true xs 3 124) (sym parts) x))
+    subst (Changes true bs n) f (subst (λ m. Changes true bs m pipe) e (subst (λ xs. Changes true xs 3 pipe) (sym parts) x))
 
 -- an entity
-plain_first : (t : Bool) (b : ℕ) (bs : List ℕ) → (b == 92) ≡ t → 0 < prefix_len is_plain (b ∷ bs) → (b == 92) ≡ false
+plain_first : (t : Bool) (b : ℕ) (bs : List ℕ) → (b == backslash) ≡ t → 0 < prefix_len is_plain (b ∷ bs) → (b == backslash) ≡ false
 plain_first true b bs h l = let z : prefix_len is_plain (b ∷ bs) ≡ 0 = rw h in absurd (omega arith)
 plain_first false b bs h l = h
 
 plain_within : (bs : List ℕ) → prefix_len is_plain bs ≤ length bs
 plain_within bs = prefix_len-le-length is_plain bs
 
-first_of_entity : (bs : List ℕ) (n c : ℕ) → entity_at bs ≡ Some (n, c) → begins 38 bs ≡ true
+first_of_entity : (bs : List ℕ) (n c : ℕ) → entity_at bs ≡ Some (n, c) → begins ampersand bs ≡ true
 unfolding entity_at
-first_of_entity bs n c h = elim (cases_Bool (begins 38 bs)) [ inl e ↦ e | inr e ↦ (let z : None ≡ Some (n, c) = rw e at h in absurd (none-some (n, c) z)) ]
+first_of_entity bs n c h =
+    elim (cases_Bool (begins ampersand bs)) [ inl e ↦ e | inr e ↦ (let z : None ≡ Some (n, c) = rw e at h in absurd (none-some (n, c) z)) ]
 
 entity_shorter : (bs : List ℕ) (n c : ℕ) → entity_at bs ≡ Some (n, c) → IsShorter bs n c
 entity_shorter bs n c h =
@@ -206,7 +210,7 @@ entity_shorter bs n c h =
     let w = plain_within bs in
     let l = length-encode c in
     let s = r.shorter in
-    let first = ap (λ xs. get_or xs 0 0) (begins_is 38 bs (first_of_entity bs n c h)) in
+    let first = ap (λ xs. get_or xs 0 0) (begins_is ampersand bs (first_of_entity bs n c h)) in
     let last = r.ends.last in
     record { some = some; within = omega arith; shorter = omega arith; first = omega arith; last = omega arith }
 
@@ -237,7 +241,7 @@ entity_changes false bs n c q h =
 change_by : (t u v : Bool) (bs : List ℕ) (n c : ℕ) → (t && begins_pipe_escape bs) ≡ u → begins_escape bs ≡ v → change_at t bs ≡ Some (n, c) → Changes t bs n c
 unfolding change_at replaced_at
 change_by true true v bs n c h h' e =
-    let parts = some_pair_parts 3 n 124 c (rw h at e) in
+    let parts = some_pair_parts 3 n pipe c (rw h at e) in
     pipe_escape bs n c h parts.0 parts.1
 change_by true false true bs n c h h' e =
     let parts = some_pair_parts 2 n (slice_index bs 1) c (rw (h, h') at e) in
@@ -253,14 +257,14 @@ changes t bs n c e = change_by t _ _ bs n c refl refl e
 
 -- no change
 second_kept : (bs : List ℕ)
-    → is_ascii_punctuation (slice_index bs 0) ≡ false → (begins 124 bs ≡ false) × (slice_index (without_pipe_escapes bs) 0 ≡ slice_index bs 0)
+    → is_ascii_punctuation (slice_index bs 0) ≡ false → (begins pipe bs ≡ false) × (slice_index (without_pipe_escapes bs) 0 ≡ slice_index bs 0)
 second_kept [] h = (refl, ap (λ xs. slice_index xs 0) cell-nil)
 second_kept (b ∷ bs) h =
-    let e : (b == 92) ≡ false = grind (arith, nat_tests, h) in
+    let e : (b == backslash) ≡ false = grind (arith, nat_tests, h) in
     (grind (arith, nat_tests, h), ap (λ xs. slice_index xs 0) (cell-other b bs e))
 
 cell_plain : (t : Bool) (b : ℕ) (bs : List ℕ)
-    → (b == 92) ≡ t → begins_escape (b ∷ bs) ≡ false → entity_at (b ∷ bs) ≡ None → unescaped true (b ∷ bs) ≡ b ∷ unescaped true bs
+    → (b == backslash) ≡ t → begins_escape (b ∷ bs) ≡ false → entity_at (b ∷ bs) ≡ None → unescaped true (b ∷ bs) ≡ b ∷ unescaped true bs
 cell_plain false b bs h q e =
     let w = cell-other b bs h in
     let k : begins_escape (b ∷ without_pipe_escapes bs) ≡ false = rw h in
@@ -274,14 +278,14 @@ cell_plain true b bs h q e =
     let w = cell-kept b bs s.0 in
     let k : begins_escape (b ∷ without_pipe_escapes bs) ≡ false = rw (h, s.1, i) in
     let z : replaced_at (b ∷ without_pipe_escapes bs) ≡ None =
-    entity_replaced (b ∷ without_pipe_escapes bs) k ∙ no_entity b (without_pipe_escapes bs) (rw (eqb-true b 92 h))
+    entity_replaced (b ∷ without_pipe_escapes bs) k ∙ no_entity b (without_pipe_escapes bs) (rw (eqb-true b backslash h))
     in
     ap (unescaped_after 0) w ∙ after_plain b (without_pipe_escapes bs) z
 
 plain_byte_by : (t u v : Bool) (b : ℕ) (bs : List ℕ)
     → (t && begins_pipe_escape (b ∷ bs)) ≡ u → begins_escape (b ∷ bs) ≡ v → change_at t (b ∷ bs) ≡ None → unescaped t (b ∷ bs) ≡ b ∷ unescaped t bs
 unfolding change_at replaced_at
-plain_byte_by t true v b bs h h' e = let z : Some (3, 124) ≡ None = rw h at e in absurd (none-some (3, 124) (sym z))
+plain_byte_by t true v b bs h h' e = let z : Some (3, pipe) ≡ None = rw h at e in absurd (none-some (3, pipe) (sym z))
 plain_byte_by t false true b bs h h' e = let z : Some (2, slice_index bs 0) ≡ None = rw (h, h') at e in absurd (none-some (2, slice_index bs 0) (sym z))
 plain_byte_by true false false b bs h h' e = cell_plain _ b bs refl h' (rw (h, h') at e)
 plain_byte_by false false false b bs h h' e = after_plain b bs (entity_replaced (b ∷ bs) h' ∙ (rw h' at e))

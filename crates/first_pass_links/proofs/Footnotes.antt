@@ -5,6 +5,7 @@ use Rattle.std.specs.Option.{option_and_then}
 use Rattle.std.specs.Str.{IsCharBoundary}
 use Rattle.std.proofs.lemmas.List.{drop-drop}
 use Rattle.std.proofs.lemmas.Str.{IsCharBoundary-after_ascii}
+use Rattle.first_pass_items.specs.Bytes.{colon, left_bracket, circumflex}
 use Rattle.first_pass_items.specs.declared.cow_str.CowStr.{CowStr}
 use Rattle.first_pass_items.specs.CowText.{text_of}
 use Rattle.first_pass_lines.specs.Lines.{begins}
@@ -20,7 +21,7 @@ second_by false u h = cc
 -- a character begins after `[^`
 pub after_mark : (text : List ℕ) → IsUtf8 text → begins_footnote_mark text ≡ true → IsCharBoundary text 2
 after_mark text u h =
-    let there = first_byte 94 text 1 (second_by (begins 91 text) (begins 94 (drop 1 text)) h) in
+    let there = first_byte circumflex text 1 (second_by (begins left_bracket text) (begins circumflex (drop 1 text)) h) in
     IsCharBoundary-after_ascii text 1 u there.0 (omega (arith, there.1))
 
 -- so does one at a place further on
@@ -53,27 +54,27 @@ pub no_label : (prefix : List ℕ → Option ℕ) (t : Bool) (text : List ℕ) �
 no_label prefix t text h k =
     head_of prefix t text h ∙ ap (option_and_then (head_after (drop 2 text))) (label_missing (label_at prefix t (drop 2 text)) k)
 
-colon_by : (t : Bool) (bs : List ℕ) (o : Option (ℕ × List ℕ)) (n : ℕ) (label : CowStr) → IsAnswer o (Some (n, label)) → begins 58 (drop n bs) ≡ t
+colon_by : (t : Bool) (bs : List ℕ) (o : Option (ℕ × List ℕ)) (n : ℕ) (label : CowStr) → IsAnswer o (Some (n, label)) → begins colon (drop n bs) ≡ t
     → IsAnswer (option_and_then (head_after bs) o) (if t then Some (n + 3, label) else None)
 colon_by t bs None n label k h = cc
 colon_by true bs (Some l) n label k h =
-    let e : begins 58 (drop l.0 bs) ≡ true = ap (λ m. begins 58 (drop m bs)) (sym k.0) ∙ h in
+    let e : begins colon (drop l.0 bs) ≡ true = ap (λ m. begins colon (drop m bs)) (sym k.0) ∙ h in
     rw e (ap (λ m. m + 3) k.0, k.1)
-colon_by false bs (Some l) n label k h = let e : begins 58 (drop l.0 bs) ≡ false = ap (λ m. begins 58 (drop m bs)) (sym k.0) ∙ h in rw e refl
+colon_by false bs (Some l) n label k h = let e : begins colon (drop l.0 bs) ≡ false = ap (λ m. begins colon (drop m bs)) (sym k.0) ∙ h in rw e refl
 
 -- the head after a label, by whether a colon follows it
 pub head_by : (u : Bool) (prefix : List ℕ → Option ℕ) (t : Bool) (text : List ℕ) (n : ℕ) (label : CowStr) → begins_footnote_mark text ≡ true
-    → IsAnswer (label_at prefix t (drop 2 text)) (Some (n, label)) → begins 58 (drop (n + 2) text) ≡ u
+    → IsAnswer (label_at prefix t (drop 2 text)) (Some (n, label)) → begins colon (drop (n + 2) text) ≡ u
     → IsAnswer (footnote_head prefix t text) (if u then Some (n + 3, label) else None)
 head_by u prefix t text n label h k c =
     let m : 2 + n ≡ n + 2 = omega arith in
-    let e : begins 58 (drop n (drop 2 text)) ≡ u = ap (begins 58) (drop-drop n 2 text ∙ ap (λ x. drop x text) m) ∙ c in
+    let e : begins colon (drop n (drop 2 text)) ≡ u = ap (begins colon) (drop-drop n 2 text ∙ ap (λ x. drop x text) m) ∙ c in
     subst (λ o. IsAnswer o (if u then Some (n + 3, label) else None)) (sym (head_of prefix t text h))
     (colon_by u (drop 2 text) (label_at prefix t (drop 2 text)) n label k e)
 
 -- a character begins after the colon
-pub after_colon : (text : List ℕ) (n : ℕ) → IsUtf8 text → begins 58 (drop (n + 2) text) ≡ true → IsCharBoundary text (n + 3)
+pub after_colon : (text : List ℕ) (n : ℕ) → IsUtf8 text → begins colon (drop (n + 2) text) ≡ true → IsCharBoundary text (n + 3)
 after_colon text n u h =
-    let there = first_byte 58 text (n + 2) h in
+    let there = first_byte colon text (n + 2) h in
     let e : n + 2 + 1 ≡ n + 3 = omega arith in
     subst (IsCharBoundary text) e (IsCharBoundary-after_ascii text (n + 2) u there.0 (omega (arith, there.1)))

@@ -11,6 +11,7 @@ use Rattle.std.proofs.lemmas.Bool.Decides.{nat_tests}
 use Rattle.std.proofs.lemmas.Grind.{common_steps}
 use Rattle.std.proofs.lemmas.Str.{IsCharBoundary-after_ascii, IsCharBoundary-start}
 use Rattle.std.proofs.lemmas.List.{drop_more, drop-drop, drop_all, get_or-drop, get_or_past, length-take-le, map-append, length-map, append-nil}
+use Rattle.first_pass_items.specs.Bytes.{space, left_bracket, backslash, right_bracket, pipe, ascii_end}
 use Rattle.first_pass_lines.specs.Lines.{begins, ends_line, is_ascii_white}
 use Rattle.first_pass_links.specs.declared.label.Unit.{Unit}
 use Rattle.first_pass_links.specs.Escapes.{begins_escape, without_pipe_escapes}
@@ -144,7 +145,7 @@ pub label_after : Bool → Known → List (ℕ × ℕ) → Option (ℕ × List �
 label_after in_table known cs =
     let bs = bytes_of cs in
     let n = label_len bs in
-    if begins 93 (drop n bs) && is_label_after known (take n bs)
+    if begins right_bracket (drop n bs) && is_label_after known (take n bs)
     then Some (slice_index (offsets_of cs) n + 1, known.bytes ++ as_read in_table (take n bs))
     else None
 
@@ -178,9 +179,9 @@ found n bs = (n, bs)
 label_by : (t : Bool) (known : Known) (us cs : List (ℕ × ℕ)) (w : List ℕ) (n m : ℕ)
     → n ≡ length us + m
     → as_read t (bytes_of us ++ take m (bytes_of cs)) ≡ w ++ as_read t (take m (bytes_of cs))
-    → (if begins 93 (drop n (bytes_of (us ++ cs))) && is_label_after known (take n (bytes_of (us ++ cs)))
+    → (if begins right_bracket (drop n (bytes_of (us ++ cs))) && is_label_after known (take n (bytes_of (us ++ cs)))
     then Some (found (slice_index (offsets_of (us ++ cs)) n + 1) (known.bytes ++ as_read t (take n (bytes_of (us ++ cs))))) else None)
-    ≡ (if begins 93 (drop m (bytes_of cs)) && is_label_after (known_more known (bytes_of us) w) (take m (bytes_of cs))
+    ≡ (if begins right_bracket (drop m (bytes_of cs)) && is_label_after (known_more known (bytes_of us) w) (take m (bytes_of cs))
     then Some (found (slice_index (offsets_of cs) m + 1) ((known.bytes ++ w) ++ as_read t (take m (bytes_of cs)))) else None)
 label_by t known us cs w n m e s =
     let bytes = map-append (λ (c : ℕ × ℕ). c.1) us cs in
@@ -220,25 +221,26 @@ pub single-more : (b : ℕ) (bs : List ℕ) → is_ascii_white b ≡ true → is
 unfolding single_spaced
 single-more b bs h k = rw (h, k)
 
-pub single-last : (b : ℕ) (bs : List ℕ) → is_ascii_white b ≡ true → is_ascii_white (slice_index bs 0) ≡ false → single_spaced (b ∷ bs) ≡ 32 ∷ single_spaced bs
+pub single-last : (b : ℕ) (bs : List ℕ) → is_ascii_white b ≡ true → is_ascii_white (slice_index bs 0) ≡ false
+    → single_spaced (b ∷ bs) ≡ space ∷ single_spaced bs
 unfolding single_spaced
 single-last b bs h k = rw (h, k)
 
-as_read-solid : (t : Bool) (b : ℕ) (bs : List ℕ) → (b == 92) ≡ false → is_ascii_white b ≡ false → as_read t (b ∷ bs) ≡ b ∷ as_read t bs
+as_read-solid : (t : Bool) (b : ℕ) (bs : List ℕ) → (b == backslash) ≡ false → is_ascii_white b ≡ false → as_read t (b ∷ bs) ≡ b ∷ as_read t bs
 as_read-solid true b bs h k = ap single_spaced (cell-other b bs h) ∙ single-solid b (without_pipe_escapes bs) k
 as_read-solid false b bs h k = single-solid b bs k
 
-as_read-backslash : (t : Bool) (bs : List ℕ) → begins 124 bs ≡ false → as_read t (92 ∷ bs) ≡ 92 ∷ as_read t bs
-as_read-backslash true bs h = ap single_spaced (cell-kept 92 bs h) ∙ single-solid 92 (without_pipe_escapes bs) refl
-as_read-backslash false bs h = single-solid 92 bs refl
+as_read-backslash : (t : Bool) (bs : List ℕ) → begins pipe bs ≡ false → as_read t (backslash ∷ bs) ≡ backslash ∷ as_read t bs
+as_read-backslash true bs h = ap single_spaced (cell-kept backslash bs h) ∙ single-solid backslash (without_pipe_escapes bs) refl
+as_read-backslash false bs h = single-solid backslash bs refl
 
-as_read-pipe : (bs : List ℕ) → as_read true (92 ∷ 124 ∷ bs) ≡ 124 ∷ as_read true bs
-as_read-pipe bs = ap single_spaced (cell-dropped 92 (124 ∷ bs) refl refl) ∙ as_read-solid true 124 bs refl refl
+as_read-pipe : (bs : List ℕ) → as_read true (backslash ∷ pipe ∷ bs) ≡ pipe ∷ as_read true bs
+as_read-pipe bs = ap single_spaced (cell-dropped backslash (pipe ∷ bs) refl refl) ∙ as_read-solid true pipe bs refl refl
 
-as_read-byte : (t : Bool) (p : ℕ) (bs : List ℕ) → is_ascii_white p ≡ false → (p == 92) && begins 124 bs ≡ false → as_read t (p ∷ bs) ≡ p ∷ as_read t bs
+as_read-byte : (t : Bool) (p : ℕ) (bs : List ℕ) → is_ascii_white p ≡ false → (p == backslash) && begins pipe bs ≡ false → as_read t (p ∷ bs) ≡ p ∷ as_read t bs
 as_read-byte false p bs h k = single-solid p bs h
-as_read-byte true p bs h k = elim (cases_Bool (p == 92)) [
-  | inl e ↦ (let z : begins 124 bs ≡ false = rw e at k in ap single_spaced (cell-kept p bs z) ∙ single-solid p (without_pipe_escapes bs) h)
+as_read-byte true p bs h k = elim (cases_Bool (p == backslash)) [
+  | inl e ↦ (let z : begins pipe bs ≡ false = rw e at k in ap single_spaced (cell-kept p bs z) ∙ single-solid p (without_pipe_escapes bs) h)
   | inr e ↦ as_read-solid true p bs e h
 ]
 
@@ -247,7 +249,7 @@ pub white_parts : (b : ℕ) (bs : List ℕ) → list_all is_ascii_white (b ∷ b
 white_parts b bs h = and_parts _ _ h
 
 pub white_is_ascii : (b : ℕ)
-    → is_ascii_white b ≡ true → (b < 128) × ((b == 92) ≡ false) × (is_bracket b ≡ false) × (begins_character b ≡ true) × (is_solid b ≡ false)
+    → is_ascii_white b ≡ true → (b < ascii_end) × ((b == backslash) ≡ false) × (is_bracket b ≡ false) × (begins_character b ≡ true) × (is_solid b ≡ false)
 white_is_ascii b h = (grind (arith, nat_tests, h), grind (arith, nat_tests, h), grind (arith, nat_tests, h), grind (arith, nat_tests, h), rw h)
 
 pub upto-run : (u bs : List ℕ) → list_all is_ascii_white u ≡ true → label_len (u ++ bs) ≡ length u + label_len bs
@@ -267,7 +269,7 @@ cell-run (b ∷ u) bs h =
     cell-other b (u ++ bs) (white_is_ascii b p.0).1 ∙ ap (λ xs. b ∷ xs) (cell-run u bs p.1)
 
 cell_first_by : (t : Bool) (b : ℕ) (bs : List ℕ)
-    → (b == 92) ≡ t → (u : Bool) → begins 124 bs ≡ u → is_ascii_white b ≡ false → is_ascii_white (slice_index (without_pipe_escapes (b ∷ bs)) 0) ≡ false
+    → (b == backslash) ≡ t → (u : Bool) → begins pipe bs ≡ u → is_ascii_white b ≡ false → is_ascii_white (slice_index (without_pipe_escapes (b ∷ bs)) 0) ≡ false
 cell_first_by false b bs h u k e = ap (λ xs. is_ascii_white (slice_index xs 0)) (cell-other b bs h) ∙ e
 cell_first_by true b bs h true k e = ap (λ xs. is_ascii_white (slice_index xs 0)) (cell-dropped b bs h k ∙ pipe_after bs k)
 cell_first_by true b bs h false k e = ap (λ xs. is_ascii_white (slice_index xs 0)) (cell-kept b bs k) ∙ e
@@ -277,7 +279,7 @@ cell_first [] e = ap (λ xs. is_ascii_white (slice_index xs 0)) cell-nil
 cell_first (b ∷ bs) e = cell_first_by _ b bs refl _ refl e
 
 single-run : (u bs : List ℕ)
-    → list_all is_ascii_white u ≡ true → 0 < length u → is_ascii_white (slice_index bs 0) ≡ false → single_spaced (u ++ bs) ≡ 32 ∷ single_spaced bs
+    → list_all is_ascii_white u ≡ true → 0 < length u → is_ascii_white (slice_index bs 0) ≡ false → single_spaced (u ++ bs) ≡ space ∷ single_spaced bs
 single-run [] bs h l e = absurd (omega arith)
 single-run (b ∷ []) bs h l e = single-last b bs (white_parts b [] h).0 e
 single-run (b ∷ c ∷ u) bs h l e =
@@ -286,7 +288,7 @@ single-run (b ∷ c ∷ u) bs h l e =
     single-more b (c ∷ (u ++ bs)) p.0 q.0 ∙ single-run (c ∷ u) bs p.1 (omega arith) e
 
 as_read-run : (t : Bool) (u bs : List ℕ)
-    → list_all is_ascii_white u ≡ true → 0 < length u → is_ascii_white (slice_index bs 0) ≡ false → as_read t (u ++ bs) ≡ 32 ∷ as_read t bs
+    → list_all is_ascii_white u ≡ true → 0 < length u → is_ascii_white (slice_index bs 0) ≡ false → as_read t (u ++ bs) ≡ space ∷ as_read t bs
 as_read-run true u bs h l e = ap single_spaced (cell-run u bs h) ∙ single-run u (without_pipe_escapes bs) h l (cell_first bs e)
 as_read-run false u bs h l e = single-run u bs h l e
 
@@ -332,7 +334,7 @@ read-kept text at n c s = ap (λ xs. part text at n ++ xs) (part-none text n) �
 
 -- a byte that is neither white space, bracket nor backslash
 pub byte_reads : (h : List ℕ → Option ℕ) (t : Bool) (text : List ℕ) (at c : ℕ)
-    → at < length text → is_ascii_white (get_or text at 0) ≡ false → is_bracket (get_or text at 0) ≡ false → (get_or text at 0 == 92) ≡ false
+    → at < length text → is_ascii_white (get_or text at 0) ≡ false → is_bracket (get_or text at 0) ≡ false → (get_or text at 0 == backslash) ≡ false
     → c ≡ (if begins_character (get_or text at 0) then 1 else 0) → Reads h t text at (kept_unit (at + 1) c true)
 byte_reads h t text at c l white bracket plain e =
     let b = get_or text at 0 in
@@ -345,32 +347,34 @@ byte_reads h t text at c l white bracket plain e =
     (inl refl)
     (λ n. as_read-solid t b (take n X) plain white ∙ ap (λ xs. xs ++ as_read t (take n X)) (sym (read-kept text at (at + 1) c true ∙ part-one text at l)))
 
-no_pipe : (b : ℕ) → is_ascii_punctuation b ≡ false → (b == 124) ≡ false
+no_pipe : (b : ℕ) → is_ascii_punctuation b ≡ false → (b == pipe) ≡ false
 no_pipe b h = grind (arith, nat_tests, h)
 
 three : (n : ℕ) → 2 + (1 + n) ≡ 3 + n
 three n = omega arith
 
-pair_as_read : (t : Bool) (b : ℕ) (bs : List ℕ) → is_ascii_white b ≡ false → (t ≡ true → (b == 124) ≡ false)
-    → (t ≡ true → (b == 92) ≡ true → begins 124 bs ≡ false) → as_read t (92 ∷ b ∷ bs) ≡ 92 ∷ b ∷ as_read t bs
+pair_as_read : (t : Bool) (b : ℕ) (bs : List ℕ) → is_ascii_white b ≡ false → (t ≡ true → (b == pipe) ≡ false)
+    → (t ≡ true → (b == backslash) ≡ true → begins pipe bs ≡ false) → as_read t (backslash ∷ b ∷ bs) ≡ backslash ∷ b ∷ as_read t bs
 pair_as_read true b bs s f g =
-    as_read-backslash true (b ∷ bs) (f refl) ∙ ap (λ xs. 92 ∷ xs) (elim (cases_Bool (b == 92)) [
-      | inl e ↦ (let z : (b == 92) && begins 124 bs ≡ false = rw e (g refl e) in as_read-byte true b bs s z)
+    as_read-backslash true (b ∷ bs) (f refl) ∙ ap (λ xs. backslash ∷ xs) (elim (cases_Bool (b == backslash)) [
+      | inl e ↦ (let z : (b == backslash) && begins pipe bs ≡ false = rw e (g refl e) in as_read-byte true b bs s z)
       | inr e ↦ as_read-solid true b bs e s
     ])
-pair_as_read false b bs s f g = single-solid 92 (b ∷ bs) refl ∙ ap (λ xs. 92 ∷ xs) (single-solid b bs s)
+pair_as_read false b bs s f g = single-solid backslash (b ∷ bs) refl ∙ ap (λ xs. backslash ∷ xs) (single-solid b bs s)
 
-pipe_escape_as_read : (bs : List ℕ) → as_read true (92 ∷ 92 ∷ 124 ∷ bs) ≡ 92 ∷ 124 ∷ as_read true bs
-pipe_escape_as_read bs = as_read-backslash true (92 ∷ 124 ∷ bs) refl ∙ ap (λ xs. 92 ∷ xs) (as_read-pipe bs)
+pipe_escape_as_read : (bs : List ℕ) → as_read true (backslash ∷ backslash ∷ pipe ∷ bs) ≡ backslash ∷ pipe ∷ as_read true bs
+pipe_escape_as_read bs = as_read-backslash true (backslash ∷ pipe ∷ bs) refl ∙ ap (λ xs. backslash ∷ xs) (as_read-pipe bs)
 
 read-space : (text : List ℕ) (at next characters : ℕ) (t : Bool)
-    → (next == at + 1 && slice_index text at == 32) ≡ t → at < length text → read_of text at (space_unit text at next characters) ≡ 32 ∷ []
+    → (next == at + 1 && slice_index text at == space) ≡ t → at < length text → read_of text at (space_unit text at next characters) ≡ space ∷ []
 read-space text at next characters true h l =
     let p = and_parts _ _ h in
-    rw h (read-kept text at next characters false ∙ ap (part text at) (eqb-true next (at + 1) p.0) ∙ part-one text at l ∙ ap (λ b. b ∷ []) (eqb-true _ 32 p.1))
-read-space text at next characters false h l = rw h (ap (λ xs. xs ++ (32 ∷ part text next next)) (part-none text at) ∙ ap (λ xs. 32 ∷ xs) (part-none text next))
+    rw h (read-kept text at next characters false ∙ ap (part text at) (eqb-true next (at + 1) p.0) ∙ part-one text at l
+    ∙ ap (λ b. b ∷ []) (eqb-true _ space p.1))
+read-space text at next characters false h l =
+    rw h (ap (λ xs. xs ++ (space ∷ part text next next)) (part-none text at) ∙ ap (λ xs. space ∷ xs) (part-none text next))
 
-space_fields : (text : List ℕ) (at next characters : ℕ) (t : Bool) → (next == at + 1 && slice_index text at == 32) ≡ t
+space_fields : (text : List ℕ) (at next characters : ℕ) (t : Bool) → (next == at + 1 && slice_index text at == space) ≡ t
     → let u : Unit = space_unit text at next characters in (u.next ≡ next) × (u.characters ≡ characters) × (u.solid ≡ false)
 space_fields text at next characters true h = rw h (refl, refl, refl)
 space_fields text at next characters false h = rw h (refl, refl, refl)
@@ -380,21 +384,21 @@ eqb-same n = grind (arith, nat_tests)
 
 -- a run that is not a single space is heavier than a space
 lone_weight : (text : List ℕ) (at next b : ℕ) → (b ≡ get_or text at 0) ⊎ (b ≡ 0) → is_ascii_white b ≡ true
-    → (next == at + 1 && slice_index text at == 32) ≡ false → (slice_index text at ≡ 32 → next ≡ at + 1) → (b == 32) ≡ false
+    → (next == at + 1 && slice_index text at == space) ≡ false → (slice_index text at ≡ space → next ≡ at + 1) → (b == space) ≡ false
 lone_weight text at next b (inr z) s k f = absurd (false≢true (rw z at s))
-lone_weight text at next b (inl z) s k f = elim (cases_Bool (b == 32)) [
+lone_weight text at next b (inl z) s k f = elim (cases_Bool (b == space)) [
   | inl e ↦ (
-      let v : get_or text at 0 ≡ 32 = sym z ∙ eqb-true b 32 e in
+      let v : get_or text at 0 ≡ space = sym z ∙ eqb-true b space e in
       let n = f v in
       let y : (next == at + 1) ≡ true = rw n (eqb-same (at + 1)) in
-      let q : (slice_index text at == 32) ≡ false = rw y at k in
+      let q : (slice_index text at == space) ≡ false = rw y at k in
       absurd (false≢true (sym q ∙ rw v)))
   | inr e ↦ e
 ]
 
 run_heavier : (text : List ℕ) (at next characters : ℕ) (us : List ℕ)
     → length us ≡ characters → list_all is_ascii_white us ≡ true → (slice_index us 0 ≡ get_or text at 0) ⊎ (slice_index us 0 ≡ 0) → 0 < characters
-    → (next == at + 1 && slice_index text at == 32) ≡ false → (characters ≡ 1 → slice_index text at ≡ 32 → next ≡ at + 1) → 1 < weight us
+    → (next == at + 1 && slice_index text at == space) ≡ false → (characters ≡ 1 → slice_index text at ≡ space → next ≡ at + 1) → 1 < weight us
 run_heavier text at next characters [] l w f some k lone = absurd (omega arith)
 run_heavier text at next characters (b ∷ []) l w f some k lone =
     let s = (white_parts b [] w).0 in
@@ -403,7 +407,7 @@ run_heavier text at next characters (b ∷ []) l w f some k lone =
 run_heavier text at next characters (b ∷ c ∷ us) l w f some k lone = let m = weight-length (b ∷ c ∷ us) in omega arith
 
 run_lighter : (x : Bool) (text : List ℕ) (at next characters : ℕ) (us : List ℕ)
-    → (next == at + 1 && slice_index text at == 32) ≡ x → at < length text → (x ≡ false → 1 < weight us)
+    → (next == at + 1 && slice_index text at == space) ≡ x → at < length text → (x ≡ false → 1 < weight us)
     → ((space_unit text at next characters).paused ≡ (space_unit text at next characters).resumed)
     ⊎ (weight (read_of text at (space_unit text at next characters)) < weight us)
 run_lighter true text at next characters us k l f = rw k (inl refl)
@@ -423,7 +427,7 @@ run_first h text at next n r some l =
       | inr f ↦ inr (ap (λ cs. slice_index (bytes_of cs) 0) (sym r.joins) ∙ f)
     ])
 
-run_reads_by : (x : Bool) (h : List ℕ → Option ℕ) (t : Bool) (text : List ℕ) (at next characters : ℕ) → (next == at + 1 && slice_index text at == 32) ≡ x
+run_reads_by : (x : Bool) (h : List ℕ → Option ℕ) (t : Bool) (text : List ℕ) (at next characters : ℕ) → (next == at + 1 && slice_index text at == space) ≡ x
     → IsWhiteRun h text at next characters → EndsWhiteRun text at next characters → is_ascii_white (slice_index text next) ≡ false
     → Reads h t text at (space_unit text at next characters)
 run_reads_by x h t text at next characters kind r ends e =
@@ -453,96 +457,97 @@ run_reads_by x h t text at next characters kind r ends e =
     ∙ ap (λ k. read_of text at (space_unit text at next characters) ++ as_read t (take n (bytes_of (left_at h text k)))) (sym f.0))
 
 -- a backslash that escapes nothing
-lone_reads : (h : List ℕ → Option ℕ) (t : Bool) (text : List ℕ) (at : ℕ) → at < length text → get_or text at 0 ≡ 92
+lone_reads : (h : List ℕ → Option ℕ) (t : Bool) (text : List ℕ) (at : ℕ) → at < length text → get_or text at 0 ≡ backslash
     → is_ascii_punctuation (slice_index (drop (at + 1) text) 0) ≡ false → Reads h t text at (kept_unit (at + 1) 1 true)
 lone_reads h t text at l e p =
     let X = bytes_of (left_at h text (at + 1)) in
     let f = first_fails is_ascii_punctuation refl h text (at + 1) p in
-    let q : (n : ℕ) → begins 124 (take n X) ≡ false =
-    λ n. begins_from 124 (take n X) (no_pipe (slice_index (take n X) 0) (taken_fails is_ascii_punctuation refl n X f)) in
-    unit_reads h t text at (kept_unit (at + 1) 1 true) ((at, 92) ∷ [])
+    let q : (n : ℕ) → begins pipe (take n X) ≡ false =
+    λ n. begins_from pipe (take n X) (no_pipe (slice_index (take n X) 0) (taken_fails is_ascii_punctuation refl n X f)) in
+    unit_reads h t text at (kept_unit (at + 1) 1 true) ((at, backslash) ∷ [])
     (left-byte h text at l (rw e) ∙ ap (λ b. (at, b) ∷ left_at h text (at + 1)) e)
     refl
     refl
-    (upto-byte is_bracket 92 X f refl)
+    (upto-byte is_bracket backslash X f refl)
     (inl refl)
     (λ n. as_read-backslash t (take n X) (q n)
     ∙ ap (λ xs. xs ++ as_read t (take n X)) (sym (read-kept text at (at + 1) 1 true ∙ part-one text at l ∙ ap (λ b. b ∷ []) e)))
 
 -- a backslash that escapes a byte
-pair_joins : (h : List ℕ → Option ℕ) (text : List ℕ) (at : ℕ) → at + 1 < length text → get_or text at 0 ≡ 92 → is_ascii_white (get_or text (at + 1) 0) ≡ false
-    → left_at h text at ≡ (at, 92) ∷ (at + 1, get_or text (at + 1) 0) ∷ left_at h text (at + 2)
+pair_joins : (h : List ℕ → Option ℕ) (text : List ℕ) (at : ℕ) → at + 1 < length text → get_or text at 0 ≡ backslash
+    → is_ascii_white (get_or text (at + 1) 0) ≡ false → left_at h text at ≡ (at, backslash) ∷ (at + 1, get_or text (at + 1) 0) ∷ left_at h text (at + 2)
 pair_joins h text at l e s =
     let k : at + 1 + 1 ≡ at + 2 = omega arith in
     left-byte h text at (omega arith) (rw e) ∙ ap (λ b. (at, b) ∷ left_at h text (at + 1)) e
-    ∙ ap (λ cs. (at, 92) ∷ cs) (left-byte h text (at + 1) l (solid_ends_none (get_or text (at + 1) 0) (drop (at + 1 + 1) text) s)
+    ∙ ap (λ cs. (at, backslash) ∷ cs) (left-byte h text (at + 1) l (solid_ends_none (get_or text (at + 1) 0) (drop (at + 1 + 1) text) s)
     ∙ ap (λ n. (at + 1, get_or text (at + 1) 0) ∷ left_at h text n) k)
 
-punctuation_facts : (p : ℕ) → is_ascii_punctuation p ≡ true → (is_ascii_white p ≡ false) × (begins_character p ≡ true) × (begins_escape (92 ∷ p ∷ []) ≡ true)
+punctuation_facts : (p : ℕ) → is_ascii_punctuation p ≡ true → (is_ascii_white p ≡ false) × (begins_character p ≡ true)
+    × (begins_escape (backslash ∷ p ∷ []) ≡ true)
 punctuation_facts p h = (grind (arith, nat_tests, h), grind (arith, nat_tests, h), h)
 
 pair_reads : (h : List ℕ → Option ℕ) (t : Bool) (text : List ℕ) (at : ℕ)
-    → at + 1 < length text → get_or text at 0 ≡ 92 → is_ascii_punctuation (get_or text (at + 1) 0) ≡ true
-    → (t ≡ true → (get_or text (at + 1) 0 == 124) ≡ false)
-    → (t ≡ true → (get_or text (at + 1) 0 == 92) ≡ true → (slice_index (drop (at + 2) text) 0 == 124) ≡ false)
+    → at + 1 < length text → get_or text at 0 ≡ backslash → is_ascii_punctuation (get_or text (at + 1) 0) ≡ true
+    → (t ≡ true → (get_or text (at + 1) 0 == pipe) ≡ false)
+    → (t ≡ true → (get_or text (at + 1) 0 == backslash) ≡ true → (slice_index (drop (at + 2) text) 0 == pipe) ≡ false)
     → Reads h t text at (kept_unit (at + 2) 2 true)
 pair_reads h t text at l e p no_pipe_here no_pipe_next =
     let b = get_or text (at + 1) 0 in
     let X = bytes_of (left_at h text (at + 2)) in
     let f = punctuation_facts b p in
-    unit_reads h t text at (kept_unit (at + 2) 2 true) ((at, 92) ∷ (at + 1, b) ∷ [])
+    unit_reads h t text at (kept_unit (at + 2) 2 true) ((at, backslash) ∷ (at + 1, b) ∷ [])
     (pair_joins h text at l e f.0)
-    (let z : count_by begins_character (92 ∷ b ∷ []) ≡ 2 = rw f.1 in z)
+    (let z : count_by begins_character (backslash ∷ b ∷ []) ≡ 2 = rw f.1 in z)
     refl
-    (upto-escape is_bracket 92 b X p)
+    (upto-escape is_bracket backslash b X p)
     (inl refl)
     (λ n. pair_as_read t b (take n X) f.0 no_pipe_here
-    (λ i j. begins_from 124 (take n X) (taken_fails (λ x. x == 124) refl n X (first_fails (λ x. x == 124) refl h text (at + 2) (no_pipe_next i j))))
+    (λ i j. begins_from pipe (take n X) (taken_fails (λ x. x == pipe) refl n X (first_fails (λ x. x == pipe) refl h text (at + 2) (no_pipe_next i j))))
     ∙ ap (λ xs. xs ++ as_read t (take n X)) (sym (read-kept text at (at + 2) 2 true ∙ part-two text at l ∙ ap (λ x. x ∷ b ∷ []) e)))
 
-pipe_lighter : weight (124 ∷ []) < weight (92 ∷ 124 ∷ [])
+pipe_lighter : weight (pipe ∷ []) < weight (backslash ∷ pipe ∷ [])
 unfolding weight
 pipe_lighter = omega arith
 
-pipe_escape_lighter : weight (92 ∷ 124 ∷ []) < weight (92 ∷ 92 ∷ 124 ∷ [])
+pipe_escape_lighter : weight (backslash ∷ pipe ∷ []) < weight (backslash ∷ backslash ∷ pipe ∷ [])
 unfolding weight
 pipe_escape_lighter = omega arith
 
 -- in a table, a backslash that is dropped before a pipe
 pipe_reads : (h : List ℕ → Option ℕ) (text : List ℕ) (at : ℕ)
-    → at + 1 < length text → get_or text at 0 ≡ 92 → get_or text (at + 1) 0 ≡ 124 → Reads h true text at (dropped_unit (at + 2) 2 at)
+    → at + 1 < length text → get_or text at 0 ≡ backslash → get_or text (at + 1) 0 ≡ pipe → Reads h true text at (dropped_unit (at + 2) 2 at)
 pipe_reads h text at l e p =
     let X = bytes_of (left_at h text (at + 2)) in
     let k : at + 1 + 1 ≡ at + 2 = omega arith in
-    let w : read_of text at (dropped_unit (at + 2) 2 at) ≡ 124 ∷ [] =
+    let w : read_of text at (dropped_unit (at + 2) 2 at) ≡ pipe ∷ [] =
     ap (λ xs. xs ++ part text (at + 1) (at + 2)) (part-none text at) ∙ ap (part text (at + 1)) (sym k) ∙ part-one text (at + 1) l ∙ ap (λ b. b ∷ []) p
     in
-    unit_reads h true text at (dropped_unit (at + 2) 2 at) ((at, 92) ∷ (at + 1, 124) ∷ [])
-    (pair_joins h text at l e (rw p) ∙ ap (λ b. (at, 92) ∷ (at + 1, b) ∷ left_at h text (at + 2)) p)
+    unit_reads h true text at (dropped_unit (at + 2) 2 at) ((at, backslash) ∷ (at + 1, pipe) ∷ [])
+    (pair_joins h text at l e (rw p) ∙ ap (λ b. (at, backslash) ∷ (at + 1, b) ∷ left_at h text (at + 2)) p)
     refl
     refl
-    (upto-escape is_bracket 92 124 X refl)
+    (upto-escape is_bracket backslash pipe X refl)
     (inr (let less = pipe_lighter in let e = ap weight w in omega arith))
     (λ n. as_read-pipe (take n X) ∙ ap (λ xs. xs ++ as_read true (take n X)) (sym w))
 
 -- and one after a backslash, which escapes the pipe
-pipe_escape_reads : (h : List ℕ → Option ℕ) (text : List ℕ) (at : ℕ) → at + 2 < length text → get_or text at 0 ≡ 92 → get_or text (at + 1) 0 ≡ 92
-    → get_or text (at + 2) 0 ≡ 124 → Reads h true text at (dropped_unit (at + 3) 3 (at + 1))
+pipe_escape_reads : (h : List ℕ → Option ℕ) (text : List ℕ) (at : ℕ) → at + 2 < length text → get_or text at 0 ≡ backslash → get_or text (at + 1) 0 ≡ backslash
+    → get_or text (at + 2) 0 ≡ pipe → Reads h true text at (dropped_unit (at + 3) 3 (at + 1))
 pipe_escape_reads h text at l e p q =
     let X = bytes_of (left_at h text (at + 3)) in
     let k : at + 2 + 1 ≡ at + 3 = omega arith in
     let k' : at + 1 + 1 ≡ at + 2 = omega arith in
-    let w : read_of text at (dropped_unit (at + 3) 3 (at + 1)) ≡ 92 ∷ 124 ∷ [] =
+    let w : read_of text at (dropped_unit (at + 3) 3 (at + 1)) ≡ backslash ∷ pipe ∷ [] =
     ap (λ xs. xs ++ part text (at + 1 + 1) (at + 3)) (part-one text at (omega arith) ∙ ap (λ b. b ∷ []) e)
-    ∙ ap (λ xs. 92 ∷ xs) (ap (λ n. part text n (at + 3)) k' ∙ ap (part text (at + 2)) (sym k) ∙ part-one text (at + 2) l ∙ ap (λ b. b ∷ []) q)
+    ∙ ap (λ xs. backslash ∷ xs) (ap (λ n. part text n (at + 3)) k' ∙ ap (part text (at + 2)) (sym k) ∙ part-one text (at + 2) l ∙ ap (λ b. b ∷ []) q)
     in
-    unit_reads h true text at (dropped_unit (at + 3) 3 (at + 1)) ((at, 92) ∷ (at + 1, 92) ∷ (at + 2, 124) ∷ [])
-    (pair_joins h text at (omega arith) e (rw p) ∙ ap (λ b. (at, 92) ∷ (at + 1, b) ∷ left_at h text (at + 2)) p
-    ∙ ap (λ cs. (at, 92) ∷ (at + 1, 92) ∷ cs)
-    (left-byte h text (at + 2) l (rw q) ∙ ap (λ b. (at + 2, b) ∷ left_at h text (at + 2 + 1)) q ∙ ap (λ n. (at + 2, 124) ∷ left_at h text n) k))
+    unit_reads h true text at (dropped_unit (at + 3) 3 (at + 1)) ((at, backslash) ∷ (at + 1, backslash) ∷ (at + 2, pipe) ∷ [])
+    (pair_joins h text at (omega arith) e (rw p) ∙ ap (λ b. (at, backslash) ∷ (at + 1, b) ∷ left_at h text (at + 2)) p
+    ∙ ap (λ cs. (at, backslash) ∷ (at + 1, backslash) ∷ cs)
+    (left-byte h text (at + 2) l (rw q) ∙ ap (λ b. (at + 2, b) ∷ left_at h text (at + 2 + 1)) q ∙ ap (λ n. (at + 2, pipe) ∷ left_at h text n) k))
     refl
     refl
-    (upto-escape is_bracket 92 92 (124 ∷ X) refl ∙ ap (λ n. 2 + n) (upto-byte is_bracket 124 X refl refl) ∙ three (label_len X))
+    (upto-escape is_bracket backslash backslash (pipe ∷ X) refl ∙ ap (λ n. 2 + n) (upto-byte is_bracket pipe X refl refl) ∙ three (label_len X))
     (inr (let less = pipe_escape_lighter in let e = ap weight w in omega arith))
     (λ n. pipe_escape_as_read (take n X) ∙ ap (λ xs. xs ++ as_read true (take n X)) (sym w))
 
@@ -572,25 +577,25 @@ not_begins : (k : ℕ) (bs : List ℕ) → (k == 0) ≡ false → begins k bs �
 not_begins k [] z h = zero_differs k z
 not_begins k (b ∷ bs) z h = h
 
-no_second : (text : List ℕ) (at : ℕ) → begins 124 (drop 1 (drop at text)) ≡ false → (get_or text (at + 1) 0 == 124) ≡ false
+no_second : (text : List ℕ) (at : ℕ) → begins pipe (drop 1 (drop at text)) ≡ false → (get_or text (at + 1) 0 == pipe) ≡ false
 no_second text at h =
     let e : at + 1 + 0 ≡ at + 1 = omega arith in
-    ap (λ b. b == 124) (sym (ap (λ xs. slice_index xs 0) (drop-drop 1 at text) ∙ get_or-drop (at + 1) text 0 0 ∙ ap (λ n. get_or text n 0) e))
-    ∙ not_begins 124 (drop 1 (drop at text)) refl h
+    ap (λ b. b == pipe) (sym (ap (λ xs. slice_index xs 0) (drop-drop 1 at text) ∙ get_or-drop (at + 1) text 0 0 ∙ ap (λ n. get_or text n 0) e))
+    ∙ not_begins pipe (drop 1 (drop at text)) refl h
 
-no_third : (text : List ℕ) (at : ℕ) → at + 1 < length text → begins_pipe_escape (drop at text) ≡ false → get_or text at 0 ≡ 92 → get_or text (at + 1) 0 ≡ 92
-    → (slice_index (drop (at + 2) text) 0 == 124) ≡ false
+no_third : (text : List ℕ) (at : ℕ) → at + 1 < length text → begins_pipe_escape (drop at text) ≡ false → get_or text at 0 ≡ backslash
+    → get_or text (at + 1) 0 ≡ backslash → (slice_index (drop (at + 2) text) 0 == pipe) ≡ false
 no_third text at l h e f =
-    let a : begins 92 (drop at text) ≡ true = ap (begins 92) (drop_more text at 0 (omega arith)) ∙ rw e in
-    let b : begins 92 (drop 1 (drop at text)) ≡ true = ap (begins 92) (drop-drop 1 at text ∙ drop_more text (at + 1) 0 l) ∙ rw f in
-    let c : begins 124 (drop 2 (drop at text)) ≡ false = rw (a, b) at h in
-    ap (λ xs. slice_index xs 0 == 124) (sym (drop-drop 2 at text)) ∙ not_begins 124 (drop 2 (drop at text)) refl c
+    let a : begins backslash (drop at text) ≡ true = ap (begins backslash) (drop_more text at 0 (omega arith)) ∙ rw e in
+    let b : begins backslash (drop 1 (drop at text)) ≡ true = ap (begins backslash) (drop-drop 1 at text ∙ drop_more text (at + 1) 0 l) ∙ rw f in
+    let c : begins pipe (drop 2 (drop at text)) ≡ false = rw (a, b) at h in
+    ap (λ xs. slice_index xs 0 == pipe) (sym (drop-drop 2 at text)) ∙ not_begins pipe (drop 2 (drop at text)) refl c
 
 lone_second : (text : List ℕ) (at : ℕ)
-    → get_or text at 0 ≡ 92 → begins_escape (drop at text) ≡ false → is_ascii_punctuation (slice_index (drop (at + 1) text) 0) ≡ false
+    → get_or text at 0 ≡ backslash → begins_escape (drop at text) ≡ false → is_ascii_punctuation (slice_index (drop (at + 1) text) 0) ≡ false
 lone_second text at e h = elim (cases_lt at (length text)) [
   | inl l ↦ (
-      let a : begins 92 (drop at text) ≡ true = ap (begins 92) (drop_more text at 0 l) ∙ rw e in
+      let a : begins backslash (drop at text) ≡ true = ap (begins backslash) (drop_more text at 0 l) ∙ rw e in
       let b : is_ascii_punctuation (slice_index (drop at text) 1) ≡ false = rw a at h in
       let g : slice_index (drop (at + 1) text) 0 ≡ slice_index (drop at text) 1 =
       ap (λ xs. slice_index xs 0) (sym (drop-drop 1 at text)) ∙ get_or-drop 1 (drop at text) 0 0 in
@@ -612,7 +617,7 @@ kept_is_unit text at n c s l w f = record {
 }
 
 dropped_is_unit : (text : List ℕ) (at n c p : ℕ)
-    → IsUtf8 text → at ≤ p → p < n → n ≤ length text → c ≤ n - at → get_or text p 0 ≡ 92 → IsUnit text at (dropped_unit n c p)
+    → IsUtf8 text → at ≤ p → p < n → n ≤ length text → c ≤ n - at → get_or text p 0 ≡ backslash → IsUnit text at (dropped_unit n c p)
 dropped_is_unit text at n c p u l m w f e =
     let one = ap weight (part-one text p (omega arith)) in
     let some = weight-length (get_or text p 0 ∷ []) in
@@ -632,7 +637,7 @@ length-part : (text : List ℕ) (a b : ℕ) → a ≤ b → b ≤ length text �
 length-part text a b h k = let d = length-drop a text in length-take-le (b - a) (drop a text) (omega arith)
 
 run_weight : (text : List ℕ) (at next : ℕ) → at < next → next ≤ length text → is_ascii_white (get_or text at 0) ≡ true
-    → (next == at + 1 && slice_index text at == 32) ≡ false → (at + 1 < next) ⊎ (next ≤ at + 1) → 1 < weight (part text at next)
+    → (next == at + 1 && slice_index text at == space) ≡ false → (at + 1 < next) ⊎ (next ≤ at + 1) → 1 < weight (part text at next)
 run_weight text at next l w s k (inl more) =
     let n = length-part text at next (omega arith) w in
     let m = weight-length (part text at next) in
@@ -640,11 +645,11 @@ run_weight text at next l w s k (inl more) =
 run_weight text at next l w s k (inr one) =
     let e : next ≡ at + 1 = omega arith in
     let t : (next == at + 1) ≡ true = rw e (eqb-same (at + 1)) in
-    let z : (get_or text at 0 == 32) ≡ false = rw t at k in
+    let z : (get_or text at 0 == space) ≡ false = rw t at k in
     let f = ap weight (ap (part text at) e ∙ part-one text at (omega arith)) ∙ weight-other (get_or text at 0) s z in
     omega arith
 
-space_unit_by : (x : Bool) (text : List ℕ) (at next c : ℕ) → (next == at + 1 && slice_index text at == 32) ≡ x → EndsWhiteRun text at next c
+space_unit_by : (x : Bool) (text : List ℕ) (at next c : ℕ) → (next == at + 1 && slice_index text at == space) ≡ x → EndsWhiteRun text at next c
     → is_ascii_white (get_or text at 0) ≡ true → IsUnit text at (space_unit text at next c)
 space_unit_by true text at next c k e s = rw k (kept_is_unit text at next c false e.later e.within e.bound)
 space_unit_by false text at next c k e s =
@@ -682,20 +687,20 @@ pub record IsBackslash (text : List ℕ) (at : ℕ) (t : Bool) (unit : Unit) : T
   pub kind : IsUnit text at unit
   pub reads : (h : List ℕ → Option ℕ) → Reads h t text at unit
 
-backslash_by : (t x y z : Bool) (text : List ℕ) (at : ℕ) → at < length text → get_or text at 0 ≡ 92 → IsUtf8 text
-    → (t && begins_pipe_escape (drop at text)) ≡ x → (t && begins 124 (drop 1 (drop at text))) ≡ y → begins_escape (drop at text) ≡ z
+backslash_by : (t x y z : Bool) (text : List ℕ) (at : ℕ) → at < length text → get_or text at 0 ≡ backslash → IsUtf8 text
+    → (t && begins_pipe_escape (drop at text)) ≡ x → (t && begins pipe (drop 1 (drop at text))) ≡ y → begins_escape (drop at text) ≡ z
     → IsBackslash text at t (backslash_unit t at (drop at text))
 backslash_by true true y z text at l e u hx hy hz =
     let p = and_parts _ _ hx in
     let q = and_parts _ _ p.0 in
-    let b = second_byte 92 text at 1 q.1 in
-    let c = second_byte 124 text at 2 p.1 in
+    let b = second_byte backslash text at 1 q.1 in
+    let c = second_byte pipe text at 2 p.1 in
     rw hx (record {
       kind = dropped_is_unit text at (at + 3) 3 (at + 1) u (omega arith) (omega arith) (omega (arith, c.0)) (omega arith) b.1;
       reads = λ h. pipe_escape_reads h text at c.0 e b.1 c.1;
     })
 backslash_by true false true z text at l e u hx hy hz =
-    let b = second_byte 124 text at 1 hy in
+    let b = second_byte pipe text at 1 hy in
     rw (hx, hy) (record {
       kind = dropped_is_unit text at (at + 2) 2 at u (omega arith) (omega arith) (omega (arith, b.0)) (omega arith) e;
       reads = λ h. pipe_reads h text at b.0 e b.1;
@@ -704,7 +709,7 @@ backslash_by true false false true text at l e u hx hy hz =
     let s = escape_second text at hz in
     rw (hx, hy, hz) (record {
       kind = kept_is_unit text at (at + 2) 2 true (omega arith) (omega (arith, s.0)) (omega arith);
-      reads = λ h. pair_reads h true text at s.0 e s.1 (λ _. no_second text at hy) (λ _ k. no_third text at s.0 hx e (eqb-true _ 92 k));
+      reads = λ h. pair_reads h true text at s.0 e s.1 (λ _. no_second text at hy) (λ _ k. no_third text at s.0 hx e (eqb-true _ backslash k));
     })
 backslash_by true false false false text at l e u hx hy hz =
     rw (hx, hy, hz) (record {
@@ -724,7 +729,7 @@ backslash_by false x y false text at l e u hx hy hz =
     })
 
 pub backslash_is_unit : (t : Bool) (text : List ℕ) (at : ℕ)
-    → at < length text → get_or text at 0 ≡ 92 → IsUtf8 text → IsBackslash text at t (backslash_unit t at (drop at text))
+    → at < length text → get_or text at 0 ≡ backslash → IsUtf8 text → IsBackslash text at t (backslash_unit t at (drop at text))
 backslash_is_unit t text at l e u = backslash_by t _ _ _ text at l e u refl refl refl
 
 -- places where no label continues
@@ -750,29 +755,29 @@ bracket_left : (h : List ℕ → Option ℕ) (text : List ℕ) (at k : ℕ)
 bracket_left h text at k l e s =
     left-byte h text at l (solid_ends_none (get_or text at 0) (drop (at + 1) text) (ap is_ascii_white e ∙ s)) ∙ ap (λ b. (at, b) ∷ left_at h text (at + 1)) e
 
-open_by : (t : Bool) (known : Known) (at : ℕ) (cs : List (ℕ × ℕ)) → label_after t known ((at, 91) ∷ cs) ≡ None
+open_by : (t : Bool) (known : Known) (at : ℕ) (cs : List (ℕ × ℕ)) → label_after t known ((at, left_bracket) ∷ cs) ≡ None
 unfolding label_after
-open_by t known at cs = rw (upto-stop is_bracket 91 (bytes_of cs) refl refl)
+open_by t known at cs = rw (upto-stop is_bracket left_bracket (bytes_of cs) refl refl)
 
-pub open_stops : (h : List ℕ → Option ℕ) (t : Bool) (text : List ℕ) (at : ℕ) → at < length text → get_or text at 0 ≡ 91 → Stops h t text at
-open_stops h t text at l e = λ known. ap (label_after t known) (bracket_left h text at 91 l e refl) ∙ open_by t known at (left_at h text (at + 1))
+pub open_stops : (h : List ℕ → Option ℕ) (t : Bool) (text : List ℕ) (at : ℕ) → at < length text → get_or text at 0 ≡ left_bracket → Stops h t text at
+open_stops h t text at l e = λ known. ap (label_after t known) (bracket_left h text at left_bracket l e refl) ∙ open_by t known at (left_at h text (at + 1))
 
 close_by : (t : Bool) (known : Known) (at : ℕ) (cs : List (ℕ × ℕ))
-    → label_after t known ((at, 93) ∷ cs) ≡ (if is_label_after known [] then Some (found (at + 1) (known.bytes ++ as_read t [])) else None)
+    → label_after t known ((at, right_bracket) ∷ cs) ≡ (if is_label_after known [] then Some (found (at + 1) (known.bytes ++ as_read t [])) else None)
 unfolding label_after
-close_by t known at cs = rw (upto-stop is_bracket 93 (bytes_of cs) refl refl)
+close_by t known at cs = rw (upto-stop is_bracket right_bracket (bytes_of cs) refl refl)
 
-pub closes : (h : List ℕ → Option ℕ) (t : Bool) (text : List ℕ) (at : ℕ) (known : Known) → at < length text → get_or text at 0 ≡ 93
+pub closes : (h : List ℕ → Option ℕ) (t : Bool) (text : List ℕ) (at : ℕ) (known : Known) → at < length text → get_or text at 0 ≡ right_bracket
     → label_after t known (left_at h text at) ≡ (if is_label_after known [] then Some (found (at + 1) (known.bytes ++ as_read t [])) else None)
-closes h t text at known l e = ap (label_after t known) (bracket_left h text at 93 l e refl) ∙ close_by t known at (left_at h text (at + 1))
+closes h t text at known l e = ap (label_after t known) (bracket_left h text at right_bracket l e refl) ∙ close_by t known at (left_at h text (at + 1))
 
 pub as_read-nil : (t : Bool) → as_read t [] ≡ []
 unfolding single_spaced without_pipe_escapes
 as_read-nil true = refl
 as_read-nil false = refl
 
-pub closed : (h : List ℕ → Option ℕ) (t : Bool) (text : List ℕ) (at : ℕ) (known : Known) → at < length text → get_or text at 0 ≡ 93 → known.characters ≤ 999
-    → known.solid ≡ true → label_after t known (left_at h text at) ≡ Some (at + 1, known.bytes)
+pub closed : (h : List ℕ → Option ℕ) (t : Bool) (text : List ℕ) (at : ℕ) (known : Known) → at < length text → get_or text at 0 ≡ right_bracket
+    → known.characters ≤ 999 → known.solid ≡ true → label_after t known (left_at h text at) ≡ Some (at + 1, known.bytes)
 closed h t text at known l e bound solid =
     let k : known.characters + 0 ≡ known.characters = omega arith in
     let i : is_label_after known [] ≡ true = rw (k, le-leb known.characters 999 bound, solid) in
@@ -780,14 +785,15 @@ closed h t text at known l e bound solid =
     ∙ rw i (ap (λ bs. Some (found (at + 1) (known.bytes ++ bs))) (as_read-nil t) ∙ ap (λ bs. Some (found (at + 1) bs)) (append-nil known.bytes))
 
 pub blank_label : (h : List ℕ → Option ℕ) (t : Bool) (text : List ℕ) (at : ℕ) (known : Known)
-    → at < length text → get_or text at 0 ≡ 93 → known.solid ≡ false → label_after t known (left_at h text at) ≡ None
+    → at < length text → get_or text at 0 ≡ right_bracket → known.solid ≡ false → label_after t known (left_at h text at) ≡ None
 blank_label h t text at known l e solid =
     let i : is_label_after known [] ≡ false = rw solid (and_false _) in
     closes h t text at known l e ∙ rw i
 
 long_by : (t : Bool) (known : Known) (cs : List (ℕ × ℕ)) → ((bs : List ℕ) → is_label_after known bs ≡ false) → label_after t known cs ≡ None
 unfolding label_after
-long_by t known cs f = rw (f (take (label_len (bytes_of cs)) (bytes_of cs))) (rw (and_false (begins 93 (drop (label_len (bytes_of cs)) (bytes_of cs)))))
+long_by t known cs f =
+    rw (f (take (label_len (bytes_of cs)) (bytes_of cs))) (rw (and_false (begins right_bracket (drop (label_len (bytes_of cs)) (bytes_of cs)))))
 
 pub too_long : (t : Bool) (known : Known) (cs : List (ℕ × ℕ)) → 999 < known.characters → label_after t known cs ≡ None
 too_long t known cs l = long_by t known cs (λ bs. rw (gt-leb (known.characters + count_by begins_character bs) 999 (omega arith)))
@@ -826,8 +832,8 @@ place_past text a n l b =
     let g = get_or-drop a text n 0 in
     (omega arith, λ h k. let z = b.1 (omega arith) (omega arith) in omega arith)
 
-pub closing_bracket : (b : ℕ) → is_bracket b ≡ true → (b ≡ 91 → ⊥) → b ≡ 93
-closing_bracket b h f = eqb-true b 93 (rw (differs b 91 f) at h)
+pub closing_bracket : (b : ℕ) → is_bracket b ≡ true → (b ≡ left_bracket → ⊥) → b ≡ right_bracket
+closing_bracket b h f = eqb-true b right_bracket (rw (differs b left_bracket f) at h)
 
 -- a prefix of no bytes, and one that ends with an ASCII byte
 pub no_prefix : (bs : List ℕ) (n : ℕ) → IsUtf8 bs → n ≡ 0 → IsCharBoundary bs n

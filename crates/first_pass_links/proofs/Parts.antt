@@ -4,6 +4,7 @@ use Rattle.std.proofs.Common.{[]}
 use Rattle.std.proofs.Common.{get_or, refl, sym, ap, ◌∙◌, arith, append_assoc, if◌then◌else◌}
 use Rattle.std.specs.Str.{IsCharBoundary}
 use Rattle.std.proofs.lemmas.List.{drop_more, drop-drop}
+use Rattle.first_pass_items.specs.Bytes.{space}
 use Rattle.first_pass_lines.specs.Lines.{is_ascii_white}
 use Rattle.first_pass_links.specs.declared.label.Unit.{Unit}
 use Rattle.first_pass_links.specs.Units.{part, weight, read_of, IsUnit, IsLighter}
@@ -60,18 +61,18 @@ unfolding weight
 weight-length [] = omega arith
 weight-length (x ∷ xs) =
     let i = weight-length xs in
-    let w = weigh_some (is_ascii_white x && not (x == 32)) in
+    let w = weigh_some (is_ascii_white x && not (x == space)) in
     omega arith
 
 pub weight-nil : weight [] ≡ 0
 unfolding weight
 weight-nil = refl
 
-pub weight-space : weight (32 ∷ []) ≡ 1
+pub weight-space : weight (space ∷ []) ≡ 1
 unfolding weight
 weight-space = refl
 
-pub weight-other : (b : ℕ) → is_ascii_white b ≡ true → (b == 32) ≡ false → weight (b ∷ []) ≡ 2
+pub weight-other : (b : ℕ) → is_ascii_white b ≡ true → (b == space) ≡ false → weight (b ∷ []) ≡ 2
 unfolding weight
 weight-other b h k = rw (h, k)
 
@@ -95,17 +96,17 @@ unit_kept text written from at unit r u e =
     ∙ ap (λ xs. written ++ xs) (part-split text from at unit.next order (omega arith)))
 
 pub unit_changed : (text written : List ℕ) (from at : ℕ) (unit : Unit) → IsLighter text written from at → IsUnit text at unit
-    → ((written ++ part text from unit.paused) ++ (if unit.space then 32 ∷ [] else [])) ++ part text unit.resumed unit.next
+    → ((written ++ part text from unit.paused) ++ (if unit.space then space ∷ [] else [])) ++ part text unit.resumed unit.next
     ≡ (written ++ part text from at) ++ read_of text at unit
 unit_changed text written from at unit r u =
     let order = r.order in
     let begins = u.begins in
     let p = part-split text from at unit.paused order begins in
-    ap (λ xs. ((written ++ xs) ++ (if unit.space then 32 ∷ [] else [])) ++ part text unit.resumed unit.next) (sym p) ∙ simp append_assoc
+    ap (λ xs. ((written ++ xs) ++ (if unit.space then space ∷ [] else [])) ++ part text unit.resumed unit.next) (sym p) ∙ simp append_assoc
 
 change_facts : (text written : List ℕ) (from at : ℕ) (unit : Unit) → IsLighter text written from at → IsUnit text at unit
-    → IsCharBoundary text unit.resumed × (weight (if unit.space then 32 ∷ [] else []) < weight (part text unit.paused unit.resumed))
-    → IsLighter text ((written ++ part text from unit.paused) ++ (if unit.space then 32 ∷ [] else [])) unit.resumed unit.next
+    → IsCharBoundary text unit.resumed × (weight (if unit.space then space ∷ [] else []) < weight (part text unit.paused unit.resumed))
+    → IsLighter text ((written ++ part text from unit.paused) ++ (if unit.space then space ∷ [] else [])) unit.resumed unit.next
 change_facts text written from at unit r u c =
     let order = r.order in
     let begins = u.begins in
@@ -113,7 +114,7 @@ change_facts text written from at unit r u c =
     let keeps = u.order in
     let light = lighter_weight text written from r.lighter in
     let less = c.1 in
-    let mid : List ℕ = if unit.space then 32 ∷ [] else [] in
+    let mid : List ℕ = if unit.space then space ∷ [] else [] in
     let a = weight-append (written ++ part text from unit.paused) mid in
     let b = weight-append written (part text from unit.paused) in
     let d = ap weight (take-part text from unit.paused (omega arith)) ∙ weight-append (take from text) (part text from unit.paused) in
@@ -121,7 +122,7 @@ change_facts text written from at unit r u c =
     record { order = resumes; within = u.within; boundary = c.0; lighter = inr (omega arith) }
 
 pub unit_read : (text written : List ℕ) (from at : ℕ) (unit : Unit) → IsLighter text written from at → IsUnit text at unit → (unit.paused ≡ unit.resumed → ⊥)
-    → IsLighter text ((written ++ part text from unit.paused) ++ (if unit.space then 32 ∷ [] else [])) unit.resumed unit.next
+    → IsLighter text ((written ++ part text from unit.paused) ++ (if unit.space then space ∷ [] else [])) unit.resumed unit.next
 unit_read text written from at unit r u n = elim u.change [
   | inl e ↦ absurd (n e)
   | inr c ↦ change_facts text written from at unit r u (c.1, c.2)

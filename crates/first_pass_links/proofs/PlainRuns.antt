@@ -4,6 +4,7 @@ use Rattle.std.proofs.Common.{Option, refl, sym, ap, subst, ◌∙◌, arith, ap
 use Rattle.std.specs.List.{list_any, count_by}
 use Rattle.std.proofs.lemmas.Bool.Decides.{nat_tests}
 use Rattle.std.proofs.lemmas.List.{drop_more, map-append, length-map, get_or-drop}
+use Rattle.first_pass_items.specs.Bytes.{left_parenthesis, right_parenthesis, backslash}
 use Rattle.first_pass_lines.specs.Lines.{is_ascii_white}
 use Rattle.first_pass_links.specs.Escapes.{begins_escape}
 use Rattle.first_pass_links.specs.Destinations.{ends_run, closes_none, nesting_after, bare_len, longer}
@@ -32,7 +33,7 @@ plain_closes b n h = grind (arith, nat_tests, h)
 plain_nests : (b n : ℕ) → is_ordinary b ≡ true → nesting_after b n ≡ n
 plain_nests b n h = grind (arith, nat_tests, h)
 
-plain_backslash : (b : ℕ) → is_ordinary b ≡ true → (b == 92) ≡ false
+plain_backslash : (b : ℕ) → is_ordinary b ≡ true → (b == backslash) ≡ false
 plain_backslash b h = grind (arith, nat_tests, h)
 
 plain_white : (b : ℕ) → is_ordinary b ≡ true → is_ascii_white b ≡ false
@@ -44,7 +45,7 @@ plain_bracket b h = grind (arith, nat_tests, h)
 plain_begins : (b : ℕ) → is_ordinary b ≡ true → suc zero ≡ (if begins_character b then 1 else 0)
 plain_begins b h = grind (arith, nat_tests, h)
 
-pub no_escape : (bs : List ℕ) (at : ℕ) → at < length bs → (get_or bs at 0 == 92) ≡ false → begins_escape (drop at bs) ≡ false
+pub no_escape : (bs : List ℕ) (at : ℕ) → at < length bs → (get_or bs at 0 == backslash) ≡ false → begins_escape (drop at bs) ≡ false
 no_escape bs at l h = ap begins_escape (drop_more bs at 0 l) ∙ rw h refl
 
 -- a run continues after plain bytes
@@ -84,11 +85,11 @@ run_part deepest nesting bs n r some first unit within plain bound =
     ∙ run_unit deepest nesting bs 0 n some unit f.0 f.1 shallow
     ∙ longer-none (bare_len deepest nesting 0 bs)
 
-parenthesis_is_other : (b : ℕ) → (b == 40 || b == 41) ≡ true → (b == 92) ≡ false
+parenthesis_is_other : (b : ℕ) → (b == left_parenthesis || b == right_parenthesis) ≡ true → (b == backslash) ≡ false
 parenthesis_is_other b h = grind (arith, nat_tests, h)
 
 -- a parenthesis is a unit of one byte
-pub parenthesis_unit : (bs : List ℕ) (at : ℕ) → at < length bs → (get_or bs at 0 == 40 || get_or bs at 0 == 41) ≡ true
+pub parenthesis_unit : (bs : List ℕ) (at : ℕ) → at < length bs → (get_or bs at 0 == left_parenthesis || get_or bs at 0 == right_parenthesis) ≡ true
     → suc zero ≡ (if begins_escape (drop at bs) then 2 else 1)
 parenthesis_unit bs at l h = rw (no_escape bs at l (parenthesis_is_other (get_or bs at 0) h)) refl
 

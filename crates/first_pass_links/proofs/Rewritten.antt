@@ -5,6 +5,7 @@ use Rattle.std.specs.Borrow.{Bor}
 use Rattle.std.specs.declared.alloc.AllocError.{AllocError}
 use Rattle.std.proofs.lemmas.Bool.{cases_Bool, eqb-true}
 use Rattle.std.proofs.lemmas.List.{map-append, length-map, append-nil}
+use Rattle.first_pass_items.specs.Bytes.{space, backslash, pipe}
 use Rattle.first_pass_lines.specs.Lines.{begins, ends_line, is_ascii_white}
 use Rattle.first_pass_links.specs.Escapes.{without_pipe_escapes}
 use Rattle.first_pass_links.specs.declared.label.Unit.{Unit}
@@ -25,7 +26,8 @@ weight-solid : (b : ℕ) → is_ascii_white b ≡ false → weight (b ∷ []) �
 unfolding weight
 weight-solid b h = rw h
 
-line_end_facts : (b : ℕ) (bs : List ℕ) → ends_line b bs ≡ true → (is_ascii_white b ≡ true) × ((b == 32) ≡ false) × ((b == 92) ≡ false) × (is_bracket b ≡ false)
+line_end_facts : (b : ℕ) (bs : List ℕ) → ends_line b bs ≡ true → (is_ascii_white b ≡ true) × ((b == space) ≡ false) × ((b == backslash) ≡ false)
+    × (is_bracket b ≡ false)
 line_end_facts b bs h = (grind (arith, nat_tests, h), grind (arith, nat_tests, h), grind (arith, nat_tests, h), grind (arith, nat_tests, h))
 
 -- one more byte
@@ -56,14 +58,14 @@ lightens_through : (xs ys zs : List ℕ) → Lightens xs ys → Lightens ys zs �
 lightens_through xs ys zs (inl l) k = let w = lightens_weight ys zs k in inl (omega arith)
 lightens_through xs ys zs (inr e) k = subst (λ vs. Lightens vs zs) (sym e) k
 
-space_for : (b : ℕ) (xs ys : List ℕ) → is_ascii_white b ≡ true → Lightens xs ys → Lightens (32 ∷ xs) (b ∷ ys)
-space_for b xs ys s l = elim (cases_Bool (b == 32)) [
-  | inl e ↦ subst (λ c. Lightens (32 ∷ xs) (c ∷ ys)) (sym (eqb-true b 32 e)) (lightens_more 32 xs ys l)
+space_for : (b : ℕ) (xs ys : List ℕ) → is_ascii_white b ≡ true → Lightens xs ys → Lightens (space ∷ xs) (b ∷ ys)
+space_for b xs ys s l = elim (cases_Bool (b == space)) [
+  | inl e ↦ subst (λ c. Lightens (space ∷ xs) (c ∷ ys)) (sym (eqb-true b space e)) (lightens_more space xs ys l)
   | inr e ↦ (
       let w = lightens_weight xs ys l in
       let one = weight-space in
       let two = weight-other b s e in
-      let u = weight-more 32 xs in
+      let u = weight-more space xs in
       let v = weight-more b ys in
       inl (omega arith))
 ]
@@ -79,7 +81,7 @@ single_lightens [] = inr (as_read-nil false)
 single_lightens (b ∷ bs) = single_by b bs _ _ refl refl (single_lightens bs)
 
 cell_by : (b : ℕ) (bs : List ℕ) (x y : Bool)
-    → (b == 92) ≡ x → begins 124 bs ≡ y → Lightens (without_pipe_escapes bs) bs → Lightens (without_pipe_escapes (b ∷ bs)) (b ∷ bs)
+    → (b == backslash) ≡ x → begins pipe bs ≡ y → Lightens (without_pipe_escapes bs) bs → Lightens (without_pipe_escapes (b ∷ bs)) (b ∷ bs)
 cell_by b bs false y h k l = subst (λ xs. Lightens xs (b ∷ bs)) (sym (cell-other b bs h)) (lightens_more b (without_pipe_escapes bs) bs l)
 cell_by b bs true true h k l = subst (λ xs. Lightens xs (b ∷ bs)) (sym (cell-dropped b bs h k)) (lightens_without b (without_pipe_escapes bs) bs l)
 cell_by b bs true false h k l = subst (λ xs. Lightens xs (b ∷ bs)) (sym (cell-kept b bs k)) (lightens_more b (without_pipe_escapes bs) bs l)
@@ -104,9 +106,9 @@ single_weighs_by b bs false y h k l =
 single_weighs_by b bs true true h k l = let e = single-more b bs h k in ap weight e ∙ l ∙ sym (ap length e)
 single_weighs_by b bs true false h k l =
     let e = single-last b bs h k in
-    let v = weight-more 32 (single_spaced bs) in
+    let v = weight-more space (single_spaced bs) in
     let w = weight-space in
-    ap weight e ∙ (let z : weight (32 ∷ single_spaced bs) ≡ length (32 ∷ single_spaced bs) = omega arith in z) ∙ sym (ap length e)
+    ap weight e ∙ (let z : weight (space ∷ single_spaced bs) ≡ length (space ∷ single_spaced bs) = omega arith in z) ∙ sym (ap length e)
 
 single_weighs : (bs : List ℕ) → weight (single_spaced bs) ≡ length (single_spaced bs)
 single_weighs [] = ap weight (as_read-nil false) ∙ weight-nil ∙ sym (ap length (as_read-nil false))
@@ -117,7 +119,7 @@ as_read_weighs false bs = single_weighs bs
 as_read_weighs true bs = single_weighs (without_pipe_escapes bs)
 
 -- bytes with white space other than a space are read differently
-heavy_differs : (t : Bool) (xs ys : List ℕ) (b : ℕ) → is_ascii_white b ≡ true → (b == 32) ≡ false → as_read t (xs ++ b ∷ ys) ≢ xs ++ b ∷ ys
+heavy_differs : (t : Bool) (xs ys : List ℕ) (b : ℕ) → is_ascii_white b ≡ true → (b == space) ≡ false → as_read t (xs ++ b ∷ ys) ≢ xs ++ b ∷ ys
 heavy_differs t xs ys b h k = λ e.
     let w = as_read_weighs t (xs ++ b ∷ ys) in
     let same = ap weight e in

@@ -1,5 +1,6 @@
 use Rattle.std.proofs.Common.{◌≡◌, ◌+◌, Some, None, true, false, drop, refl, sym, ap, subst, ◌∙◌, arith}
 use Rattle.std.specs.Str.{IsCharBoundary}
+use Rattle.first_pass_items.specs.Bytes.{colon}
 use Rattle.first_pass_lines.specs.Lines.{begins}
 use Rattle.first_pass_links.specs.Footnotes.{begins_footnote_mark}
 use Rattle.first_pass_links.specs.Labels.{label_at, CanErr}
@@ -41,9 +42,9 @@ returns-in_default-clause-value g c = λ prefix a.
     rw e refl
 
 -- whether a colon follows the label
-colon_is : (g : _) (c : After-begins g) → begins 58 (drop (c.in-Some.len + 2) c.args.text.now) ≡ c.begins.result
+colon_is : (g : _) (c : After-begins g) → begins colon (drop (c.in-Some.len + 2) c.args.text.now) ≡ c.begins.result
 colon_is g c =
-    ap (begins 58) (sym (c.rest_of.ensures.value ∙ ap (drop (c.in-Some.len + 2)) c.as_bytes-bytes.ensures.value)) ∙ sym c.begins.ensures.value
+    ap (begins colon) (sym (c.rest_of.ensures.value ∙ ap (drop (c.in-Some.len + 2)) c.as_bytes-bytes.ensures.value)) ∙ sym c.begins.ensures.value
 
 pub returns-then-not-begins-clause-value : goal.returns-then-not-begins-clause-value
 returns-then-not-begins-clause-value g c = λ prefix a.

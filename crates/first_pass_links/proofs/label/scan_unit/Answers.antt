@@ -1,4 +1,5 @@
 use Rattle.std.proofs.Common.{◌∙◌, ◌+◌, ◌≤◌, ap, sym, subst, length, length-drop, arith}
+use Rattle.first_pass_items.specs.Bytes.{backslash}
 use Rattle.first_pass_links.specs.Units.{IsUnit, Reads}
 use Rattle.first_pass_links.proofs.Labels.{byte_reads, differs, run_reads, space_is_unit, backslash_is_unit}
 use Rattle.first_pass_links.proofs.PlainRuns.{are_plain, plain_run_reads}
@@ -35,7 +36,7 @@ pub returns-clause-reads : goal.returns-clause-reads
 returns-clause-reads g c =
     λ h a. subst (Reads h c.args.in_table c.args.bytes.now c.args.at) (sym c.kept_unit-2.ensures)
     (byte_reads h c.args.in_table c.args.bytes.now c.args.at _ c.requires.within
-    (sym c.is_ascii_white.ensures ∙ c.if-is_ascii_white.false) c.requires.no_bracket (differs _ 92 c.if-bytes-at-eq92.false) c.begun_characters.ensures)
+    (sym c.is_ascii_white.ensures ∙ c.if-is_ascii_white.false) c.requires.no_bracket (differs _ backslash c.if-bytes-at-eq92.false) c.begun_characters.ensures)
 
 pub returns-then-plain-gt0-clause-reads : goal.returns-then-plain-gt0-clause-reads
 returns-then-plain-gt0-clause-reads g c =

@@ -1,5 +1,6 @@
 use Rattle.std.proofs.Common.{◌≡◌, ◌≤◌, ◌-◌, ◌+◌, ℕ, List, Option, length, slice_index}
 use Rattle.std.specs.Str.{IsCharBoundary}
+use Rattle.first_pass_items.specs.Bytes.{space}
 use Rattle.first_pass_links.specs.Labels.{AnswersWith}
 use Rattle.first_pass_links.specs.Units.{IsWhiteRun}
 use Rattle.first_pass_links.proofs.label.scan_white_run.Given as goal
@@ -11,7 +12,7 @@ invariant-loop-next g l = record {
   within : l.next ≤ length l.bytes;
   boundary : IsCharBoundary l.bytes l.next;
   bound : l.characters ≤ l.next - l.at;
-  lone : (l.characters ≡ 1) → (slice_index l.bytes l.at ≡ 32) → (l.next ≡ l.at + 1);
+  lone : (l.characters ≡ 1) → (slice_index l.bytes l.at ≡ space) → (l.next ≡ l.at + 1);
   started : (l.characters ≡ 0) → (l.next ≡ l.at);
   run : (prefix : List ℕ → Option ℕ) → AnswersWith l.bytes prefix (goal.F-post g l.linebreak_handler) → IsWhiteRun prefix l.bytes l.at l.next l.characters;
 }

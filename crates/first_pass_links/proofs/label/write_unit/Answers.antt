@@ -1,5 +1,6 @@
 use Rattle.std.proofs.Common.{◌≡◌, ◌++◌, ◌∷◌, [], sym, ap, subst, ◌∙◌, if◌then◌else◌}
 use Rattle.std.specs.String.{string_bytes}
+use Rattle.first_pass_items.specs.Bytes.{space}
 use Rattle.first_pass_links.specs.Units.{part, IsLighter}
 use Rattle.first_pass_links.proofs.Parts.{unit_kept, unit_changed, unit_read}
 use Rattle.first_pass_links.proofs.label.write_unit.Goals as goal
@@ -9,9 +10,9 @@ pub returns-then-unit-clause-bytes : goal.returns-then-unit-clause-bytes
 returns-then-unit-clause-bytes c = unit_kept c.args.text.now _ c.args.from c.args.at c.args.unit c.requires.read c.requires.unit c.if-unit.true
 
 written : (c : In_ok-push_str-2) → string_bytes c.push_str-2.new.self
-    ≡ (string_bytes c.args.written.now ++ part c.args.text.now c.args.from c.args.unit.paused) ++ (if c.args.unit.space then 32 ∷ [] else [])
+    ≡ (string_bytes c.args.written.now ++ part c.args.text.now c.args.from c.args.unit.paused) ++ (if c.args.unit.space then space ∷ [] else [])
 written c = c.in_ok-push_str-2.ensures.bytes
-    ∙ ap (λ xs. string_bytes c.push_str.new.self ++ xs) c.replacement.ensures ∙ ap (λ xs. xs ++ (if c.args.unit.space then 32 ∷ [] else []))
+    ∙ ap (λ xs. string_bytes c.push_str.new.self ++ xs) c.replacement.ensures ∙ ap (λ xs. xs ++ (if c.args.unit.space then space ∷ [] else []))
     (c.in_ok-push_str.ensures.bytes ∙ ap (λ xs. string_bytes c.args.written.now ++ xs) c.range.ensures.value)
 
 pub returns-clause-read : goal.returns-clause-read
