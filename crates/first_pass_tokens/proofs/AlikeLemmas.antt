@@ -4,6 +4,8 @@ use Rattle.std.proofs.Common.{None, unwrap_or, refl, sym, ap, subst, ◌∙◌, 
 use Rattle.std.specs.Option.{option_map, option_map_or}
 use Rattle.std.specs.Char.{is_ascii_punctuation}
 use Rattle.std.proofs.lemmas.Bool.{cases_Bool, cond_both, cond-true, cond-false, true≢false}
+use Rattle.first_pass_items.specs.Bytes.{exclamation_mark, dollar_sign, ampersand, hyphen, full_stop, less_than, left_bracket, backslash, right_bracket}
+use Rattle.first_pass_items.specs.Bytes.{backquote, left_brace, pipe, right_brace}
 use Rattle.first_pass_items.specs.declared.cow_str.CowStr.{CowStr}
 use Rattle.first_pass_items.specs.CowText.{text_of}
 use Rattle.first_pass_items.specs.declared.item.CowIndex.{CowIndex}
@@ -51,15 +53,15 @@ ReadyNamesNone CloseBrace = Unit {0}
 backslash_none : (text : List ℕ) (at : ℕ) → NamesNone (backslash_piece text at)
 unfolding backslash_piece
 backslash_none text at =
-    cond_both (slice_index text (at + 1) == 96) _ _ NamesNone (λ h. refl)
+    cond_both (slice_index text (at + 1) == backquote) _ _ NamesNone (λ h. refl)
     (λ h. cond_both (is_ascii_punctuation (slice_index text (at + 1))) (Begins 1 true) (Left 1) NamesNone (λ k. tt) (λ k. tt))
 
 backslash_in_none : (row : Bool) (text : List ℕ) (at : ℕ) → NamesNone (backslash_piece_in row text at)
 backslash_in_none false text at = backslash_none text at
 backslash_in_none true text at =
     let holds : Option Piece → Type 0 = λ o. NamesNone (unwrap_or o (backslash_piece text at)) in
-    cond_both (slice_index text (at + 1) == 124) _ _ holds (λ h. tt)
-    (λ h. cond_both (slice_index text (at + 1) == 92 && slice_index text (at + 2) == 124) _ _ holds (λ k. tt) (λ k. backslash_none text at))
+    cond_both (slice_index text (at + 1) == pipe) _ _ holds (λ h. tt)
+    (λ h. cond_both (slice_index text (at + 1) == backslash && slice_index text (at + 2) == pipe) _ _ holds (λ k. tt) (λ k. backslash_none text at))
 
 run_none : (r : DelimiterRun) → NamesNone (run_piece r)
 run_none r = cond_both ((can_open r || can_close r) && not (is_too_long r)) (Run r.size (can_open r) (can_close r)) (Left r.size) NamesNone (λ h. tt) (λ h. tt)
@@ -68,10 +70,10 @@ bracket_none : (text : List ℕ) (at : ℕ) → NamesNone (bracket_piece text at
 unfolding bracket_piece
 bracket_none text at =
     let b = slice_index text at in
-    cond_both (b == 60 && not (slice_index text (at + 1) == 92)) (Token 0 1 MaybeHtml) _ NamesNone (λ h. refl)
-    (λ h. cond_both (b == 33 && slice_index text (at + 1) == 91) (Token 0 2 MaybeImage) _ NamesNone (λ k. refl)
-    (λ k. cond_both (b == 91) (Token 0 1 MaybeLinkOpen) _ NamesNone (λ l. refl)
-    (λ l. cond_both (b == 93) (Token 0 1 (MaybeLinkClose true)) (Left 1) NamesNone (λ m. refl) (λ m. tt))))
+    cond_both (b == less_than && not (slice_index text (at + 1) == backslash)) (Token 0 1 MaybeHtml) _ NamesNone (λ h. refl)
+    (λ h. cond_both (b == exclamation_mark && slice_index text (at + 1) == left_bracket) (Token 0 2 MaybeImage) _ NamesNone (λ k. refl)
+    (λ k. cond_both (b == left_bracket) (Token 0 1 MaybeLinkOpen) _ NamesNone (λ l. refl)
+    (λ l. cond_both (b == right_bracket) (Token 0 1 (MaybeLinkClose true)) (Left 1) NamesNone (λ m. refl) (λ m. tt))))
 
 dash_none : (text : List ℕ) (at : ℕ) → NamesNone (dash_piece text at)
 unfolding dash_piece
@@ -83,13 +85,13 @@ special_none : (s : Inline) (at : ℕ) → NamesNone (special_piece s at)
 unfolding special_piece backquote_piece delimiter_piece quote_piece dot_piece
 special_none s at =
     let b = slice_index s.text at in
-    cond_both (b == 92) _ _ NamesNone (λ h. backslash_in_none s.row s.text at)
-    (λ h₁. cond_both (b == 96) _ _ NamesNone (λ h. refl)
+    cond_both (b == backslash) _ _ NamesNone (λ h. backslash_in_none s.row s.text at)
+    (λ h₁. cond_both (b == backquote) _ _ NamesNone (λ h. refl)
     (λ h₂. cond_both (is_delimiter b) _ _ NamesNone (λ h. run_none (run_in s at (run_size s.text at)))
     (λ h₃. cond_both (is_quote b) _ _ NamesNone (λ h. refl)
-    (λ h₄. cond_both (b == 46) _ _ NamesNone
-    (λ h. cond_both (slice_index s.text (at + 1) == 46 && slice_index s.text (at + 2) == 46) (Token 0 3 (SynthesizeChar 0x2026)) (Left 1) NamesNone
-    (λ k. refl) (λ k. tt))
+    (λ h₄. cond_both (b == full_stop) _ _ NamesNone
+    (λ h. cond_both (slice_index s.text (at + 1) == full_stop && slice_index s.text (at + 2) == full_stop) (Token 0 3 (SynthesizeChar 0x2026))
+    (Left 1) NamesNone (λ k. refl) (λ k. tt))
     (λ h₅. bracket_none s.text at)))))
 
 reference_none : (o : Option (ℕ × ℕ)) → ReadyNamesNone (option_map_or (λ (e : ℕ × ℕ). Reference e.0 e.1) o (Ready (Left 1)))
@@ -101,13 +103,13 @@ unfolding found_at special_found reference_found dash_found dollar_found
 found_none s at =
     let b = slice_index s.text at in
     cond_both (is_special s.options b) (special_found s at) (Ready (Left 1)) ReadyNamesNone
-    (λ h. cond_both (b == 38) (reference_found s.text at) _ ReadyNamesNone (λ h. reference_none _)
-    (λ h₁. cond_both (b == 45) (dash_found s.text at) _ ReadyNamesNone
+    (λ h. cond_both (b == ampersand) (reference_found s.text at) _ ReadyNamesNone (λ h. reference_none _)
+    (λ h₁. cond_both (b == hyphen) (dash_found s.text at) _ ReadyNamesNone
     (λ h. cond_both (nat_lt 3 (run_at s.text at)) (Dashes (run_at s.text at)) (Ready (dash_piece s.text at)) ReadyNamesNone (λ k. tt)
     (λ k. dash_none s.text at))
-    (λ h₂. cond_both (b == 36) (dollar_found s at) _ ReadyNamesNone (λ h. tt)
-    (λ h₃. cond_both (b == 123) OpenBrace _ ReadyNamesNone (λ h. tt)
-    (λ h₄. cond_both (b == 125) CloseBrace _ ReadyNamesNone (λ h. tt) (λ h₅. special_none s at))))))
+    (λ h₂. cond_both (b == dollar_sign) (dollar_found s at) _ ReadyNamesNone (λ h. tt)
+    (λ h₃. cond_both (b == left_brace) OpenBrace _ ReadyNamesNone (λ h. tt)
+    (λ h₄. cond_both (b == right_brace) CloseBrace _ ReadyNamesNone (λ h. tt) (λ h₅. special_none s at))))))
     (λ h. tt)
 
 module _ (texts others : List CowStr) where

@@ -8,6 +8,7 @@ use Rattle.std.proofs.lemmas.List.{get_or-drop, get_or_past, drop-drop, at_drop_
 use Rattle.std.proofs.lemmas.List.Sums.{suffix_len-le-length, suffix_len-take_yes, suffix_len-take_no, prefix_len_is, prefix_len_stops}
 use Rattle.std.proofs.lemmas.Bool.{false≢true, cases_lt, cases_Bool, cond_both, cond-true, cond-false, eqb-true, or_parts, or_cases, and_parts, and_cases}
 use Rattle.std.proofs.lemmas.Bool.{lt-leb, le-leb, leb-false, leb-true, not_from_true, not_from_false}
+use Rattle.first_pass_items.specs.Bytes.{line_feed, carriage_return, backslash, pipe}
 use Rattle.first_pass_items.specs.OptionWords.{has, tables}
 use Rattle.first_pass_items.specs.declared.item.Item.{Item}
 use Rattle.first_pass_tree.specs.Forest.{Forest}
@@ -60,12 +61,12 @@ pub not_ended : (s : Inline) (at : ℕ) → content_ends_at s at ≡ false → (
 not_ended s at on = (let h = not_ended_cell s at on in (h.0, h.1))
 
 -- with tables, there is no pipe at such a place in a row
-pub not_ended_pipe : (s : Inline) (at : ℕ) → s.row ≡ true → has s.options tables ≡ true → content_ends_at s at ≡ false → (slice_index s.text at == 124) ≡ false
+pub not_ended_pipe : (s : Inline) (at : ℕ) → s.row ≡ true → has s.options tables ≡ true → content_ends_at s at ≡ false → (slice_index s.text at == pipe) ≡ false
 not_ended_pipe s at row on runs =
     let b = slice_index s.text at in
-    elim (and_cases s.row (has s.options tables && b == 124) (not_ended_cell s at runs).2) [
+    elim (and_cases s.row (has s.options tables && b == pipe) (not_ended_cell s at runs).2) [
       | inl plain ↦ absurd (false≢true (sym plain ∙ row))
-      | inr rest ↦ elim (and_cases (has s.options tables) (b == 124) rest) [ inl off ↦ absurd (false≢true (sym off ∙ on)) | inr other ↦ other ]
+      | inr rest ↦ elim (and_cases (has s.options tables) (b == pipe) rest) [ inl off ↦ absurd (false≢true (sym off ∙ on)) | inr other ↦ other ]
     ]
 
 -- the piece at a place of a content
@@ -152,18 +153,20 @@ line_ended_by s end plain h =
     ]
 
 -- the line ending in the rest of a text
-end_here : (b : ℕ) (bs : List ℕ) → is_line_end b ≡ true → unwrap_or (eol_len (b ∷ bs)) 0 ≡ (if b == 13 && begins 10 bs then 2 else 1)
+end_here : (b : ℕ) (bs : List ℕ) → is_line_end b ≡ true → unwrap_or (eol_len (b ∷ bs)) 0 ≡ (if b == carriage_return && begins line_feed bs then 2 else 1)
 end_here b bs line =
-    elim (or_cases (b == 10) (b == 13) line) [
-      | inl lf ↦ subst (λ (x : ℕ). unwrap_or (eol_len (x ∷ bs)) 0 ≡ (if x == 13 && begins 10 bs then 2 else 1)) (sym (eqb-true b 10 lf)) refl
-      | inr cr ↦ subst (λ (x : ℕ). unwrap_or (eol_len (x ∷ bs)) 0 ≡ (if x == 13 && begins 10 bs then 2 else 1)) (sym (eqb-true b 13 cr)) refl
+    elim (or_cases (b == line_feed) (b == carriage_return) line) [
+      | inl lf ↦ subst (λ (x : ℕ). unwrap_or (eol_len (x ∷ bs)) 0 ≡ (if x == carriage_return && begins line_feed bs then 2 else 1))
+          (sym (eqb-true b line_feed lf)) refl
+      | inr cr ↦ subst (λ (x : ℕ). unwrap_or (eol_len (x ∷ bs)) 0 ≡ (if x == carriage_return && begins line_feed bs then 2 else 1))
+          (sym (eqb-true b carriage_return cr)) refl
     ]
 
-begins_drop : (text : List ℕ) (at : ℕ) → begins 10 (drop at text) ≡ (slice_index text at == 10)
+begins_drop : (text : List ℕ) (at : ℕ) → begins line_feed (drop at text) ≡ (slice_index text at == line_feed)
 begins_drop text at =
     elim (cases_lt at (length text)) [
-      | inl within ↦ at_drop_more (begins 10) text at 0 within
-      | inr past ↦ at_drop_all (begins 10) text at past ∙ ap (λ (b : ℕ). b == 10) (sym (get_or_past text at 0 past))
+      | inl within ↦ at_drop_more (begins line_feed) text at 0 within
+      | inr past ↦ at_drop_all (begins line_feed) text at past ∙ ap (λ (b : ℕ). b == line_feed) (sym (get_or_past text at 0 past))
     ]
 
 line_end_at : (s : Inline) (end : ℕ) → s.row ≡ false → content_ends_at s end ≡ true → unwrap_or (eol_len (drop end s.text)) 0 ≡ line_end_len s end
@@ -176,7 +179,7 @@ line_end_at s end plain h =
             | inl past ↦ absurd (omega arith)
             | inr line ↦
                 at_drop_more (λ (bs : List ℕ). unwrap_or (eol_len bs) 0) s.text end 0 within ∙ end_here b (drop (end + 1) s.text) line
-                ∙ ap (λ (next : Bool). if b == 13 && next then 2 else 1) (begins_drop s.text (end + 1))
+                ∙ ap (λ (next : Bool). if b == carriage_return && next then 2 else 1) (begins_drop s.text (end + 1))
                 ∙ sym (cond-false _ _ _ (lt-leb (length s.text) end within))
           ]
       | inr past ↦ at_drop_all (λ (bs : List ℕ). unwrap_or (eol_len bs) 0) s.text end past ∙ sym (cond-true _ _ _ (le-leb (length s.text) end past))
@@ -215,11 +218,11 @@ unfolding line_end_len
 line_end_fits s end within =
     cond_both (nat_le (length s.text) end) 0 _ (λ (n : ℕ). end + n ≤ length s.text) (λ b. omega arith)
     (λ b. let inside = leb-false (length s.text) end b in
-    cond_both (slice_index s.text end == 13 && slice_index s.text (end + 1) == 10) 2 1 (λ (n : ℕ). end + n ≤ length s.text)
+    cond_both (slice_index s.text end == carriage_return && slice_index s.text (end + 1) == line_feed) 2 1 (λ (n : ℕ). end + n ≤ length s.text)
     (λ two. elim (cases_lt (end + 1) (length s.text)) [
       | inl more ↦ omega arith
-      | inr past ↦ absurd (false≢true (ap (λ (x : ℕ). x == 10) (sym (get_or_past s.text (end + 1) 0 past))
-          ∙ (and_parts (slice_index s.text end == 13) (slice_index s.text (end + 1) == 10) two).1))
+      | inr past ↦ absurd (false≢true (ap (λ (x : ℕ). x == line_feed) (sym (get_or_past s.text (end + 1) 0 past))
+          ∙ (and_parts (slice_index s.text end == carriage_return) (slice_index s.text (end + 1) == line_feed) two).1))
     ])
     (λ one. omega arith))
 
@@ -227,7 +230,8 @@ line_end_some : (s : Inline) (end : ℕ) → end < length s.text → 0 < line_en
 unfolding line_end_len
 line_end_some s end within =
     cond_both (nat_le (length s.text) end) 0 _ (λ (n : ℕ). 0 < n) (λ b. let past = leb-true (length s.text) end b in absurd (omega arith))
-    (λ b. cond_both (slice_index s.text end == 13 && slice_index s.text (end + 1) == 10) 2 1 (λ (n : ℕ). 0 < n) (λ two. omega arith) (λ one. omega arith))
+    (λ b. cond_both (slice_index s.text end == carriage_return && slice_index s.text (end + 1) == line_feed) 2 1 (λ (n : ℕ). 0 < n) (λ two. omega arith)
+    (λ one. omega arith))
 
 -- a bound on the number of bytes that pass a test at the end of the first bytes of a list, if one fails or there are
 -- no more
@@ -280,8 +284,8 @@ break_in_line s end order within =
     let next = end + line_end_len s end in
     let white : suffix_len is_white (slice_range s.text s.start end) ≤ end - s.start =
     end_bounded is_white s.text s.start s.start end (omega arith) order within (inl refl) in
-    let slashes : suffix_len (λ b. b == 92) (slice_range s.text s.start end) ≤ end - s.start =
-    end_bounded (λ b. b == 92) s.text s.start s.start end (omega arith) order within (inl refl) in
+    let slashes : suffix_len (λ b. b == backslash) (slice_range s.text s.start end) ≤ end - s.start =
+    end_bounded (λ b. b == backslash) s.text s.start s.start end (omega arith) order within (inl refl) in
     cond_both (nat_le (length s.text) end) None _ (λ (o : Option Item). IfSome o (λ x. IsBreak s.start next x)) (λ b. tt)
     (λ b. let some = line_end_some s end (leb-false (length s.text) end b) in
     cond_both (breaks_by_backslash s end) _ _ (λ (x : Item). IsBreak s.start next x)

@@ -2,6 +2,7 @@
 use Rattle.std.proofs.Common.{◌≡◌, ℕ, ◌+◌, ◌-◌, ◌≤◌, ◌==◌, ◌&&◌, Bool, true, false, nat_lt, min, List, [], ◌∷◌, Option, slice_index, sym, ap, subst, ◌∙◌, inl}
 use Rattle.std.proofs.Common.{inr, refl, arith, zero, suc, ◌<◌}
 use Rattle.std.proofs.lemmas.Bool.{cases_lt, cond_both, and_parts, eqb-true, false≢true}
+use Rattle.first_pass_items.specs.Bytes.{backquote}
 use Rattle.first_pass_items.specs.declared.cow_str.CowStr.{CowStr}
 use Rattle.first_pass_tokens.specs.Braces.{MathBraces, braces_after}
 use Rattle.first_pass_items.specs.declared.item.Item.{Item}
@@ -114,14 +115,14 @@ spare_run text at (suc n) opens closes chain h =
     spare_run text (at + 1) n opens closes (add_token chain x) (spare_add text chain x (λ is. absurd (false≢true is)) h)
 
 -- a single byte
-spare_byte : (text : List ℕ) (at to : ℕ) → to ≤ at + 1 → (slice_index text at == 96) ≡ false → HasNoBackquote text at to
-spare_byte text at to short other k low high = (let same : k ≡ at = omega arith in ap (λ (x : ℕ). slice_index text x == 96) same ∙ other)
+spare_byte : (text : List ℕ) (at to : ℕ) → to ≤ at + 1 → (slice_index text at == backquote) ≡ false → HasNoBackquote text at to
+spare_byte text at to short other k low high = (let same : k ≡ at = omega arith in ap (λ (x : ℕ). slice_index text x == backquote) same ∙ other)
 
 -- the tokens of a piece are appended
 spare_piece : (text : List ℕ) (stop at : ℕ) (p : Piece) (chain : List Item) → IsPieceAt text at p → TextsHaveNoBackquote text chain
     → TextsHaveNoBackquote text (add_piece stop at p chain)
 spare_piece text stop at (Left n) chain facts h =
-    spare_text text at (min (at + n) stop) false chain (λ k low high. ap (λ (x : ℕ). x == 96) (facts.same k low (omega arith)) ∙ facts.other) h
+    spare_text text at (min (at + n) stop) false chain (λ k low high. ap (λ (x : ℕ). x == backquote) (facts.same k low (omega arith)) ∙ facts.other) h
 spare_piece text stop at (Run n opens closes) chain facts h = spare_run text at n opens closes chain h
 spare_piece text stop at (Begins dropped escaped) chain facts h =
     let to = min (at + (dropped + 1)) stop in

@@ -9,6 +9,7 @@ use Rattle.std.proofs.lemmas.List.Sums.{suffix_len-le-length, suffix_len-take_ye
 use Rattle.std.proofs.lemmas.Str.{IsCharBoundary-after_ascii, IsCharBoundary-before_ascii, IsCharBoundary-end}
 use Rattle.std.proofs.lemmas.Bool.{cases_lt, cases_Bool, cond_both, eqb-true, and_parts, false≢true}
 use Rattle.std.proofs.lemmas.Bool.Decides.{nat_tests}
+use Rattle.first_pass_items.specs.Bytes.{backslash, pipe, ascii_end}
 use Rattle.first_pass_items.specs.OptionWords.{has, tables}
 use Rattle.first_pass_items.specs.declared.cow_str.CowStr.{CowStr}
 use Rattle.first_pass_tokens.specs.Braces.{MathBraces, braces_after}
@@ -119,9 +120,9 @@ module _ (s : Inline) (utf8 : IsUtf8 s.text) (stop : ℕ) (to : Spot) (from : �
       let here = place_before at (facts.bytes at (omega arith) (omega arith)) in
       let following = place_before (at + dropped) (facts.bytes (at + dropped) (omega arith) (omega arith)) in
       let reach = pieces_reach texts s (at + (dropped + 1)) (braces_after (found_at s at) b) ps to pieces.2 in
-      let backslash = facts.backslashes (at + dropped - 1) (omega (arith, facts.some)) (omega (arith, facts.some)) in
+      let is_backslash = facts.backslashes (at + dropped - 1) (omega (arith, facts.some)) (omega (arith, facts.some)) in
       let before : at + dropped ≤ stop = last_text.following (at + dropped) (omega arith) (omega arith)
-      (inr (omega (arith, facts.some), ap is_white backslash, inl (omega arith))) in
+      (inr (omega (arith, facts.some), ap is_white is_backslash, inl (omega arith))) in
       let cut : min at stop ≡ at = omega arith in
       pieces_in_order texts (at + (dropped + 1)) (braces_after (found_at s at) b) ps (at + dropped) mark_next
       (add_text begin (min at stop) escaped chain) pieces.2
@@ -154,7 +155,7 @@ module _ (s : Inline) (utf8 : IsUtf8 s.text) (stop : ℕ) (to : Spot) (from : �
       (inr (
         omega (arith, facts.some),
         visible_solid (slice_index s.text (at + n - 1)) byte,
-        inr (ap (λ (b : ℕ). b == 92) same ∙ (delimiter_other _ facts.delimiter).0),
+        inr (ap (λ (b : ℕ). b == backslash) same ∙ (delimiter_other _ facts.delimiter).0),
       )) in
       let here = place_before at (facts.bytes at (omega arith) (omega (arith, facts.some))) in
       let last = place_past (at + n) (omega (arith, facts.some)) byte in
@@ -217,13 +218,13 @@ content_last p text start end order within some =
     let place : start + (end - start - 1) ≡ end - 1 = omega (arith, f.0) in
     (omega (arith, f.0), omega (arith, f.0), ap p (sym (get_or-drop start text (end - start - 1) 0 ∙ ap (slice_index text) place)) ∙ f.1)
 
-line_end_small : (b : ℕ) → is_line_end b ≡ true → b < 128
+line_end_small : (b : ℕ) → is_line_end b ≡ true → b < ascii_end
 line_end_small b h = grind (arith, nat_tests, h)
 
-cell_end_small : (s : Inline) (b : ℕ) → ends_cell s b ≡ true → b < 128
-cell_end_small s b h = (let pipe = eqb-true b 124 (and_parts (has s.options tables) (b == 124) (and_parts s.row _ h).1).1 in omega arith)
+cell_end_small : (s : Inline) (b : ℕ) → ends_cell s b ≡ true → b < ascii_end
+cell_end_small s b h = (let is_pipe = eqb-true b pipe (and_parts (has s.options tables) (b == pipe) (and_parts s.row _ h).1).1 in omega arith)
 
-white_small : (b : ℕ) → is_white b ≡ true → b < 128
+white_small : (b : ℕ) → is_white b ≡ true → b < ascii_end
 white_small b h = grind (arith, nat_tests, h)
 
 -- a place between two characters, in the content from an offset on
@@ -244,13 +245,13 @@ content_boundary s end within ended =
 
 -- the last byte of a content that ends with a backslash
 backslash_last : (s : Inline) (end : ℕ)
-    → s.start ≤ end → end ≤ length s.text → breaks_by_backslash s end ≡ true → (s.start ≤ end - 1) × (0 < end) × (slice_index s.text (end - 1) ≡ 92)
+    → s.start ≤ end → end ≤ length s.text → breaks_by_backslash s end ≡ true → (s.start ≤ end - 1) × (0 < end) × (slice_index s.text (end - 1) ≡ backslash)
 unfolding breaks_by_backslash backslashes_at_end
 backslash_last s end order within breaks =
     let odd =
     eqb-true (backslashes_at_end s end % 2) 1 (and_parts (backslashes_at_end s end % 2 == 1) (nat_lt (end + line_end_len s end) (length s.text)) breaks).0 in
-    let last = content_last (λ b. b == 92) s.text s.start end order within (omega arith) in
-    (last.0, last.1, eqb-true (slice_index s.text (end - 1)) 92 last.2)
+    let last = content_last (λ b. b == backslash) s.text s.start end order within (omega arith) in
+    (last.0, last.1, eqb-true (slice_index s.text (end - 1)) backslash last.2)
 
 blanks_by : (s : Inline) (end n : ℕ)
     → n ≡ blanks_at_end s end → s.start ≤ end → end ≤ length s.text → IsCharBoundary s.text end → IsPlaceFrom s.text s.start (end - n)
@@ -279,7 +280,7 @@ pub record StandsAfter (text : List ℕ) (at next : ℕ) (x : Item) : Type 0 whe
   pub to : x.«end» ≡ next
   pub starts : IsCharBoundary text x.start
   pub ends : IsCharBoundary text x.«end»
-  pub backslash : is_backslash_break x.body ≡ true → (x.start + 1 ≤ next) × IsCharBoundary text (x.start + 1)
+  pub by_backslash : is_backslash_break x.body ≡ true → (x.start + 1 ≤ next) × IsCharBoundary text (x.start + 1)
 
 break_by : (s : Inline) (end next : ℕ) (breaks : Bool)
     → breaks_by_backslash s end ≡ breaks → s.start ≤ end → end ≤ length s.text → end ≤ next → IsCharBoundary s.text end → IsCharBoundary s.text next
@@ -294,12 +295,12 @@ break_by s end next true is order within later boundary ends starts =
       to = refl;
       starts = starts;
       ends = ends;
-      backslash = λ b. (omega arith, rw following boundary);
+      by_backslash = λ b. (omega arith, rw following boundary);
     }
 break_by s end next false is order within later boundary ends starts =
     cond_both (nat_le 2 (blanks_at_end s end)) _ _ (StandsAfter s.text (end - blanks_at_end s end) next)
-    (λ hard. record { from = omega arith; order = omega arith; to = refl; starts = starts; ends = ends; backslash = λ b. absurd (false≢true b) })
-    (λ soft. record { from = omega arith; order = later; to = refl; starts = boundary; ends = ends; backslash = λ b. absurd (false≢true b) })
+    (λ hard. record { from = omega arith; order = omega arith; to = refl; starts = starts; ends = ends; by_backslash = λ b. absurd (false≢true b) })
+    (λ soft. record { from = omega arith; order = later; to = refl; starts = boundary; ends = ends; by_backslash = λ b. absurd (false≢true b) })
 
 break_stands : (s : Inline) (end next : ℕ) → next ≡ end + line_end_len s end → s.start ≤ end → end ≤ length s.text → IsCharBoundary s.text end
     → IsCharBoundary s.text next → IfSome (line_break s end) (StandsAfter s.text (text_end s end) next)
@@ -384,7 +385,7 @@ pub order_closed : (text : List ℕ) (from at next : ℕ) (break : Option Item) 
 order_closed text from at next None chain h later following = order_to text from at next chain h later
 order_closed text from at next (Some x) chain h later following =
     cond_both (is_backslash_break x.body) (add_text x.start (x.start + 1) false chain) chain (AreInOrder text from next)
-    (λ b. let shown = following.backslash b in
+    (λ b. let shown = following.by_backslash b in
     order_to text from (x.start + 1) next (add_text x.start (x.start + 1) false chain)
     (order_text text from at x.start (x.start + 1) false chain h following.from (omega arith) following.starts shown.1) shown.0)
     (λ b. order_to text from at next chain h later)

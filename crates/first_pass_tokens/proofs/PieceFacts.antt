@@ -9,6 +9,8 @@ use Rattle.std.proofs.lemmas.List.{get_or-drop, get_or_past}
 use Rattle.std.proofs.lemmas.List.Sums.{prefix_len_passes, prefix_len_stops, prefix_len_is, prefix_len-le-length}
 use Rattle.std.proofs.lemmas.Bool.{cases_lt, cases_Bool, cond_both, cond-false, and_parts, eqb-true, eq-eqb, ltb-true, ne_eqb, false≢true}
 use Rattle.std.proofs.lemmas.Bool.Decides.{nat_tests}
+use Rattle.first_pass_items.specs.Bytes.{exclamation_mark, dollar_sign, ampersand, hyphen, full_stop, less_than, left_bracket, backslash, right_bracket}
+use Rattle.first_pass_items.specs.Bytes.{backquote, left_brace, pipe, right_brace}
 use Rattle.first_pass_items.specs.declared.cow_str.CowStr.{CowStr}
 use Rattle.first_pass_items.specs.declared.item.CowIndex.{CowIndex}
 use Rattle.first_pass_items.specs.declared.item.ItemBody.{ItemBody}
@@ -68,16 +70,16 @@ markup_unescaped _ h = refl
 pub record IsEscape (text : List ℕ) (at dropped : ℕ) : Type 0 where
   pub some : 0 < dropped
   pub bytes : AreVisible text at (dropped + 1)
-  pub backslashes : (k : ℕ) → at ≤ k → k < at + dropped → slice_index text k ≡ 92
+  pub backslashes : (k : ℕ) → at ≤ k → k < at + dropped → slice_index text k ≡ backslash
   pub punctuation : is_ascii_punctuation (slice_index text (at + dropped)) ≡ true
-  pub other : (slice_index text (at + dropped) == 96) ≡ false
+  pub other : (slice_index text (at + dropped) == backquote) ≡ false
 
 -- the bytes of a token, after those that are dropped
 pub record IsMarkup (text : List ℕ) (at dropped n : ℕ) (body : ItemBody) : Type 0 where
   pub some : 0 < n
   pub bound : dropped ≤ 1
   pub bytes : AreVisible text at (dropped + n)
-  pub last : (slice_index text (at + dropped + n - 1) == 92) ≡ false
+  pub last : (slice_index text (at + dropped + n - 1) == backslash) ≡ false
   pub kind : is_markup body ≡ true
   pub over : StandsOver text (at + dropped) (at + dropped + n) body
 
@@ -86,7 +88,7 @@ pub record IsLeft (text : List ℕ) (at n : ℕ) : Type 0 where
   pub some : 0 < n
   pub fits : at + n ≤ length text
   pub same : (k : ℕ) → at ≤ k → k < at + n → slice_index text k ≡ slice_index text at
-  pub other : (slice_index text at == 96) ≡ false
+  pub other : (slice_index text at == backquote) ≡ false
 
 -- a run of delimiters
 pub record IsDelimiterRun (text : List ℕ) (at n : ℕ) : Type 0 where
@@ -107,7 +109,7 @@ IsPieceAt text at (Token dropped n body) = IsMarkup text at dropped n body
 pub delimiter_visible : (b : ℕ) → is_delimiter b ≡ true → IsVisible b
 delimiter_visible b h = (grind (arith, nat_tests, h), grind (arith, nat_tests, h))
 
-pub delimiter_other : (b : ℕ) → is_delimiter b ≡ true → ((b == 92) ≡ false) × ((b == 96) ≡ false) × ((b == 124) ≡ false)
+pub delimiter_other : (b : ℕ) → is_delimiter b ≡ true → ((b == backslash) ≡ false) × ((b == backquote) ≡ false) × ((b == pipe) ≡ false)
 delimiter_other b h = (grind (arith, nat_tests, h), grind (arith, nat_tests, h), grind (arith, nat_tests, h))
 
 punctuation_visible : (b : ℕ) → is_ascii_punctuation b ≡ true → IsVisible b
@@ -134,10 +136,10 @@ module _ (text : List ℕ) (at : ℕ) where
       ]
 
   -- one backslash, and two
-  one_backslash : slice_index text at ≡ 92 → (k : ℕ) → at ≤ k → k < at + 1 → slice_index text k ≡ 92
+  one_backslash : slice_index text at ≡ backslash → (k : ℕ) → at ≤ k → k < at + 1 → slice_index text k ≡ backslash
   one_backslash is k low high = (let same : k ≡ at = omega arith in ap (slice_index text) same ∙ is)
 
-  two_backslashes : slice_index text at ≡ 92 → slice_index text (at + 1) ≡ 92 → (k : ℕ) → at ≤ k → k < at + 2 → slice_index text k ≡ 92
+  two_backslashes : slice_index text at ≡ backslash → slice_index text (at + 1) ≡ backslash → (k : ℕ) → at ≤ k → k < at + 2 → slice_index text k ≡ backslash
   two_backslashes is next k low high =
       elim (cases_lt k (at + 1)) [
         | inl first ↦ one_backslash is k low first
@@ -172,7 +174,7 @@ module _ (text : List ℕ) (at : ℕ) where
   run_visible here k low high = subst IsVisible (sym (run_same k low high)) here
 
   -- one byte of plain text
-  one_left : at < length text → (slice_index text at == 96) ≡ false → IsLeft text at 1
+  one_left : at < length text → (slice_index text at == backquote) ≡ false → IsLeft text at 1
   one_left within other = record {
     some = omega arith;
     fits = omega arith;
@@ -207,44 +209,44 @@ module _ (text : List ℕ) (at : ℕ) where
       })
 
   -- a token of one byte
-  one_byte : (b : ℕ) (body : ItemBody) → slice_index text at ≡ b → IsVisible b → (b == 92) ≡ false → is_markup body ≡ true
+  one_byte : (b : ℕ) (body : ItemBody) → slice_index text at ≡ b → IsVisible b → (b == backslash) ≡ false → is_markup body ≡ true
       → StandsOver text at (at + 1) body → IsMarkup text at 0 1 body
   one_byte b body is visible other kind over = record {
     some = omega arith;
     bound = omega arith;
     bytes = one_visible (subst IsVisible (sym is) visible);
-    last = let place : at + 0 + 1 - 1 ≡ at = omega arith in ap (λ (k : ℕ). slice_index text k == 92) place ∙ ap (λ (x : ℕ). x == 92) is ∙ other;
+    last = let place : at + 0 + 1 - 1 ≡ at = omega arith in ap (λ (k : ℕ). slice_index text k == backslash) place ∙ ap (λ (x : ℕ). x == backslash) is ∙ other;
     kind = kind;
     over = let place : at ≡ at + 0 = omega arith in subst (λ (x : ℕ). StandsOver text x (x + 1) body) place over;
   }
 
   -- the token of an image
-  image_facts : slice_index text at ≡ 33 → slice_index text (at + 1) ≡ 91 → IsMarkup text at 0 2 MaybeImage
+  image_facts : slice_index text at ≡ exclamation_mark → slice_index text (at + 1) ≡ left_bracket → IsMarkup text at 0 2 MaybeImage
   image_facts is next = record {
     some = omega arith;
     bound = omega arith;
     bytes = two_visible (omega (arith, is), omega (arith, is)) (omega (arith, next), omega (arith, next));
-    last = let place : at + 0 + 2 - 1 ≡ at + 1 = omega arith in ap (λ (k : ℕ). slice_index text k == 92) place ∙ ap (λ (x : ℕ). x == 92) next;
+    last = let place : at + 0 + 2 - 1 ≡ at + 1 = omega arith in ap (λ (k : ℕ). slice_index text k == backslash) place ∙ ap (λ (x : ℕ). x == backslash) next;
     kind = refl;
     over = let place : at ≡ at + 0 = omega arith in subst (λ (x : ℕ). StandsOver text x (x + 2) MaybeImage) place (refl, is, next);
   }
 
   -- a run of backquotes
-  backquotes : slice_index text at ≡ 96 → 0 < run_at text at → AreBackquotes text at (run_at text at)
+  backquotes : slice_index text at ≡ backquote → 0 < run_at text at → AreBackquotes text at (run_at text at)
   backquotes is some = record {
     some = some;
     each = λ k low high. run_same k low high ∙ is;
     following = ap (λ (b : ℕ). slice_index text (at + run_at text at) == b) (sym is) ∙ run_stops (omega (arith, is));
   }
 
-  run_facts : slice_index text at ≡ 96 → 0 < run_at text at → (n : ℕ) → n ≡ run_at text at → IsMarkup text at 0 n (MaybeCode n false)
+  run_facts : slice_index text at ≡ backquote → 0 < run_at text at → (n : ℕ) → n ≡ run_at text at → IsMarkup text at 0 n (MaybeCode n false)
   run_facts is some n same = record {
     some = omega arith;
     bound = omega arith;
     bytes = λ k low high. run_visible (omega (arith, is), omega (arith, is)) k low (omega arith);
     last =
         let place = run_same (at + 0 + n - 1) (omega arith) (omega arith) in
-        ap (λ (x : ℕ). x == 92) (place ∙ is);
+        ap (λ (x : ℕ). x == backslash) (place ∙ is);
     kind = refl;
     over =
         let place : at ≡ at + 0 = omega arith in
@@ -313,18 +315,18 @@ visible_fits text at n some bytes =
     omega arith
 
 module _ (text : List ℕ) (at : ℕ) (within : at < length text) where
-  backquote_facts : slice_index text at ≡ 96 → IsPieceAt text at (backquote_piece text at)
+  backquote_facts : slice_index text at ≡ backquote → IsPieceAt text at (backquote_piece text at)
   unfolding backquote_piece
   backquote_facts is = run_facts text at is (run_some text at within) (run_at text at) refl
 
   -- a backslash, and the bytes before which it is dropped
-  backslash_facts : slice_index text at ≡ 92 → IsPieceAt text at (backslash_piece text at)
+  backslash_facts : slice_index text at ≡ backslash → IsPieceAt text at (backslash_piece text at)
   unfolding backslash_piece
   backslash_facts is =
-      cond_both (slice_index text (at + 1) == 96) _ _ (IsPieceAt text at)
-      (λ backquote.
-      let before : slice_index text (at + 1 - 1) ≡ 92 = (let place : at + 1 - 1 ≡ at = omega arith in ap (slice_index text) place ∙ is) in
-      let next = eqb-true (slice_index text (at + 1)) 96 backquote in
+      cond_both (slice_index text (at + 1) == backquote) _ _ (IsPieceAt text at)
+      (λ is_backquote.
+      let before : slice_index text (at + 1 - 1) ≡ backslash = (let place : at + 1 - 1 ≡ at = omega arith in ap (slice_index text) place ∙ is) in
+      let next = eqb-true (slice_index text (at + 1)) backquote is_backquote in
       let run = run_facts text (at + 1) next (run_some text (at + 1) (at_byte text (at + 1) (omega arith))) (run_at text (at + 1)) refl in
       record {
         some = run.some;
@@ -335,7 +337,7 @@ module _ (text : List ℕ) (at : ℕ) (within : at < length text) where
         ];
         last =
             let place : at + 1 + run_at text (at + 1) - 1 ≡ at + 1 + 0 + run_at text (at + 1) - 1 = omega arith in
-            ap (λ (k : ℕ). slice_index text k == 92) place ∙ run.last;
+            ap (λ (k : ℕ). slice_index text k == backslash) place ∙ run.last;
         kind = refl;
         over = (refl, backquotes text (at + 1) next (run_some text (at + 1) (at_byte text (at + 1) (omega arith))), λ h. before);
       })
@@ -347,58 +349,58 @@ module _ (text : List ℕ) (at : ℕ) (within : at < length text) where
         punctuation = punctuation;
         other = other;
       })
-      (λ left. one_left text at within (ap (λ (x : ℕ). x == 96) is)))
+      (λ left. one_left text at within (ap (λ (x : ℕ). x == backquote) is)))
 
   -- in a row it is dropped before a pipe, and so are two of them
-  backslash_in_facts : (row : Bool) → slice_index text at ≡ 92 → IsPieceAt text at (backslash_piece_in row text at)
+  backslash_in_facts : (row : Bool) → slice_index text at ≡ backslash → IsPieceAt text at (backslash_piece_in row text at)
   backslash_in_facts false is = backslash_facts is
   backslash_in_facts true is =
       let holds : Option Piece → Type 0 = λ o. IsPieceAt text at (unwrap_or o (backslash_piece text at)) in
-      cond_both (slice_index text (at + 1) == 124) _ _ holds
-      (λ h. let pipe = eqb-true (slice_index text (at + 1)) 124 h in
+      cond_both (slice_index text (at + 1) == pipe) _ _ holds
+      (λ h. let is_pipe = eqb-true (slice_index text (at + 1)) pipe h in
       record {
         some = omega arith;
-        bytes = two_visible text at (omega (arith, is), omega (arith, is)) (omega (arith, pipe), omega (arith, pipe));
+        bytes = two_visible text at (omega (arith, is), omega (arith, is)) (omega (arith, is_pipe), omega (arith, is_pipe));
         backslashes = one_backslash text at is;
-        punctuation = ap is_ascii_punctuation pipe;
-        other = ap (λ (x : ℕ). x == 96) pipe;
+        punctuation = ap is_ascii_punctuation is_pipe;
+        other = ap (λ (x : ℕ). x == backquote) is_pipe;
       })
-      (λ other. cond_both (slice_index text (at + 1) == 92 && slice_index text (at + 2) == 124) _ _ holds
-      (λ h. let both = and_parts (slice_index text (at + 1) == 92) (slice_index text (at + 2) == 124) h in
-      let next = eqb-true (slice_index text (at + 1)) 92 both.0 in
-      let pipe = eqb-true (slice_index text (at + 2)) 124 both.1 in
+      (λ other. cond_both (slice_index text (at + 1) == backslash && slice_index text (at + 2) == pipe) _ _ holds
+      (λ h. let both = and_parts (slice_index text (at + 1) == backslash) (slice_index text (at + 2) == pipe) h in
+      let next = eqb-true (slice_index text (at + 1)) backslash both.0 in
+      let is_pipe = eqb-true (slice_index text (at + 2)) pipe both.1 in
       record {
         some = omega arith;
         bytes = three_visible text at (omega (arith, is), omega (arith, is)) (omega (arith, next), omega (arith, next))
-            (omega (arith, pipe), omega (arith, pipe));
+            (omega (arith, is_pipe), omega (arith, is_pipe));
         backslashes = two_backslashes text at is next;
-        punctuation = ap is_ascii_punctuation pipe;
-        other = ap (λ (x : ℕ). x == 96) pipe;
+        punctuation = ap is_ascii_punctuation is_pipe;
+        other = ap (λ (x : ℕ). x == backquote) is_pipe;
       })
       (λ none. backslash_facts is))
 
   -- the piece at a byte that may open or close a link, an image or HTML
-  bracket_facts : (slice_index text at == 96) ≡ false → IsPieceAt text at (bracket_piece text at)
+  bracket_facts : (slice_index text at == backquote) ≡ false → IsPieceAt text at (bracket_piece text at)
   unfolding bracket_piece
   bracket_facts h₂ =
       let holds : Piece → Type 0 = IsPieceAt text at in
       let b = slice_index text at in
-      cond_both (b == 60 && not (slice_index text (at + 1) == 92)) _ _ holds
-      (λ h. let is = eqb-true b 60 (and_parts (b == 60) _ h).0 in
-      one_byte text at 60 MaybeHtml is (omega arith, omega arith) refl refl (refl, is))
-      (λ h₃. cond_both (b == 33 && slice_index text (at + 1) == 91) _ _ holds
-      (λ h. let both = and_parts (b == 33) (slice_index text (at + 1) == 91) h in
-      image_facts text at (eqb-true b 33 both.0) (eqb-true (slice_index text (at + 1)) 91 both.1))
-      (λ h₄. cond_both (b == 91) _ _ holds
-      (λ h. one_byte text at 91 MaybeLinkOpen (eqb-true b 91 h) (omega arith, omega arith) refl refl (refl, eqb-true b 91 h))
-      (λ h₅. cond_both (b == 93) _ _ holds
-      (λ h. one_byte text at 93 (MaybeLinkClose true) (eqb-true b 93 h) (omega arith, omega arith) refl refl (refl, eqb-true b 93 h, refl))
-      (λ h₆. one_left text at within h₂))))
+      cond_both (b == less_than && not (slice_index text (at + 1) == backslash)) _ _ holds
+      (λ h. let is = eqb-true b less_than (and_parts (b == less_than) _ h).0 in
+      one_byte text at less_than MaybeHtml is (omega arith, omega arith) refl refl (refl, is))
+      (λ h₃. cond_both (b == exclamation_mark && slice_index text (at + 1) == left_bracket) _ _ holds
+      (λ h. let both = and_parts (b == exclamation_mark) (slice_index text (at + 1) == left_bracket) h in
+      image_facts text at (eqb-true b exclamation_mark both.0) (eqb-true (slice_index text (at + 1)) left_bracket both.1))
+      (λ h₄. cond_both (b == left_bracket) _ _ holds
+      (λ h. one_byte text at left_bracket MaybeLinkOpen (eqb-true b left_bracket h) (omega arith, omega arith) refl refl (refl, eqb-true b left_bracket h))
+      (λ h₅. cond_both (b == right_bracket) _ _ holds
+      (λ h. one_byte text at right_bracket (MaybeLinkClose true) (eqb-true b right_bracket h) (omega arith, omega arith) refl refl
+      (refl, eqb-true b right_bracket h, refl)) (λ h₆. one_left text at within h₂))))
 
 quote_visible : (b : ℕ) → is_quote b ≡ true → IsVisible b
 quote_visible b h = (grind (arith, nat_tests, h), grind (arith, nat_tests, h))
 
-pub quote_other : (b : ℕ) → is_quote b ≡ true → ((b == 92) ≡ false) × ((b == 124) ≡ false)
+pub quote_other : (b : ℕ) → is_quote b ≡ true → ((b == backslash) ≡ false) × ((b == pipe) ≡ false)
 quote_other b h = (grind (arith, nat_tests, h), grind (arith, nat_tests, h))
 
 -- the run at a delimiter is no quote
@@ -433,45 +435,45 @@ quote_facts s at within quote =
     one_byte s.text at b (MaybeSmartQuote b _ _) refl (quote_visible b quote) (quote_other b quote).0 refl (refl, refl, quote)
 
 -- the piece at a full stop
-dot_facts : (text : List ℕ) (at : ℕ) → at < length text → slice_index text at ≡ 46 → IsPieceAt text at (dot_piece text at)
+dot_facts : (text : List ℕ) (at : ℕ) → at < length text → slice_index text at ≡ full_stop → IsPieceAt text at (dot_piece text at)
 unfolding dot_piece
 dot_facts text at within is =
-    cond_both (slice_index text (at + 1) == 46 && slice_index text (at + 2) == 46) (Token 0 3 (SynthesizeChar 0x2026)) (Left 1) (IsPieceAt text at)
-    (λ h. let both = and_parts (slice_index text (at + 1) == 46) (slice_index text (at + 2) == 46) h in
-    let next = eqb-true (slice_index text (at + 1)) 46 both.0 in
-    let last = eqb-true (slice_index text (at + 2)) 46 both.1 in
+    cond_both (slice_index text (at + 1) == full_stop && slice_index text (at + 2) == full_stop) (Token 0 3 (SynthesizeChar 0x2026)) (Left 1)
+    (IsPieceAt text at) (λ h. let both = and_parts (slice_index text (at + 1) == full_stop) (slice_index text (at + 2) == full_stop) h in
+    let next = eqb-true (slice_index text (at + 1)) full_stop both.0 in
+    let last = eqb-true (slice_index text (at + 2)) full_stop both.1 in
     record {
       some = omega arith;
       bound = omega arith;
       bytes =
           three_visible text at (omega (arith, is), omega (arith, is)) (omega (arith, next), omega (arith, next)) (omega (arith, last), omega (arith, last));
-      last = let place : at + 0 + 3 - 1 ≡ at + 2 = omega arith in ap (λ (k : ℕ). slice_index text k == 92) place ∙ ap (λ (x : ℕ). x == 92) last;
+      last = let place : at + 0 + 3 - 1 ≡ at + 2 = omega arith in ap (λ (k : ℕ). slice_index text k == backslash) place ∙ ap (λ (x : ℕ). x == backslash) last;
       kind = refl;
       over =
           let place : at ≡ at + 0 = omega arith in
           subst (λ (x : ℕ). StandsOver text x (x + 3) (SynthesizeChar 0x2026)) place
-          (record { byte = 46; n = 3; to = refl; each = three_alike text at 46 is next last; char = refl });
+          (record { byte = full_stop; n = 3; to = refl; each = three_alike text at full_stop is next last; char = refl });
     })
-    (λ left. one_left text at within (ap (λ (x : ℕ). x == 96) is))
+    (λ left. one_left text at within (ap (λ (x : ℕ). x == backquote) is))
 
 -- a run of hyphens that a character replaces
-dash_token : (text : List ℕ) (at n c : ℕ) → slice_index text at ≡ 45 → n ≡ run_at text at → 0 < n → smart_char 45 n ≡ Some c
+dash_token : (text : List ℕ) (at n c : ℕ) → slice_index text at ≡ hyphen → n ≡ run_at text at → 0 < n → smart_char hyphen n ≡ Some c
     → IsMarkup text at 0 n (SynthesizeChar c)
 dash_token text at n c is run some char =
-    let alike : (k : ℕ) → at ≤ k → k < at + n → slice_index text k ≡ 45 = λ k low high. run_same text at k low (omega (arith, run, high)) ∙ is in
+    let alike : (k : ℕ) → at ≤ k → k < at + n → slice_index text k ≡ hyphen = λ k low high. run_same text at k low (omega (arith, run, high)) ∙ is in
     record {
       some = some;
       bound = omega arith;
       bytes = λ k low high. let byte = alike k low (omega (arith, high)) in (omega (arith, byte), omega (arith, byte));
-      last = let byte = alike (at + 0 + n - 1) (omega (arith, some)) (omega (arith, some)) in ap (λ (x : ℕ). x == 92) byte;
+      last = let byte = alike (at + 0 + n - 1) (omega (arith, some)) (omega (arith, some)) in ap (λ (x : ℕ). x == backslash) byte;
       kind = refl;
       over =
           let place : at ≡ at + 0 = omega arith in
-          subst (λ (x : ℕ). StandsOver text x (x + n) (SynthesizeChar c)) place (record { byte = 45; n = n; to = refl; each = alike; char = char });
+          subst (λ (x : ℕ). StandsOver text x (x + n) (SynthesizeChar c)) place (record { byte = hyphen; n = n; to = refl; each = alike; char = char });
     }
 
 -- the piece at a hyphen
-dash_facts : (text : List ℕ) (at : ℕ) → at < length text → slice_index text at ≡ 45 → IsPieceAt text at (dash_piece text at)
+dash_facts : (text : List ℕ) (at : ℕ) → at < length text → slice_index text at ≡ hyphen → IsPieceAt text at (dash_piece text at)
 unfolding dash_piece
 dash_facts text at within is =
     let n = run_at text at in
@@ -484,7 +486,7 @@ dash_facts text at within is =
       some = run_some text at within;
       fits = omega (arith, fits, len, within);
       same = run_same text at;
-      other = ap (λ (x : ℕ). x == 96) is;
+      other = ap (λ (x : ℕ). x == backquote) is;
     }))
 
 -- the piece at a special byte other than an ampersand or a hyphen
@@ -493,11 +495,11 @@ unfolding special_piece
 special_facts s at within =
     let holds : Piece → Type 0 = IsPieceAt s.text at in
     let b = slice_index s.text at in
-    cond_both (b == 92) _ _ holds (λ h. backslash_in_facts s.text at within s.row (eqb-true b 92 h))
-    (λ h₁. cond_both (b == 96) _ _ holds (λ h. backquote_facts s.text at within (eqb-true b 96 h))
+    cond_both (b == backslash) _ _ holds (λ h. backslash_in_facts s.text at within s.row (eqb-true b backslash h))
+    (λ h₁. cond_both (b == backquote) _ _ holds (λ h. backquote_facts s.text at within (eqb-true b backquote h))
     (λ h₂. cond_both (is_delimiter b) _ _ holds (λ h. delimiter_facts s at within h)
     (λ h₃. cond_both (is_quote b) _ _ holds (λ h. quote_facts s at within h)
-    (λ h₄. cond_both (b == 46) _ _ holds (λ h. dot_facts s.text at within (eqb-true b 46 h)) (λ h₅. bracket_facts s.text at within h₂)))))
+    (λ h₄. cond_both (b == full_stop) _ _ holds (λ h. dot_facts s.text at within (eqb-true b full_stop h)) (λ h₅. bracket_facts s.text at within h₂)))))
 
 -- a byte that is not special differs from any special byte
 pub off : (b c : ℕ) (options : Options) → is_special options c ≡ true → is_special options b ≡ false → (b == c) ≡ false
@@ -507,7 +509,7 @@ off b c options marked plain =
       | inr other ↦ other
     ]
 
-special_backquote : (options : Options) → is_special options 96 ≡ true
+special_backquote : (options : Options) → is_special options backquote ≡ true
 unfolding is_special
 special_backquote options = refl
 
@@ -515,17 +517,17 @@ special_backquote options = refl
 abbrev pub IsFoundAt : List ℕ → ℕ → TokenStart → Type 0
 IsFoundAt text at (Ready piece) = IsPieceAt text at piece
 IsFoundAt text at (Reference n c) = entity_at (drop at text) ≡ Some (n, c)
-IsFoundAt text at (Dashes n) = (n ≡ run_at text at) × (3 < n) × (slice_index text at ≡ 45)
-IsFoundAt text at (Dollar opens closes) = slice_index text at ≡ 36
+IsFoundAt text at (Dashes n) = (n ≡ run_at text at) × (3 < n) × (slice_index text at ≡ hyphen)
+IsFoundAt text at (Dollar opens closes) = slice_index text at ≡ dollar_sign
 IsFoundAt text at OpenBrace = IsLeft text at 1
 IsFoundAt text at CloseBrace = IsLeft text at 1
 
-reference_facts : (text : List ℕ) (at : ℕ) → at < length text → slice_index text at ≡ 38 → (o : Option (ℕ × ℕ)) → entity_at (drop at text) ≡ o
+reference_facts : (text : List ℕ) (at : ℕ) → at < length text → slice_index text at ≡ ampersand → (o : Option (ℕ × ℕ)) → entity_at (drop at text) ≡ o
     → IsFoundAt text at (option_map_or (λ (e : ℕ × ℕ). Reference e.0 e.1) o (Ready (Left 1)))
 reference_facts text at within is (Some e) same = same
-reference_facts text at within is None same = one_left text at within (ap (λ (x : ℕ). x == 96) is)
+reference_facts text at within is None same = one_left text at within (ap (λ (x : ℕ). x == backquote) is)
 
-dashes_facts : (text : List ℕ) (at : ℕ) → at < length text → slice_index text at ≡ 45 → IsFoundAt text at (dash_found text at)
+dashes_facts : (text : List ℕ) (at : ℕ) → at < length text → slice_index text at ≡ hyphen → IsFoundAt text at (dash_found text at)
 unfolding dash_found
 dashes_facts text at within is =
     cond_both (nat_lt 3 (run_at text at)) (Dashes (run_at text at)) (Ready (dash_piece text at)) (IsFoundAt text at)
@@ -536,11 +538,12 @@ unfolding special_found reference_found dollar_found
 special_found_facts s at within =
     let holds : TokenStart → Type 0 = IsFoundAt s.text at in
     let b = slice_index s.text at in
-    cond_both (b == 38) (reference_found s.text at) _ holds (λ h. reference_facts s.text at within (eqb-true b 38 h) (entity_at (drop at s.text)) refl)
-    (λ h₁. cond_both (b == 45) (dash_found s.text at) _ holds (λ h. dashes_facts s.text at within (eqb-true b 45 h))
-    (λ h₂. cond_both (b == 36) (dollar_found s at) _ holds (λ h. eqb-true b 36 h)
-    (λ h₃. cond_both (b == 123) OpenBrace _ holds (λ h. one_left s.text at within (ap (λ (x : ℕ). x == 96) (eqb-true b 123 h)))
-    (λ h₄. cond_both (b == 125) CloseBrace _ holds (λ h. one_left s.text at within (ap (λ (x : ℕ). x == 96) (eqb-true b 125 h)))
+    cond_both (b == ampersand) (reference_found s.text at) _ holds
+    (λ h. reference_facts s.text at within (eqb-true b ampersand h) (entity_at (drop at s.text)) refl)
+    (λ h₁. cond_both (b == hyphen) (dash_found s.text at) _ holds (λ h. dashes_facts s.text at within (eqb-true b hyphen h))
+    (λ h₂. cond_both (b == dollar_sign) (dollar_found s at) _ holds (λ h. eqb-true b dollar_sign h)
+    (λ h₃. cond_both (b == left_brace) OpenBrace _ holds (λ h. one_left s.text at within (ap (λ (x : ℕ). x == backquote) (eqb-true b left_brace h)))
+    (λ h₄. cond_both (b == right_brace) CloseBrace _ holds (λ h. one_left s.text at within (ap (λ (x : ℕ). x == backquote) (eqb-true b right_brace h)))
     (λ h₅. special_facts s at within)))))
 
 -- the piece found at a place of the text
@@ -548,12 +551,12 @@ pub found_facts : (s : Inline) (at : ℕ) → at < length s.text → IsFoundAt s
 unfolding found_at
 found_facts s at within =
     cond_both (is_special s.options (slice_index s.text at)) (special_found s at) (Ready (Left 1)) (IsFoundAt s.text at)
-    (λ b. special_found_facts s at within) (λ b. one_left s.text at within (off (slice_index s.text at) 96 s.options (special_backquote s.options) b))
+    (λ b. special_found_facts s at within) (λ b. one_left s.text at within (off (slice_index s.text at) backquote s.options (special_backquote s.options) b))
 
 reference_visible : (b : ℕ) → is_reference_byte b ≡ true → IsVisible b
 reference_visible b h = (grind (arith, nat_tests, h), grind (arith, nat_tests, h))
 
-reference_solid : (b : ℕ) → is_reference_byte b ≡ true → (b == 92) ≡ false
+reference_solid : (b : ℕ) → is_reference_byte b ≡ true → (b == backslash) ≡ false
 reference_solid b h = grind (arith, nat_tests, h)
 
 -- a token that names a text
@@ -570,15 +573,15 @@ reference_token text at n c ix e =
       over = inl (record { n = n; char = c; to = refl; referred = ap (λ (k : ℕ). entity_at (drop k text)) (sym here) ∙ e });
     }
 
-dashes_token : (text : List ℕ) (at n : ℕ) (ix : CowIndex) → n ≡ run_at text at → 3 < n → slice_index text at ≡ 45 → IsMarkup text at 0 n (SynthesizeText ix)
+dashes_token : (text : List ℕ) (at n : ℕ) (ix : CowIndex) → n ≡ run_at text at → 3 < n → slice_index text at ≡ hyphen → IsMarkup text at 0 n (SynthesizeText ix)
 dashes_token text at n ix run many is =
-    let alike : (k : ℕ) → at ≤ k → k < at + n → slice_index text k ≡ 45 = λ k low high. run_same text at k low (omega (arith, run, high)) ∙ is in
+    let alike : (k : ℕ) → at ≤ k → k < at + n → slice_index text k ≡ hyphen = λ k low high. run_same text at k low (omega (arith, run, high)) ∙ is in
     let here : at + 0 ≡ at = omega arith in
     record {
       some = omega (arith, many);
       bound = omega arith;
       bytes = λ k low high. let byte = alike k low (omega (arith, high)) in (omega (arith, byte), omega (arith, byte));
-      last = let byte = alike (at + 0 + n - 1) (omega (arith, many)) (omega (arith, many)) in ap (λ (x : ℕ). x == 92) byte;
+      last = let byte = alike (at + 0 + n - 1) (omega (arith, many)) (omega (arith, many)) in ap (λ (x : ℕ). x == backslash) byte;
       kind = refl;
       over = inr (record {
         to = ap (λ (k : ℕ). at + 0 + k) run ∙ ap (λ (k : ℕ). at + 0 + run_at text k) (sym here);
@@ -595,6 +598,6 @@ becomes_facts texts b text at (Reference n c) p facts is = subst (IsPieceAt text
 becomes_facts texts b text at (Dashes n) p facts is = subst (IsPieceAt text at) (sym is.2) (dashes_token text at n is.0 facts.0 facts.1 facts.2)
 becomes_facts texts b text at (Dollar opens closes) p facts is =
     subst (IsPieceAt text at) (sym is)
-    (one_byte text at 36 (MaybeMath opens closes (dollar_context b)) facts (omega arith, omega arith) refl refl (refl, facts))
+    (one_byte text at dollar_sign (MaybeMath opens closes (dollar_context b)) facts (omega arith, omega arith) refl refl (refl, facts))
 becomes_facts texts b text at OpenBrace p facts is = subst (IsPieceAt text at) (sym is) facts
 becomes_facts texts b text at CloseBrace p facts is = subst (IsPieceAt text at) (sym is) facts

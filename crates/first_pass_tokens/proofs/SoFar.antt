@@ -10,7 +10,7 @@ use Rattle.first_pass_tokens.specs.Braces.{MathBraces, braces_after}
 use Rattle.first_pass_items.specs.declared.item.Item.{Item}
 use Rattle.first_pass_items.specs.declared.option_set.Options.{Options}
 use Rattle.first_pass_tree.specs.Forest.{Forest, appended, with_text}
-use Rattle.first_pass_items.specs.Bytes.{pipe}
+use Rattle.first_pass_items.specs.Bytes.{line_feed, carriage_return, backslash, pipe}
 use Rattle.first_pass_lines.specs.Lines.{is_white, is_line_end}
 use Rattle.first_pass_walk.specs.Walk.{is_special, begins_token, begins_cell}
 use Rattle.first_pass_tokens.specs.declared.line.HeldText.{HeldText}
@@ -34,7 +34,7 @@ use Rattle.first_pass_tokens.proofs.LineLemmas.{are_more, add_pieces_more, end_b
 -- empty
 abbrev pub BeginsText : List ℕ → ℕ → ℕ → ℕ → Type 0
 BeginsText text start begin at =
-    (begin ≡ start) ⊎ ((0 < begin) × (is_white (slice_index text (begin - 1)) ≡ false) × ((begin < at) ⊎ ((slice_index text (begin - 1) == 92) ≡ false)))
+    (begin ≡ start) ⊎ ((0 < begin) × (is_white (slice_index text (begin - 1)) ≡ false) × ((begin < at) ⊎ ((slice_index text (begin - 1) == backslash) ≡ false)))
 
 -- The content is read up to a place: the chain so far, and a pending text.
 pub record SoFar (texts : List CowStr) (z : Inline) (chain : List Item) (pending : HeldText) (at : ℕ) (b : MathBraces) : Type 0 where
@@ -54,11 +54,11 @@ chain_after at (Begins dropped escaped) p chain = add_text p.begin at p.escaped 
 chain_after at (Token dropped n body) p chain = add_token (add_text p.begin at p.escaped chain) (token (at + dropped) n body)
 chain_after at (Run n opens closes) p chain = add_tokens (add_text p.begin at p.escaped chain) (run_tokens at n opens closes)
 
-special_lf : (options : Options) → is_special options 10 ≡ true
+special_lf : (options : Options) → is_special options line_feed ≡ true
 unfolding is_special
 special_lf options = refl
 
-special_cr : (options : Options) → is_special options 13 ≡ true
+special_cr : (options : Options) → is_special options carriage_return ≡ true
 unfolding is_special
 special_cr options = refl
 
@@ -73,7 +73,7 @@ plain_piece : (z : Inline) (at : ℕ)
 unfolding content_ends_at found_at
 plain_piece z at within plain =
     let b = slice_index z.text at in
-    let line = or_from _ _ (off b 10 z.options (special_lf z.options) plain) (off b 13 z.options (special_cr z.options) plain) in
+    let line = or_from _ _ (off b line_feed z.options (special_lf z.options) plain) (off b carriage_return z.options (special_cr z.options) plain) in
     let cell = and_right z.row _ (plain_cell z.options b plain) in
     (or_from _ _ (lt-leb (length z.text) at within) (or_from _ _ line cell), cond-false _ _ _ plain)
 
@@ -230,7 +230,7 @@ module _ {texts : List CowStr} (z : Inline) (chain : List Item) (pending : HeldT
             inr (
               omega (arith, facts.some),
               visible_solid (slice_index z.text (at + n - 1)) last,
-              inr (ap (λ (b : ℕ). b == 92) same ∙ (delimiter_other _ facts.delimiter).0),
+              inr (ap (λ (b : ℕ). b == backslash) same ∙ (delimiter_other _ facts.delimiter).0),
             );
         shown = λ stop ahead. shown_past (Run n opens closes) stop (omega arith)
             ∙ sym (add_text-none (at + n) (min (at + n) stop) false _ (omega arith));
@@ -283,12 +283,12 @@ begins_before_break z begin end low high within begins =
           (and_parts (backslashes_at_end z end % 2 == 1) (nat_lt (end + line_end_len z end) (length z.text)) breaks).0 in
           elim begins [
             | inl same ↦
-                let bound = end_bounded (λ b. b == 92) z.text z.start begin end low high within (inl same) in
+                let bound = end_bounded (λ b. b == backslash) z.text z.start begin end low high within (inl same) in
                 omega arith
             | inr at ↦ elim at.2 [
               | inl longer ↦ omega arith
               | inr other ↦
-                  let bound = end_bounded (λ b. b == 92) z.text z.start begin end low high within (inr (at.0, other)) in
+                  let bound = end_bounded (λ b. b == backslash) z.text z.start begin end low high within (inr (at.0, other)) in
                   omega arith
             ]
           ])

@@ -2,6 +2,7 @@ use Rattle.std.proofs.Common.{◌≡◌, ℕ, ◌-◌, ◌==◌, ◌<◌, ◌≤
 use Rattle.std.specs.List.{suffix_len, slice_range}
 use Rattle.std.proofs.lemmas.Bool.{cases_lt, ltb-true, not-true}
 use Rattle.std.proofs.lemmas.Bool.Decides.{nat_tests}
+use Rattle.first_pass_items.specs.Bytes.{space, backslash}
 use Rattle.first_pass_lines.specs.Lines.{is_white}
 use Rattle.first_pass_tokens.proofs.LineLemmas.{end_bounded}
 use Rattle.first_pass_tokens.proofs.line.ends_solid.Goals as goal
@@ -16,17 +17,17 @@ none_at_end p text start end order within last =
     omega arith
 
 -- a byte above the space is no white space
-above_solid : (b : ℕ) → 32 < b → is_white b ≡ false
+above_solid : (b : ℕ) → space < b → is_white b ≡ false
 above_solid b above = grind (arith, nat_tests)
 
 pub returns-then-text-end-gt32-clause-white : goal.returns-then-text-end-gt32-clause-white
 returns-then-text-end-gt32-clause-white c =
-    let above : 32 < slice_index c.args.text.now (c.args.end - 1) = elim c.if-start-end.branch [
-      | then-start-end w ↦ ltb-true 32 _ (sym w.value-is ∙ c.if-text-end-gt32.true)
+    let above : space < slice_index c.args.text.now (c.args.end - 1) = elim c.if-start-end.branch [
+      | then-start-end w ↦ ltb-true space _ (sym w.value-is ∙ c.if-text-end-gt32.true)
       | else-start-end w ↦ absurd (grind (arith, nat_tests))
     ] in
     λ other. none_at_end is_white c.args.text.now c.args.start c.args.end c.requires.order c.requires.within (above_solid _ above)
 
 pub returns-then-text-end-gt32-clause-backslashes : goal.returns-then-text-end-gt32-clause-backslashes
 returns-then-text-end-gt32-clause-backslashes c =
-    λ other. none_at_end (λ b. b == 92) c.args.text.now c.args.start c.args.end c.requires.order c.requires.within (not-true _ other)
+    λ other. none_at_end (λ b. b == backslash) c.args.text.now c.args.start c.args.end c.requires.order c.requires.within (not-true _ other)
