@@ -7,6 +7,7 @@ use Rattle.std.proofs.lemmas.Bool.{and_from, eqb-true}
 use Rattle.std.proofs.lemmas.Bool.Decides.{nat_tests}
 use Rattle.std.proofs.lemmas.List.Folds.{length-prefix_len, concat-append}
 use Rattle.std.proofs.Math.Seq.{take-add}
+use Rattle.first_pass_items.specs.Bytes.{quotation_mark, apostrophe, solidus, equals_sign, greater_than}
 use Rattle.first_pass_lines.specs.Lines.{begins, is_space_or_tab}
 use Rattle.first_pass_html.specs.Tags.{starts_attribute, is_attribute_byte, is_unquoted, is_quoted, is_word, is_attribute_name, IsQuotedValue, IsValue}
 use Rattle.first_pass_html.specs.Tags.{IsValueSpecification, IsAttribute, AreAttributes, IsOpenTagEnd}
@@ -62,12 +63,12 @@ quoted_front quote bs n h =
     (take k bs, rw size (ap (λ xs. quote ∷ xs) parts), prefix_passes (is_quoted quote) bs)
 
 value_front_by : (t u : Bool) (b : ℕ) (bs : List ℕ) (n : ℕ)
-    → (b == 34) ≡ t → (b == 39) ≡ u → cond (t || u) (quoted_len b bs) (unquoted_len (b ∷ bs)) ≡ Some n → IsValue (take n (b ∷ bs))
+    → (b == quotation_mark) ≡ t → (b == apostrophe) ≡ u → cond (t || u) (quoted_len b bs) (unquoted_len (b ∷ bs)) ≡ Some n → IsValue (take n (b ∷ bs))
 value_front_by true u b bs n h h' e =
-    let same : b ≡ 34 = eqb-true b 34 h in
+    let same : b ≡ quotation_mark = eqb-true b quotation_mark h in
     inr (inr (subst (λ (q : ℕ). IsQuotedValue q (take n (b ∷ bs))) same (quoted_front b bs n e)))
 value_front_by false true b bs n h h' e =
-    let same : b ≡ 39 = eqb-true b 39 h' in
+    let same : b ≡ apostrophe = eqb-true b apostrophe h' in
     inr (inl (subst (λ (q : ℕ). IsQuotedValue q (take n (b ∷ bs))) same (quoted_front b bs n e)))
 value_front_by false false b bs n h h' e =
     let both = some_unless (prefix_len is_unquoted (b ∷ bs) == 0) (Some (prefix_len is_unquoted (b ∷ bs))) n e in
@@ -77,7 +78,7 @@ value_front_by false false b bs n h h' e =
 value_front : (bs : List ℕ) (n : ℕ) → value_len bs ≡ Some n → IsValue (take n bs)
 unfolding value_len
 value_front [] n h = cc
-value_front (b ∷ bs) n h = value_front_by (b == 34) (b == 39) b bs n refl refl h
+value_front (b ∷ bs) n h = value_front_by (b == quotation_mark) (b == apostrophe) b bs n refl refl h
 
 -- value specifications
 record IsBlanksValue (bs : List ℕ) : Type 0 where
@@ -100,28 +101,28 @@ blanks_value_front bs n h =
       is_value = value_front (drop k bs) m.0 m.1;
     }
 
-equals_front : (bs : List ℕ) (n : ℕ) → begins 61 (drop (prefix_len is_space_or_tab bs) bs) ≡ true
+equals_front : (bs : List ℕ) (n : ℕ) → begins equals_sign (drop (prefix_len is_space_or_tab bs) bs) ≡ true
     → blanks_value_len (drop (prefix_len is_space_or_tab bs + 1) bs) ≡ Some n
     → IsValueSpecification (take (prefix_len is_space_or_tab bs + 1 + n) bs)
 equals_front bs n h e =
     let k : ℕ = prefix_len is_space_or_tab bs in
-    let equals = begins_front 61 (drop k bs) h in
+    let equals = begins_front equals_sign (drop k bs) h in
     let v = blanks_value_front (drop (k + 1) bs) n e in
-    let front : take (k + 1) bs ≡ take k bs ++ 61 ∷ [] = take-add k 1 bs ∙ ap (λ xs. take k bs ++ take 1 xs) equals.1 in
-    let whole : take (k + 1 + n) bs ≡ take k bs ++ 61 ∷ take n (drop (k + 1) bs) =
-    take-add (k + 1) n bs ∙ ap (λ xs. xs ++ take n (drop (k + 1) bs)) front ∙ append_assoc (take k bs) (61 ∷ []) (take n (drop (k + 1) bs)) in
+    let front : take (k + 1) bs ≡ take k bs ++ equals_sign ∷ [] = take-add k 1 bs ∙ ap (λ xs. take k bs ++ take 1 xs) equals.1 in
+    let whole : take (k + 1 + n) bs ≡ take k bs ++ equals_sign ∷ take n (drop (k + 1) bs) =
+    take-add (k + 1) n bs ∙ ap (λ xs. xs ++ take n (drop (k + 1) bs)) front ∙ append_assoc (take k bs) (equals_sign ∷ []) (take n (drop (k + 1) bs)) in
     record {
       before = take k bs;
       following = v.blanks;
       value = v.value;
-      parts = whole ∙ ap (λ xs. take k bs ++ 61 ∷ xs) v.parts;
+      parts = whole ∙ ap (λ xs. take k bs ++ equals_sign ∷ xs) v.parts;
       before_blank = prefix_passes is_space_or_tab bs;
       past_blank = v.is_blanks;
       is_value = v.is_value;
     }
 
 specification_front_by : (bs : List ℕ) (t : Bool) (o : Option ℕ)
-    → begins 61 (drop (prefix_len is_space_or_tab bs) bs) ≡ t → blanks_value_len (drop (prefix_len is_space_or_tab bs + 1) bs) ≡ o
+    → begins equals_sign (drop (prefix_len is_space_or_tab bs) bs) ≡ t → blanks_value_len (drop (prefix_len is_space_or_tab bs + 1) bs) ≡ o
     → let n : ℕ = cond t (unwrap_or (option_map (λ k. prefix_len is_space_or_tab bs + 1 + k) o) 0) 0 in (take n bs ≡ []) ⊎ IsValueSpecification (take n bs)
 specification_front_by bs true None h e = inl refl
 specification_front_by bs true (Some n) h e = inr (equals_front bs n h e)
@@ -130,7 +131,8 @@ specification_front_by bs false o h e = inl refl
 specification_front : (bs : List ℕ) → (take (specification_len bs) bs ≡ []) ⊎ IsValueSpecification (take (specification_len bs) bs)
 unfolding specification_len
 specification_front bs =
-    specification_front_by bs (begins 61 (drop (prefix_len is_space_or_tab bs) bs)) (blanks_value_len (drop (prefix_len is_space_or_tab bs + 1) bs)) refl refl
+    specification_front_by bs (begins equals_sign (drop (prefix_len is_space_or_tab bs) bs))
+    (blanks_value_len (drop (prefix_len is_space_or_tab bs + 1) bs)) refl refl
 
 -- attributes
 record IsNamed (bs : List ℕ) : Type 0 where
@@ -172,24 +174,24 @@ attribute_front bs n h =
 -- ends of open tags
 record IsClose (bs : List ℕ) : Type 0 where
   slash : List ℕ
-  parts : bs ≡ slash ++ 62 ∷ []
-  is_slash : (slash ≡ []) ⊎ (slash ≡ 47 ∷ [])
+  parts : bs ≡ slash ++ greater_than ∷ []
+  is_slash : (slash ≡ []) ⊎ (slash ≡ solidus ∷ [])
 
 close_front_by : (t u : Bool) (b : ℕ) (bs : List ℕ) (n : ℕ)
-    → (b == 62) ≡ t → (b == 47) ≡ u → cond t (Some 1) (cond (u && begins 62 bs) (Some 2) None) ≡ Some n → IsClose (take n (b ∷ bs))
+    → (b == greater_than) ≡ t → (b == solidus) ≡ u → cond t (Some 1) (cond (u && begins greater_than bs) (Some 2) None) ≡ Some n → IsClose (take n (b ∷ bs))
 close_front_by true u b bs n h h' e =
     let size : n ≡ 1 = cc in
-    record { slash = []; parts = rw size (ap (λ x. x ∷ []) (eqb-true b 62 h)); is_slash = inl refl }
+    record { slash = []; parts = rw size (ap (λ x. x ∷ []) (eqb-true b greater_than h)); is_slash = inl refl }
 close_front_by false true b bs n h h' e =
-    let both = some_if (begins 62 bs) 2 n e in
-    let more = begins_front 62 bs both.0 in
+    let both = some_if (begins greater_than bs) 2 n e in
+    let more = begins_front greater_than bs both.0 in
     let size : n ≡ 2 = sym both.1 in
-    record { slash = 47 ∷ []; parts = rw (size, more.1) (ap (λ x. x ∷ 62 ∷ []) (eqb-true b 47 h')); is_slash = inr refl }
+    record { slash = solidus ∷ []; parts = rw (size, more.1) (ap (λ x. x ∷ greater_than ∷ []) (eqb-true b solidus h')); is_slash = inr refl }
 close_front_by false false b bs n h h' e = cc
 
 close_front : (bs : List ℕ) (n : ℕ) → close_len bs ≡ Some n → IsClose (take n bs)
 close_front [] n h = cc
-close_front (b ∷ bs) n h = close_front_by (b == 62) (b == 47) b bs n refl refl h
+close_front (b ∷ bs) n h = close_front_by (b == greater_than) (b == solidus) b bs n refl refl h
 
 pub end_front : (bs : List ℕ) (n : ℕ) → open_end_len bs ≡ Some n → IsOpenTagEnd (take n bs)
 unfolding open_end_len

@@ -8,6 +8,7 @@ use Rattle.std.proofs.lemmas.Bool.Decides.{nat_tests, same_from_decides}
 use Rattle.std.proofs.lemmas.List.{take-append-drop, length-take-le}
 use Rattle.std.proofs.lemmas.List.Folds.{length-prefix_len}
 use Rattle.std.proofs.lemmas.Slice.Eq.{bytes_eq-Decides}
+use Rattle.first_pass_items.specs.Bytes.{greater_than}
 use Rattle.first_pass_lines.specs.Lines.{is_ascii_white}
 use Rattle.first_pass_html.specs.Names.{in_lower_case, begins_with_name}
 use Rattle.first_pass_html.specs.Ends.{AtRawEndTag, AtText}
@@ -20,7 +21,7 @@ use Rattle.first_pass_html.proofs.LongestNames.{front_within, same_length}
 lower_alphabetic : (b : ℕ) → is_ascii_alphabetic (to_ascii_lowercase b) ≡ true → is_ascii_alphabetic b ≡ true
 lower_alphabetic b h = grind (arith, nat_tests, h)
 
-ends_alphabetic : (b : ℕ) → is_ascii_white b || b == 62 ≡ true → is_ascii_alphabetic b ≡ false
+ends_alphabetic : (b : ℕ) → is_ascii_white b || b == greater_than ≡ true → is_ascii_alphabetic b ≡ false
 ends_alphabetic b h = grind (arith, nat_tests, h)
 
 no_more_letters : (rest : List ℕ) → ends_raw_name rest ≡ true → prefix_len is_ascii_alphabetic rest ≡ 0
@@ -84,25 +85,25 @@ or_false true = refl
 or_false false = refl
 
 -- raw text begins here only with one of the names that have its first letter
-pub raw_in_112 : (bs : List ℕ) (letter : ℕ) → 1 ≤ length bs → letter ≡ to_ascii_lowercase (get_or bs 0 0) → letter ≡ 112
+pub raw_in_p : (bs : List ℕ) (letter : ℕ) → 1 ≤ length bs → letter ≡ to_ascii_lowercase (get_or bs 0 0) → letter ≡ 112
     → begins_raw_text bs ≡ begins_raw (codes "pre") bs
-raw_in_112 bs letter some lower is =
+raw_in_p bs letter some lower is =
     let off = λ (c : ℕ) (name : List ℕ) (d : (112 == to_ascii_lowercase c) ≡ false).
     raw_differs c letter name bs some lower (ap (λ a. a == to_ascii_lowercase c) is ∙ d) in
     raw_begins bs ∙ four_by _ _ _ _ (begins_raw (codes "pre") bs) false false false refl (off 115 (codes "cript") refl) (off 115 (codes "tyle") refl)
     (off 116 (codes "extarea") refl) ∙ or_false _
 
-pub raw_in_115 : (bs : List ℕ) (letter : ℕ) → 1 ≤ length bs → letter ≡ to_ascii_lowercase (get_or bs 0 0) → letter ≡ 115
+pub raw_in_s : (bs : List ℕ) (letter : ℕ) → 1 ≤ length bs → letter ≡ to_ascii_lowercase (get_or bs 0 0) → letter ≡ 115
     → begins_raw_text bs ≡ (begins_raw (codes "script") bs || begins_raw (codes "style") bs)
-raw_in_115 bs letter some lower is =
+raw_in_s bs letter some lower is =
     let off = λ (c : ℕ) (name : List ℕ) (d : (115 == to_ascii_lowercase c) ≡ false).
     raw_differs c letter name bs some lower (ap (λ a. a == to_ascii_lowercase c) is ∙ d) in
     raw_begins bs ∙ four_by _ _ _ _ false (begins_raw (codes "script") bs) (begins_raw (codes "style") bs) false (off 112 (codes "re") refl) refl refl
     (off 116 (codes "extarea") refl) ∙ ap (λ t. begins_raw (codes "script") bs || t) (or_false _)
 
-pub raw_in_116 : (bs : List ℕ) (letter : ℕ) → 1 ≤ length bs → letter ≡ to_ascii_lowercase (get_or bs 0 0) → letter ≡ 116
+pub raw_in_t : (bs : List ℕ) (letter : ℕ) → 1 ≤ length bs → letter ≡ to_ascii_lowercase (get_or bs 0 0) → letter ≡ 116
     → begins_raw_text bs ≡ begins_raw (codes "textarea") bs
-raw_in_116 bs letter some lower is =
+raw_in_t bs letter some lower is =
     let off = λ (c : ℕ) (name : List ℕ) (d : (116 == to_ascii_lowercase c) ≡ false).
     raw_differs c letter name bs some lower (ap (λ a. a == to_ascii_lowercase c) is ∙ d) in
     raw_begins bs ∙ four_by _ _ _ _ false false false (begins_raw (codes "textarea") bs) (off 112 (codes "re") refl) (off 115 (codes "cript") refl)

@@ -9,6 +9,7 @@ use Rattle.std.proofs.lemmas.List.{drop-drop, length-drop, take_all}
 use Rattle.std.proofs.lemmas.List.Sums.{prefix_len-le-length}
 use Rattle.std.proofs.Math.ListN.{drop_of_length-le}
 use Rattle.std.proofs.Math.Seq.{take-add}
+use Rattle.first_pass_items.specs.Bytes.{solidus, less_than, greater_than}
 use Rattle.first_pass_lines.specs.Lines.{begins, blank_len, is_space_or_tab}
 use Rattle.first_pass_html.specs.Starts.{is_raw_name}
 use Rattle.first_pass_html.specs.Tags.{is_tag_byte, IsAfterOpening, IsAfterClosing, IsBlockTag, BeginsTagLine}
@@ -30,11 +31,11 @@ name_within first other (b ∷ bs) n h =
     let fits = prefix_len-le-length other bs in
     omega (arith, both.1)
 
-close_within_by : (t u : Bool) (bs : List ℕ) (n : ℕ) → begins 62 bs ≡ u → (v : Bool) → cond t (Some 1) (cond (v && u) (Some 2) None) ≡ Some n
+close_within_by : (t u : Bool) (bs : List ℕ) (n : ℕ) → begins greater_than bs ≡ u → (v : Bool) → cond t (Some 1) (cond (v && u) (Some 2) None) ≡ Some n
     → n ≤ suc (length bs)
 close_within_by true u bs n h v e = let size : n ≡ 1 = cc in omega arith
 close_within_by false true bs n h true e =
-    let more = begins_front 62 bs h in
+    let more = begins_front greater_than bs h in
     let len = ap length more.1 in
     let size : n ≡ 2 = cc in
     omega arith
@@ -44,7 +45,7 @@ close_within_by false false bs n h false e = cc
 
 close_within : (bs : List ℕ) (n : ℕ) → close_len bs ≡ Some n → n ≤ length bs
 close_within [] n h = cc
-close_within (b ∷ bs) n h = close_within_by (b == 62) (begins 62 bs) bs n refl (b == 47) h
+close_within (b ∷ bs) n h = close_within_by (b == greater_than) (begins greater_than bs) bs n refl (b == solidus) h
 
 end_within : (bs : List ℕ) (n : ℕ) → open_end_len bs ≡ Some n → n ≤ length bs
 unfolding open_end_len
@@ -59,8 +60,8 @@ closing_end_within : (bs : List ℕ) (n : ℕ) → closing_end_len bs ≡ Some n
 unfolding closing_end_len
 closing_end_within bs n h =
     let k : ℕ = prefix_len is_space_or_tab bs in
-    let both = some_if (begins 62 (drop k bs)) (k + 1) n h in
-    let len = ap length (begins_front 62 (drop k bs) both.0).1 in
+    let both = some_if (begins greater_than (drop k bs)) (k + 1) n h in
+    let len = ap length (begins_front greater_than (drop k bs) both.0).1 in
     omega (arith, both.1, length-drop k bs)
 
 -- an attribute is not empty
@@ -153,22 +154,22 @@ closing_name bs None h = inr (closing_needs_name bs h)
 closing_name bs (Some n) h = closing_end bs n (closing_end_len (drop n bs)) h refl
 
 -- tags with the bytes before the name
-open_tag : (bs rest : List ℕ) → bs ≡ 60 ∷ rest → begins 47 rest ≡ false → StandsFirst IsAfterOpening rest → StandsFirst IsBlockTag bs
+open_tag : (bs rest : List ℕ) → bs ≡ less_than ∷ rest → begins solidus rest ≡ false → StandsFirst IsAfterOpening rest → StandsFirst IsBlockTag bs
 open_tag bs rest whole plain (inl (n, o)) = inl (n + 1, open_found bs rest n whole plain o)
 open_tag bs rest whole plain (inr none) = inr (open_none bs rest whole plain none)
 
-closing_tag : (bs rest : List ℕ) → bs ≡ 60 ∷ 47 ∷ rest → StandsFirst IsAfterClosing rest → StandsFirst IsBlockTag bs
+closing_tag : (bs rest : List ℕ) → bs ≡ less_than ∷ solidus ∷ rest → StandsFirst IsAfterClosing rest → StandsFirst IsBlockTag bs
 closing_tag bs rest whole (inl (n, o)) = inl (n + 2, close_found bs rest n whole o)
 closing_tag bs rest whole (inr none) = inr (close_none bs rest whole none)
 
-tag_after : (bs rest : List ℕ) (t : Bool) → bs ≡ 60 ∷ rest → begins 47 rest ≡ t → StandsFirst IsBlockTag bs
+tag_after : (bs rest : List ℕ) (t : Bool) → bs ≡ less_than ∷ rest → begins solidus rest ≡ t → StandsFirst IsBlockTag bs
 tag_after bs rest true whole slash =
-    closing_tag bs (drop 1 rest) (whole ∙ ap (λ xs. 60 ∷ xs) (first_byte 47 rest slash))
+    closing_tag bs (drop 1 rest) (whole ∙ ap (λ xs. less_than ∷ xs) (first_byte solidus rest slash))
     (closing_name (drop 1 rest) (tag_name_len (drop 1 rest)) refl)
 tag_after bs rest false whole plain = open_tag bs rest whole plain (opening_name rest (tag_name_len rest) refl)
 
-tag_at : (bs : List ℕ) (t : Bool) → begins 60 bs ≡ t → StandsFirst IsBlockTag bs
-tag_at bs true h = tag_after bs (drop 1 bs) (begins 47 (drop 1 bs)) (first_byte 60 bs h) refl
+tag_at : (bs : List ℕ) (t : Bool) → begins less_than bs ≡ t → StandsFirst IsBlockTag bs
+tag_at bs true h = tag_after bs (drop 1 bs) (begins solidus (drop 1 bs)) (first_byte less_than bs h) refl
 tag_at bs false h = inr (needs_bracket bs h)
 
 -- tags after which the rest of the line is blank
@@ -182,4 +183,4 @@ line_by bs (inl (n, front)) = blank_after bs n (blank_len (drop n bs)) front ref
 line_by bs (inr none) = inr (λ m t. tag_line_none bs m none t)
 
 pub tag_line_decided : (bs : List ℕ) → ((n : ℕ) × BeginsTagLine bs n) ⊎ ((n : ℕ) → BeginsTagLine bs n → ⊥)
-tag_line_decided bs = line_by bs (tag_at bs (begins 60 bs) refl)
+tag_line_decided bs = line_by bs (tag_at bs (begins less_than bs) refl)

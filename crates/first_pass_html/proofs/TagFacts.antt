@@ -5,6 +5,7 @@ use Rattle.std.specs.List.{prefix_len, list_all, concat}
 use Rattle.std.proofs.lemmas.Bool.{and_parts}
 use Rattle.std.proofs.lemmas.Bool.Decides.{nat_tests}
 use Rattle.std.proofs.Math.Seq.{drop-append_seam, drop-append-add}
+use Rattle.first_pass_items.specs.Bytes.{quotation_mark, apostrophe, solidus, equals_sign, greater_than}
 use Rattle.first_pass_lines.specs.Lines.{is_space_or_tab}
 use Rattle.first_pass_html.specs.Tags.{starts_attribute, is_attribute_byte, is_unquoted, is_quoted, is_word, is_attribute_name, IsQuotedValue, IsValue}
 use Rattle.first_pass_html.specs.Tags.{IsValueSpecification, IsAttribute, AreAttributes, IsOpenTagEnd}
@@ -17,7 +18,7 @@ use Rattle.first_pass_html.proofs.TailFacts.{word_all, rest_no_attribute, rest_n
 
 -- the byte is a quote
 abbrev pub is_quote : ℕ → Bool
-is_quote b = b == 34 || b == 39
+is_quote b = b == quotation_mark || b == apostrophe
 
 quote_itself : (quote : ℕ) → is_quoted quote quote ≡ false
 quote_itself quote = grind (arith, nat_tests)
@@ -66,8 +67,8 @@ value_unquoted (b ∷ v) bs h =
 pub value_is : (v bs following : List ℕ) → IsValue v → IsTagRest bs following
     → (e : ℕ) × (value_len (v ++ bs) ≡ Some (length v + e)) × IsTagRest (drop e bs) following
 value_is v bs following (inl h) r = (prefix_len is_unquoted bs, value_unquoted v bs h, rest_unquoted bs following r)
-value_is v bs following (inr (inl h)) r = (0, value_quoted 39 v bs refl h, r)
-value_is v bs following (inr (inr h)) r = (0, value_quoted 34 v bs refl h, r)
+value_is v bs following (inr (inl h)) r = (0, value_quoted apostrophe v bs refl h, r)
+value_is v bs following (inr (inr h)) r = (0, value_quoted quotation_mark v bs refl h, r)
 
 value_no_blank_by : (v bs : List ℕ) → is_word is_unquoted is_unquoted v ≡ true → prefix_len is_space_or_tab (v ++ bs) ≡ 0
 value_no_blank_by [] bs h = absurd (true≢false (sym h))
@@ -75,8 +76,8 @@ value_no_blank_by (b ∷ v) bs h = prefix_none is_space_or_tab b (v ++ bs) (unqu
 
 value_no_blank : (v bs : List ℕ) → IsValue v → prefix_len is_space_or_tab (v ++ bs) ≡ 0
 value_no_blank v bs (inl h) = value_no_blank_by v bs h
-value_no_blank v bs (inr (inl (inside, parts, all))) = rw parts (prefix_none is_space_or_tab 39 ((inside ++ 39 ∷ []) ++ bs) refl)
-value_no_blank v bs (inr (inr (inside, parts, all))) = rw parts (prefix_none is_space_or_tab 34 ((inside ++ 34 ∷ []) ++ bs) refl)
+value_no_blank v bs (inr (inl (inside, parts, all))) = rw parts (prefix_none is_space_or_tab apostrophe ((inside ++ apostrophe ∷ []) ++ bs) refl)
+value_no_blank v bs (inr (inr (inside, parts, all))) = rw parts (prefix_none is_space_or_tab quotation_mark ((inside ++ quotation_mark ∷ []) ++ bs) refl)
 
 -- value specifications
 blanks_value_is : (blanks v bs : List ℕ) (k : ℕ)
@@ -89,22 +90,23 @@ blanks_value_is blanks v bs k h is e =
     rw (size, drop-append_seam, e)
 
 equals_is : (blanks bs : List ℕ) (k : ℕ)
-    → list_all is_space_or_tab blanks ≡ true → blanks_value_len bs ≡ Some k → specification_len (blanks ++ 61 ∷ bs) ≡ length blanks + 1 + k
+    → list_all is_space_or_tab blanks ≡ true → blanks_value_len bs ≡ Some k → specification_len (blanks ++ equals_sign ∷ bs) ≡ length blanks + 1 + k
 unfolding specification_len
 equals_is blanks bs k h e =
-    let more = prefix_all is_space_or_tab blanks (61 ∷ bs) h in
-    let none : prefix_len is_space_or_tab (61 ∷ bs) ≡ 0 = prefix_none is_space_or_tab 61 bs refl in
-    let size : prefix_len is_space_or_tab (blanks ++ 61 ∷ bs) ≡ length blanks = omega arith in
-    let following : drop (length blanks + 1) (blanks ++ 61 ∷ bs) ≡ bs = drop-append-add blanks (61 ∷ bs) 1 in
+    let more = prefix_all is_space_or_tab blanks (equals_sign ∷ bs) h in
+    let none : prefix_len is_space_or_tab (equals_sign ∷ bs) ≡ 0 = prefix_none is_space_or_tab equals_sign bs refl in
+    let size : prefix_len is_space_or_tab (blanks ++ equals_sign ∷ bs) ≡ length blanks = omega arith in
+    let following : drop (length blanks + 1) (blanks ++ equals_sign ∷ bs) ≡ bs = drop-append-add blanks (equals_sign ∷ bs) 1 in
     rw (size, drop-append_seam, following, e)
 
 no_specification : (bs following : List ℕ) → IsTagRest bs following → specification_len bs ≡ 0
 unfolding specification_len
 no_specification bs following r = rw (rest_no_equals bs following r)
 
-specification_whole : (s bs : List ℕ) (i : IsValueSpecification s) → s ++ bs ≡ i.before ++ 61 ∷ (i.following ++ (i.value ++ bs))
+specification_whole : (s bs : List ℕ) (i : IsValueSpecification s) → s ++ bs ≡ i.before ++ equals_sign ∷ (i.following ++ (i.value ++ bs))
 specification_whole s bs i =
-    rw i.parts (append_assoc i.before (61 ∷ (i.following ++ i.value)) bs ∙ ap (λ xs. i.before ++ 61 ∷ xs) (append_assoc i.following i.value bs))
+    rw i.parts (append_assoc i.before (equals_sign ∷ (i.following ++ i.value)) bs
+    ∙ ap (λ xs. i.before ++ equals_sign ∷ xs) (append_assoc i.following i.value bs))
 
 specification_is : (s bs following : List ℕ)
     → (s ≡ []) ⊎ IsValueSpecification s → IsTagRest bs following → (e : ℕ) × (specification_len (s ++ bs) ≡ length s + e) × IsTagRest (drop e bs) following
@@ -115,13 +117,13 @@ specification_is s bs following (inr i) r =
     let len = equals_is i.before (i.following ++ (i.value ++ bs)) (length i.following + k) i.before_blank
     (blanks_value_is i.following i.value bs k i.past_blank i.is_value v.1) in
     let size : length s ≡ length i.before + 1 + (length i.following + length i.value) =
-    ap length i.parts ∙ omega (arith, length-append i.before (61 ∷ (i.following ++ i.value)), length-append i.following i.value) in
+    ap length i.parts ∙ omega (arith, length-append i.before (equals_sign ∷ (i.following ++ i.value)), length-append i.following i.value) in
     (v.0, rw (specification_whole s bs i) (len ∙ omega arith), v.2)
 
 -- names of attributes
-specification_no_name_by : (blanks bs : List ℕ) → list_all is_space_or_tab blanks ≡ true → prefix_len is_attribute_byte (blanks ++ 61 ∷ bs) ≡ 0
-specification_no_name_by [] bs h = prefix_none is_attribute_byte 61 bs refl
-specification_no_name_by (b ∷ blanks) bs h = prefix_none is_attribute_byte b (blanks ++ 61 ∷ bs) (blank_no_attribute b (and_parts _ _ h).0)
+specification_no_name_by : (blanks bs : List ℕ) → list_all is_space_or_tab blanks ≡ true → prefix_len is_attribute_byte (blanks ++ equals_sign ∷ bs) ≡ 0
+specification_no_name_by [] bs h = prefix_none is_attribute_byte equals_sign bs refl
+specification_no_name_by (b ∷ blanks) bs h = prefix_none is_attribute_byte b (blanks ++ equals_sign ∷ bs) (blank_no_attribute b (and_parts _ _ h).0)
 
 specification_no_name : (s bs following : List ℕ) → (s ≡ []) ⊎ IsValueSpecification s → IsTagRest bs following → prefix_len is_attribute_byte (s ++ bs) ≡ 0
 specification_no_name s bs following (inl none) r = rw none (rest_no_attribute bs following r)
@@ -188,10 +190,12 @@ no_attribute_at blanks c others h solid none =
     rw (size, drop-append_seam, none) (elim (length blanks == 0) as (λ t. cond {A = Option ℕ} t None None ≡ None) [ true ↦ refl | false ↦ refl ])
 
 end_no_attribute_by : (blanks slash following : List ℕ)
-    → list_all is_space_or_tab blanks ≡ true → (slash ≡ []) ⊎ (slash ≡ 47 ∷ []) → attribute_len ((blanks ++ (slash ++ 62 ∷ [])) ++ following) ≡ None
-end_no_attribute_by blanks slash following h (inl none) = rw (none, append_assoc blanks (62 ∷ []) following) (no_attribute_at blanks 62 following h refl refl)
+    → list_all is_space_or_tab blanks ≡ true → (slash ≡ []) ⊎ (slash ≡ solidus ∷ [])
+    → attribute_len ((blanks ++ (slash ++ greater_than ∷ [])) ++ following) ≡ None
+end_no_attribute_by blanks slash following h (inl none) =
+    rw (none, append_assoc blanks (greater_than ∷ []) following) (no_attribute_at blanks greater_than following h refl refl)
 end_no_attribute_by blanks slash following h (inr one) =
-    rw (one, append_assoc blanks (47 ∷ 62 ∷ []) following) (no_attribute_at blanks 47 (62 ∷ following) h refl refl)
+    rw (one, append_assoc blanks (solidus ∷ greater_than ∷ []) following) (no_attribute_at blanks solidus (greater_than ∷ following) h refl refl)
 
 end_no_attribute : (ending following : List ℕ) → IsOpenTagEnd ending → attribute_len (ending ++ following) ≡ None
 end_no_attribute ending following e = rw e.parts (end_no_attribute_by e.blanks e.slash following e.is_blanks e.is_slash)
@@ -207,13 +211,14 @@ end_len_at blanks others c k h solid e =
     let size : prefix_len is_space_or_tab (blanks ++ c ∷ others) ≡ length blanks = omega arith in
     rw (size, drop-append_seam, e)
 
-end_is_by : (blanks slash following : List ℕ) → list_all is_space_or_tab blanks ≡ true → (slash ≡ []) ⊎ (slash ≡ 47 ∷ [])
-    → open_end_len ((blanks ++ (slash ++ 62 ∷ [])) ++ following) ≡ Some (length (blanks ++ (slash ++ 62 ∷ [])))
+end_is_by : (blanks slash following : List ℕ) → list_all is_space_or_tab blanks ≡ true → (slash ≡ []) ⊎ (slash ≡ solidus ∷ [])
+    → open_end_len ((blanks ++ (slash ++ greater_than ∷ [])) ++ following) ≡ Some (length (blanks ++ (slash ++ greater_than ∷ [])))
 end_is_by blanks slash following h (inl none) =
-    rw (none, append_assoc blanks (62 ∷ []) following) (end_len_at blanks following 62 1 h refl refl ∙ ap Some (omega (arith, length-append blanks (62 ∷ []))))
+    rw (none, append_assoc blanks (greater_than ∷ []) following)
+    (end_len_at blanks following greater_than 1 h refl refl ∙ ap Some (omega (arith, length-append blanks (greater_than ∷ []))))
 end_is_by blanks slash following h (inr one) =
-    rw (one, append_assoc blanks (47 ∷ 62 ∷ []) following)
-    (end_len_at blanks (62 ∷ following) 47 2 h refl refl ∙ ap Some (omega (arith, length-append blanks (47 ∷ 62 ∷ []))))
+    rw (one, append_assoc blanks (solidus ∷ greater_than ∷ []) following)
+    (end_len_at blanks (greater_than ∷ following) solidus 2 h refl refl ∙ ap Some (omega (arith, length-append blanks (solidus ∷ greater_than ∷ []))))
 
 pub end_is : (ending following : List ℕ) → IsOpenTagEnd ending → open_end_len (ending ++ following) ≡ Some (length ending)
 end_is ending following e = rw e.parts (end_is_by e.blanks e.slash following e.is_blanks e.is_slash)

@@ -4,6 +4,7 @@ use Rattle.std.proofs.Common.{append_assoc}
 use Rattle.std.specs.List.{prefix_len, list_all, concat}
 use Rattle.std.proofs.lemmas.Bool.{and_parts}
 use Rattle.std.proofs.lemmas.Bool.Decides.{nat_tests}
+use Rattle.first_pass_items.specs.Bytes.{solidus, equals_sign, greater_than}
 use Rattle.first_pass_lines.specs.Lines.{begins, is_space_or_tab}
 use Rattle.first_pass_html.specs.Tags.{is_tag_byte, starts_attribute, is_attribute_byte, is_unquoted, is_word, is_attribute_name, IsAttribute, AreAttributes}
 use Rattle.first_pass_html.specs.Tags.{IsOpenTagEnd}
@@ -12,12 +13,12 @@ use Rattle.first_pass_html.proofs.ListFacts.{prefix_all, prefix_none, rest_after
 
 -- a byte that can follow the blanks of a tag
 abbrev pub is_stop : ℕ → Bool
-is_stop c = starts_attribute c || (c == 47 || c == 62)
+is_stop c = starts_attribute c || (c == solidus || c == greater_than)
 
 stop_solid : (c : ℕ) → is_stop c ≡ true → is_space_or_tab c ≡ false
 stop_solid c h = grind (arith, nat_tests, h)
 
-stop_equals : (c : ℕ) → is_stop c ≡ true → (c == 61) ≡ false
+stop_equals : (c : ℕ) → is_stop c ≡ true → (c == equals_sign) ≡ false
 stop_equals c h = grind (arith, nat_tests, h)
 
 name_stop : (c : ℕ) → starts_attribute c ≡ true → is_stop c ≡ true
@@ -28,7 +29,7 @@ blank_unquoted b h = grind (arith, nat_tests, h)
 
 -- the first byte of the rest of a tag
 abbrev pub is_tail : ℕ → Bool
-is_tail b = is_space_or_tab b || (b == 47 || b == 62)
+is_tail b = is_space_or_tab b || (b == solidus || b == greater_than)
 
 blank_tail : (b : ℕ) → is_space_or_tab b ≡ true → is_tail b ≡ true
 blank_tail b h = grind (arith, nat_tests, h)
@@ -65,20 +66,20 @@ none_first p q bs apart s = rw s.parts (prefix_none p s.first s.others (apart s.
 
 -- the end of an open tag
 end_stops_by : (blanks slash following : List ℕ)
-    → list_all is_space_or_tab blanks ≡ true → (slash ≡ []) ⊎ (slash ≡ 47 ∷ []) → StopsAt ((blanks ++ (slash ++ 62 ∷ [])) ++ following)
+    → list_all is_space_or_tab blanks ≡ true → (slash ≡ []) ⊎ (slash ≡ solidus ∷ []) → StopsAt ((blanks ++ (slash ++ greater_than ∷ [])) ++ following)
 end_stops_by blanks slash following h (inl none) = record {
   blanks = blanks;
-  stop = 62;
+  stop = greater_than;
   others = following;
-  parts = rw none (append_assoc blanks (62 ∷ []) following);
+  parts = rw none (append_assoc blanks (greater_than ∷ []) following);
   is_blanks = h;
   stops = refl;
 }
 end_stops_by blanks slash following h (inr one) = record {
   blanks = blanks;
-  stop = 47;
-  others = 62 ∷ following;
-  parts = rw one (append_assoc blanks (47 ∷ 62 ∷ []) following);
+  stop = solidus;
+  others = greater_than ∷ following;
+  parts = rw one (append_assoc blanks (solidus ∷ greater_than ∷ []) following);
   is_blanks = h;
   stops = refl;
 }
@@ -87,12 +88,12 @@ pub end_stops : (ending following : List ℕ) → IsOpenTagEnd ending → StopsA
 end_stops ending following e = rw e.parts (end_stops_by e.blanks e.slash following e.is_blanks e.is_slash)
 
 end_starts_by : (blanks slash following : List ℕ)
-    → list_all is_space_or_tab blanks ≡ true → (slash ≡ []) ⊎ (slash ≡ 47 ∷ []) → StartsBy is_tail ((blanks ++ (slash ++ 62 ∷ [])) ++ following)
-end_starts_by [] slash following h (inl none) = record { first = 62; others = following; parts = rw none; passes = refl }
-end_starts_by [] slash following h (inr one) = record { first = 47; others = 62 ∷ following; parts = rw one; passes = refl }
+    → list_all is_space_or_tab blanks ≡ true → (slash ≡ []) ⊎ (slash ≡ solidus ∷ []) → StartsBy is_tail ((blanks ++ (slash ++ greater_than ∷ [])) ++ following)
+end_starts_by [] slash following h (inl none) = record { first = greater_than; others = following; parts = rw none; passes = refl }
+end_starts_by [] slash following h (inr one) = record { first = solidus; others = greater_than ∷ following; parts = rw one; passes = refl }
 end_starts_by (b ∷ bs) slash following h some = record {
   first = b;
-  others = (bs ++ (slash ++ 62 ∷ [])) ++ following;
+  others = (bs ++ (slash ++ greater_than ∷ [])) ++ following;
   parts = refl;
   passes = blank_tail b (and_parts _ _ h).0;
 }
@@ -159,10 +160,10 @@ stop_size bs s =
 pub stop_after : (bs : List ℕ) (s : StopsAt bs) → drop (prefix_len is_space_or_tab bs) bs ≡ s.stop ∷ s.others
 stop_after bs s = rest_after (prefix_len is_space_or_tab bs) bs s.blanks (s.stop ∷ s.others) s.parts (stop_size bs s)
 
-pub rest_no_equals : (bs following : List ℕ) → IsTagRest bs following → begins 61 (drop (prefix_len is_space_or_tab bs) bs) ≡ false
+pub rest_no_equals : (bs following : List ℕ) → IsTagRest bs following → begins equals_sign (drop (prefix_len is_space_or_tab bs) bs) ≡ false
 rest_no_equals bs following r =
     let s = rest_stops bs following r in
-    ap (begins 61) (stop_after bs s) ∙ stop_equals s.stop s.stops
+    ap (begins equals_sign) (stop_after bs s) ∙ stop_equals s.stop s.stops
 
 -- If the rest of a tag begins with bytes of an unquoted value, the rest of a tag also follows them. There are none,
 -- or only the slash of its end.
@@ -172,26 +173,27 @@ kept bs following e r = rw e r
 blank_kept : (bs following : List ℕ) → StartsBy is_space_or_tab bs → IsTagRest bs following → IsTagRest (drop (prefix_len is_unquoted bs) bs) following
 blank_kept bs following s r = kept bs following (none_first is_unquoted is_space_or_tab bs blank_unquoted s) r
 
-only_end : (following : List ℕ) → IsTagRest (62 ∷ following) following
+only_end : (following : List ℕ) → IsTagRest (greater_than ∷ following) following
 only_end following = record {
   attributes = [];
-  ending = 62 ∷ [];
+  ending = greater_than ∷ [];
   parts = refl;
   are_attributes = tt;
   ends = record { blanks = []; slash = []; parts = refl; is_blanks = refl; is_slash = inl refl };
 }
 
 end_unquoted_by : (blanks slash bs following : List ℕ)
-    → bs ≡ (blanks ++ (slash ++ 62 ∷ [])) ++ following → list_all is_space_or_tab blanks ≡ true → (slash ≡ []) ⊎ (slash ≡ 47 ∷ []) → IsTagRest bs following
-    → IsTagRest (drop (prefix_len is_unquoted bs) bs) following
+    → bs ≡ (blanks ++ (slash ++ greater_than ∷ [])) ++ following → list_all is_space_or_tab blanks ≡ true → (slash ≡ []) ⊎ (slash ≡ solidus ∷ [])
+    → IsTagRest bs following → IsTagRest (drop (prefix_len is_unquoted bs) bs) following
 end_unquoted_by [] slash bs following parts h (inl none) r =
-    let whole : bs ≡ 62 ∷ following = parts ∙ rw none refl in
+    let whole : bs ≡ greater_than ∷ following = parts ∙ rw none refl in
     rw whole (only_end following)
 end_unquoted_by [] slash bs following parts h (inr one) r =
-    let whole : bs ≡ 47 ∷ 62 ∷ following = parts ∙ rw one refl in
+    let whole : bs ≡ solidus ∷ greater_than ∷ following = parts ∙ rw one refl in
     rw whole (only_end following)
 end_unquoted_by (b ∷ blanks) slash bs following parts h some r =
-    blank_kept bs following (record { first = b; others = (blanks ++ (slash ++ 62 ∷ [])) ++ following; parts = parts; passes = (and_parts _ _ h).0 }) r
+    blank_kept bs following
+    (record { first = b; others = (blanks ++ (slash ++ greater_than ∷ [])) ++ following; parts = parts; passes = (and_parts _ _ h).0 }) r
 
 rest_unquoted_by : (attributes : List (List ℕ)) (ending bs following : List ℕ)
     → bs ≡ concat attributes ++ (ending ++ following) → AreAttributes attributes → IsOpenTagEnd ending → IsTagRest bs following

@@ -8,6 +8,7 @@ use Rattle.std.proofs.lemmas.Bool.{and_parts, eqb-true}
 use Rattle.std.proofs.lemmas.List.{drop-drop, take-append-drop, length-take-le}
 use Rattle.std.proofs.Math.Seq.{take-add, drop-append_seam}
 use Rattle.std.specs.Char.{is_ascii_alphabetic}
+use Rattle.first_pass_items.specs.Bytes.{solidus, less_than, greater_than}
 use Rattle.first_pass_lines.specs.Lines.{begins, blank_len, is_space_or_tab}
 use Rattle.first_pass_html.specs.Starts.{is_raw_name}
 use Rattle.first_pass_html.specs.Tags.{is_tag_byte, is_tag_name, IsClosingTag, IsBlockOpenTag, IsAfterOpening, IsAfterClosing, IsBlockTag, BeginsTagLine}
@@ -113,7 +114,7 @@ opening_is bs n a k c raw =
         name = take n bs;
         attributes = past.attributes;
         ending = take k (drop a (drop n bs));
-        parts = ap (λ xs. 60 ∷ xs) whole;
+        parts = ap (λ xs. less_than ∷ xs) whole;
         is_name = name_front is_ascii_alphabetic is_tag_byte bs n c.named;
         are_attributes = past.are_attributes;
         ends = end_front (drop a (drop n bs)) k c.ended;
@@ -130,18 +131,19 @@ opening_found bs n a k c raw ends = record {
 }
 
 -- closing tags
-closing_rest : (bs front following : List ℕ) → bs ≡ front ++ following → (tag : IsAfterClosing front) → bs ≡ tag.name ++ ((tag.blanks ++ 62 ∷ []) ++ following)
+closing_rest : (bs front following : List ℕ) → bs ≡ front ++ following → (tag : IsAfterClosing front)
+    → bs ≡ tag.name ++ ((tag.blanks ++ greater_than ∷ []) ++ following)
 closing_rest bs front following parts tag =
-    let inside : front ≡ tag.name ++ (tag.blanks ++ 62 ∷ []) = let e = tag.parts in cc in
-    parts ∙ ap (λ xs. xs ++ following) inside ∙ append_assoc tag.name (tag.blanks ++ 62 ∷ []) following
+    let inside : front ≡ tag.name ++ (tag.blanks ++ greater_than ∷ []) = let e = tag.parts in cc in
+    parts ∙ ap (λ xs. xs ++ following) inside ∙ append_assoc tag.name (tag.blanks ++ greater_than ∷ []) following
 
 closing_name : (bs front following : List ℕ) → bs ≡ front ++ following → (tag : IsAfterClosing front) → NameThenRest bs following
 closing_name bs front following parts tag = record {
   name = tag.name;
-  others = (tag.blanks ++ 62 ∷ []) ++ following;
+  others = (tag.blanks ++ greater_than ∷ []) ++ following;
   parts = closing_rest bs front following parts tag;
   is_name = tag.is_name;
-  rest = rest_of_others [] (tag.blanks ++ 62 ∷ []) following tt
+  rest = rest_of_others [] (tag.blanks ++ greater_than ∷ []) following tt
       (record { blanks = tag.blanks; slash = []; parts = refl; is_blanks = tag.is_blanks; is_slash = inl refl });
 }
 
@@ -149,13 +151,13 @@ pub closing_needs_name : (bs : List ℕ) → tag_name_len bs ≡ None → HasNoF
 closing_needs_name bs none front following parts tag = let some = name_counted bs following (closing_name bs front following parts tag) in cc
 
 closing_end_is : (blanks following : List ℕ) → list_all is_space_or_tab blanks ≡ true
-    → closing_end_len ((blanks ++ 62 ∷ []) ++ following) ≡ Some (length blanks + 1)
+    → closing_end_len ((blanks ++ greater_than ∷ []) ++ following) ≡ Some (length blanks + 1)
 unfolding closing_end_len
 closing_end_is blanks following h =
-    let more = prefix_all is_space_or_tab blanks (62 ∷ following) h in
-    let none : prefix_len is_space_or_tab (62 ∷ following) ≡ 0 = prefix_none is_space_or_tab 62 following refl in
-    let size : prefix_len is_space_or_tab (blanks ++ 62 ∷ following) ≡ length blanks = omega arith in
-    rw (append_assoc blanks (62 ∷ []) following, size, drop-append_seam)
+    let more = prefix_all is_space_or_tab blanks (greater_than ∷ following) h in
+    let none : prefix_len is_space_or_tab (greater_than ∷ following) ≡ 0 = prefix_none is_space_or_tab greater_than following refl in
+    let size : prefix_len is_space_or_tab (blanks ++ greater_than ∷ following) ≡ length blanks = omega arith in
+    rw (append_assoc blanks (greater_than ∷ []) following, size, drop-append_seam)
 
 closing_end : (bs front following : List ℕ) (n : ℕ) → bs ≡ front ++ following → (tag : IsAfterClosing front) → tag_name_len bs ≡ Some n
     → (n ≡ length tag.name) × (closing_end_len (drop n bs) ≡ Some (length tag.blanks + 1))
@@ -164,7 +166,7 @@ closing_end bs front following n parts tag h =
     let r = closing_name bs front following parts tag in
     let same : n ≡ length tag.name = name_same bs following n r h in (
       same,
-      ap closing_end_len (rest_after n bs tag.name ((tag.blanks ++ 62 ∷ []) ++ following) r.parts same)
+      ap closing_end_len (rest_after n bs tag.name ((tag.blanks ++ greater_than ∷ []) ++ following) r.parts same)
           ∙ closing_end_is tag.blanks following tag.is_blanks,
     )
 
@@ -176,21 +178,22 @@ closing_only : (bs front following : List ℕ) (n k : ℕ)
 closing_only bs front following n k parts tag h some =
     let both = closing_end bs front following n parts tag h in
     let size : k ≡ length tag.blanks + 1 = let counted = both.1 in cc in
-    let inside : front ≡ tag.name ++ (tag.blanks ++ 62 ∷ []) = let e = tag.parts in cc in
-    ap length inside ∙ omega (arith, both.0, length-append tag.name (tag.blanks ++ 62 ∷ []), length-append tag.blanks (62 ∷ []))
+    let inside : front ≡ tag.name ++ (tag.blanks ++ greater_than ∷ []) = let e = tag.parts in cc in
+    ap length inside ∙ omega (arith, both.0, length-append tag.name (tag.blanks ++ greater_than ∷ []), length-append tag.blanks (greater_than ∷ []))
 
 closing_is : (bs : List ℕ) (n k : ℕ) → tag_name_len bs ≡ Some n → closing_end_len (drop n bs) ≡ Some k → IsAfterClosing (take (n + k) bs)
 unfolding closing_end_len
 closing_is bs n k h some =
     let left : List ℕ = drop n bs in
     let j : ℕ = prefix_len is_space_or_tab left in
-    let both = some_if (begins 62 (drop j left)) (j + 1) k some in
-    let end = begins_front 62 (drop j left) both.0 in
-    let front : take k left ≡ take j left ++ 62 ∷ [] = ap (λ i. take i left) (sym both.1) ∙ take-add j 1 left ∙ ap (λ xs. take j left ++ take 1 xs) end.1 in
+    let both = some_if (begins greater_than (drop j left)) (j + 1) k some in
+    let end = begins_front greater_than (drop j left) both.0 in
+    let front : take k left ≡ take j left ++ greater_than ∷ [] =
+    ap (λ i. take i left) (sym both.1) ∙ take-add j 1 left ∙ ap (λ xs. take j left ++ take 1 xs) end.1 in
     record {
       name = take n bs;
       blanks = take j left;
-      parts = ap (λ xs. 60 ∷ 47 ∷ xs) (take-add n k bs ∙ ap (λ xs. take n bs ++ xs) front);
+      parts = ap (λ xs. less_than ∷ solidus ∷ xs) (take-add n k bs ∙ ap (λ xs. take n bs ++ xs) front);
       is_name = name_front is_ascii_alphabetic is_tag_byte bs n h;
       is_blanks = prefix_passes is_space_or_tab left;
     }
@@ -212,31 +215,32 @@ after_first : (c : ℕ) (bs rest front others following : List ℕ) → bs ≡ c
 after_first c bs rest front others following whole parts first =
     let e : c ∷ rest ≡ c ∷ (others ++ following) = sym whole ∙ parts ∙ ap (λ xs. xs ++ following) first in cc
 
-name_no_slash : (name others rest : List ℕ) → is_tag_name name ≡ true → name ++ others ≡ 47 ∷ rest → ⊥
+name_no_slash : (name others rest : List ℕ) → is_tag_name name ≡ true → name ++ others ≡ solidus ∷ rest → ⊥
 name_no_slash [] others rest h e = true≢false (sym h)
 name_no_slash (b ∷ name) others rest h e =
-    let same : b ≡ 47 = cc in
+    let same : b ≡ solidus = cc in
     true≢false (sym (and_parts _ _ h).0 ∙ ap is_ascii_alphabetic same)
 
-open_tag : (bs rest front following : List ℕ) → bs ≡ 60 ∷ rest → bs ≡ front ++ following → IsBlockOpenTag front
-    → (others : List ℕ) × (front ≡ 60 ∷ others) × (rest ≡ others ++ following) × IsAfterOpening others
+open_tag : (bs rest front following : List ℕ) → bs ≡ less_than ∷ rest → bs ≡ front ++ following → IsBlockOpenTag front
+    → (others : List ℕ) × (front ≡ less_than ∷ others) × (rest ≡ others ++ following) × IsAfterOpening others
 open_tag bs rest front following whole parts tag =
     let others : List ℕ = tag.0.name ++ (concat tag.0.attributes ++ tag.0.ending) in
-    (others, tag.0.parts, after_first 60 bs rest front others following whole parts tag.0.parts, subst IsBlockOpenTag tag.0.parts tag)
+    (others, tag.0.parts, after_first less_than bs rest front others following whole parts tag.0.parts, subst IsBlockOpenTag tag.0.parts tag)
 
-closing_tag : (bs rest front following : List ℕ) → bs ≡ 60 ∷ rest → bs ≡ front ++ following → IsClosingTag front
-    → (others : List ℕ) × (front ≡ 60 ∷ 47 ∷ others) × (rest ≡ 47 ∷ (others ++ following)) × IsAfterClosing others
+closing_tag : (bs rest front following : List ℕ) → bs ≡ less_than ∷ rest → bs ≡ front ++ following → IsClosingTag front
+    → (others : List ℕ) × (front ≡ less_than ∷ solidus ∷ others) × (rest ≡ solidus ∷ (others ++ following)) × IsAfterClosing others
 closing_tag bs rest front following whole parts tag =
-    let others : List ℕ = tag.name ++ (tag.blanks ++ 62 ∷ []) in
-    (others, tag.parts, after_first 60 bs rest front (47 ∷ others) following whole parts tag.parts, subst IsClosingTag tag.parts tag)
+    let others : List ℕ = tag.name ++ (tag.blanks ++ greater_than ∷ []) in
+    (others, tag.parts, after_first less_than bs rest front (solidus ∷ others) following whole parts tag.parts, subst IsClosingTag tag.parts tag)
 
 -- an open tag, if no slash follows the first byte
-no_closing : (bs rest front following : List ℕ) → bs ≡ 60 ∷ rest → begins 47 rest ≡ false → bs ≡ front ++ following → IsClosingTag front → ⊥
+no_closing : (bs rest front following : List ℕ) → bs ≡ less_than ∷ rest → begins solidus rest ≡ false → bs ≡ front ++ following → IsClosingTag front → ⊥
 no_closing bs rest front following whole plain parts tag =
     let t = closing_tag bs rest front following whole parts tag in
-    true≢false (ap (begins 47) (sym t.2) ∙ plain)
+    true≢false (ap (begins solidus) (sym t.2) ∙ plain)
 
-pub open_found : (bs rest : List ℕ) (n : ℕ) → bs ≡ 60 ∷ rest → begins 47 rest ≡ false → IsOnlyFront IsAfterOpening rest n → IsOnlyFront IsBlockTag bs (n + 1)
+pub open_found : (bs rest : List ℕ) (n : ℕ) → bs ≡ less_than ∷ rest → begins solidus rest ≡ false → IsOnlyFront IsAfterOpening rest n
+    → IsOnlyFront IsBlockTag bs (n + 1)
 open_found bs rest n whole plain o = record {
   within = let fits = o.within in omega (arith, ap length whole);
   is_text = inl (rw (whole, add-one) o.is_text);
@@ -246,24 +250,24 @@ open_found bs rest n whole plain o = record {
   ];
 }
 
-pub open_none : (bs rest : List ℕ) → bs ≡ 60 ∷ rest → begins 47 rest ≡ false → HasNoFront IsAfterOpening rest → HasNoFront IsBlockTag bs
+pub open_none : (bs rest : List ℕ) → bs ≡ less_than ∷ rest → begins solidus rest ≡ false → HasNoFront IsAfterOpening rest → HasNoFront IsBlockTag bs
 open_none bs rest whole plain none front following parts (inl tag) = let t = open_tag bs rest front following whole parts tag in none t.0 following t.2 t.3
 open_none bs rest whole plain none front following parts (inr tag) = no_closing bs rest front following whole plain parts tag
 
 -- a closing tag, if a slash follows the first byte
-no_open : (bs rest front following : List ℕ) → bs ≡ 60 ∷ 47 ∷ rest → bs ≡ front ++ following → IsBlockOpenTag front → ⊥
+no_open : (bs rest front following : List ℕ) → bs ≡ less_than ∷ solidus ∷ rest → bs ≡ front ++ following → IsBlockOpenTag front → ⊥
 no_open bs rest front following whole parts tag =
-    let t = open_tag bs (47 ∷ rest) front following whole parts tag in
-    let r = opening_rest (47 ∷ rest) t.0 following t.2 t.3 in
+    let t = open_tag bs (solidus ∷ rest) front following whole parts tag in
+    let r = opening_rest (solidus ∷ rest) t.0 following t.2 t.3 in
     name_no_slash r.name r.others rest r.is_name (sym r.parts)
 
-closing_after : (bs rest front following : List ℕ) → bs ≡ 60 ∷ 47 ∷ rest → bs ≡ front ++ following → IsClosingTag front
-    → (others : List ℕ) × (front ≡ 60 ∷ 47 ∷ others) × (rest ≡ others ++ following) × IsAfterClosing others
+closing_after : (bs rest front following : List ℕ) → bs ≡ less_than ∷ solidus ∷ rest → bs ≡ front ++ following → IsClosingTag front
+    → (others : List ℕ) × (front ≡ less_than ∷ solidus ∷ others) × (rest ≡ others ++ following) × IsAfterClosing others
 closing_after bs rest front following whole parts tag =
-    let t = closing_tag bs (47 ∷ rest) front following whole parts tag in
+    let t = closing_tag bs (solidus ∷ rest) front following whole parts tag in
     (t.0, t.1, let e = t.2 in cc, t.3)
 
-pub close_found : (bs rest : List ℕ) (n : ℕ) → bs ≡ 60 ∷ 47 ∷ rest → IsOnlyFront IsAfterClosing rest n → IsOnlyFront IsBlockTag bs (n + 2)
+pub close_found : (bs rest : List ℕ) (n : ℕ) → bs ≡ less_than ∷ solidus ∷ rest → IsOnlyFront IsAfterClosing rest n → IsOnlyFront IsBlockTag bs (n + 2)
 close_found bs rest n whole o =
     let two : n + 2 ≡ suc (suc n) = omega arith in
     record {
@@ -275,14 +279,14 @@ close_found bs rest n whole o =
       ];
     }
 
-pub close_none : (bs rest : List ℕ) → bs ≡ 60 ∷ 47 ∷ rest → HasNoFront IsAfterClosing rest → HasNoFront IsBlockTag bs
+pub close_none : (bs rest : List ℕ) → bs ≡ less_than ∷ solidus ∷ rest → HasNoFront IsAfterClosing rest → HasNoFront IsBlockTag bs
 close_none bs rest whole none front following parts (inl tag) = no_open bs rest front following whole parts tag
 close_none bs rest whole none front following parts (inr tag) = let t = closing_after bs rest front following whole parts tag in none t.0 following t.2 t.3
 
 -- no tag begins with another byte
-pub needs_bracket : (bs : List ℕ) → begins 60 bs ≡ false → HasNoFront IsBlockTag bs
-needs_bracket bs plain front following parts (inl tag) = true≢false (ap (begins 60) (sym (parts ∙ ap (λ xs. xs ++ following) tag.0.parts)) ∙ plain)
-needs_bracket bs plain front following parts (inr tag) = true≢false (ap (begins 60) (sym (parts ∙ ap (λ xs. xs ++ following) tag.parts)) ∙ plain)
+pub needs_bracket : (bs : List ℕ) → begins less_than bs ≡ false → HasNoFront IsBlockTag bs
+needs_bracket bs plain front following parts (inl tag) = true≢false (ap (begins less_than) (sym (parts ∙ ap (λ xs. xs ++ following) tag.0.parts)) ∙ plain)
+needs_bracket bs plain front following parts (inr tag) = true≢false (ap (begins less_than) (sym (parts ∙ ap (λ xs. xs ++ following) tag.parts)) ∙ plain)
 
 -- tags after which the rest of the line is blank
 pub tag_line_only : (bs : List ℕ) (n m : ℕ) → IsOnlyFront IsBlockTag bs n → BeginsTagLine bs m → m ≡ n
