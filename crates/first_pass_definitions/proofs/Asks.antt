@@ -5,6 +5,7 @@ use Rattle.std.specs.Borrow.{Bor}
 use Rattle.std.specs.declared.alloc.AllocError.{AllocError}
 use Rattle.std.proofs.lemmas.Bool.{cases_Bool}
 use Rattle.std.proofs.lemmas.List.{drop-drop}
+use Rattle.first_pass_items.specs.Bytes.{colon, left_bracket}
 use Rattle.first_pass_links.specs.Labels.{label_at, CanErr, ErrsAfter, IsRewritten, HasNoBracket}
 use Rattle.first_pass_links.proofs.Labels.{place_past}
 use Rattle.std.specs.Option.{option_map, option_map_or, option_and_then}
@@ -162,29 +163,29 @@ title_crowded around text at start k len title h r b =
 
 -- a definition step by step
 pub ask_label : (t : Bool) (around : Context) (text : List ℕ) (start : ℕ)
-    → begins 91 (drop start text) ≡ true → LabelAsks around t (drop (start + 1) text) → ReferenceAsks t around (drop start text)
+    → begins left_bracket (drop start text) ≡ true → LabelAsks around t (drop (start + 1) text) → ReferenceAsks t around (drop start text)
 ask_label t around text start b a = (b, inl (subst (LabelAsks around t) (sym (drop-drop 1 start text)) a))
 
-pub ask_target : (t : Bool) (around : Context) (text : List ℕ) (start n : ℕ) (label : CowStr) → begins 91 (drop start text) ≡ true
-    → IsLabelAnswer (label_at (prefix_crossed true around) t (drop (start + 1) text)) (Some (n, label)) → begins 58 (drop (start + 1 + n) text) ≡ true
+pub ask_target : (t : Bool) (around : Context) (text : List ℕ) (start n : ℕ) (label : CowStr) → begins left_bracket (drop start text) ≡ true
+    → IsLabelAnswer (label_at (prefix_crossed true around) t (drop (start + 1) text)) (Some (n, label)) → begins colon (drop (start + 1 + n) text) ≡ true
     → TargetAsks t around (drop (start + 1 + n + 1) text) → ReferenceAsks t around (drop start text)
 ask_target t around text start n label b h k a =
     let l = label_found (label_at (prefix_crossed true around) t (drop (start + 1) text)) n label h in
     let bs = drop 1 (drop start text) in
     let there : bs ≡ drop (start + 1) text = drop-drop 1 start text in
     let same = l.2 in
-    let colon : drop l.0.0 bs ≡ drop (start + 1 + n) text =
+    let at_colon : drop l.0.0 bs ≡ drop (start + 1 + n) text =
     ap (drop l.0.0) there ∙ drop-drop l.0.0 (start + 1) text ∙ ap (λ m. drop (start + 1 + m) text) (sym same) in
     let target : drop (l.0.0 + 1) bs ≡ drop (start + 1 + n + 1) text =
     ap (drop (l.0.0 + 1)) there ∙ drop-drop (l.0.0 + 1) (start + 1) text
     ∙ ap (λ m. drop m text) (let z : start + 1 + (l.0.0 + 1) ≡ start + 1 + n + 1 = omega arith in z)
     in
-    (b, inr (inl (l.0, ap (label_at (prefix_crossed true around) t) there ∙ l.1, ap (begins 58) colon ∙ k, subst (TargetAsks t around) (sym target) a)))
+    (b, inr (inl (l.0, ap (label_at (prefix_crossed true around) t) there ∙ l.1, ap (begins colon) at_colon ∙ k, subst (TargetAsks t around) (sym target) a)))
 
 reference_some : (t : Bool) (start : ℕ) (o : Option LinkReference) (found : ℕ × CowStr × LinkDef) → IsReferenceAnswer t start o (Some found) → is_some o ≡ true
 reference_some t start None found h = cc
 reference_some t start (Some r) found h = refl
 
-pub ask_key : (t : Bool) (around : Context) (text : List ℕ) (start : ℕ) (found : ℕ × CowStr × LinkDef) → begins 91 (drop start text) ≡ true
+pub ask_key : (t : Bool) (around : Context) (text : List ℕ) (start : ℕ) (found : ℕ × CowStr × LinkDef) → begins left_bracket (drop start text) ≡ true
     → IsReferenceAnswer t start (reference_definition_at t around (drop start text)) (Some found) → ReferenceAsks t around (drop start text)
 ask_key t around text start found b h = (b, inr (inr (reference_some t start (reference_definition_at t around (drop start text)) found h)))

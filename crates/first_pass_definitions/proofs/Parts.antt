@@ -4,6 +4,7 @@ use Rattle.std.proofs.Common.{subst}
 use Rattle.std.proofs.Common.{◌∙◌, arith}
 use Rattle.std.proofs.lemmas.List.{get_or-drop}
 use Rattle.std.proofs.lemmas.Str.{IsCharBoundary-before_ascii}
+use Rattle.first_pass_items.specs.Bytes.{colon, right_bracket}
 use Rattle.first_pass_items.specs.declared.cow_str.CowStr.{CowStr}
 use Rattle.first_pass_labels.specs.declared.label_table.LinkDef.{LinkDef}
 use Rattle.first_pass_lines.specs.Lines.{begins}
@@ -16,16 +17,16 @@ use Rattle.first_pass_definitions.proofs.Targets.{IsLabelAnswer, IsTargetAnswer,
 
 -- A label is not empty, and its `]` is a character.
 label_ends : (prefix : List ℕ → Option ℕ) (in_table : Bool) (text : List ℕ) (start n : ℕ) (label : CowStr)
-    → IsLabelAnswer (label_at prefix in_table (drop (start + 1) text)) (Some (n, label)) → begins 58 (drop (start + 1 + n) text) ≡ true
+    → IsLabelAnswer (label_at prefix in_table (drop (start + 1) text)) (Some (n, label)) → begins colon (drop (start + 1 + n) text) ≡ true
     → (0 < n) × IsCharBoundary text (start + n)
-label_ends prefix in_table text start n label h colon =
+label_ends prefix in_table text start n label h is_colon =
     let l = label_found (label_at prefix in_table (drop (start + 1) text)) n label h in
     let last = label_last prefix in_table (drop (start + 1) text) l.0 l.1 in
     let same = l.2 in
     let some = last.0 in
-    let there = (first_byte 58 text (start + 1 + n) colon).0 in
+    let there = (first_byte colon text (start + 1 + n) is_colon).0 in
     let i : start + 1 + (l.0.0 - 1) ≡ start + n = omega arith in
-    let byte : slice_index text (start + n) ≡ 93 = ap (slice_index text) (sym i) ∙ sym (get_or-drop (start + 1) text (l.0.0 - 1) 0) ∙ last.1 in
+    let byte : slice_index text (start + n) ≡ right_bracket = ap (slice_index text) (sym i) ∙ sym (get_or-drop (start + 1) text (l.0.0 - 1) 0) ∙ last.1 in
     (omega arith, IsCharBoundary-before_ascii text (start + n) (omega arith) (omega (arith, byte)))
 
 -- where a target is said to begin
@@ -37,11 +38,11 @@ target_from in_table from start (Some t) found h =
 
 -- All parts have their places where those of the target have.
 pub has_parts : (prefix : List ℕ → Option ℕ) (in_table : Bool) (text : List ℕ) (start n : ℕ) (label : CowStr) (o : Option (ℕ × Target)) (found : ℕ × LinkDef)
-    → IsLabelAnswer (label_at prefix in_table (drop (start + 1) text)) (Some (n, label)) → begins 58 (drop (start + 1 + n) text) ≡ true
+    → IsLabelAnswer (label_at prefix in_table (drop (start + 1) text)) (Some (n, label)) → begins colon (drop (start + 1 + n) text) ≡ true
     → IsTargetAnswer in_table start (start + 1 + n + 1) o (Some found) → AreInOrder text (start + 1 + n + 1) found.1 → HasParts text found.1
-has_parts prefix in_table text start n label o found h colon target order =
+has_parts prefix in_table text start n label o found h is_colon target order =
     let definition : LinkDef = found.1 in
-    let ends = label_ends prefix in_table text start n label h colon in
+    let ends = label_ends prefix in_table text start n label h is_colon in
     let some = ends.0 in
     let from = target_from in_table start (start + 1 + n + 1) o found target in
     let begin = from.0 in

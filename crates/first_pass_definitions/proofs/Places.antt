@@ -4,6 +4,7 @@ use Rattle.std.proofs.Common.{IfSome, IsCharBoundary, refl, sym, ap, subst, ◌�
 use Rattle.std.specs.declared.alloc.AllocError.{AllocError}
 use Rattle.std.proofs.lemmas.Bool.{eqb-true}
 use Rattle.std.proofs.lemmas.List.{drop-drop, get_or-drop}
+use Rattle.first_pass_items.specs.Bytes.{line_feed, carriage_return}
 use Rattle.first_pass_lines.specs.Lines.{begins, eol_len, blank_len}
 use Rattle.first_pass_lines.specs.Rest.{Rest}
 use Rattle.first_pass_lines.specs.Places.{place_at, IsPlaceOf}
@@ -40,13 +41,15 @@ rest_place text bytes s r l e i =
     (i.left ∙ sym d, subst (λ xs. IsCharBoundary xs r.taken) (sym e) (part_boundary text s r.taken l i.boundary))
 
 -- a line that is not blank
-feed_by : (t : Bool) (b : ℕ) (bs : List ℕ) → (b == 10) ≡ t → blank_len (b ∷ bs) ≡ None → t ≡ false
+feed_by : (t : Bool) (b : ℕ) (bs : List ℕ) → (b == line_feed) ≡ t → blank_len (b ∷ bs) ≡ None → t ≡ false
 feed_by false b bs h f = refl
-feed_by true b bs h f = let d : b ≡ 10 = eqb-true b 10 h in let z : blank_len (10 ∷ bs) ≡ None = subst (λ x. blank_len (x ∷ bs) ≡ None) d f in cc
+feed_by true b bs h f =
+    let d : b ≡ line_feed = eqb-true b line_feed h in
+    let z : blank_len (line_feed ∷ bs) ≡ None = subst (λ x. blank_len (x ∷ bs) ≡ None) d f in cc
 
-pub no_feed : (xs : List ℕ) → blank_len xs ≡ None → begins 10 xs ≡ false
+pub no_feed : (xs : List ℕ) → blank_len xs ≡ None → begins line_feed xs ≡ false
 no_feed [] h = refl
-no_feed (b ∷ bs) h = feed_by (b == 10) b bs refl h
+no_feed (b ∷ bs) h = feed_by (b == line_feed) b bs refl h
 
 pub some_left : (xs : List ℕ) → blank_len xs ≡ None → 0 < length xs
 some_left [] h = cc
@@ -63,7 +66,7 @@ eol_some_by false false v e h = cc
 
 eol_some : (xs : List ℕ) (e : ℕ) → eol_len xs ≡ Some e → 0 < length xs → 0 < e
 eol_some [] e h l = absurd (omega arith)
-eol_some (b ∷ bs) e h l = eol_some_by (b == 10) (b == 13) (begins 10 bs) e h
+eol_some (b ∷ bs) e h l = eol_some_by (b == line_feed) (b == carriage_return) (begins line_feed bs) e h
 
 -- A line ending has a byte if something follows it.
 pub later_by : (bytes : List ℕ) (at e n : ℕ) → 0 < length (drop (at + e + n) bytes) → eol_len (drop at bytes) ≡ Some e → at < at + e + n

@@ -9,6 +9,8 @@ use Rattle.std.proofs.lemmas.Bool.Decides.{nat_tests}
 use Rattle.std.specs.Option.{option_map, option_and_then, option_map_or}
 use Rattle.std.proofs.lemmas.List.{drop-drop, get_or-drop}
 use Rattle.std.proofs.lemmas.Option.{cond_some}
+use Rattle.first_pass_items.specs.Bytes.{line_feed, carriage_return, quotation_mark, apostrophe, left_parenthesis, right_parenthesis, colon, less_than}
+use Rattle.first_pass_items.specs.Bytes.{greater_than, left_bracket, right_bracket}
 use Rattle.first_pass_lines.specs.Lines.{is_line_end, ends_line, begins, blank_len}
 use Rattle.first_pass_links.specs.Destinations.{unescaped_upto, ends_bracketed, bracketed_at, ends_run, longer, if_closed, closes_none, nesting_after}
 use Rattle.first_pass_links.specs.Destinations.{bare_len}
@@ -92,13 +94,13 @@ reference_by : (t : Bool) (in_table : Bool) (around : Context) (bs : List ℕ) (
 reference_by false in_table around bs r h = cc
 reference_by true in_table around bs r h =
     let l = and_some (reference_definition_after around (drop 1 bs)) (label_at (prefix_crossed true around) in_table (drop 1 bs)) r h in
-    following_by (begins 58 (drop l.0.0 (drop 1 bs))) around (drop 1 bs) l.0 r l.2 bs refl
+    following_by (begins colon (drop l.0.0 (drop 1 bs))) around (drop 1 bs) l.0 r l.2 bs refl
 
 -- After a definition the rest of its line is blank (CommonMark 4.7).
 pub reference_blank : (in_table : Bool) (around : Context) (bs : List ℕ) (r : LinkReference) → reference_definition_at in_table around bs ≡ Some r
     → is_some (blank_len (drop r.size bs)) ≡ true
 unfolding reference_definition_at
-reference_blank in_table around bs r h = reference_by (begins 91 bs) in_table around bs r h
+reference_blank in_table around bs r h = reference_by (begins left_bracket bs) in_table around bs r h
 
 -- the last byte of a destination
 abbrev Plain : List ℕ → ℕ → Type 0
@@ -171,12 +173,12 @@ run_plain deepest nesting (suc zero) (b ∷ bs) p =
     λ k i h l. one_more (bare_len deepest nesting 0 bs) b bs k i h l p (λ n j. run_plain deepest nesting 0 bs tt n j)
 run_plain deepest nesting (suc (suc m)) (b ∷ bs) p = absurd p
 
-bracket_by : (xs : List ℕ) (n : ℕ) (d : ℕ × List ℕ) → (if begins 62 (drop n (drop 1 xs)) then Some (n + 2, take n (drop 1 xs)) else None) ≡ Some d
+bracket_by : (xs : List ℕ) (n : ℕ) (d : ℕ × List ℕ) → (if begins greater_than (drop n (drop 1 xs)) then Some (n + 2, take n (drop 1 xs)) else None) ≡ Some d
     → (0 < d.0) × Plain xs (d.0 - 1)
 bracket_by xs n d h =
-    let p = cond_some (begins 62 (drop n (drop 1 xs))) (n + 2, take n (drop 1 xs)) d h in
+    let p = cond_some (begins greater_than (drop n (drop 1 xs))) (n + 2, take n (drop 1 xs)) d h in
     let e : n + 2 ≡ d.0 = ap (λ (q : ℕ × List ℕ). q.0) p.1 in
-    let f = first_byte 62 xs (1 + n) (ap (begins 62) (sym (drop-drop n 1 xs)) ∙ p.0) in
+    let f = first_byte greater_than xs (1 + n) (ap (begins greater_than) (sym (drop-drop n 1 xs)) ∙ p.0) in
     let i : 1 + n ≡ d.0 - 1 = omega arith in
     (omega arith, ap (λ k. is_line_end (slice_index xs k)) (sym i) ∙ ap is_line_end f.1)
 
@@ -188,7 +190,7 @@ run_last_by false bs n d z h f =
     let k : 0 < n = grind (arith, nat_tests, z) in
     (omega arith, f (d.0 - 1) (omega arith))
 
-dest_by : (t : Bool) (deepest : ℕ) (bs : List ℕ) (d : ℕ × List ℕ) → begins 60 bs ≡ t
+dest_by : (t : Bool) (deepest : ℕ) (bs : List ℕ) (d : ℕ × List ℕ) → begins less_than bs ≡ t
     → (if t then bracketed_at (drop 1 bs) else option_and_then (unbracketed bs) (bare_len deepest 0 0 bs)) ≡ Some d → (0 < d.0) × Plain bs (d.0 - 1)
 unfolding bracketed_at
 dest_by true deepest bs d z h = bracket_by bs (unescaped_upto ends_bracketed 0 (drop 1 bs)) d h
@@ -198,7 +200,7 @@ dest_by false deepest bs d z h =
 
 dest_last : (deepest : ℕ) (bs : List ℕ) (d : ℕ × List ℕ) → destination_at deepest bs ≡ Some d → (0 < d.0) × Plain bs (d.0 - 1)
 unfolding destination_at
-dest_last deepest bs d h = dest_by (begins 60 bs) deepest bs d refl h
+dest_last deepest bs d h = dest_by (begins less_than bs) deepest bs d refl h
 
 -- each byte is at its offset, except line feeds
 abbrev EachOf : (ℕ × ℕ → Type 0) → List (ℕ × ℕ) → Type 0
@@ -209,7 +211,7 @@ abbrev StandsAt : List ℕ → ℕ × ℕ → Type 0
 StandsAt text c = slice_index text c.0 ≡ c.1
 
 abbrev FedAt : List ℕ → ℕ × ℕ → Type 0
-FedAt text c = (c.1 ≡ 10) ⊎ (slice_index text c.0 ≡ c.1)
+FedAt text c = (c.1 ≡ line_feed) ⊎ (slice_index text c.0 ≡ c.1)
 
 first_at : (text : List ℕ) (at b : ℕ) (bs : List ℕ) → drop at text ≡ b ∷ bs → slice_index text at ≡ b
 first_at text at b bs e =
@@ -243,7 +245,7 @@ joined_stands prefix text at zero (b ∷ bs) e =
     (λ n. joined_stands prefix text (at + 1) n bs (rest_at text at b bs e))
 joined_stands prefix text at (suc n) (b ∷ bs) e = joined_skips prefix text at n b bs (joined_stands prefix text (at + 1) n bs (rest_at text at b bs e))
 
-fed_by : (t u : Bool) (text : List ℕ) (c : ℕ × ℕ) (cs : List (ℕ × ℕ)) → (c.1 == 13) ≡ t → begins 10 (bytes_of cs) ≡ u → StandsAt text c
+fed_by : (t u : Bool) (text : List ℕ) (c : ℕ × ℕ) (cs : List (ℕ × ℕ)) → (c.1 == carriage_return) ≡ t → begins line_feed (bytes_of cs) ≡ u → StandsAt text c
     → EachOf (FedAt text) (with_line_feeds cs) → EachOf (FedAt text) (with_line_feeds (c ∷ cs))
 unfolding with_line_feeds
 fed_by false u text c cs h k e f = rw h (inr e, f)
@@ -256,16 +258,16 @@ fed_nothing text = tt
 
 fed : (text : List ℕ) (cs : List (ℕ × ℕ)) → EachOf (StandsAt text) cs → EachOf (FedAt text) (with_line_feeds cs)
 fed text [] e = fed_nothing text
-fed text (c ∷ cs) e = fed_by (c.1 == 13) (begins 10 (bytes_of cs)) text c cs refl refl e.0 (fed text cs e.1)
+fed text (c ∷ cs) e = fed_by (c.1 == carriage_return) (begins line_feed (bytes_of cs)) text c cs refl refl e.0 (fed text cs e.1)
 
-close_at : (text : List ℕ) (close : ℕ) (cs : List (ℕ × ℕ)) (n : ℕ) → EachOf (FedAt text) cs → (close ≡ 10 → ⊥) → begins close (drop n (bytes_of cs)) ≡ true
-    → slice_index text (slice_index (offsets_of cs) n) ≡ close
+close_at : (text : List ℕ) (close : ℕ) (cs : List (ℕ × ℕ)) (n : ℕ) → EachOf (FedAt text) cs → (close ≡ line_feed → ⊥)
+    → begins close (drop n (bytes_of cs)) ≡ true → slice_index text (slice_index (offsets_of cs) n) ≡ close
 close_at text close [] zero e f h = cc
 close_at text close [] (suc n) e f h = cc
 close_at text close (c ∷ cs) zero e f h = elim e.0 [ inl k ↦ absurd (f (sym (eqb-true c.1 close h) ∙ k)) | inr k ↦ k ∙ eqb-true c.1 close h ]
 close_at text close (c ∷ cs) (suc n) e f h = close_at text close cs n e.1 f h
 
-text_last : (prefix : List ℕ → Option ℕ) (close : ℕ) (bs : List ℕ) (t : ℕ × List ℕ) → (close ≡ 10 → ⊥) → title_text prefix close bs ≡ Some t
+text_last : (prefix : List ℕ → Option ℕ) (close : ℕ) (bs : List ℕ) (t : ℕ × List ℕ) → (close ≡ line_feed → ⊥) → title_text prefix close bs ≡ Some t
     → (0 < t.0) × (slice_index bs (t.0 - 1) ≡ close)
 unfolding title_text
 text_last prefix close bs t f h =
@@ -276,20 +278,21 @@ text_last prefix close bs t f h =
     let i : slice_index (offsets_of whole) n ≡ t.0 - 1 = omega arith in
     (omega arith, ap (slice_index bs) (sym i) ∙ close_at bs close whole n (fed bs (joined prefix 0 0 bs) (joined_stands prefix bs 0 0 bs refl)) f p.0)
 
-close_plain_by : (t u v : Bool) (b close : ℕ) → (b == 39) ≡ t → (b == 34) ≡ u → (b == 40) ≡ v → title_end b ≡ Some close → is_line_end close ≡ false
+close_plain_by : (t u v : Bool) (b close : ℕ) → (b == apostrophe) ≡ t → (b == quotation_mark) ≡ u → (b == left_parenthesis) ≡ v → title_end b ≡ Some close
+    → is_line_end close ≡ false
 close_plain_by true u v b close h k l f =
-    let e = eqb-true b 39 h in let z : title_end b ≡ Some b = rw h refl in let i = some_same b close (sym z ∙ f) in rw (sym i ∙ e) refl
+    let e = eqb-true b apostrophe h in let z : title_end b ≡ Some b = rw h refl in let i = some_same b close (sym z ∙ f) in rw (sym i ∙ e) refl
 close_plain_by false true v b close h k l f =
-    let e = eqb-true b 34 k in let z : title_end b ≡ Some b = rw h (rw k refl) in let i = some_same b close (sym z ∙ f) in rw (sym i ∙ e) refl
+    let e = eqb-true b quotation_mark k in let z : title_end b ≡ Some b = rw h (rw k refl) in let i = some_same b close (sym z ∙ f) in rw (sym i ∙ e) refl
 close_plain_by false false true b close h k l f =
-    let z : title_end b ≡ Some 41 = rw h (rw k (rw l refl)) in let i = some_same 41 close (sym z ∙ f) in rw (sym i) refl
+    let z : title_end b ≡ Some right_parenthesis = rw h (rw k (rw l refl)) in let i = some_same right_parenthesis close (sym z ∙ f) in rw (sym i) refl
 close_plain_by false false false b close h k l f = let z : title_end b ≡ None = rw h (rw k (rw l refl)) in let y : None ≡ Some close = sym z ∙ f in cc
 
 close_plain : (b close : ℕ) → title_end b ≡ Some close → is_line_end close ≡ false
-close_plain b close f = close_plain_by (b == 39) (b == 34) (b == 40) b close refl refl refl f
+close_plain b close f = close_plain_by (b == apostrophe) (b == quotation_mark) (b == left_parenthesis) b close refl refl refl f
 
-no_feed_close : (close : ℕ) → is_line_end close ≡ false → close ≡ 10 → ⊥
-no_feed_close close h e = let z : is_line_end 10 ≡ false = ap is_line_end (sym e) ∙ h in cc
+no_feed_close : (close : ℕ) → is_line_end close ≡ false → close ≡ line_feed → ⊥
+no_feed_close close h e = let z : is_line_end line_feed ≡ false = ap is_line_end (sym e) ∙ h in cc
 
 title_last : (around : Context) (bs : List ℕ) (t : ℕ × List ℕ) → title_at around bs ≡ Some t → (0 < t.0) × Plain bs (t.0 - 1)
 unfolding title_at
@@ -377,13 +380,13 @@ reference_last_by : (t : Bool) (in_table : Bool) (around : Context) (bs : List �
 reference_last_by false in_table around bs r h = cc
 reference_last_by true in_table around bs r h =
     let l = and_some (reference_definition_after around (drop 1 bs)) (label_at (prefix_crossed true around) in_table (drop 1 bs)) r h in
-    after_last_by (begins 58 (drop l.0.0 (drop 1 bs))) around (drop 1 bs) l.0 r l.2 bs refl
+    after_last_by (begins colon (drop l.0.0 (drop 1 bs))) around (drop 1 bs) l.0 r l.2 bs refl
 
 -- A definition has a byte, and its last one is no line ending (CommonMark 4.7).
 pub reference_last : (in_table : Bool) (around : Context) (bs : List ℕ) (r : LinkReference) → reference_definition_at in_table around bs ≡ Some r
     → (0 < r.size) × (is_line_end (slice_index bs (r.size - 1)) ≡ false)
 unfolding reference_definition_at
-reference_last in_table around bs r h = reference_last_by (begins 91 bs) in_table around bs r h
+reference_last in_table around bs r h = reference_last_by (begins left_bracket bs) in_table around bs r h
 
 -- the byte that ends a label
 bracket_at : (text : List ℕ) (close : ℕ) (cs : List (ℕ × ℕ)) (n : ℕ) → EachOf (StandsAt text) cs → begins close (drop n (bytes_of cs)) ≡ true
@@ -394,14 +397,14 @@ bracket_at text close (c ∷ cs) zero e h = e.0 ∙ eqb-true c.1 close h
 bracket_at text close (c ∷ cs) (suc n) e h = bracket_at text close cs n e.1 h
 
 pub label_last : (prefix : List ℕ → Option ℕ) (in_table : Bool) (bs : List ℕ) (l : ℕ × List ℕ) → label_at prefix in_table bs ≡ Some l
-    → (0 < l.0) × (slice_index bs (l.0 - 1) ≡ 93)
+    → (0 < l.0) × (slice_index bs (l.0 - 1) ≡ right_bracket)
 unfolding label_at
 label_last prefix in_table bs l h =
     let whole = joined prefix 0 0 bs in
     let n = label_len (bytes_of whole) in
     let label = take n (bytes_of whole) in
-    let p = cond_some (begins 93 (drop n (bytes_of whole)) && is_label label) (slice_index (offsets_of whole) n + 1, as_read in_table label) l h in
+    let p = cond_some (begins right_bracket (drop n (bytes_of whole)) && is_label label) (slice_index (offsets_of whole) n + 1, as_read in_table label) l h in
     let b = and_parts _ _ p.0 in
     let e : slice_index (offsets_of whole) n + 1 ≡ l.0 = ap (λ (q : ℕ × List ℕ). q.0) p.1 in
     let i : slice_index (offsets_of whole) n ≡ l.0 - 1 = omega arith in
-    (omega arith, ap (slice_index bs) (sym i) ∙ bracket_at bs 93 whole n (joined_stands prefix bs 0 0 bs refl) b.0)
+    (omega arith, ap (slice_index bs) (sym i) ∙ bracket_at bs right_bracket whole n (joined_stands prefix bs 0 0 bs refl) b.0)

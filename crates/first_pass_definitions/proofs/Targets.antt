@@ -7,6 +7,7 @@ use Rattle.std.specs.List.{list_any}
 use Rattle.std.proofs.lemmas.Bool.Decides.{nat_tests}
 use Rattle.std.proofs.lemmas.List.{drop-drop}
 use Rattle.std.proofs.lemmas.Str.{IsCharBoundary-after_ascii}
+use Rattle.first_pass_items.specs.Bytes.{colon, left_bracket, ascii_end}
 use Rattle.first_pass_items.specs.declared.cow_str.CowStr.{CowStr}
 use Rattle.first_pass_items.specs.CowText.{text_of}
 use Rattle.first_pass_labels.specs.declared.label_table.LinkDef.{LinkDef}
@@ -276,11 +277,11 @@ is_target around text start from b title in_table found t dest read h =
     })
 
 -- the definition step by step
-pub no_bracket : (in_table : Bool) (around : Context) (bs : List ℕ) → begins 91 bs ≡ false → reference_definition_at in_table around bs ≡ None
+pub no_bracket : (in_table : Bool) (around : Context) (bs : List ℕ) → begins left_bracket bs ≡ false → reference_definition_at in_table around bs ≡ None
 unfolding reference_definition_at
 no_bracket in_table around bs h = rw h refl
 
-at_label : (in_table : Bool) (around : Context) (text : List ℕ) (start : ℕ) → begins 91 (drop start text) ≡ true
+at_label : (in_table : Bool) (around : Context) (text : List ℕ) (start : ℕ) → begins left_bracket (drop start text) ≡ true
     → reference_definition_at in_table around (drop start text) ≡ option_and_then (reference_definition_after around (drop (start + 1) text))
     (label_at (prefix_crossed true around) in_table (drop (start + 1) text))
 unfolding reference_definition_at
@@ -300,16 +301,16 @@ label_none : (o : Option (ℕ × List ℕ)) → IsLabelAnswer o None → o ≡ N
 label_none None h = refl
 label_none (Some l) h = absurd h
 
-pub no_label : (in_table : Bool) (around : Context) (text : List ℕ) (start : ℕ) → begins 91 (drop start text) ≡ true
+pub no_label : (in_table : Bool) (around : Context) (text : List ℕ) (start : ℕ) → begins left_bracket (drop start text) ≡ true
     → IsLabelAnswer (label_at (prefix_crossed true around) in_table (drop (start + 1) text)) None
     → reference_definition_at in_table around (drop start text) ≡ None
 no_label in_table around text start h k =
     at_label in_table around text start h ∙ ap (option_and_then (reference_definition_after around (drop (start + 1) text)))
     (label_none (label_at (prefix_crossed true around) in_table (drop (start + 1) text)) k)
 
-colon_by : (t : Bool) (in_table : Bool) (around : Context) (text : List ℕ) (start n : ℕ) (l : ℕ × List ℕ) → begins 91 (drop start text) ≡ true
+colon_by : (t : Bool) (in_table : Bool) (around : Context) (text : List ℕ) (start n : ℕ) (l : ℕ × List ℕ) → begins left_bracket (drop start text) ≡ true
     → label_at (prefix_crossed true around) in_table (drop (start + 1) text) ≡ Some l → n ≡ l.0
-    → begins 58 (drop (start + 1 + n) text) ≡ t
+    → begins colon (drop (start + 1 + n) text) ≡ t
     → reference_definition_at in_table around (drop start text)
     ≡ (if t then option_map (reference_definition_of l) (target_at around (drop (start + 1 + n + 1) text))
     else None)
@@ -318,11 +319,11 @@ colon_by t in_table around text start n l h k e f =
     let i : start + 1 + (l.0 + 1) ≡ start + 1 + n + 1 = omega arith in
     let b : drop (l.0 + 1) (drop (start + 1) text) ≡ drop (start + 1 + n + 1) text = drop-drop (l.0 + 1) (start + 1) text ∙ ap (λ m. drop m text) i in
     at_label in_table around text start h ∙ ap (option_and_then (reference_definition_after around (drop (start + 1) text))) k
-    ∙ rw (ap (begins 58) a ∙ f) (rw b refl)
+    ∙ rw (ap (begins colon) a ∙ f) (rw b refl)
 
-pub no_colon : (in_table : Bool) (around : Context) (text : List ℕ) (start n : ℕ) (label : CowStr) → begins 91 (drop start text) ≡ true
+pub no_colon : (in_table : Bool) (around : Context) (text : List ℕ) (start n : ℕ) (label : CowStr) → begins left_bracket (drop start text) ≡ true
     → IsLabelAnswer (label_at (prefix_crossed true around) in_table (drop (start + 1) text)) (Some (n, label))
-    → begins 58 (drop (start + 1 + n) text) ≡ false → reference_definition_at in_table around (drop start text) ≡ None
+    → begins colon (drop (start + 1 + n) text) ≡ false → reference_definition_at in_table around (drop start text) ≡ None
 no_colon in_table around text start n label h k f =
     let l = label_found (label_at (prefix_crossed true around) in_table (drop (start + 1) text)) n label k in
     colon_by false in_table around text start n l.0 h l.1 l.2 f
@@ -331,9 +332,10 @@ target_none : (in_table : Bool) (from start : ℕ) (o : Option (ℕ × Target)) 
 target_none in_table from start None h = refl
 target_none in_table from start (Some t) h = absurd h
 
-pub no_target : (in_table : Bool) (around : Context) (text : List ℕ) (start n : ℕ) (label : CowStr) → begins 91 (drop start text) ≡ true
+pub no_target : (in_table : Bool) (around : Context) (text : List ℕ) (start n : ℕ) (label : CowStr) → begins left_bracket (drop start text) ≡ true
     → IsLabelAnswer (label_at (prefix_crossed true around) in_table (drop (start + 1) text)) (Some (n, label))
-    → begins 58 (drop (start + 1 + n) text) ≡ true → IsTargetAnswer in_table start (start + 1 + n + 1) (target_at around (drop (start + 1 + n + 1) text)) None
+    → begins colon (drop (start + 1 + n) text) ≡ true
+    → IsTargetAnswer in_table start (start + 1 + n + 1) (target_at around (drop (start + 1 + n + 1) text)) None
     → reference_definition_at in_table around (drop start text) ≡ None
 no_target in_table around text start n label h k f t =
     let l = label_found (label_at (prefix_crossed true around) in_table (drop (start + 1) text)) n label k in
@@ -361,8 +363,8 @@ reference_by in_table start n m l label definition (Some t) e h found =
     }
 
 pub is_reference : (in_table : Bool) (around : Context) (text : List ℕ) (start n m : ℕ) (label : CowStr) (definition : LinkDef)
-    → begins 91 (drop start text) ≡ true
-    → IsLabelAnswer (label_at (prefix_crossed true around) in_table (drop (start + 1) text)) (Some (n, label)) → begins 58 (drop (start + 1 + n) text) ≡ true
+    → begins left_bracket (drop start text) ≡ true
+    → IsLabelAnswer (label_at (prefix_crossed true around) in_table (drop (start + 1) text)) (Some (n, label)) → begins colon (drop (start + 1 + n) text) ≡ true
     → IsTargetAnswer in_table start (start + 1 + n + 1) (target_at around (drop (start + 1 + n + 1) text)) (Some (m, definition))
     → IsReferenceAnswer in_table start (reference_definition_at in_table around (drop start text)) (Some (n + 2 + m, label, definition))
 is_reference in_table around text start n m label definition h k f t =
@@ -372,5 +374,5 @@ is_reference in_table around text start n m label definition h k f t =
     (reference_by in_table start n m l.0 label definition (target_at around (drop (start + 1 + n + 1) text)) l.2 l.3 t)
 
 -- after an ASCII byte
-pub after_byte : (byte : ℕ) (text : List ℕ) (at : ℕ) → byte < 128 → IsUtf8 text → begins byte (drop at text) ≡ true → IsCharBoundary text (at + 1)
+pub after_byte : (byte : ℕ) (text : List ℕ) (at : ℕ) → byte < ascii_end → IsUtf8 text → begins byte (drop at text) ≡ true → IsCharBoundary text (at + 1)
 after_byte byte text at low u h = let there = first_byte byte text at h in IsCharBoundary-after_ascii text at u there.0 (omega (arith, there.1, low))

@@ -9,6 +9,7 @@ use Rattle.std.proofs.lemmas.List.{drop-drop, drop_more, append-nil}
 use Rattle.std.specs.Option.{option_map, option_and_then}
 use Rattle.std.specs.List.{list_any}
 use Rattle.std.specs.Char.{is_ascii_punctuation}
+use Rattle.first_pass_items.specs.Bytes.{line_feed, carriage_return, quotation_mark, apostrophe, left_parenthesis, right_parenthesis, backslash, ascii_end}
 use Rattle.first_pass_items.specs.declared.cow_str.CowStr.{CowStr}
 use Rattle.first_pass_items.specs.CowText.{text_of}
 use Rattle.first_pass_lines.specs.Lines.{begins, is_line_end, ends_line, eol_len}
@@ -89,30 +90,30 @@ closes-plain close (inl h) = rw h refl
 closes-plain close (inr (inl h)) = rw h refl
 closes-plain close (inr (inr h)) = rw h refl
 
-stop_39 : (b : ℕ) → stops_title_line 39 b ≡ true → (b == 92) ≡ false
-stop_39 b h = grind (arith, nat_tests, h)
+stop_apostrophe : (b : ℕ) → stops_title_line apostrophe b ≡ true → (b == backslash) ≡ false
+stop_apostrophe b h = grind (arith, nat_tests, h)
 
-stop_34 : (b : ℕ) → stops_title_line 34 b ≡ true → (b == 92) ≡ false
-stop_34 b h = grind (arith, nat_tests, h)
+stop_quotation_mark : (b : ℕ) → stops_title_line quotation_mark b ≡ true → (b == backslash) ≡ false
+stop_quotation_mark b h = grind (arith, nat_tests, h)
 
-stop_41 : (b : ℕ) → stops_title_line 41 b ≡ true → (b == 92) ≡ false
-stop_41 b h = grind (arith, nat_tests, h)
+stop_right_parenthesis : (b : ℕ) → stops_title_line right_parenthesis b ≡ true → (b == backslash) ≡ false
+stop_right_parenthesis b h = grind (arith, nat_tests, h)
 
-pub stop-plain : (close b : ℕ) → ClosesTitle close → stops_title_line close b ≡ true → (b == 92) ≡ false
-stop-plain close b (inl h) s = stop_39 b (ap (λ c. stops_title_line c b) (sym h) ∙ s)
-stop-plain close b (inr (inl h)) s = stop_34 b (ap (λ c. stops_title_line c b) (sym h) ∙ s)
-stop-plain close b (inr (inr h)) s = stop_41 b (ap (λ c. stops_title_line c b) (sym h) ∙ s)
+pub stop-plain : (close b : ℕ) → ClosesTitle close → stops_title_line close b ≡ true → (b == backslash) ≡ false
+stop-plain close b (inl h) s = stop_apostrophe b (ap (λ c. stops_title_line c b) (sym h) ∙ s)
+stop-plain close b (inr (inl h)) s = stop_quotation_mark b (ap (λ c. stops_title_line c b) (sym h) ∙ s)
+stop-plain close b (inr (inr h)) s = stop_right_parenthesis b (ap (λ c. stops_title_line c b) (sym h) ∙ s)
 
-feed-plain : (close : ℕ) → ClosesTitle close → ends_title close 10 ≡ false
+feed-plain : (close : ℕ) → ClosesTitle close → ends_title close line_feed ≡ false
 feed-plain close (inl h) = rw h refl
 feed-plain close (inr (inl h)) = rw h refl
 feed-plain close (inr (inr h)) = rw h refl
 
-no_escape : (b : ℕ) (bs : List ℕ) → (b == 92) ≡ false → begins_escape (b ∷ bs) ≡ false
+no_escape : (b : ℕ) (bs : List ℕ) → (b == backslash) ≡ false → begins_escape (b ∷ bs) ≡ false
 no_escape b bs h = rw h refl
 
 -- the lines joined
-no_end : (b : ℕ) (bs : List ℕ) → is_line_end b ≡ false → (ends_line b bs ≡ false) × ((b == 13) ≡ false)
+no_end : (b : ℕ) (bs : List ℕ) → is_line_end b ≡ false → (ends_line b bs ≡ false) × ((b == carriage_return) ≡ false)
 no_end b bs h = (grind (arith, nat_tests, h), grind (arith, nat_tests, h))
 
 pub left-byte : (prefix : List ℕ → Option ℕ) (at b : ℕ) (bs : List ℕ) → is_line_end b ≡ false
@@ -125,16 +126,16 @@ unfolding left_of joined with_line_feeds
 left-nil prefix at = refl
 
 -- a line feed for a line ending
-feed_by : (t u : Bool) (o b : ℕ) (cs : List (ℕ × ℕ)) → (b == 13) ≡ t → begins 10 (bytes_of cs) ≡ u → is_line_end b ≡ true
-    → slice_index (bytes_of (with_line_feeds ((o, b) ∷ cs))) 0 ≡ 10
+feed_by : (t u : Bool) (o b : ℕ) (cs : List (ℕ × ℕ)) → (b == carriage_return) ≡ t → begins line_feed (bytes_of cs) ≡ u → is_line_end b ≡ true
+    → slice_index (bytes_of (with_line_feeds ((o, b) ∷ cs))) 0 ≡ line_feed
 unfolding with_line_feeds
 feed_by false u o b cs h k e = rw h (grind (arith, nat_tests, e, h))
 feed_by true false o b cs h k e = rw h (rw k refl)
 feed_by true true o b [] h k e = cc
-feed_by true true o b (c ∷ cs) h k e = rw h (rw k (let d : c.1 ≡ 10 = eqb-true c.1 10 k in rw d refl))
+feed_by true true o b (c ∷ cs) h k e = rw h (rw k (let d : c.1 ≡ line_feed = eqb-true c.1 line_feed k in rw d refl))
 
-feed-first : (o b : ℕ) (cs : List (ℕ × ℕ)) → is_line_end b ≡ true → slice_index (bytes_of (with_line_feeds ((o, b) ∷ cs))) 0 ≡ 10
-feed-first o b cs e = feed_by (b == 13) (begins 10 (bytes_of cs)) o b cs refl refl e
+feed-first : (o b : ℕ) (cs : List (ℕ × ℕ)) → is_line_end b ≡ true → slice_index (bytes_of (with_line_feeds ((o, b) ∷ cs))) 0 ≡ line_feed
+feed-first o b cs e = feed_by (b == carriage_return) (begins line_feed (bytes_of cs)) o b cs refl refl e
 
 feeds-nil : with_line_feeds [] ≡ []
 unfolding with_line_feeds
@@ -163,7 +164,7 @@ same_punctuation prefix at [] = ap (λ cs. is_ascii_punctuation (slice_index (by
 same_punctuation prefix at (b ∷ bs) = punctuation_by (is_line_end b) prefix at b bs refl
 
 same_escape : (prefix : List ℕ → Option ℕ) (at b : ℕ) (bs : List ℕ) → begins_escape (b ∷ bytes_of (left_of prefix at bs)) ≡ begins_escape (b ∷ bs)
-same_escape prefix at b bs = ap (λ t. (b == 92) && t) (same_punctuation prefix at bs)
+same_escape prefix at b bs = ap (λ t. (b == backslash) && t) (same_punctuation prefix at bs)
 
 or_parts : (t u : Bool) → (t || u) ≡ false → (t ≡ false) × (u ≡ false)
 or_parts true u h = cc
@@ -224,7 +225,7 @@ stands_by false false prefix close at b p bs h k f g = stands_byte prefix close 
 stands_by true false prefix close at b p bs h k f g = stands_stopped prefix close at (b ∷ p ∷ bs) (upto-stop (stops_title_line close) b (p ∷ bs) k h)
 
 alone : (b : ℕ) → begins_escape (b ∷ []) ≡ false
-alone b = last_by (b == 92)
+alone b = last_by (b == backslash)
 
 stands_last : (s : Bool) (prefix : List ℕ → Option ℕ) (close at b : ℕ) → stops_title_line close b ≡ s → AsItStands prefix close (at + 1) []
     → AsItStands prefix close at (b ∷ [])
@@ -239,114 +240,117 @@ as_it_stands prefix close at (b ∷ p ∷ bs) c =
     (as_it_stands prefix close (at + 1 + 1) bs c)
 
 -- no line feed comes first if none is first in the bytes
-no_feed_by : (t : Bool) (o : Option ℕ) (h : List ℕ → Option ℕ) (at b : ℕ) (bs : List ℕ) → ends_line b bs ≡ t → h bs ≡ o → (b == 10) ≡ false
-    → begins 10 (bytes_of (joined h at 0 (b ∷ bs))) ≡ false
+no_feed_by : (t : Bool) (o : Option ℕ) (h : List ℕ → Option ℕ) (at b : ℕ) (bs : List ℕ) → ends_line b bs ≡ t → h bs ≡ o → (b == line_feed) ≡ false
+    → begins line_feed (bytes_of (joined h at 0 (b ∷ bs))) ≡ false
 unfolding joined
 no_feed_by false o h at b bs e f g = rw e g
 no_feed_by true (Some n) h at b bs e f g = rw e (rw f g)
 no_feed_by true None h at b bs e f g = rw e (rw f refl)
 
-refl_nil : (h : List ℕ → Option ℕ) (at : ℕ) → begins 10 (bytes_of (joined h at 0 [])) ≡ false
+refl_nil : (h : List ℕ → Option ℕ) (at : ℕ) → begins line_feed (bytes_of (joined h at 0 [])) ≡ false
 unfolding joined
 refl_nil h at = refl
 
-no_feed : (h : List ℕ → Option ℕ) (at : ℕ) (bs : List ℕ) → begins 10 bs ≡ false → begins 10 (bytes_of (joined h at 0 bs)) ≡ false
+no_feed : (h : List ℕ → Option ℕ) (at : ℕ) (bs : List ℕ) → begins line_feed bs ≡ false → begins line_feed (bytes_of (joined h at 0 bs)) ≡ false
 no_feed h at [] g = refl_nil h at
 no_feed h at (b ∷ bs) g = no_feed_by (ends_line b bs) (h bs) h at b bs refl refl g
 
 -- at a line ending
-fed_10 : (prefix : List ℕ → Option ℕ) (at n : ℕ) (bs : List ℕ) → prefix bs ≡ Some n
-    → left_of prefix at (10 ∷ bs) ≡ (at, 10) ∷ left_of prefix (at + 1 + n) (drop n bs)
+fed_line_feed : (prefix : List ℕ → Option ℕ) (at n : ℕ) (bs : List ℕ) → prefix bs ≡ Some n
+    → left_of prefix at (line_feed ∷ bs) ≡ (at, line_feed) ∷ left_of prefix (at + 1 + n) (drop n bs)
 unfolding left_of joined with_line_feeds
-fed_10 prefix at n bs f = rw f (ap (λ cs. (at, 10) ∷ with_line_feeds cs) (joined_after prefix (at + 1) n bs))
+fed_line_feed prefix at n bs f = rw f (ap (λ cs. (at, line_feed) ∷ with_line_feeds cs) (joined_after prefix (at + 1) n bs))
 
-fed_13 : (prefix : List ℕ → Option ℕ) (at n : ℕ) (bs : List ℕ) → begins 10 bs ≡ false → prefix bs ≡ Some n → begins 10 (drop n bs) ≡ false
-    → left_of prefix at (13 ∷ bs) ≡ (at, 10) ∷ left_of prefix (at + 1 + n) (drop n bs)
+fed_carriage_return : (prefix : List ℕ → Option ℕ) (at n : ℕ) (bs : List ℕ) → begins line_feed bs ≡ false → prefix bs ≡ Some n
+    → begins line_feed (drop n bs) ≡ false → left_of prefix at (carriage_return ∷ bs) ≡ (at, line_feed) ∷ left_of prefix (at + 1 + n) (drop n bs)
 unfolding left_of joined with_line_feeds
-fed_13 prefix at n bs h f g =
+fed_carriage_return prefix at n bs h f g =
     rw h (rw f (rw (joined_after prefix (at + 1) n bs) (rw (no_feed prefix (at + 1 + n) (drop n bs) g) refl)))
 
 fed_both : (prefix : List ℕ → Option ℕ) (at n : ℕ) (bs : List ℕ) → prefix bs ≡ Some n
-    → left_of prefix at (13 ∷ 10 ∷ bs) ≡ (at + 1, 10) ∷ left_of prefix (at + 2 + n) (drop n bs)
+    → left_of prefix at (carriage_return ∷ line_feed ∷ bs) ≡ (at + 1, line_feed) ∷ left_of prefix (at + 2 + n) (drop n bs)
 unfolding left_of joined with_line_feeds
 fed_both prefix at n bs f =
     let e : at + 1 + 1 ≡ at + 2 = omega arith in
-    rw f (rw e (ap (λ cs. (at + 1, 10) ∷ with_line_feeds cs) (joined_after prefix (at + 2) n bs)))
+    rw f (rw e (ap (λ cs. (at + 1, line_feed) ∷ with_line_feeds cs) (joined_after prefix (at + 2) n bs)))
 
-fed_title : (close o : ℕ) (cs ds : List (ℕ × ℕ)) → ClosesTitle close → cs ≡ (o, 10) ∷ ds → title_of close cs ≡ after_text (10 ∷ []) (title_of close ds)
-fed_title close o cs ds c e = ap (title_of close) e ∙ title-byte close o 10 ds refl (feed-plain close c)
+fed_title : (close o : ℕ) (cs ds : List (ℕ × ℕ)) → ClosesTitle close → cs ≡ (o, line_feed) ∷ ds
+    → title_of close cs ≡ after_text (line_feed ∷ []) (title_of close ds)
+fed_title close o cs ds c e = ap (title_of close) e ∙ title-byte close o line_feed ds refl (feed-plain close c)
 
 abbrev GoesOn : (List ℕ → Option ℕ) → ℕ → ℕ → ℕ → List ℕ → ℕ → Type 0
 GoesOn prefix close at n bs e =
-    prefix (drop e bs) ≡ Some n → begins 10 (drop n (drop e bs)) ≡ false
-    → title_of close (left_of prefix at bs) ≡ after_text (10 ∷ []) (title_of close (left_of prefix (at + e + n) (drop n (drop e bs))))
+    prefix (drop e bs) ≡ Some n → begins line_feed (drop n (drop e bs)) ≡ false
+    → title_of close (left_of prefix at bs) ≡ after_text (line_feed ∷ []) (title_of close (left_of prefix (at + e + n) (drop n (drop e bs))))
 
 -- These bytes begin with a line ending of this length: a line feed, a carriage return, or both.
 abbrev IsEnding : List ℕ → ℕ → Type 0
 IsEnding bs e =
-    ((rest : List ℕ) × (bs ≡ 10 ∷ rest) × (1 ≡ e)) ⊎ ((rest : List ℕ) × (bs ≡ 13 ∷ rest) × (begins 10 rest ≡ false) × (1 ≡ e))
-    ⊎ ((rest : List ℕ) × (bs ≡ 13 ∷ 10 ∷ rest) × (2 ≡ e))
+    ((rest : List ℕ) × (bs ≡ line_feed ∷ rest) × (1 ≡ e)) ⊎ ((rest : List ℕ) × (bs ≡ carriage_return ∷ rest) × (begins line_feed rest ≡ false) × (1 ≡ e))
+    ⊎ ((rest : List ℕ) × (bs ≡ carriage_return ∷ line_feed ∷ rest) × (2 ≡ e))
 
-ending_by : (t u v : Bool) (b e : ℕ) (bs : List ℕ) → (b == 10) ≡ t → (b == 13) ≡ u → begins 10 bs ≡ v
+ending_by : (t u v : Bool) (b e : ℕ) (bs : List ℕ) → (b == line_feed) ≡ t → (b == carriage_return) ≡ u → begins line_feed bs ≡ v
     → (if t then Some 1 else (if u then Some (if v then 2 else 1) else None)) ≡ Some e → IsEnding (b ∷ bs) e
 ending_by true u v b e bs h k l f =
-    let d : b ≡ 10 = eqb-true b 10 h in
+    let d : b ≡ line_feed = eqb-true b line_feed h in
     let i : 1 ≡ e = cc in
     inl (bs, ap (λ x. x ∷ bs) d, i)
 ending_by false true false b e bs h k l f =
-    let d : b ≡ 13 = eqb-true b 13 k in
+    let d : b ≡ carriage_return = eqb-true b carriage_return k in
     let i : 1 ≡ e = cc in
     inr (inl (bs, ap (λ x. x ∷ bs) d, l, i))
 ending_by false true true b e [] h k l f = cc
 ending_by false true true b e (x ∷ bs) h k l f =
-    let d : b ≡ 13 = eqb-true b 13 k in
-    let y : x ≡ 10 = eqb-true x 10 l in
+    let d : b ≡ carriage_return = eqb-true b carriage_return k in
+    let y : x ≡ line_feed = eqb-true x line_feed l in
     let i : 2 ≡ e = cc in
-    inr (inr (bs, ap (λ z. z ∷ x ∷ bs) d ∙ ap (λ z. 13 ∷ z ∷ bs) y, i))
+    inr (inr (bs, ap (λ z. z ∷ x ∷ bs) d ∙ ap (λ z. carriage_return ∷ z ∷ bs) y, i))
 ending_by false false v b e bs h k l f = cc
 
 ending : (bs : List ℕ) (e : ℕ) → eol_len bs ≡ Some e → 0 < length bs → IsEnding bs e
 ending [] e h l = absurd (omega arith)
-ending (b ∷ bs) e h l = ending_by (b == 10) (b == 13) (begins 10 bs) b e bs refl refl refl h
+ending (b ∷ bs) e h l = ending_by (b == line_feed) (b == carriage_return) (begins line_feed bs) b e bs refl refl refl h
 
 continues : (prefix : List ℕ → Option ℕ) (close at n e : ℕ) (bs : List ℕ) → ClosesTitle close → IsEnding bs e → GoesOn prefix close at n bs e
 continues prefix close at n e bs c (inl (rest, is, i)) =
     subst (λ xs. GoesOn prefix close at n xs e) (sym is)
-    (subst (GoesOn prefix close at n (10 ∷ rest)) i (λ p q. fed_title close at _ _ c (fed_10 prefix at n rest p)))
+    (subst (GoesOn prefix close at n (line_feed ∷ rest)) i (λ p q. fed_title close at _ _ c (fed_line_feed prefix at n rest p)))
 continues prefix close at n e bs c (inr (inl (rest, is, l, i))) =
     subst (λ xs. GoesOn prefix close at n xs e) (sym is)
-    (subst (GoesOn prefix close at n (13 ∷ rest)) i (λ p q. fed_title close at _ _ c (fed_13 prefix at n rest l p q)))
+    (subst (GoesOn prefix close at n (carriage_return ∷ rest)) i (λ p q. fed_title close at _ _ c (fed_carriage_return prefix at n rest l p q)))
 continues prefix close at n e bs c (inr (inr (rest, is, i))) =
     subst (λ xs. GoesOn prefix close at n xs e) (sym is)
-    (subst (GoesOn prefix close at n (13 ∷ 10 ∷ rest)) i (λ p q. fed_title close (at + 1) _ _ c (fed_both prefix at n rest p)))
+    (subst (GoesOn prefix close at n (carriage_return ∷ line_feed ∷ rest)) i (λ p q. fed_title close (at + 1) _ _ c (fed_both prefix at n rest p)))
 
 -- the title does not continue
 abbrev StopsThere : (List ℕ → Option ℕ) → ℕ → ℕ → List ℕ → ℕ → Type 0
 StopsThere prefix close at bs e = prefix (drop e bs) ≡ None → title_of close (left_of prefix at bs) ≡ None
 
-stopped_10 : (prefix : List ℕ → Option ℕ) (at : ℕ) (bs : List ℕ) → prefix bs ≡ None → left_of prefix at (10 ∷ bs) ≡ []
+stopped_line_feed : (prefix : List ℕ → Option ℕ) (at : ℕ) (bs : List ℕ) → prefix bs ≡ None → left_of prefix at (line_feed ∷ bs) ≡ []
 unfolding left_of joined with_line_feeds
-stopped_10 prefix at bs f = rw f refl
+stopped_line_feed prefix at bs f = rw f refl
 
-stopped_13 : (prefix : List ℕ → Option ℕ) (at : ℕ) (bs : List ℕ) → begins 10 bs ≡ false → prefix bs ≡ None → left_of prefix at (13 ∷ bs) ≡ []
+stopped_carriage_return : (prefix : List ℕ → Option ℕ) (at : ℕ) (bs : List ℕ) → begins line_feed bs ≡ false → prefix bs ≡ None
+    → left_of prefix at (carriage_return ∷ bs) ≡ []
 unfolding left_of joined with_line_feeds
-stopped_13 prefix at bs h f = rw h (rw f refl)
+stopped_carriage_return prefix at bs h f = rw h (rw f refl)
 
-stopped_both : (prefix : List ℕ → Option ℕ) (at : ℕ) (bs : List ℕ) → prefix bs ≡ None → left_of prefix at (13 ∷ 10 ∷ bs) ≡ (at, 10) ∷ []
+stopped_both : (prefix : List ℕ → Option ℕ) (at : ℕ) (bs : List ℕ) → prefix bs ≡ None
+    → left_of prefix at (carriage_return ∷ line_feed ∷ bs) ≡ (at, line_feed) ∷ []
 unfolding left_of joined with_line_feeds
 stopped_both prefix at bs f = rw f refl
 
 stops_by : (prefix : List ℕ → Option ℕ) (close at e : ℕ) (bs : List ℕ) → ClosesTitle close → IsEnding bs e → StopsThere prefix close at bs e
 stops_by prefix close at e bs c (inl (rest, is, i)) =
     subst (λ xs. StopsThere prefix close at xs e) (sym is)
-    (subst (StopsThere prefix close at (10 ∷ rest)) i (λ p. ap (title_of close) (stopped_10 prefix at rest p) ∙ title-nil close))
+    (subst (StopsThere prefix close at (line_feed ∷ rest)) i (λ p. ap (title_of close) (stopped_line_feed prefix at rest p) ∙ title-nil close))
 stops_by prefix close at e bs c (inr (inl (rest, is, l, i))) =
     subst (λ xs. StopsThere prefix close at xs e) (sym is)
-    (subst (StopsThere prefix close at (13 ∷ rest)) i (λ p. ap (title_of close) (stopped_13 prefix at rest l p) ∙ title-nil close))
+    (subst (StopsThere prefix close at (carriage_return ∷ rest)) i (λ p. ap (title_of close) (stopped_carriage_return prefix at rest l p) ∙ title-nil close))
 stops_by prefix close at e bs c (inr (inr (rest, is, i))) =
     subst (λ xs. StopsThere prefix close at xs e) (sym is)
-    (subst (StopsThere prefix close at (13 ∷ 10 ∷ rest)) i (λ p.
-    fed_title close at _ [] c (stopped_both prefix at rest p) ∙ past_none (10 ∷ []) (title_of close []) (title-nil close)))
+    (subst (StopsThere prefix close at (carriage_return ∷ line_feed ∷ rest)) i (λ p.
+    fed_title close at _ [] c (stopped_both prefix at rest p) ∙ past_none (line_feed ∷ []) (title_of close []) (title-nil close)))
 
 stops_there : (prefix : List ℕ → Option ℕ) (close at e : ℕ) (bs : List ℕ) → ClosesTitle close → eol_len bs ≡ Some e → StopsThere prefix close at bs e
 stops_there prefix close at e [] c h = λ p. ap (title_of close) (left-nil prefix at) ∙ title-nil close
@@ -385,14 +389,14 @@ first_stops close (b ∷ p ∷ bs) =
 abbrev some_end : ℕ → Option ℕ
 some_end n = Some n
 
-no_eol_by : (t u : Bool) (b : ℕ) (bs : List ℕ) → (b == 10) ≡ t → (b == 13) ≡ u
-    → (if t then some_end 1 else (if u then some_end (if begins 10 bs then 2 else 1) else None)) ≡ None → is_line_end b ≡ false
+no_eol_by : (t u : Bool) (b : ℕ) (bs : List ℕ) → (b == line_feed) ≡ t → (b == carriage_return) ≡ u
+    → (if t then some_end 1 else (if u then some_end (if begins line_feed bs then 2 else 1) else None)) ≡ None → is_line_end b ≡ false
 no_eol_by true u b bs h k f = cc
 no_eol_by false true b bs h k f = cc
 no_eol_by false false b bs h k f = rw h (rw k refl)
 
 no_eol : (b : ℕ) (bs : List ℕ) → eol_len (b ∷ bs) ≡ None → is_line_end b ≡ false
-no_eol b bs h = no_eol_by (b == 10) (b == 13) b bs refl refl h
+no_eol b bs h = no_eol_by (b == line_feed) (b == carriage_return) b bs refl refl h
 
 or_right : (t u : Bool) → t ≡ false → (t || u) ≡ true → u ≡ true
 or_right true u h f = cc
@@ -448,28 +452,28 @@ no_break prefix close from at text c is g k =
     break_by (eol_len (drop at text)) prefix close at text c s g refl (sym k)
 
 some_by_break : (q : Option ℕ) (prefix : List ℕ → Option ℕ) (close at next e : ℕ) (text : List ℕ) → ClosesTitle close → IsEnding (drop at text) e
-    → prefix (drop (at + e) text) ≡ q → option_map (λ n. at + e + n) q ≡ Some next → begins 10 (drop next text) ≡ false
-    → title_of close (left_of prefix at (drop at text)) ≡ after_text (10 ∷ []) (title_of close (left_of prefix next (drop next text)))
+    → prefix (drop (at + e) text) ≡ q → option_map (λ n. at + e + n) q ≡ Some next → begins line_feed (drop next text) ≡ false
+    → title_of close (left_of prefix at (drop at text)) ≡ after_text (line_feed ∷ []) (title_of close (left_of prefix next (drop next text)))
 some_by_break None prefix close at next e text c h p k g = cc
 some_by_break (Some n) prefix close at next e text c h p k g =
     let i : at + e + n ≡ next = cc in
     let d : drop n (drop e (drop at text)) ≡ drop (at + e + n) text = ap (drop n) (drop-drop e at text) ∙ drop-drop n (at + e) text in
     let a = continues prefix close at n e (drop at text) c h (ap prefix (drop-drop e at text) ∙ p)
-    (ap (begins 10) d ∙ ap (λ k. begins 10 (drop k text)) i ∙ g) in
-    a ∙ ap (λ xs. after_text (10 ∷ []) (title_of close (left_of prefix (at + e + n) xs))) d
-    ∙ ap (λ k. after_text (10 ∷ []) (title_of close (left_of prefix k (drop k text)))) i
+    (ap (begins line_feed) d ∙ ap (λ k. begins line_feed (drop k text)) i ∙ g) in
+    a ∙ ap (λ xs. after_text (line_feed ∷ []) (title_of close (left_of prefix (at + e + n) xs))) d
+    ∙ ap (λ k. after_text (line_feed ∷ []) (title_of close (left_of prefix k (drop k text)))) i
 
 some_break_by : (o : Option ℕ) (prefix : List ℕ → Option ℕ) (close at next : ℕ) (text : List ℕ) → ClosesTitle close → 0 < length (drop at text)
     → eol_len (drop at text) ≡ o
-    → option_and_then (λ e. option_map (λ n. at + e + n) (prefix (drop (at + e) text))) o ≡ Some next → begins 10 (drop next text) ≡ false
-    → title_of close (left_of prefix at (drop at text)) ≡ after_text (10 ∷ []) (title_of close (left_of prefix next (drop next text)))
+    → option_and_then (λ e. option_map (λ n. at + e + n) (prefix (drop (at + e) text))) o ≡ Some next → begins line_feed (drop next text) ≡ false
+    → title_of close (left_of prefix at (drop at text)) ≡ after_text (line_feed ∷ []) (title_of close (left_of prefix next (drop next text)))
 some_break_by None prefix close at next text c l h k g = cc
 some_break_by (Some e) prefix close at next text c l h k g =
     some_by_break (prefix (drop (at + e) text)) prefix close at next e text c (ending (drop at text) e h l) refl k g
 
 pub some_break : (prefix : List ℕ → Option ℕ) (close at next : ℕ) (text : List ℕ) → ClosesTitle close → at < length text
-    → Some next ≡ goes_on_at prefix text at → begins 10 (drop next text) ≡ false
-    → title_of close (left_of prefix at (drop at text)) ≡ after_text (10 ∷ []) (title_of close (left_of prefix next (drop next text)))
+    → Some next ≡ goes_on_at prefix text at → begins line_feed (drop next text) ≡ false
+    → title_of close (left_of prefix at (drop at text)) ≡ after_text (line_feed ∷ []) (title_of close (left_of prefix next (drop next text)))
 some_break prefix close at next text c l k g =
     let d = length-drop at text in
     some_break_by (eol_len (drop at text)) prefix close at next text c (omega arith) refl (sym k) g
@@ -487,19 +491,19 @@ line_is prefix close from at text c is =
     ∙ ap (λ m. after_text (take m (drop from text)) (title_of close (left_of prefix at (drop at text)))) (sym n)
 
 -- A line of a title stops at a character boundary.
-low_39 : (b : ℕ) → stops_title_line 39 b ≡ true → b < 128
-low_39 b h = grind (arith, nat_tests, h)
+low_apostrophe : (b : ℕ) → stops_title_line apostrophe b ≡ true → b < ascii_end
+low_apostrophe b h = grind (arith, nat_tests, h)
 
-low_34 : (b : ℕ) → stops_title_line 34 b ≡ true → b < 128
-low_34 b h = grind (arith, nat_tests, h)
+low_quotation_mark : (b : ℕ) → stops_title_line quotation_mark b ≡ true → b < ascii_end
+low_quotation_mark b h = grind (arith, nat_tests, h)
 
-low_41 : (b : ℕ) → stops_title_line 41 b ≡ true → b < 128
-low_41 b h = grind (arith, nat_tests, h)
+low_right_parenthesis : (b : ℕ) → stops_title_line right_parenthesis b ≡ true → b < ascii_end
+low_right_parenthesis b h = grind (arith, nat_tests, h)
 
-stop-low : (close b : ℕ) → ClosesTitle close → stops_title_line close b ≡ true → b < 128
-stop-low close b (inl h) s = low_39 b (ap (λ c. stops_title_line c b) (sym h) ∙ s)
-stop-low close b (inr (inl h)) s = low_34 b (ap (λ c. stops_title_line c b) (sym h) ∙ s)
-stop-low close b (inr (inr h)) s = low_41 b (ap (λ c. stops_title_line c b) (sym h) ∙ s)
+stop-low : (close b : ℕ) → ClosesTitle close → stops_title_line close b ≡ true → b < ascii_end
+stop-low close b (inl h) s = low_apostrophe b (ap (λ c. stops_title_line c b) (sym h) ∙ s)
+stop-low close b (inr (inl h)) s = low_quotation_mark b (ap (λ c. stops_title_line c b) (sym h) ∙ s)
+stop-low close b (inr (inr h)) s = low_right_parenthesis b (ap (λ c. stops_title_line c b) (sym h) ∙ s)
 
 pub stop_place : (close from at : ℕ) (text : List ℕ) → ClosesTitle close → at ≡ from + unescaped_upto (stops_title_line close) 0 (drop from text)
     → at ≤ length text → IsCharBoundary text at
@@ -538,21 +542,21 @@ no_title prefix close from at w text t g k =
 
 -- one more line
 pub title_further : (prefix : List ℕ → Option ℕ) (close from at next : ℕ) (w text : List ℕ) → TitleLine prefix close from at w text
-    → at < length text → Some next ≡ goes_on_at prefix text at → begins 10 (drop next text) ≡ false
-    → after_text ((w ++ part text from at) ++ 10 ∷ []) (title_of close (left_of prefix next (drop next text))) ≡ title_text prefix close text
+    → at < length text → Some next ≡ goes_on_at prefix text at → begins line_feed (drop next text) ≡ false
+    → after_text ((w ++ part text from at) ++ line_feed ∷ []) (title_of close (left_of prefix next (drop next text))) ≡ title_text prefix close text
 title_further prefix close from at next w text t l k g =
     let x = title_of close (left_of prefix next (drop next text)) in
-    ap (λ ys. after_text ys x) (append_assoc w (part text from at) (10 ∷ []))
-    ∙ sym (after_following w (part text from at ++ 10 ∷ []) x)
-    ∙ ap (after_text w) (sym (after_following (part text from at) (10 ∷ []) x)
+    ap (λ ys. after_text ys x) (append_assoc w (part text from at) (line_feed ∷ []))
+    ∙ sym (after_following w (part text from at ++ line_feed ∷ []) x)
+    ∙ ap (after_text w) (sym (after_following (part text from at) (line_feed ∷ []) x)
     ∙ sym (line_is prefix close from at text t.closes t.stop ∙ ap (after_text (part text from at)) (some_break prefix close at next text t.closes l k g)))
     ∙ t.title
 
-pub any_last : (w : List ℕ) → list_any is_line_end (w ++ 10 ∷ []) ≡ true
+pub any_last : (w : List ℕ) → list_any is_line_end (w ++ line_feed ∷ []) ≡ true
 any_last [] = refl
-any_last (b ∷ w) = or_true (is_line_end b) (list_any is_line_end (w ++ 10 ∷ [])) (any_last w)
+any_last (b ∷ w) = or_true (is_line_end b) (list_any is_line_end (w ++ line_feed ∷ [])) (any_last w)
 
-pub closes-low : (close : ℕ) → ClosesTitle close → close < 128
+pub closes-low : (close : ℕ) → ClosesTitle close → close < ascii_end
 closes-low close (inl h) = omega (arith, h)
 closes-low close (inr (inl h)) = omega (arith, h)
 closes-low close (inr (inr h)) = omega (arith, h)
@@ -570,15 +574,18 @@ title_some around [] close h = cc
 title_some around (b ∷ bs) close h = rw (← h) refl
 
 -- the byte that begins a title is an ASCII byte
-begin_by : (t u v : Bool) (b close : ℕ) → (b == 39) ≡ t → (b == 34) ≡ u → (b == 40) ≡ v → title_end b ≡ Some close → b < 128
-begin_by true u v b close h k l f = let e = eqb-true b 39 h in omega arith
-begin_by false true v b close h k l f = let e = eqb-true b 34 k in omega arith
-begin_by false false true b close h k l f = let e = eqb-true b 40 l in omega arith
+begin_by : (t u v : Bool) (b close : ℕ) → (b == apostrophe) ≡ t → (b == quotation_mark) ≡ u → (b == left_parenthesis) ≡ v → title_end b ≡ Some close
+    → b < ascii_end
+begin_by true u v b close h k l f = let e = eqb-true b apostrophe h in omega arith
+begin_by false true v b close h k l f = let e = eqb-true b quotation_mark k in omega arith
+begin_by false false true b close h k l f = let e = eqb-true b left_parenthesis l in omega arith
 begin_by false false false b close h k l f = let z : title_end b ≡ None = rw h (rw k (rw l refl)) in let y : None ≡ Some close = sym z ∙ f in cc
 
 pub after_first : (bs : List ℕ) (close : ℕ) → IsUtf8 bs → Some close ≡ option_and_then title_end (slice_get bs 0) → IsCharBoundary bs 1
 after_first [] close u h = cc
-after_first (b ∷ bs) close u h = IsCharBoundary-after_ascii (b ∷ bs) 0 u (omega arith) (begin_by (b == 39) (b == 34) (b == 40) b close refl refl refl (sym h))
+after_first (b ∷ bs) close u h =
+    IsCharBoundary-after_ascii (b ∷ bs) 0 u (omega arith)
+    (begin_by (b == apostrophe) (b == quotation_mark) (b == left_parenthesis) b close refl refl refl (sym h))
 
 -- a result for the text after a title's first byte, as one for the title
 abbrev IsAnswer : Option (ℕ × List ℕ) → Option (ℕ × CowStr) → Type 0

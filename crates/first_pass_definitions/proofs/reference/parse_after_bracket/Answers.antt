@@ -1,4 +1,5 @@
 use Rattle.std.proofs.Common.{◌≡◌, ◌+◌, drop, IsUtf8, refl, sym, ap, subst, ◌∙◌, arith}
+use Rattle.first_pass_items.specs.Bytes.{colon, left_bracket}
 use Rattle.first_pass_lines.specs.Lines.{begins}
 use Rattle.first_pass_open.specs.Path.{context_of}
 use Rattle.first_pass_definitions.proofs.Targets.{no_label, no_colon, no_target, is_reference, after_byte}
@@ -9,13 +10,13 @@ use Rattle.first_pass_definitions.proofs.reference.parse_after_bracket.Goals.{Af
 
 pub parse_refdef_label-requires : goal.parse_refdef_label-requires
 parse_refdef_label-requires c =
-    after_byte 91 c.args.source.now.text.now c.args.start (omega arith) (subst IsUtf8 c.as_bytes-bytes.ensures.value c.as_bytes-bytes.ensures.utf8)
+    after_byte left_bracket c.args.source.now.text.now c.args.start (omega arith) (subst IsUtf8 c.as_bytes-bytes.ensures.value c.as_bytes-bytes.ensures.utf8)
     c.requires.bracket
 
 -- whether a colon is after the label
-colon_is : (c : After-begins) → begins 58 (drop (c.args.start + 1 + c.in-Some.label_len) c.args.source.now.text.now) ≡ c.begins.result
+colon_is : (c : After-begins) → begins colon (drop (c.args.start + 1 + c.in-Some.label_len) c.args.source.now.text.now) ≡ c.begins.result
 colon_is c =
-    ap (begins 58) (sym (c.rest_of.ensures.value ∙ ap (drop (c.args.start + 1 + c.in-Some.label_len)) c.as_bytes-bytes.ensures.value)) ∙ sym
+    ap (begins colon) (sym (c.rest_of.ensures.value ∙ ap (drop (c.args.start + 1 + c.in-Some.label_len)) c.as_bytes-bytes.ensures.value)) ∙ sym
     c.begins.ensures.value
 
 pub returns-in_default-clause-value : goal.returns-in_default-clause-value
@@ -35,7 +36,7 @@ returns-then-not-begins-clause-value c =
 
 pub scan_refdef-requires : goal.scan_refdef-requires
 scan_refdef-requires c =
-    after_byte 58 c.args.source.now.text.now (c.args.start + 1 + c.in-Some.label_len) (omega arith)
+    after_byte colon c.args.source.now.text.now (c.args.start + 1 + c.in-Some.label_len) (omega arith)
     (subst IsUtf8 c.as_bytes-bytes.ensures.value c.as_bytes-bytes.ensures.utf8)
     (colon_is (goal.at.scan_refdef-requires c).After-begins ∙ c.if-not-begins.false)
 

@@ -1,4 +1,5 @@
 use Rattle.std.proofs.Common.{◌≡◌, false, drop, refl, sym, ap, ◌∙◌}
+use Rattle.first_pass_items.specs.Bytes.{left_bracket}
 use Rattle.first_pass_lines.specs.Lines.{begins}
 use Rattle.first_pass_tree.specs.Forest.{in_table}
 use Rattle.first_pass_open.specs.Path.{context_of}
@@ -7,7 +8,7 @@ use Rattle.first_pass_definitions.proofs.reference.parse_refdef_total.Goals as g
 
 pub returns-then-not-begins-clause-value : goal.returns-then-not-begins-clause-value
 returns-then-not-begins-clause-value c =
-    let h : begins 91 (drop c.args.start c.args.source.now.text.now) ≡ false = ap (begins 91) (sym
+    let h : begins left_bracket (drop c.args.start c.args.source.now.text.now) ≡ false = ap (begins left_bracket) (sym
     (c.rest_of.ensures.value ∙ ap (drop c.args.start) c.as_bytes.ensures.value)) ∙ sym c.begins.ensures.value ∙ c.if-not-begins.true in
     let e = no_bracket (in_table c.args.tree.now.nodes c.args.tree.now.spine) (context_of c.args.source.now.options c.args.tree.now)
     (drop c.args.start c.args.source.now.text.now) h in

@@ -2,6 +2,7 @@ use Rattle.std.proofs.Common.{◌≡◌, ℕ, ◌+◌, ◌<◌, false, true, Lis
 use Rattle.std.specs.List.{list_any}
 use Rattle.std.specs.String.{string_bytes}
 use Rattle.std.proofs.lemmas.Str.{encode_ascii, IsCharBoundary-start, IsCharBoundary-after_ascii}
+use Rattle.first_pass_items.specs.Bytes.{line_feed}
 use Rattle.first_pass_lines.specs.Lines.{is_line_end, begins, eol_len}
 use Rattle.first_pass_links.specs.Destinations.{unescaped_upto}
 use Rattle.first_pass_links.specs.Units.{part}
@@ -94,13 +95,13 @@ loop-bytes-preserved c =
     c.as_bytes-bytes.ensures.value (rw c.in-Some.is at c.in_ok-next.ensures.place) in
     let inside = place.1.0 in
     let further = place.0 in
-    let plain : begins 10 (drop c.in-Some.next text) ≡ false = ap (λ xs. begins 10 (drop c.in-Some.next xs)) (sym c.as_bytes-bytes.ensures.value) ∙
-    (rw c.in-Some.is at c.in_ok-next.ensures.texts) in
+    let plain : begins line_feed (drop c.in-Some.next text) ≡ false =
+    ap (λ xs. begins line_feed (drop c.in-Some.next xs)) (sym c.as_bytes-bytes.ensures.value) ∙ (rw c.in-Some.is at c.in_ok-next.ensures.texts) in
     let k = sym c.in-Some.is ∙ c.in_ok-next.ensures.value ∙ ap (λ xs. goes_on_at (title_prefix (context_of c.args.source.now.options c.args.tree.now)) xs stop)
     c.as_bytes-bytes.ensures.value in
-    let written : string_bytes c.push.new.self ≡ (string_bytes c.loop-bytes.written ++ part text c.loop-bytes.from stop) ++ 10 ∷ [] =
-    c.in_ok-push.ensures.bytes ∙ ap (λ xs. string_bytes c.push_str.new.self ++ xs) (encode_ascii 10 (omega arith))
-    ∙ ap (λ xs. xs ++ 10 ∷ []) (c.in_ok-push_str.ensures.bytes ∙ ap (λ xs. string_bytes c.loop-bytes.written ++ xs) c.range.ensures.value)
+    let written : string_bytes c.push.new.self ≡ (string_bytes c.loop-bytes.written ++ part text c.loop-bytes.from stop) ++ line_feed ∷ [] =
+    c.in_ok-push.ensures.bytes ∙ ap (λ xs. string_bytes c.push_str.new.self ++ xs) (encode_ascii line_feed (omega arith))
+    ∙ ap (λ xs. xs ++ line_feed ∷ []) (c.in_ok-push_str.ensures.bytes ∙ ap (λ xs. string_bytes c.loop-bytes.written ++ xs) c.range.ensures.value)
     in
     record {
       boundary = place.1;
