@@ -7,6 +7,7 @@ use Rattle.std.proofs.lemmas.Bool.Decides.{nat_tests}
 use Rattle.std.specs.List.{prefix_len}
 use Rattle.std.proofs.Math.Bool.{or-true}
 use Rattle.std.specs.Option.{option_map, option_and_then}
+use Rattle.first_pass_items.specs.Bytes.{tab, space, hyphen, equals_sign, greater_than}
 use Rattle.first_pass_lines.specs.Lines.{begins, eol_len, blank_len, at_line_end, atx_level, is_white}
 use Rattle.first_pass_lines.specs.Plain.{is_plain, begins_plain}
 use Rattle.first_pass_lines.specs.Rest.{Rest, column_of_byte, next_column, after_columns, indent, columns_of, past_bytes, past_quote_byte, past_quote}
@@ -66,31 +67,31 @@ text_same : (path : List Container) (r : Rest) → HasNoPrefix r → all_taken (
 text_same path r h = ap all_taken (front_same path r h) ∙ after-none (indent r) r h.column
 
 -- `HasNoPrefix` holds for a line that begins with no space, tab or `>`.
-column_none : (r : Rest) (bs : List ℕ) → begins 32 bs ≡ false → begins 9 bs ≡ false → column_of_byte r bs ≡ None
+column_none : (r : Rest) (bs : List ℕ) → begins space bs ≡ false → begins tab bs ≡ false → column_of_byte r bs ≡ None
 column_none r [] a b = refl
 column_none r (b ∷ bs) s t = rw s (rw t refl)
 
-quote_none : (r : Rest) (bs : List ℕ) → begins 62 bs ≡ false → past_quote_byte r bs ≡ None
+quote_none : (r : Rest) (bs : List ℕ) → begins greater_than bs ≡ false → past_quote_byte r bs ≡ None
 quote_none r [] h = refl
 quote_none r (b ∷ bs) h = rw h refl
 
-none_first : (bs : List ℕ) → begins 32 bs ≡ false → begins 9 bs ≡ false → begins 62 bs ≡ false → HasNoPrefix (line_rest bs)
+none_first : (bs : List ℕ) → begins space bs ≡ false → begins tab bs ≡ false → begins greater_than bs ≡ false → HasNoPrefix (line_rest bs)
 none_first bs s t q = record { column = column_none (line_rest bs) bs s t; quote = quote_none (line_rest bs) bs q }
 
-off_32 : is_plain 32 ≡ false
+off_space : is_plain space ≡ false
 unfolding is_plain
-off_32 = refl
+off_space = refl
 
-off_9 : is_plain 9 ≡ false
+off_tab : is_plain tab ≡ false
 unfolding is_plain
-off_9 = refl
+off_tab = refl
 
-off_62 : is_plain 62 ≡ false
+off_greater_than : is_plain greater_than ≡ false
 unfolding is_plain
-off_62 = refl
+off_greater_than = refl
 
 plain_none : (bs : List ℕ) → begins_plain bs ≡ true → HasNoPrefix (line_rest bs)
-plain_none bs h = none_first bs (plain_begins 32 bs h off_32) (plain_begins 9 bs h off_9) (plain_begins 62 bs h off_62)
+plain_none bs h = none_first bs (plain_begins space bs h off_space) (plain_begins tab bs h off_tab) (plain_begins greater_than bs h off_greater_than)
 
 -- A line whose first byte is plain is one more line of the paragraph text before it; its part of that text begins at
 -- its start.
@@ -109,11 +110,11 @@ eol_begins c (b ∷ bs) h k = elim (cases_eq b c) [
 ]
 
 eol_none : (bs : List ℕ) → at_line_end bs ≡ true → HasNoPrefix (line_rest bs)
-eol_none bs h = none_first bs (eol_begins 32 bs h (λ xs. refl)) (eol_begins 9 bs h (λ xs. refl)) (eol_begins 62 bs h (λ xs. refl))
+eol_none bs h = none_first bs (eol_begins space bs h (λ xs. refl)) (eol_begins tab bs h (λ xs. refl)) (eol_begins greater_than bs h (λ xs. refl))
 
 eol_setext : (bs : List ℕ) → at_line_end bs ≡ true → setext_underline bs ≡ None
 unfolding setext_underline
-eol_setext bs h = rw (eol_begins 61 bs h (λ xs. refl)) (rw (eol_begins 45 bs h (λ xs. refl)) refl)
+eol_setext bs h = rw (eol_begins equals_sign bs h (λ xs. refl)) (rw (eol_begins hyphen bs h (λ xs. refl)) refl)
 
 -- A line with nothing after its prefixes and indentation is no underline.
 eol_underline : (path : List Container) (r : Rest) → at_line_end (all_taken (front path r)).left ≡ true → underline_of path r ≡ None
@@ -145,10 +146,10 @@ blank_by f g None e = refl
 blank_by f g (Some n) e = absurd cc
 
 blank_more : (n m : ℕ) (bs : List ℕ) → n ≡ suc m → option_map (λ k. m + k) (eol_len (drop m bs)) ≡ None
-    → option_map (λ k. n + k) (eol_len (drop n (32 ∷ bs))) ≡ None
+    → option_map (λ k. n + k) (eol_len (drop n (space ∷ bs))) ≡ None
 blank_more n m bs e h = rw e (blank_by (λ k. m + k) (λ k. suc m + k) (eol_len (drop m bs)) h)
 
-blank_after : (bs : List ℕ) → begins_plain bs ≡ true → blank_len (32 ∷ bs) ≡ None
+blank_after : (bs : List ℕ) → begins_plain bs ≡ true → blank_len (space ∷ bs) ≡ None
 blank_after bs h = blank_more (1 + prefix_len is_white bs) (prefix_len is_white bs) bs (omega arith) (plain_blank bs h)
 
 -- A bullet and a space begin a list item.
@@ -160,30 +161,30 @@ abbrev bullet_by : Bool → ℕ → Option (ℕ × ℕ × ℕ)
 bullet_by t b = if t then Some (1, b, 0) else None
 
 abbrev after_bullet : ℕ → List ℕ → Rest
-after_bullet b bs = past_bytes 1 (line_rest (b ∷ 32 ∷ bs))
+after_bullet b bs = past_bytes 1 (line_rest (b ∷ space ∷ bs))
 
 has_space : (n : ℕ) → nat_le 1 (0 + (1 + n)) ≡ true
 has_space n = grind (arith, nat_tests)
 
 bullet_item : (b : ℕ) (bs : List ℕ) → is_bullet b ≡ true
-    → listitem (b ∷ 32 ∷ bs) ≡ Some (1, b, 0, (content_indent 2 (after_columns 1 (after_bullet b bs))).0)
+    → listitem (b ∷ space ∷ bs) ≡ Some (1, b, 0, (content_indent 2 (after_columns 1 (after_bullet b bs))).0)
 unfolding listitem list_marker
 bullet_item b bs t =
     rw t (ap (option_map (λ (content : ℕ × Rest). (1, b, 0, content.0))) (after_some 1 (after_bullet b bs) (has_space (columns_of bs 2))))
 
 -- With a plain byte after the bullet and the space, the item interrupts a paragraph.
 item_by : (whole : Bool) (b : ℕ) (bs : List ℕ) → is_bullet b ≡ true → begins_plain bs ≡ true
-    → item_interrupts whole (b ∷ 32 ∷ bs) (listitem (b ∷ 32 ∷ bs)) ≡ true
+    → item_interrupts whole (b ∷ space ∷ bs) (listitem (b ∷ space ∷ bs)) ≡ true
 item_by whole b bs t h = rw (bullet_item b bs t) (rw t (rw (blank_after bs h) (or-true (not whole))))
 
 or_one : (a b c d : Bool) → b ≡ true → (a || b || c || d) ≡ true
 or_one true b c d h = refl
 or_one false b c d h = rw h refl
 
-item_first : (whole : Bool) (b : ℕ) (bs : List ℕ) → is_bullet b ≡ true → begins_plain bs ≡ true → interrupts_with whole (b ∷ 32 ∷ bs) ≡ true
+item_first : (whole : Bool) (b : ℕ) (bs : List ℕ) → is_bullet b ≡ true → begins_plain bs ≡ true → interrupts_with whole (b ∷ space ∷ bs) ≡ true
 item_first whole b bs t h =
-    let line : List ℕ = b ∷ 32 ∷ bs in
-    or_one (at_line_end line || is_some (hrule_len line) || is_some (atx_level line) || is_some (code_fence line) || begins 62 line)
+    let line : List ℕ = b ∷ space ∷ bs in
+    or_one (at_line_end line || is_some (hrule_len line) || is_some (atx_level line) || is_some (code_fence line) || begins greater_than line)
     (item_interrupts whole line (listitem line)) (begins_html_to_end line) (begins_html_to_blank line) (item_by whole b bs t h)
 
 is_marked : (t : Bool) (b : ℕ) → is_some (bullet_by t b) ≡ true → t ≡ true
@@ -197,11 +198,11 @@ three true false c h = absurd cc
 three false b c h = absurd cc
 
 -- An item that begins with a bullet, a space and a plain byte interrupts a paragraph.
-pub item_plain : (whole : Bool) (bs : List ℕ) → (is_some (bullet_marker bs) && begins 32 (drop 1 bs) && begins_plain (drop 2 bs)) ≡ true
+pub item_plain : (whole : Bool) (bs : List ℕ) → (is_some (bullet_marker bs) && begins space (drop 1 bs) && begins_plain (drop 2 bs)) ≡ true
     → interrupts_with whole bs ≡ true
 item_plain whole [] h = absurd cc
 item_plain whole (b ∷ []) h = let all = three (is_some (bullet_marker (b ∷ []))) false false h in absurd (true≢false (sym all.1))
 item_plain whole (b ∷ c ∷ bs) h =
-    let all = three (is_some (bullet_marker (b ∷ c ∷ bs))) (c == 32) (begins_plain bs) h in
-    subst (λ (x : ℕ). interrupts_with whole (b ∷ x ∷ bs) ≡ true) (sym (eqb-true c 32 all.1))
+    let all = three (is_some (bullet_marker (b ∷ c ∷ bs))) (c == space) (begins_plain bs) h in
+    subst (λ (x : ℕ). interrupts_with whole (b ∷ x ∷ bs) ≡ true) (sym (eqb-true c space all.1))
     (item_first whole b bs (is_marked (is_bullet b) b all.0) all.2)

@@ -6,6 +6,8 @@ use Rattle.std.proofs.lemmas.Bool.{cases_eq, ne_eqb, eqb-true}
 use Rattle.std.proofs.lemmas.Bool.Decides.{nat_tests}
 use Rattle.std.specs.Char.{is_ascii_digit}
 use Rattle.std.specs.Option.{option_map}
+use Rattle.first_pass_items.specs.Bytes.{line_feed, carriage_return, number_sign, asterisk, plus_sign, hyphen, less_than, greater_than, underscore, backquote}
+use Rattle.first_pass_items.specs.Bytes.{tilde}
 use Rattle.first_pass_items.specs.declared.option_set.Options.{Options}
 use Rattle.first_pass_items.specs.declared.item.HeadingLevel.{HeadingLevel}
 use Rattle.first_pass_items.specs.OptionWords.{has}
@@ -31,7 +33,7 @@ either true o e = e
 either false o e = refl
 
 -- an ATX heading begins only with a number sign
-unsigned : (b : ℕ) (bs : List ℕ) → b == 35 ≡ false → atx_level (b ∷ bs) ≡ None
+unsigned : (b : ℕ) (bs : List ℕ) → b == number_sign ≡ false → atx_level (b ∷ bs) ≡ None
 unfolding atx_level
 unsigned b bs other = rw other (either (ends_signs (b ∷ bs)) None refl)
 
@@ -51,48 +53,48 @@ no_digit b h = grind (arith, nat_tests, h)
 unmarked_first : (whole : Bool) (b : ℕ) (bs : List ℕ) → cannot_interrupt b ≡ true → interrupts_with whole (b ∷ bs) ≡ false
 unfolding cannot_interrupt hrule_len code_fence list_marker listitem
 unmarked_first whole b bs h =
-    rw (unsigned b bs (isnt b 35 h refl))
-    (rw (isnt b 10 h refl) (rw (isnt b 13 h refl) (rw (isnt b 45 h refl) (rw (isnt b 95 h refl) (rw (isnt b 42 h refl)
-    (rw (isnt b 96 h refl) (rw (isnt b 126 h refl) (rw (isnt b 62 h refl) (rw (isnt b 43 h refl) (rw (no_digit b h)
-    (rw (isnt b 60 h refl) refl)))))))))))
+    rw (unsigned b bs (isnt b number_sign h refl))
+    (rw (isnt b line_feed h refl) (rw (isnt b carriage_return h refl) (rw (isnt b hyphen h refl) (rw (isnt b underscore h refl) (rw (isnt b asterisk h refl)
+    (rw (isnt b backquote h refl) (rw (isnt b tilde h refl) (rw (isnt b greater_than h refl) (rw (isnt b plus_sign h refl) (rw (no_digit b h)
+    (rw (isnt b less_than h refl) refl)))))))))))
 
 pub unmarked_interrupts : (whole : Bool) (bs : List ℕ) → begins_no_interruption bs ≡ true → interrupts_with whole bs ≡ false
 unmarked_interrupts whole [] h = absurd (true≢false (sym h))
 unmarked_interrupts whole (b ∷ bs) h = unmarked_first whole b bs h
 
 -- An ATX heading begins with a number sign.
-heading_begins : (bs : List ℕ) (level : HeadingLevel) → atx_level bs ≡ Some level → begins 35 bs ≡ true
+heading_begins : (bs : List ℕ) (level : HeadingLevel) → atx_level bs ≡ Some level → begins number_sign bs ≡ true
 unfolding atx_level
 heading_begins [] level e = absurd cc
-heading_begins (b ∷ bs) level e = elim (cases_eq b 35) [
-  | inl same ↦ ap (λ (x : ℕ). x == 35) same
-  | inr other ↦ let none = unsigned b bs (ne_eqb b 35 other) in absurd cc
+heading_begins (b ∷ bs) level e = elim (cases_eq b number_sign) [
+  | inl same ↦ ap (λ (x : ℕ). x == number_sign) same
+  | inr other ↦ let none = unsigned b bs (ne_eqb b number_sign other) in absurd cc
 ]
 
 -- No thematic break, metadata or HTML block begins with a number sign.
-sign_hrule : (bs : List ℕ) → begins 35 bs ≡ true → hrule_len bs ≡ None
+sign_hrule : (bs : List ℕ) → begins number_sign bs ≡ true → hrule_len bs ≡ None
 unfolding hrule_len
-sign_hrule bs h = at_first (λ xs. hrule_len xs ≡ None) 35 bs h (λ xs. refl)
+sign_hrule bs h = at_first (λ xs. hrule_len xs ≡ None) number_sign bs h (λ xs. refl)
 
-metadata_first : (yaml pluses : Bool) (bs : List ℕ) → metadata_byte yaml pluses (35 ∷ bs) ≡ None
+metadata_first : (yaml pluses : Bool) (bs : List ℕ) → metadata_byte yaml pluses (number_sign ∷ bs) ≡ None
 unfolding metadata_byte
 metadata_first true true bs = refl
 metadata_first true false bs = refl
 metadata_first false true bs = refl
 metadata_first false false bs = refl
 
-sign_metadata : (columns : ℕ) (options : Options) (bs : List ℕ) → begins 35 bs ≡ true → metadata_at columns options bs ≡ None
+sign_metadata : (columns : ℕ) (options : Options) (bs : List ℕ) → begins number_sign bs ≡ true → metadata_at columns options bs ≡ None
 sign_metadata columns options bs h =
     either (columns == 0) (metadata_byte (has options 128) (has options 256) bs)
-    (at_first (λ xs. metadata_byte (has options 128) (has options 256) xs ≡ None) 35 bs h (metadata_first (has options 128) (has options 256)))
+    (at_first (λ xs. metadata_byte (has options 128) (has options 256) xs ≡ None) number_sign bs h (metadata_first (has options 128) (has options 256)))
 
-sign_html : (bs : List ℕ) → begins 35 bs ≡ true → html_kind bs ≡ None
-sign_html bs h = at_first (λ xs. html_kind xs ≡ None) 35 bs h (λ xs. refl)
+sign_html : (bs : List ℕ) → begins number_sign bs ≡ true → html_kind bs ≡ None
+sign_html bs h = at_first (λ xs. html_kind xs ≡ None) number_sign bs h (λ xs. refl)
 
-sign_tag : (bs : List ℕ) → begins 35 bs ≡ true → (n : ℕ) → BeginsTagLine bs n → ⊥
-sign_tag bs h n t = true≢false (sym (tag_begins bs n t) ∙ at_first (λ xs. begins 60 xs ≡ false) 35 bs h (λ xs. refl))
+sign_tag : (bs : List ℕ) → begins number_sign bs ≡ true → (n : ℕ) → BeginsTagLine bs n → ⊥
+sign_tag bs h n t = true≢false (sym (tag_begins bs n t) ∙ at_first (λ xs. begins less_than xs ≡ false) number_sign bs h (λ xs. refl))
 
-heading_last : (bs : List ℕ) (level : HeadingLevel) → begins 35 bs ≡ true → atx_level bs ≡ Some level → later_kind bs ≡ AtxHeading level
+heading_last : (bs : List ℕ) (level : HeadingLevel) → begins number_sign bs ≡ true → atx_level bs ≡ Some level → later_kind bs ≡ AtxHeading level
 heading_last bs level h e = rw (sign_hrule bs h) (rw e refl)
 
 -- So, if an ATX heading begins at fewer than four columns, it is the block.
@@ -111,12 +113,12 @@ html_either true u = refl
 html_either false true = refl
 html_either false false = refl
 
-tag_first : (whole : Bool) (bs : List ℕ) → interrupts_with whole (60 ∷ bs) ≡ is_some (html_kind (60 ∷ bs))
+tag_first : (whole : Bool) (bs : List ℕ) → interrupts_with whole (less_than ∷ bs) ≡ is_some (html_kind (less_than ∷ bs))
 unfolding hrule_len atx_level code_fence list_marker listitem
-tag_first whole bs = html_either (begins_html_to_end (60 ∷ bs)) (begins_html_to_blank (60 ∷ bs))
+tag_first whole bs = html_either (begins_html_to_end (less_than ∷ bs)) (begins_html_to_blank (less_than ∷ bs))
 
-pub tag_interrupts : (whole : Bool) (bs : List ℕ) → begins 60 bs ≡ true → interrupts_with whole bs ≡ is_some (html_kind bs)
-tag_interrupts whole bs h = at_first (λ xs. interrupts_with whole xs ≡ is_some (html_kind xs)) 60 bs h (tag_first whole)
+pub tag_interrupts : (whole : Bool) (bs : List ℕ) → begins less_than bs ≡ true → interrupts_with whole bs ≡ is_some (html_kind bs)
+tag_interrupts whole bs h = at_first (λ xs. interrupts_with whole xs ≡ is_some (html_kind xs)) less_than bs h (tag_first whole)
 
 pub mapped_some : {A B : Type 0} (f : A → B) (o : Option A) → is_some o ≡ is_some (option_map f o)
 mapped_some f None = refl

@@ -1,5 +1,6 @@
 -- If a plain byte is next, the kind of the block is `Paragraph`, and nothing begins that interrupts a paragraph.
 use Rattle.std.proofs.Common.{◌≡◌, inl, inr, ℕ, zero, suc, ◌==◌, Bool, true, false, true≢false, List, [], ◌∷◌, take, None, refl, sym, ap, ◌∙◌, subst}
+use Rattle.first_pass_items.specs.Bytes.{less_than, greater_than}
 use Rattle.first_pass_items.specs.declared.option_set.Options.{Options}
 use Rattle.first_pass_items.specs.OptionWords.{has}
 use Rattle.first_pass_lines.specs.Lines.{begins}
@@ -12,39 +13,40 @@ use Rattle.first_pass_html.specs.Tags.{BeginsTagLine}
 use Rattle.first_pass_open.proofs.PlainLemmas.{plain_all}
 use Rattle.first_pass_grammar.specs.Kinds.{Paragraph, all_taken, html_kind, first_kind, later_kind, IsKindBy, IsKind, interrupts_with}
 
-plain_60 : is_plain 60 ≡ false
+plain_less_than : is_plain less_than ≡ false
 unfolding is_plain
-plain_60 = refl
+plain_less_than = refl
 
-plain_62 : is_plain 62 ≡ false
+plain_greater_than : is_plain greater_than ≡ false
 unfolding is_plain
-plain_62 = refl
+plain_greater_than = refl
 
 pub plain_interrupts : (whole : Bool) (bs : List ℕ) → begins_plain bs ≡ true → interrupts_with whole bs ≡ false
 plain_interrupts whole bs h =
     rw (plain_eol bs h) (rw (plain_hrule bs h)
-    (rw (plain_atx bs h) (rw (plain_fence bs h) (rw (plain_begins 62 bs h plain_62) (rw (plain_listitem bs h) (rw (plain_begins 60 bs h plain_60) refl))))))
+    (rw (plain_atx bs h) (rw (plain_fence bs h) (rw (plain_begins greater_than bs h plain_greater_than)
+    (rw (plain_listitem bs h) (rw (plain_begins less_than bs h plain_less_than) refl))))))
 
 pub plain_html : (bs : List ℕ) → begins_plain bs ≡ true → html_kind bs ≡ None
-plain_html bs h = rw (plain_begins 60 bs h plain_60) refl
+plain_html bs h = rw (plain_begins less_than bs h plain_less_than) refl
 
 pub plain_last : (bs : List ℕ) → begins_plain bs ≡ true → later_kind bs ≡ Paragraph
 plain_last bs h = rw (plain_hrule bs h) (rw (plain_atx bs h) (rw (plain_fence bs h) refl))
 
-begins_by : (n : ℕ) (bs xs : List ℕ) → take n bs ≡ 60 ∷ xs → begins 60 bs ≡ true
+begins_by : (n : ℕ) (bs xs : List ℕ) → take n bs ≡ less_than ∷ xs → begins less_than bs ≡ true
 begins_by zero bs xs e = absurd cc
 begins_by (suc n) [] xs e = absurd cc
-begins_by (suc n) (b ∷ bs) xs e = let first : b ≡ 60 = cc in ap (λ (x : ℕ). x == 60) first
+begins_by (suc n) (b ∷ bs) xs e = let first : b ≡ less_than = cc in ap (λ (x : ℕ). x == less_than) first
 
 -- a tag begins with a `<`
-pub tag_begins : (bs : List ℕ) (n : ℕ) → BeginsTagLine bs n → begins 60 bs ≡ true
+pub tag_begins : (bs : List ℕ) (n : ℕ) → BeginsTagLine bs n → begins less_than bs ≡ true
 tag_begins bs n t = elim t.tag [
   | inl opening ↦ begins_by n bs _ opening.0.parts
   | inr closing ↦ begins_by n bs _ closing.parts
 ]
 
 pub plain_tag : (bs : List ℕ) (n : ℕ) → begins_plain bs ≡ true → BeginsTagLine bs n → ⊥
-plain_tag bs n h t = true≢false (sym (tag_begins bs n t) ∙ plain_begins 60 bs h plain_60)
+plain_tag bs n h t = true≢false (sym (tag_begins bs n t) ∙ plain_begins less_than bs h plain_less_than)
 
 first_none : (options : Options) (r : Rest) → r.owed ≡ 0 → begins_plain r.left ≡ true → first_kind options r ≡ None
 unfolding first_kind

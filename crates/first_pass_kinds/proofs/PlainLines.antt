@@ -1,6 +1,7 @@
 -- A line with a plain byte directly after its prefixes and indentation is one more line of the paragraph text before
 -- it.
 use Rattle.std.proofs.Common.{◌≡◌, ℕ, ◌+◌, nat_lt, ◌&&◌, Bool, true, false, List, Option, None, is_some, if◌then◌else◌, refl, sym, ap, ◌∙◌}
+use Rattle.first_pass_items.specs.Bytes.{hyphen, colon, equals_sign, left_bracket, pipe}
 use Rattle.first_pass_items.specs.OptionWords.{has, footnotes, definition_list, tables}
 use Rattle.first_pass_lines.specs.Plain.{is_plain, begins_plain}
 use Rattle.first_pass_lines.specs.Rest.{Rest, indent}
@@ -15,33 +16,33 @@ use Rattle.first_pass_kinds.specs.declared.interrupt.NextLine.TheVariants.{More}
 use Rattle.first_pass_kinds.specs.NextLines.{next_line_of}
 use Rattle.first_pass_kinds.proofs.PlainKinds.{plain_interrupts}
 
-off_45 : is_plain 45 ≡ false
+off_hyphen : is_plain hyphen ≡ false
 unfolding is_plain
-off_45 = refl
+off_hyphen = refl
 
-off_58 : is_plain 58 ≡ false
+off_colon : is_plain colon ≡ false
 unfolding is_plain
-off_58 = refl
+off_colon = refl
 
-off_61 : is_plain 61 ≡ false
+off_equals_sign : is_plain equals_sign ≡ false
 unfolding is_plain
-off_61 = refl
+off_equals_sign = refl
 
-off_91 : is_plain 91 ≡ false
+off_left_bracket : is_plain left_bracket ≡ false
 unfolding is_plain
-off_91 = refl
+off_left_bracket = refl
 
-off_124 : is_plain 124 ≡ false
+off_pipe : is_plain pipe ≡ false
 unfolding is_plain
-off_124 = refl
+off_pipe = refl
 
 plain_setext : (bs : List ℕ) → begins_plain bs ≡ true → setext_underline bs ≡ None
 unfolding setext_underline
-plain_setext bs h = rw (plain_begins 61 bs h off_61) (rw (plain_begins 45 bs h off_45) refl)
+plain_setext bs h = rw (plain_begins equals_sign bs h off_equals_sign) (rw (plain_begins hyphen bs h off_hyphen) refl)
 
 plain_footnote : (prefix : List ℕ → Option ℕ) (in_table : Bool) (bs : List ℕ) → begins_plain bs ≡ true → footnote_head prefix in_table bs ≡ None
 unfolding footnote_head
-plain_footnote prefix in_table bs h = rw (plain_begins 91 bs h off_91) refl
+plain_footnote prefix in_table bs h = rw (plain_begins left_bracket bs h off_left_bracket) refl
 
 none_by : (t : Bool) → t && false ≡ false
 none_by true = refl
@@ -54,7 +55,7 @@ either false = refl
 plain_in : (around : Context) (c : Continued) (bs : List ℕ) → begins_plain bs ≡ true → interrupts_in around c bs ≡ false
 plain_in around c bs h =
     rw (plain_interrupts c.whole bs h) (rw (plain_footnote (λ further. None) false bs h)
-    (rw (plain_begins 58 bs h off_58) (rw (plain_begins 124 bs h off_124)
+    (rw (plain_begins colon bs h off_colon) (rw (plain_begins pipe bs h off_pipe)
     (rw (none_by (has around.options footnotes)) (rw (none_by (has around.options definition_list)) (rw (none_by c.at_definition)
     (none_by (has around.options tables))))))))
 
@@ -76,7 +77,7 @@ plain_underline path r h =
 
 plain_colon : (around : Context) (r : Rest) → begins_plain (all_taken (front around.path r)).left ≡ true → colon_ends around r ≡ false
 plain_colon around r h =
-    rw (plain_begins 58 (all_taken (front around.path r)).left h off_58)
+    rw (plain_begins colon (all_taken (front around.path r)).left h off_colon)
     (rw (none_by (nat_lt (indent (front around.path r)) 4)) (rw (none_by (is_some (after around.path r))) (none_by (has around.options definition_list))))
 
 pub plain_more : (around : Context) (start : ℕ) (r q : Rest) → q ≡ all_taken (front around.path r) → begins_plain q.left ≡ true →
