@@ -8,6 +8,7 @@ use Rattle.std.proofs.lemmas.List.{take-take, drop-drop, length-take, length-tak
 use Rattle.std.proofs.lemmas.List.Sums.{suffix_len-le-length}
 use Rattle.std.proofs.Math.Seq.{take-length}
 use Rattle.std.proofs.lemmas.Option.{none-some, same_Some}
+use Rattle.first_pass_items.specs.Bytes.{backquote, tilde}
 use Rattle.first_pass_items.specs.declared.item.Item.{Item}
 use Rattle.first_pass_lines.specs.Lines.{is_white, is_ascii_white, begins, line_len}
 use Rattle.first_pass_lines.proofs.LineFacts.{line_len-fits}
@@ -83,13 +84,14 @@ begins_with c (b ∷ bs) h = sym (eqb-true b c h)
 abbrev fence_if : Bool → ℕ × ℕ → Option (ℕ × ℕ)
 fence_if t fence = if t then Some fence else None
 
-fence_by : (t u v w : Bool) (bs : List ℕ) (n c : ℕ) → begins 96 bs ≡ t → begins 126 bs ≡ v
-    → (if t then fence_if u (run_len 96 bs, 96) else (if v then fence_if w (run_len 126 bs, 126) else None)) ≡ Some (n, c)
+fence_by : (t u v w : Bool) (bs : List ℕ) (n c : ℕ) → begins backquote bs ≡ t → begins tilde bs ≡ v
+    → (if t then fence_if u (run_len backquote bs, backquote) else (if v then fence_if w (run_len tilde bs, tilde) else None)) ≡ Some (n, c)
     → n ≡ run_len (slice_index bs 0) bs
-fence_by true true v w bs n c a b h = sym (ap (λ (p : ℕ × ℕ). p.0) (same_Some (run_len 96 bs, 96) (n, c) h)) ∙ ap (λ k. run_len k bs) (begins_with 96 bs a)
+fence_by true true v w bs n c a b h =
+    sym (ap (λ (p : ℕ × ℕ). p.0) (same_Some (run_len backquote bs, backquote) (n, c) h)) ∙ ap (λ k. run_len k bs) (begins_with backquote bs a)
 fence_by true false v w bs n c a b h = absurd (none-some (n, c) h)
 fence_by false u true true bs n c a b h =
-    sym (ap (λ (p : ℕ × ℕ). p.0) (same_Some (run_len 126 bs, 126) (n, c) h)) ∙ ap (λ k. run_len k bs) (begins_with 126 bs b)
+    sym (ap (λ (p : ℕ × ℕ). p.0) (same_Some (run_len tilde bs, tilde) (n, c) h)) ∙ ap (λ k. run_len k bs) (begins_with tilde bs b)
 fence_by false u true false bs n c a b h = absurd (none-some (n, c) h)
 fence_by false u false w bs n c a b h = absurd (none-some (n, c) h)
 
@@ -98,8 +100,8 @@ unfolding code_fence
 fence_is text start n c h =
     let bs : List ℕ = drop start text in
     let run : n ≡ run_len (slice_index bs 0) bs =
-    fence_by (begins 96 bs) (nat_le 3 (run_len 96 bs) && not (has_backquote (drop (run_len 96 bs) bs))) (begins 126 bs)
-    (nat_le 3 (run_len 126 bs)) bs n c refl refl h in
+    fence_by (begins backquote bs) (nat_le 3 (run_len backquote bs) && not (has_backquote (drop (run_len backquote bs) bs))) (begins tilde bs)
+    (nat_le 3 (run_len tilde bs)) bs n c refl refl h in
     ap (λ k. start + k) run
 
 -- the info string that a fenced code block names is that of its range

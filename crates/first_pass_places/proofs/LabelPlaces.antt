@@ -9,7 +9,7 @@ use Rattle.std.proofs.lemmas.Bool.{and_parts, cases_Bool, true≢false}
 use Rattle.std.proofs.lemmas.Bool.Decides.{nat_tests}
 use Rattle.std.proofs.lemmas.Option.{none-some, same_Some}
 use Rattle.std.proofs.Math.Seq.{take-append_seam}
-use Rattle.first_pass_items.specs.Bytes.{right_bracket}
+use Rattle.first_pass_items.specs.Bytes.{backslash, right_bracket}
 use Rattle.first_pass_lines.specs.Lines.{begins, ends_line}
 use Rattle.first_pass_lines.specs.Rest.{Rest, after_columns}
 use Rattle.first_pass_lines.specs.Places.{line_rest}
@@ -52,16 +52,16 @@ nowhere : (at n : ℕ) → IsEndAt at [] n
 nowhere at n ends = absurd (nothing_begins (label_len []) ends)
 
 -- bytes that are no backslash, and no bracket
-no_escape : (b : ℕ) (bs : List ℕ) → (b == 92) ≡ false → begins_escape (b ∷ bs) ≡ false
+no_escape : (b : ℕ) (bs : List ℕ) → (b == backslash) ≡ false → begins_escape (b ∷ bs) ≡ false
 no_escape b bs h = ap (λ t. t && is_ascii_punctuation (slice_index (b ∷ bs) 1)) h
 
-prefix_byte : (b : ℕ) → is_prefix_byte b ≡ true → ((b == 92) ≡ false) × (is_bracket b ≡ false)
+prefix_byte : (b : ℕ) → is_prefix_byte b ≡ true → ((b == backslash) ≡ false) × (is_bracket b ≡ false)
 prefix_byte b h = (grind (arith, nat_tests, h), grind (arith, nat_tests, h))
 
-line_byte : (b : ℕ) (bs : List ℕ) → ends_line b bs ≡ true → ((b == 92) ≡ false) × (is_bracket b ≡ false)
+line_byte : (b : ℕ) (bs : List ℕ) → ends_line b bs ≡ true → ((b == backslash) ≡ false) × (is_bracket b ≡ false)
 line_byte b bs h = (grind (arith, nat_tests, h), grind (arith, nat_tests, h))
 
-bracket_byte : (b : ℕ) → is_bracket b ≡ true → (b == 92) ≡ false
+bracket_byte : (b : ℕ) → is_bracket b ≡ true → (b == backslash) ≡ false
 bracket_byte b h = grind (arith, nat_tests, h)
 
 escape_byte : (b c : ℕ) (bs : List ℕ) → begins_escape (b ∷ c ∷ bs) ≡ true → (ends_line b (c ∷ bs) ≡ false) × (ends_line c bs ≡ false)

@@ -5,6 +5,7 @@ use Rattle.std.specs.Option.{option_map, option_and_then}
 use Rattle.std.specs.List.{list_all}
 use Rattle.std.proofs.lemmas.List.Folds.{list_all-append}
 use Rattle.std.proofs.lemmas.Option.{none-some, same_Some}
+use Rattle.first_pass_items.specs.Bytes.{tab, space, greater_than}
 use Rattle.first_pass_lines.specs.Rest.{Rest, past_byte, past_quote_byte, past_quote, column_of_byte, column_of, next_column, after_columns}
 use Rattle.first_pass_lines.proofs.Columns.{after-more, after-none}
 use Rattle.first_pass_grammar.specs.declared.kind.Container.{Container}
@@ -13,7 +14,7 @@ use Rattle.first_pass_grammar.specs.Containers.{has_columns, prefix, after, or_s
 
 -- a byte of the prefix of a container or of indentation
 abbrev pub is_prefix_byte : ℕ → Bool
-is_prefix_byte b = (b == 62) || ((b == 32) || (b == 9))
+is_prefix_byte b = (b == greater_than) || ((b == space) || (b == tab))
 
 -- the second rest is the first without some prefix bytes at its start
 pub record Skips (r s : Rest) : Type 0 where
@@ -41,20 +42,20 @@ plain_or true = refl
 plain_or false = refl
 
 -- columns
-column_by : (t u : Bool) (r s : Rest) (b : ℕ) (bs : List ℕ) → r.left ≡ b ∷ bs → (b == 32) ≡ t → (b == 9) ≡ u
+column_by : (t u : Bool) (r s : Rest) (b : ℕ) (bs : List ℕ) → r.left ≡ b ∷ bs → (b == space) ≡ t → (b == tab) ≡ u
     → (if t then Some (past_byte r bs) else (if u then Some (record { left = bs; taken = r.taken + 1; owed = 3 - r.column % 4; column = 0 }) else None))
     ≡ Some s
     → Skips r s
 column_by true u r s b bs e f g h =
-    subst (Skips r) (same_Some (past_byte r bs) s h) (skips_one r (past_byte r bs) b e refl (rw f (plain_or (b == 62))))
+    subst (Skips r) (same_Some (past_byte r bs) s h) (skips_one r (past_byte r bs) b e refl (rw f (plain_or (b == greater_than))))
 column_by false true r s b bs e f g h =
     let q : Rest = record { left = bs; taken = r.taken + 1; owed = 3 - r.column % 4; column = 0 } in
-    subst (Skips r) (same_Some q s h) (skips_one r q b e refl (rw (f, g) (plain_or (b == 62))))
+    subst (Skips r) (same_Some q s h) (skips_one r q b e refl (rw (f, g) (plain_or (b == greater_than))))
 column_by false false r s b bs e f g h = absurd (none-some s h)
 
 column_byte : (r s : Rest) (bs : List ℕ) → r.left ≡ bs → column_of_byte r bs ≡ Some s → Skips r s
 column_byte r s [] e h = absurd (none-some s h)
-column_byte r s (b ∷ bs) e h = column_by (b == 32) (b == 9) r s b bs e refl refl h
+column_byte r s (b ∷ bs) e h = column_by (b == space) (b == tab) r s b bs e refl refl h
 
 column_skips : (owed : ℕ) (r s : Rest) → column_of owed r ≡ Some s → Skips r s
 column_skips zero r s h = column_byte r s r.left refl h
@@ -71,14 +72,14 @@ columns_skip zero r = skips_none r
 columns_skip (suc k) r = columns_step k r (next_column r) refl (columns_skip k)
 
 -- the marker of a block quote
-quote_by : (t : Bool) (r s : Rest) (b : ℕ) (bs : List ℕ) → r.left ≡ b ∷ bs → (b == 62) ≡ t → (if t then Some (past_byte r bs) else None) ≡ Some s
+quote_by : (t : Bool) (r s : Rest) (b : ℕ) (bs : List ℕ) → r.left ≡ b ∷ bs → (b == greater_than) ≡ t → (if t then Some (past_byte r bs) else None) ≡ Some s
     → Skips r s
 quote_by true r s b bs e f h = subst (Skips r) (same_Some (past_byte r bs) s h) (skips_one r (past_byte r bs) b e refl (rw f refl))
 quote_by false r s b bs e f h = absurd (none-some s h)
 
 quote_byte : (r s : Rest) (bs : List ℕ) → r.left ≡ bs → past_quote_byte r bs ≡ Some s → Skips r s
 quote_byte r s [] e h = absurd (none-some s h)
-quote_byte r s (b ∷ bs) e h = quote_by (b == 62) r s b bs e refl h
+quote_byte r s (b ∷ bs) e h = quote_by (b == greater_than) r s b bs e refl h
 
 quote_if : (t : Bool) (r s : Rest) → (if t then past_quote_byte r r.left else None) ≡ Some s → Skips r s
 quote_if true r s h = quote_byte r s r.left refl h

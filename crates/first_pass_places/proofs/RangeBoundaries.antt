@@ -11,7 +11,7 @@ use Rattle.std.proofs.lemmas.List.Elements.{All-cons, All-nil}
 use Rattle.std.proofs.lemmas.List.Sums.{prefix_len_passes, prefix_len_stops, suffix_len-le-length}
 use Rattle.std.proofs.lemmas.Option.{none-some}
 use Rattle.std.proofs.lemmas.Str.{IsCharBoundary-after_ascii, IsCharBoundary-before_ascii, IsCharBoundary-end}
-use Rattle.first_pass_items.specs.Bytes.{left_bracket, circumflex, left_brace, right_brace}
+use Rattle.first_pass_items.specs.Bytes.{left_bracket, circumflex, backquote, left_brace, right_brace, tilde, ascii_end}
 use Rattle.first_pass_items.specs.declared.item.CowIndex.{CowIndex}
 use Rattle.first_pass_items.specs.declared.item.Item.{Item}
 use Rattle.first_pass_items.specs.declared.item.ItemBody.{ItemBody}
@@ -39,21 +39,21 @@ ascii_between : (text : List ℕ) (at : ℕ) → at ≤ length text → IsAsciiA
 ascii_between text at within small = (within, λ less big. omega (arith, small, big))
 
 -- a code fence begins with ASCII
-first_by : (t v : Bool) (o p : Option (ℕ × ℕ)) (bs : List ℕ) (fence : ℕ × ℕ) → begins 96 bs ≡ t → begins 126 bs ≡ v
-    → (if t then o else (if v then p else None)) ≡ Some fence → slice_index bs 0 < 128
-first_by true v o p bs fence a b h = let byte = begins_with 96 bs a in omega (arith, byte)
-first_by false true o p bs fence a b h = let byte = begins_with 126 bs b in omega (arith, byte)
+first_by : (t v : Bool) (o p : Option (ℕ × ℕ)) (bs : List ℕ) (fence : ℕ × ℕ) → begins backquote bs ≡ t → begins tilde bs ≡ v
+    → (if t then o else (if v then p else None)) ≡ Some fence → slice_index bs 0 < ascii_end
+first_by true v o p bs fence a b h = let byte = begins_with backquote bs a in omega (arith, byte)
+first_by false true o p bs fence a b h = let byte = begins_with tilde bs b in omega (arith, byte)
 first_by false false o p bs fence a b h = absurd (none-some fence h)
 
 pub ascii_fence : (text : List ℕ) (start count byte : ℕ) → code_fence (drop start text) ≡ Some (count, byte) → IsAsciiAt text start
 unfolding code_fence
 ascii_fence text start count byte h =
     let bs : List ℕ = drop start text in
-    let m : ℕ = run_len 96 bs in
-    let n : ℕ = run_len 126 bs in
-    let small : slice_index bs 0 < 128 =
-    first_by (begins 96 bs) (begins 126 bs) (if nat_le 3 m && not (has_backquote (drop m bs)) then Some (m, 96) else None)
-    (if nat_le 3 n then Some (n, 126) else None) bs (count, byte) refl refl h in
+    let m : ℕ = run_len backquote bs in
+    let n : ℕ = run_len tilde bs in
+    let small : slice_index bs 0 < ascii_end =
+    first_by (begins backquote bs) (begins tilde bs) (if nat_le 3 m && not (has_backquote (drop m bs)) then Some (m, backquote) else None)
+    (if nat_le 3 n then Some (n, tilde) else None) bs (count, byte) refl refl h in
     let same : start + 0 ≡ start = omega arith in
     let here : slice_index bs 0 ≡ slice_index text start = get_or-drop start text 0 0 ∙ ap (slice_index text) same in
     omega (arith, small, here)
@@ -74,7 +74,7 @@ fence_between text start u within small =
     let c : ℕ = slice_index (drop start text) 0 in
     let same : start + 0 ≡ start = omega arith in
     let here : c ≡ slice_index text start = get_or-drop start text 0 0 ∙ ap (slice_index text) same in
-    let ascii : (k : ℕ) → (k == c) ≡ true → k < 128 = λ k h. let e = eqb-true k c h in omega (arith, e, here, small) in
+    let ascii : (k : ℕ) → (k == c) ≡ true → k < ascii_end = λ k h. let e = eqb-true k c h in omega (arith, e, here, small) in
     let e : start + (0 + run_len c (drop start text)) ≡ fence_end text start = omega arith in
     let b = ascii_between text start within small in
     subst (IsCharBoundary text) e (prefix_keeps (λ k. k == c) ascii text (line_place start (drop start text)) u (line_is_place text start b)).boundary
@@ -94,7 +94,7 @@ first_of_last p xs some =
     let read : get_or (reverse xs) (n - 1) 0 ≡ slice_index xs (length xs - n) = get_or-reverse xs (n - 1) 0 (omega arith) ∙ ap (slice_index xs) place in
     ap p (sym read) ∙ prefix_len_passes p (reverse xs) (n - 1) 0 (omega arith)
 
-white_is_ascii : (b : ℕ) → is_ascii_white b ≡ true → b < 128
+white_is_ascii : (b : ℕ) → is_ascii_white b ≡ true → b < ascii_end
 white_is_ascii b h = grind (arith, nat_tests, h)
 
 -- the end of a line
@@ -169,7 +169,7 @@ upto_stops stops zero (b ∷ bs) =
     stops_by (begins_escape (b ∷ bs)) (stops b) stops b bs (unescaped_upto stops 1 bs) (unescaped_upto stops zero bs) refl (upto_stops stops 1 bs)
     (upto_stops stops zero bs)
 
-bracket_is_ascii : (b : ℕ) → is_bracket b ≡ true → b < 128
+bracket_is_ascii : (b : ℕ) → is_bracket b ≡ true → b < ascii_end
 bracket_is_ascii b h = grind (arith, nat_tests, h)
 
 -- the label of a footnote

@@ -9,7 +9,7 @@ use Rattle.std.proofs.lemmas.List.{drop-drop, get_or-drop, length-append, length
 use Rattle.std.proofs.lemmas.List.Sums.{AllPass-from_list_all, prefix_len_passes, prefix_len-le-length}
 use Rattle.std.proofs.Math.ListN.{get_or-append}
 use Rattle.std.proofs.lemmas.Option.{none-some, same_Some}
-use Rattle.first_pass_items.specs.Bytes.{right_brace}
+use Rattle.first_pass_items.specs.Bytes.{line_feed, carriage_return, hyphen, equals_sign, right_brace}
 use Rattle.first_pass_items.specs.declared.item.HeadingLevel.{HeadingLevel}
 use Rattle.first_pass_items.specs.declared.item.HeadingLevel.TheVariants.{H1, H2}
 use Rattle.first_pass_items.specs.declared.item.Item.{Item}
@@ -186,23 +186,24 @@ lines_read d path start p chain (line ∷ lines) l within left h (tokens, answer
     lines_read d path start there (add_break answer.1 (add_tokens chain tokens)) lines l past.within (first.2 ∙ ap (lines_from d.text) (sym past.line)) all more
 
 -- the bytes of an underline
-eol_second : (t : Bool) (bs : List ℕ) (n k : ℕ) → begins 10 bs ≡ t → (if t then 2 else 1) ≡ n → suc k < n → (slice_index bs k == right_brace) ≡ false
+eol_second : (t : Bool) (bs : List ℕ) (n k : ℕ) → begins line_feed bs ≡ t → (if t then 2 else 1) ≡ n → suc k < n → (slice_index bs k == right_brace) ≡ false
 eol_second true [] n k e f low = absurd (true≢false (sym e))
-eol_second true (b ∷ bs) n zero e f low = ap (λ c. c == right_brace) (eqb-true b 10 e)
+eol_second true (b ∷ bs) n zero e f low = ap (λ c. c == right_brace) (eqb-true b line_feed e)
 eol_second true (b ∷ bs) n (suc k) e f low = absurd (omega (arith, f))
 eol_second false bs n k e f low = absurd (omega (arith, f))
 
-eol_by : (t u : Bool) (b : ℕ) (bs : List ℕ) (n k : ℕ) → (b == 10) ≡ t → (b == 13) ≡ u
-    → (if t then Some 1 else (if u then Some (if begins 10 bs then 2 else 1) else None)) ≡ Some n → k < n → (slice_index (b ∷ bs) k == right_brace) ≡ false
-eol_by true u b bs n zero e f h low = ap (λ c. c == right_brace) (eqb-true b 10 e)
+eol_by : (t u : Bool) (b : ℕ) (bs : List ℕ) (n k : ℕ) → (b == line_feed) ≡ t → (b == carriage_return) ≡ u
+    → (if t then Some 1 else (if u then Some (if begins line_feed bs then 2 else 1) else None)) ≡ Some n → k < n
+    → (slice_index (b ∷ bs) k == right_brace) ≡ false
+eol_by true u b bs n zero e f h low = ap (λ c. c == right_brace) (eqb-true b line_feed e)
 eol_by true u b bs n (suc k) e f h low = absurd (let one = same_Some 1 n h in omega (arith, one))
-eol_by false true b bs n zero e f h low = ap (λ c. c == right_brace) (eqb-true b 13 f)
-eol_by false true b bs n (suc k) e f h low = eol_second (begins 10 bs) bs n k refl (same_Some _ n h) low
+eol_by false true b bs n zero e f h low = ap (λ c. c == right_brace) (eqb-true b carriage_return f)
+eol_by false true b bs n (suc k) e f h low = eol_second (begins line_feed bs) bs n k refl (same_Some _ n h) low
 eol_by false false b bs n k e f h low = absurd (none-some n h)
 
 eol_none : (bs : List ℕ) (n k : ℕ) → eol_len bs ≡ Some n → k < n → (slice_index bs k == right_brace) ≡ false
 eol_none [] n k h low = absurd (let zero_is = same_Some 0 n h in omega (arith, zero_is))
-eol_none (b ∷ bs) n k h low = eol_by (b == 10) (b == 13) b bs n k refl refl h low
+eol_none (b ∷ bs) n k h low = eol_by (b == line_feed) (b == carriage_return) b bs n k refl refl h low
 
 longer_by : (m n : ℕ) (o : Option ℕ) → option_map (λ k. m + k) o ≡ Some n → (j : ℕ) × (o ≡ Some j) × (m + j ≡ n)
 longer_by m n None h = absurd (none-some n h)
@@ -247,15 +248,15 @@ mapped_some level None found h = absurd (none-some found h)
 mapped_some level (Some n) found h = (n, refl)
 
 level_by : (t u : Bool) (bs : List ℕ) (found : ℕ × HeadingLevel)
-    → (if t then option_map (λ n. (n, H1)) (underline_len 61 bs) else (if u then option_map (λ n. (n, H2)) (underline_len 45 bs) else None)) ≡ Some found
-    → IsPlainLine bs
-level_by true u bs found h = let n = mapped_some H1 (underline_len 61 bs) found h in run_plain 61 bs n.0 refl refl n.1
-level_by false true bs found h = let n = mapped_some H2 (underline_len 45 bs) found h in run_plain 45 bs n.0 refl refl n.1
+    → (if t then option_map (λ n. (n, H1)) (underline_len equals_sign bs)
+    else (if u then option_map (λ n. (n, H2)) (underline_len hyphen bs) else None)) ≡ Some found → IsPlainLine bs
+level_by true u bs found h = let n = mapped_some H1 (underline_len equals_sign bs) found h in run_plain equals_sign bs n.0 refl refl n.1
+level_by false true bs found h = let n = mapped_some H2 (underline_len hyphen bs) found h in run_plain hyphen bs n.0 refl refl n.1
 level_by false false bs found h = absurd (none-some found h)
 
 underline_plain : (bs : List ℕ) (found : ℕ × HeadingLevel) → setext_underline bs ≡ Some found → IsPlainLine bs
 unfolding setext_underline
-underline_plain bs found h = level_by (begins 61 bs) (begins 45 bs) bs found h
+underline_plain bs found h = level_by (begins equals_sign bs) (begins hyphen bs) bs found h
 
 some_if : (t : Bool) (o : Option (ℕ × HeadingLevel)) (found : ℕ × HeadingLevel) → (if t then o else None) ≡ Some found → o ≡ Some found
 some_if true o found e = e

@@ -7,7 +7,7 @@ use Rattle.std.proofs.lemmas.Bool.{and_parts, cases_lt, eqb-true, true≢false}
 use Rattle.std.proofs.lemmas.Bool.Decides.{nat_tests}
 use Rattle.std.proofs.lemmas.List.{get_or-drop, get_or-take, get_or_past, get_or-reverse, length-take, length-drop}
 use Rattle.std.proofs.lemmas.List.Sums.{prefix_len_passes, suffix_len-le-length}
-use Rattle.first_pass_items.specs.Bytes.{right_brace}
+use Rattle.first_pass_items.specs.Bytes.{line_feed, carriage_return, backslash, right_brace}
 use Rattle.first_pass_items.specs.declared.cow_str.CowStr.{CowStr}
 use Rattle.first_pass_items.specs.declared.item.Item.{Item}
 use Rattle.first_pass_items.specs.declared.item.ItemBody.TheVariants.{MaybeEmphasis}
@@ -112,7 +112,7 @@ piece_reaches text s stop last at (Begins dropped escaped) chain tail within fac
     (λ k low high. tail k (omega arith) (omega arith))
     (λ short. reach_further text s at (at + (dropped + 1)) chain (omega arith)
     (λ k low high. elim (cases_lt k (at + dropped)) as (λ _. (slice_index text k == right_brace) ≡ false) [
-      | inl less ↦ byte_none text k 92 (facts.backslashes k low less) refl
+      | inl less ↦ byte_none text k backslash (facts.backslashes k low less) refl
       | inr more ↦ tail k (omega arith) (omega arith)
     ]) h)
 piece_reaches text s stop last at (Token dropped n body) chain tail within facts h =
@@ -150,7 +150,7 @@ passes_at p text start end k order inside low high =
 white_none : (b : ℕ) → is_white b ≡ true → (b == right_brace) ≡ false
 white_none b h = grind (arith, nat_tests, h)
 
-backslash_none : (b : ℕ) → (b == 92) ≡ true → (b == right_brace) ≡ false
+backslash_none : (b : ℕ) → (b == backslash) ≡ true → (b == right_brace) ≡ false
 backslash_none b h = grind (arith, nat_tests, h)
 
 line_end_none : (b : ℕ) → is_line_end b ≡ true → (b == right_brace) ≡ false
@@ -169,7 +169,8 @@ unfolding breaks_by_backslash backslashes_at_end blanks_at_end
 tail_by true s end order is k low high =
     let odd = (and_parts (backslashes_at_end s end % 2 == 1) (nat_lt (end + line_end_len s end) (length s.text)) is).0 in
     let one : backslashes_at_end s end % 2 ≡ 1 = eqb-true (backslashes_at_end s end % 2) 1 odd in
-    unless_past s.text k (λ inside. backslash_none (slice_index s.text k) (passes_at (λ b. b == 92) s.text s.start end k order inside (omega arith) high))
+    unless_past s.text k (λ inside. backslash_none (slice_index s.text k)
+    (passes_at (λ b. b == backslash) s.text s.start end k order inside (omega arith) high))
 tail_by false s end order is k low high =
     unless_past s.text k (λ inside. white_none (slice_index s.text k) (passes_at is_white s.text s.start end k order inside low high))
 
@@ -183,24 +184,25 @@ or_false true b h e = refl
 or_false false b h e = absurd (true≢false (sym e ∙ h))
 
 two_by : (t : Bool) (text : List ℕ) (end : ℕ) → is_line_end (slice_index text end) ≡ true
-    → ((slice_index text end == 13) && (slice_index text (end + 1) == 10)) ≡ t → HasNoBrace text end (end + (if t then 2 else 1))
+    → ((slice_index text end == carriage_return) && (slice_index text (end + 1) == line_feed)) ≡ t → HasNoBrace text end (end + (if t then 2 else 1))
 two_by true text end ends two k low high = elim (cases_lt k (end + 1)) as (λ _. (slice_index text k == right_brace) ≡ false) [
   | inl first ↦ (let same : end ≡ k = omega arith in ap (λ n. slice_index text n == right_brace) (sym same) ∙ line_end_none (slice_index text end) ends)
   | inr second ↦ (
       let same : end + 1 ≡ k = omega arith in
-      let feed = (and_parts (slice_index text end == 13) (slice_index text (end + 1) == 10) two).1 in
-      ap (λ n. slice_index text n == right_brace) (sym same) ∙ byte_none text (end + 1) 10 (eqb-true (slice_index text (end + 1)) 10 feed) refl)
+      let feed = (and_parts (slice_index text end == carriage_return) (slice_index text (end + 1) == line_feed) two).1 in
+      ap (λ n. slice_index text n == right_brace) (sym same) ∙ byte_none text (end + 1) line_feed (eqb-true (slice_index text (end + 1)) line_feed feed) refl)
 ]
 two_by false text end ends two k low high =
     let same : end ≡ k = omega arith in ap (λ n. slice_index text n == right_brace) (sym same) ∙ line_end_none (slice_index text end) ends
 
 ending_by : (t : Bool) (s : Inline) (end : ℕ) → nat_le (length s.text) end ≡ t → s.row ≡ false
     → (t || (is_line_end (slice_index s.text end) || ends_cell s (slice_index s.text end))) ≡ true
-    → HasNoBrace s.text end (end + (if t then 0 else (if (slice_index s.text end == 13) && (slice_index s.text (end + 1) == 10) then 2 else 1)))
+    → HasNoBrace s.text end (end + (if t then 0
+    else (if (slice_index s.text end == carriage_return) && (slice_index s.text (end + 1) == line_feed) then 2 else 1)))
 ending_by true s end is row ended = nothing_none s.text end (end + 0) (omega arith)
 ending_by false s end is row ended =
     let no_cell : ends_cell s (slice_index s.text end) ≡ false = rw row refl in
-    two_by ((slice_index s.text end == 13) && (slice_index s.text (end + 1) == 10)) s.text end
+    two_by ((slice_index s.text end == carriage_return) && (slice_index s.text (end + 1) == line_feed)) s.text end
     (or_false (is_line_end (slice_index s.text end)) (ends_cell s (slice_index s.text end)) no_cell ended) refl
 
 ending_none : (s : Inline) (end : ℕ) → s.row ≡ false → content_ends_at s end ≡ true → HasNoBrace s.text end (end + line_end_len s end)

@@ -12,7 +12,7 @@ use Rattle.std.proofs.lemmas.List.Elements.{All-append, All-cons, All-filter, Al
 use Rattle.std.proofs.lemmas.List.Quantifiers.{position-Some}
 use Rattle.std.proofs.lemmas.List.Sums.{prefix_len_stops, prefix_len-le-length}
 use Rattle.std.proofs.lemmas.Str.{IsCharBoundary-after_ascii, IsCharBoundary-before_ascii}
-use Rattle.first_pass_items.specs.Bytes.{number_sign, full_stop, equals_sign}
+use Rattle.first_pass_items.specs.Bytes.{number_sign, full_stop, equals_sign, ascii_end}
 use Rattle.first_pass_items.specs.declared.item.Item.{Item}
 use Rattle.first_pass_attributes.specs.Attributes.{is_between_words}
 use Rattle.first_pass_places.specs.declared.attributes.AttributeKind.TheVariants.{Id, Class, Key}
@@ -25,7 +25,7 @@ use Rattle.first_pass_places.proofs.BlockPlaces.{is_in, part_at, part_short}
 use Rattle.first_pass_places.proofs.RangeBoundaries.{attributes_between}
 use Rattle.first_pass_places.proofs.WordPlaces.{next_word, no_words}
 
-separator_is_ascii : (b : ℕ) → is_between_words b ≡ true → b < 128
+separator_is_ascii : (b : ℕ) → is_between_words b ≡ true → b < ascii_end
 separator_is_ascii b h = grind (arith, nat_tests, h)
 
 -- a word ends on a character boundary, and the next word begins on one
@@ -45,7 +45,7 @@ word_end text from end n u stop order size =
           let read : slice_index bs n ≡ slice_index text (from + n) = part_at text from (end - from) n low in
           let stops : inside (slice_index bs n) ≡ false =
           ap (λ k. inside (slice_index bs k)) size ∙ prefix_len_stops inside bs 0 (omega (arith, size, less)) in
-          let small : slice_index text (from + n) < 128 =
+          let small : slice_index text (from + n) < ascii_end =
           separator_is_ascii (slice_index text (from + n)) (ap is_between_words (sym read) ∙ not-false (is_between_words (slice_index bs n)) stops) in
           let there : from + n < length text = omega (arith, low, within) in
           (IsCharBoundary-before_ascii text (from + n) there small, λ more. IsCharBoundary-after_ascii text (from + n) u there small))
@@ -74,15 +74,15 @@ words_between (suc fuel) text from end u few stop start =
     ]
 
 -- a byte of ASCII in a word
-mark_there : (text : List ℕ) (range : Range ℕ) (k c : ℕ) → IsUtf8 text → slice_index text (range.start + k) ≡ c → 0 < c → c < 128
+mark_there : (text : List ℕ) (range : Range ℕ) (k c : ℕ) → IsUtf8 text → slice_index text (range.start + k) ≡ c → 0 < c → c < ascii_end
     → IsCharBoundary text (range.start + k) × IsCharBoundary text (range.start + k + 1)
 mark_there text range k c u here some small =
     let there = is_in text (range.start + k) c here some in
-    let ascii : slice_index text (range.start + k) < 128 = omega (arith, here, small) in
+    let ascii : slice_index text (range.start + k) < ascii_end = omega (arith, here, small) in
     (IsCharBoundary-before_ascii text (range.start + k) there ascii, IsCharBoundary-after_ascii text (range.start + k) u there ascii)
 
 after_mark : (text : List ℕ) (range : Range ℕ) (c : ℕ) → IsUtf8 text → EndsAreBoundaries text range → (slice_index text range.start == c) ≡ true
-    → 0 < c → c < 128 → EndsAreBoundaries text (range_of (range.start + 1) range.«end»)
+    → 0 < c → c < ascii_end → EndsAreBoundaries text (range_of (range.start + 1) range.«end»)
 after_mark text range c u h e some small =
     let same : range.start + 0 ≡ range.start = omega arith in
     let next : range.start + 0 + 1 ≡ range.start + 1 = omega arith in

@@ -1,5 +1,6 @@
 use Rattle.std.proofs.Common.{◌≡◌, ℕ, ◌==◌, true, false, sym, ap, ◌∙◌, arith, if◌then◌else◌}
 use Rattle.std.proofs.lemmas.Bool.Decides.{nat_tests}
+use Rattle.first_pass_items.specs.Bytes.{backslash}
 use Rattle.first_pass_links.specs.Escapes.{begins_escape}
 use Rattle.first_pass_links.specs.Labels.{is_bracket}
 use Rattle.first_pass_links.proofs.Destinations.{upto_unit, upto_stopped, upto_ended}
@@ -16,7 +17,7 @@ loop-at-preserved c =
     let passed = c.loop-at.invariant.passed in
     record { within = omega arith; passed = u ∙ passed }
 
-no_backslash : (b : ℕ) → is_bracket b ≡ true → (b == 92) ≡ false
+no_backslash : (b : ℕ) → is_bracket b ≡ true → (b == backslash) ≡ false
 no_backslash b h = grind (arith, nat_tests, h)
 
 pub returns-else-not-is_bracket-clause-value : goal.returns-else-not-is_bracket-clause-value
