@@ -6,6 +6,7 @@ use Rattle.std.proofs.lemmas.Bool.{cases_Bool, cases_lt, true≢false}
 use Rattle.std.proofs.lemmas.Bool.Decides.{nat_tests}
 use Rattle.std.proofs.lemmas.List.{take_all, take-take}
 use Rattle.std.proofs.lemmas.List.Sums.{suffix_len-le-length, suffix_len-take_yes, suffix_len-take_no}
+use Rattle.first_pass_items.specs.Bytes.{space, number_sign}
 use Rattle.first_pass_grammar.specs.Leaves.{is_space_or_line_end, without_closing, kept_len}
 
 -- the last byte does not pass if none passes at the end
@@ -38,22 +39,22 @@ no_more p xs (suc n) within =
           ap (λ (k : ℕ). suffix_len p (take k xs)) place ∙ none
     ]
 
-pub space_aside : (b : ℕ) → (b == 32) ≡ true → is_space_or_line_end b ≡ true
+pub space_aside : (b : ℕ) → (b == space) ≡ true → is_space_or_line_end b ≡ true
 space_aside b h = grind (arith, nat_tests, h)
 
 -- no space is at the end if nothing is left out there
-no_spaces : (xs : List ℕ) → suffix_len is_space_or_line_end xs ≡ 0 → suffix_len (λ b. b == 32) xs ≡ 0
+no_spaces : (xs : List ℕ) → suffix_len is_space_or_line_end xs ≡ 0 → suffix_len (λ b. b == space) xs ≡ 0
 no_spaces xs none =
     elim (cases_lt 0 (length xs)) [
       | inl some ↦
           let last : ℕ = get_or xs (length xs - 1) 0 in
-          elim (cases_Bool (last == 32)) [
+          elim (cases_Bool (last == space)) [
             | inl blank ↦ absurd (true≢false (sym (space_aside last blank) ∙ run_none is_space_or_line_end xs some none))
             | inr other ↦
-                ap (λ (ys : List ℕ). suffix_len (λ b. b == 32) ys) (sym (take_all (length xs) xs (omega arith)))
-                ∙ suffix_len-take_no (λ b. b == 32) xs (length xs) 0 some (omega arith) other
+                ap (λ (ys : List ℕ). suffix_len (λ b. b == space) ys) (sym (take_all (length xs) xs (omega arith)))
+                ∙ suffix_len-take_no (λ b. b == space) xs (length xs) 0 some (omega arith) other
           ]
-      | inr empty ↦ (let node_bound = suffix_len-le-length (λ b. b == 32) xs in omega arith)
+      | inr empty ↦ (let node_bound = suffix_len-le-length (λ b. b == space) xs in omega arith)
     ]
 
 -- by the counts: the number signs at the end, and the spaces before them
@@ -74,47 +75,47 @@ by_signs false signs size before spaces h e none =
     let all : before - spaces ≡ size = omega arith in
     same_either ((before == 0) || nat_lt 0 spaces) (before - spaces) size all
 
-closing_len : (xs : List ℕ) → suffix_len (λ b. b == 32) xs ≡ 0
-    → (let o : ℕ = length xs - suffix_len (λ b. b == 35) xs in let n : ℕ = suffix_len (λ b. b == 32) (take o xs) in
+closing_len : (xs : List ℕ) → suffix_len (λ b. b == space) xs ≡ 0
+    → (let o : ℕ = length xs - suffix_len (λ b. b == number_sign) xs in let n : ℕ = suffix_len (λ b. b == space) (take o xs) in
     length (without_closing xs) ≡ (if (o == 0) || nat_lt 0 n then o - n else length xs))
 closing_len xs none =
-    let s : ℕ = suffix_len (λ b. b == 35) xs in
+    let s : ℕ = suffix_len (λ b. b == number_sign) xs in
     let o : ℕ = length xs - s in
     let bs : List ℕ = take o xs in
-    let n : ℕ = suffix_len (λ b. b == 32) bs in
+    let n : ℕ = suffix_len (λ b. b == space) bs in
     let size : length bs ≡ o = length-take-le o xs (omega arith) in
     let kept : length (take (length bs - n) bs) ≡ length bs - n = length-take-le (length bs - n) bs (omega arith) in
     choose_len (nat_lt 0 s && ((length bs == 0) || nat_lt 0 n)) xs (take (length bs - n) bs)
     ∙ ap (λ (z : ℕ). if nat_lt 0 s && ((length bs == 0) || nat_lt 0 n) then z else length xs) kept
     ∙ ap (λ (z : ℕ). if nat_lt 0 s && ((z == 0) || nat_lt 0 n) then z - n else length xs) size
     ∙ by_signs (nat_lt 0 s) s (length xs) o n refl refl
-    (λ no_sign. ap (suffix_len (λ b. b == 32)) (take_all o xs (omega arith)) ∙ none)
+    (λ no_sign. ap (suffix_len (λ b. b == space)) (take_all o xs (omega arith)) ∙ none)
 
 -- The number of kept bytes is the counted one: without the bytes that are left out, the number signs before these,
 -- and the spaces before those.
 pub kept_counted : (text : List ℕ)
-    → (let t : ℕ = length text - suffix_len is_space_or_line_end text in let o : ℕ = t - suffix_len (λ b. b == 35) (take t text) in
-    let n : ℕ = suffix_len (λ b. b == 32) (take o text) in kept_len text ≡ (if (o == 0) || nat_lt 0 n then o - n else t))
+    → (let t : ℕ = length text - suffix_len is_space_or_line_end text in let o : ℕ = t - suffix_len (λ b. b == number_sign) (take t text) in
+    let n : ℕ = suffix_len (λ b. b == space) (take o text) in kept_len text ≡ (if (o == 0) || nat_lt 0 n then o - n else t))
 unfolding kept_len
 kept_counted text =
     let t : ℕ = length text - suffix_len is_space_or_line_end text in
     let xs : List ℕ = take t text in
-    let s : ℕ = suffix_len (λ b. b == 35) xs in
+    let s : ℕ = suffix_len (λ b. b == number_sign) xs in
     let size : length xs ≡ t = length-take-le t text (omega arith) in
     let whole : suffix_len is_space_or_line_end (take (length text) text) ≡ suffix_len is_space_or_line_end text =
     ap (suffix_len is_space_or_line_end) (take_all (length text) text (omega arith)) in
     let aside : suffix_len is_space_or_line_end xs ≡ 0 =
     ap (λ (k : ℕ). suffix_len is_space_or_line_end (take (length text - k) text)) (sym whole) ∙ no_more is_space_or_line_end text (length text) (omega arith) in
     closing_len xs (no_spaces xs aside)
-    ∙ ap (λ (z : ℕ). let o : ℕ = z - s in let n : ℕ = suffix_len (λ b. b == 32) (take o xs) in if (o == 0) || nat_lt 0 n then o - n else z) size
-    ∙ ap (λ (ys : List ℕ). let o : ℕ = t - s in let n : ℕ = suffix_len (λ b. b == 32) ys in if (o == 0) || nat_lt 0 n then o - n else t)
+    ∙ ap (λ (z : ℕ). let o : ℕ = z - s in let n : ℕ = suffix_len (λ b. b == space) (take o xs) in if (o == 0) || nat_lt 0 n then o - n else z) size
+    ∙ ap (λ (ys : List ℕ). let o : ℕ = t - s in let n : ℕ = suffix_len (λ b. b == space) ys in if (o == 0) || nat_lt 0 n then o - n else t)
     (take-take (t - s) t text (omega arith))
 
 choose_all : (t o n : ℕ) → o ≡ t → n ≡ 0 → (if (o == 0) || nat_lt 0 n then o - n else t) ≡ t
 choose_all t o n e f = sym (same_either ((o == 0) || nat_lt 0 n) (o - n) t (omega arith))
 
 unclosed : (text : List ℕ)
-    → suffix_len (λ b. b == 35) (take (length text - suffix_len is_space_or_line_end text) text) ≡ 0
+    → suffix_len (λ b. b == number_sign) (take (length text - suffix_len is_space_or_line_end text) text) ≡ 0
     → kept_len text ≡ length text - suffix_len is_space_or_line_end text
 unclosed text none =
     let t : ℕ = length text - suffix_len is_space_or_line_end text in
@@ -122,16 +123,17 @@ unclosed text none =
     ap (suffix_len is_space_or_line_end) (take_all (length text) text (omega arith)) in
     let aside : suffix_len is_space_or_line_end (take t text) ≡ 0 =
     ap (λ (k : ℕ). suffix_len is_space_or_line_end (take (length text - k) text)) (sym whole) ∙ no_more is_space_or_line_end text (length text) (omega arith) in
-    let o : ℕ = t - suffix_len (λ b. b == 35) (take t text) in
+    let o : ℕ = t - suffix_len (λ b. b == number_sign) (take t text) in
     let all : o ≡ t = omega arith in
     kept_counted text
-    ∙ choose_all t o (suffix_len (λ b. b == 32) (take o text)) all (ap (λ (k : ℕ). suffix_len (λ b. b == 32) (take k text)) all ∙ no_spaces (take t text) aside)
+    ∙ choose_all t o (suffix_len (λ b. b == space) (take o text)) all
+    (ap (λ (k : ℕ). suffix_len (λ b. b == space) (take k text)) all ∙ no_spaces (take t text) aside)
 
 -- Only the bytes that are left out at the end are removed if no number sign is before them.
 pub kept_unclosed : (text front : List ℕ) (a n : ℕ)
-    → a ≡ suffix_len is_space_or_line_end text → front ≡ take (length text - a) text → n ≡ suffix_len (λ b. b == 35) front → n ≡ 0
+    → a ≡ suffix_len is_space_or_line_end text → front ≡ take (length text - a) text → n ≡ suffix_len (λ b. b == number_sign) front → n ≡ 0
     → kept_len text ≡ length text - a
 kept_unclosed text front a n e f g none =
-    let same : suffix_len (λ b. b == 35) (take (length text - suffix_len is_space_or_line_end text) text) ≡ n =
-    ap (λ (k : ℕ). suffix_len (λ b. b == 35) (take (length text - k) text)) (sym e) ∙ ap (suffix_len (λ b. b == 35)) (sym f) ∙ sym g in
+    let same : suffix_len (λ b. b == number_sign) (take (length text - suffix_len is_space_or_line_end text) text) ≡ n =
+    ap (λ (k : ℕ). suffix_len (λ b. b == number_sign) (take (length text - k) text)) (sym e) ∙ ap (suffix_len (λ b. b == number_sign)) (sym f) ∙ sym g in
     unclosed text (same ∙ none) ∙ ap (λ k. length text - k) (sym e)

@@ -30,7 +30,7 @@ use Rattle.first_pass_grammar.specs.Leaves.{Document, is_space_or_line_end, kept
 use Rattle.first_pass_grammar.specs.Leaves.{IsHeading, content_at}
 use Rattle.first_pass_grammar.proofs.Names.MoreNames.{extends_none}
 use Rattle.first_pass_attributes.specs.AttributeBlocks.{Braces}
-use Rattle.first_pass_items.specs.Bytes.{left_brace}
+use Rattle.first_pass_items.specs.Bytes.{space, number_sign, left_brace}
 use Rattle.first_pass_items.specs.declared.item.HeadingIndex.{HeadingIndex}
 use Rattle.first_pass_tokens.specs.Pieces.{Inline}
 use Rattle.first_pass_tokens.specs.LineTokens.{AreLineTokens, text_end}
@@ -55,8 +55,8 @@ KeptAt : List ℕ → ℕ → Type 0
 KeptAt text n = (n ≡ 0) ⊎ (((n < length text) × (is_space_or_line_end (get_or text n 0) ≡ true))
     ⊎ ((n ≡ length text) × (suffix_len is_space_or_line_end text ≡ 0)))
 
-kept_by : (text : List ℕ) (t o n : ℕ) → t ≡ length text - suffix_len is_space_or_line_end text → o ≤ length text → n ≡ suffix_len (λ b. b == 32) (take o text)
-    → KeptAt text (if (o == 0) || nat_lt 0 n then o - n else t)
+kept_by : (text : List ℕ) (t o n : ℕ) → t ≡ length text - suffix_len is_space_or_line_end text → o ≤ length text
+    → n ≡ suffix_len (λ b. b == space) (take o text) → KeptAt text (if (o == 0) || nat_lt 0 n then o - n else t)
 unfolding KeptAt
 kept_by text t o n e within g =
     cond_both ((o == 0) || nat_lt 0 n) (o - n) t (KeptAt text)
@@ -65,9 +65,9 @@ kept_by text t o n e within g =
         | inl z ↦ (let zero : o ≡ 0 = eqb-true o 0 z in absurd (omega arith))
         | inr more ↦
             let positive : 0 < n = ltb-true 0 n more in
-            elim (run_first (λ b. b == 32) text o within) [
+            elim (run_first (λ b. b == space) text o within) [
               | inl none ↦ absurd (omega arith)
-              | inr first ↦ inr (inl (omega arith, space_aside (get_or text (o - n) 0) (ap (λ k. get_or text (o - k) 0 == 32) g ∙ first)))
+              | inr first ↦ inr (inl (omega arith, space_aside (get_or text (o - n) 0) (ap (λ k. get_or text (o - k) 0 == space) g ∙ first)))
             ]
       ]
       | inr none ↦ inl (omega arith)
@@ -93,8 +93,8 @@ kept_by text t o n e within g =
 kept_at : (text : List ℕ) → KeptAt text (kept_len text)
 kept_at text =
     let t : ℕ = length text - suffix_len is_space_or_line_end text in
-    let o : ℕ = t - suffix_len (λ b. b == 35) (take t text) in
-    subst (KeptAt text) (sym (kept_counted text)) (kept_by text t o (suffix_len (λ b. b == 32) (take o text)) refl (omega arith) refl)
+    let o : ℕ = t - suffix_len (λ b. b == number_sign) (take t text) in
+    subst (KeptAt text) (sym (kept_counted text)) (kept_by text t o (suffix_len (λ b. b == space) (take o text)) refl (omega arith) refl)
 
 -- a line ends with a line ending, or with the text
 last_step : (t : Bool) (b : ℕ) (bs : List ℕ)

@@ -34,7 +34,7 @@ use Rattle.std.proofs.lemmas.Bool.Decides.{nat_tests}
 use Rattle.std.proofs.lemmas.Option.{none-some}
 use Rattle.std.proofs.lemmas.Str.{IsCharBoundary-before_ascii}
 use Rattle.std.specs.List.{slice_range, suffix_len}
-use Rattle.first_pass_items.specs.Bytes.{left_brace, right_brace}
+use Rattle.first_pass_items.specs.Bytes.{left_brace, right_brace, ascii_end}
 use Rattle.first_pass_items.specs.OptionWords.{has, heading_attributes}
 use Rattle.first_pass_items.specs.declared.option_set.Options.{Options}
 use Rattle.first_pass_lines.specs.Lines.{is_white}
@@ -141,7 +141,7 @@ children_between text w from start to next body kids is less c =
     )
 
 -- the first of the white space that bytes end with
-white_first : (bs : List ℕ) → 0 < suffix_len is_white bs → get_or bs (length bs - suffix_len is_white bs) 0 < 128
+white_first : (bs : List ℕ) → 0 < suffix_len is_white bs → get_or bs (length bs - suffix_len is_white bs) 0 < ascii_end
 white_first bs some =
     let all : take (length bs) bs ≡ bs = take_all (length bs) bs (omega arith) in
     let white : is_white (get_or bs (length bs - suffix_len is_white bs) 0) ≡ true =
@@ -163,7 +163,7 @@ brace_first options bs block =
 
 -- the bytes that are cut off begin with that brace, or with white space
 kept_byte : (broken : Bool) (bs : List ℕ) (opening : ℕ) → opening < length bs → slice_index bs opening ≡ left_brace
-    → (kept_before broken opening bs ≤ opening) × (slice_index bs (kept_before broken opening bs) < 128)
+    → (kept_before broken opening bs ≤ opening) × (slice_index bs (kept_before broken opening bs) < ascii_end)
 kept_byte true bs opening within is = (omega arith, omega (arith, is))
 kept_byte false bs opening within is =
     let front : List ℕ = take opening bs in

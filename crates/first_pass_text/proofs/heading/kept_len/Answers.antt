@@ -1,14 +1,15 @@
 use Rattle.std.proofs.Common.{◌≡◌, ◌<◌, ◌≤◌, ◌⊎◌, inl, inr, ℕ, ◌-◌, ◌==◌, ◌||◌, nat_lt, List, length, take, sym, ap, ◌∙◌, arith, if◌then◌else◌}
 use Rattle.std.specs.List.{suffix_len}
 use Rattle.std.proofs.lemmas.Bool.Decides.{nat_tests}
+use Rattle.first_pass_items.specs.Bytes.{space, number_sign}
 use Rattle.first_pass_grammar.specs.Leaves.{is_space_or_line_end, kept_len}
 use Rattle.first_pass_text.proofs.KeptBytes.{kept_counted, kept_unclosed}
 use Rattle.first_pass_text.proofs.heading.kept_len.Goals as goal
 
 -- by the counts at the end
 kept_by : (text : List ℕ) (t o n : ℕ)
-    → t ≡ length text - suffix_len is_space_or_line_end text → o ≡ t - suffix_len (λ b. b == 35) (take t text) → n ≡ suffix_len (λ b. b == 32) (take o text)
-    → kept_len text ≡ (if (o == 0) || nat_lt 0 n then o - n else t)
+    → t ≡ length text - suffix_len is_space_or_line_end text → o ≡ t - suffix_len (λ b. b == number_sign) (take t text)
+    → n ≡ suffix_len (λ b. b == space) (take o text) → kept_len text ≡ (if (o == 0) || nat_lt 0 n then o - n else t)
 kept_by text t o n e f g = rw (g, f, e) (kept_counted text)
 
 choose_taken : (t o n : ℕ) → (o ≡ 0) ⊎ (0 < n) → (if (o == 0) || nat_lt 0 n then o - n else t) ≡ o - n
@@ -20,12 +21,12 @@ choose_kept t o n h k = grind (arith, nat_tests, h, k)
 
 -- the counts in the code
 counted : (text front front' : List ℕ) (a b n : ℕ)
-    → a ≡ suffix_len is_space_or_line_end text → front ≡ take (length text - a) text → b ≡ suffix_len (λ b. b == 35) front
-    → front' ≡ take (length text - a - b) text → n ≡ suffix_len (λ b. b == 32) front'
+    → a ≡ suffix_len is_space_or_line_end text → front ≡ take (length text - a) text → b ≡ suffix_len (λ b. b == number_sign) front
+    → front' ≡ take (length text - a - b) text → n ≡ suffix_len (λ b. b == space) front'
     → kept_len text ≡ (if (length text - a - b == 0) || nat_lt 0 n then length text - a - b - n else length text - a)
 counted text front front' a b n e f g h k =
-    kept_by text (length text - a) (length text - a - b) n (ap (λ z. length text - z) e) (ap (λ z. length text - a - z) (g ∙ ap (suffix_len (λ b. b == 35)) f))
-    (k ∙ ap (suffix_len (λ b. b == 32)) h)
+    kept_by text (length text - a) (length text - a - b) n (ap (λ z. length text - z) e)
+    (ap (λ z. length text - a - z) (g ∙ ap (suffix_len (λ b. b == number_sign)) f)) (k ∙ ap (suffix_len (λ b. b == space)) h)
 
 pub returns-then-spaces-gt0-clause-value : goal.returns-then-spaces-gt0-clause-value
 returns-then-spaces-gt0-clause-value c =
