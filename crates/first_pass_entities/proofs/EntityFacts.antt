@@ -12,19 +12,20 @@ use Rattle.std.proofs.lemmas.Grind.{common_steps}
 use Rattle.std.proofs.lemmas.Option.{some_pair_parts}
 use Rattle.std.proofs.lemmas.List.{get_or-drop}
 use Rattle.std.proofs.lemmas.List.Folds.{length-prefix_len}
+use Rattle.first_pass_items.specs.Bytes.{number_sign, ampersand, semicolon, capital_x, backslash, small_x}
 use Rattle.first_pass_lines.specs.Lines.{begins}
 use Rattle.first_pass_entities.specs.Entities.{referred, following, number_at, numeric_at, named_in_xml, named_sign, named_punctuation, named, name_at}
 use Rattle.first_pass_entities.specs.Entities.{entity_at}
 
 -- a byte other than a backslash
 abbrev pub is_plain : ℕ → Bool
-is_plain b = not (b == 92)
+is_plain b = not (b == backslash)
 
 -- the n bytes of a reference: none of them is a backslash, and the last is `;`
 pub record EndsReference (bs : List ℕ) (n : ℕ) : Type 0 where
   pub some : 0 < n
   pub plain : n ≤ prefix_len is_plain bs
-  pub last : get_or bs (n - 1) 0 ≡ 59
+  pub last : get_or bs (n - 1) 0 ≡ semicolon
 
 -- the reference of n bytes at the start of these bytes, and its character
 pub record IsReference (bs : List ℕ) (n c : ℕ) : Type 0 where
@@ -36,42 +37,44 @@ abbrev both : ℕ → ℕ → ℕ × ℕ
 both n c = (n, c)
 
 -- a byte that passes a test is not a backslash, if a backslash fails the test
-plain_from : (p : ℕ → Bool) → p 92 ≡ false → (b : ℕ) → p b ≡ true → (t : Bool) → (b == 92) ≡ t → is_plain b ≡ true
-plain_from p q b h true e = absurd (false≢true (sym q ∙ ap p (sym (eqb-true b 92 e)) ∙ h))
+plain_from : (p : ℕ → Bool) → p backslash ≡ false → (b : ℕ) → p b ≡ true → (t : Bool) → (b == backslash) ≡ t → is_plain b ≡ true
+plain_from p q b h true e = absurd (false≢true (sym q ∙ ap p (sym (eqb-true b backslash e)) ∙ h))
 plain_from p q b h false e = rw e
 
 plain_by : (p : ℕ → Bool)
-    → p 92 ≡ false → (t : Bool) (b : ℕ) (bs : List ℕ) → p b ≡ t → prefix_len p bs + prefix_len is_plain (drop (prefix_len p bs) bs) ≡ prefix_len is_plain bs
+    → p backslash ≡ false → (t : Bool) (b : ℕ) (bs : List ℕ) → p b ≡ t
+    → prefix_len p bs + prefix_len is_plain (drop (prefix_len p bs) bs) ≡ prefix_len is_plain bs
     → prefix_len p (b ∷ bs) + prefix_len is_plain (drop (prefix_len p (b ∷ bs)) (b ∷ bs)) ≡ prefix_len is_plain (b ∷ bs)
 plain_by p q true b bs h i =
     let k : ℕ = prefix_len p bs in
     let e : prefix_len p (b ∷ bs) ≡ suc k = rw h (omega arith) in
-    let f : prefix_len is_plain (b ∷ bs) ≡ 1 + prefix_len is_plain bs = rw (plain_from p q b h (b == 92) refl) in
+    let f : prefix_len is_plain (b ∷ bs) ≡ 1 + prefix_len is_plain bs = rw (plain_from p q b h (b == backslash) refl) in
     rw e (omega arith)
 plain_by p q false b bs h i = let e : prefix_len p (b ∷ bs) ≡ 0 = rw h in rw e (omega arith)
 
-pub plain_through : (p : ℕ → Bool) → p 92 ≡ false → (bs : List ℕ) → prefix_len p bs + prefix_len is_plain (drop (prefix_len p bs) bs) ≡ prefix_len is_plain bs
+pub plain_through : (p : ℕ → Bool) → p backslash ≡ false → (bs : List ℕ)
+    → prefix_len p bs + prefix_len is_plain (drop (prefix_len p bs) bs) ≡ prefix_len is_plain bs
 plain_through p q [] = refl
 plain_through p q (b ∷ bs) = plain_by p q (p b) b bs refl (plain_through p q bs)
 
-semicolon : (bs : List ℕ) → begins 59 bs ≡ true → (0 < prefix_len is_plain bs) × (get_or bs 0 0 ≡ 59)
-semicolon [] h = cc
-semicolon (b ∷ bs) h =
-    let e = eqb-true b 59 h in
+at_semicolon : (bs : List ℕ) → begins semicolon bs ≡ true → (0 < prefix_len is_plain bs) × (get_or bs 0 0 ≡ semicolon)
+at_semicolon [] h = cc
+at_semicolon (b ∷ bs) h =
+    let e = eqb-true b semicolon h in
     let f : is_plain b ≡ true = rw e in
     (rw f (omega arith), e)
 
 -- digits or letters, then `;`
-run_ends : (p : ℕ → Bool) → p 92 ≡ false → (bs : List ℕ) → begins 59 (drop (prefix_len p bs) bs) ≡ true → EndsReference bs (prefix_len p bs + 1)
+run_ends : (p : ℕ → Bool) → p backslash ≡ false → (bs : List ℕ) → begins semicolon (drop (prefix_len p bs) bs) ≡ true → EndsReference bs (prefix_len p bs + 1)
 run_ends p q bs h =
     let k : ℕ = prefix_len p bs in
-    let s = semicolon (drop k bs) h in
+    let s = at_semicolon (drop k bs) h in
     let t = plain_through p q bs in
     let i : k + 1 - 1 ≡ k + 0 = omega arith in
     record { some = omega arith; plain = omega arith; last = ap (λ j. get_or bs j 0) i ∙ sym (get_or-drop k bs 0 0) ∙ s.1 }
 
 -- one more byte before them
-one_more : (b k n : ℕ) (bs : List ℕ) → begins k bs ≡ true → (k == 92) ≡ false → EndsReference (drop 1 bs) n → EndsReference bs (1 + n)
+one_more : (b k n : ℕ) (bs : List ℕ) → begins k bs ≡ true → (k == backslash) ≡ false → EndsReference (drop 1 bs) n → EndsReference bs (1 + n)
 one_more b k n [] h q e = cc
 one_more b k n (x ∷ xs) h q e =
     let s = e.some in
@@ -98,14 +101,14 @@ one_digit : (radix : ℕ) (bs : List ℕ) → digits_value radix (take 1 bs) ≤
 one_digit radix [] = omega arith
 one_digit radix (b ∷ bs) = grind (arith, nat_tests)
 
-number_by : (p : ℕ → Bool) → p 92 ≡ false → (t : Bool) (radix most : ℕ) (bs : List ℕ) (n c : ℕ)
-    → (nat_le 1 (prefix_len p bs) && nat_le (prefix_len p bs) most && begins 59 (drop (prefix_len p bs) bs)) ≡ t
+number_by : (p : ℕ → Bool) → p backslash ≡ false → (t : Bool) (radix most : ℕ) (bs : List ℕ) (n c : ℕ)
+    → (nat_le 1 (prefix_len p bs) && nat_le (prefix_len p bs) most && begins semicolon (drop (prefix_len p bs) bs)) ≡ t
     → (if t then Some (both (prefix_len p bs + 1) (referred (digits_value radix (take (prefix_len p bs) bs)))) else None) ≡ Some (both n c)
     → IsNumber bs n c
 number_by p q true radix most bs n c h e =
     let k : ℕ = prefix_len p bs in
     let low : 1 ≤ k = grind (arith, nat_tests, h) in
-    let m : begins 59 (drop k bs) ≡ true = grind (arith, h) in
+    let m : begins semicolon (drop k bs) ≡ true = grind (arith, h) in
     let parts = some_pair_parts (k + 1) n (referred (digits_value radix (take k bs))) c e in
     let a = parts.0 in
     let d = parts.1 in
@@ -118,7 +121,7 @@ number_by p q true radix most bs n c h e =
     }
 number_by p q false radix most bs n c h e = cc
 
-number_facts : (p : ℕ → Bool) → p 92 ≡ false → (radix most : ℕ) (bs : List ℕ) (n c : ℕ) → number_at p radix most bs ≡ Some (n, c) → IsNumber bs n c
+number_facts : (p : ℕ → Bool) → p backslash ≡ false → (radix most : ℕ) (bs : List ℕ) (n c : ℕ) → number_at p radix most bs ≡ Some (n, c) → IsNumber bs n c
 unfolding number_at
 number_facts p q radix most bs n c e = number_by p q _ radix most bs n c refl e
 
@@ -173,7 +176,7 @@ unfolding named
 named_facts name c e = named_by name c _ _ _ (xml_facts name c) (sign_facts name c) (punctuation_facts name c) e
 
 name_by : (t : Bool) (bs : List ℕ) (n c : ℕ) (o : Option ℕ) → (o ≡ Some c → IsShortName (take (prefix_len is_ascii_alphabetic bs) bs) c)
-    → begins 59 (drop (prefix_len is_ascii_alphabetic bs) bs) ≡ t
+    → begins semicolon (drop (prefix_len is_ascii_alphabetic bs) bs) ≡ t
     → (if t then option_map (both (prefix_len is_ascii_alphabetic bs + 1)) o else None) ≡ Some (both n c)
     → EndsReference bs n × (len_utf8 c < 1 + n)
 name_by true bs n c (Some v) f h e =
@@ -202,7 +205,7 @@ above n l some four short (inl more) = omega arith
 above n l some four short (inr two) = let s = short (omega arith) in omega arith
 
 numeric_by : (t u : Bool) (bs : List ℕ) (n c : ℕ)
-    → begins 120 bs ≡ t → begins 88 bs ≡ u → numeric_at bs ≡ Some (n, c) → EndsReference bs n × (len_utf8 c < 2 + n)
+    → begins small_x bs ≡ t → begins capital_x bs ≡ u → numeric_at bs ≡ Some (n, c) → EndsReference bs n × (len_utf8 c < 2 + n)
 unfolding numeric_at
 numeric_by true u bs n c h h' e =
     let b = after_some 1 n c _ (rw h at e) in
@@ -210,19 +213,20 @@ numeric_by true u bs n c h h' e =
     let some = f.some in
     let four = at_most_four c in
     let m = b.2 in
-    (subst (EndsReference bs) (sym m) (one_more 0 120 b.0 bs h refl f.ends), omega arith)
+    (subst (EndsReference bs) (sym m) (one_more 0 small_x b.0 bs h refl f.ends), omega arith)
 numeric_by false true bs n c h h' e =
     let b = after_some 1 n c _ (rw (h, h') at e) in
     let f = number_facts is_ascii_hexdigit refl 16 6 (drop 1 bs) b.0 c b.1 in
     let some = f.some in
     let four = at_most_four c in
     let m = b.2 in
-    (subst (EndsReference bs) (sym m) (one_more 0 88 b.0 bs h' refl f.ends), omega arith)
+    (subst (EndsReference bs) (sym m) (one_more 0 capital_x b.0 bs h' refl f.ends), omega arith)
 numeric_by false false bs n c h h' e =
     let f = number_facts is_ascii_digit refl 10 7 bs n c (rw (h, h') at e) in
     (f.ends, above n (len_utf8 c) f.some (at_most_four c) f.short (cases_lt 2 n))
 
-entity_by : (t u : Bool) (bs : List ℕ) (n c : ℕ) → begins 38 bs ≡ t → begins 35 (drop 1 bs) ≡ u → entity_at bs ≡ Some (n, c) → IsReference bs n c
+entity_by : (t u : Bool) (bs : List ℕ) (n c : ℕ) → begins ampersand bs ≡ t → begins number_sign (drop 1 bs) ≡ u → entity_at bs ≡ Some (n, c)
+    → IsReference bs n c
 unfolding entity_at
 entity_by true true bs n c h h' e =
     let a = after_some 1 n c _ (rw (h, h') at e) in
@@ -233,7 +237,7 @@ entity_by true true bs n c h h' e =
     let m = b.2 in
     record {
       ends = subst (EndsReference bs) (sym k)
-          (one_more 0 38 a.0 bs h refl (subst (EndsReference (drop 1 bs)) (sym m) (one_more 0 35 b.0 (drop 1 bs) h' refl f.0)));
+          (one_more 0 ampersand a.0 bs h refl (subst (EndsReference (drop 1 bs)) (sym m) (one_more 0 number_sign b.0 (drop 1 bs) h' refl f.0)));
       shorter = omega arith;
     }
 entity_by true false bs n c h h' e =
@@ -241,7 +245,7 @@ entity_by true false bs n c h h' e =
     let f = name_facts (drop 1 bs) a.0 c a.1 in
     let l = f.1 in
     let k = a.2 in
-    record { ends = subst (EndsReference bs) (sym k) (one_more 0 38 a.0 bs h refl f.0); shorter = omega arith }
+    record { ends = subst (EndsReference bs) (sym k) (one_more 0 ampersand a.0 bs h refl f.0); shorter = omega arith }
 entity_by false u bs n c h h' e = let z : None ≡ Some (n, c) = rw h at e in cc
 
 pub entity_is_reference : (bs : List ℕ) (n c : ℕ) → entity_at bs ≡ Some (n, c) → IsReference bs n c
