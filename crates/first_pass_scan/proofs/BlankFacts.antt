@@ -1,6 +1,7 @@
 -- Spaces and tabs, each taken with all its columns, are all columns.
 use Rattle.std.proofs.Common.{◌≡◌, ℕ, ◌+◌, ◌-◌, ◌%◌, ◌<◌, suc, zero, List, [], ◌∷◌, Bool, true, false, Option, Some, None, refl, sym, ◌∙◌, ap, arith}
 use Rattle.std.proofs.Common.{if◌then◌else◌, ◌==◌, subst, MatchOption}
+use Rattle.first_pass_items.specs.Bytes.{tab, space}
 use Rattle.first_pass_lines.specs.Rest.{Rest, past_byte, next_column, after_columns, columns_of, indent}
 use Rattle.first_pass_lines.proofs.Columns.{after-more, all-more, indent-some}
 use Rattle.first_pass_scan.specs.Blanks.{without_owed, past_blank_in, past_blank}
@@ -30,9 +31,9 @@ takes_tab r t next = record { none = refl; all = owed_first t ∙ all-more r t n
 
 blank_by : (bs : List ℕ) (r s : Rest) → r.left ≡ bs → r.owed ≡ 0 → past_blank_in r bs ≡ Some s → TakesBlank r s
 blank_by [] r s l o h = absurd cc
-blank_by (b ∷ bs) r s l o h = by (b == 32) (b == 9) refl refl h
+blank_by (b ∷ bs) r s l o h = by (b == space) (b == tab) refl refl h
   where
-    by : (t u : Bool) → b == 32 ≡ t → b == 9 ≡ u
+    by : (t u : Bool) → b == space ≡ t → b == tab ≡ u
         → (if t then Some (past_byte r bs) else (if u then Some (record { left = bs; taken = r.taken + 1; owed = 0; column = 0 }) else None)) ≡ Some s
         → TakesBlank r s
     by true u e f k =
@@ -50,9 +51,9 @@ takes_blank r s o h = blank_by r.left r s refl o h
 
 no_columns : (bs : List ℕ) (r : Rest) → past_blank_in r bs ≡ None → columns_of bs r.column ≡ 0
 no_columns [] r h = refl
-no_columns (b ∷ bs) r h = by (b == 32) (b == 9) refl refl h
+no_columns (b ∷ bs) r h = by (b == space) (b == tab) refl refl h
   where
-    by : (t u : Bool) → b == 32 ≡ t → b == 9 ≡ u
+    by : (t u : Bool) → b == space ≡ t → b == tab ≡ u
         → (if t then Some (past_byte r bs) else (if u then Some (record { left = bs; taken = r.taken + 1; owed = 0; column = 0 }) else None)) ≡ None
         → columns_of (b ∷ bs) r.column ≡ 0
     by true u e f k = absurd cc

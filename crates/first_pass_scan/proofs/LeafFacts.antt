@@ -5,6 +5,7 @@ use Rattle.std.specs.List.{list_all}
 use Rattle.std.proofs.lemmas.Bool.{cases_lt, and_parts}
 use Rattle.std.proofs.lemmas.Bool.Decides.{nat_tests}
 use Rattle.std.proofs.lemmas.List.{append-nil, length-take-le, drop_more, get_or-take, take-append-drop, take-take}
+use Rattle.first_pass_items.specs.Bytes.{tab}
 use Rattle.first_pass_lines.specs.Rest.{columns_of}
 use Rattle.first_pass_lines.specs.Lines.{is_space_or_tab}
 use Rattle.first_pass_scan.specs.LeafLines.{blank_columns, IsIndent, IsLongestIndent}
@@ -17,7 +18,7 @@ pub record IsFront (bs : List ℕ) (n : ℕ) (columns : ℕ) (column : ℕ) : Ty
   pub before : (more : List ℕ) → columns_of (take n bs ++ more) 0 ≡ columns + columns_of more column
 
 pub columns_of-blank : (b column : ℕ) (more : List ℕ)
-    → 0 < blank_columns b column → columns_of (b ∷ more) column ≡ blank_columns b column + columns_of more (if b == 9 then 0 else column + 1)
+    → 0 < blank_columns b column → columns_of (b ∷ more) column ≡ blank_columns b column + columns_of more (if b == tab then 0 else column + 1)
 columns_of-blank b column more h = grind (arith, nat_tests, h)
 
 blank_then : (b column : ℕ) → is_space_or_tab b ≡ true → 0 < blank_columns b column

@@ -7,6 +7,7 @@ use Rattle.std.proofs.lemmas.List.{get_or-take, length-take-le}
 use Rattle.std.proofs.lemmas.List.Sums.{prefix_len_passes, prefix_len-le-length}
 use Rattle.std.proofs.lemmas.Bool.Decides.{nat_tests}
 use Rattle.std.proofs.lemmas.Bool.{lt-leb}
+use Rattle.first_pass_items.specs.Bytes.{digit_zero, digit_nine}
 use Rattle.first_pass_lines.specs.Lines.{blank_len}
 use Rattle.first_pass_lines.specs.Rest.{Rest, after_columns, indent}
 use Rattle.first_pass_scan.specs.Markers.{content_indent}
@@ -14,7 +15,8 @@ use Rattle.first_pass_lines.proofs.PlaceFacts.{all_columns_up_to}
 
 -- each byte in the run of digits is a digit
 pub digits-at : (bs : List ℕ) (n : ℕ)
-    → n ≡ prefix_len is_ascii_digit bs → n ≤ length bs → (i : ℕ) → i < length (take n bs) → (48 ≤ get_or (take n bs) i 0) × (get_or (take n bs) i 0 ≤ 57)
+    → n ≡ prefix_len is_ascii_digit bs → n ≤ length bs → (i : ℕ) → i < length (take n bs) → (digit_zero ≤ get_or (take n bs) i 0)
+    × (get_or (take n bs) i 0 ≤ digit_nine)
 digits-at bs n e l i h =
     let w : i < n = omega (arith, length-take-le n bs l) in
     let r = get_or-take n bs i 0 w in

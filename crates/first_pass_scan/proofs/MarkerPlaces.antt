@@ -11,6 +11,7 @@ use Rattle.std.proofs.lemmas.List.Sums.{prefix_len_passes, prefix_len_stops, pre
 use Rattle.std.proofs.lemmas.Bool.{cases_lt, eqb-true, and_parts, both_ways, false≢true}
 use Rattle.std.proofs.lemmas.Bool.Decides.{nat_tests}
 use Rattle.std.proofs.lemmas.Option.{cond_some, none-some, same_Some}
+use Rattle.first_pass_items.specs.Bytes.{right_parenthesis, full_stop, colon, left_bracket, right_bracket, ascii_end}
 use Rattle.first_pass_lines.specs.Lines.{is_content, is_white, is_ascii_white, begins, blank_len, at_line_end}
 use Rattle.first_pass_lines.specs.Rest.{Rest, past_bytes, after_columns, indent}
 use Rattle.first_pass_lines.specs.Places.{place_at, line_end, moved_bytes, IsPlaceOf}
@@ -26,7 +27,7 @@ pub record IsMarked (r : Rest) (s : Rest) : Type 0 where
   pub further : ℕ
   pub some : 0 < width
   pub within : width ≤ prefix_len is_content r.left
-  pub ascii : slice_index r.left (width - 1) < 128
+  pub ascii : slice_index r.left (width - 1) < ascii_end
   pub none_owed : r.owed ≡ 0
   pub same : s ≡ after_columns further (after_columns first (past_bytes width r))
 
@@ -60,7 +61,7 @@ marked-line_end line r s m =
 pub record IsFrontOf (bs : List ℕ) (n : ℕ) : Type 0 where
   pub some : 0 < n
   pub within : n ≤ prefix_len is_content bs
-  pub ascii : slice_index bs (n - 1) < 128
+  pub ascii : slice_index bs (n - 1) < ascii_end
 
 marked_by : (r s : Rest) (n j k : ℕ) → IsFrontOf r.left n → r.owed ≡ 0 → s ≡ after_columns k (after_columns j (past_bytes n r)) → IsMarked r s
 marked_by r s n j k f o e = record { width = n; first = j; further = k; some = f.some; within = f.within; ascii = f.ascii; none_owed = o; same = e }
@@ -74,7 +75,7 @@ mapped f None y h = absurd (none-some y h)
 mapped f (Some x) y h = (x, refl, same_Some (f x) y h)
 
 -- the first byte
-first_front : (c : ℕ) (bs : List ℕ) → c < 128 → is_content c ≡ true → begins c bs ≡ true → IsFrontOf bs 1
+first_front : (c : ℕ) (bs : List ℕ) → c < ascii_end → is_content c ≡ true → begins c bs ≡ true → IsFrontOf bs 1
 first_front c [] l e h = absurd (false≢true h)
 first_front c (b ∷ bs) l e h =
     let same : b ≡ c = eqb-true b c h in
@@ -90,7 +91,7 @@ bullet_front (b ∷ bs) m h =
     let p = cond_some (is_bullet b) (1, b, 0) m h in
     let w : m.0 ≡ 1 = sym (ap (λ (x : ℕ × ℕ × ℕ). x.0) p.1) in
     let content : is_content b ≡ true = grind (arith, nat_tests, p.0) in
-    let small : b < 128 = grind (arith, nat_tests, p.0) in
+    let small : b < ascii_end = grind (arith, nat_tests, p.0) in
     rw w (record { some = omega arith; within = rw content (omega arith); ascii = small })
 
 digit_content : (b : ℕ) → is_ascii_digit b ≡ true → is_content b ≡ true
@@ -108,10 +109,10 @@ delimited_front : (bs : List ℕ) (n number : ℕ) (rest : List ℕ) (m : ℕ ×
     → rest ≡ drop n bs → n ≡ prefix_len is_ascii_digit bs → delimited n number rest ≡ Some m → IsFrontOf bs m.0
 delimited_front bs n number [] m e same h = absurd (none-some m h)
 delimited_front bs n number (d ∷ ds) m e same h =
-    let p = cond_some ((d == 46) || (d == 41)) (n + 1, d, number) m h in
+    let p = cond_some ((d == full_stop) || (d == right_parenthesis)) (n + 1, d, number) m h in
     let w : m.0 ≡ n + 1 = sym (ap (λ (x : ℕ × ℕ × ℕ). x.0) p.1) in
     let content : is_content d ≡ true = grind (arith, nat_tests, p.0) in
-    let small : d < 128 = grind (arith, nat_tests, p.0) in
+    let small : d < ascii_end = grind (arith, nat_tests, p.0) in
     let z : n + 0 ≡ n = omega arith in
     let at : get_or bs n 0 ≡ d = sym (ap (λ j. get_or bs j 0) z) ∙ sym (get_or-drop n bs 0 0) ∙ sym (ap (λ xs. get_or xs 0 0) e) in
     let l : suc (length ds) ≡ length bs - n = ap length e ∙ length-drop n bs in
@@ -177,10 +178,10 @@ pub definition-marked : (outer : ℕ) (r : Rest) (definition : ℕ × Rest) → 
 unfolding definition_of
 definition-marked outer r definition h =
     let q : Rest = past_bytes 1 r in
-    let p = cond_some ((r.owed == 0) && begins 58 r.left) (after_colon (outer + 1) q) definition h in
-    let a = and_parts (r.owed == 0) (begins 58 r.left) p.0 in
+    let p = cond_some ((r.owed == 0) && begins colon r.left) (after_colon (outer + 1) q) definition h in
+    let a = and_parts (r.owed == 0) (begins colon r.left) p.0 in
     let c = colon_by (nat_le 1 (indent q)) (outer + 1) q in
-    marked_by r definition.1 1 c.0 c.1 (first_front 58 r.left (omega arith) refl a.1) (eqb-true r.owed 0 a.0) (sym (ap (λ (x : ℕ × Rest). x.1) p.1) ∙ c.2)
+    marked_by r definition.1 1 c.0 c.1 (first_front colon r.left (omega arith) refl a.1) (eqb-true r.owed 0 a.0) (sym (ap (λ (x : ℕ × Rest). x.1) p.1) ∙ c.2)
 
 -- the marker of a task
 mark_content : (b : ℕ) → (is_white b || is_checked b) ≡ true → is_content b ≡ true
@@ -197,14 +198,16 @@ box_front : (bs : List ℕ) (checked : Bool) → task_box bs ≡ Some checked �
 unfolding task_box
 box_front bs checked h =
     let mark : ℕ = slice_index bs 1 in
-    let p = cond_some ((slice_index bs 0 == 91) && (is_white mark || is_checked mark) && (slice_index bs 2 == 93) && is_ascii_white (slice_index bs 3))
+    let p = cond_some
+    ((slice_index bs 0 == left_bracket) && (is_white mark || is_checked mark) && (slice_index bs 2 == right_bracket) && is_ascii_white (slice_index bs 3))
     (is_checked mark) checked h in
     let three =
-    and_parts ((slice_index bs 0 == 91) && (is_white mark || is_checked mark) && (slice_index bs 2 == 93)) (is_ascii_white (slice_index bs 3)) p.0 in
-    let two = and_parts ((slice_index bs 0 == 91) && (is_white mark || is_checked mark)) (slice_index bs 2 == 93) three.0 in
-    let one = and_parts (slice_index bs 0 == 91) (is_white mark || is_checked mark) two.0 in
-    let front : slice_index bs 0 ≡ 91 = eqb-true (slice_index bs 0) 91 one.0 in
-    let last : slice_index bs 2 ≡ 93 = eqb-true (slice_index bs 2) 93 two.1 in
+    and_parts ((slice_index bs 0 == left_bracket) && (is_white mark || is_checked mark) && (slice_index bs 2 == right_bracket))
+    (is_ascii_white (slice_index bs 3)) p.0 in
+    let two = and_parts ((slice_index bs 0 == left_bracket) && (is_white mark || is_checked mark)) (slice_index bs 2 == right_bracket) three.0 in
+    let one = and_parts (slice_index bs 0 == left_bracket) (is_white mark || is_checked mark) two.0 in
+    let front : slice_index bs 0 ≡ left_bracket = eqb-true (slice_index bs 0) left_bracket one.0 in
+    let last : slice_index bs 2 ≡ right_bracket = eqb-true (slice_index bs 2) right_bracket two.1 in
     let l : 2 < length bs = within_by bs 2 (omega arith) in
     record {
       some = omega arith;

@@ -5,6 +5,8 @@ use Rattle.std.proofs.Common.{None, refl, sym, ap, ◌∙◌, arith}
 use Rattle.std.proofs.lemmas.Bool.{cases_eq, ne_eqb}
 use Rattle.std.proofs.lemmas.Bool.Decides.{nat_tests}
 use Rattle.std.specs.Char.{is_ascii_digit}
+use Rattle.first_pass_items.specs.Bytes.{tab, line_feed, line_tabulation, form_feed, carriage_return, space, number_sign, asterisk, plus_sign, hyphen}
+use Rattle.first_pass_items.specs.Bytes.{greater_than, underscore, backquote, tilde}
 use Rattle.first_pass_lines.specs.Rest.{Rest, column_of_byte, next_column, columns_of, after_columns, indent, past_quote_byte, past_quote}
 use Rattle.first_pass_lines.specs.Lines.{is_white, begins, eol_len, blank_len, atx_level}
 use Rattle.first_pass_scan.specs.LeafLines.{hrule_len, code_fence}
@@ -29,7 +31,8 @@ begins_both (b ∷ bs) h = plain_inert b h
 
 isnt_white : (b : ℕ) → is_plain b ≡ true → is_white b ≡ false
 unfolding is_plain
-isnt_white b h = rw (isnt is_plain b 9 h refl) (rw (isnt is_plain b 11 h refl) (rw (isnt is_plain b 12 h refl) (rw (isnt is_plain b 32 h refl) refl)))
+isnt_white b h = rw (isnt is_plain b tab h refl) (rw (isnt is_plain b line_tabulation h refl)
+    (rw (isnt is_plain b form_feed h refl) (rw (isnt is_plain b space h refl) refl)))
 
 pub plain_begins : (c : ℕ) (bs : List ℕ) → begins_plain bs ≡ true → is_plain c ≡ false → begins c bs ≡ false
 plain_begins c [] h k = refl
@@ -38,29 +41,30 @@ plain_begins c (b ∷ bs) h k = isnt is_plain b c h k
 pub plain_eol : (bs : List ℕ) → begins_plain bs ≡ true → eol_len bs ≡ None
 unfolding is_plain
 plain_eol [] h = absurd (true≢false (sym h))
-plain_eol (b ∷ bs) h = rw (isnt is_plain b 10 h refl) (rw (isnt is_plain b 13 h refl) refl)
+plain_eol (b ∷ bs) h = rw (isnt is_plain b line_feed h refl) (rw (isnt is_plain b carriage_return h refl) refl)
 
 pub plain_blank : (bs : List ℕ) → begins_plain bs ≡ true → blank_len bs ≡ None
 unfolding is_plain
 plain_blank [] h = absurd (true≢false (sym h))
-plain_blank (b ∷ bs) h = rw (isnt_white b h) (rw (isnt is_plain b 10 h refl) (rw (isnt is_plain b 13 h refl) refl))
+plain_blank (b ∷ bs) h = rw (isnt_white b h) (rw (isnt is_plain b line_feed h refl) (rw (isnt is_plain b carriage_return h refl) refl))
 
 pub plain_hrule : (bs : List ℕ) → begins_plain bs ≡ true → hrule_len bs ≡ None
 unfolding hrule_len is_plain
 plain_hrule [] h = absurd (true≢false (sym h))
-plain_hrule (b ∷ bs) h = rw (isnt is_plain b 45 h refl) (rw (isnt is_plain b 95 h refl) (rw (isnt is_plain b 42 h refl) refl))
+plain_hrule (b ∷ bs) h = rw (isnt is_plain b hyphen h refl) (rw (isnt is_plain b underscore h refl) (rw (isnt is_plain b asterisk h refl) refl))
 
 pub plain_atx : (bs : List ℕ) → begins_plain bs ≡ true → atx_level bs ≡ None
 unfolding atx_level is_plain
 plain_atx [] h = absurd (true≢false (sym h))
 plain_atx (b ∷ bs) h =
-    rw (isnt is_plain b 35 h refl)
-    (rw (isnt is_plain b 10 h refl) (rw (isnt is_plain b 13 h refl) (rw (isnt is_plain b 32 h refl) (rw (isnt is_plain b 9 h refl) refl))))
+    rw (isnt is_plain b number_sign h refl)
+    (rw (isnt is_plain b line_feed h refl) (rw (isnt is_plain b carriage_return h refl)
+    (rw (isnt is_plain b space h refl) (rw (isnt is_plain b tab h refl) refl))))
 
 pub plain_fence : (bs : List ℕ) → begins_plain bs ≡ true → code_fence bs ≡ None
 unfolding code_fence is_plain
 plain_fence [] h = absurd (true≢false (sym h))
-plain_fence (b ∷ bs) h = rw (isnt is_plain b 96 h refl) (rw (isnt is_plain b 126 h refl) refl)
+plain_fence (b ∷ bs) h = rw (isnt is_plain b backquote h refl) (rw (isnt is_plain b tilde h refl) refl)
 
 -- the last of the tests that every inert byte fails
 last_off : (p q r s t u v : Bool) → not (p || q || r || s || t || u || v) ≡ true → v ≡ false
@@ -75,13 +79,13 @@ last_off false false false false false false false h = refl
 
 inert_digit : (b : ℕ) → is_inert b ≡ true → is_ascii_digit b ≡ false
 unfolding is_inert
-inert_digit b h = last_off (b == 9) (b == 32) (b == 42) (b == 43) (b == 45) (b == 62) (is_ascii_digit b) h
+inert_digit b h = last_off (b == tab) (b == space) (b == asterisk) (b == plus_sign) (b == hyphen) (b == greater_than) (is_ascii_digit b) h
 
 -- there is no column
 inert_columns : (bs : List ℕ) (column : ℕ) → begins_inert bs ≡ true → columns_of bs column ≡ 0
 unfolding is_inert
 inert_columns [] column h = refl
-inert_columns (b ∷ bs) column h = rw (isnt is_inert b 32 h refl) (rw (isnt is_inert b 9 h refl) refl)
+inert_columns (b ∷ bs) column h = rw (isnt is_inert b space h refl) (rw (isnt is_inert b tab h refl) refl)
 
 pub inert_indent : (r : Rest) → r.owed ≡ 0 → begins_inert r.left ≡ true → indent r ≡ 0
 inert_indent r o h = let n = inert_columns r.left r.column h in omega arith
@@ -89,7 +93,7 @@ inert_indent r o h = let n = inert_columns r.left r.column h in omega arith
 inert_byte : (r : Rest) (bs : List ℕ) → begins_inert bs ≡ true → column_of_byte r bs ≡ None
 unfolding is_inert
 inert_byte r [] h = refl
-inert_byte r (b ∷ bs) h = rw (isnt is_inert b 32 h refl) (rw (isnt is_inert b 9 h refl) refl)
+inert_byte r (b ∷ bs) h = rw (isnt is_inert b space h refl) (rw (isnt is_inert b tab h refl) refl)
 
 after_none : (k : ℕ) (r : Rest) → next_column r ≡ None → after_columns k r ≡ r
 after_none zero r e = refl
@@ -109,7 +113,7 @@ plain_after k r o h = inert_after k r o (begins_both r.left h)
 inert_quote_byte : (r : Rest) (bs : List ℕ) → begins_inert bs ≡ true → past_quote_byte r bs ≡ None
 unfolding is_inert
 inert_quote_byte r [] h = refl
-inert_quote_byte r (b ∷ bs) h = rw (isnt is_inert b 62 h refl) refl
+inert_quote_byte r (b ∷ bs) h = rw (isnt is_inert b greater_than h refl) refl
 
 pub inert_quote : (r : Rest) → r.owed ≡ 0 → begins_inert r.left ≡ true → past_quote r ≡ None
 inert_quote r o h = rw o (inert_quote_byte r r.left h)
@@ -118,7 +122,7 @@ inert_marker : (bs : List ℕ) → begins_inert bs ≡ true → list_marker bs �
 unfolding list_marker is_inert
 inert_marker [] h = absurd (true≢false (sym h))
 inert_marker (b ∷ bs) h =
-    rw (isnt is_inert b 45 h refl) (rw (isnt is_inert b 43 h refl) (rw (isnt is_inert b 42 h refl) (rw (inert_digit b h) refl)))
+    rw (isnt is_inert b hyphen h refl) (rw (isnt is_inert b plus_sign h refl) (rw (isnt is_inert b asterisk h refl) (rw (inert_digit b h) refl)))
 
 item_none : (t : Bool) (n : ℕ) (r : Rest) → (if t then item_by n r None else None) ≡ None
 item_none true n r = refl
