@@ -11,6 +11,7 @@ use Rattle.std.proofs.lemmas.List.{get_or-reverse, get_or-take, take-take}
 use Rattle.std.proofs.lemmas.List.Sums.{prefix_len_passes, suffix_len-le-length}
 use Rattle.std.proofs.lemmas.Option.{none-some}
 use Rattle.std.proofs.lemmas.Str.{IsCharBoundary-before_ascii}
+use Rattle.first_pass_items.specs.Bytes.{backquote, tilde, ascii_end}
 use Rattle.first_pass_items.specs.declared.item.CowIndex.{CowIndex}
 use Rattle.first_pass_items.specs.declared.item.Item.{Item}
 use Rattle.first_pass_items.specs.declared.item.ItemBody.TheVariants.{FencedCodeBlock}
@@ -113,7 +114,7 @@ module _ (text : List ℕ) (start from next white : ℕ) (info : IsInfo text sta
       let read : get_or line (length line - suffix_len is_ascii_white line) 0 ≡ get_or text (next - white) 0 =
       ap (λ k. get_or line k 0) place ∙ get_or-take (next - from) (drop from text) (next - from - white) 0 (omega arith)
       ∙ get_or-drop from text (next - from - white) 0 ∙ ap (λ k. get_or text k 0) following in
-      let ascii : (k : ℕ) → is_ascii_white k ≡ true → k < 128 = λ k h. grind (arith, nat_tests, h) in
+      let ascii : (k : ℕ) → is_ascii_white k ≡ true → k < ascii_end = λ k h. grind (arith, nat_tests, h) in
       IsCharBoundary-before_ascii text (next - white) (omega (arith, l.1, l.2)) (ascii _ (ap is_ascii_white (sym read) ∙ passes))
 
   -- its end is between characters
@@ -143,31 +144,32 @@ fence_if t fence = if t then Some fence else None
 
 -- a code fence is a run of its byte
 fence_by : (t u v w : Bool) (bs : List ℕ) (n c : ℕ)
-    → (if t then fence_if u (run_len 96 bs, 96) else (if v then fence_if w (run_len 126 bs, 126) else None)) ≡ Some (n, c)
-    → (n ≡ run_len c bs) × (c < 128)
+    → (if t then fence_if u (run_len backquote bs, backquote) else (if v then fence_if w (run_len tilde bs, tilde) else None)) ≡ Some (n, c)
+    → (n ≡ run_len c bs) × (c < ascii_end)
 fence_by true true v w bs n c h =
-    let e : (run_len 96 bs, 96) ≡ (n, c) = cc in
-    let f : 96 ≡ c = ap (λ (p : ℕ × ℕ). p.1) e in
+    let e : (run_len backquote bs, backquote) ≡ (n, c) = cc in
+    let f : backquote ≡ c = ap (λ (p : ℕ × ℕ). p.1) e in
     (sym (ap (λ (p : ℕ × ℕ). p.0) e) ∙ ap (λ k. run_len k bs) f, omega arith)
 fence_by true false v w bs n c h = absurd (none-some (n, c) h)
 fence_by false u true true bs n c h =
-    let e : (run_len 126 bs, 126) ≡ (n, c) = cc in
-    let f : 126 ≡ c = ap (λ (p : ℕ × ℕ). p.1) e in
+    let e : (run_len tilde bs, tilde) ≡ (n, c) = cc in
+    let f : tilde ≡ c = ap (λ (p : ℕ × ℕ). p.1) e in
     (sym (ap (λ (p : ℕ × ℕ). p.0) e) ∙ ap (λ k. run_len k bs) f, omega arith)
 fence_by false u true false bs n c h = absurd (none-some (n, c) h)
 fence_by false u false w bs n c h = absurd (none-some (n, c) h)
 
-fence_run : (bs : List ℕ) (n c : ℕ) → code_fence bs ≡ Some (n, c) → (n ≡ run_len c bs) × (c < 128)
+fence_run : (bs : List ℕ) (n c : ℕ) → code_fence bs ≡ Some (n, c) → (n ≡ run_len c bs) × (c < ascii_end)
 unfolding code_fence
 fence_run bs n c h =
-    fence_by (begins 96 bs) (nat_le 3 (run_len 96 bs) && not (has_backquote (drop (run_len 96 bs) bs))) (begins 126 bs) (nat_le 3 (run_len 126 bs)) bs n c h
+    fence_by (begins backquote bs) (nat_le 3 (run_len backquote bs) && not (has_backquote (drop (run_len backquote bs) bs))) (begins tilde bs)
+    (nat_le 3 (run_len tilde bs)) bs n c h
 
 -- The end of a fence is between characters.
 pub fence_end : (text : List ℕ) (start n c : ℕ)
     → IsUtf8 text → IsCharBoundary text start → code_fence (drop start text) ≡ Some (n, c) → IsCharBoundary text (start + n)
 fence_end text start n c u b h =
     let f = fence_run (drop start text) n c h in
-    let ascii : (k : ℕ) → (k == c) ≡ true → k < 128 = λ k g. let e = eqb-true k c g in let small = f.1 in omega arith in
+    let ascii : (k : ℕ) → (k == c) ≡ true → k < ascii_end = λ k g. let e = eqb-true k c g in let small = f.1 in omega arith in
     let e : start + (0 + run_len c (drop start text)) ≡ start + n = omega (arith, f.0) in
     subst (IsCharBoundary text) e (prefix_keeps (λ k. k == c) ascii text (line_place start (drop start text)) u (line_is_place text start b)).boundary
 

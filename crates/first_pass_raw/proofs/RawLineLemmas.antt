@@ -2,6 +2,7 @@
 use Rattle.std.proofs.Common.{◌≡◌, ℕ, zero, suc, ◌+◌, ◌-◌, ◌≤◌, true, false, List, ◌∷◌, ◌++◌, length, refl, sym, ap, ◌∙◌, arith, []}
 use Rattle.std.specs.List.{slice_range}
 use Rattle.std.proofs.lemmas.Bool.{cond-true, cond-false}
+use Rattle.first_pass_items.specs.Bytes.{space}
 use Rattle.first_pass_items.specs.declared.cow_str.CowStr.{CowStr}
 use Rattle.first_pass_items.specs.CowText.{text_of}
 use Rattle.first_pass_items.specs.declared.item.CowIndex.{CowIndex}
@@ -23,7 +24,7 @@ named_last old new more cow ix text e at is f =
     (cow, text_last old new more ix cow at e f, is)
 
 -- up to three spaces
-pub spaces_taken : (n : ℕ) → n ≤ 3 → slice_range (32 ∷ 32 ∷ 32 ∷ []) 0 n ≡ spaces n
+pub spaces_taken : (n : ℕ) → n ≤ 3 → slice_range (space ∷ space ∷ space ∷ []) 0 n ≡ spaces n
 spaces_taken zero h = refl
 spaces_taken (suc zero) h = refl
 spaces_taken (suc (suc zero)) h = refl

@@ -11,6 +11,7 @@ use Rattle.std.proofs.lemmas.Bool.{cond_both, cases_lt, eqb-true, and_parts, or_
 use Rattle.std.proofs.lemmas.Bool.Decides.{nat_tests}
 use Rattle.std.proofs.lemmas.List.Sums.{prefix_len-le-length}
 use Rattle.std.proofs.lemmas.Str.{IsCharBoundary-before_ascii, IsCharBoundary-end}
+use Rattle.first_pass_items.specs.Bytes.{line_feed, carriage_return, space, hyphen, full_stop, backquote, tilde, ascii_end}
 use Rattle.first_pass_items.specs.declared.item.Item.{Item}
 use Rattle.first_pass_items.specs.declared.item.ItemBody.{ItemBody}
 use Rattle.first_pass_items.specs.declared.item.ItemBody.TheVariants.{IndentCodeBlock, FencedCodeBlock, MetadataBlock, HtmlBlock}
@@ -101,11 +102,11 @@ columns_in_order text names (suc n) at items b is = subst (AreInOrder text at at
 both_by : (text : List ℕ) (from to : ℕ)
     → to ≤ length text → ends_with_both text from to ≡ true → (from + 2 ≤ to) × IsCharBoundary text (to - 2) × IsCharBoundary text (to - 1)
 both_by text from to within h =
-    let a = and_parts (nat_lt (from + 1) to && (slice_index text (to - 2) == 13)) (slice_index text (to - 1) == 10) h in
-    let b = and_parts (nat_lt (from + 1) to) (slice_index text (to - 2) == 13) a.0 in
+    let a = and_parts (nat_lt (from + 1) to && (slice_index text (to - 2) == carriage_return)) (slice_index text (to - 1) == line_feed) h in
+    let b = and_parts (nat_lt (from + 1) to) (slice_index text (to - 2) == carriage_return) a.0 in
     let long : from + 1 < to = ltb-true (from + 1) to b.0 in
-    let return_is = eqb-true (slice_index text (to - 2)) 13 b.1 in
-    let newline_is = eqb-true (slice_index text (to - 1)) 10 a.1 in
+    let return_is = eqb-true (slice_index text (to - 2)) carriage_return b.1 in
+    let newline_is = eqb-true (slice_index text (to - 1)) line_feed a.1 in
     (omega arith, IsCharBoundary-before_ascii text (to - 2) (omega arith) (omega arith), IsCharBoundary-before_ascii text (to - 1) (omega arith) (omega arith))
 
 -- There is at most one item for them.
@@ -425,14 +426,14 @@ html_few d start columns stop e items is placed node_bound w apart =
     omega arith
 
 -- Between characters at the end of a line: after some bytes from a place on, if the line ends there.
-eol_small : (b : ℕ) (bs : List ℕ) (t v : Bool) → (b == 10) ≡ t → (b == 13) ≡ v → at_line_end (b ∷ bs) ≡ true → b < 128
-eol_small b bs true v e f h = (let z = eqb-true b 10 e in omega arith)
-eol_small b bs false true e f h = (let z = eqb-true b 13 f in omega arith)
+eol_small : (b : ℕ) (bs : List ℕ) (t v : Bool) → (b == line_feed) ≡ t → (b == carriage_return) ≡ v → at_line_end (b ∷ bs) ≡ true → b < ascii_end
+eol_small b bs true v e f h = (let z = eqb-true b line_feed e in omega arith)
+eol_small b bs false true e f h = (let z = eqb-true b carriage_return f in omega arith)
 eol_small b bs false false e f h = absurd (grind (arith, e, f, h))
 
-end_small : (bs : List ℕ) → at_line_end bs ≡ true → (length bs ≡ 0) ⊎ (get_or bs 0 0 < 128)
+end_small : (bs : List ℕ) → at_line_end bs ≡ true → (length bs ≡ 0) ⊎ (get_or bs 0 0 < ascii_end)
 end_small [] h = inl refl
-end_small (b ∷ bs) h = inr (eol_small b bs (b == 10) (b == 13) refl refl h)
+end_small (b ∷ bs) h = inr (eol_small b bs (b == line_feed) (b == carriage_return) refl refl h)
 
 ends_between : (text : List ℕ) (p : Place) (m : ℕ)
     → IsPlaceOf text p → m ≤ length p.rest.left → at_line_end (drop m p.rest.left) ≡ true → IsCharBoundary text (offset p + m)
@@ -490,19 +491,19 @@ three_long c (x ∷ y ∷ z ∷ bs) h = omega arith
 marks_long : (c : ℕ) (bs : List ℕ) → closing_marks c bs ≡ true → 3 ≤ length bs
 unfolding closing_marks
 marks_long c bs h =
-    elim (or_cases ((c == 45) && three_of 46 bs) (three_of c bs) h) [
-      | inl dots ↦ three_long 46 bs (and_parts (c == 45) (three_of 46 bs) dots).1
+    elim (or_cases ((c == hyphen) && three_of full_stop bs) (three_of c bs) h) [
+      | inl dots ↦ three_long full_stop bs (and_parts (c == hyphen) (three_of full_stop bs) dots).1
       | inr same ↦ three_long c bs same
     ]
 
 metadata_ends : (byte : ℕ) (bs : List ℕ) (n : ℕ) → closing_metadata_len byte bs ≡ Some n → (n ≤ length bs) × (at_line_end (drop n bs) ≡ true)
 unfolding closing_metadata_len
 metadata_ends byte bs n h =
-    let m : ℕ = 3 + run_len 32 (drop 3 bs) in
+    let m : ℕ = 3 + run_len space (drop 3 bs) in
     let f = found_by (closing_marks byte bs && at_line_end (drop m bs)) m n h in
     let a = and_parts (closing_marks byte bs) (at_line_end (drop m bs)) f.0 in
     let long = marks_long byte bs a.0 in
-    let following = prefix_len-le-length (λ b. b == 32) (drop 3 bs) in
+    let following = prefix_len-le-length (λ b. b == space) (drop 3 bs) in
     let l = length-drop 3 bs in
     (omega (arith, f.1), ap (λ j. at_line_end (drop j bs)) (sym f.1) ∙ a.1)
 
@@ -548,8 +549,8 @@ fence_plain_by false v false x p q r e f h = cc
 pub fence_plain : (bs : List ℕ) (fence : ℕ × ℕ) → code_fence bs ≡ Some fence → is_content fence.1 ≡ true
 unfolding code_fence
 fence_plain bs fence h =
-    fence_plain_by (begins 96 bs) (nat_le 3 (run_len 96 bs) && not (has_backquote (drop (run_len 96 bs) bs))) (begins 126 bs) (nat_le 3 (run_len 126 bs))
-    (run_len 96 bs, 96) (run_len 126 bs, 126) fence refl refl h
+    fence_plain_by (begins backquote bs) (nat_le 3 (run_len backquote bs) && not (has_backquote (drop (run_len backquote bs) bs))) (begins tilde bs)
+    (nat_le 3 (run_len tilde bs)) (run_len backquote bs, backquote) (run_len tilde bs, tilde) fence refl refl h
 
 content_within : (bs : List ℕ) → prefix_len is_content bs ≤ line_len bs
 content_within bs = omega (arith, line_len-parts bs)
@@ -585,18 +586,18 @@ three_plain c (x ∷ y ∷ z ∷ bs) plain h =
 marks_plain : (c : ℕ) (bs : List ℕ) → is_content c ≡ true → closing_marks c bs ≡ true → 3 ≤ prefix_len is_content bs
 unfolding closing_marks
 marks_plain c bs plain h =
-    elim (or_cases ((c == 45) && three_of 46 bs) (three_of c bs) h) [
-      | inl dots ↦ three_plain 46 bs refl (and_parts (c == 45) (three_of 46 bs) dots).1
+    elim (or_cases ((c == hyphen) && three_of full_stop bs) (three_of c bs) h) [
+      | inl dots ↦ three_plain full_stop bs refl (and_parts (c == hyphen) (three_of full_stop bs) dots).1
       | inr same ↦ three_plain c bs plain same
     ]
 
 metadata_within : (byte : ℕ) (bs : List ℕ) (n : ℕ) → is_content byte ≡ true → closing_metadata_len byte bs ≡ Some n → n ≤ line_len bs
 unfolding closing_metadata_len
 metadata_within byte bs n plain h =
-    let m : ℕ = 3 + run_len 32 (drop 3 bs) in
+    let m : ℕ = 3 + run_len space (drop 3 bs) in
     let f = found_by (closing_marks byte bs && at_line_end (drop m bs)) m n h in
     let marks = marks_plain byte bs plain (and_parts (closing_marks byte bs) (at_line_end (drop m bs)) f.0).0 in
-    let following = run_after (λ b. b == 32) (λ b e. ap is_content (eqb-true b 32 e)) 3 bs marks in
+    let following = run_after (λ b. b == space) (λ b e. ap is_content (eqb-true b space e)) 3 bs marks in
     let w = content_within bs in
     omega (arith, f.1)
 
