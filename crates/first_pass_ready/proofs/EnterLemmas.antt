@@ -11,7 +11,7 @@ use Rattle.first_pass_items.specs.declared.item.ItemBody.TheVariants.{BlockQuote
 use Rattle.first_pass_items.specs.declared.item.ItemBody.TheVariants.{FootnoteDefinition as FootnoteDefinitionBody, DefinitionList, DefinitionListDefinition}
 use Rattle.first_pass_tree.specs.declared.tree_index.TreeIndex.{TreeIndex}
 use Rattle.first_pass_tree.specs.Forest.{Forest, with_body_at, body_at}
-use Rattle.first_pass_items.specs.Bytes.{left_bracket, circumflex, colon}
+use Rattle.first_pass_items.specs.Bytes.{tab, line_feed, carriage_return, space, colon, greater_than, left_bracket, circumflex}
 use Rattle.first_pass_items.specs.OptionWords.{has, footnotes}
 use Rattle.first_pass_links.specs.Footnotes.{footnote_head}
 use Rattle.first_pass_lines.specs.Lines.{begins, is_white, eol_len, blank_len}
@@ -72,13 +72,13 @@ white_first b bs h =
     some_mapped (eol_len (drop m (b ∷ bs))) (λ k. m + k) ∙ ap (λ j. is_some (eol_len (drop j (b ∷ bs)))) (first ∙ z)
     ∙ sym (some_mapped (eol_len (drop n bs)) (λ k. n + k))
 
-space_white : (b : ℕ) → (b == 32) ≡ true → is_white b ≡ true
+space_white : (b : ℕ) → (b == space) ≡ true → is_white b ≡ true
 space_white b h = grind (arith, nat_tests, h)
 
-tab_white : (b : ℕ) → (b == 9) ≡ true → is_white b ≡ true
+tab_white : (b : ℕ) → (b == tab) ≡ true → is_white b ≡ true
 tab_white b h = grind (arith, nat_tests, h)
 
-byte_by : (t u : Bool) (s x y : Rest) (b : ℕ) (bs : List ℕ) → (b == 32) ≡ t → (b == 9) ≡ u → x.left ≡ bs → y.left ≡ bs
+byte_by : (t u : Bool) (s x y : Rest) (b : ℕ) (bs : List ℕ) → (b == space) ≡ t → (b == tab) ≡ u → x.left ≡ bs → y.left ≡ bs
     → (if t then Some x else (if u then Some y else None)) ≡ Some s → is_some (blank_len s.left) ≡ is_some (blank_len (b ∷ bs))
 byte_by true u s x y b bs h g e f k =
     let z : x ≡ s = cc in
@@ -90,7 +90,7 @@ byte_by false false s x y b bs h g e f k = cc
 
 byte_column : (r s : Rest) (left : List ℕ) → column_of_byte r left ≡ Some s → is_some (blank_len s.left) ≡ is_some (blank_len left)
 byte_column r s [] h = cc
-byte_column r s (b ∷ bs) h = byte_by (b == 32) (b == 9) s _ _ b bs refl refl refl refl h
+byte_column r s (b ∷ bs) h = byte_by (b == space) (b == tab) s _ _ b bs refl refl refl refl h
 
 column_by : (o : ℕ) (r s : Rest) → r.owed ≡ o → next_column r ≡ Some s → is_blank_rest s ≡ is_blank_rest r
 column_by zero r s e h = byte_column r s r.left (let z : column_of_byte r r.left ≡ next_column r = rw e refl in z ∙ h)
@@ -127,18 +127,19 @@ unfolding after
 blank_after b n path r h = ap is_blank_after (after_zero b path r) ∙ blank_after_item b n (after path r) h
 
 -- No container begins on a blank line.
-first_by : (t u v : Bool) (b : ℕ) (bs : List ℕ) → is_white b ≡ t → (b == 10) ≡ u → (b == 13) ≡ v → is_some (blank_len (b ∷ bs)) ≡ true → (t || (u || v)) ≡ true
+first_by : (t u v : Bool) (b : ℕ) (bs : List ℕ) → is_white b ≡ t → (b == line_feed) ≡ u → (b == carriage_return) ≡ v → is_some (blank_len (b ∷ bs)) ≡ true
+    → (t || (u || v)) ≡ true
 first_by true u v b bs e f g h = refl
 first_by false true v b bs e f g h = refl
 first_by false false true b bs e f g h = refl
 first_by false false false b bs e f g h = rw (e, f, g) at h
 
-first_of_blank : (b : ℕ) (bs : List ℕ) → is_some (blank_len (b ∷ bs)) ≡ true → (is_white b || ((b == 10) || (b == 13))) ≡ true
-first_of_blank b bs h = first_by (is_white b) (b == 10) (b == 13) b bs refl refl refl h
+first_of_blank : (b : ℕ) (bs : List ℕ) → is_some (blank_len (b ∷ bs)) ≡ true → (is_white b || ((b == line_feed) || (b == carriage_return))) ≡ true
+first_of_blank b bs h = first_by (is_white b) (b == line_feed) (b == carriage_return) b bs refl refl refl h
 
 no_quote_byte : (r : Rest) (left : List ℕ) → is_some (blank_len left) ≡ true → past_quote_byte r left ≡ None
 no_quote_byte r [] h = refl
-no_quote_byte r (b ∷ bs) h = let f = first_of_blank b bs h in let z : (b == 62) ≡ false = grind (arith, nat_tests, f) in rw z refl
+no_quote_byte r (b ∷ bs) h = let f = first_of_blank b bs h in let z : (b == greater_than) ≡ false = grind (arith, nat_tests, f) in rw z refl
 
 no_quote_rest : (t : Bool) (r : Rest) → is_blank_rest r ≡ true → (if t then past_quote_byte r r.left else None) ≡ None
 no_quote_rest true r h = no_quote_byte r r.left h
@@ -151,7 +152,8 @@ no_quote r h =
     ap (option_map (after_columns 1)) (no_quote_rest (q.owed == 0) q (blank_columns 3 r ∙ h))
 
 marker_by : (b : ℕ) (bs : List ℕ)
-    → (is_white b || ((b == 10) || (b == 13))) ≡ true → (if is_some (bullet_marker (b ∷ bs)) then bullet_marker (b ∷ bs) else ordered_marker (b ∷ bs)) ≡ None
+    → (is_white b || ((b == line_feed) || (b == carriage_return))) ≡ true
+    → (if is_some (bullet_marker (b ∷ bs)) then bullet_marker (b ∷ bs) else ordered_marker (b ∷ bs)) ≡ None
 marker_by b bs f = grind (arith, nat_tests, f)
 
 no_marker : (bs : List ℕ) → is_some (blank_len bs) ≡ true → list_marker bs ≡ None
@@ -174,7 +176,7 @@ unfolding item_at item_of
 no_item r h = no_item_by (nat_lt (indent r) 4) r h
 
 -- nor does a definition
-colon_by : (b : ℕ) → (is_white b || ((b == 10) || (b == 13))) ≡ true → (b == 58) ≡ false
+colon_by : (b : ℕ) → (is_white b || ((b == line_feed) || (b == carriage_return))) ≡ true → (b == colon) ≡ false
 colon_by b f = grind (arith, nat_tests, f)
 
 no_colon : (bs : List ℕ) → is_some (blank_len bs) ≡ true → begins colon bs ≡ false
@@ -201,7 +203,7 @@ no_marker_where true p h = no_definition p.rest h
 no_marker_where false p h = refl
 
 -- nor does a footnote definition
-bracket_by : (b : ℕ) → (is_white b || ((b == 10) || (b == 13))) ≡ true → (b == 91) ≡ false
+bracket_by : (b : ℕ) → (is_white b || ((b == line_feed) || (b == carriage_return))) ≡ true → (b == left_bracket) ≡ false
 bracket_by b f = grind (arith, nat_tests, f)
 
 no_bracket : (bs : List ℕ) → is_some (blank_len bs) ≡ true → begins left_bracket bs ≡ false
