@@ -42,7 +42,7 @@ white_content [] = omega arith
 white_content (b ∷ bs) = white_by (is_white b) b bs refl (white_content bs)
 
 -- a pipe is content
-pipe_content : (b : ℕ) (bs : List ℕ) → b ≡ 124 → 1 ≤ prefix_len is_content (b ∷ bs)
+pipe_content : (b : ℕ) (bs : List ℕ) → b ≡ pipe → 1 ≤ prefix_len is_content (b ∷ bs)
 pipe_content b bs h =
     let plain : is_content b ≡ true = ap is_content h in
     let content : prefix_len is_content (b ∷ bs) ≡ prefix_len is_content bs + 1 = rw plain (omega arith) in
@@ -56,7 +56,7 @@ start_along text at true here =
     elim (cases_lt at (length text)) [
       | inl inside ↦
           let read = at_drop_more (prefix_len is_content) text at 0 inside in
-          let some = pipe_content (slice_index text at) (drop (at + 1) text) (eqb-true (slice_index text at) 124 here) in
+          let some = pipe_content (slice_index text at) (drop (at + 1) text) (eqb-true (slice_index text at) pipe here) in
           let moved = along text at 1 (omega arith) in
           omega arith
       | inr past ↦ absurd (true≢false (sym here ∙ ap (λ (b : ℕ). b == pipe) (get_or_past text at 0 past)))

@@ -5,6 +5,7 @@ use Rattle.std.proofs.Common.{subst}
 use Rattle.std.proofs.Common.{◌∙◌, arith, drop-drop, if◌then◌else◌}
 use Rattle.std.specs.Option.{option_map, option_and_then}
 use Rattle.std.proofs.lemmas.Option.{none-some, same_Some}
+use Rattle.first_pass_items.specs.Bytes.{tab, space, greater_than}
 use Rattle.first_pass_items.specs.declared.option_set.Options.{Options}
 use Rattle.first_pass_items.specs.OptionWords.{has, tasklists}
 use Rattle.first_pass_lines.specs.Rest.{Rest, indent, past_byte, past_bytes, past_quote_byte, past_quote, column_of_byte, column_of, next_column}
@@ -60,7 +61,7 @@ column_by false false r s b bs e h = absurd (none-some s h)
 
 column_byte : (r s : Rest) (bs : List ℕ) → r.left ≡ bs → column_of_byte r bs ≡ Some s → Follows r s
 column_byte r s [] e h = absurd (none-some s h)
-column_byte r s (b ∷ bs) e h = column_by (b == 32) (b == 9) r s b bs e h
+column_byte r s (b ∷ bs) e h = column_by (b == space) (b == tab) r s b bs e h
 
 column_follows : (owed : ℕ) (r s : Rest) → column_of owed r ≡ Some s → Follows r s
 column_follows zero r s h = column_byte r s r.left refl h
@@ -82,7 +83,7 @@ quote_by false r s b bs e h = absurd (none-some s h)
 
 quote_byte : (r s : Rest) (bs : List ℕ) → r.left ≡ bs → past_quote_byte r bs ≡ Some s → Follows r s
 quote_byte r s [] e h = absurd (none-some s h)
-quote_byte r s (b ∷ bs) e h = quote_by (b == 62) r s b bs e h
+quote_byte r s (b ∷ bs) e h = quote_by (b == greater_than) r s b bs e h
 
 quote_if : (t : Bool) (r s : Rest) → (if t then past_quote_byte r r.left else None) ≡ Some s → Follows r s
 quote_if true r s h = quote_byte r s r.left refl h

@@ -7,7 +7,7 @@ use Rattle.std.specs.List.{prefix_len, take_while}
 use Rattle.std.proofs.lemmas.Bool.{cases_lt, eq-eqb, eqb-true, true≢false}
 use Rattle.std.proofs.lemmas.List.{at_drop_all, at_drop_more, get_or_past}
 use Rattle.std.proofs.lemmas.Option.{none-some, same_Some}
-use Rattle.first_pass_items.specs.Bytes.{backslash, pipe}
+use Rattle.first_pass_items.specs.Bytes.{line_feed, carriage_return, backslash, pipe}
 use Rattle.first_pass_items.specs.OptionWords.{has, tables}
 use Rattle.first_pass_items.specs.declared.item.Item.{Item}
 use Rattle.first_pass_lines.specs.Lines.{is_content, is_white, begins, eol_len, at_line_end, is_blank_line}
@@ -71,7 +71,7 @@ cells_unescaped b (c ∷ cs) = step_escaped (is_content c) (is_pipe c) (b == bac
 
 -- white space at the front adds none
 white_other : (t : Bool) (c : ℕ) → is_pipe c ≡ t → is_white c ≡ true → is_pipe c ≡ false
-white_other true c p w = absurd (true≢false (sym w ∙ ap is_white (eqb-true c 124 p)))
+white_other true c p w = absurd (true≢false (sym w ∙ ap is_white (eqb-true c pipe p)))
 white_other false c p w = p
 
 cells_white_by : (t : Bool) (b c : ℕ) (cs : List ℕ) → is_white c ≡ t → cells_of c cs ≤ cells_of 0 (drop (prefix_len is_white cs) cs)
@@ -99,16 +99,16 @@ cells_white b (c ∷ cs) = cells_white_by (is_white c) b c cs refl (cells_white 
 
 -- there are none if the line ends
 line_end_by : (t u : Bool) (b n : ℕ) (k : Option ℕ)
-    → (b == 10) ≡ t → (b == 13) ≡ u → (if t then Some 1 else (if u then k else None)) ≡ Some n → is_content b ≡ false
-line_end_by true u b n k h l e = ap is_content (eqb-true b 10 h)
-line_end_by false true b n k h l e = ap is_content (eqb-true b 13 l)
+    → (b == line_feed) ≡ t → (b == carriage_return) ≡ u → (if t then Some 1 else (if u then k else None)) ≡ Some n → is_content b ≡ false
+line_end_by true u b n k h l e = ap is_content (eqb-true b line_feed h)
+line_end_by false true b n k h l e = ap is_content (eqb-true b carriage_return l)
 line_end_by false false b n k h l e = absurd (none-some n e)
 
 cells_end : (b : ℕ) (bs : List ℕ) (n : ℕ) → eol_len bs ≡ Some n → cells_of b bs ≡ 0
 unfolding cells_of
 cells_end b [] n e = refl
 cells_end b (c ∷ cs) n e =
-    let ends = line_end_by (c == 10) (c == 13) c n _ refl refl e in
+    let ends = line_end_by (c == line_feed) (c == carriage_return) c n _ refl refl e in
     ap (λ (t : Bool). step t (is_pipe c && not (b == backslash)) (is_white c) (cells_of c cs)) ends
 
 -- after a pipe, or where there is none
@@ -145,7 +145,7 @@ to_text text at =
 -- the content of a cell adds one
 escaped_by : (t : Bool) (b c : ℕ) → is_pipe c ≡ t → (c ≡ pipe → b ≡ backslash) → (is_pipe c && not (b == backslash)) ≡ false
 escaped_by true b c p h =
-    let following = eq-eqb b 92 (h (eqb-true c 124 p)) in
+    let following = eq-eqb b backslash (h (eqb-true c pipe p)) in
     ap (λ (x : Bool). x && not (b == backslash)) p ∙ ap not following
 escaped_by false b c p h = ap (λ (x : Bool). x && not (b == backslash)) p
 
@@ -204,9 +204,9 @@ cells_least d p (cell ∷ cells) to on (line, tokens, stop, is, same, more) =
     omega arith
 
 -- there is one cell if anything precedes the line ending
-end_blank : (b : ℕ) (bs : List ℕ) (t u : Bool) → (b == 10) ≡ t → (b == 13) ≡ u → is_content b ≡ false → is_blank_line (b ∷ bs) ≡ true
-end_blank b bs true u h k is = ap (λ (x : ℕ). is_blank_line (x ∷ bs)) (eqb-true b 10 h)
-end_blank b bs false true h k is = ap (λ (x : ℕ). is_blank_line (x ∷ bs)) (eqb-true b 13 k)
+end_blank : (b : ℕ) (bs : List ℕ) (t u : Bool) → (b == line_feed) ≡ t → (b == carriage_return) ≡ u → is_content b ≡ false → is_blank_line (b ∷ bs) ≡ true
+end_blank b bs true u h k is = ap (λ (x : ℕ). is_blank_line (x ∷ bs)) (eqb-true b line_feed h)
+end_blank b bs false true h k is = ap (λ (x : ℕ). is_blank_line (x ∷ bs)) (eqb-true b carriage_return k)
 end_blank b bs false false h k is = absurd (true≢false (sym (rw (h, k) refl) ∙ is))
 
 some_mapped : {A B : Type 0} (f : A → B) (o : Option A) → is_some (option_map f o) ≡ is_some o
@@ -228,7 +228,7 @@ step_some false m = omega arith
 some_by : (t w : Bool) (b c : ℕ) (cs : List ℕ) → is_content c ≡ t → is_white c ≡ w → is_blank_line (c ∷ cs) ≡ false
     → (is_blank_line cs ≡ false → 1 ≤ cells_of c cs) → 1 ≤ cells_of b (c ∷ cs)
 unfolding cells_of
-some_by false w b c cs h k blank more = absurd (true≢false (sym (end_blank c cs (c == 10) (c == 13) refl refl h) ∙ blank))
+some_by false w b c cs h k blank more = absurd (true≢false (sym (end_blank c cs (c == line_feed) (c == carriage_return) refl refl h) ∙ blank))
 some_by true true b c cs h k blank more =
     let rest = more (sym (white_blank c cs k) ∙ blank) in
     let here = ap (λ (t : Bool). step t (is_pipe c && not (b == backslash)) (is_white c) (cells_of c cs)) h in
@@ -322,7 +322,7 @@ leads_by true c cs last n p up most =
     let front = take_next last c cs in
     let pipes = ap (λ (xs : List ℕ). pipes_after 0 xs) front in
     let one : one_if (is_pipe c && not (0 == backslash)) ≡ 1 = ap (λ (x : Bool). one_if (x && true)) p in
-    let none = ap is_white (eqb-true c 124 p) in
+    let none = ap is_white (eqb-true c pipe p) in
     let white : prefix_len is_white (c ∷ cs) ≡ 0 = rw none in
     let begins_it = ap (λ (k : ℕ). begins pipe (drop k (c ∷ cs))) white ∙ p in
     let less : one_if (begins pipe (drop (prefix_len is_white (c ∷ cs)) (c ∷ cs))) ≡ 1 = ap one_if begins_it in
