@@ -3,6 +3,7 @@ use Rattle.std.proofs.Common.{◌≡◌, ◌&&◌, Option, Some, None, if◌then
 use Rattle.std.proofs.Common.{nat_lt, List, [], ◌∷◌, length, drop, refl, sym, ap, ◌∙◌, arith, drop-drop}
 use Rattle.std.specs.List.{list_any}
 use Rattle.std.proofs.lemmas.Bool.{cases_Bool, cases_lt, lt-ltb, le-ltb}
+use Rattle.first_pass_items.specs.Bytes.{plus_sign, hyphen}
 use Rattle.first_pass_lines.specs.Lines.{begins, is_content, ends_line, line_len}
 use Rattle.first_pass_lines.specs.Places.{Place, line_place, lines_after, lines_at}
 use Rattle.first_pass_metadata.specs.Metadata.{closes_metadata, any_line_closes, after_line, opens_metadata, metadata_byte}
@@ -150,16 +151,17 @@ any_line-following c text s from e =
 
 -- the bytes that open metadata are no line endings
 metadata_plain_by : (t v w x : Bool) (byte : ℕ)
-    → (if t then (if v then Some 45 else None) else (if w then (if x then Some 43 else None) else None)) ≡ Some byte → is_content byte ≡ true
-metadata_plain_by true true w x byte h = (let e : 45 ≡ byte = cc in ap is_content (sym e))
+    → (if t then (if v then Some hyphen else None) else (if w then (if x then Some plus_sign else None) else None)) ≡ Some byte → is_content byte ≡ true
+metadata_plain_by true true w x byte h = (let e : hyphen ≡ byte = cc in ap is_content (sym e))
 metadata_plain_by true false w x byte h = cc
-metadata_plain_by false v true true byte h = (let e : 43 ≡ byte = cc in ap is_content (sym e))
+metadata_plain_by false v true true byte h = (let e : plus_sign ≡ byte = cc in ap is_content (sym e))
 metadata_plain_by false v true false byte h = cc
 metadata_plain_by false v false x byte h = cc
 
 pub metadata_plain : (yaml pluses : Bool) (bs : List ℕ) (byte : ℕ) → metadata_byte yaml pluses bs ≡ Some byte → is_content byte ≡ true
 unfolding metadata_byte
-metadata_plain yaml pluses bs byte h = metadata_plain_by (yaml && begins 45 bs) (opens_metadata 45 bs) (pluses && begins 43 bs) (opens_metadata 43 bs) byte h
+metadata_plain yaml pluses bs byte h =
+    metadata_plain_by (yaml && begins hyphen bs) (opens_metadata hyphen bs) (pluses && begins plus_sign bs) (opens_metadata plus_sign bs) byte h
 
 -- no metadata opens with a plain byte
 and_none : (yaml : Bool) (t : Bool) (x y : Option ℕ) → t ≡ false → (if yaml && t then x else y) ≡ y
@@ -169,4 +171,4 @@ and_none false t x y e = refl
 pub plain_metadata : (yaml pluses : Bool) (bs : List ℕ) → begins_plain bs ≡ true → metadata_byte yaml pluses bs ≡ None
 unfolding metadata_byte is_plain
 plain_metadata yaml pluses bs h =
-    and_none yaml (begins 45 bs) _ _ (plain_begins 45 bs h refl) ∙ and_none pluses (begins 43 bs) _ _ (plain_begins 43 bs h refl)
+    and_none yaml (begins hyphen bs) _ _ (plain_begins hyphen bs h refl) ∙ and_none pluses (begins plus_sign bs) _ _ (plain_begins plus_sign bs h refl)
