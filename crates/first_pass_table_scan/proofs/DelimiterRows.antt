@@ -6,7 +6,7 @@ use Rattle.std.specs.List.{prefix_len, suffix_len, take_while, position_or_len, 
 use Rattle.std.proofs.lemmas.Bool.{cases_lt}
 use Rattle.std.proofs.lemmas.Bool.Decides.{nat_tests}
 use Rattle.std.proofs.lemmas.List.Sums.{prefix_len-le-length}
-use Rattle.first_pass_items.specs.Bytes.{hyphen, colon, pipe}
+use Rattle.first_pass_items.specs.Bytes.{tab, space, hyphen, colon, pipe}
 use Rattle.first_pass_items.specs.declared.item.Alignment.{Alignment}
 use Rattle.first_pass_lines.specs.Lines.{is_space_or_tab, is_content, begins, line_len, ends}
 use Rattle.first_pass_scan.specs.LeafLines.{run_len}
@@ -120,12 +120,12 @@ neither s t e f = ap (λ u. u || t) e ∙ f
 
 -- a delimiter row without leading spaces and tabs begins with a pipe, a hyphen or a colon
 pub row-refused : (bs : List ℕ)
-    → begins 32 bs ≡ false → begins 9 bs ≡ false → (begins pipe bs || begins hyphen bs || begins colon bs) ≡ false → delimiter_row bs ≡ None
-row-refused [] space tab h = row_refused 0 [] refl refl refl refl (inl refl)
-row-refused (b ∷ bs) space tab h =
+    → begins space bs ≡ false → begins tab bs ≡ false → (begins pipe bs || begins hyphen bs || begins colon bs) ≡ false → delimiter_row bs ≡ None
+row-refused [] no_space no_tab h = row_refused 0 [] refl refl refl refl (inl refl)
+row-refused (b ∷ bs) no_space no_tab h =
     let some = either_no ((b == pipe) || (b == hyphen)) (b == colon) h in
     let two = either_no (b == pipe) (b == hyphen) some.0 in
-    row_refused b (b ∷ bs) (neither (b == 9) (b == 32) tab space) two.0 two.1 some.1 (inr (bs, refl))
+    row_refused b (b ∷ bs) (neither (b == tab) (b == space) no_tab no_space) two.0 two.1 some.1 (inr (bs, refl))
 
 -- the delimiter row after an indentation of fewer than four columns
 pub row_of-bound : (r s : Rest) → s ≡ after_columns 4 r → nat_le 4 (indent r) ≡ false → delimiter_row_of r ≡ delimiter_row s.left
@@ -142,7 +142,7 @@ row_of-refused r s e h look =
     let low : indent r ≤ 4 = grind (arith, nat_tests, h) in
     let same : after_columns (indent r) r ≡ s = sym (all_columns_up_to 4 r low) ∙ sym e in
     let front = all_columns r in
-    sym (row_of-bound r s e h ∙ row-refused s.left (ap (λ q. begins 32 q.left) (sym same) ∙ front.1) (ap (λ q. begins 9 q.left) (sym same) ∙ front.2) look)
+    sym (row_of-bound r s e h ∙ row-refused s.left (ap (λ q. begins space q.left) (sym same) ∙ front.1) (ap (λ q. begins tab q.left) (sym same) ∙ front.2) look)
 
 -- each delimiter row has an alignment
 cons-some : (x : Alignment) (o : Option (List Alignment)) (xs : List Alignment) → option_map (λ ys. x ∷ ys) o ≡ Some xs → 0 < length xs
