@@ -3,6 +3,9 @@ use Rattle.std.proofs.Common.{◌≡◌, inl, inr, ℕ, ◌<◌, Bool, true, fal
 use Rattle.std.proofs.Common.{arith}
 use Rattle.std.proofs.lemmas.Bool.{cases_eq, ne_eqb}
 use Rattle.std.proofs.lemmas.Bool.Decides.{nat_tests}
+use Rattle.first_pass_items.specs.Bytes.{line_feed, carriage_return, exclamation_mark, quotation_mark, dollar_sign, ampersand, apostrophe, asterisk, hyphen}
+use Rattle.first_pass_items.specs.Bytes.{full_stop, less_than, left_bracket, backslash, right_bracket, circumflex, underscore, backquote, left_brace, pipe}
+use Rattle.first_pass_items.specs.Bytes.{right_brace, tilde}
 use Rattle.first_pass_items.specs.declared.option_set.Options.{Options}
 use Rattle.first_pass_items.specs.OptionWords.{has}
 use Rattle.first_pass_walk.specs.Walk.{is_special, MarksSpecial, is_word_byte, SparesWords}
@@ -27,13 +30,17 @@ word_small b h = grind (arith, nat_tests, h)
 word_plain : (options : Options) (b : ℕ) → is_word_byte b ≡ true → is_special options b ≡ false
 unfolding is_special
 word_plain options b h =
-    or_off _ _ (rw (isnt_word b 10 h refl) (rw (isnt_word b 13 h refl)
-    (rw (isnt_word b 33 h refl) (rw (isnt_word b 38 h refl) (rw (isnt_word b 42 h refl) (rw (isnt_word b 60 h refl) (rw (isnt_word b 91 h refl)
-    (rw (isnt_word b 92 h refl) (rw (isnt_word b 93 h refl) (rw (isnt_word b 95 h refl) (rw (isnt_word b 96 h refl) (refl))))))))))))
-    (or_off _ _ (and_off (has options 2) _ (isnt_word b 124 h refl))
-    (or_off _ _ (or_off _ _ (and_off (has options 8 || has options 16384) _ (isnt_word b 126 h refl)) (and_off (has options 8192) _ (isnt_word b 94 h refl)))
-    (or_off _ _ (and_off (has options 1024) _ (rw (isnt_word b 36 h refl) (rw (isnt_word b 123 h refl) (rw (isnt_word b 125 h refl) (refl)))))
-    (and_off (has options 32) _ (rw (isnt_word b 34 h refl) (rw (isnt_word b 39 h refl) (rw (isnt_word b 45 h refl) (rw (isnt_word b 46 h refl) (refl)))))))))
+    or_off _ _ (rw (isnt_word b line_feed h refl) (rw (isnt_word b carriage_return h refl)
+    (rw (isnt_word b exclamation_mark h refl) (rw (isnt_word b ampersand h refl)
+    (rw (isnt_word b asterisk h refl) (rw (isnt_word b less_than h refl) (rw (isnt_word b left_bracket h refl)
+    (rw (isnt_word b backslash h refl) (rw (isnt_word b right_bracket h refl)
+    (rw (isnt_word b underscore h refl) (rw (isnt_word b backquote h refl) (refl)))))))))))) (or_off _ _ (and_off (has options 2) _ (isnt_word b pipe h refl))
+    (or_off _ _ (or_off _ _ (and_off (has options 8 || has options 16384) _ (isnt_word b tilde h refl))
+    (and_off (has options 8192) _ (isnt_word b circumflex h refl)))
+    (or_off _ _ (and_off (has options 1024) _ (rw (isnt_word b dollar_sign h refl)
+    (rw (isnt_word b left_brace h refl) (rw (isnt_word b right_brace h refl) (refl)))))
+    (and_off (has options 32) _ (rw (isnt_word b quotation_mark h refl)
+    (rw (isnt_word b apostrophe h refl) (rw (isnt_word b hyphen h refl) (rw (isnt_word b full_stop h refl) (refl)))))))))
 
 pub spares_words : (options : Options) (lut : List Bool) → MarksSpecial lut options → SparesWords lut
 spares_words options lut m b h = m b (word_small b h) ∙ word_plain options b h
