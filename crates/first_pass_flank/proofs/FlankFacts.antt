@@ -9,6 +9,7 @@ use Rattle.std.proofs.lemmas.Str.{IsUtf8-encode, IsUtf8-take, IsCharBoundary-at_
 use Rattle.std.proofs.lemmas.Option.{slice_get_read}
 use Rattle.std.proofs.Math.Seq.{take-append_seam, get_or-append_seam}
 use Rattle.std.specs.Char.{is_whitespace}
+use Rattle.first_pass_items.specs.Bytes.{asterisk, underscore}
 use Rattle.first_pass_flank.specs.declared.flank.DelimiterRun.{DelimiterRun}
 use Rattle.first_pass_flank.specs.Flank.{last_char, is_punctuation, can_open, can_close, opens_between, closes_between}
 use Rattle.first_pass_flank.specs.Flanking.{is_left_flanking, is_right_flanking, underscore_opens, underscore_closes, GoesBy}
@@ -94,42 +95,42 @@ alone_underscore_tests false true = refl
 alone_underscore_tests false false = refl
 
 -- emphasis by the rules of CommonMark
-star_opens_by : (r : DelimiterRun) (before after : Option ℕ) → r.before ≡ before → r.after ≡ after → GoesBy 42 can_open is_left_flanking r
+star_opens_by : (r : DelimiterRun) (before after : Option ℕ) → r.before ≡ before → r.after ≡ after → GoesBy asterisk can_open is_left_flanking r
 unfolding can_open opens_between
 star_opens_by r before None eb ea plain star = rw ea refl
 star_opens_by r None (Some a) eb ea plain star = rw (eb, ea) (alone_tests (is_whitespace a) (is_punctuation a))
 star_opens_by r (Some b) (Some a) eb ea plain star =
     rw (eb, ea, plain, star) (star_open_tests (is_whitespace a) (is_punctuation a) (is_whitespace b) (is_punctuation b))
 
-pub star_opens : (r : DelimiterRun) → GoesBy 42 can_open is_left_flanking r
+pub star_opens : (r : DelimiterRun) → GoesBy asterisk can_open is_left_flanking r
 star_opens r = star_opens_by r r.before r.after refl refl
 
-star_closes_by : (r : DelimiterRun) (before after : Option ℕ) → r.before ≡ before → r.after ≡ after → GoesBy 42 can_close is_right_flanking r
+star_closes_by : (r : DelimiterRun) (before after : Option ℕ) → r.before ≡ before → r.after ≡ after → GoesBy asterisk can_close is_right_flanking r
 unfolding can_close closes_between
 star_closes_by r None after eb ea plain star = rw eb refl
 star_closes_by r (Some b) None eb ea plain star = rw (eb, ea) (alone_tests (is_whitespace b) (is_punctuation b))
 star_closes_by r (Some b) (Some a) eb ea plain star =
     rw (eb, ea, plain, star) (star_close_tests (is_whitespace a) (is_punctuation a) (is_whitespace b) (is_punctuation b))
 
-pub star_closes : (r : DelimiterRun) → GoesBy 42 can_close is_right_flanking r
+pub star_closes : (r : DelimiterRun) → GoesBy asterisk can_close is_right_flanking r
 star_closes r = star_closes_by r r.before r.after refl refl
 
-underscore_opens_by : (r : DelimiterRun) (before after : Option ℕ) → r.before ≡ before → r.after ≡ after → GoesBy 95 can_open underscore_opens r
+underscore_opens_by : (r : DelimiterRun) (before after : Option ℕ) → r.before ≡ before → r.after ≡ after → GoesBy underscore can_open underscore_opens r
 unfolding can_open opens_between
 underscore_opens_by r before None eb ea plain line = rw ea refl
 underscore_opens_by r None (Some a) eb ea plain line = rw (eb, ea) (alone_underscore_tests (is_whitespace a) (is_punctuation a))
 underscore_opens_by r (Some b) (Some a) eb ea plain line =
     rw (eb, ea, plain, line) (underscore_open_tests (is_whitespace a) (is_punctuation a) (is_whitespace b) (is_punctuation b))
 
-pub underscore_opens_is : (r : DelimiterRun) → GoesBy 95 can_open underscore_opens r
+pub underscore_opens_is : (r : DelimiterRun) → GoesBy underscore can_open underscore_opens r
 underscore_opens_is r = underscore_opens_by r r.before r.after refl refl
 
-underscore_closes_by : (r : DelimiterRun) (before after : Option ℕ) → r.before ≡ before → r.after ≡ after → GoesBy 95 can_close underscore_closes r
+underscore_closes_by : (r : DelimiterRun) (before after : Option ℕ) → r.before ≡ before → r.after ≡ after → GoesBy underscore can_close underscore_closes r
 unfolding can_close closes_between
 underscore_closes_by r None after eb ea plain line = rw eb refl
 underscore_closes_by r (Some b) None eb ea plain line = rw (eb, ea) (alone_underscore_tests (is_whitespace b) (is_punctuation b))
 underscore_closes_by r (Some b) (Some a) eb ea plain line =
     rw (eb, ea, plain, line) (underscore_close_tests (is_whitespace a) (is_punctuation a) (is_whitespace b) (is_punctuation b))
 
-pub underscore_closes_is : (r : DelimiterRun) → GoesBy 95 can_close underscore_closes r
+pub underscore_closes_is : (r : DelimiterRun) → GoesBy underscore can_close underscore_closes r
 underscore_closes_is r = underscore_closes_by r r.before r.after refl refl
