@@ -4,6 +4,7 @@ use Rattle.std.proofs.Common.{sym, subst, arith, nat_lt, if◌then◌else◌}
 use Rattle.std.specs.Option.{is_some}
 use Rattle.std.proofs.lemmas.Bool.{and_parts}
 use Rattle.std.proofs.lemmas.Option.{none-some, same_Some}
+use Rattle.first_pass_items.specs.Bytes.{less_than}
 use Rattle.first_pass_items.specs.declared.item.Item.{Item}
 use Rattle.first_pass_items.specs.declared.item.HeadingLevel.{HeadingLevel}
 use Rattle.first_pass_items.specs.declared.item.ItemBody.TheVariants.{IndentCodeBlock, FencedCodeBlock, MetadataBlock, HtmlBlock}
@@ -52,7 +53,7 @@ there_is (Some x) h = (x, refl)
 html_ends : (bs : List ℕ) (t u : Bool) (k : Kind) → begins_html_to_end bs ≡ t
     → (if t then Some HtmlToEnd else (if u then Some HtmlToBlank else None)) ≡ Some k → HasEnd bs k
 html_ends bs true u k h e =
-    let both = and_parts (begins 60 bs) (is_some (html_end (drop 1 bs))) h in
+    let both = and_parts (begins less_than bs) (is_some (html_end (drop 1 bs))) h in
     subst (HasEnd bs) (same_Some HtmlToEnd k e) (there_is (html_end (drop 1 bs)) both.1)
 html_ends bs false true k h e = subst (HasEnd bs) (same_Some HtmlToBlank k e) tt
 html_ends bs false false k h e = absurd (none-some k e)
