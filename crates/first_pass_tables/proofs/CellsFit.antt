@@ -92,7 +92,7 @@ start_boundary : (text : List ℕ) (at : ℕ) (t : Bool) → (slice_index text a
     → IsCharBoundary text (cell_start text at)
 start_boundary text at true here utf8 boundary =
     let begins : cell_start text at ≡ at + 1 = ap (λ (t : Bool). if t then at + 1 else at) here in
-    let byte : slice_index text at ≡ 124 = eqb-true (slice_index text at) 124 here in
+    let byte : slice_index text at ≡ pipe = eqb-true (slice_index text at) pipe here in
     elim (cases_lt at (length text)) [
       | inl inside ↦ subst (IsCharBoundary text) (sym begins) (IsCharBoundary-after_ascii text at utf8 inside (omega arith))
       | inr past ↦ absurd (true≢false (sym here ∙ ap (λ (b : ℕ). b == pipe) (get_or_past text at 0 past)))
