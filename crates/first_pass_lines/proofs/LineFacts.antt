@@ -9,6 +9,7 @@ use Rattle.std.proofs.lemmas.Grind.{common_steps}
 use Rattle.std.proofs.lemmas.Bool.{eqb-true}
 use Rattle.std.proofs.lemmas.List.Elements.{All-nil, All-cons}
 use Rattle.std.proofs.lemmas.Bool.Decides.{nat_tests}
+use Rattle.first_pass_items.specs.Bytes.{line_feed, carriage_return}
 use Rattle.first_pass_lines.specs.Lines.{begins, ends_line, is_white, is_content, eol_len, blank_len, line_len, IsLineEnd, IsLine}
 use Rattle.first_pass_lines.specs.Places.{Place, line_place, IsLinePlace, lines_after, lines_at, line_of, IsDivision}
 
@@ -31,24 +32,25 @@ line_len-content_first b bs h =
     let d : drop (k + 1) (b ∷ bs) ≡ drop k bs = rw add-one in
     rw n (rw d (omega arith))
 
-line_len-newline : (b : ℕ) (bs : List ℕ) → (b == 10) ≡ true → line_len (b ∷ bs) ≡ 1
+line_len-newline : (b : ℕ) (bs : List ℕ) → (b == line_feed) ≡ true → line_len (b ∷ bs) ≡ 1
 line_len-newline b bs h = end_first b bs (rw h) ∙ rw h
 
-line_len-begins : (bs : List ℕ) → begins 10 bs ≡ true → line_len bs ≡ 1
+line_len-begins : (bs : List ℕ) → begins line_feed bs ≡ true → line_len bs ≡ 1
 line_len-begins [] h = cc
 line_len-begins (c ∷ cs) h = line_len-newline c cs h
 
-line_len-return : (t : Bool) (bs : List ℕ) → begins 10 bs ≡ t → (if begins 10 bs then 2 else 1) ≡ cond (not (begins 10 bs)) 1 (line_len bs + 1)
+line_len-return : (t : Bool) (bs : List ℕ) → begins line_feed bs ≡ t
+    → (if begins line_feed bs then 2 else 1) ≡ cond (not (begins line_feed bs)) 1 (line_len bs + 1)
 line_len-return true bs h = rw h (omega (arith, line_len-begins bs h))
 line_len-return false bs h = rw h
 
-step_by : (t u : Bool) (b : ℕ) (bs : List ℕ) → (b == 10) ≡ t → (b == 13) ≡ u → line_len (b ∷ bs) ≡ cond (ends_line b bs) 1 (line_len bs + 1)
+step_by : (t u : Bool) (b : ℕ) (bs : List ℕ) → (b == line_feed) ≡ t → (b == carriage_return) ≡ u → line_len (b ∷ bs) ≡ cond (ends_line b bs) 1 (line_len bs + 1)
 step_by true u b bs h h' = line_len-newline b bs h ∙ rw h
-step_by false true b bs h h' = end_first b bs (rw (h, h')) ∙ rw (h, h') (line_len-return (begins 10 bs) bs refl)
+step_by false true b bs h h' = end_first b bs (rw (h, h')) ∙ rw (h, h') (line_len-return (begins line_feed bs) bs refl)
 step_by false false b bs h h' = line_len-content_first b bs (rw (h, h')) ∙ rw (h, h')
 
 pub line_len-step : (b : ℕ) (bs : List ℕ) → line_len (b ∷ bs) ≡ cond (ends_line b bs) 1 (line_len bs + 1)
-line_len-step b bs = step_by (b == 10) (b == 13) b bs refl refl
+line_len-step b bs = step_by (b == line_feed) (b == carriage_return) b bs refl refl
 
 pub line_len-some : (bs : List ℕ) → 0 < length bs → 0 < line_len bs
 line_len-some [] h = absurd (omega arith)
@@ -112,9 +114,9 @@ line_len-within text s h =
 
 -- a line, before further bytes, has the length of their first line
 line_len-end : (bs following : List ℕ) → IsLineEnd bs following → line_len (bs ++ following) ≡ length bs
-line_len-end bs following (inl h) = rw h (line_len-step 10 following)
-line_len-end bs following (inr (inl h)) = rw h (line_len-step 13 (10 ∷ following) ∙ ap (λ k. k + 1) (line_len-step 10 following))
-line_len-end bs following (inr (inr (inl h))) = rw h.0 (line_len-step 13 following ∙ rw h.1)
+line_len-end bs following (inl h) = rw h (line_len-step line_feed following)
+line_len-end bs following (inr (inl h)) = rw h (line_len-step carriage_return (line_feed ∷ following) ∙ ap (λ k. k + 1) (line_len-step line_feed following))
+line_len-end bs following (inr (inr (inl h))) = rw h.0 (line_len-step carriage_return following ∙ rw h.1)
 line_len-end bs following (inr (inr (inr h))) = rw (h.0, h.1) line_len-none
 
 line_len-content : (content rest : List ℕ) → list_all is_content content ≡ true → line_len (content ++ rest) ≡ length content + line_len rest
@@ -138,16 +140,16 @@ record Front (bs : List ℕ) (n : ℕ) : Type 0 where
   plain : list_all is_content content ≡ true
   ends : IsLineEnd ending (drop n bs)
 
-front_newline : (b : ℕ) (bs : List ℕ) → b ≡ 10 → Front (b ∷ bs) 1
+front_newline : (b : ℕ) (bs : List ℕ) → b ≡ line_feed → Front (b ∷ bs) 1
 front_newline b bs h = record { content = []; ending = b ∷ []; parts = refl; plain = refl; ends = inl (rw h) }
 
-front_return : (b : ℕ) (bs : List ℕ) → b ≡ 13 → begins 10 bs ≡ false → Front (b ∷ bs) 1
+front_return : (b : ℕ) (bs : List ℕ) → b ≡ carriage_return → begins line_feed bs ≡ false → Front (b ∷ bs) 1
 front_return b bs h h' = record { content = []; ending = b ∷ []; parts = refl; plain = refl; ends = inr (inr (inl (rw h, h'))) }
 
-front_both : (b : ℕ) (bs : List ℕ) → b ≡ 13 → begins 10 bs ≡ true → Front (b ∷ bs) 2
+front_both : (b : ℕ) (bs : List ℕ) → b ≡ carriage_return → begins line_feed bs ≡ true → Front (b ∷ bs) 2
 front_both b [] h h' = cc
 front_both b (c ∷ cs) h h' =
-    let e : c ≡ 10 = grind (arith, nat_tests, h') in
+    let e : c ≡ line_feed = grind (arith, nat_tests, h') in
     record { content = []; ending = b ∷ c ∷ []; parts = refl; plain = refl; ends = inr (inl (rw (h, e))) }
 
 front_content : (b : ℕ) (bs : List ℕ) (n : ℕ) → is_content b ≡ true → Front bs n → Front (b ∷ bs) (n + 1)
@@ -157,17 +159,18 @@ front_content b bs n h f =
     record { content = b ∷ f.content; ending = f.ending; parts = t ∙ ap (λ xs. b ∷ xs) f.parts; plain = rw h f.plain; ends = rw d f.ends }
 
 front_by : (t u v : Bool) (b : ℕ) (bs : List ℕ)
-    → (b == 10) ≡ t → (b == 13) ≡ u → begins 10 bs ≡ v → Front bs (line_len bs) → Front (b ∷ bs) (cond (ends_line b bs) 1 (line_len bs + 1))
-front_by true u v b bs h h' h'' f = rw h (front_newline b bs (eqb-true b 10 h))
-front_by false true false b bs h h' h'' f = rw (h, h', h'') (front_return b bs (eqb-true b 13 h') h'')
+    → (b == line_feed) ≡ t → (b == carriage_return) ≡ u → begins line_feed bs ≡ v → Front bs (line_len bs)
+    → Front (b ∷ bs) (cond (ends_line b bs) 1 (line_len bs + 1))
+front_by true u v b bs h h' h'' f = rw h (front_newline b bs (eqb-true b line_feed h))
+front_by false true false b bs h h' h'' f = rw (h, h', h'') (front_return b bs (eqb-true b carriage_return h') h'')
 front_by false true true b bs h h' h'' f =
     let two : line_len bs + 1 ≡ 2 = omega (arith, line_len-begins bs h'') in
-    rw (h, h', h'') (rw two (front_both b bs (eqb-true b 13 h') h''))
+    rw (h, h', h'') (rw two (front_both b bs (eqb-true b carriage_return h') h''))
 front_by false false v b bs h h' h'' f = rw (h, h') (front_content b bs (line_len bs) (rw (h, h')) f)
 
 front_of : (bs : List ℕ) → Front bs (line_len bs)
 front_of [] = rw line_len-none (record { content = []; ending = []; parts = refl; plain = refl; ends = inr (inr (inr (refl, refl))) })
-front_of (b ∷ bs) = rw (line_len-step b bs) (front_by (b == 10) (b == 13) (begins 10 bs) b bs refl refl refl (front_of bs))
+front_of (b ∷ bs) = rw (line_len-step b bs) (front_by (b == line_feed) (b == carriage_return) (begins line_feed bs) b bs refl refl refl (front_of bs))
 
 first_is_line : (bs following : List ℕ) → 0 < length bs → following ≡ drop (line_len bs) bs → IsLine (take (line_len bs) bs) following
 first_is_line bs following h e =
@@ -252,14 +255,14 @@ pub line_len-content_end : (bs : List ℕ) → let n : ℕ = prefix_len is_conte
 unfolding line_len
 line_len-content_end bs = refl
 
-eol_by : (t u : Bool) (b : ℕ) (bs : List ℕ) (n : ℕ) → (b == 10) ≡ t → (b == 13) ≡ u → eol_len (b ∷ bs) ≡ Some n → line_len (b ∷ bs) ≡ n
+eol_by : (t u : Bool) (b : ℕ) (bs : List ℕ) (n : ℕ) → (b == line_feed) ≡ t → (b == carriage_return) ≡ u → eol_len (b ∷ bs) ≡ Some n → line_len (b ∷ bs) ≡ n
 eol_by true u b bs n h h' e = end_first b bs (rw h) ∙ ap (λ o. unwrap_or o 0) e
 eol_by false true b bs n h h' e = end_first b bs (rw (h, h')) ∙ ap (λ o. unwrap_or o 0) e
 eol_by false false b bs n h h' e = absurd (grind (arith, h, h', e))
 
 pub line_len-eol : (bs : List ℕ) (n : ℕ) → eol_len bs ≡ Some n → line_len bs ≡ n
 line_len-eol [] n h = let e : 0 ≡ n = cc in line_len-none ∙ e
-line_len-eol (b ∷ bs) n h = eol_by (b == 10) (b == 13) b bs n refl refl h
+line_len-eol (b ∷ bs) n h = eol_by (b == line_feed) (b == carriage_return) b bs n refl refl h
 
 one_less : (w n : ℕ) (o : Option ℕ) → option_map (λ k. (w + 1) + k) o ≡ Some n → (m : ℕ) × (option_map (λ k. w + k) o ≡ Some m) × (n ≡ m + 1)
 one_less w n None h = cc
@@ -288,9 +291,9 @@ pub line_len-blank : (bs : List ℕ) (n : ℕ) → blank_len bs ≡ Some n → l
 line_len-blank [] n h = let e : 0 ≡ n = cc in line_len-none ∙ e
 line_len-blank (b ∷ bs) n h = blank_by (is_white b) b bs n refl (line_len-blank bs) h
 
-some_end : (t u : Bool) (b : ℕ) (bs : List ℕ) → (b == 10) ≡ t → (b == 13) ≡ u → is_content b ≡ false → (k : ℕ) × (eol_len (b ∷ bs) ≡ Some k)
+some_end : (t u : Bool) (b : ℕ) (bs : List ℕ) → (b == line_feed) ≡ t → (b == carriage_return) ≡ u → is_content b ≡ false → (k : ℕ) × (eol_len (b ∷ bs) ≡ Some k)
 some_end true u b bs h h' e = (1, rw h)
-some_end false true b bs h h' e = (if begins 10 bs then 2 else 1, rw (h, h'))
+some_end false true b bs h h' e = (if begins line_feed bs then 2 else 1, rw (h, h'))
 some_end false false b bs h h' e = absurd (grind (arith, h, h', e))
 
 ends_at : (bs : List ℕ) (k : ℕ) → eol_len bs ≡ Some k → eol_len bs ≡ Some (line_len bs)
@@ -306,7 +309,7 @@ content_by true b bs h f =
     rw n (rw d f)
 content_by false b bs h f =
     let n : prefix_len is_content (b ∷ bs) ≡ 0 = rw h in
-    let k = some_end (b == 10) (b == 13) b bs refl refl h in
+    let k = some_end (b == line_feed) (b == carriage_return) b bs refl refl h in
     rw n (ends_at (b ∷ bs) k.0 k.1)
 
 pub content_ends : (bs : List ℕ) → let rest : List ℕ = drop (prefix_len is_content bs) bs in eol_len rest ≡ Some (line_len rest)

@@ -8,6 +8,7 @@ use Rattle.std.proofs.lemmas.Str.{IsCharBoundary-after_ascii, IsCharBoundary-end
 use Rattle.std.proofs.lemmas.List.Sums.{prefix_len_passes, prefix_len-le-length}
 use Rattle.std.proofs.lemmas.Bool.{eqb-true, cases_lt}
 use Rattle.std.proofs.lemmas.Bool.Decides.{nat_tests}
+use Rattle.first_pass_items.specs.Bytes.{tab, space, greater_than, ascii_end}
 use Rattle.first_pass_lines.specs.Lines.{begins, ends_line, line_len, is_content, is_white, is_number_sign}
 use Rattle.first_pass_lines.specs.Rest.{Rest, past_byte, past_bytes, past_quote_byte, past_quote, column_of_byte, column_of, next_column, after_columns}
 use Rattle.first_pass_lines.specs.Rest.{indent}
@@ -18,15 +19,15 @@ use Rattle.first_pass_lines.proofs.LineFacts.{lines_at-end}
 use Rattle.first_pass_lines.proofs.Columns.{after-more, after-none, indent-some, all-more, all-none}
 
 -- after all columns are taken: no column is owed, and the next byte is neither a space nor a tab
-byte_none : (r : Rest) (bs : List ℕ) → column_of_byte r bs ≡ None → (begins 32 bs ≡ false) × (begins 9 bs ≡ false)
+byte_none : (r : Rest) (bs : List ℕ) → column_of_byte r bs ≡ None → (begins space bs ≡ false) × (begins tab bs ≡ false)
 byte_none r [] h = (refl, refl)
 byte_none r (b ∷ bs) h = (grind (arith, h), grind (arith, h))
 
-owed_none : (o : ℕ) (r : Rest) → column_of o r ≡ None → (o ≡ 0) × (begins 32 r.left ≡ false) × (begins 9 r.left ≡ false)
+owed_none : (o : ℕ) (r : Rest) → column_of o r ≡ None → (o ≡ 0) × (begins space r.left ≡ false) × (begins tab r.left ≡ false)
 owed_none zero r h = let n = byte_none r r.left h in (refl, n.0, n.1)
 owed_none (suc o) r h = cc
 
-pub none_left : (r : Rest) → next_column r ≡ None → (r.owed ≡ 0) × (begins 32 r.left ≡ false) × (begins 9 r.left ≡ false)
+pub none_left : (r : Rest) → next_column r ≡ None → (r.owed ≡ 0) × (begins space r.left ≡ false) × (begins tab r.left ≡ false)
 none_left r h = owed_none r.owed r h
 
 no_more_step : (k : ℕ) (r : Rest) (o : Option Rest)
@@ -42,7 +43,7 @@ pub no_more : (k : ℕ) (r : Rest) → indent r ≤ k → next_column (after_col
 no_more zero r h = no_more_zero r (next_column r) refl h
 no_more (suc k) r h = no_more_step k r (next_column r) refl h (no_more k)
 
-pub all_columns : (r : Rest) → let s : Rest = after_columns (indent r) r in (s.owed ≡ 0) × (begins 32 s.left ≡ false) × (begins 9 s.left ≡ false)
+pub all_columns : (r : Rest) → let s : Rest = after_columns (indent r) r in (s.owed ≡ 0) × (begins space s.left ≡ false) × (begins tab s.left ≡ false)
 all_columns r = none_left (after_columns (indent r) r) (no_more (indent r) r (omega arith))
 
 -- as many columns as there are, up to a limit that is no less than their number
@@ -88,7 +89,7 @@ bytes_keep text p n i h =
 
 -- so it is after bytes whose last is ASCII
 pub ascii_boundary : (text : List ℕ) (p : Place) (n : ℕ)
-    → IsUtf8 text → IsPlaceOf text p → n < length p.rest.left → slice_index p.rest.left n < 128 → IsCharBoundary text (offset p + (n + 1))
+    → IsUtf8 text → IsPlaceOf text p → n < length p.rest.left → slice_index p.rest.left n < ascii_end → IsCharBoundary text (offset p + (n + 1))
 ascii_boundary text p n u i l h =
     let d : length p.rest.left ≡ length text - offset p = ap length i.left ∙ length-drop (offset p) text in
     let b = byte_at text (offset p) n p.rest.left i.left in
@@ -96,10 +97,10 @@ ascii_boundary text p n u i l h =
     rw e (IsCharBoundary-after_ascii text (offset p + n) u (omega arith) (omega arith))
 
 pub ascii_keeps : (text : List ℕ) (p : Place) (n : ℕ)
-    → IsUtf8 text → IsPlaceOf text p → n < length p.rest.left → slice_index p.rest.left n < 128 → IsPlaceOf text (moved_bytes (n + 1) p)
+    → IsUtf8 text → IsPlaceOf text p → n < length p.rest.left → slice_index p.rest.left n < ascii_end → IsPlaceOf text (moved_bytes (n + 1) p)
 ascii_keeps text p n u i l h = bytes_keep text p (n + 1) i (ascii_boundary text p n u i l h)
 
-prefix_by : (test : ℕ → Bool) → ((b : ℕ) → test b ≡ true → b < 128) → (text : List ℕ) (p : Place) (n : ℕ) → IsUtf8 text → IsPlaceOf text p
+prefix_by : (test : ℕ → Bool) → ((b : ℕ) → test b ≡ true → b < ascii_end) → (text : List ℕ) (p : Place) (n : ℕ) → IsUtf8 text → IsPlaceOf text p
     → n ≡ prefix_len test p.rest.left → IsPlaceOf text (moved_bytes n p)
 prefix_by test ascii text p zero u i e = let o : offset p + 0 ≡ offset p = omega arith in bytes_keep text p 0 i (rw o i.boundary)
 prefix_by test ascii text p (suc n) u i e =
@@ -109,7 +110,7 @@ prefix_by test ascii text p (suc n) u i e =
     rw s (ascii_keeps text p n u i (omega arith) (ascii _ passes))
 
 -- and after the longest prefix of bytes that pass a test that only ASCII bytes pass
-pub prefix_keeps : (test : ℕ → Bool) → ((b : ℕ) → test b ≡ true → b < 128) → (text : List ℕ) (p : Place) → IsUtf8 text → IsPlaceOf text p
+pub prefix_keeps : (test : ℕ → Bool) → ((b : ℕ) → test b ≡ true → b < ascii_end) → (text : List ℕ) (p : Place) → IsUtf8 text → IsPlaceOf text p
     → IsPlaceOf text (moved_bytes (prefix_len test p.rest.left) p)
 prefix_keeps test ascii text p u i = prefix_by test ascii text p (prefix_len test p.rest.left) u i refl
 
@@ -121,13 +122,13 @@ signs_keep text p u i = prefix_keeps is_number_sign (λ b h. grind (arith, nat_t
 
 -- and after columns
 byte_by : (t u : Bool) (r s : Rest) (b : ℕ) (bs : List ℕ)
-    → (b == 32) ≡ t → (b == 9) ≡ u → column_of_byte r (b ∷ bs) ≡ Some s → (b < 128) × (s.left ≡ bs) × (s.taken ≡ r.taken + 1) × (is_content b ≡ true)
+    → (b == space) ≡ t → (b == tab) ≡ u → column_of_byte r (b ∷ bs) ≡ Some s → (b < ascii_end) × (s.left ≡ bs) × (s.taken ≡ r.taken + 1) × (is_content b ≡ true)
 byte_by true u r s b bs h h' e =
-    let small = eqb-true b 32 h in
+    let small = eqb-true b space h in
     let f : past_byte r bs ≡ s = grind (arith, h, e) in
     (omega arith, sym (ap (λ x. x.left) f), sym (ap (λ x. x.taken) f), grind (arith, nat_tests, h))
 byte_by false true r s b bs h h' e =
-    let small = eqb-true b 9 h' in
+    let small = eqb-true b tab h' in
     (omega arith, grind (arith, h, h', e), grind (arith, h, h', e), grind (arith, nat_tests, h'))
 byte_by false false r s b bs h h' e = absurd (grind (arith, h, h', e))
 
@@ -135,7 +136,7 @@ byte_moves : (text : List ℕ) (p : Place) (s : Rest) (bs : List ℕ)
     → IsUtf8 text → IsPlaceOf text p → bs ≡ p.rest.left → column_of_byte p.rest bs ≡ Some s → IsPlaceOf text (place_at p.line s)
 byte_moves text p s [] u i e h = cc
 byte_moves text p s (b ∷ bs) u i e h =
-    let m = byte_by (b == 32) (b == 9) p.rest s b bs refl refl h in
+    let m = byte_by (b == space) (b == tab) p.rest s b bs refl refl h in
     let f : b ∷ bs ≡ drop (offset p) text = e ∙ i.left in
     let o : p.line + s.taken ≡ offset p + 1 = omega (arith, m.2) in
     let l = next_within text (offset p) b bs f in
@@ -171,11 +172,11 @@ pub taken_columns : (text : List ℕ) (k line : ℕ) (r s : Rest)
 taken_columns text k line r s u e i = subst (λ q. IsPlaceOf text (place_at line q)) (sym e) (columns_keep text k (place_at line r) u i)
 
 -- a line ends after an ASCII byte, or with the text
-last_step : (t : Bool) (b : ℕ) (bs : List ℕ) → ends_line b bs ≡ t → (0 < length bs → (slice_index bs (line_len bs - 1) < 128) ⊎ (line_len bs ≡ length bs))
-    → (slice_index (b ∷ bs) (line_len (b ∷ bs) - 1) < 128) ⊎ (line_len (b ∷ bs) ≡ length (b ∷ bs))
+last_step : (t : Bool) (b : ℕ) (bs : List ℕ) → ends_line b bs ≡ t → (0 < length bs → (slice_index bs (line_len bs - 1) < ascii_end) ⊎ (line_len bs ≡ length bs))
+    → (slice_index (b ∷ bs) (line_len (b ∷ bs) - 1) < ascii_end) ⊎ (line_len (b ∷ bs) ≡ length (b ∷ bs))
 last_step true b bs h f =
     let e : line_len (b ∷ bs) ≡ 1 = line_len-step b bs ∙ rw h in
-    let small : b < 128 = grind (arith, nat_tests, h) in
+    let small : b < ascii_end = grind (arith, nat_tests, h) in
     inl (rw e small)
 last_step false b [] h f =
     let e : line_len (b ∷ []) ≡ line_len [] + 1 = line_len-step b [] ∙ rw h in
@@ -186,12 +187,12 @@ last_step false b (c ∷ cs) h f =
     let k : line_len (b ∷ c ∷ cs) - 1 ≡ suc (line_len (c ∷ cs) - 1) = omega arith in
     elim (f (omega arith)) [ inl small ↦ inl (rw k small) | inr all ↦ inr (omega arith) ]
 
-last_of_line : (bs : List ℕ) → 0 < length bs → (slice_index bs (line_len bs - 1) < 128) ⊎ (line_len bs ≡ length bs)
+last_of_line : (bs : List ℕ) → 0 < length bs → (slice_index bs (line_len bs - 1) < ascii_end) ⊎ (line_len bs ≡ length bs)
 last_of_line [] h = absurd (omega arith)
 last_of_line (b ∷ bs) h = last_step (ends_line b bs) b bs refl (last_of_line bs)
 
 end_by : (text : List ℕ) (s : ℕ) (bs : List ℕ) → bs ≡ drop s text → IsUtf8 text → s < length text → 0 < line_len bs → s + line_len bs ≤ length text
-    → length bs ≡ length text - s → (slice_index bs (line_len bs - 1) < 128) ⊎ (line_len bs ≡ length bs) → IsCharBoundary text (s + line_len bs)
+    → length bs ≡ length text - s → (slice_index bs (line_len bs - 1) < ascii_end) ⊎ (line_len bs ≡ length bs) → IsCharBoundary text (s + line_len bs)
 end_by text s bs e u l some fits d (inl small) =
     let b = byte_at text s (line_len bs - 1) bs e in
     let k : s + line_len bs ≡ s + (line_len bs - 1) + 1 = omega arith in
@@ -228,7 +229,7 @@ content_by_step : (f : List ℕ → ℕ) → ((b : ℕ) (bs : List ℕ) → is_c
     → column_of_byte r bs ≡ Some s → s.taken + f s.left ≡ r.taken + f bs
 content_by_step f step r s [] h = cc
 content_by_step f step r s (b ∷ bs) h =
-    let m = byte_by (b == 32) (b == 9) r s b bs refl refl h in
+    let m = byte_by (b == space) (b == tab) r s b bs refl refl h in
     let c = step b bs m.3 in
     let e = ap f m.1 in
     omega arith
@@ -283,10 +284,10 @@ start_by text s h (inr l) = ap (start_of (length text)) (lines_at-end text s l) 
 pub start_of-lines : (text : List ℕ) (s : ℕ) → s ≤ length text → start_of (length text) (lines_at s (drop s text)) ≡ s
 start_of-lines text s h = start_by text s h (cases_lt s (length text))
 
-quote_byte_by : (t : Bool) (r s : Rest) (b : ℕ) (bs : List ℕ) → (b == 62) ≡ t → b ∷ bs ≡ r.left → (if t then Some (past_byte r bs) else None) ≡ Some s
-    → (s ≡ past_bytes 1 r) × (0 < length r.left) × (slice_index r.left 0 < 128) × (1 ≤ prefix_len is_content r.left)
+quote_byte_by : (t : Bool) (r s : Rest) (b : ℕ) (bs : List ℕ) → (b == greater_than) ≡ t → b ∷ bs ≡ r.left → (if t then Some (past_byte r bs) else None) ≡ Some s
+    → (s ≡ past_bytes 1 r) × (0 < length r.left) × (slice_index r.left 0 < ascii_end) × (1 ≤ prefix_len is_content r.left)
 quote_byte_by true r s b bs h e q =
-    let is : b ≡ 62 = eqb-true b 62 h in
+    let is : b ≡ greater_than = eqb-true b greater_than h in
     let f : past_byte r bs ≡ s = cc in
     let g : past_byte r bs ≡ past_bytes 1 r = ap (λ l. record { left = drop 1 l; taken = r.taken + 1; owed = 0; column = r.column + 1 }) e in
     let n : length r.left ≡ suc (length bs) = ap length (sym e) in
@@ -296,12 +297,12 @@ quote_byte_by true r s b bs h e q =
 quote_byte_by false r s b bs h e q = absurd (none-some s q)
 
 quote_byte : (r s : Rest) (bs : List ℕ) → bs ≡ r.left → past_quote_byte r bs ≡ Some s
-    → (s ≡ past_bytes 1 r) × (0 < length r.left) × (slice_index r.left 0 < 128) × (1 ≤ prefix_len is_content r.left)
+    → (s ≡ past_bytes 1 r) × (0 < length r.left) × (slice_index r.left 0 < ascii_end) × (1 ≤ prefix_len is_content r.left)
 quote_byte r s [] e q = absurd (none-some s q)
-quote_byte r s (b ∷ bs) e q = quote_byte_by (b == 62) r s b bs refl e q
+quote_byte r s (b ∷ bs) e q = quote_byte_by (b == greater_than) r s b bs refl e q
 
 quote_by : (t : Bool) (r s : Rest) → (if t then past_quote_byte r r.left else None) ≡ Some s
-    → (s ≡ past_bytes 1 r) × (0 < length r.left) × (slice_index r.left 0 < 128) × (1 ≤ prefix_len is_content r.left)
+    → (s ≡ past_bytes 1 r) × (0 < length r.left) × (slice_index r.left 0 < ascii_end) × (1 ≤ prefix_len is_content r.left)
 quote_by true r s q = quote_byte r s r.left refl q
 quote_by false r s q = absurd (none-some s q)
 
@@ -320,7 +321,7 @@ quote_line_end line r s q =
 byte_shorter : (r s : Rest) (bs : List ℕ) → bs ≡ r.left → column_of_byte r bs ≡ Some s → length s.left ≤ length r.left
 byte_shorter r s [] e h = absurd (none-some s h)
 byte_shorter r s (b ∷ bs) e h =
-    let m = byte_by (b == 32) (b == 9) r s b bs refl refl h in
+    let m = byte_by (b == space) (b == tab) r s b bs refl refl h in
     let l : length s.left ≡ length bs = ap length m.1 in
     let n : length r.left ≡ suc (length bs) = ap length (sym e) in
     omega arith

@@ -1,6 +1,7 @@
 use Rattle.std.proofs.Common.{ℕ, bit_or, refl, arith}
 use Rattle.std.proofs.lemmas.Simd.{zip2_splat, length-chunk}
 use lib.Lanes.{chunk}
+use Rattle.first_pass_items.specs.Bytes.{line_feed, carriage_return}
 use Rattle.first_pass_lines.specs.Lines.{is_content}
 use Rattle.first_pass_lines.proofs.LaneLemmas.{joined, run_in}
 use Rattle.first_pass_lines.proofs.lanes.content_run.Goals as goal
@@ -10,4 +11,4 @@ returns c =
     let v = chunk c.args.at 16 c.args.bytes.now in
     let long = length-chunk c.args.at 16 c.args.bytes.now c.requires in
     run_in is_content c.args.bytes.now c.args.at 16 _ _ c.requires (omega arith) c.type_inv.bytes c.first_set.ensures _
-    (joined bit_or _ _ v (zip2_splat {Y = ℕ} _ v 16 10 long) (zip2_splat {Y = ℕ} _ v 16 13 long)) refl
+    (joined bit_or _ _ v (zip2_splat {Y = ℕ} _ v 16 line_feed long) (zip2_splat {Y = ℕ} _ v 16 carriage_return long)) refl
