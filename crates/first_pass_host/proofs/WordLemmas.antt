@@ -4,11 +4,12 @@ use Rattle.std.proofs.Common.{◌∙◌}
 use Rattle.std.proofs.Common.{subst}
 use Rattle.std.proofs.lemmas.Bool.{true≢false}
 use Rattle.std.specs.Str.Parse.{IsNumeral, digits_value, without_leading_plus}
+use Rattle.first_pass_items.specs.Bytes.{plus_sign}
 use Rattle.first_pass_items.specs.declared.option_set.Options.{Options}
 use Rattle.first_pass_host.specs.OptionWord.{WordMeans}
 
 -- the digits that `parse` reads are the whole word, if no plus precedes them
-parsed : (word : List ℕ) (n : ℕ) → (slice_index word 0 == 43) ≡ false → IsNumeral 10 (without_leading_plus word)
+parsed : (word : List ℕ) (n : ℕ) → (slice_index word 0 == plus_sign) ≡ false → IsNumeral 10 (without_leading_plus word)
     → n ≡ digits_value 10 (without_leading_plus word) → IsNumeral 10 word × (digits_value 10 word ≡ n)
 parsed word n no_plus numeral value =
     let plain : without_leading_plus word ≡ word = ap (λ b. drop (cond b 1 0) word) no_plus in
@@ -16,7 +17,7 @@ parsed word n no_plus numeral value =
 
 -- a number that `parse` reads and `from_bits` accepts
 pub taken : (word : List ℕ) (n : ℕ) (r : Option Options)
-    → (slice_index word 0 == 43) ≡ false → IsNumeral 10 (without_leading_plus word) → n ≡ digits_value 10 (without_leading_plus word)
+    → (slice_index word 0 == plus_sign) ≡ false → IsNumeral 10 (without_leading_plus word) → n ≡ digits_value 10 (without_leading_plus word)
     → IfSome r (λ o. o.0 ≡ n) → (IsSome r ↔ (bit_and n 65534 ≡ n)) → IfSome r (λ o. WordMeans word o.0)
 taken word n None no_plus numeral value is known = tt
 taken word n (Some o) no_plus numeral value is known =
@@ -25,7 +26,7 @@ taken word n (Some o) no_plus numeral value is known =
 
 -- a number that `parse` reads and `from_bits` does not accept
 pub untaken : (word : List ℕ) (n : ℕ) (r : Option Options)
-    → (slice_index word 0 == 43) ≡ false → IsNumeral 10 (without_leading_plus word) → n ≡ digits_value 10 (without_leading_plus word)
+    → (slice_index word 0 == plus_sign) ≡ false → IsNumeral 10 (without_leading_plus word) → n ≡ digits_value 10 (without_leading_plus word)
     → (IsSome r ↔ (bit_and n 65534 ≡ n)) → IsNone r → (bits : ℕ) → WordMeans word bits → ⊥
 untaken word n (Some o) no_plus numeral value known none bits stands = true≢false none
 untaken word n None no_plus numeral value known none bits (_, sum, kept) =
