@@ -5,6 +5,7 @@ use Rattle.std.proofs.Common.{slice_index, refl, sym, ap, subst, ◌∙◌, arit
 use Rattle.std.proofs.lemmas.Bool.{eqb-true}
 use Rattle.std.proofs.lemmas.List.{drop-drop, get_or-drop}
 use Rattle.std.specs.List.{prefix_len}
+use Rattle.first_pass_items.specs.Bytes.{colon}
 use Rattle.first_pass_items.specs.OptionWords.{gfm_footnotes}
 use Rattle.first_pass_lines.specs.Rest.{indent}
 use Rattle.first_pass_links.specs.Labels.{label_at}
@@ -93,27 +94,27 @@ first_byte : (c : ℕ) (bs : List ℕ) → begins c bs ≡ true → (slice_index
 first_byte c [] h = cc
 first_byte c (b ∷ bs) h = (eqb-true b c h, omega arith)
 
-colon_by : (bs : List ℕ) (n : ℕ) (text : List ℕ) (head : ℕ × List ℕ) (t : Bool) → begins 58 (drop n (drop 2 bs)) ≡ t
-    → (if t then Some (n + 3, text) else None) ≡ Some head → (3 ≤ head.0) × (head.0 ≤ length bs) × (slice_index bs (head.0 - 1) ≡ 58)
+colon_by : (bs : List ℕ) (n : ℕ) (text : List ℕ) (head : ℕ × List ℕ) (t : Bool) → begins colon (drop n (drop 2 bs)) ≡ t
+    → (if t then Some (n + 3, text) else None) ≡ Some head → (3 ≤ head.0) × (head.0 ≤ length bs) × (slice_index bs (head.0 - 1) ≡ colon)
 colon_by bs n text head false h is = cc
 colon_by bs n text head true h is =
     let same : (n + 3, text) ≡ head = cc in
     let size : n + 3 ≡ head.0 = ap (λ (z : ℕ × List ℕ). z.0) same in
     let rest : drop n (drop 2 bs) ≡ drop (2 + n) bs = drop-drop n 2 bs in
-    let f = first_byte 58 (drop (2 + n) bs) (ap (begins 58) (sym rest) ∙ h) in
+    let f = first_byte colon (drop (2 + n) bs) (ap (begins colon) (sym rest) ∙ h) in
     let long : length (drop (2 + n) bs) ≡ length bs - (2 + n) = length-drop (2 + n) bs in
     let there : (2 + n) + 0 ≡ head.0 - 1 = omega arith in
     (omega arith, omega arith, ap (slice_index bs) (sym there) ∙ sym (get_or-drop (2 + n) bs 0 0) ∙ f.0)
 
 head_by : (bs : List ℕ) (label : Option (ℕ × List ℕ)) (head : ℕ × List ℕ) (t : Bool)
     → (if t then option_and_then (head_after (drop 2 bs)) label else None) ≡ Some head
-    → (3 ≤ head.0) × (head.0 ≤ length bs) × (slice_index bs (head.0 - 1) ≡ 58)
+    → (3 ≤ head.0) × (head.0 ≤ length bs) × (slice_index bs (head.0 - 1) ≡ colon)
 head_by bs label head false is = cc
 head_by bs None head true is = cc
-head_by bs (Some label) head true is = colon_by bs label.0 label.1 head (begins 58 (drop label.0 (drop 2 bs))) refl is
+head_by bs (Some label) head true is = colon_by bs label.0 label.1 head (begins colon (drop label.0 (drop 2 bs))) refl is
 
 head_ends : (prefix : List ℕ → Option ℕ) (nested : Bool) (bs : List ℕ) (head : ℕ × List ℕ) → footnote_head prefix nested bs ≡ Some head
-    → (3 ≤ head.0) × (head.0 ≤ length bs) × (slice_index bs (head.0 - 1) ≡ 58)
+    → (3 ≤ head.0) × (head.0 ≤ length bs) × (slice_index bs (head.0 - 1) ≡ colon)
 unfolding footnote_head
 head_ends prefix nested bs head is = head_by bs (label_at prefix nested (drop 2 bs)) head (begins_footnote_mark bs) is
 
@@ -159,9 +160,9 @@ head_after_is d p prefix nested head n u at is n_is =
     let fits = ends.1 in
     let within : e ≤ length text = omega arith in
     let last : offset h + (head.0 - 1) ≡ e - 1 = omega arith in
-    let colon : slice_index text (e - 1) ≡ 58 =
+    let is_colon : slice_index text (e - 1) ≡ colon =
     ap (slice_index text) (sym last) ∙ sym (get_or-drop (offset h) text (head.0 - 1) 0) ∙ ap (λ bs. slice_index bs (head.0 - 1)) (sym i.left) ∙ ends.2 in
-    let no_end : is_line_end (slice_index text (e - 1)) ≡ false = ap is_line_end colon in
+    let no_end : is_line_end (slice_index text (e - 1)) ≡ false = ap is_line_end is_colon in
     let lines = (lines_after_it text h e i (omega arith) within no_end).0 in
     let same : line_end h ≡ line_end p = columns_line_end (indent p.rest) p in
     let q : Place = place_past head.0 h in
