@@ -9,6 +9,7 @@ use Rattle.std.proofs.lemmas.Bool.Decides.{nat_tests}
 use Rattle.std.proofs.lemmas.List.{length-take, take-append-drop}
 use Rattle.std.proofs.lemmas.Option.{none-some, same_Some, slice_get_within}
 use Rattle.std.proofs.lemmas.Str.{IsCharBoundary-before_ascii}
+use Rattle.first_pass_items.specs.Bytes.{backslash}
 use Rattle.first_pass_items.specs.declared.item.HeadingIndex.{HeadingIndex}
 use Rattle.first_pass_items.specs.declared.item.HeadingLevel.{HeadingLevel}
 use Rattle.first_pass_items.specs.declared.item.Item.{Item}
@@ -198,7 +199,7 @@ module _ (text : List ℕ) (w : Within) (from to e d low : ℕ) (n : ℕ × Item
       let within = starts_within past in
       let high = b.0 in
       let y : Item = record { start = e - 1; «end» = e; body = Text false } in
-      let here : slice_index text (e - 1) ≡ 92 = ap (λ k. slice_index text (k - 1)) (sym at) ∙ byte in (
+      let here : slice_index text (e - 1) ≡ backslash = ap (λ k. slice_index text (k - 1)) (sym at) ∙ byte in (
         Node (extent_of y) Empty Empty,
         ap (λ k. (k, extent_of y) ∷ []) depth ∙ sym (laid-one d (extent_of y)),
         fits-one text w (min from e) to (extent_of y)
