@@ -9,6 +9,7 @@ use Rattle.std.specs.Char.{to_ascii_lowercase}
 use Rattle.std.specs.List.{list_all}
 use Rattle.caseless.specs.Caseless.{default_case_fold}
 use Rattle.caseless.proofs.CaselessLemmas.{default_case_fold-ascii}
+use Rattle.first_pass_items.specs.Bytes.{ascii_end}
 use Rattle.first_pass_labels.specs.Foldings.{folded, folds_to_itself}
 
 pub ascii_folded : (bs : List ℕ) → IsAscii bs → folded bs ≡ map to_ascii_lowercase bs
@@ -20,7 +21,7 @@ ascii_folded bs ascii =
 itself : (b : ℕ) → folds_to_itself b ≡ true → to_ascii_lowercase b ≡ b
 itself b h = grind (arith, nat_tests, h)
 
-small : (b : ℕ) → folds_to_itself b ≡ true → b < 128
+small : (b : ℕ) → folds_to_itself b ≡ true → b < ascii_end
 small b h = grind (arith, nat_tests, h)
 
 lower_itself : (bs : List ℕ) → list_all folds_to_itself bs ≡ true → map to_ascii_lowercase bs ≡ bs

@@ -7,6 +7,7 @@ use Rattle.std.specs.declared.cmp.Ordering.{Ordering}
 use Rattle.std.specs.Ordering.{nat_cmp}
 use Rattle.std.specs.Cmp.Lexicographic.{pointwise, slice_cmp}
 use Rattle.caseless.specs.Caseless.{default_case_fold}
+use Rattle.first_pass_items.specs.Bytes.{ascii_end}
 use Rattle.first_pass_items.specs.declared.cow_str.CowStr.{CowStr}
 use Rattle.first_pass_items.specs.CowText.{text_of}
 use Rattle.first_pass_labels.specs.declared.folding.Folding.{Folding}
@@ -30,7 +31,7 @@ label_cmp x y = slice_cmp nat_cmp (folding_of x) (folding_of y)
 
 -- an ASCII byte that is no capital letter (The Unicode Standard 3.13: it has no other folding)
 abbrev pub folds_to_itself : ℕ → Bool
-folds_to_itself b = nat_lt b 128 && not (is_ascii_uppercase b)
+folds_to_itself b = nat_lt b ascii_end && not (is_ascii_uppercase b)
 
 -- the folding that is stored for a text (this project)
 abbrev pub kept_folding : Folding → List ℕ → List ℕ
