@@ -142,6 +142,12 @@ bracket_piece text at =
     else (if slice_index text at == right_bracket then Token 0 1 (MaybeLinkClose true)
     else Left 1)))
 
+-- the byte at a place is `[`, `]`, or `<` with no backslash after it (CommonMark 6.3 to 6.6)
+abbrev pub is_bracket_at : List ℕ → ℕ → Bool
+is_bracket_at text at =
+    (slice_index text at == less_than && not (slice_index text (at + 1) == backslash))
+    || (slice_index text at == left_bracket || slice_index text at == right_bracket)
+
 -- the piece at any other special byte: the first case that fits, otherwise plain text (CommonMark 2.4, 6.1 to 6.6;
 -- smart punctuation: this project)
 unfoldable pub special_piece : Inline → ℕ → Piece

@@ -1,9 +1,9 @@
 //! The pieces of the content of a line: the one that begins at a place.
 
-ghost use Rattle.std.specs.Prelude.{◌≡◌, ◌||◌, ◌+◌, ◌<◌, ◌≤◌, ◌^◌, true, IfSome, length, slice_index, take, ℕ, List, IsCharBoundary, IsUtf8};
+ghost use Rattle.std.specs.Prelude.{◌≡◌, ◌||◌, ◌+◌, ◌<◌, ◌≤◌, ◌^◌, true, IfSome, is_some, length, slice_index, take, ℕ, List, IsCharBoundary, IsUtf8};
 ghost use Rattle.first_pass_items.specs.Bytes.{ampersand, backslash, backquote, hyphen, full_stop};
 ghost use Rattle.first_pass_tokens.specs.Braces.{MathBraces};
-ghost use Rattle.first_pass_tokens.specs.Pieces.{content_in, IsReadyAt, is_solid_at, dollar_found, special_found, reference_found, dash_found, found_size, FoundSolid, special_piece, backslash_piece, backslash_piece_in, backquote_piece, is_delimiter, char_before, run_in, run_size, is_quote, quote_piece, dot_piece, run_piece, delimiter_piece, bracket_piece, run_at, size, EndsSolid};
+ghost use Rattle.first_pass_tokens.specs.Pieces.{content_in, IsReadyAt, is_bracket_at, is_solid_at, dollar_found, special_found, reference_found, dash_found, found_size, FoundSolid, special_piece, backslash_piece, backslash_piece_in, backquote_piece, is_delimiter, char_before, run_in, run_size, is_quote, quote_piece, dot_piece, run_piece, delimiter_piece, bracket_piece, run_at, size, EndsSolid};
 
 use first_pass_entities::entity::scan_reference;
 use first_pass_flank::flank::{DelimiterRun, ends_with_pipe, first_char, last_char};
@@ -85,11 +85,12 @@ pub fn special_found(text: &[u8], content: Content<'_>, at: usize) -> TokenStart
 }
 
 /// Returns the token at a bracket: at `<` with no backslash after it, at `[` and at `]`. Returns `None` at any other
-/// byte. The result is the same as that of `special_found`, which tests many other bytes first.
+/// byte. `special_found` finds the same token, but tests many other bytes first.
 #[inline(always)]
 #[tactic(auto, using(crate::proofs::BracketFacts::less_ready, crate::proofs::BracketFacts::left_ready, crate::proofs::BracketFacts::right_ready))]
-pub fn bracket_token(text: &[u8], at: usize) -> Option<Piece>
+pub(crate) fn bracket_token(text: &[u8], at: usize) -> Option<Piece>
     requires { at < length text.now }
+    ensures some { is_some result ≡ is_bracket_at text.now at }
     ensures value { IfSome result (λ piece. (c : Content) (b : MathBraces)
         → IsReadyAt (content_in text.now c b) at piece) }
     ensures fits { IfSome result (λ piece. at + size piece ≤ length text.now) }
