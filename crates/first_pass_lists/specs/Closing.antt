@@ -1,7 +1,8 @@
 -- How containers and lists are opened and closed: the result of each call on the state of the pass. In these comments,
--- a definition list is also a list, and its definitions are its items. An item is empty as long as it has only blank
--- lines. A possible title is a paragraph right after a definition. A `:` after it makes it the next title of the
--- definition list. Otherwise it comes after that list. A position is that of a node in reading order.
+-- a definition list is also a list, and its definitions are its items. An item is empty as long as only blank lines
+-- follow its marker, or the task list item marker after that. A possible title is a paragraph right after a definition.
+-- A `:` after it makes it the next title of the definition list. Otherwise it comes after that list. A position is that
+-- of a node in reading order.
 use Rattle.std.specs.Prelude.{ℕ, ◌==◌, ◌&&◌, not, Bool, true, false, List, [], ◌∷◌, length}
 use Rattle.std.specs.Prelude.{Option, Some, None, is_some, slice_get, if◌then◌else◌}
 use Rattle.std.specs.Int.RustNames.{bit_and}

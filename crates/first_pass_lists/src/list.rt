@@ -2,8 +2,9 @@
 //! (CommonMark 5.2, 5.3). They also open block quotes and footnote definitions, and read blank lines.
 //!
 //! In these comments, a definition list is also a list, and its definitions are its items. An item is empty as long as
-//! it has only blank lines. A possible title is a paragraph right after a definition (`MaybeDefinitionListTitle`). A
-//! `:` after it makes it the next title of the definition list. Otherwise it comes after that list (this project).
+//! only blank lines follow its marker, or the task list item marker after that. A possible title is a paragraph right
+//! after a definition (`MaybeDefinitionListTitle`). A `:` after it makes it the next title of the definition list.
+//! Otherwise it comes after that list (this project).
 
 ghost use Rattle.std.specs.Prelude.{◌≡◌, ◌==◌, ◌<◌, length, None, true, IsSome, slice_get, OnOk, IfSome, bit_and, if◌then◌else◌};
 ghost use Rattle.first_pass_lists.specs.Closing.{loosened_at, top_body, is_list, is_item, is_list_of, popped_at, popped, empty_item_closed, list_closed, footnote_left, old_footnote_finished, footnote_begun, with_tree, gap_loosened, list_finished, list_kept, list_continued, begun, blank_read, is_footnote};
@@ -87,8 +88,8 @@ impl PassState {
         }
     }
 
-    // As `pop`, but leaves a possible title as it is. `left` is given only for a definition list: it is the last
-    // child, which the caller then moves out of the list.
+    // Closes the innermost open node like `pop`, but leaves a possible title as it is. `left` is given only for a
+    // definition list: it is the last child, which the caller then moves out of the list.
     #[tactic(auto, using(crate::proofs::WithinLemmas::closed_within))]
     fn close_innermost(&mut self, ix: usize, left: Option<TreeIndex>)
         requires { IsSome (slice_get self.old.tree.spine 0) }
