@@ -1,5 +1,5 @@
 //! The base of the block pass: options, items, texts, the tree, the line scanners, delimiter runs, and the walk over
-//! the bytes at which a token may begin.
+//! the special bytes.
 #![tactic(auto)]
 
 pub mod below;

@@ -1,5 +1,4 @@
-//! The text, and what else stays the same while it is read: the allocator, the options, and the bytes at which a token
-//! may begin.
+//! The text, and what else stays the same while it is read: the allocator, the options, and the special bytes.
 
 ghost use Rattle.std.specs.Prelude.{◌≡◌, ◌<◌, ◌^◌, length};
 ghost use Rattle.first_pass_walk.specs.Walk.{MarksSpecial};
@@ -17,7 +16,8 @@ pub struct Source<'a> {
     pub text: &'a str,
     /// The options.
     pub options: Options,
-    /// Whether each byte is special under the options: a token other than plain text may begin at it.
+    /// Whether each byte is special under the options: a token other than plain text may begin at it, or it may end a
+    /// cell (`|`), or open or close a brace context (`{` and `}`).
     pub special: [bool; 256],
     ghost marks: { MarksSpecial special options },
 }

@@ -1,4 +1,4 @@
--- A walk from any place past the end makes no calls.
+-- A walk from any offset past the end makes no calls.
 use Rattle.std.proofs.Common.{ℕ, ◌≡◌, ◌⊎◌, subst, ◌≤◌, ◌<◌, Bool, List, ◌∷◌, length, Option, inl, inr, arith, []}
 use Rattle.first_pass_walk.specs.declared.walk.LoopInstruction.{LoopInstruction}
 use Rattle.first_pass_walk.specs.Walk.{Marking, Walks, IsNextMarked}

@@ -1,4 +1,5 @@
--- The bytes at which a token may begin, the next of them, and the walk over them.
+-- The special bytes, the next of them, and the walk over them. A special byte may begin a token other than plain text,
+-- end a cell, or open or close a brace context.
 use Rattle.std.specs.Prelude.{◌≡◌, ℕ, ◌+◌, ◌^◌, ◌<◌, ◌≤◌, ◌==◌, ◌&&◌, ◌||◌, ◌⊎◌, Bool, true, false, nat_lt, List, [], ◌∷◌, length, slice_index, Option, None}
 use Rattle.std.specs.List.{slice_index_or, list_any}
 use Rattle.std.specs.Char.{is_ascii_alphabetic}
@@ -15,49 +16,49 @@ use Rattle.first_pass_walk.specs.declared.walk.LoopInstruction.TheVariants.{Cont
 abbrev pub is_one_of : List ℕ → ℕ → Bool
 is_one_of bytes b = list_any (λ c. b == c) bytes
 
--- line endings, and ! & * < [ \ ] _ and the backquote (CommonMark 6)
+-- line endings, `! & * < [ \ ] _` and the backquote (CommonMark 6)
 abbrev pub begins_token : ℕ → Bool
 begins_token =
     is_one_of (line_feed ∷ carriage_return ∷ exclamation_mark ∷ ampersand ∷ asterisk ∷ less_than
     ∷ left_bracket ∷ backslash ∷ right_bracket ∷ underscore ∷ backquote ∷ [])
 
--- the pipe, with tables (GFM 4.10)
+-- with tables, the pipe, which ends a cell (GFM 4.10)
 abbrev pub begins_cell : Options → ℕ → Bool
 begins_cell options b = has options tables && b == pipe
 
--- ~ with strikethrough (GFM 6.5) or subscript, and ^ with superscript (this project)
+-- `~` with strikethrough (GFM 6.5) or subscript, and `^` with superscript (this project)
 abbrev pub begins_script : Options → ℕ → Bool
 begins_script options b = ((has options strikethrough || has options subscript) && b == tilde) || (has options superscript && b == circumflex)
 
--- $ and braces with math (this project)
+-- with math, `$`, and the braces that open and close brace contexts (this project)
 abbrev pub begins_math : Options → ℕ → Bool
 begins_math options b = has options math && is_one_of (dollar_sign ∷ left_brace ∷ right_brace ∷ []) b
 
--- dots, dashes and quotes with smart punctuation (this project)
+-- with smart punctuation, full stops, hyphens and quotes (this project)
 abbrev pub begins_smart : Options → ℕ → Bool
 begins_smart options b = has options smart_punctuation && is_one_of (quotation_mark ∷ apostrophe ∷ hyphen ∷ full_stop ∷ []) b
 
--- the bytes at which a token may begin (CommonMark 6; the extensions: this project)
+-- the special bytes under these options (CommonMark 6; the extensions: this project)
 unfoldable pub is_special : Options → ℕ → Bool
 is_special options b =
     begins_token b || (begins_cell options b || (begins_script options b || (begins_math options b || begins_smart options b)))
 
--- the table marks exactly the bytes at which a token may begin (this project)
+-- the table marks exactly the special bytes (this project)
 abbrev pub MarksSpecial : List Bool → Options → Type 0
 MarksSpecial lut options = (b : ℕ) → b < 256 → slice_index_or lut b false ≡ is_special options b
 
--- the table marks the byte at a place (this project)
+-- the table marks the byte at an offset (this project)
 abbrev pub is_marked : List Bool → List ℕ → ℕ → Bool
 is_marked lut bytes k = slice_index_or lut (slice_index bytes k) false
 
--- j is the first marked place from ix on (this project)
+-- j is the offset of the first marked byte from ix on (this project)
 pub record IsNextMarked (lut : List Bool) (bytes : List ℕ) (ix j : ℕ) : Type 0 where
   pub from : ix ≤ j
   pub within : j < length bytes
   pub marked : is_marked lut bytes j ≡ true
   pub least : (k : ℕ) → ix ≤ k → k < j → is_marked lut bytes k ≡ false
 
--- no place from ix on is marked (this project)
+-- no byte from ix on is marked (this project)
 abbrev pub NoneMarkedFrom : List Bool → List ℕ → ℕ → Type 0
 NoneMarkedFrom lut bytes ix = (k : ℕ) → ix ≤ k → k < length bytes → is_marked lut bytes k ≡ false
 
@@ -65,8 +66,8 @@ NoneMarkedFrom lut bytes ix = (k : ℕ) → ix ≤ k → k < length bytes → is
 abbrev pub is_word_byte : ℕ → Bool
 is_word_byte b = (is_ascii_alphabetic b || b == space) || (nat_lt 127 b && nat_lt b 256)
 
--- The mask of the 16 bytes from a place on. Bit k is 1 exactly if byte k after the place is not a word byte, and no
--- bit from 16 on is set (this project).
+-- The mask of the 16 bytes from an offset on. Bit k is 1 exactly if byte k of them is not a word byte, and no bit from
+-- 16 on is set (this project).
 pub record AreWordStops (bytes : List ℕ) (at mask : ℕ) : Type 0 where
   pub within : mask < 2 ^ 16
   pub stops : (k : ℕ) → k < 16 → is_word_byte (slice_index bytes (at + k)) ≡ (bit_at mask k == 0)
@@ -80,10 +81,10 @@ pub record Marking : Type 0 where
   pub lut : List Bool
   pub bytes : List ℕ
 
--- A walk from a place with a closure f, to a result and the final state of f. Step f k b i g means: a call of f at
--- the place k with the byte b may return i and leave the state g. Each call is at the next marked place after the
--- bytes that the previous call skips; there is one call for each number in the list of skips. Then the walk returns
--- the length if no marked place is left, or the result with which one more call breaks (this project).
+-- A walk from an offset with a closure f, to a result and the final state of f. `step f k b i g` means: a call of f at
+-- the offset k with the byte b may return i and leave the state g. Each call is at the next marked byte after those
+-- that the previous call skips; there is one call for each number in the list of skips. Then the walk returns the
+-- length if no marked byte is left, or the result with which one more call breaks (this project).
 abbrev pub Walks : {F T : Type 0} → (F → ℕ → ℕ → LoopInstruction (Option T) → F → Type 0) → Marking → List ℕ → ℕ × F → (ℕ × Option T) × F → Type 0
 Walks {F} {T} step marking [] (ix, f) (answer, last) =
     (NoneMarkedFrom marking.lut marking.bytes ix × (answer ≡ (length marking.bytes, None)) × (last ≡ f))

@@ -1,4 +1,4 @@
-//! The bytes at which a token may begin, and the walk over them.
+//! The special bytes, and the walk over them.
 #![tactic(auto)]
 
 pub mod walk;

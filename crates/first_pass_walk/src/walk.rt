@@ -1,4 +1,5 @@
-//! The walk over the bytes at which a token may begin.
+//! The special bytes, and the walk over them. At a special byte, a token other than plain text may begin, a cell may
+//! end (`|`), or a brace context may open or close (`{` and `}`).
 
 ghost use Rattle.std.specs.Prelude.{◌≡◌, ℕ, ◌+◌, ◌≤◌, ◌<◌, false, length, IfSome, IfNone};
 ghost use Rattle.first_pass_walk.specs.Walk.{is_special as is_special_byte, MarksSpecial, is_marked, IsNextMarked, NoneMarkedFrom, IsWalk, SparesWords, AreWordStops};
@@ -11,13 +12,13 @@ use std::simd::prelude::*;
 /// The result of a call during a walk.
 #[derive(Drop)]
 pub enum LoopInstruction<T> {
-    /// The walk continues after skipping this many bytes after the place of the call.
+    /// The walk skips this many bytes after that of the call, and continues.
     ContinueAndSkip(usize),
     /// The walk ends, and returns the number and the value.
     BreakAtWith(usize, T),
 }
 
-/// Returns the table of the bytes at which a token may begin: the entry of a byte is true if one may. CommonMark 6;
+/// Returns the table of the special bytes: the entry of a byte is true if the byte is special. CommonMark 6;
 /// `specs/Walk.antt` lists the bytes that the extensions add.
 pub fn special_bytes(options: &Options) -> [bool; 256]
     ensures value { MarksSpecial result options.now }
@@ -29,8 +30,8 @@ pub fn special_bytes(options: &Options) -> [bool; 256]
     table
 }
 
-/// Returns the first place at or after the offset `ix` of `bytes` whose byte is marked in the table, or `None` if
-/// there is none. CommonMark 6.
+/// Returns the offset of the first byte of `bytes`, from the offset `ix` on, that is marked in the table. Returns
+/// `None` if there is none. CommonMark 6.
 pub fn next_special(lut: &[bool; 256], bytes: &[u8], ix: usize) -> Option<usize>
     ensures found { IfSome result (λ j. IsNextMarked lut.now bytes.now ix j) }
     ensures none { IfNone result (NoneMarkedFrom lut.now bytes.now ix) }
@@ -46,8 +47,8 @@ pub fn next_special(lut: &[bool; 256], bytes: &[u8], ix: usize) -> Option<usize>
 // The mask of 16 bytes each of which is a stop: a run of digits or of punctuation.
 const ALL_STOPS: u64 = 0xFFFF;
 
-/// Same as `next_special`, but reads 16 bytes at a time. The table must not mark a letter, a space or a byte of a
-/// character beyond ASCII.
+/// Returns the same as `next_special`, but reads 16 bytes at a time. The table must not mark a letter, a space or a
+/// byte of a character beyond ASCII.
 #[inline(always)]
 pub fn next_special_in_words(lut: &[bool; 256], bytes: &[u8], ix: usize) -> Option<usize>
     requires { SparesWords lut.now }
@@ -84,7 +85,7 @@ pub fn next_special_in_words(lut: &[bool; 256], bytes: &[u8], ix: usize) -> Opti
     next_special(lut, bytes, next)
 }
 
-// The first place whose byte is marked in the table, among the 16 from an offset on.
+// The offset of the first byte that is marked in the table, among the 16 from the offset `at` on.
 #[inline(never)]
 fn first_in_lanes(lut: &[bool; 256], bytes: &[u8], at: usize) -> Option<usize>
     requires { at + 16 ≤ length bytes.now }
@@ -99,8 +100,8 @@ fn first_in_lanes(lut: &[bool; 256], bytes: &[u8], at: usize) -> Option<usize>
     None
 }
 
-// The bytes among the 16 from an offset on that are not letters, spaces or bytes beyond ASCII: a bit for each byte,
-// the lowest for the first.
+// Which of the 16 bytes from the offset `at` on are not letters, spaces or bytes beyond ASCII: a bit for each byte, the
+// lowest for the first.
 #[inline(always)]
 fn word_stops(bytes: &[u8], at: usize) -> u64
     requires { at + 16 ≤ length bytes.now }
@@ -113,10 +114,10 @@ fn word_stops(bytes: &[u8], at: usize) -> u64
     stops.to_bitmask()
 }
 
-/// Calls the closure at marked bytes of `bytes`, in order, with the place and the byte. The first call is at the
-/// first marked place at or after the offset `ix`. Each later call is at the first marked place after the bytes that
-/// the previous call skips. Returns the number and the value with which a call breaks. Returns the length and `None`
-/// if no marked place is left, or if a call skips past the end. CommonMark 6.
+/// Calls the closure at marked bytes of `bytes`, in order, with the offset and the byte. The first call is at the first
+/// marked byte from the offset `ix` on. Each later call is at the first marked byte after those that the previous call
+/// skips. Returns the number and the value with which a call breaks. Returns the length and `None` if no marked byte is
+/// left, or if a call skips past the end. CommonMark 6.
 pub fn iterate_special_bytes<F, T>(
     lut: &[bool; 256],
     bytes: &[u8],
@@ -140,7 +141,7 @@ where
     (bytes.len(), None)
 }
 
-// Whether a token may begin at the byte.
+// Whether the byte is special.
 #[tactic(auto, unfolding(crate::specs::Walk::is_special))]
 fn is_special(options: &Options, byte: u8) -> bool
     ensures { result ≡ is_special_byte options.now byte }
