@@ -110,8 +110,8 @@ fn begins_plain_item(bytes: &[u8]) -> bool
     }
 }
 
-// The same as `interrupts_by_standard`, scanner by scanner: for the lines that the two tests above leave open. Only
-// HTML begins with `<`.
+// Returns the same as `interrupts_by_standard`, from one scanner after the other: for the lines that the two tests
+// above leave open. Of the blocks that these scanners find, only an HTML block begins with `<`.
 fn interrupts_by_scanners(bytes: &[u8], current_container: bool) -> bool
     ensures { result ≡ interrupts_with current_container bytes.now }
 {
