@@ -1,4 +1,5 @@
--- If `cannot_interrupt` holds of the first byte, only a table, a footnote or a definition interrupts a paragraph.
+-- If `cannot_interrupt_by_standard` holds of the first byte, a line interrupts a paragraph at most as a table, a
+-- footnote or a definition.
 -- Thematic breaks, metadata and HTML blocks do not begin with `#`.
 use Rattle.std.proofs.Common.{◌≡◌, inl, inr, ℕ, ◌==◌, nat_lt, Bool, true, false, true≢false, List, [], ◌∷◌, Option, Some, None, if◌then◌else◌}
 use Rattle.std.proofs.Common.{refl, sym, ap, ◌∙◌, subst, arith, is_some, ◌||◌}
@@ -19,7 +20,7 @@ use Rattle.first_pass_metadata.specs.Metadata.{metadata_byte}
 use Rattle.first_pass_html.specs.Tags.{BeginsTagLine}
 use Rattle.first_pass_grammar.specs.Kinds.{AtxHeading, HtmlToEnd, HtmlToBlank, all_taken, is_blank_rest, metadata_at, html_kind, later_kind, IsKind}
 use Rattle.first_pass_grammar.specs.Kinds.{begins_html_to_end, begins_html_to_blank, interrupts_with}
-use Rattle.first_pass_kinds.specs.Marks.{cannot_interrupt, begins_no_interruption}
+use Rattle.first_pass_kinds.specs.Marks.{cannot_interrupt_by_standard, begins_no_interruption_by_standard}
 use Rattle.first_pass_kinds.proofs.KindLemmas.{AfterMetadata, last_here}
 use Rattle.first_pass_kinds.proofs.PlainKinds.{tag_begins}
 
@@ -37,28 +38,28 @@ unsigned : (b : ℕ) (bs : List ℕ) → b == number_sign ≡ false → atx_leve
 unfolding atx_level
 unsigned b bs other = rw other (either (ends_signs (b ∷ bs)) None refl)
 
--- `cannot_interrupt` holds of b and not of c: then the two bytes differ
-isnt : (b c : ℕ) → cannot_interrupt b ≡ true → cannot_interrupt c ≡ false → b == c ≡ false
+-- `cannot_interrupt_by_standard` holds of b and not of c: then the two bytes differ
+isnt : (b c : ℕ) → cannot_interrupt_by_standard b ≡ true → cannot_interrupt_by_standard c ≡ false → b == c ≡ false
 isnt b c h k = elim (cases_eq b c) [
-  | inl same ↦ absurd (true≢false (sym h ∙ ap cannot_interrupt same ∙ k))
+  | inl same ↦ absurd (true≢false (sym h ∙ ap cannot_interrupt_by_standard same ∙ k))
   | inr other ↦ ne_eqb b c other
 ]
 
-no_digit : (b : ℕ) → cannot_interrupt b ≡ true → is_ascii_digit b ≡ false
-unfolding cannot_interrupt
+no_digit : (b : ℕ) → cannot_interrupt_by_standard b ≡ true → is_ascii_digit b ≡ false
+unfolding cannot_interrupt_by_standard
 no_digit b h = grind (arith, nat_tests, h)
 
--- If `cannot_interrupt` holds of its first byte, a line interrupts a paragraph only as a table, a footnote or a
--- definition.
-unmarked_first : (whole : Bool) (b : ℕ) (bs : List ℕ) → cannot_interrupt b ≡ true → interrupts_with whole (b ∷ bs) ≡ false
-unfolding cannot_interrupt hrule_len code_fence list_marker listitem
+-- If `cannot_interrupt_by_standard` holds of its first byte, a line interrupts a paragraph at most as a table, a
+-- footnote or a definition.
+unmarked_first : (whole : Bool) (b : ℕ) (bs : List ℕ) → cannot_interrupt_by_standard b ≡ true → interrupts_with whole (b ∷ bs) ≡ false
+unfolding cannot_interrupt_by_standard hrule_len code_fence list_marker listitem
 unmarked_first whole b bs h =
     rw (unsigned b bs (isnt b number_sign h refl))
     (rw (isnt b line_feed h refl) (rw (isnt b carriage_return h refl) (rw (isnt b hyphen h refl) (rw (isnt b underscore h refl) (rw (isnt b asterisk h refl)
     (rw (isnt b backquote h refl) (rw (isnt b tilde h refl) (rw (isnt b greater_than h refl) (rw (isnt b plus_sign h refl) (rw (no_digit b h)
     (rw (isnt b less_than h refl) refl)))))))))))
 
-pub unmarked_interrupts : (whole : Bool) (bs : List ℕ) → begins_no_interruption bs ≡ true → interrupts_with whole bs ≡ false
+pub unmarked_interrupts : (whole : Bool) (bs : List ℕ) → begins_no_interruption_by_standard bs ≡ true → interrupts_with whole bs ≡ false
 unmarked_interrupts whole [] h = absurd (true≢false (sym h))
 unmarked_interrupts whole (b ∷ bs) h = unmarked_first whole b bs h
 

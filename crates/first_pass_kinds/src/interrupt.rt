@@ -14,7 +14,7 @@ ghost use Rattle.first_pass_grammar.specs.Containers.{after, front};
 ghost use Rattle.first_pass_grammar.specs.Kinds.{all_taken, interrupts_with, continued, interrupts_in, interrupts, item_interrupts, is_ordinary_after_tag, unindented};
 ghost use Rattle.first_pass_grammar.specs.Definitions.{is_underline, crossed};
 ghost use Rattle.first_pass_open.specs.Path.{path_of, context_of, continued_to};
-ghost use Rattle.first_pass_kinds.specs.Marks.{begins_no_interruption};
+ghost use Rattle.first_pass_kinds.specs.Marks.{begins_no_interruption_by_standard};
 ghost use Rattle.first_pass_kinds.specs.NextLines.{next_line_of};
 ghost use Rattle.first_pass_kinds.specs.Memory.{may_head_table, line_may_head_table};
 ghost use Rattle.std.specs.Option.{option_map};
@@ -68,7 +68,7 @@ fn is_bullet(byte: u8) -> bool
 pub fn interrupts_by_standard(bytes: &[u8], current_container: bool) -> bool
     ensures { result ≡ interrupts_with current_container bytes.now }
 {
-    if begins_no_interruption(bytes) {
+    if begins_no_interruption_by_standard(bytes) {
         return false;
     }
     if begins_plain_item(bytes) {
@@ -77,11 +77,12 @@ pub fn interrupts_by_standard(bytes: &[u8], current_container: bool) -> bool
     interrupts_by_scanners(bytes, current_container)
 }
 
-// Whether there is a first byte, and it rules out every interruption except by a table, a footnote or a definition.
+// Whether there is a first byte with which a line interrupts a paragraph at most as a table, a footnote or a
+// definition.
 #[inline(always)]
-#[tactic(auto, unfolding(crate::specs::Marks::cannot_interrupt))]
-fn begins_no_interruption(bytes: &[u8]) -> bool
-    ensures { result ≡ begins_no_interruption bytes.now }
+#[tactic(auto, unfolding(crate::specs::Marks::cannot_interrupt_by_standard))]
+fn begins_no_interruption_by_standard(bytes: &[u8]) -> bool
+    ensures { result ≡ begins_no_interruption_by_standard bytes.now }
 {
     match bytes {
         [] => false,
