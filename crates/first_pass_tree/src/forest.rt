@@ -16,11 +16,10 @@ use std::alloc::{AllocError, Global};
 use std::marker::Model;
 use std::ops::{Index, IndexMut};
 
-/// A tree of items under construction. The nodes are a list in reading order, each with its depth (the root's
-/// is 0). A node's children are the nodes one level deeper that follow it, up to the next node of its depth or
-/// less. New nodes become children of the innermost open node. Each open node, from the root on, is the last
-/// node of its depth. The current node, if any, is the last child of the innermost open node. The root is
-/// always open.
+/// A tree of items under construction. The nodes are a list in reading order, each with its depth (the root's is 0).
+/// The children of a node are the nodes one level deeper that follow it, up to the next node of its depth or less. New
+/// nodes become children of the innermost open node. The root is always open. Each open node is the last node of its
+/// depth. The current node, if any, is the last child of the innermost open node.
 #[derive(Drop)]
 pub struct Tree<T> {
     nodes: Vec<(usize, T)>,
@@ -47,7 +46,7 @@ impl<T> Model for Tree<T> {
 }
 
 impl Tree<Item> {
-    /// Returns a tree that has only the root: a `Root` at 0..0, with nothing open and no current node.
+    /// Returns a tree that has only the root: a `Root` at 0..0. No other node is open, and there is no current node.
     /// `capacity` is a hint for the number of nodes. Fails only if an allocation fails.
     pub fn with_capacity(alloc: Global, capacity: usize) -> Result<Tree<Item>, AllocError>
         ensures { IfOk result (λ tree. tree ≡ empty_forest) }
@@ -67,15 +66,15 @@ impl Tree<Item> {
         })
     }
 
-    /// Does nothing; its contract states the invariant of a tree. The depths are those of a tree in reading
-    /// order, the open nodes are a path, and the current node is the last child of the innermost open node.
+    /// Does nothing; its contract states the invariant of a tree. The depths are those of a tree in reading order, the
+    /// open nodes are a path, and the current node is the last child of the innermost open node.
     pub fn recall_forest(&self)
         ensures { IsForest self.now }
     {
         let _ = &self.nodes;
     }
 
-    /// The place of the root.
+    /// Returns the index of the root.
     pub fn root(&self) -> TreeIndex
         ensures value { result.0 ≡ 0 }
         ensures within { 0 < length self.now.nodes }
@@ -84,7 +83,7 @@ impl Tree<Item> {
         TreeIndex(0)
     }
 
-    /// All nodes in reading order, the root first, each with its depth. `TreeIndex(i)` is the place of node
+    /// Returns all nodes in reading order, the root first, each with its depth. `TreeIndex(i)` is the index of node
     /// `i`.
     pub fn nodes(&self) -> &[(usize, Item)]
         ensures { result.now ≡ self.now.nodes }
@@ -92,15 +91,15 @@ impl Tree<Item> {
         self.nodes.as_slice()
     }
 
-    /// The number of nodes, with the root.
+    /// Returns the number of nodes, including the root.
     pub fn node_count(&self) -> usize
         ensures { result ≡ length self.now.nodes }
     {
         self.nodes.len()
     }
 
-    /// Adds a last child to the innermost open node, makes it current and returns its place. Fails only if an
-    /// allocation fails; the tree is unchanged then.
+    /// Adds a last child to the innermost open node, makes it current, and returns its index. Fails only if an
+    /// allocation fails; the tree is then unchanged.
     pub fn append(&mut self, item: Item) -> Result<TreeIndex, AllocError>
         ensures index { IfOk result (λ ix. ix.0 ≡ length self.old.nodes) }
         ensures ok { OnOk result (self.new ≡ appended self.old item) }
@@ -112,9 +111,9 @@ impl Tree<Item> {
         Ok(place)
     }
 
-    /// Adds the text of the bytes `start..end`. An empty range changes nothing. If the current node is a text
-    /// that ends at `start`, it is extended to `end`. Otherwise a `Text` with this `backslash_escaped` is
-    /// appended. Fails only if an allocation fails; the tree is unchanged then.
+    /// Adds the text of the bytes `start..end`. An empty range changes nothing. If the current node is a text that ends
+    /// at `start`, it is extended to `end`. Otherwise a `Text` with this `backslash_escaped` is appended. Fails only if
+    /// an allocation fails; the tree is then unchanged.
     #[inline(always)]
     pub fn append_text(
         &mut self,
@@ -143,7 +142,7 @@ impl Tree<Item> {
         Ok(())
     }
 
-    /// Replaces the item at a place.
+    /// Replaces the item of the node `ix`.
     pub fn set_item(&mut self, ix: TreeIndex, item: Item)
         requires { ix.0 < length self.old.nodes }
         ensures { self.new ≡ with_item self.old ix item }
@@ -152,7 +151,7 @@ impl Tree<Item> {
         node.1 = item;
     }
 
-    /// Sets the end of the item at a place to the offset `end`.
+    /// Sets the end of the node `ix` to the offset `end`.
     pub fn set_end(&mut self, ix: TreeIndex, end: usize)
         requires { ix.0 < length self.old.nodes }
         ensures { self.new ≡ with_end_at self.old ix end }
@@ -161,7 +160,7 @@ impl Tree<Item> {
         node.1.end = end;
     }
 
-    /// Sets the body of the item at a place; its range is unchanged.
+    /// Sets the body of the node `ix`; its range is unchanged.
     pub fn set_body(&mut self, ix: TreeIndex, body: ItemBody)
         requires { ix.0 < length self.old.nodes }
         ensures { self.new ≡ with_body_at self.old ix body }
@@ -170,8 +169,8 @@ impl Tree<Item> {
         node.1.body = body;
     }
 
-    /// Opens the current node and returns its place; afterwards there is no current node. Requires a current
-    /// node. Fails only if an allocation fails; the tree is unchanged then.
+    /// Opens the current node, and returns its index. There must be a current node; afterwards there is none. Fails
+    /// only if an allocation fails; the tree is then unchanged.
     pub fn push(&mut self) -> Result<TreeIndex, AllocError>
         requires { IsSome self.old.current }
         ensures index { IfOk result (λ ix. self.old.current ≡ Some ix) }
@@ -184,8 +183,8 @@ impl Tree<Item> {
         Ok(ix)
     }
 
-    /// Closes the innermost open node, makes it current and returns its place. Returns `None`, and changes
-    /// nothing, if only the root is open.
+    /// Closes the innermost open node, makes it current, and returns its index. If only the root is open, returns
+    /// `None` and changes nothing.
     pub fn pop(&mut self) -> Option<TreeIndex>
         ensures { MatchOption result
             ((self.old.spine ≡ []) × (self.new ≡ self.old))
@@ -196,7 +195,7 @@ impl Tree<Item> {
         Some(closed)
     }
 
-    /// As `pop`, and removes all descendants of the closed node.
+    /// Closes the innermost open node like `pop`, and removes all its descendants.
     pub fn remove_node(&mut self) -> Option<TreeIndex>
         ensures { MatchOption result
             ((self.old.spine ≡ []) × (self.new ≡ self.old))
@@ -210,7 +209,7 @@ impl Tree<Item> {
         Some(emptied)
     }
 
-    /// Removes the later siblings of a child of the innermost open node, with their descendants. The child
+    /// Removes the later siblings of `ix`, a child of the innermost open node, with their descendants. The child
     /// becomes current.
     pub fn drop_after(&mut self, ix: TreeIndex)
         requires { IsChild self.old ix }
@@ -222,7 +221,7 @@ impl Tree<Item> {
         self.cur = Some(ix);
     }
 
-    /// Removes all descendants of the innermost open node, which is `ix`. Afterwards there is no current node.
+    /// Removes all descendants of `ix`, which is the innermost open node. Afterwards there is no current node.
     pub fn drop_children(&mut self, ix: TreeIndex)
         requires { slice_get self.old.spine 0 ≡ Some ix }
         ensures { self.new ≡ childless self.old ix }
@@ -233,9 +232,9 @@ impl Tree<Item> {
         self.cur = None;
     }
 
-    /// Inserts a node between the current node and its children, and returns its place: the new node is the
-    /// only child, and the former children are below it. The current node stays current. Requires a current
-    /// node. Fails only if an allocation fails; the tree is unchanged then.
+    /// Inserts a node between the current node and its children, and returns its index. The new node is the only child,
+    /// and the former children are below it. There must be a current node; it stays current. Fails only if an
+    /// allocation fails; the tree is then unchanged.
     pub fn create_node(&mut self, item: Item) -> Result<TreeIndex, AllocError>
         requires { IsSome self.old.current }
         ensures ok { IfOk result (λ ix. IfSome self.old.current (λ c. (ix.0 ≡ c.0 + 1)
@@ -248,9 +247,9 @@ impl Tree<Item> {
         Ok(TreeIndex(place))
     }
 
-    /// Moves the later siblings of `ix`, a child of the current node, out of the current node, with their
-    /// descendants. They follow the current node in the same order, and the last of them becomes current.
-    /// Without later siblings, nothing changes.
+    /// Moves the later siblings of `ix`, a child of the current node, out of the current node, with their descendants.
+    /// They follow the current node in the same order, and the last of them becomes current. Without later siblings,
+    /// nothing changes.
     pub fn truncate_to_parent(&mut self, ix: TreeIndex)
         requires { IsChildOfCurrent self.old ix }
         ensures { self.new ≡ moved_out self.old ix }
@@ -259,8 +258,8 @@ impl Tree<Item> {
         self.move_from(end);
     }
 
-    /// Moves `ix`, a child of the current node, and its later siblings out of the current node, with their
-    /// descendants. They follow the current node in the same order, and the last of them becomes current.
+    /// Moves `ix`, a child of the current node, and its later siblings out of the current node, with their descendants.
+    /// They follow the current node in the same order, and the last of them becomes current.
     pub fn move_out(&mut self, ix: TreeIndex)
         requires { IsChildOfCurrent self.old ix }
         ensures { self.new ≡ moved_from self.old ix.0 }
@@ -268,8 +267,8 @@ impl Tree<Item> {
         self.move_from(ix.0);
     }
 
-    // Moves the nodes from `place` on, which are all below the current node, one level up. The last node of the
-    // current node's depth becomes current.
+    // Moves the nodes from the index `place` on, which are all below the current node, one level up. The last node of
+    // the current node's depth becomes current.
     fn move_from(&mut self, place: usize)
         requires { CanMoveFrom self.old place }
         ensures { self.new ≡ moved_from self.old place }
@@ -280,10 +279,10 @@ impl Tree<Item> {
         self.cur = Some(TreeIndex(last_of_depth(&self.nodes, depth)));
     }
 
-    /// Cuts the tokens, which are the children of the innermost open node, at the offset `end`. Those that
-    /// start before it stay with their descendants; one that crosses it ends there. The first other token is
-    /// removed, with all nodes that follow. If it is a text that starts at `end` after a backslash, the
-    /// backslash takes its place as a text. The last remaining token becomes current.
+    /// Cuts the tokens, which are the children of the innermost open node, at the offset `end`. Those that start before
+    /// it stay with their descendants; one that crosses it ends there. The first other token is removed, with all nodes
+    /// that follow. If it is a text that starts at `end` after a backslash, the backslash takes its place as a text.
+    /// The last remaining token becomes current.
     #[inline(always)]
     pub fn truncate_siblings(&mut self, end: usize)
         ensures { self.new ≡ cut_siblings self.old end }
@@ -297,7 +296,7 @@ impl Tree<Item> {
         }
     }
 
-    // Cuts the tokens from the place `first` on at the offset `end`; the last remaining token becomes current.
+    // Cuts the tokens from the index `first` on at the offset `end`; the last remaining token becomes current.
     #[inline(never)]
     fn cut_from(&mut self, first: usize, end: usize)
         requires { first ≡ open_place self.old.spine + 1 }
@@ -309,21 +308,21 @@ impl Tree<Item> {
         self.cur = last_child(&self.nodes, first, depth);
     }
 
-    /// The place of the current node, or `None` if there is none, as directly after `push`.
+    /// Returns the index of the current node, or `None` if there is none, as directly after `push`.
     pub fn cur(&self) -> Option<TreeIndex>
         ensures { result ≡ self.now.current }
     {
         self.cur
     }
 
-    /// The place of the innermost open node, or `None` if only the root is open.
+    /// Returns the index of the innermost open node, or `None` if that is the root.
     pub fn peek_up(&self) -> Option<TreeIndex>
         ensures { result ≡ slice_get self.now.spine 0 }
     {
         self.spine.last().copied()
     }
 
-    /// The place of the open node around the innermost open node, or `None` if that is the root or does not
+    /// Returns the index of the open node around the innermost open node, or `None` if that is the root or does not
     /// exist.
     pub fn peek_grandparent(&self) -> Option<TreeIndex>
         ensures { result ≡ slice_get self.now.spine 1 }
@@ -334,21 +333,21 @@ impl Tree<Item> {
         Some(self.spine[self.spine.len() - 2])
     }
 
-    /// The number of open nodes, without the root.
+    /// Returns the number of open nodes, without the root.
     pub fn spine_len(&self) -> usize
         ensures { result ≡ length self.now.spine }
     {
         self.spine.len()
     }
 
-    /// The places of the open nodes without the root, outermost first.
+    /// Returns the indices of the open nodes without the root, the outermost first.
     pub fn walk_spine(&self) -> &[TreeIndex]
         ensures { result.now ≡ reverse self.now.spine }
     {
         self.spine.as_slice()
     }
 
-    /// The place of a node's first child, or `None` if it has no child.
+    /// Returns the index of the first child of the node `ix`, or `None` if it has no child.
     pub fn first_child(&self, ix: TreeIndex) -> Option<TreeIndex>
         requires { ix.0 < length self.now.nodes }
         ensures { result ≡ child_of (depths self.now.nodes) ix.0 }
@@ -356,7 +355,7 @@ impl Tree<Item> {
         child_in(&self.nodes, ix.0)
     }
 
-    /// The place of a node's next sibling, or `None` if it has none.
+    /// Returns the index of the next sibling of the node `ix`, or `None` if it has none.
     pub fn next_sibling(&self, ix: TreeIndex) -> Option<TreeIndex>
         requires { ix.0 < length self.now.nodes }
         ensures { result ≡ sibling_of (depths self.now.nodes) ix.0 }
@@ -364,7 +363,7 @@ impl Tree<Item> {
         sibling_in(&self.nodes, ix.0)
     }
 
-    /// The place after a node and all its descendants.
+    /// Returns the index after the node `ix` and all its descendants.
     pub fn end_of(&self, ix: TreeIndex) -> usize
         requires { ix.0 < length self.now.nodes }
         ensures { result ≡ end_of (depths self.now.nodes) ix.0 }
@@ -375,8 +374,8 @@ impl Tree<Item> {
         }
     }
 
-    /// Records where the subtree of the innermost open node begins; `note_end` records its end. The records are
-    /// in no contract: they save `surgerize_tight_list` time. Fails only if an allocation fails.
+    /// Records where the subtree of the innermost open node begins; `note_end` records where it ends. These records
+    /// save time in `surgerize_tight_list`, and no contract speaks of them. Fails only if an allocation fails.
     pub fn remember(&mut self) -> Result<(), AllocError>
         ensures { self.new ≡ self.old }
     {
@@ -389,8 +388,8 @@ impl Tree<Item> {
         Ok(())
     }
 
-    /// Records that the subtree of the current node, if there is a record of it, ends at the end of the nodes.
-    /// The records inside it are removed, and its own too if no other remains.
+    /// Records that the subtree of the current node, if its beginning is recorded, ends with the last node. Removes the
+    /// records of subtrees inside it, and its own too if no other remains.
     pub fn note_end(&mut self)
         ensures { self.new ≡ self.old }
     {
@@ -399,8 +398,8 @@ impl Tree<Item> {
         }
     }
 
-    /// As `note_end`, except that the subtree ends before the node `ix`, which is then moved out of the current
-    /// node.
+    /// Records that the subtree of the current node, if its beginning is recorded, ends before the node `ix`, which is
+    /// then moved out of the current node. Removes records like `note_end`.
     pub fn note_end_before(&mut self, ix: TreeIndex)
         ensures { self.new ≡ self.old }
     {
@@ -411,7 +410,7 @@ impl Tree<Item> {
         }
     }
 
-    /// Removes and returns the last recorded subtree, if it is between `from` and `to`.
+    /// Removes the last recorded subtree and returns it, if it is between the indices `from` and `to`.
     pub(crate) fn take_subtree(&mut self, from: usize, to: usize) -> Option<Subtree>
         ensures tree { self.new ≡ self.old }
         ensures within { IfSome result (λ s. (from ≤ s.place) × (s.past ≤ to)) }
@@ -420,7 +419,8 @@ impl Tree<Item> {
         self.subtrees.take_between(from, to)
     }
 
-    /// Whether a table is reached from the innermost open node outwards, over only table heads, rows and cells.
+    /// Returns whether the innermost open node is a table or a part of one: a table is reached from it outwards over
+    /// only table heads, rows and cells.
     pub fn is_in_table(&self) -> bool
         ensures { result ≡ in_table self.now.nodes self.now.spine }
     {
