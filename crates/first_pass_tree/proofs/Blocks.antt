@@ -29,7 +29,7 @@ forest-eq f g a b c =
 abbrev at_place : ℕ → TreeIndex
 at_place m = record { 0 = m }
 
--- An item is added at a place and opened, its children are added, and it is closed: the forests after these calls.
+-- An item is added at an index and opened, its children are added, and it is closed: the forests after these calls.
 pub record BlockCalls {T : Type 0} (old : Forest T) (x : T) (kids : List (ℕ × T)) (place : TreeIndex) (closed : Forest T) : Type 0 where
   pub opened : Forest T
   pub filled : Forest T

@@ -15,7 +15,7 @@ body-kept (n ∷ nodes) zero (suc i) g h = refl
 body-kept (n ∷ nodes) (suc place) zero g h = refl
 body-kept (n ∷ nodes) (suc place) (suc i) g h = body-kept nodes place i g h
 
--- a change at another place
+-- a change at another index
 pub body-other : (nodes : List (ℕ × Item)) (place i : ℕ) (g : Item → Item) → i < place → body_at (modify nodes place g) i ≡ body_at nodes i
 body-other [] place i g h = refl
 body-other (n ∷ nodes) zero i g h = absurd (omega arith)
@@ -29,21 +29,21 @@ body-later (n ∷ nodes) zero (suc i) g h = refl
 body-later (n ∷ nodes) (suc place) zero g h = refl
 body-later (n ∷ nodes) (suc place) (suc i) g h = body-later nodes place i g (omega arith)
 
--- a change at a place
+-- a change at an index
 pub body-changed : (nodes : List (ℕ × Item)) (place : ℕ) (g : Item → Item) (b c : ItemBody)
     → body_at nodes place ≡ Some b → ((x : Item) → x.body ≡ b → (g x).body ≡ c) → body_at (modify nodes place g) place ≡ Some c
 body-changed [] place g b c h f = cc
 body-changed (n ∷ nodes) zero g b c h f = (let e : n.1.body ≡ b = cc in ap (λ z. Some z) (f n.1 e))
 body-changed (n ∷ nodes) (suc place) g b c h f = body-changed nodes place g b c h f
 
--- two changes that agree on the item at a place
+-- two changes that agree on the item at an index
 pub changed_alike : (nodes : List (ℕ × Item)) (place : ℕ) (g h : Item → Item) (b : ItemBody)
     → body_at nodes place ≡ Some b → ((x : Item) → x.body ≡ b → g x ≡ h x) → modify nodes place g ≡ modify nodes place h
 changed_alike [] place g h b is same = refl
 changed_alike (n ∷ nodes) zero g h b is same = (let e : n.1.body ≡ b = cc in ap (λ z. (n.0, z) ∷ nodes) (same n.1 e))
 changed_alike (n ∷ nodes) (suc place) g h b is same = ap (λ z. n ∷ z) (changed_alike nodes place g h b is same)
 
--- a change that does nothing to the item at a place
+-- a change that does nothing to the item at an index
 pub not_changed : (nodes : List (ℕ × Item)) (place : ℕ) (g : Item → Item) (b : ItemBody)
     → body_at nodes place ≡ Some b → ((x : Item) → x.body ≡ b → g x ≡ x) → modify nodes place g ≡ nodes
 not_changed [] place g b is same = refl

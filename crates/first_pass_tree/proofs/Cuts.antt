@@ -66,8 +66,8 @@ drop-depths ns zero = refl
 drop-depths [] (suc p) = refl
 drop-depths (n ∷ ns) (suc p) = drop-depths ns p
 
--- the current node after a cut is the last child: the first place after the innermost open node has its depth, and no
--- later place has less
+-- the current node after a cut is the last child: the first index after the innermost open node has its depth, and no
+-- later index has less
 last_child-is : (ns : List (ℕ × Item)) (is : List TreeIndex)
     → IsPreorder (depths ns) → IsOpenPath (depths ns) is → IfSome (last_child is ns) (λ c. IsLastAt (depths ns) (length is + 1) c.0)
 last_child-is ns is pre path =

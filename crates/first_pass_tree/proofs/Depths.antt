@@ -1,4 +1,4 @@
--- Lists of depths: the last place of a depth, and open paths, after an edit.
+-- Lists of depths: the last index of a depth, and open paths, after an edit.
 use Rattle.std.proofs.Common.{◌≡◌, ℕ, ◌+◌, ◌-◌, ◌<◌, ◌≤◌, suc, zero, List, [], ◌∷◌, ◌++◌, length, get_or, take, drop, nat_lt, true, false, refl, sym, ap, ◌∙◌}
 use Rattle.std.proofs.Common.{arith, add-one}
 use Rattle.std.proofs.lemmas.Bool.Decides.{nat_tests}
@@ -8,7 +8,7 @@ use Rattle.std.specs.List.{prefix_len}
 use Rattle.first_pass_tree.specs.declared.tree_index.TreeIndex.{TreeIndex}
 use Rattle.first_pass_tree.specs.Forest.{IsLastAt, IsOpenPath, IsPreorder, end_of, open_place}
 
--- the last place of a depth is still the last after a deeper node is added
+-- the last index of a depth is still the last after a deeper node is added
 pub last-append : (ds : List ℕ) (d e i : ℕ) → IsLastAt ds d i → d < e → IsLastAt (ds ++ e ∷ []) d i
 last-append ds d e i h l = record {
   within = grind (arith, length_push ds e, h.within);
@@ -35,7 +35,7 @@ path-last_depth ds (i ∷ is) h = (omega (arith, h.0.within), grind (arith, h.0.
 pub preorder-append : (ds : List ℕ) (e : ℕ) → IsPreorder ds → 0 < length ds → e ≤ get_or ds (length ds - 1) 0 + 1 → IsPreorder (ds ++ e ∷ [])
 preorder-append ds e h p l = λ k q. grind (arith, places, length_push, get_or_push, h k)
 
--- of the last places of two depths, that of the greater depth comes later
+-- of the last indices of two depths, that of the greater depth comes later
 pub last-order : (ds : List ℕ) (d e i j : ℕ) → IsLastAt ds d i → IsLastAt ds e j → d < e → i < j
 last-order ds d e i j h g l = grind (arith, h.depth, g.depth, g.following i, h.within, g.within)
 
@@ -65,7 +65,7 @@ pub open-last : (ds : List ℕ) (is : List TreeIndex) → IsOpenPath ds is → I
 open-last ds [] h = h
 open-last ds (i ∷ is) h = record { within = h.0.within; depth = grind (arith, h.0.depth); following = λ k p q. grind (arith, h.0.following k p q) }
 
--- the depth at a place is at most the place
+-- the depth at an index is at most the index
 pub depth-small : (ds : List ℕ) → IsPreorder ds → get_or ds 0 0 ≡ 0 → (k : ℕ) → k < length ds → get_or ds k 0 ≤ k
 depth-small ds h z zero l = omega arith
 depth-small ds h z (suc k) l =

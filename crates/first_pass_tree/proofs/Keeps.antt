@@ -61,7 +61,7 @@ same_depths-is f ns e h =
 pub modified-is : {T : Type 0} (f : Forest T) (i : ℕ) (g : T → T) → IsForest f → IsForest (record f { nodes = modify f.nodes i g })
 modified-is f i g h = same_depths-is f (modify f.nodes i g) (depths-modify f.nodes i g) h
 
--- any item may be written at a place
+-- any item may be written at an index
 pub set-is : {T : Type 0} (f : Forest T) (i : ℕ) (n : ℕ × T) (y : T)
     → n ≡ get_or f.nodes i n → IsForest f → IsForest (record f { nodes = set f.nodes i (n.0, y) })
 set-is f i n y e h = rw (modify-set f.nodes i n (λ _. y) e) (modified-is f i (λ _. y) h)
@@ -90,11 +90,11 @@ modified-by {T = T} f now i n g e q =
 pub root-within : {T : Type 0} (f : Forest T) → IsForest f → 0 < length f.nodes
 root-within f h = omega (arith, path-last_depth (depths f.nodes) f.spine h.opened, length-map f.nodes (λ n. n.0))
 
--- the depth at a place that is read
+-- the depth at an index that is read
 pub depth_at : {T : Type 0} (ns : List (ℕ × T)) (i : ℕ) (n : ℕ × T) → i < length ns → n ≡ get_or ns i n → get_or (depths ns) i 0 ≡ n.0
 depth_at ns i n l e = get_or-map (λ n. n.0) ns i n 0 l ∙ ap (λ m. m.0) (sym e)
 
--- the same for a place of a slice
+-- the same for an index of a slice
 pub depth_read : {T : Type 0} (ns : List (ℕ × T)) (i : ℕ) (d : ℕ × T) → i < length ns → get_or (depths ns) i 0 ≡ (get_or ns i d).0
 depth_read ns i d l = get_or-map (λ n. n.0) ns i d 0 l
 
@@ -240,7 +240,7 @@ open-within f ix g h = omega (arith, (open-last (depths f.nodes) f.spine h.opene
 pub opened-within : {T : Type 0} (f : Forest T) (c : TreeIndex) (rest : List TreeIndex) → f.spine ≡ c ∷ rest → IsForest f → c.0 < length f.nodes
 opened-within f c rest e h = open-within f c (ap (λ (is : List TreeIndex). slice_get is 0) e) h
 
--- a change from a place on: one more element, and its end
+-- a change from an index on: one more element, and its end
 pub map_from-more : {T : Type 0} (g : ℕ × T → ℕ × T) (ns : List (ℕ × T)) (i : ℕ) (n : ℕ × T)
     → i < length ns → n ≡ get_or ns i n → map_from g (suc i) (set ns i (g n)) ≡ map_from g i ns
 map_from-more g [] i n l e = absurd (omega arith)
@@ -281,7 +281,7 @@ map_set [] i n = refl
 map_set (m ∷ ns) zero n = refl
 map_set (m ∷ ns) (suc i) n = ap (λ z. m.0 ∷ z) (map_set ns i n)
 
--- after a write to one place, each depth after it can still be increased by one
+-- after a write to one index, each depth after it can still be increased by one
 pub raise-keeps : {T : Type 0} (ns : List (ℕ × T)) (i : ℕ) (n : ℕ × T) → ((k : ℕ) → i ≤ k → k < length ns → get_or (depths ns) k 0 < 2 ^ 63) → (k : ℕ)
     → i + 1 ≤ k → k < length (set ns i n) → get_or (depths (set ns i n)) k 0 < 2 ^ 63
 raise-keeps ns i n h k a b =
@@ -310,7 +310,7 @@ wrap-length : (ds : List ℕ) (p e : ℕ) → p ≤ length ds → length (take p
 wrap-length ds p e m =
     grind (arith, length-append (take p ds) (e ∷ map (λ d. d + 1) (drop p ds)), length-take-le p ds m, length-map (drop p ds) (λ d. d + 1), length-drop p ds)
 
--- the last node of a depth before the place is still the last, if the inserted node is deeper
+-- the last node of a depth before the index is still the last, if the inserted node is deeper
 last-wrap : (ds : List ℕ) (d i p e : ℕ) → IsLastAt ds d i → i < p → p ≤ length ds → d < e → IsLastAt (take p ds ++ e ∷ map (λ d. d + 1) (drop p ds)) d i
 last-wrap ds d i p e h l m q = record {
   within = omega (arith, wrap-length ds p e m, h.within);
@@ -452,7 +452,7 @@ current-end f c ix q e h =
     let l = subst (λ (o : Option TreeIndex). IfSome o (λ c. IsLastAt (depths f.nodes) (length f.spine + 1) c.0)) q h.at_current in
     ap (end_of (depths f.nodes)) (sym e) ∙ last-end f.nodes _ c.0 l
 
--- the places of the open nodes are within the list
+-- the indices of the open nodes are within the list
 path-within : (ds : List ℕ) (is : List TreeIndex) → IsOpenPath ds is → (k : ℕ) → k < length is → (d : TreeIndex) → (get_or is k d).0 < length ds
 path-within ds [] h k l d = absurd (omega arith)
 path-within ds (i ∷ is) h zero l d = h.0.within

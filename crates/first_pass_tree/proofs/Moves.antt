@@ -21,7 +21,7 @@ lower-keeps ns i n h k a b =
     let s : get_or (depths (set ns i n)) k 0 ≡ get_or (depths ns) k 0 = ap (λ ds. get_or ds k 0) e ∙ r in
     omega arith
 
--- the depths from a place on, each decreased by one
+-- the depths from an index on, each decreased by one
 lower-map : {T : Type 0} (ns : List (ℕ × T)) (k : ℕ) → get_or (depths (map shallower ns)) k 0 ≡ get_or (depths ns) k 0 - 1
 lower-map [] k = omega arith
 lower-map (n ∷ ns) zero = refl
@@ -44,7 +44,7 @@ lower-length ns zero = length-map (map shallower ns) (λ n. n.0) ∙ length-map 
 lower-length [] (suc e) = refl
 lower-length (n ∷ ns) (suc e) = ap suc (lower-length ns e)
 
--- the last node of a depth before the place is still the last, if every node from the place on is at least two levels
+-- the last node of a depth before the index is still the last, if every node from the index on is at least two levels
 -- deeper
 last-lower : {T : Type 0} (ns : List (ℕ × T)) (d i e m : ℕ) → IsLastAt (depths ns) d i → i < e → d ≤ m
     → ((k : ℕ) → e ≤ k → k < length (depths ns) → m + 2 ≤ get_or (depths ns) k 0) → IsLastAt (depths (map_from shallower e ns)) d i
@@ -97,7 +97,7 @@ pub record IsLastBefore (ds : List ℕ) (d n r : ℕ) : Type 0 where
   pub depth : get_or ds r 0 ≡ d
   pub following : (k : ℕ) → r < k → k < n → d < get_or ds k 0
 
--- the last place of a depth, if one place has it and every later depth is at least that
+-- the last index of a depth, if one index has it and every later depth is at least that
 pub last_before-is : (ds : List ℕ) (d p n : ℕ)
     → p < n → get_or ds p 0 ≡ d → ((k : ℕ) → p < k → k < n → d ≤ get_or ds k 0) → IsLastBefore ds d n (last_before ds d n)
 last_before-is ds d p zero l e h = absurd (omega arith)
@@ -126,7 +126,7 @@ some-and : {P : TreeIndex → Type 0} (o : Option TreeIndex) → IsSomeAnd o P �
 some-and None h = absurd h
 some-and (Some c) h = (c, (refl, h))
 
--- the node directly before a place, after the last node of a depth, has at least that depth
+-- the node directly before an index, after the last node of a depth, has at least that depth
 before-place : (ds : List ℕ) (d c e : ℕ) → IsLastAt ds d c → c < e → e ≤ length ds → d ≤ get_or ds (e - 1) 0
 before-place ds d c e h l w =
     ⊎_elim
@@ -134,7 +134,7 @@ before-place ds d c e h l w =
     (λ x. let u = h.following (e - 1) (omega arith) (omega arith) in omega arith)
     (cases_eq c (e - 1))
 
--- a current node before one place is before each later place
+-- a current node before one index is before each later index
 later : (o : Option TreeIndex) (i e : ℕ) → i ≤ e → IsSomeAnd o (λ c. c.0 < i) → IsSomeAnd o (λ c. c.0 < e)
 later None i e l h = absurd h
 later (Some c) i e l h = omega arith

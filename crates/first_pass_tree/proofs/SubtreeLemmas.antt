@@ -11,7 +11,7 @@ use Rattle.first_pass_tree.specs.Subtrees.{left_between}
 use Rattle.first_pass_tree.specs.Forest.{Forest, IsForest, IsLastAt, depths, map_from}
 use Rattle.first_pass_tree.proofs.Keeps.{rev_take, set-is, modify-set, depths-modify}
 
--- the subtrees end before a greater place too
+-- the subtrees end before a greater index too
 pub subtrees-up_to : (ds : List ℕ) (n m : ℕ) (es : List Subtree) → n ≤ m → AreSubtrees ds n es → AreSubtrees ds m es
 subtrees-up_to ds n m [] l h = tt
 subtrees-up_to ds n m (e ∷ es) l h = (let w = h.0 in omega arith, h.1, h.2)
@@ -81,7 +81,7 @@ set_by : (place past : ℕ) (e : Subtree) (es : List Subtree) → 0 < length es 
 set_by place past e [] l t = absurd (omega arith)
 set_by place past e (o ∷ es) l t = rw t refl
 
--- the last record is that of the place, and another remains
+-- the last record is that of the index, and another remains
 pub ended-set : (place past k : ℕ) (xs : List Subtree) (d : Subtree) → length xs ≡ k + 1 → 0 < k → (get_or xs k d).place ≡ place
     → ended_last place past (reverse xs) ≡ reverse (set xs k (subtree place past))
 ended-set place past k xs d l m e =
@@ -124,7 +124,7 @@ last_within : (from to : ℕ) (es : List Subtree) → IfSome (last_between from 
 last_within from to [] = tt
 last_within from to (e ∷ es) = within_by (nat_lt e.place from) (nat_lt to e.past) from to e refl refl
 
--- the record that is taken is between the two places
+-- the record that is taken is between the two indices
 pub taken-within : (from to : ℕ) (es : List Subtree) (o : Option Subtree) → o ≡ last_between from to es → IfSome o (λ s. (from ≤ s.place) × (s.past ≤ to))
 taken-within from to es o e = subst (λ (v : Option Subtree). IfSome v (λ s. (from ≤ s.place) × (s.past ≤ to))) (sym e) (last_within from to es)
 
@@ -190,7 +190,7 @@ subtrees-same ns ms xs e h =
     let l : length ms ≡ length ns = sym (length-map ms (λ m. m.0)) ∙ ap length e ∙ length-map ns (λ m. m.0) in
     subst (λ (ds : List ℕ). AreSubtrees ds (length ms) xs) (sym e) (subst (λ (n : ℕ). AreSubtrees (depths ns) n xs) (sym l) h)
 
--- in a tree with any item written at a place
+-- in a tree with any item written at an index
 pub set-kept : {T : Type 0} (f : Forest T) (xs : List Subtree) (i : ℕ) (n : ℕ × T) (y : T) → n ≡ get_or f.nodes i n → IsTree f xs
     → IsTree (record f { nodes = set f.nodes i (n.0, y) }) xs
 set-kept f xs i n y e h = record {

@@ -135,7 +135,7 @@ two_deeper a b d e l h = (let s : b ≡ d + 2 = omega arith in grind (arith, nat
 pub not_two_deeper : (a b d : ℕ) → a ≡ b → (a - d ≡ 2 → ⊥) → (b == (d + 2)) ≡ false
 not_two_deeper a b d e h = not_two_by (b == (d + 2)) a b d refl e h
 
--- writing the same body at a place
+-- writing the same body at an index
 pub tight_same_body : (ns : List (ℕ × Item)) (i : ℕ) (b : ItemBody)
     → body_at ns i ≡ Some b → modify ns i (λ x. record { start = x.start; «end» = x.«end»; body = b }) ≡ ns
 tight_same_body ns i b is = not_changed ns i _ b is (λ x e. ap (λ z. node_of x.start x.«end» z) (sym e))
@@ -180,7 +180,7 @@ tightening_next old now next depth from to at l deep b h e =
           ∙ ap (λ (ns : List (ℕ × Item)). record f { nodes = ns }) (tight_more depth k f.nodes (omega arith) deeper);
     }
 
--- the walk back over all nodes below a list of a depth: the paragraphs from a place on are tight
+-- the walk back over all nodes below a list of a depth: the paragraphs from an index on are tight
 pub record IsTightFrom (f : Forest Item) (list depth at : ℕ) (g : Forest Item) : Type 0 where
   pub there : list < length f.nodes
   pub depth_is : depth ≡ slice_index (depths f.nodes) list
@@ -207,7 +207,7 @@ walk_begins f list depth at l d e =
       tight = ap (λ (ns : List (ℕ × Item)). record f { nodes = ns }) (sym n);
     }
 
--- its place is among the nodes, or at their end
+-- its index is among the nodes, or at their end
 pub walk_within : (f g : Forest Item) (list depth at : ℕ) → IsTightFrom f list depth at g → at ≤ length g.nodes
 walk_within f g list depth at h =
     let l = h.there in
@@ -228,7 +228,7 @@ pub walk_over : (f g : Forest Item) (list depth at past : ℕ)
 walk_over f g list depth at past from a b h t =
     record { there = from.there; depth_is = from.depth_is; following = a; within = (let w = from.within in omega arith); tight = t }
 
--- a step over an inner list, from the nodes after it to its place
+-- a step over an inner list, from the nodes after it to its index
 pub walk_next : (f h next : Forest Item) (list depth place past : ℕ)
     → IsTightFrom f list depth past h → list < place → place < past → ((k : ℕ) → place < k → k < past → depth + 2 < slice_index (depths f.nodes) k)
     → next ≡ with_tight_node h depth (record { 0 = place }) → IsTightFrom f list depth place next

@@ -8,8 +8,8 @@ use Rattle.first_pass_items.specs.declared.item.Item.{Item}
 use Rattle.first_pass_items.specs.declared.item.ItemBody.{ItemBody}
 use Rattle.first_pass_items.specs.declared.item.ItemBody.TheVariants.{Root, Text, Table, TableHead, TableRow, TableCell}
 
--- A tree as a list: the items in reading order, each with its depth (the root's is 0). The spine has the places of the
--- open nodes without the root, innermost first. The current node is given by its place.
+-- A tree as a list: the items in reading order, each with its depth (the root's is 0). The spine has the indices of the
+-- open nodes without the root, innermost first. The current node is given by its index.
 pub record Forest (T : Type 0) : Type 0 where
   pub nodes : List (ℕ × T)
   pub spine : List TreeIndex
@@ -20,25 +20,25 @@ module _ {T : Type 0} where
   abbrev pub depths : List (ℕ × T) → List ℕ
   depths ns = map (λ n. n.0) ns
 
-  -- the item at a place
+  -- the item at an index
   abbrev pub item_at : Forest T → TreeIndex → Option T
   item_at f ix = option_map (λ n. n.1) (slice_get f.nodes ix.0)
 
-  -- the nodes with the item at a place changed
+  -- the nodes with the item at an index changed
   abbrev pub modify : List (ℕ × T) → ℕ → (T → T) → List (ℕ × T)
   modify [] i g = []
   modify (n ∷ ns) zero g = (n.0, g n.1) ∷ ns
   modify (n ∷ ns) (suc i) g = n ∷ modify ns i g
 
-  -- the forest with another item at a place
+  -- the forest with another item at an index
   abbrev pub with_item : Forest T → TreeIndex → T → Forest T
   with_item f ix x = record f { nodes = modify f.nodes ix.0 (λ _. x) }
 
-  -- the forest with the item at a place changed
+  -- the forest with the item at an index changed
   abbrev pub modified : Forest T → TreeIndex → (T → T) → Forest T
   modified f ix g = record f { nodes = modify f.nodes ix.0 g }
 
--- the node at place i has depth d, and all nodes after it are deeper: it is the last of its depth, and they are its
+-- the node at the index i has depth d, and all nodes after it are deeper: it is the last of its depth, and they are its
 -- descendants
 pub record IsLastAt (ds : List ℕ) (d : ℕ) (i : ℕ) : Type 0 where
   pub within : i < length ds
@@ -61,7 +61,7 @@ pub record IsForest {T : Type 0} (f : Forest T) : Type 0 where
   pub opened : IsOpenPath (depths f.nodes) f.spine
   pub at_current : IfSome f.current (λ c. IsLastAt (depths f.nodes) (length f.spine + 1) c.0)
 
--- the first place from one on whose depth is at most this, or the length
+-- the first index from another on at which the depth is at most this, or the length
 abbrev pub run_end : List ℕ → ℕ → ℕ → ℕ
 run_end ds depth from = from + prefix_len (λ d. nat_lt depth d) (drop from ds)
 
@@ -69,20 +69,20 @@ run_end ds depth from = from + prefix_len (λ d. nat_lt depth d) (drop from ds)
 abbrev pub IsShallow : List ℕ → Type 0
 IsShallow ds = (k : ℕ) → k < length ds → slice_index ds k < 2 ^ 63
 
--- the place after a node and all its descendants
+-- the index after a node and all its descendants
 abbrev pub end_of : List ℕ → ℕ → ℕ
 end_of ds i = run_end ds (slice_index ds i) (i + 1)
 
--- the place of a node's first child: the next place, if that is deeper
+-- the index of a node's first child: the next index, if the node there is deeper
 abbrev pub child_of : List ℕ → ℕ → Option TreeIndex
 child_of ds i = if nat_lt (slice_index ds i) (slice_index ds (i + 1)) then Some (record { 0 = i + 1 }) else None
 
--- the place of a node's next sibling: the place after its descendants, if that has the node's depth
+-- the index of a node's next sibling: the index after its descendants, if the node there has the same depth
 abbrev pub sibling_of : List ℕ → ℕ → Option TreeIndex
 sibling_of ds i =
     if nat_lt (end_of ds i) (length ds) && (slice_index ds (end_of ds i) == slice_index ds i) then Some (record { 0 = end_of ds i }) else None
 
--- the place of the innermost open node, which may be the root
+-- the index of the innermost open node, which may be the root
 abbrev pub open_place : List TreeIndex → ℕ
 open_place [] = 0
 open_place (i ∷ is) = i.0
@@ -108,13 +108,13 @@ module _ {T : Type 0} where
   abbrev pub deeper : ℕ × T → ℕ × T
   deeper n = (n.0 + 1, n.1)
 
-  -- the list with the elements from a place on changed
+  -- the list with the elements from an index on changed
   abbrev pub map_from : (ℕ × T → ℕ × T) → ℕ → List (ℕ × T) → List (ℕ × T)
   map_from g zero ns = map g ns
   map_from g (suc i) [] = []
   map_from g (suc i) (n ∷ ns) = n ∷ map_from g i ns
 
-  -- the forest with a node between the current node and its children
+  -- the forest with a new node between the current node and its children
   abbrev pub wrapped : Forest T → TreeIndex → T → Forest T
   wrapped f c x = record f {
     nodes = take (c.0 + 1) f.nodes ++ (length f.spine + 2, x) ∷ map deeper (drop (c.0 + 1) f.nodes);
@@ -154,11 +154,11 @@ abbrev pub joins_at : Forest Item → ℕ → Option TreeIndex → Bool
 joins_at f at None = false
 joins_at f at (Some c) = ends_text_at at (item_at f c)
 
--- the forest with another end of the item at a place
+-- the forest with another end of the item at an index
 abbrev pub with_end_at : Forest Item → TreeIndex → ℕ → Forest Item
 with_end_at f c e = record f { nodes = modify f.nodes c.0 (λ x. record x { «end» = e }) }
 
--- the forest with another body of the item at a place
+-- the forest with another body of the item at an index
 abbrev pub with_body_at : Forest Item → TreeIndex → ItemBody → Forest Item
 with_body_at f c b = record f { nodes = modify f.nodes c.0 (λ x. record x { body = b }) }
 
@@ -175,11 +175,11 @@ with_text f s e b =
     then f
     else (if joins_at f s f.current then with_end f e f.current else appended f (record { start = s; «end» = e; body = Text b }))
 
--- the body of the node at a place
+-- the body of the node at an index
 abbrev pub body_at : List (ℕ × Item) → ℕ → Option ItemBody
 body_at ns i = option_map (λ n. n.1.body) (slice_get ns i)
 
--- the node is a table, or it is a head, row or cell and `outer` holds
+-- the node is a table, or it is a table head, row or cell and `outer` holds
 abbrev pub in_table_by : Bool → Option ItemBody → Bool
 in_table_by outer None = false
 in_table_by outer (Some (Table a)) = true
@@ -188,7 +188,8 @@ in_table_by outer (Some TableRow) = outer
 in_table_by outer (Some TableCell) = outer
 in_table_by outer (Some _) = false
 
--- a table is reached from the innermost open node outwards, over only table heads, rows and cells
+-- the innermost open node is a table or a part of one: a table is reached from it outwards over only table heads, rows
+-- and cells
 abbrev pub in_table : List (ℕ × Item) → List TreeIndex → Bool
 in_table ns [] = false
 in_table ns (i ∷ is) = in_table_by (in_table ns is) (body_at ns i.0)
@@ -224,7 +225,7 @@ is_single_before e (n ∷ m ∷ ns) = false
 abbrev pub HasLeaves : {T : Type 0} → Forest T → Type 0
 HasLeaves f = (k : ℕ) → open_place f.spine < k → k < length f.nodes → slice_index (depths f.nodes) k ≡ length f.spine + 1
 
--- the last place before one that has this depth, or 0
+-- the last index before another at which there is this depth, or 0
 abbrev pub last_before : List ℕ → ℕ → ℕ → ℕ
 last_before ds d zero = 0
 last_before ds d (suc k) = if slice_index ds k == d then k else last_before ds d k
@@ -264,14 +265,14 @@ pub record IsChildOfCurrent {T : Type 0} (f : Forest T) (ix : TreeIndex) : Type 
   pub depth : slice_index (depths f.nodes) ix.0 ≡ length f.spine + 2
   pub current : IsSomeAnd f.current (λ c. c.0 < ix.0)
 
--- a place after the current node: the end of the nodes, or a node that is at most as deep as a child of the current
+-- an index after the current node: that of the end of the nodes, or of a node at most as deep as a child of the current
 -- node
 pub record CanMoveFrom {T : Type 0} (f : Forest T) (place : ℕ) : Type 0 where
   pub within : place ≤ length f.nodes
   pub depth : place < length f.nodes → slice_index (depths f.nodes) place ≤ length f.spine + 2
   pub current : IsSomeAnd f.current (λ c. c.0 < place)
 
--- the forest with the nodes from a place on one level less deep; the last node of the current node's depth is current
+-- the forest with the nodes from an index on one level less deep; the last node of the current node's depth is current
 abbrev pub moved_from : {T : Type 0} → Forest T → ℕ → Forest T
 moved_from f place =
     let ns = map_from shallower place f.nodes in

@@ -3,7 +3,7 @@ use Rattle.std.specs.Prelude.{ℕ, ◌+◌, ◌<◌, ◌≤◌, ◌==◌, ◌||�
 use Rattle.first_pass_tree.specs.declared.subtrees.Subtree.{Subtree}
 use Rattle.first_pass_tree.specs.Forest.{Forest, IsForest, depths}
 
--- the nodes after a place, up to another, are descendants of the node at that place
+-- the nodes after an index, up to another, are descendants of the node at that index
 pub record IsSubtree (ds : List ℕ) (place : ℕ) (past : ℕ) : Type 0 where
   pub following : place < past
   pub deeper : (k : ℕ) → place < k → k < past → slice_index ds place < slice_index ds k
@@ -19,7 +19,7 @@ pub record IsTree {T : Type 0} (f : Forest T) (subtrees : List Subtree) : Type 0
   pub forest : IsForest f
   pub known : AreSubtrees (depths f.nodes) (length f.nodes) subtrees
 
--- the record of a node's place and of the place up to which the nodes are its descendants
+-- the record of a node's index, and of the index before which the nodes after it are its descendants
 abbrev pub subtree : ℕ → ℕ → Subtree
 subtree place past = record { place = place; past = past }
 
@@ -28,21 +28,23 @@ abbrev pub within_first : ℕ → List Subtree → List Subtree
 within_first count [] = []
 within_first count (s ∷ ss) = if nat_lt count s.past then within_first count ss else s ∷ ss
 
--- the records with the last one ended at a place, if it belongs to this node; if it is the only one, it is removed
+-- the records with the last one ended before an index, if it belongs to the node at `place`; if it is the only one, it
+-- is removed
 abbrev pub ended_last : ℕ → ℕ → List Subtree → List Subtree
 ended_last place past [] = []
 ended_last place past (s ∷ []) = if s.place == place then [] else s ∷ []
 ended_last place past (s ∷ outer ∷ ss) = (if s.place == place then subtree place past else s) ∷ outer ∷ ss
 
--- the records with a node's subtree ended at a place: those inside it are removed, and it too if no other remains
+-- the records with the subtree of the node at `place` ended before an index: those inside it are removed, and it too if
+-- no other remains
 abbrev pub ended : ℕ → ℕ → List Subtree → List Subtree
 ended place past ss = ended_last place past (within_first (place + 1) ss)
 
--- the subtree begins before a place or ends after another
+-- the subtree begins before an index or ends after another
 abbrev pub stands_outside : ℕ → ℕ → Subtree → Bool
 stands_outside from to s = nat_lt s.place from || nat_lt to s.past
 
--- the last record, if its subtree is between these places
+-- the last record, if its subtree is between these indices
 abbrev pub last_between : ℕ → ℕ → List Subtree → Option Subtree
 last_between from to [] = None
 last_between from to (s ∷ ss) = if stands_outside from to s then None else Some s

@@ -6,12 +6,12 @@ use Rattle.first_pass_items.specs.declared.item.ItemBody.TheVariants.{Paragraph,
 use Rattle.first_pass_tree.specs.declared.tree_index.TreeIndex.{TreeIndex}
 use Rattle.first_pass_tree.specs.Forest.{Forest, depths}
 
--- the body of a node directly in an item of a tight list: a paragraph is tight (CommonMark 5.3)
+-- the body of a node directly in an item of a tight list: a paragraph becomes tight (CommonMark 5.3)
 abbrev pub tight_body : ItemBody → ItemBody
 tight_body Paragraph = TightParagraph
 tight_body body = body
 
--- a node below a tight list, in whose items the blocks have this depth
+-- a node below a tight list, made tight if it is a paragraph of this depth, that of the blocks in the items
 abbrev pub tightened : ℕ → ℕ × Item → ℕ × Item
 tightened depth n = (n.0, if n.0 == depth then record { start = n.1.start; «end» = n.1.«end»; body = tight_body n.1.body } else n.1)
 
@@ -20,7 +20,7 @@ unfoldable pub tight_run : ℕ → List (ℕ × Item) → List (ℕ × Item)
 tight_run depth [] = []
 tight_run depth (n ∷ ns) = if nat_lt depth n.0 then tightened (depth + 2) n ∷ tight_run depth ns else n ∷ ns
 
--- the same for the nodes from a place on
+-- the same for the nodes from an index on
 unfoldable pub tight_at : ℕ → ℕ → List (ℕ × Item) → List (ℕ × Item)
 tight_at depth zero ns = tight_run depth ns
 tight_at depth (suc i) [] = []
@@ -36,7 +36,7 @@ tight_node depth (suc i) (n ∷ ns) = n ∷ tight_node depth i ns
 abbrev pub with_tight_node : Forest Item → ℕ → TreeIndex → Forest Item
 with_tight_node f depth ix = record f { nodes = tight_node depth ix.0 f.nodes }
 
--- the tree after the paragraphs directly in the items of a list of this depth are made tight, from a place on
+-- the tree after the paragraphs directly in the items of a list of this depth are made tight, from an index on
 abbrev pub tight_from : Forest Item → ℕ → ℕ → Forest Item
 tight_from f depth i = record f { nodes = tight_at depth i f.nodes }
 

@@ -7,7 +7,7 @@ use crate::tree_index::TreeIndex;
 use first_pass_items::item::{Item, ItemBody};
 use std::alloc::AllocError;
 
-/// The first place from `from` on whose depth is at most `depth`, or the length.
+/// Returns the first index from `from` on at which the depth is at most `depth`, or the length if there is none.
 pub(crate) fn deeper_end(nodes: &[(usize, Item)], depth: usize, from: usize) -> usize
     requires { from ≤ length nodes.now }
     ensures { result ≡ run_end (depths nodes.now) depth from }
@@ -19,8 +19,8 @@ pub(crate) fn deeper_end(nodes: &[(usize, Item)], depth: usize, from: usize) -> 
     end
 }
 
-/// Inserts a node at a place, and moves each node after it one level deeper. If the allocation fails, the list
-/// is unchanged.
+/// Inserts a node at the index `place`, and moves each node after it one level deeper. If the allocation fails, the
+/// list is unchanged.
 pub(crate) fn wrap(
     nodes: &mut Vec<(usize, Item)>,
     place: usize,
@@ -39,7 +39,7 @@ pub(crate) fn wrap(
     Ok(())
 }
 
-/// Moves each node from a place on one level deeper.
+/// Moves each node from the index `from` on one level deeper.
 pub(crate) fn raise(nodes: &mut Vec<(usize, Item)>, from: usize)
     requires { (k : ℕ) → from ≤ k → k < length nodes.old.items → slice_index (depths nodes.old.items) k < 2 ^ 63 }
     ensures { nodes.new.items ≡ map_from deeper from nodes.old.items }
@@ -52,7 +52,7 @@ pub(crate) fn raise(nodes: &mut Vec<(usize, Item)>, from: usize)
     }
 }
 
-/// Moves each node from a place on one level up.
+/// Moves each node from the index `from` on one level up.
 pub(crate) fn lower(nodes: &mut Vec<(usize, Item)>, from: usize)
     requires { (k : ℕ) → from ≤ k → k < length nodes.old.items → 0 < slice_index (depths nodes.old.items) k }
     ensures { nodes.new.items ≡ map_from shallower from nodes.old.items }
@@ -65,7 +65,7 @@ pub(crate) fn lower(nodes: &mut Vec<(usize, Item)>, from: usize)
     }
 }
 
-/// The last place that has this depth, or 0.
+/// Returns the last index at which there is this depth, or 0 if there is none.
 pub(crate) fn last_of_depth(nodes: &[(usize, Item)], depth: usize) -> usize
     ensures { result ≡ last_before (depths nodes.now) depth (length nodes.now) }
 {
@@ -79,7 +79,7 @@ pub(crate) fn last_of_depth(nodes: &[(usize, Item)], depth: usize) -> usize
     0
 }
 
-/// The place after the innermost open node, which may be the root; `spine` is outermost first.
+/// Returns the index after the innermost open node, which may be the root; `spine` is outermost first.
 pub(crate) fn first_place(spine: &[TreeIndex]) -> usize
     requires { EachIndex spine.now (λ k. IfSome (slice_get spine.now k) (λ ix. ix.0 < 2 ^ 63)) }
     ensures { result ≡ open_place (reverse spine.now) + 1 }
@@ -90,7 +90,7 @@ pub(crate) fn first_place(spine: &[TreeIndex]) -> usize
     }
 }
 
-/// The last place that has this depth, or `None` if there is no node from `first` on.
+/// Returns the index of the last node of this depth, or `None` if there is no node from the index `first` on.
 pub(crate) fn last_child(nodes: &[(usize, Item)], first: usize, depth: usize) -> Option<TreeIndex>
     ensures { result ≡ (if nat_lt first (length nodes.now)
         then Some (record { 0 = last_before (depths nodes.now) depth (length nodes.now) }) else None) }
@@ -102,7 +102,7 @@ pub(crate) fn last_child(nodes: &[(usize, Item)], first: usize, depth: usize) ->
     }
 }
 
-/// Cuts the tokens from the place `first` on, which have this depth, at the offset `end`: see
+/// Cuts the tokens from the index `first` on, which have this depth, at the offset `end`: see
 /// `Tree::truncate_siblings`.
 pub(crate) fn cut_nodes(nodes: &mut Vec<(usize, Item)>, first: usize, depth: usize, end: usize)
     requires first_in { first ≤ length nodes.old.items }
@@ -141,8 +141,8 @@ pub(crate) fn cut_nodes(nodes: &mut Vec<(usize, Item)>, first: usize, depth: usi
     nodes.truncate(kept);
 }
 
-/// Whether exactly one node is at `first` or later, and it starts before the offset `end` and ends there at the
-/// latest.
+/// Returns whether exactly one node has the index `first` or a later one, and whether that node starts before the
+/// offset `end` and ends there at the latest.
 #[inline(always)]
 pub(crate) fn is_single_before(nodes: &[(usize, Item)], first: usize, end: usize) -> bool
     requires { first ≤ length nodes.now }
@@ -151,7 +151,7 @@ pub(crate) fn is_single_before(nodes: &[(usize, Item)], first: usize, end: usize
     first + 1 == nodes.len() && nodes[first].1.start < end && nodes[first].1.end <= end
 }
 
-/// The place of the first child of the node at `place`, or `None` if it has no child.
+/// Returns the index of the first child of the node at the index `place`, or `None` if it has no child.
 pub(crate) fn child_in(nodes: &[(usize, Item)], place: usize) -> Option<TreeIndex>
     requires { place < length nodes.now }
     ensures { result ≡ child_of (depths nodes.now) place }
@@ -163,7 +163,7 @@ pub(crate) fn child_in(nodes: &[(usize, Item)], place: usize) -> Option<TreeInde
     }
 }
 
-/// The place of the next sibling of the node at `place`, or `None` if it has none.
+/// Returns the index of the next sibling of the node at the index `place`, or `None` if it has none.
 pub(crate) fn sibling_in(nodes: &[(usize, Item)], place: usize) -> Option<TreeIndex>
     requires { place < length nodes.now }
     ensures { result ≡ sibling_of (depths nodes.now) place }
@@ -176,8 +176,8 @@ pub(crate) fn sibling_in(nodes: &[(usize, Item)], place: usize) -> Option<TreeIn
     }
 }
 
-/// Whether a table is reached from the innermost open node outwards, over only table heads, rows and cells.
-/// `spine` is outermost first.
+/// Returns whether the innermost open node is a table or a part of one: a table is reached from it outwards over only
+/// table heads, rows and cells. `spine` is outermost first.
 pub(crate) fn in_table_of(nodes: &[(usize, Item)], spine: &[TreeIndex]) -> bool
     requires { IsOpenPath (depths nodes.now) (reverse spine.now) }
     ensures { result ≡ in_table nodes.now (reverse spine.now) }

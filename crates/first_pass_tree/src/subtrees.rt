@@ -6,15 +6,15 @@ ghost use Rattle.first_pass_tree.specs.Subtrees.{subtree, within_first, ended, l
 use std::alloc::{AllocError, Global};
 use std::marker::Model;
 
-/// The node at `place`, with the descendants that follow it before `past`.
+/// The node at the index `place`, with its descendants before the index `past`.
 #[derive(Clone, Copy, PartialEq, Eq)]
 pub(crate) struct Subtree {
     pub(crate) place: usize,
     pub(crate) past: usize,
 }
 
-/// Subtrees in the order in which they begin; none ends after the next one. In contracts the last one comes
-/// first.
+/// Records of subtrees, in the order in which these begin; none ends after the next one. In contracts the last one
+/// comes first.
 #[derive(Drop)]
 pub(crate) struct Subtrees {
     list: Vec<Subtree>,
@@ -30,7 +30,7 @@ impl Model for Subtrees {
 }
 
 impl Subtrees {
-    /// No subtree.
+    /// Returns an empty list of records.
     pub(crate) fn new(alloc: Global) -> Subtrees
         ensures { result ≡ [] }
     {
@@ -39,8 +39,8 @@ impl Subtrees {
         }
     }
 
-    /// Adds a record, and removes those that end after the place where it begins. Fails only if an allocation
-    /// fails.
+    /// Adds a record, after removing those of subtrees that end after the node with which it begins. Fails only if an
+    /// allocation fails.
     pub(crate) fn add(&mut self, subtree: Subtree) -> Result<(), AllocError>
         ensures ok { OnOk result (self.new ≡ subtree ∷ within_first subtree.place self.old) }
         ensures err { OnErr result (self.new ≡ within_first subtree.place self.old) }
@@ -61,8 +61,8 @@ impl Subtrees {
         self.list.truncate(kept);
     }
 
-    /// Records that the subtree at `place`, if it is the last one left, ends at `past`. The records inside it
-    /// are removed. It is removed too if no other remains, since it is not needed then.
+    /// Records that the subtree of the node at the index `place` ends before the index `past`, if the subtree is the
+    /// last one after those inside it are removed. If no other remains, it is removed too, since it is then not needed.
     pub(crate) fn note_end(&mut self, place: usize, past: usize)
         requires { place < past }
         ensures { self.new ≡ ended place past self.old }
@@ -79,7 +79,7 @@ impl Subtrees {
         self.list[count - 1] = Subtree { place, past };
     }
 
-    /// Removes and returns the last record, if its subtree is between `from` and `to`.
+    /// Removes the last record and returns it, if its subtree is between the indices `from` and `to`.
     pub(crate) fn take_between(&mut self, from: usize, to: usize) -> Option<Subtree>
         ensures value { result ≡ last_between from to self.old }
         ensures rest { self.new ≡ left_between from to self.old }

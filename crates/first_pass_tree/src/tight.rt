@@ -9,8 +9,8 @@ use crate::subtrees::Subtree;
 use crate::tree_index::TreeIndex;
 use first_pass_items::item::{Item, ItemBody};
 
-/// Makes the paragraphs directly in the items of the list `list_ix` tight (CommonMark 5.3). It skips the
-/// contents of recorded inner lists.
+/// Makes the paragraphs directly in the items of the list `list_ix` tight (CommonMark 5.3). Skips the contents of
+/// recorded inner lists.
 pub fn surgerize_tight_list(tree: &mut Tree<Item>, list_ix: TreeIndex)
     requires { list_ix.0 < length tree.old.nodes }
     ensures { tree.new ≡ tight_items tree.old list_ix }
@@ -26,8 +26,9 @@ pub fn surgerize_tight_list(tree: &mut Tree<Item>, list_ix: TreeIndex)
     }
 }
 
-/// The last recorded list between `from` and `to` inside a list of depth `list_depth`, with its descendants:
-/// none is a paragraph directly in an item of the outer list. If none is recorded, only the node at `from`.
+/// Returns the last recorded list between the indices `from` and `to`, with its descendants, if it is inside an item of
+/// a list of depth `list_depth`: none of these nodes is a paragraph directly in an item of the outer list. If no such
+/// list is recorded, returns only the node at `from`.
 fn inner_list(tree: &mut Tree<Item>, list_depth: usize, from: usize, to: usize) -> Subtree
     requires { (from < to) × (to ≤ length tree.old.nodes) }
     ensures tree { tree.new ≡ tree.old }
@@ -44,8 +45,8 @@ fn inner_list(tree: &mut Tree<Item>, list_depth: usize, from: usize, to: usize) 
     }
 }
 
-/// Makes the paragraphs directly in items of a list of depth `list_depth` tight, among the nodes between `from`
-/// and `to`, which are all below the list. If those from `to` on were tight, all from `from` on are tight
+/// Makes the paragraphs directly in items of a list of depth `list_depth` tight, among the nodes between the indices
+/// `from` and `to`, which are all below the list. If those from `to` on were tight, all from `from` on are tight
 /// afterwards.
 fn tighten_between(tree: &mut Tree<Item>, list_depth: usize, from: usize, to: usize)
     requires within { (from ≤ to) × (to ≤ length tree.old.nodes) }
@@ -59,7 +60,7 @@ fn tighten_between(tree: &mut Tree<Item>, list_depth: usize, from: usize, to: us
     }
 }
 
-/// Makes the node tight if it is a paragraph directly in an item of a list of depth `list_depth`; otherwise
+/// Makes the node `ix` tight if it is a paragraph directly in an item of a list of depth `list_depth`. Otherwise
 /// changes nothing (CommonMark 5.3).
 fn tighten(tree: &mut Tree<Item>, list_depth: usize, ix: TreeIndex)
     requires within { ix.0 < length tree.old.nodes }
@@ -74,7 +75,7 @@ fn tighten(tree: &mut Tree<Item>, list_depth: usize, ix: TreeIndex)
     }
 }
 
-/// The depth of the node at a place.
+/// Returns the depth of the node at the index `at`.
 fn depth_at(tree: &Tree<Item>, at: usize) -> usize
     requires { at < length tree.now.nodes }
     ensures { result ≡ slice_index (depths tree.now.nodes) at }

@@ -15,7 +15,7 @@ cut_nodes-requires c =
     let w = open-last (depths ns) (reverse c.self.inside.spine.items) c.self.invariant.forest.opened in
     record { first_in = omega (arith, p, w.within, length-map ns (λ n. n.0)) }
 
--- the last of these nodes at a depth, if any node is at a place or after it
+-- the last of these nodes at a depth, if any node is at an index or after it
 abbrev last_from : ℕ → ℕ → List (ℕ × Item) → Option TreeIndex
 last_from p d ns = if nat_lt p (length ns) then Some (record { 0 = last_before (depths ns) d (length ns) }) else None
 
