@@ -217,16 +217,16 @@ pub record ReadsRowFrom (old new : FirstPass) (ix next : ℕ) : Type 0 where
   pub node_bound : IsCharBoundary (source_text old) ix → (from : ℕ) → from ≤ ix → from < next → GrowsBy from next (tree_of old).nodes (tree_of new).nodes
 
 -- A row of a table is read from an offset on, after the container prefixes of its line, or there is none. The numbers
--- count the cells that are filled into the table before and after it (GFM 4.10, and this project).
-pub record ReadsTableRow (old new : FirstPass) (wanted : CellsWanted) (filled more : ℕ) (row : Option (ℕ × TreeIndex)) : Type 0 where
-  pub row_is : ReadsRow (document_named old new) wanted.most wanted.start (open_table (tree_of old) filled (braces_of old))
+-- count the cells that are inserted into the table before and after it (GFM 4.10, and this project).
+pub record ReadsTableRow (old new : FirstPass) (wanted : CellsWanted) (inserted more : ℕ) (row : Option (ℕ × TreeIndex)) : Type 0 where
+  pub row_is : ReadsRow (document_named old new) wanted.most wanted.start (open_table (tree_of old) inserted (braces_of old))
       (open_table (tree_of new) more (braces_of new)) row
   pub reads : ReadsRowFrom old new wanted.start (after_row row wanted.start)
 
 -- the same for a row in the line that begins at an offset, which may have container prefixes (GFM 4.10, and this
 -- project)
-pub record ReadsTableLine (old new : FirstPass) (wanted : CellsWanted) (filled more : ℕ) (row : Option (ℕ × TreeIndex)) : Type 0 where
-  pub row_is : ReadsRowLine (document_named old new) wanted.most wanted.start (open_table (tree_of old) filled (braces_of old))
+pub record ReadsTableLine (old new : FirstPass) (wanted : CellsWanted) (inserted more : ℕ) (row : Option (ℕ × TreeIndex)) : Type 0 where
+  pub row_is : ReadsRowLine (document_named old new) wanted.most wanted.start (open_table (tree_of old) inserted (braces_of old))
       (open_table (tree_of new) more (braces_of new)) row
   pub reads : ReadsRowFrom old new wanted.start (after_row row wanted.start)
 

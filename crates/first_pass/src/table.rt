@@ -21,8 +21,8 @@ impl<'a> FirstPass<'a> {
     /// the lines from the offset `body_start` on, up to the first line that is no row. Returns the start of that line,
     /// or the end of the text; never `None` (GFM 4.10).
     ///
-    /// Each row gets exactly `table_cols` cells. At most 262,144 empty cells are filled in, or as many as the header
-    /// row needs if these are more. It needs none if the options have tables and the line at `head_start` has at least
+    /// Each row gets exactly `table_cols` cells. At most 262,144 empty cells are inserted, or as many as the header row
+    /// needs if these are more. It needs none if the options have tables and the line at `head_start` has at least
     /// `table_cols` columns (this project).
     pub fn parse_table(
         &mut self,
@@ -47,8 +47,8 @@ impl<'a> FirstPass<'a> {
     }
 
     /// Appends the row in the line that begins at the offset `ix`, of a table with `row_cells` columns. The innermost
-    /// open node must be the table. Returns as `parse_table_row_inner`; returns `None` also if the line doesn't
-    /// continue all open containers, or if its text would interrupt a paragraph, as any list item does here
+    /// open node must be the table. Returns the same as `parse_table_row_inner`; returns `None` also if the line
+    /// doesn't continue all open containers, or if its text would interrupt a paragraph, as any list item does here
     /// (GFM 4.10). The brace contexts are those of the call before, and after the call those at the end of the row.
     pub fn parse_table_row(
         &mut self,
@@ -84,9 +84,9 @@ impl<'a> FirstPass<'a> {
     }
 
     /// Appends the row that begins at the offset `ix`, after the container prefixes of its line, to the innermost open
-    /// node. A row of fewer than `row_cells` cells is filled with empty cells, which are added to the count in
-    /// `missing_empty_cells`. Returns the end of the row and the row's index. Returns `None` and appends nothing if
-    /// the row has no cell and is not the table's first row, or if more than 262,144 cells would be filled in
+    /// node. Into a row of fewer than `row_cells` cells, empty cells are inserted, and added to the count in
+    /// `missing_empty_cells`. Returns the end of the row and the row's index. Returns `None` and appends nothing if the
+    /// row has no cell and is not the table's first row, or if more than 262,144 cells would be inserted into the table
     /// (GFM 4.10).
     pub fn parse_table_row_inner(
         &mut self,

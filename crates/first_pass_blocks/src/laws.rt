@@ -21,8 +21,8 @@ pub fn ready_is_completed()
 
 /// A ready state already has whole tables. Suppose that the state begins a derivation of the text that continues at an
 /// offset. Suppose that it does so under the present names and all that extend them, and that each index in its nodes
-/// names an entry. Then rows and cells are only in tables, each row has as many cells as its table has columns, and at
-/// most 262,144 cells of a table are filled in.
+/// names an entry. Then rows and cells are only in tables, each row has as many cells as its table has columns, and a
+/// table has at most 262,144 inserted cells.
 pub fn ready_is_whole()
     ensures { (d : Document) (defined : Tables) (r : PassState) (start : ℕ)
         → StaysReady d defined r (lines_from d.text start) → AreNamed d.names r.tree.nodes

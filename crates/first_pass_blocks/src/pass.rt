@@ -75,13 +75,13 @@ impl<'a> BlockPass<'a> {
         })
     }
 
-    /// Reads the block in the line at `start_ix`, an offset into the text before its end. Returns the start of the
-    /// next unread line, or the end of the text. Closes the open containers that the line does not continue, and opens
-    /// those that begin in it.
+    /// Reads the block in the line at `start_ix`, an offset into the text before its end. Returns the start of the next
+    /// unread line, or the end of the text. Closes the open containers that the line does not continue, and opens those
+    /// that begin in it.
     ///
     /// If the nodes so far begin a derivation of the text that continues at `start_ix`, the new nodes begin one that
-    /// continues at the returned offset. At most four nodes are added for each byte read, not counting cells that fill
-    /// rows of tables.
+    /// continues at the returned offset. At most four nodes are added for each byte read, not counting inserted cells
+    /// of tables.
     ///
     /// If each entry of the definition tables was written in the text, each still is. Its parts are borrowed from the
     /// text if nothing in them changes: the label, the destination and a title of one line of a link definition, and
@@ -89,7 +89,7 @@ impl<'a> BlockPass<'a> {
     ///
     /// If each index in the nodes names an entry and no row of a table is open, whole tables stay whole: rows are only
     /// one level below a table, and cells only two levels below one. Each row has as many cells as its table has
-    /// columns, and at most 262,144 cells of a table are filled in (GFM 4.10, and this project).
+    /// columns, and a table has at most 262,144 inserted cells (GFM 4.10, and this project).
     pub fn parse_block(&mut self, start_ix: usize) -> Result<usize, AllocError>
         requires within { start_ix < length (source_text self.old) }
         requires boundary { IsCharBoundary (source_text self.old) start_ix }
@@ -256,9 +256,9 @@ impl<'a> BlockPass<'a> {
 /// Returns the finished tree of the blocks of a text, and the tables of what the text defines. The block grammar
 /// derives the tree from the text's lines under these options, and derives no other: see the law `one_derivation`.
 /// Nothing is open in the tree, and no paragraph in it may still become a title. It has at most four nodes for each
-/// byte, not counting its root and its filled cells, which start at their row's end. Each row has as many cells as its
-/// table has columns. Each cell starts after the one before it or is a filled cell, and a table has at most 262,144
-/// filled cells. Each link definition in the tables is the one that the text has at its range; its label, its
+/// byte, not counting its root and its inserted cells, which start at their row's end. Each row has as many cells as
+/// its table has columns. Each cell starts after the one before it or is an inserted cell, and a table has at most
+/// 262,144 inserted cells. Each link definition in the tables is the one that the text has at its range; its label, its
 /// destination and its title have ranges in it, in this order. Its label, its destination and a title of one line, and
 /// the label of each footnote, are borrowed from the text if nothing in them changes. Use counts of footnotes are 0.
 /// Fails only if an allocation fails.

@@ -1,3 +1,3 @@
--- The number of counted nodes, and of filled cells.
+-- The number of counted nodes, and of inserted cells.
 pub mod CountedNodes
 pub mod RowsWithRoom

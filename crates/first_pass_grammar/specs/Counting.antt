@@ -1,4 +1,4 @@
--- The number of nodes, and of the cells that rows of tables are filled with.
+-- The number of nodes, and of the cells that are inserted into rows of tables.
 use Rattle.std.specs.Prelude.{ℕ, ◌+◌, ◌==◌, ◌&&◌, Bool, true, false, List, [], ◌∷◌, Option, Some, None, if◌then◌else◌}
 use Rattle.first_pass_items.specs.declared.item.Item.{Item}
 use Rattle.first_pass_items.specs.declared.item.ItemBody.{ItemBody}
@@ -19,21 +19,21 @@ is_cell _ = false
 abbrev pub last_cell : Option ℕ → Item → Option ℕ
 last_cell cell x = if is_row x.body then None else (if is_cell x.body then Some x.start else cell)
 
--- A filled cell after another cell. A row with too few cells is filled with empty ones, which all start at the row's
--- end, and no two written cells start at the same offset. So a filled cell starts where the cell before it in its row
--- does (GFM 4.10, and this project).
+-- An inserted cell after another cell. Into a row with too few cells, empty ones are inserted. These all start at the
+-- row's end, and no two written cells start at the same offset. So an inserted cell after another one starts where that
+-- one does, and a written cell does not (GFM 4.10, and this project).
 abbrev pub is_inserted_after : Option ℕ → Item → Bool
 is_inserted_after None x = false
 is_inserted_after (Some start) x = is_cell x.body && (x.start == start)
 
--- the number of these nodes that are not filled cells after other cells; `cell` is the start of the row's last cell so
--- far, if it has one (this project)
+-- the number of these nodes that are not inserted cells after other cells of the same start; `cell` is the start of the
+-- row's last cell so far, if it has one (this project)
 unfoldable pub own : Option ℕ → List (ℕ × Item) → ℕ
 own cell [] = 0
 own cell (n ∷ nodes) = (if is_inserted_after cell n.1 then 0 else 1) + own (last_cell cell n.1) nodes
 
--- the number of counted nodes of a tree or a block: of the cells that a row is filled with, only the first
--- counts (this project)
+-- the number of counted nodes of a tree or a block: of the cells that are inserted into a row, only the first counts
+-- (this project)
 abbrev pub counted_nodes : List (ℕ × Item) → ℕ
 counted_nodes nodes = own None nodes
 
@@ -41,17 +41,17 @@ counted_nodes nodes = own None nodes
 abbrev pub row_end : Option ℕ → Item → Option ℕ
 row_end «end» x = if is_row x.body then Some x.«end» else «end»
 
--- A filled cell is a cell that starts at the end of its row (GFM 4.10, and this project).
+-- an inserted cell: a cell that starts at the end of its row, which is `end` (GFM 4.10, and this project)
 abbrev pub is_inserted : Option ℕ → Item → Bool
 is_inserted None x = false
 is_inserted (Some «end») x = is_cell x.body && (x.start == «end»)
 
--- the number of filled cells among these nodes; `end` is the end of the row before them, if there is one (this
+-- the number of inserted cells among these nodes; `end` is the end of the row before them, if there is one (this
 -- project)
 unfoldable pub inserted_in_row : Option ℕ → List (ℕ × Item) → ℕ
 inserted_in_row «end» [] = 0
 inserted_in_row «end» (n ∷ nodes) = (if is_inserted «end» n.1 then 1 else 0) + inserted_in_row (row_end «end» n.1) nodes
 
--- the number of filled cells in a tree (GFM 4.10, and this project)
+-- the number of inserted cells in a tree (GFM 4.10, and this project)
 abbrev pub inserted_cells : List (ℕ × Item) → ℕ
 inserted_cells nodes = inserted_in_row None nodes

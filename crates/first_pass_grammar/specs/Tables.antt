@@ -50,7 +50,7 @@ AreCells d p (cell ∷ cells) to =
     × (tokens : List Item) × (stop : Spot) × IsCell d.names.texts (cell_content d (spot (cell_text d.text p.at) p.braces)) tokens stop.at stop.braces
     × (cell ≡ cell_block (cell_start d.text p.at) stop.at tokens) × AreCells d stop cells to
 
--- the number of empty cells that a row is filled with, given its columns and its own cells (GFM 4.10)
+-- the number of empty cells that are inserted into a row, given its columns and its own cells (GFM 4.10)
 abbrev pub filled : ℕ → List (List (ℕ × Item)) → ℕ
 filled columns cells = columns - length cells
 
@@ -110,13 +110,13 @@ TakesRows d path before (row ∷ rows) [] left = ⊥
 TakesRows d path before (row ∷ rows) (line ∷ lines) left =
     HasCells d path line before row × (0 < length row.cells) × TakesRows d path row.after rows lines left
 
--- the number of cells that all these rows are filled with, for this many columns (GFM 4.10)
+-- the number of cells that are inserted into all these rows, for this many columns (GFM 4.10)
 abbrev pub all_inserted : ℕ → List FoundRow → ℕ
 all_inserted columns [] = 0
 all_inserted columns (row ∷ rows) = filled columns row.cells + all_inserted columns rows
 
--- a table up to a line: its number of columns, how many more cells its rows may be filled with, and the brace contexts
--- before the line (GFM 4.10, and this project)
+-- a table up to a line: its number of columns, how many more cells may be inserted into its rows, and the brace
+-- contexts before the line (GFM 4.10, and this project)
 pub record TableSoFar : Type 0 where
   pub columns : ℕ
   pub room : ℕ
@@ -126,7 +126,7 @@ abbrev pub table_so_far : ℕ → ℕ → MathBraces → TableSoFar
 table_so_far columns room braces = record { columns = columns; room = room; braces = braces }
 
 -- The rows of a table end before these lines: there is no line, or the first one is no row, has no cell, or is a row
--- that would be filled with more cells than allowed (GFM 4.10, and this project).
+-- into which more cells would be inserted than allowed (GFM 4.10, and this project).
 unfoldable pub EndRows : Document → List Container → TableSoFar → List Place → Type 0
 EndRows d path table [] = Unit {0}
 EndRows d path table (line ∷ lines) =
@@ -141,7 +141,7 @@ row_blocks columns rows = side_by_side (map (λ (row : FoundRow). row_block Tabl
 abbrev pub with_rows : TableSoFar → List FoundRow → TableSoFar
 with_rows table rows = table_so_far table.columns (table.room - all_inserted table.columns rows) (braces_after_rows table.braces rows)
 
--- The longest run of rows of a table at the start of these lines that are filled, in total, with no more cells than
+-- The longest run of rows of a table at the start of these lines into which, in total, no more cells are inserted than
 -- allowed (GFM 4.10, and this project).
 pub record AreRows (d : Document) (path : List Container) (table : TableSoFar) (lines : List Place) (t : Taken) : Type 0 where
   pub rows : List FoundRow
@@ -150,7 +150,7 @@ pub record AreRows (d : Document) (path : List Container) (table : TableSoFar) (
   pub ends : EndRows d path (with_rows table rows) t.left
   pub items_are : t.items ≡ row_blocks table.columns rows
 
--- the greatest number of cells that one table may be filled with (this project)
+-- the greatest number of cells that may be inserted into one table (this project)
 abbrev pub most_filled : ℕ
 most_filled = 262144
 

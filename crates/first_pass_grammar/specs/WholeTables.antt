@@ -1,4 +1,4 @@
--- Whole tables, read off their nodes: each row has as many cells as there are columns, and the number of filled cells
+-- Whole tables, read off their nodes: each row has as many cells as there are columns, and the number of inserted cells
 -- is limited.
 use Rattle.std.specs.Prelude.{◌≡◌, ◌⊎◌, ℕ, zero, ◌+◌, ◌<◌, ◌≤◌, ◌==◌, ◌||◌, suc, Bool, true, false, Option, Some, None, IsSomeAnd, List, [], ◌∷◌, ◌++◌}
 use Rattle.std.specs.Prelude.{length, map, if◌then◌else◌}
@@ -61,14 +61,14 @@ unfoldable pub how_often : ℕ → List ℕ → ℕ
 how_often at [] = 0
 how_often at (start ∷ starts) = (if start == at then 1 else 0) + how_often at starts
 
--- The number of filled cells in rows: those that start at the end of their row. A written cell starts before that (GFM
--- 4.10, and this project).
+-- The number of inserted cells in rows: those that start at the end of their row. A written cell starts before that
+-- (GFM 4.10, and this project).
 unfoldable pub filled_in : List RowCells → ℕ
 filled_in [] = 0
 filled_in (row ∷ rows) = how_often row.«end» row.starts + filled_in rows
 
 -- The cells of a row with this end start apart: each starts after the one before it, or at the end of the row, as
--- filled cells do (GFM 4.10, and this project).
+-- inserted cells do (GFM 4.10, and this project).
 unfoldable pub StartApart : ℕ → List ℕ → Type 0
 StartApart «end» [] = Unit {0}
 StartApart «end» (start ∷ []) = Unit {0}
@@ -79,7 +79,7 @@ unfoldable pub HaveCells : ℕ → List RowCells → Type 0
 HaveCells columns [] = Unit {0}
 HaveCells columns (row ∷ rows) = (length row.starts ≡ columns) × StartApart row.«end» row.starts × HaveCells columns rows
 
--- in each table, each row has as many cells as there are columns, which start apart; the number of filled cells is at
+-- in each table, each row has as many cells as there are columns, which start apart; the number of inserted cells is at
 -- most `most_filled` (GFM 4.10, and this project)
 unfoldable pub AreFull : List TableRows → Type 0
 AreFull [] = Unit {0}
@@ -130,7 +130,7 @@ IsSilentLast nodes None = Unit {0}
 IsSilentLast nodes (Some ix) = option_map_or may_be_title (body_at nodes ix.0) false ≡ true → SilentFrom nodes ix.0
 
 -- The tables of a tree are whole. None of their rows is open: closing a row would change its end, and so which cells
--- count as filled. No text that a definition list may take in is open. If the last text is such a text, no part of a
+-- count as inserted. No text that a definition list may take in is open. If the last text is such a text, no part of a
 -- table is in it, since its nodes move (GFM 4.10, and this project).
 pub record HasWholeTables (names : Names) (tree : Forest Item) : Type 0 where
   pub whole : AreWholeTables names tree.nodes

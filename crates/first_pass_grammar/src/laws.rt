@@ -41,9 +41,9 @@ pub fn law_of_footnotes()
     ensures order { (labels : List (List ℕ)) → IsStrictlySortedBy folded_cmp (with_labels [] labels) }
 {}
 
-/// In a derived tree each row of a table, including its header row, has as many cells as the table has columns. At
-/// most 262,144 cells of a table start at the end of their row; these include the cells that a row with too few is
-/// filled with (GFM 4.10, and this project). No row is outside a table, and no cell outside a row.
+/// In a derived tree each row of a table, including its header row, has as many cells as the table has columns. At most
+/// 262,144 cells of a table are inserted: they start at the end of their row (GFM 4.10, and this project). No row is
+/// outside a table, and no cell outside a row.
 pub fn tables_are_whole()
     ensures { (text : List ℕ) (options : Options) (names : Names) (nodes : List (ℕ × Item)) (tables : Tables)
         → Derives (document text options names) nodes tables → AreWholeTables names nodes }

@@ -1,4 +1,4 @@
--- Whole tables have at most as many nodes as counted nodes and filled cells together.
+-- Whole tables have at most as many nodes as counted nodes and inserted cells together.
 use Rattle.std.proofs.Common.{◌≡◌, ◌⊎◌, inl, inr, ℕ, suc, ◌+◌, ◌<◌, ◌≤◌, ◌==◌, Bool, true, false, if◌then◌else◌, List, [], ◌∷◌, ◌++◌, length, map, Option}
 use Rattle.std.proofs.Common.{Some, None}
 use Rattle.std.proofs.Common.{refl, sym, subst, arith, append_assoc}
@@ -85,7 +85,7 @@ unfolding own repeated marks
 counted names cell [] = refl
 counted names cell (n ∷ nodes) = counted_with names cell n.0 n.1.start n.1.«end» n.1.body nodes (λ after. counted names after nodes)
 
--- the cells at their row's end are the filled ones
+-- the cells at their row's end are the inserted ones
 filled_at : («end» : Option ℕ) (start e : ℕ) → is_inserted «end» (record { start = start; «end» = e; body = TableCell }) ≡ is_at «end» start
 filled_at None start e = refl
 filled_at (Some at) start e = refl

@@ -82,25 +82,25 @@ fn own_flaw(text: &str, item: Item) -> Option<Flaw> {
     }
 }
 
-/// Whether there are more nodes than the root, four for each byte of the text, and the filled-in cells.
+/// Whether there are more nodes than the root, four for each byte of the text, and the inserted cells.
 fn has_too_many(text: &str, nodes: &[(usize, Item)]) -> bool {
     let most = text.len().saturating_mul(4).saturating_add(1);
-    most.saturating_add(count_filled(nodes)) < nodes.len()
+    most.saturating_add(count_inserted(nodes)) < nodes.len()
 }
 
-/// The number of filled-in cells: the empty cells at the end of a row.
-fn count_filled(nodes: &[(usize, Item)]) -> usize {
-    let mut filled: usize = 0;
+/// The number of inserted cells: the empty cells at the end of a row.
+fn count_inserted(nodes: &[(usize, Item)]) -> usize {
+    let mut inserted: usize = 0;
     let mut row_end = None;
     for (_, item) in nodes {
         match item.body {
             ItemBody::TableHead => row_end = None,
             ItemBody::TableRow => row_end = Some(item.end),
             ItemBody::TableCell if row_end == Some(item.start) && item.start == item.end => {
-                filled = filled.saturating_add(1);
+                inserted = inserted.saturating_add(1);
             }
             _ => {}
         }
     }
-    filled
+    inserted
 }

@@ -1,4 +1,4 @@
--- A row is opened, filled with its cells and with empty ones, and closed, or dropped again.
+-- A row is opened, its cells and the inserted ones are added, and it is closed, or dropped again.
 use Rattle.std.proofs.Common.{◌≡◌, ℕ, ◌+◌, ◌-◌, ◌&&◌, ◌||◌, not, Bool, true, nat_lt, nat_le, zero, suc, List, [], ◌∷◌, ◌++◌, length, take, replicate, Option}
 use Rattle.std.proofs.Common.{Some, None, is_some, IsSome, MatchOption, slice_get, refl, sym, ap, subst, ◌∙◌, append_assoc}
 use Rattle.std.proofs.lemmas.List.{length-append}

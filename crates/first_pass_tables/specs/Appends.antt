@@ -64,19 +64,19 @@ pub record IsOpenNode (f : Forest Item) : Type 0 where
   pub innermost : f.spine ≡ place ∷ around
   pub childless : f.current ≡ None → place.0 + 1 ≡ length f.nodes
 
--- A row with these cells is kept if it has one or is the first in its table. It may not need more filled cells than
+-- A row with these cells is kept if it has one or is the first in its table. It may not need more inserted cells than
 -- are allowed (GFM 4.10, and this project).
 abbrev pub keeps_row : Bool → ℕ → ℕ → List (List (ℕ × Item)) → Bool
 keeps_row following columns most cells = (not following || nat_lt 0 (length cells)) && nat_le (filled columns cells) most
 
--- a tree with an open table, the number of cells filled into its rows so far, and the brace contexts after the part
+-- a tree with an open table, the number of cells inserted into its rows so far, and the brace contexts after the part
 -- that was read (this project)
 pub record OpenTable : Type 0 where
   pub tree : Forest Item
   pub filled_in : ℕ
   pub braces : MathBraces
 
--- such a tree, with this number of filled cells and these brace contexts
+-- such a tree, with this number of inserted cells and these brace contexts
 abbrev pub open_table : Forest Item → ℕ → MathBraces → OpenTable
 open_table tree filled_in braces = record { tree = tree; filled_in = filled_in; braces = braces }
 
@@ -84,7 +84,7 @@ open_table tree filled_in braces = record { tree = tree; filled_in = filled_in; 
 abbrev pub so_far : ℕ → OpenTable → TableSoFar
 so_far columns table = table_so_far columns (most_filled - table.filled_in) table.braces
 
--- The header row that begins at a place is added, and its filled cells are counted (GFM 4.10, and this project).
+-- The header row that begins at a place is added, and its inserted cells are counted (GFM 4.10, and this project).
 pub record AddsHead (d : Document) (columns : ℕ) (start : Spot) (old : Forest Item) (new : OpenTable) : Type 0 where
   pub cells : List (List (ℕ × Item))
   pub row_end : ℕ
@@ -92,7 +92,7 @@ pub record AddsHead (d : Document) (columns : ℕ) (start : Spot) (old : Forest 
   pub missing_is : new.filled_in ≡ filled columns cells
   pub tree_is : new.tree ≡ added old (row_block TableHead columns start.at cells row_end)
 
--- A row is added to a table with this number of columns if it is kept. Its filled cells are counted, and the call
+-- A row is added to a table with this number of columns if it is kept. Its inserted cells are counted, and the call
 -- returns its end and its index. Otherwise the tree and the count are unchanged. Either way, the table has the brace
 -- contexts after the row's cells (GFM 4.10, and this project).
 abbrev pub AddsRow : ℕ → FoundRow → OpenTable → OpenTable → Option (ℕ × TreeIndex) → Type 0
@@ -139,9 +139,9 @@ pub record ClosesBetween (text : List ℕ) (from to : ℕ) (old new : Forest Ite
   pub tree_is : new ≡ closed_by (with_below old items) to old.spine
   pub fits : FitsBetween text (within_top old) from to items
 
--- Rows were added to a table, which was closed after them. Each has as many cells as the table has columns. The
--- number of filled cells is at most the allowed number, or that of the header row if it is more. With tables, the
--- header row has none if its line has at least as many columns (GFM 4.10, and this project).
+-- Rows were added to a table, which was closed after them. Each has as many cells as the table has columns. The number
+-- of inserted cells is at most the allowed number, or that of the header row if it is more. With tables, the header row
+-- has none if its line has at least as many columns (GFM 4.10, and this project).
 pub record AddsWholeRows (d : Document) (columns head_start : ℕ) (old new : Forest Item) (next : ℕ) : Type 0 where
   pub items : List (ℕ × Item)
   pub tree_is : new ≡ closed_by (with_below old items) next old.spine

@@ -89,7 +89,8 @@ pub fn drop_beyond(tree: &mut Tree<Item>, last: Option<TreeIndex>)
     }
 }
 
-/// Fills a row with `missing` empty cells at the offset where it ends. Fails only if an allocation fails (GFM 4.10).
+/// Fills a row: inserts `missing` empty cells at the offset where it ends. Fails only if an allocation fails (GFM
+/// 4.10).
 pub fn fill_row(tree: &mut Tree<Item>, end: usize, missing: usize) -> Result<(), AllocError>
     ensures { OnOk result (tree.new ≡ chained tree.old (replicate missing (empty_cell end))) }
 {

@@ -22,7 +22,7 @@ use first_pass_tree::forest::Tree;
 use first_pass_tree::tree_index::TreeIndex;
 use std::alloc::AllocError;
 
-/// The greatest number of cells that are filled into the rows of one table.
+/// The greatest number of cells that are inserted into the rows of one table.
 pub const MAX_AUTOCOMPLETED_CELLS: usize = 1 << 18;
 
 /// The cells of a row that are kept.
@@ -37,7 +37,7 @@ pub struct CellsWanted {
 /// The state of an open table that matters for the next rows.
 #[derive(Drop)]
 pub struct TableSoFar {
-    /// The number of cells that are filled into its rows so far.
+    /// The number of cells that are inserted into its rows so far.
     pub missing_empty_cells: usize,
     /// The brace contexts after its last cell.
     pub braces: BraceContexts,
@@ -133,8 +133,8 @@ fn append_cells(
     Ok((excess.at, kept.count + excess.count))
 }
 
-/// Appends the header row of a table, which begins at `wanted.start`, to the innermost open node, and fills it with
-/// empty cells if it has too few. Sets the number of filled cells of `table`. Adds the texts that tokens name to
+/// Appends the header row of a table, which begins at `wanted.start`, to the innermost open node, and inserts empty
+/// cells at its end if it has too few. Sets the number of inserted cells of `table`. Adds the texts that tokens name to
 /// `allocs`. The brace contexts before the row become those after it. Fails only if an allocation fails (GFM 4.10).
 pub fn append_head_row(
     source: &Source<'_>,
@@ -161,7 +161,7 @@ pub fn append_head_row(
 }
 
 // Whether a row with `count` cells is kept: it has one, or no row is before it in its table, and no more are missing
-// than may be filled in.
+// than may be inserted.
 fn is_kept(following: bool, count: usize, missing: usize, most: usize) -> bool
     ensures value { result ≡ ((not following || nat_lt 0 count) && nat_le missing most) }
     ensures node_bound { IsTrue result → missing ≤ most }
@@ -169,12 +169,12 @@ fn is_kept(following: bool, count: usize, missing: usize, most: usize) -> bool
     (!following || count > 0) && missing <= most
 }
 
-/// Appends the row that begins at `wanted.start`, after the container prefixes of its line, to the innermost open
-/// node. Fills it with empty cells if it has too few, and adds their number to that of `table`. Returns the end of the
+/// Appends the row that begins at `wanted.start`, after the container prefixes of its line, to the innermost open node.
+/// Inserts empty cells at its end if it has too few, and adds their number to that of `table`. Returns the end of the
 /// row and its index. Returns `None` and appends nothing if the row has no cell and is not the table's first, or if
-/// more than 262,144 cells would be filled in. Adds the texts that tokens name to `allocs`, also those of a row that
-/// is not appended. The brace contexts of `table` become those after the row's cells in either case. Fails only if an
-/// allocation fails (GFM 4.10).
+/// more than 262,144 cells would be inserted into the table. Adds the texts that tokens name to `allocs`, also those of
+/// a row that is not appended. The brace contexts of `table` become those after the row's cells in either case. Fails
+/// only if an allocation fails (GFM 4.10).
 pub fn parse_table_row_inner(
     source: &Source<'_>,
     tree: &mut Tree<Item>,

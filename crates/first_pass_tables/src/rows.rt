@@ -143,8 +143,8 @@ pub struct TableRows {
 /// context is open before the header row; the rows after it begin with those that it leaves. Fails only if an
 /// allocation fails (GFM 4.10).
 ///
-/// Each row then has as many cells as the table has columns. At most 262,144 cells are filled in, or as many as are
-/// filled into the header row if these are more. With tables, none is filled into that row if the line at
+/// Each row then has as many cells as the table has columns. At most 262,144 cells are inserted, or as many as are
+/// inserted into the header row if these are more. With tables, none is inserted into that row if the line at
 /// `head_start`, as a header row, has at least as many columns (this project).
 pub fn parse_table(
     source: &Source<'_>,

@@ -73,7 +73,7 @@ fn nodes_are_few(rt: HostRuntime) -> Result<(), Fail> {
     nodes[0] = node(0, 0, 1, ItemBody::Root);
     assert!(rt; find_breach(rt.alloc(), "a", &nodes[..5])? == None);
     assert!(rt; find_breach(rt.alloc(), "a", &nodes)? == breach(0, Flaw::TooMany));
-    // A cell that is filled into a row doesn't count; an empty cell of the head does.
+    // A cell that is inserted into a row doesn't count; an empty cell of the head does.
     nodes[3] = node(1, 0, 1, ItemBody::Table(AlignmentIndex(0)));
     nodes[4] = node(2, 0, 1, ItemBody::TableRow);
     nodes[5] = node(3, 1, 1, ItemBody::TableCell);

@@ -43,8 +43,7 @@ fn containers_are_nested(rt: HostRuntime) -> Result<(), Fail> {
 fn nodes_are_counted(rt: HostRuntime) -> Result<(), Fail> {
     let (tree, _allocs) = run_first_pass(rt.alloc(), "", Options::empty())?;
     assert_eq!(rt; tree.node_count(), 1);
-    // The root, the table, the head with two cells, the row with two, and a text in each cell except the filled-in
-    // one.
+    // The root, the table, the head with two cells, the row with two, and a text in each cell except the inserted one.
     let (tree, _allocs) = run_first_pass(rt.alloc(), "a|b\n-|-\n1", Options::ENABLE_TABLES)?;
     assert_eq!(rt; tree.node_count(), 11);
     Ok(())

@@ -112,8 +112,8 @@ fn long_paragraphs_and_tables(rt: HostRuntime) -> Result<(), Fail> {
     ];
     assert!(rt; count(rt.alloc(), columns, Options::ENABLE_TABLES)? == (400_004, 0));
     // The root, the table, the head, and its 513 cells with a text each. Then 512 rows of 513 cells and one text,
-    // which fill in as many cells as are permitted. The last line lacks one cell, and is a paragraph with a text.
-    let filled: &[(&str, usize)] = &[
+    // with as many inserted cells as are permitted. The last line lacks one cell, and is a paragraph with a text.
+    let lacking: &[(&str, usize)] = &[
         ("a|", 513),
         ("\n", 1),
         ("-|", 513),
@@ -121,7 +121,7 @@ fn long_paragraphs_and_tables(rt: HostRuntime) -> Result<(), Fail> {
         ("a\n", 512),
         ("a|", 512),
     ];
-    assert!(rt; count(rt.alloc(), filled, Options::ENABLE_TABLES)? == (264_711, 0));
+    assert!(rt; count(rt.alloc(), lacking, Options::ENABLE_TABLES)? == (264_711, 0));
     Ok(())
 }
 
@@ -148,8 +148,8 @@ fn wide(alloc: Global, columns: usize, lines: &[(&str, usize)]) -> Result<Tree<I
     Ok(tree)
 }
 
-// The number of filled-in cells.
-fn count_filled(tree: &Tree<Item>) -> usize {
+// The number of inserted cells.
+fn count_inserted(tree: &Tree<Item>) -> usize {
     let is_inserted = |node: &&(usize, Item)| {
         node.1.body == ItemBody::TableCell && node.1.start == node.1.end
     };
@@ -168,29 +168,29 @@ fn is_node(tree: &Tree<Item>, place: usize, depth: usize, item: Item) -> bool {
 #[test]
 fn tables_of_1025_columns(rt: HostRuntime) -> Result<(), Fail> {
     // The root, the table, the head, its cells with a text each, the rows with a text each, the paragraph and its
-    // text. Each of the 256 rows has one cell that is not filled in, and they fill in as many as are permitted.
+    // text. Each of the 256 rows has one written cell, and they have as many inserted ones as are permitted.
     let tree = wide(rt.alloc(), 1025, &[("a\n", 257)])?;
     assert_eq!(rt; tree.node_count(), 264_967);
-    assert_eq!(rt; count_filled(&tree), 262_144);
+    assert_eq!(rt; count_inserted(&tree), 262_144);
     let table = ItemBody::Table(AlignmentIndex(0));
     assert!(rt; is_node(&tree, 1, 1, item(0, 4614, table)));
     assert!(rt; is_node(&tree, 264_965, 1, item(4614, 4616, ItemBody::Paragraph)));
     // A row with all its cells in place of the paragraph.
     let tree = wide(rt.alloc(), 1025, &[("a\n", 256), ("a|", 1025), ("\n", 1)])?;
     assert_eq!(rt; tree.node_count(), 267_016);
-    assert_eq!(rt; count_filled(&tree), 262_144);
+    assert_eq!(rt; count_inserted(&tree), 262_144);
     assert!(rt; is_node(&tree, 1, 1, item(0, 6665, table)));
     assert!(rt; is_node(&tree, 264_965, 2, item(4614, 6665, ItemBody::TableRow)));
     Ok(())
 }
 
-// The first 262 of 300 lines are rows, and fill in 999 cells each; the next one would exceed the limit. The others are
+// The first 262 of 300 lines are rows with 999 inserted cells each; the next one would exceed the limit. The others are
 // a paragraph of 38 texts with breaks between them.
 #[test]
 fn a_table_of_1000_columns(rt: HostRuntime) -> Result<(), Fail> {
     let tree = wide(rt.alloc(), 1000, &[("a\n", 300)])?;
     assert_eq!(rt; tree.node_count(), 264_603);
-    assert_eq!(rt; count_filled(&tree), 261_738);
+    assert_eq!(rt; count_inserted(&tree), 261_738);
     let table = ItemBody::Table(AlignmentIndex(0));
     assert!(rt; is_node(&tree, 1, 1, item(0, 4526, table)));
     assert!(rt; is_node(&tree, 264_527, 1, item(4526, 4602, ItemBody::Paragraph)));

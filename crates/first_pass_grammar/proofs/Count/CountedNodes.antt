@@ -121,7 +121,7 @@ cell_next cell start x is at = (let row = cell_no_row x.body is in rw (row, is) 
 cell_again : (start : ℕ) (x : Item) → is_cell x.body ≡ true → x.start ≡ start → is_inserted_after (Some start) x ≡ true
 cell_again start x is at = (let same = eq-eqb x.start start at in rw (is, same) refl)
 
--- cells that all start where the cell before them starts count nothing, so the cells that a row is filled with count
+-- cells that all start where the cell before them starts count nothing, so the cells that are inserted into a row count
 -- at most one
 own_refilled : (start : ℕ) (nodes : List (ℕ × Item)) → AreCellsAt start nodes → own (Some start) nodes ≡ 0
 unfolding own AreCellsAt

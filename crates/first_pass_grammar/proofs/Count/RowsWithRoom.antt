@@ -1,4 +1,4 @@
--- The rows of a table are found by a count that falls: how many more cells they may be filled with.
+-- The rows of a table are found by a count that falls: how many more cells may be inserted into them.
 use Rattle.std.proofs.Common.{◌≡◌, ◌⊎◌, inl, inr, ℕ, ◌-◌, ◌<◌, ◌≤◌, ◌&&◌, Bool, true, false, nat_lt, nat_le, List, [], ◌∷◌, ◌++◌, length, None, refl, sym, ap}
 use Rattle.std.proofs.Common.{subst, arith}
 use Rattle.std.proofs.lemmas.Bool.{and_parts, leb-true}
@@ -11,7 +11,7 @@ use Rattle.first_pass_grammar.specs.Leaves.{Document, around}
 use Rattle.first_pass_grammar.specs.Tables.{filled, row_block, row_text, Taken, taking, FoundRow, HasCells, braces_after_rows, TakesRows, all_inserted}
 use Rattle.first_pass_grammar.specs.Tables.{TableSoFar, table_so_far, with_rows, EndRows, row_blocks, AreRows}
 
--- a line with these cells is a row if it has a cell and needs no more filled cells than allowed
+-- a line with these cells is a row if it has a cell and needs no more inserted cells than allowed
 abbrev pub is_row : TableSoFar → List (List (ℕ × Item)) → Bool
 is_row table cells = nat_lt 0 (length cells) && nat_le (filled table.columns cells) table.room
 
@@ -19,7 +19,7 @@ is_row table cells = nat_lt 0 (length cells) && nat_le (filled table.columns cel
 abbrev pub with_row : TableSoFar → FoundRow → TableSoFar
 with_row table row = table_so_far table.columns (table.room - filled table.columns row.cells) row.after
 
--- The rows of a table among lines, up to the first line that is no row; the number of filled cells that are allowed
+-- The rows of a table among lines, up to the first line that is no row; the number of inserted cells that are allowed
 -- falls with each row.
 unfoldable pub RowsWithRoom : Document → List Container → TableSoFar → List Place → Taken → Type 0
 RowsWithRoom d path table [] t = t ≡ taking [] []
@@ -31,7 +31,7 @@ RowsWithRoom d path table (line ∷ lines) t =
     × (more : Taken) × RowsWithRoom d path (with_row table row) lines more
     × (t ≡ taking (row_block TableRow table.columns row.start row.cells row.row_end ++ more.items) more.left))))
 
--- a row has a cell, and its filled cells are allowed; otherwise it has no cell, or needs more filled cells than
+-- a row has a cell, and its inserted cells are allowed; otherwise it has no cell, or needs more inserted cells than
 -- allowed
 row_parts : (table : TableSoFar) (cells : List (List (ℕ × Item))) → is_row table cells ≡ true
     → (0 < length cells) × (filled table.columns cells ≤ table.room)
@@ -43,7 +43,7 @@ row_parts table cells h =
 row_of : (table : TableSoFar) (cells : List (List (ℕ × Item))) → 0 < length cells → filled table.columns cells ≤ table.room → is_row table cells ≡ true
 row_of table cells some node_bound = grind (arith, nat_tests)
 
--- the number of filled cells that are allowed in a table before any is filled in
+-- the number of inserted cells that are allowed in a table before any is inserted
 all_room : (table : TableSoFar) → table_so_far table.columns (table.room - 0) table.braces ≡ table
 all_room table =
     let room : table.room - 0 ≡ table.room = omega arith in

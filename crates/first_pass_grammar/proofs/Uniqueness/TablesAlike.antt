@@ -85,7 +85,7 @@ one_found d n path line before row other h k =
     (subst (λ z. AreCells (with_names d n) (spot z before) other.cells (spot other.row_end other.after)) (sym begins) k.are_cells) in
     (c.0, begins, ap (λ (z : Spot). z.at) c.1, ap (λ (z : Spot). z.braces) c.1)
 
--- lists with as many cells are both rows or neither, and need as many filled cells
+-- lists with as many cells are both rows or neither, and need as many inserted cells
 same_row : (table : TableSoFar) (m n : Names) (cells cells' : List (List (ℕ × Item))) → AlikeBlocks m n cells cells'
     → is_row table cells ≡ is_row table cells'
 same_row table m n cells cells' are = ap (λ (k : ℕ). nat_lt 0 k && nat_le (table.columns - k) table.room) (as_many m n cells cells' are)

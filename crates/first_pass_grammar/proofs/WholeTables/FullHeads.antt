@@ -1,4 +1,4 @@
--- The header row of a table is filled with no cells.
+-- No cell is inserted into the header row of a table.
 use Rattle.std.proofs.Common.{◌≡◌, ℕ, ◌-◌, ◌==◌, ◌&&◌, not, Bool, true, false, List, length}
 use Rattle.std.proofs.Common.{Option, Some, None, refl, sym, ap, ◌∙◌, arith, if◌then◌else◌}
 use Rattle.std.specs.Option.{option_and_then}
@@ -36,7 +36,7 @@ headed_by true true o alignments e = (refl, e)
 headed_by true false o alignments e = absurd (none-some alignments e)
 headed_by false s o alignments e = absurd (none-some alignments e)
 
--- A header row is filled with no cells.
+-- No cell is inserted into a header row.
 pub head_is_full : (d : Document) (path : List Container) (p : Place) (alignments : List Alignment) (cells : List (List (ℕ × Item))) (to : Spot) → IsAt d.text p
     → headed_table (around d path) p.rest.left ≡ Some alignments → AreCells d (spot (offset p) no_braces) cells to → filled (length alignments) cells ≡ 0
 unfolding headed_table table_at

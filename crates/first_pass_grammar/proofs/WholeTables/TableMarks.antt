@@ -1,4 +1,4 @@
--- The marks of a table's nodes: each row has as many cells as there are columns, and the number of filled cells is
+-- The marks of a table's nodes: each row has as many cells as there are columns, and the number of inserted cells is
 -- limited.
 use Rattle.std.proofs.Common.{◌≡◌, inl, inr, ℕ, zero, suc, ◌+◌, ◌-◌, ◌<◌, ◌≤◌, ◌==◌, nat_lt, nat_le, Bool, true, false, List, ◌∷◌, ◌++◌, length, map, take}
 use Rattle.std.proofs.Common.{[]}
@@ -292,7 +292,7 @@ filled_shows : (names : Names) («end» : ℕ) → marks names (cell_block «end
 unfolding marks
 filled_shows names end = refl
 
--- the marks of these nodes are those of a row: its end, and as many cells as columns, of which so many filled ones
+-- the marks of these nodes are those of a row: its end, and as many cells as columns, of which so many inserted ones
 -- start at its end
 abbrev pub ShowsRow : Names → ℕ → ℕ → ℕ → List (ℕ × Item) → Type 0
 ShowsRow names columns «end» many items =
@@ -325,7 +325,7 @@ row_shows d body columns p cells to own are =
       omega arith,
     )
 
--- the marks of these nodes are those of the rows of a table body with so many columns, and at most so many filled
+-- the marks of these nodes are those of the rows of a table body with so many columns, and at most so many inserted
 -- cells
 abbrev pub ShowRows : Names → ℕ → ℕ → List (ℕ × Item) → Type 0
 ShowRows names columns most items = (rows : List RowCells) × (marks names items ≡ row_marks 0 rows) × HaveCells columns rows × (filled_in rows ≤ most)
@@ -364,7 +364,7 @@ pub rows_show : (d : Document) (path : List Container) (table : TableSoFar) (lin
     → ShowRows d.names table.columns table.room t.items
 rows_show d path table lines t h = counted_show d path table lines t (counted d path table lines t h)
 
--- The marks of a table are those of one table, which is whole if its header row needs no more filled cells than
+-- The marks of a table are those of one table, which is whole if its header row needs no more inserted cells than
 -- allowed.
 pub table_shows : (d : Document) (path : List Container) (p : Place) (alignments : List Alignment) (lines : List Place) (t : Taken)
     → (h : IsTable d path p alignments lines t) → filled (length alignments) h.cells ≤ most_filled → AreWholeTables d.names t.items

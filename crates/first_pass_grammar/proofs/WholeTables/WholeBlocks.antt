@@ -63,7 +63,7 @@ pub whole_none : (names : Names) (nodes : List (ℕ × Item)) → marks names no
 unfolding AreWholeTables table_marks AreFull
 whole_none names nodes h = ([], h, tt)
 
--- In each table the header row needs no more filled cells than allowed.
+-- In each table the header row needs no more inserted cells than allowed.
 abbrev pub HeadsAreFull : Document → Type 0
 HeadsAreFull d =
     (path : List Container) (p : Place) (alignments : List Alignment) (lines : List Place) (t : Taken) → IsAt d.text p

@@ -15,7 +15,7 @@ use Rattle.first_pass_tables.proofs.RowsAdded.{row_between}
 use Rattle.first_pass_tables.proofs.row.parse_table_row_inner.Goals as goal
 use Rattle.first_pass_tables.proofs.row.parse_table_row_inner.Goals.{After-is_kept, In_ok-end}
 
--- the test of a row, with the number of cells that may be filled in
+-- the test of a row, with the number of cells that may be inserted
 kept_by : (kept following : Bool) (count missing some : ℕ) {most : ℕ} → kept ≡ ((not following || nat_lt 0 count) && nat_le missing some) → some ≡ most
     → kept ≡ ((not following || nat_lt 0 count) && nat_le missing most)
 kept_by kept following count missing some value same = value ∙ ap (λ n. (not following || nat_lt 0 count) && nat_le missing n) same
