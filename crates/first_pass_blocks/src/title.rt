@@ -52,7 +52,7 @@ impl<'a> BlockPass<'a> {
         )?;
         self.state.tree.recall_forest();
         if is_paragraph_last(&self.state.tree) {
-            self.state.keep_possible_title(end);
+            self.state.begin_title(end);
         } else {
             self.state.leave_definitions(end);
         }

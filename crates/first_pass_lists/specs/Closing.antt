@@ -167,21 +167,21 @@ gap_tree f (ix ∷ outer ∷ rest) = loosened_at f outer
 
 -- If a counting blank line is before a block, and the block is directly in an item, the list of that item becomes
 -- loose. The blank line then no longer counts.
-abbrev pub gap_loosened : PassState → PassState
-gap_loosened r = if r.blank then record r { tree = gap_tree r.tree r.tree.spine; blank = false } else r
+abbrev pub gap_marked : PassState → PassState
+gap_marked r = if r.blank then record r { tree = gap_tree r.tree r.tree.spine; blank = false } else r
 
 -- The current node, right after a definition, turned out to be a heading or a table. The definition list is closed at
 -- an offset, and the current node is moved out of it. Suppose that a counting blank line is before the current node,
 -- and that the definition list is directly in an item of another list. Then that other list becomes loose
 -- (this project).
 unfoldable pub definitions_left : ℕ → PassState → PassState
-definitions_left e r = gap_loosened (definitions_closed e r)
+definitions_left e r = gap_marked (definitions_closed e r)
 
 -- The state when a new block is added. First an empty item is closed. If the innermost open node is then a list, it is
 -- closed at an offset. If a counting blank line is before a block directly in an item, the list of that item becomes
 -- loose.
 unfoldable pub list_finished : ℕ → PassState → PassState
-list_finished e r = gap_loosened (list_closed e (empty_item_closed r))
+list_finished e r = gap_marked (list_closed e (empty_item_closed r))
 
 -- the innermost open node becomes loose, if it is a list
 abbrev pub loosened_top : Forest Item → List TreeIndex → Forest Item
@@ -257,7 +257,7 @@ definition_begun start indent r = begun start (DefinitionListDefinition indent) 
 -- is closed there too. If a counting blank line is before a footnote definition directly in an item, the list of that
 -- item becomes loose (this project).
 unfoldable pub footnote_begun : ℕ → CowIndex → PassState → PassState
-footnote_begun start label r = begun start (FootnoteDefinitionBody label) (gap_loosened (footnote_left start (list_closed start (empty_item_closed r))))
+footnote_begun start label r = begun start (FootnoteDefinitionBody label) (gap_marked (footnote_left start (list_closed start (empty_item_closed r))))
 
 -- The state in which an item with this byte and number can be opened at an offset. First an empty item is closed. If
 -- the innermost open node is then a list with this byte, it continues. Otherwise what a new block ends is closed, and

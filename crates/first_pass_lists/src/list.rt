@@ -7,7 +7,7 @@
 //! Otherwise it comes after that list (this project).
 
 ghost use Rattle.std.specs.Prelude.{◌≡◌, ◌==◌, ◌<◌, length, None, true, IsSome, slice_get, OnOk, IfSome, bit_and, if◌then◌else◌};
-ghost use Rattle.first_pass_lists.specs.Closing.{loosened_at, top_body, is_list, is_item, is_list_of, popped_at, popped, empty_item_closed, list_closed, footnote_left, old_footnote_finished, footnote_begun, with_tree, gap_loosened, list_finished, list_kept, list_continued, begun, blank_read, is_footnote};
+ghost use Rattle.first_pass_lists.specs.Closing.{loosened_at, top_body, is_list, is_item, is_list_of, popped_at, popped, empty_item_closed, list_closed, footnote_left, old_footnote_finished, footnote_begun, with_tree, gap_marked, list_finished, list_kept, list_continued, begun, blank_read, is_footnote};
 ghost use Rattle.first_pass_lists.specs.Closing.{is_definition_list, top_end, possible_title, title_closed, title_begun, definitions_closed, definitions_left, definitions_opened, definition_begun, may_begin_definition, is_after_definition};
 ghost use Rattle.first_pass_tree.specs.Tight.{tight_items};
 ghost use Rattle.first_pass_open.specs.OpenBlock.{closed_by};
@@ -178,7 +178,7 @@ impl PassState {
     /// `end`. The definition list, the innermost open node, records this end. A blank line before the paragraph no
     /// longer counts (this project).
     #[tactic(auto, using(first_pass_open::proofs::BlockLemmas::open_node_in), unfolding(crate::specs::Closing::title_begun))]
-    pub fn keep_possible_title(&mut self, end: usize)
+    pub fn begin_title(&mut self, end: usize)
         ensures { self.new ≡ title_begun end self.old }
     {
         self.tree.recall_forest();
@@ -377,7 +377,7 @@ impl PassState {
     // becomes loose. The blank line then no longer counts.
     #[tactic(auto, using(crate::proofs::WithinLemmas::second_within))]
     fn mark_gap(&mut self)
-        ensures { self.new ≡ gap_loosened self.old }
+        ensures { self.new ≡ gap_marked self.old }
     {
         if self.blank {
             self.tree.recall_forest();

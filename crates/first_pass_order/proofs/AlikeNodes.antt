@@ -17,7 +17,7 @@ use Rattle.first_pass_grammar.specs.Derivation.{list_flags}
 use Rattle.first_pass_grammar.specs.Counting.{is_row, is_cell}
 use Rattle.first_pass_grammar.specs.Names.{Names, Index, index_of}
 use Rattle.first_pass_grammar.specs.WholeTables.{Mark, shown, may_be_title}
-use Rattle.first_pass_lists.specs.Closing.{is_list, is_item, top_body, loosened_by, loosened_at, popped_by, gap_tree, gap_loosened, loosened_top, list_kept}
+use Rattle.first_pass_lists.specs.Closing.{is_list, is_item, top_body, loosened_by, loosened_at, popped_by, gap_tree, gap_marked, loosened_top, list_kept}
 use Rattle.first_pass_lists.specs.Closing.{emptied}
 use Rattle.first_pass_lists.specs.Closing.{emptied_definition, blank_read_by, blank_read}
 use Rattle.first_pass_lists.specs.declared.state.PassState.{PassState}
@@ -157,7 +157,7 @@ gap_like f [] = like_itself f
 gap_like f (ix ∷ []) = like_itself f
 gap_like f (ix ∷ outer ∷ rest) = like_loosened f outer
 
-pub like_noted : (r : PassState) → LooksAlike r.tree (gap_loosened r).tree
+pub like_noted : (r : PassState) → LooksAlike r.tree (gap_marked r).tree
 like_noted r = cond_both r.blank (record r { tree = gap_tree r.tree r.tree.spine; blank = false }) r (λ (q : PassState). LooksAlike r.tree q.tree)
     (λ b. gap_like r.tree r.tree.spine) (λ b. like_itself r.tree)
 

@@ -23,7 +23,7 @@ use Rattle.first_pass_grammar.proofs.Order.Orders.{ended_at, extents-append, len
 use Rattle.first_pass_grammar.proofs.Order.Orders.{length-places, below_ended, extents-ended, between-any}
 use Rattle.first_pass_order.proofs.RowSplits.{last_child, fits_open_ends}
 use Rattle.first_pass_open.specs.Between.{AddsBetween}
-use Rattle.first_pass_lists.specs.Closing.{with_tree, gap_loosened, top_body, current_body, top_end}
+use Rattle.first_pass_lists.specs.Closing.{with_tree, gap_marked, top_body, current_body, top_end}
 use Rattle.first_pass_lists.specs.Closing.{definitions_closed, possible_title, definitions_left, title_begun, is_after_definition}
 use Rattle.first_pass_lists.specs.Closing.{is_definition_list as is_definitions}
 use Rattle.first_pass_lists.specs.declared.state.PassState.{PassState}
@@ -32,7 +32,7 @@ use Rattle.first_pass_order.proofs.Nests.{classes_body, classes_ended, nested_sa
 use Rattle.first_pass_order.proofs.Nests.{title_there, definitions_closed_outside, noted_outside, outside_closes, nested_front, top_front}
 use Rattle.first_pass_order.proofs.OrderLemmas.{ordered_same, ordered_added, ordered_none}
 use Rattle.first_pass_order.proofs.OrderLemmas.{LiesIn, lies_in, extents-body}
-use Rattle.first_pass_order.proofs.PopOrder.{ordered_gap_loosened, noted_empty}
+use Rattle.first_pass_order.proofs.PopOrder.{ordered_gap_marked, noted_empty}
 use Rattle.first_pass_order.proofs.AlikeNodes.{LooksAlike, like_itself}
 use Rattle.first_pass_order.proofs.PropertyKept.{IsLeft, is_left}
 use Rattle.first_pass_order.proofs.LeftOrder.{extents-end, modify-front, end_there, left_ordered}
@@ -325,8 +325,8 @@ module _ (text : List ℕ) (r : PassState) (read : Forest Item) (at start next :
       let top = ap is_definitions (top_front r.tree.nodes (at_depth (length r.tree.spine + 1) items) r.tree.spine closes.nested) ∙ list_top in
       let outside = noted_outside shut (definitions_closed_outside e a more top) in
       subst (λ (z : Forest Item). IsReadTo text (definitions_left e (with_tree r z)) next) (sym the_block.tree_is) (
-        ordered_none text (gap_loosened shut) next (noted_empty shut ∙ closed_none e a none) within (ordered_gap_loosened text shut next closed),
-        outside_closes text (gap_loosened shut) next outside,
+        ordered_none text (gap_marked shut) next (noted_empty shut ∙ closed_none e a none) within (ordered_gap_marked text shut next closed),
+        outside_closes text (gap_marked shut) next outside,
       )
 
   title_begun_read : current_body read ≡ Some Paragraph → IsReadTo text (title_begun the_definition.definition.«end» (with_tree r read)) next

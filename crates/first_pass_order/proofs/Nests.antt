@@ -24,7 +24,7 @@ use Rattle.first_pass_lists.specs.Closing.{state_with, with_tree, loosened_by, l
 use Rattle.first_pass_lists.specs.Closing.{is_footnote}
 use Rattle.first_pass_lists.specs.Closing.{popped_at, current_moved, definitions_closed, title_by, possible_title, title_closed, top_end}
 use Rattle.first_pass_lists.specs.Closing.{popped_after}
-use Rattle.first_pass_lists.specs.Closing.{popped, empty_item_closed_by, empty_item_closed, list_closed, footnote_left, gap_loosened, list_finished}
+use Rattle.first_pass_lists.specs.Closing.{popped, empty_item_closed_by, empty_item_closed, list_closed, footnote_left, gap_marked, list_finished}
 use Rattle.first_pass_lists.specs.Closing.{loosened_top, list_kept, begun, footnote_begun, list_continued, blank_read_by}
 use Rattle.first_pass_lists.specs.Closing.{blank_read}
 use Rattle.first_pass_lists.specs.declared.state.PassState.{PassState}
@@ -451,8 +451,8 @@ like_list f g a = ap (λ s. is_list (top_of g.nodes s)) a.spine ∙ top_list_sam
 pub like_item : (f g : Forest Item) → LooksAlike f g → is_item (top_body g) ≡ is_item (top_body f)
 like_item f g a = ap (λ s. is_item (top_of g.nodes s)) a.spine ∙ top_item_same f.nodes g.nodes f.spine (classes_alike f.nodes g.nodes a.nodes)
 
-pub noted_outside : (r : PassState) → IsOutside r → IsOutside (gap_loosened r)
-noted_outside r h = (like_nested r.tree (gap_loosened r).tree (like_noted r) h.0, like_list r.tree (gap_loosened r).tree (like_noted r) ∙ h.1)
+pub noted_outside : (r : PassState) → IsOutside r → IsOutside (gap_marked r)
+noted_outside r h = (like_nested r.tree (gap_marked r).tree (like_noted r) h.0, like_list r.tree (gap_marked r).tree (like_noted r) ∙ h.1)
 
 -- before a block that ends a list
 pub list_finished_outside : (e : ℕ) (r : PassState) → AreNested r.tree.nodes r.tree.spine → IsOutside (list_finished e r)
@@ -540,7 +540,7 @@ unfolding footnote_begun
 footnote_begun_settled start index r h =
     let s : PassState = empty_item_closed r in
     let q : PassState = footnote_left start (list_closed start s) in
-    begun_outside start (FootnoteDefinitionBody index) (gap_loosened q) refl
+    begun_outside start (FootnoteDefinitionBody index) (gap_marked q) refl
     (noted_outside q (footnote_left_outside start (list_closed start s) (list_left_outside start s (empty_item_closed_nested r h))))
 
 -- the marker of a task, and a block that is added

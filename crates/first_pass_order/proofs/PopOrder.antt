@@ -14,7 +14,7 @@ use Rattle.first_pass_open.specs.OpenBlock.{closed_by}
 use Rattle.first_pass_lists.specs.Closing.{with_tree, top_body, is_list, is_item, popped_at, current_moved}
 use Rattle.first_pass_lists.specs.Closing.{definitions_closed, top_end, possible_title, title_closed, popped_after, popped, empty_item_closed}
 use Rattle.first_pass_lists.specs.Closing.{gap_tree, list_finished, list_kept, list_continued}
-use Rattle.first_pass_lists.specs.Closing.{blank_read_by, blank_read, gap_loosened, footnote_begun}
+use Rattle.first_pass_lists.specs.Closing.{blank_read_by, blank_read, gap_marked, footnote_begun}
 use Rattle.first_pass_items.specs.declared.item.CowIndex.{CowIndex}
 use Rattle.first_pass_lists.specs.declared.state.PassState.{PassState}
 use Rattle.first_pass_order.specs.Ordered.{reached, IsOrderedAt, EndsBeforeTitle, IsReadTo}
@@ -42,7 +42,7 @@ title_empty r title none =
     let g : Forest Item = with_body_at r.tree title Paragraph in
     empty_moved (popped_at (top_end r.tree) (with_tree r g) g.spine) g.current ∙ popped_at_none (top_end r.tree) (with_tree r g) g.spine none
 
-pub noted_empty : (r : PassState) → (gap_loosened r).begin_list_item ≡ r.begin_list_item
+pub noted_empty : (r : PassState) → (gap_marked r).begin_list_item ≡ r.begin_list_item
 noted_empty r =
     cond_both r.blank (record r { tree = gap_tree r.tree r.tree.spine; blank = false }) r (λ (q : PassState). q.begin_list_item ≡ r.begin_list_item)
     (λ b. refl) (λ b. refl)
@@ -98,8 +98,8 @@ empty_item_closed_closes text r at h title is =
     let l = empty_item_closed_leaves (order_kept text) at r (may_leave text r.tree at h) title is in
     record { before = l.before; ends = l.ends; row = l.row; last = l.last; fits = l.fits }
 
-pub ordered_gap_loosened : (text : List ℕ) (r : PassState) (a : ℕ) → IsOrderedTo text r.tree a → IsOrderedTo text (gap_loosened r).tree a
-ordered_gap_loosened text r a h = noted_keeps (order_kept text) a 0 r h
+pub ordered_gap_marked : (text : List ℕ) (r : PassState) (a : ℕ) → IsOrderedTo text r.tree a → IsOrderedTo text (gap_marked r).tree a
+ordered_gap_marked text r a h = noted_keeps (order_kept text) a 0 r h
 
 -- a list that continues
 pub ordered_list_kept : (text : List ℕ) (r : PassState) (a : ℕ) → IsOrderedTo text r.tree a → IsOrderedTo text (list_kept r).tree a

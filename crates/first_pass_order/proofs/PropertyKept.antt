@@ -16,7 +16,7 @@ use Rattle.first_pass_grammar.specs.Derivation.{list_flags}
 use Rattle.first_pass_open.specs.OpenBlock.{closed_by, opened_block}
 use Rattle.first_pass_lists.specs.Closing.{with_tree, top_body, is_list, is_list_of, is_item, is_footnote, is_definition_list, popped_at}
 use Rattle.first_pass_lists.specs.Closing.{current_moved, definitions_closed}
-use Rattle.first_pass_lists.specs.Closing.{top_end, possible_title, title_closed, popped_after, popped, empty_item_closed_by, empty_item_closed, list_closed, gap_loosened}
+use Rattle.first_pass_lists.specs.Closing.{top_end, possible_title, title_closed, popped_after, popped, empty_item_closed_by, empty_item_closed, list_closed, gap_marked}
 use Rattle.first_pass_lists.specs.Closing.{list_finished, list_kept, begun, list_continued, footnote_left, footnote_begun, blank_read}
 use Rattle.first_pass_lists.specs.declared.state.PassState.{PassState}
 use Rattle.first_pass_lists.proofs.MovedLemmas.{closed_current}
@@ -188,8 +188,8 @@ module _ (p : Property) where
   popped_here b e k r h leaves item goes ends = popped_with b e k r r.begin_list_item item leaves goes ends h.holds
 
   -- a blank line is noted, a list continues, or a blank line is read
-  pub noted_keeps : (a k : ℕ) (r : PassState) → p.Holds a k r.tree → p.Holds a k (gap_loosened r).tree
-  noted_keeps a k r h = p.like a k r.tree (gap_loosened r).tree (like_noted r) h
+  pub noted_keeps : (a k : ℕ) (r : PassState) → p.Holds a k r.tree → p.Holds a k (gap_marked r).tree
+  noted_keeps a k r h = p.like a k r.tree (gap_marked r).tree (like_noted r) h
 
   pub kept_keeps : (a k : ℕ) (r : PassState) → p.Holds a k r.tree → p.Holds a k (list_kept r).tree
   kept_keeps a k r h = p.like a k r.tree (list_kept r).tree (like_kept r) h
@@ -259,7 +259,7 @@ module _ (p : Property) where
       let s : PassState = empty_item_closed r in
       let l : PassState = list_closed start s in
       let q : PassState = footnote_left start l in
-      p.opened start start k (gap_loosened q).tree (FootnoteDefinitionBody index) there starts opens
+      p.opened start start k (gap_marked q).tree (FootnoteDefinitionBody index) there starts opens
       (noted_keeps start k q
       (left_by start start start k l (is_footnote (top_body l.tree)) (λ note. (note_leaves start l.tree note, there)) starts there there
       (left_by a start start k s (is_list (top_body s.tree)) (λ list. (empty_item_closed_leaves a r leaves, goes)) starts there goes

@@ -29,7 +29,7 @@ use Rattle.first_pass_completion.proofs.TitleNodes.{reflagged}
 use Rattle.first_pass_completion.proofs.Flags.{IsListAround, completes-reflag}
 use Rattle.first_pass_completion.proofs.SilentNodes.{from_modified}
 use Rattle.first_pass_lists.specs.Closing.{loosened_by, loosened_at, top_body, top_end, is_definition_list, is_list, possible_title, popped}
-use Rattle.first_pass_lists.specs.Closing.{empty_item_closed_by, empty_item_closed, list_closed, gap_tree, gap_loosened, list_finished}
+use Rattle.first_pass_lists.specs.Closing.{empty_item_closed_by, empty_item_closed, list_closed, gap_tree, gap_marked, list_finished}
 use Rattle.first_pass_lists.specs.declared.state.PassState.{PassState}
 use Rattle.first_pass_open.specs.Path.{container_of, with_container, path_in, path_of}
 use Rattle.first_pass_ready.specs.State.{frame_of, frame_at, is_footnote_in_another, closed_elsewhere, closed_in, AreOpen, ReadyAt}
@@ -532,7 +532,7 @@ ready_finished d defined r p lines at opening may begins opens away =
     let left' : LeftPlain d defined l.tree l.blank p lines opening = subst (λ t. LeftPlain d defined l.tree t p lines opening) (sym kept.0) left in
     let done = noted_as d defined l p lines opening l.blank refl (kept.1 may.none) (subst (λ z. OpensOther d z p opening) (sym path) begins) left' in
     let same : empty_item_closed_by r r.begin_list_item ≡ r = ap (empty_item_closed_by r) may.none in
-    subst (λ q. Finished d defined r (gap_loosened (list_closed at q)) p lines opening) (sym same)
+    subst (λ q. Finished d defined r (gap_marked (list_closed at q)) p lines opening) (sym same)
     (record { ready = done.ready; opens = done.opens; path = done.path ∙ path; blank = done.blank; none = done.none })
 
 path_noted : (options : Options) (t : Bool) (r : PassState)
@@ -546,5 +546,5 @@ unfolding list_finished empty_item_closed
 path_finished options at r none =
     let same : empty_item_closed_by r r.begin_list_item ≡ r = ap (empty_item_closed_by r) none in
     let l : PassState = list_closed at r in
-    subst (λ q. path_of options (gap_loosened (list_closed at q)).tree ≡ path_of options r.tree) (sym same)
+    subst (λ q. path_of options (gap_marked (list_closed at q)).tree ≡ path_of options r.tree) (sym same)
     (path_noted options l.blank l ∙ path_left options r at r.tree.spine (top_body r.tree) refl refl)

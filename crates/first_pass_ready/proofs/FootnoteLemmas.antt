@@ -38,7 +38,7 @@ use Rattle.first_pass_grammar.proofs.Sequences.FootnoteHeads.{head_around}
 use Rattle.first_pass_open.specs.OpenBlock.{closed_by}
 use Rattle.first_pass_open.specs.Path.{container_of, with_container, path_in, path_of}
 use Rattle.first_pass_lists.specs.Closing.{top_body, top_end, is_list, is_footnote, possible_title, popped, empty_item_closed_by, empty_item_closed, list_closed}
-use Rattle.first_pass_lists.specs.Closing.{footnote_left, gap_loosened, begun, footnote_begun}
+use Rattle.first_pass_lists.specs.Closing.{footnote_left, gap_marked, begun, footnote_begun}
 use Rattle.first_pass_lists.specs.declared.state.PassState.{PassState}
 use Rattle.first_pass_ready.specs.State.{frame_of, AreOpen, closed_in, ReadyAt}
 use Rattle.first_pass_ready.proofs.ClosedIn.{items_no_container, definitions_no_container, top_in, level_of, open_level, title_is, closed_popped}
@@ -286,11 +286,11 @@ module _ (d : Document) (defined : Tables) (r : PassState) (p : Place) (lines : 
       let begins_it : OpensOther d (path_of d.options q.tree) p opening =
       record { stays = stays_outside d (path_of d.options q.tree) p o.out; block = tt; other = refl } in
       let done = noted_as d defined q p lines opening q.blank refl (o.none ∙ kept.1 none) begins_it now in
-      let g : PassState = gap_loosened q in
+      let g : PassState = gap_marked q in
       let out : in_footnote (path_of d.options g.tree) ≡ false = ap in_footnote done.path ∙ o.out in
       let begins : footnote_head_at (around d (path_of d.options g.tree)) p ≡ Some head = ap (λ z. footnote_head_at (around d z) p) done.path ∙ head_q in
       let open_it : NoteIsOpen d (with_footnote_label defined head.1) (begun start (FootnoteDefinitionBody index) g) there =
       record { ready = note_begun g.tree done.ready out begins; blank = done.blank; none = done.none } in
       subst (λ z. NoteIsOpen d (with_footnote_label defined head.1)
-      (begun start (FootnoteDefinitionBody index) (gap_loosened (footnote_left start (list_closed start z)))) there)
+      (begun start (FootnoteDefinitionBody index) (gap_marked (footnote_left start (list_closed start z)))) there)
       (sym same) open_it

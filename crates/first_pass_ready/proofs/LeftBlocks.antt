@@ -23,7 +23,7 @@ use Rattle.first_pass_grammar.proofs.Sequences.Tightening.{modify-append}
 use Rattle.first_pass_open.specs.OpenBlock.{closed_by}
 use Rattle.first_pass_open.proofs.PathLemmas.{AreIn, get_front, open_are_in}
 use Rattle.first_pass_lists.specs.Closing.{with_tree, loosened_by, top_body, is_definition_list, is_list, popped_by, popped_at, popped, popped_after}
-use Rattle.first_pass_lists.specs.Closing.{possible_title, is_after_definition, definitions_closed, definitions_left, gap_tree, gap_loosened, empty_item_closed_by}
+use Rattle.first_pass_lists.specs.Closing.{possible_title, is_after_definition, definitions_closed, definitions_left, gap_tree, gap_marked, empty_item_closed_by}
 use Rattle.first_pass_lists.specs.Closing.{empty_item_closed, list_closed, list_finished}
 use Rattle.first_pass_lists.specs.declared.state.PassState.{PassState}
 use Rattle.first_pass_ready.proofs.PopLemmas.{list_popped, list_spine}
@@ -231,21 +231,21 @@ noted_by q items true low = ap (λ (f : Forest Item). record q { tree = f; blank
 noted_by q items false low = refl
 
 noted_added : (q : PassState) (items : List (ℕ × Item)) → AreIn (length q.tree.nodes) q.tree.spine
-    → gap_loosened (with_tree q (added q.tree items)) ≡ with_tree (gap_loosened q) (added (gap_loosened q).tree items)
+    → gap_marked (with_tree q (added q.tree items)) ≡ with_tree (gap_marked q) (added (gap_marked q).tree items)
 noted_added q items low = noted_by q items q.blank low
 
 -- a new block right after a definition closes the list
 finished_is : (e : ℕ) (r : PassState) (ix : TreeIndex) (rest : List TreeIndex) (flags : ListFlags) → r.tree.spine ≡ ix ∷ rest
     → body_at r.tree.nodes ix.0 ≡ Some (DefinitionList flags) → possible_title r.tree ≡ None → r.begin_list_item ≡ None
-    → list_finished e r ≡ gap_loosened (with_tree r (list_popped r.tree e ix rest flags))
+    → list_finished e r ≡ gap_marked (with_tree r (list_popped r.tree e ix rest flags))
 unfolding list_finished empty_item_closed popped
 finished_is e r ix rest flags spine body none empty =
     let top : top_body r.tree ≡ Some (DefinitionList flags) =
     ap (λ (s : List TreeIndex). option_and_then (λ (ix : TreeIndex). body_at r.tree.nodes ix.0) (slice_get s 0)) spine ∙ body in
     let pop : popped e r ≡ with_tree r (list_popped r.tree e ix rest flags) =
     ap (popped_after e r) none ∙ ap (popped_at e r) spine ∙ pop_as r e ix rest flags body in
-    ap (λ q. gap_loosened (list_closed e q)) (ap (empty_item_closed_by r) empty)
-    ∙ ap (λ (t : Bool). gap_loosened (if t then popped e r else r)) (ap is_list top) ∙ ap gap_loosened pop
+    ap (λ q. gap_marked (list_closed e q)) (ap (empty_item_closed_by r) empty)
+    ∙ ap (λ (t : Bool). gap_marked (if t then popped e r else r)) (ap is_list top) ∙ ap gap_marked pop
 
 module _ (r : PassState) (items : List (ℕ × Item)) (e : ℕ) (ix : TreeIndex) (rest : List TreeIndex) (flags : ListFlags) (spine : r.tree.spine ≡ ix ∷ rest)
     (body : body_at r.tree.nodes ix.0 ≡ Some (DefinitionList flags)) (flat : NoParagraph items) (old : IsForest r.tree)
@@ -274,7 +274,7 @@ module _ (r : PassState) (items : List (ℕ × Item)) (e : ℕ) (ix : TreeIndex)
       let low : AreIn (length f.nodes) f.spine =
       subst (AreIn (length f.nodes)) (sym (list_spine r.tree e ix rest flags))
       (subst (λ n. AreIn n rest) (sym (closed_length r.tree items e ix rest flags spine flat are_in.0)) are_in.1) in
-      ap gap_loosened closed_left ∙ noted_added (with_tree r f) items low
+      ap gap_marked closed_left ∙ noted_added (with_tree r f) items low
       ∙ ap (λ (q : PassState). with_tree q (added q.tree items)) (sym (finished_is e r ix rest flags spine body none empty))
 
 -- a heading or a table right after a definition gives the same as if the list had ended before it

@@ -24,7 +24,7 @@ use Rattle.first_pass_open.proofs.FrontLemmas.{outer-all}
 use Rattle.first_pass_open.proofs.PathLemmas.{open_are_in, path_in-append}
 use Rattle.first_pass_open.proofs.PlaceLemmas.{after_keeps, line_start_end}
 use Rattle.first_pass_raw.proofs.RawOrder.{first_line}
-use Rattle.first_pass_lists.specs.Closing.{top_body, is_list, list_closed, empty_item_closed, gap_loosened, list_finished, blank_read}
+use Rattle.first_pass_lists.specs.Closing.{top_body, is_list, list_closed, empty_item_closed, gap_marked, list_finished, blank_read}
 use Rattle.first_pass_lists.specs.declared.state.PassState.{PassState}
 use Rattle.first_pass_order.specs.Ordered.{IsOrderedAt, IsHandedOn, IsOrderedFrom, AreNested, IsReadTo, IsReadFrom}
 use Rattle.first_pass_blocks.specs.Positions.{OrderedUpTo}
@@ -69,7 +69,7 @@ pub path_added : (options : Options) (f : Forest Item) (items : List (ℕ × Ite
 path_added options f items forest = path_in-append options f.nodes (at_depth (length f.spine + 1) items) f.spine (open_are_in f.nodes f.spine forest.opened)
 
 -- a new block leaves no counting blank line
-noted_blank : (r : PassState) (t : Bool) → r.blank ≡ t → (gap_loosened r).blank ≡ false
+noted_blank : (r : PassState) (t : Bool) → r.blank ≡ t → (gap_marked r).blank ≡ false
 noted_blank r true is = rw is refl
 noted_blank r false is = rw is refl
 

@@ -20,7 +20,7 @@ use Rattle.first_pass_names.specs.TableEntries.{tables_of, names_of}
 use Rattle.first_pass_names.proofs.NameLemmas.{extends_named, text_last}
 use Rattle.first_pass_open.specs.Path.{context_of}
 use Rattle.first_pass_open.proofs.PlaceLemmas.{all_keep}
-use Rattle.first_pass_lists.specs.Closing.{top_body, is_list, empty_item_closed, list_closed, footnote_left, gap_loosened, footnote_begun}
+use Rattle.first_pass_lists.specs.Closing.{top_body, is_list, empty_item_closed, list_closed, footnote_left, gap_marked, footnote_begun}
 use Rattle.first_pass_lists.specs.declared.state.PassState.{PassState}
 use Rattle.first_pass_blocks.specs.declared.state.BlockPass.{BlockPass}
 use Rattle.first_pass_ready.specs.State.{ReadyAt}
@@ -99,7 +99,7 @@ module _ (old new : BlockPass) (p q : Place) (head : ℕ × List ℕ) (is_at : I
   unfolding footnote_begun
   top =
       ap is_list (top_begun start (FootnoteDefinitionBody opened.index)
-      (gap_loosened (footnote_left start (list_closed start (empty_item_closed (state_of old))))))
+      (gap_marked (footnote_left start (list_closed start (empty_item_closed (state_of old))))))
 
   order_then : OrderedIn text (tree_of old) p → IsCharBoundary text q.line → OrderedIn text (tree_of new) q
   order_then ordered boundary =

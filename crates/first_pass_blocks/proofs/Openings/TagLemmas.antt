@@ -23,7 +23,7 @@ use Rattle.first_pass_grammar.specs.Skeleton.{Continues, Line, AtPlace, OnlyALea
 use Rattle.first_pass_grammar.specs.Completion.{lines_from, Closed, OtherClosed, ParagraphAt, DefinitionClosed, TitleAt, Frame, InContainer}
 use Rattle.first_pass_completion.proofs.Extending.{tail}
 use Rattle.first_pass_completion.proofs.Completions.{counted_after}
-use Rattle.first_pass_lists.specs.Closing.{top_body, is_list, popped, empty_item_closed_by, empty_item_closed, list_closed, gap_tree, gap_loosened, list_finished}
+use Rattle.first_pass_lists.specs.Closing.{top_body, is_list, popped, empty_item_closed_by, empty_item_closed, list_closed, gap_tree, gap_marked, list_finished}
 use Rattle.first_pass_lists.specs.declared.state.PassState.{PassState}
 use Rattle.first_pass_open.specs.Path.{path_of, context_of}
 use Rattle.first_pass_ready.specs.State.{frame_of, AreOpen, ReadyAt, Ready}
@@ -45,7 +45,7 @@ unfolding list_finished empty_item_closed
 finishes_nothing at r kind quote blank none =
     let item : empty_item_closed_by r r.begin_list_item ≡ r = ap (empty_item_closed_by r) none in
     let left : list_closed at r ≡ r = left_none at r (is_list (top_body r.tree)) (ap is_list quote) in
-    ap (λ q. gap_loosened (list_closed at q)) item ∙ ap gap_loosened left ∙ noted_none r (gap_tree r.tree r.tree.spine) r.blank blank
+    ap (λ q. gap_marked (list_closed at q)) item ∙ ap gap_marked left ∙ noted_none r (gap_tree r.tree r.tree.spine) r.blank blank
 
 -- a blank line directly in it does not count
 counts_quoted : (kind : Option BlockQuoteKind) (frames : List Frame) (closed : Closed)
