@@ -9,7 +9,7 @@ use Rattle.first_pass_grammar.specs.Derivation.{Tables, Derives}
 use Rattle.first_pass_grammar.specs.Completion.{NoList, Frame, last_of, Completion}
 use Rattle.first_pass_lists.specs.declared.state.PassState.{PassState}
 use Rattle.first_pass_open.specs.Path.{path_of}
-use Rattle.first_pass_ready.specs.State.{closed_in, emptied_top, AreOpen}
+use Rattle.first_pass_ready.specs.State.{closed_in, top_without_indent, AreOpen}
 
 -- Blocks complete the open nodes of a tree, from a place or from these lines on, and the text derives the resulting
 -- forest.
@@ -28,7 +28,7 @@ pub record CompletedAt (d : Document) (defined : Tables) (tree : Forest Item) (r
 -- the same for an innermost item or definition that is empty and whose marker's line ends at an offset: the next line
 -- decides whether it takes only blank lines
 abbrev pub CompletedBeforeLine : Document → Tables → Forest Item → ℕ → List Place → Bool → Type 0
-CompletedBeforeLine d defined tree e lines true = CompletedAt d defined (emptied_top tree) false (Blanks e) lines
+CompletedBeforeLine d defined tree e lines true = CompletedAt d defined (top_without_indent tree) false (Blanks e) lines
 CompletedBeforeLine d defined tree e lines false = CompletedAt d defined tree false Line lines
 
 -- the same; after a counting blank line, it takes only blank lines

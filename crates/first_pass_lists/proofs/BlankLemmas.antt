@@ -8,7 +8,7 @@ use Rattle.first_pass_items.specs.declared.item.ItemBody.TheVariants.{BlockQuote
 use Rattle.first_pass_tree.specs.declared.tree_index.TreeIndex.{TreeIndex}
 use Rattle.first_pass_tree.specs.Forest.{Forest, body_at}
 use Rattle.first_pass_tree.proofs.TightLemmas.{tight_same_body}
-use Rattle.first_pass_lists.specs.Closing.{top_body, emptied, emptied_definition, blank_read_by, blank_read}
+use Rattle.first_pass_lists.specs.Closing.{top_body, item_without_indent, definition_without_indent, blank_read_by, blank_read}
 use Rattle.first_pass_lists.specs.declared.state.PassState.{PassState}
 
 same_blank : (r : PassState) → r.blank ≡ true → record r { blank = true } ≡ r
@@ -21,10 +21,11 @@ none_by : (r : PassState) (b : Option ItemBody) → is_some r.begin_list_item �
 none_by r None none h = same_blank r h
 none_by r (Some (BlockQuoteBody kind)) none h = refl
 none_by r (Some (ListItemBody columns)) none h =
-    same_tree r (if is_some r.begin_list_item then emptied r.tree r.tree.spine else r.tree) (ap (λ t. if t then emptied r.tree r.tree.spine else r.tree) none) h
+    same_tree r (if is_some r.begin_list_item then item_without_indent r.tree r.tree.spine else r.tree)
+    (ap (λ t. if t then item_without_indent r.tree r.tree.spine else r.tree) none) h
 none_by r (Some (DefinitionListDefinition columns)) none h =
-    same_tree r (if is_some r.begin_list_item then emptied_definition r.tree r.tree.spine else r.tree)
-    (ap (λ t. if t then emptied_definition r.tree r.tree.spine else r.tree) none) h
+    same_tree r (if is_some r.begin_list_item then definition_without_indent r.tree r.tree.spine else r.tree)
+    (ap (λ t. if t then definition_without_indent r.tree r.tree.spine else r.tree) none) h
 none_by r (Some b) none h = same_blank r h
 
 -- it is unchanged if it records no empty item
@@ -38,12 +39,12 @@ unfolding blank_read
 kept_closed r none h = ap (λ o. blank_read_by r (option_and_then (λ (ix : TreeIndex). body_at r.tree.nodes ix.0) o)) none ∙ same_blank r h
 
 same_item : (f : Forest Item) (spine : List TreeIndex) → option_and_then (λ (ix : TreeIndex). body_at f.nodes ix.0) (slice_get spine 0) ≡ Some (ListItemBody 0)
-    → emptied f spine ≡ f
+    → item_without_indent f spine ≡ f
 same_item f [] e = refl
 same_item f (ix ∷ spine) e = ap (λ ns. record f { nodes = ns }) (tight_same_body f.nodes ix.0 (ListItemBody 0) e)
 
 same_definition : (f : Forest Item) (spine : List TreeIndex)
-    → option_and_then (λ (ix : TreeIndex). body_at f.nodes ix.0) (slice_get spine 0) ≡ Some (DefinitionListDefinition 0) → emptied_definition f spine ≡ f
+    → option_and_then (λ (ix : TreeIndex). body_at f.nodes ix.0) (slice_get spine 0) ≡ Some (DefinitionListDefinition 0) → definition_without_indent f spine ≡ f
 same_definition f [] e = refl
 same_definition f (ix ∷ spine) e = ap (λ ns. record f { nodes = ns }) (tight_same_body f.nodes ix.0 (DefinitionListDefinition 0) e)
 
@@ -56,15 +57,15 @@ pub kept_item : (r : PassState) → top_body r.tree ≡ Some (ListItemBody 0) �
 unfolding blank_read
 kept_item r e h =
     ap (blank_read_by r) e
-    ∙ same_tree r (if is_some r.begin_list_item then emptied r.tree r.tree.spine else r.tree)
-    (either (is_some r.begin_list_item) (emptied r.tree r.tree.spine) r.tree (same_item r.tree r.tree.spine e)) h
+    ∙ same_tree r (if is_some r.begin_list_item then item_without_indent r.tree r.tree.spine else r.tree)
+    (either (is_some r.begin_list_item) (item_without_indent r.tree r.tree.spine) r.tree (same_item r.tree r.tree.spine e)) h
 
 pub kept_definition : (r : PassState) → top_body r.tree ≡ Some (DefinitionListDefinition 0) → r.blank ≡ true → blank_read r ≡ r
 unfolding blank_read
 kept_definition r e h =
     ap (blank_read_by r) e
-    ∙ same_tree r (if is_some r.begin_list_item then emptied_definition r.tree r.tree.spine else r.tree)
-    (either (is_some r.begin_list_item) (emptied_definition r.tree r.tree.spine) r.tree (same_definition r.tree r.tree.spine e)) h
+    ∙ same_tree r (if is_some r.begin_list_item then definition_without_indent r.tree r.tree.spine else r.tree)
+    (either (is_some r.begin_list_item) (definition_without_indent r.tree r.tree.spine) r.tree (same_definition r.tree r.tree.spine e)) h
 
 other_by : (r : PassState) (b : ItemBody) → ((n : ℕ) → b ≡ ListItemBody n → ⊥) → ((n : ℕ) → b ≡ DefinitionListDefinition n → ⊥) → r.blank ≡ true
     → blank_read_by r (Some b) ≡ r

@@ -267,23 +267,24 @@ list_continued start byte number r =
     let s = empty_item_closed r in
     if is_list_of byte (top_body s.tree) then list_kept s else begun start (ListBody (list_flags true) byte number) (list_finished start s)
 
--- the innermost open node, an item, takes only blank lines from now on
-abbrev pub emptied : Forest Item → List TreeIndex → Forest Item
-emptied f [] = f
-emptied f (ix ∷ rest) = with_body_at f ix (ListItemBody 0)
+-- the innermost open node, an item, takes only blank lines from now on: its indent is 0
+abbrev pub item_without_indent : Forest Item → List TreeIndex → Forest Item
+item_without_indent f [] = f
+item_without_indent f (ix ∷ rest) = with_body_at f ix (ListItemBody 0)
 
--- the innermost open node, a definition, takes only blank lines from now on
-abbrev pub emptied_definition : Forest Item → List TreeIndex → Forest Item
-emptied_definition f [] = f
-emptied_definition f (ix ∷ rest) = with_body_at f ix (DefinitionListDefinition 0)
+-- the innermost open node, a definition, takes only blank lines from now on: its indent is 0
+abbrev pub definition_without_indent : Forest Item → List TreeIndex → Forest Item
+definition_without_indent f [] = f
+definition_without_indent f (ix ∷ rest) = with_body_at f ix (DefinitionListDefinition 0)
 
 -- A blank line is read, given the body of the innermost open node. In a block quote the line does not count, and
 -- nothing changes. Otherwise it counts, and an empty item or definition takes only blank lines from then on.
 abbrev pub blank_read_by : PassState → Option ItemBody → PassState
 blank_read_by r (Some (BlockQuoteBody kind)) = r
-blank_read_by r (Some (ListItemBody columns)) = record r { tree = if is_some r.begin_list_item then emptied r.tree r.tree.spine else r.tree; blank = true }
+blank_read_by r (Some (ListItemBody columns)) =
+    record r { tree = if is_some r.begin_list_item then item_without_indent r.tree r.tree.spine else r.tree; blank = true }
 blank_read_by r (Some (DefinitionListDefinition columns)) =
-    record r { tree = if is_some r.begin_list_item then emptied_definition r.tree r.tree.spine else r.tree; blank = true }
+    record r { tree = if is_some r.begin_list_item then definition_without_indent r.tree r.tree.spine else r.tree; blank = true }
 blank_read_by r _ = record r { blank = true }
 
 -- the same for a state

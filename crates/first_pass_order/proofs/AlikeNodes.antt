@@ -18,8 +18,8 @@ use Rattle.first_pass_grammar.specs.Counting.{is_row, is_cell}
 use Rattle.first_pass_grammar.specs.Names.{Names, Index, index_of}
 use Rattle.first_pass_grammar.specs.WholeTables.{Mark, shown, may_be_title}
 use Rattle.first_pass_lists.specs.Closing.{is_list, is_item, top_body, loosened_by, loosened_at, popped_by, gap_tree, gap_marked, loosened_top, list_kept}
-use Rattle.first_pass_lists.specs.Closing.{emptied}
-use Rattle.first_pass_lists.specs.Closing.{emptied_definition, blank_read_by, blank_read}
+use Rattle.first_pass_lists.specs.Closing.{item_without_indent}
+use Rattle.first_pass_lists.specs.Closing.{definition_without_indent, blank_read_by, blank_read}
 use Rattle.first_pass_lists.specs.declared.state.PassState.{PassState}
 use Rattle.first_pass_order.proofs.OrderLemmas.{flags_of}
 
@@ -170,26 +170,26 @@ like_kept r = cond_both r.blank (record r { tree = loosened_top r.tree r.tree.sp
     (λ b. top_like r.tree r.tree.spine) (λ b. like_itself r.tree)
 
 -- a blank line
-emptied_like : (f : Forest Item) (s : List TreeIndex) (columns : ℕ)
-    → option_and_then (λ (ix : TreeIndex). body_at f.nodes ix.0) (slice_get s 0) ≡ Some (ListItemBody columns) → LooksAlike f (emptied f s)
-emptied_like f [] columns is = like_itself f
-emptied_like f (ix ∷ rest) columns is = like_body f ix (ListItemBody columns) (ListItemBody 0) is (refl, λ h. h)
+item_without_indent_like : (f : Forest Item) (s : List TreeIndex) (columns : ℕ)
+    → option_and_then (λ (ix : TreeIndex). body_at f.nodes ix.0) (slice_get s 0) ≡ Some (ListItemBody columns) → LooksAlike f (item_without_indent f s)
+item_without_indent_like f [] columns is = like_itself f
+item_without_indent_like f (ix ∷ rest) columns is = like_body f ix (ListItemBody columns) (ListItemBody 0) is (refl, λ h. h)
 
-emptied_definition_like : (f : Forest Item) (s : List TreeIndex) (columns : ℕ)
+definition_without_indent_like : (f : Forest Item) (s : List TreeIndex) (columns : ℕ)
     → option_and_then (λ (ix : TreeIndex). body_at f.nodes ix.0) (slice_get s 0) ≡ Some (DefinitionListDefinition columns)
-    → LooksAlike f (emptied_definition f s)
-emptied_definition_like f [] columns is = like_itself f
-emptied_definition_like f (ix ∷ rest) columns is =
+    → LooksAlike f (definition_without_indent f s)
+definition_without_indent_like f [] columns is = like_itself f
+definition_without_indent_like f (ix ∷ rest) columns is =
     like_body f ix (DefinitionListDefinition columns) (DefinitionListDefinition 0) is (refl, λ h. h)
 
 blank_by_like : (r : PassState) (b : Option ItemBody) → top_body r.tree ≡ b → LooksAlike r.tree (blank_read_by r b).tree
 blank_by_like r (Some (BlockQuoteBody kind)) is = like_itself r.tree
 blank_by_like r (Some (ListItemBody columns)) is =
-    cond_both (is_some r.begin_list_item) (emptied r.tree r.tree.spine) r.tree (LooksAlike r.tree) (λ b. emptied_like r.tree r.tree.spine columns is)
-    (λ b. like_itself r.tree)
+    cond_both (is_some r.begin_list_item) (item_without_indent r.tree r.tree.spine) r.tree (LooksAlike r.tree)
+    (λ b. item_without_indent_like r.tree r.tree.spine columns is) (λ b. like_itself r.tree)
 blank_by_like r (Some (DefinitionListDefinition columns)) is =
-    cond_both (is_some r.begin_list_item) (emptied_definition r.tree r.tree.spine) r.tree (LooksAlike r.tree)
-    (λ b. emptied_definition_like r.tree r.tree.spine columns is) (λ b. like_itself r.tree)
+    cond_both (is_some r.begin_list_item) (definition_without_indent r.tree r.tree.spine) r.tree (LooksAlike r.tree)
+    (λ b. definition_without_indent_like r.tree r.tree.spine columns is) (λ b. like_itself r.tree)
 blank_by_like r None is = like_itself r.tree
 blank_by_like r (Some b) is = like_itself r.tree
 

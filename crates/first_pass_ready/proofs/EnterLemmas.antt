@@ -39,11 +39,11 @@ use Rattle.first_pass_kinds.proofs.KindLemmas.{blank_kind}
 use Rattle.first_pass_completion.proofs.States.{open_nodes}
 use Rattle.first_pass_completion.proofs.Completions.{counted_after, completes-enter, completes-blank_line, completes-only_blank}
 use Rattle.first_pass_open.specs.OpenBlock.{closed_by}
-use Rattle.first_pass_lists.specs.Closing.{top_body, is_item, popped_by, popped, empty_item_closed_by, empty_item_closed, emptied, emptied_definition, blank_read_by}
+use Rattle.first_pass_lists.specs.Closing.{top_body, is_item, popped_by, popped, empty_item_closed_by, empty_item_closed, item_without_indent, definition_without_indent, blank_read_by}
 use Rattle.first_pass_lists.specs.Closing.{blank_read}
 use Rattle.first_pass_lists.specs.declared.state.PassState.{PassState}
 use Rattle.first_pass_open.specs.Path.{container_of, container_at, with_container, path_in, path_of}
-use Rattle.first_pass_ready.specs.State.{frame_of, item_columns, emptied_as, emptied_top, closed_in, AreOpen, ReadyAt, ReadyBeforeLine}
+use Rattle.first_pass_ready.specs.State.{frame_of, item_columns, body_without_indent, top_without_indent, closed_in, AreOpen, ReadyAt, ReadyBeforeLine}
 use Rattle.first_pass_ready.specs.State.{ReadyInItem, ReadyEmpty, ReadyWith, Ready}
 use Rattle.first_pass_ready.proofs.OpenLemmas.{open_path}
 use Rattle.first_pass_ready.proofs.OldFootnotes.{ends_here, stays_unblank, stays_in_list, goes_on_at}
@@ -53,7 +53,7 @@ use Rattle.first_pass_ready.proofs.StateLemmas.{ready_plain, popped_as, same_pat
 use Rattle.first_pass_ready.proofs.ClosedIn.{items_no_container, definitions_no_container, definitions_at, list_at, top_in, HasDefined, open_defined}
 use Rattle.first_pass_ready.proofs.ClosedIn.{defined_open, plain_not_open}
 use Rattle.first_pass_ready.proofs.ItemBodies.{item_body, item_container, columns_are, item_is, item_columns_of, item_frame, item_path, item_true}
-use Rattle.first_pass_ready.proofs.ItemBodies.{item_no_list, item_no_quote, emptied_is, after_zero}
+use Rattle.first_pass_ready.proofs.ItemBodies.{item_no_list, item_no_quote, without_indent_is, after_zero}
 use Rattle.first_pass_items.specs.declared.option_set.Options.{Options}
 use Rattle.first_pass_grammar.specs.Skeleton.{OpensBy}
 use Rattle.first_pass_grammar.proofs.Sequences.OpenerFacts.{marker_where, start_none}
@@ -390,10 +390,10 @@ and_true false = refl
 
 -- a blank line is read in an empty item or definition
 blank_item_is : (r : PassState) (e : ℕ) (b : ItemBody) (n : ℕ) → r.begin_list_item ≡ Some e
-    → blank_read_by r (Some (item_body b n)) ≡ record r { tree = emptied_as r.tree (Some (item_body b n)); blank = true }
+    → blank_read_by r (Some (item_body b n)) ≡ record r { tree = body_without_indent r.tree (Some (item_body b n)); blank = true }
 blank_item_is r e (DefinitionListDefinition columns) n some =
-    ap (λ o. record r { tree = if is_some o then emptied_definition r.tree r.tree.spine else r.tree; blank = true }) some
-blank_item_is r e b n some = ap (λ o. record r { tree = if is_some o then emptied r.tree r.tree.spine else r.tree; blank = true }) some
+    ap (λ o. record r { tree = if is_some o then definition_without_indent r.tree r.tree.spine else r.tree; blank = true }) some
+blank_item_is r e b n some = ap (λ o. record r { tree = if is_some o then item_without_indent r.tree r.tree.spine else r.tree; blank = true }) some
 
 -- an item or a definition is closed
 item_popped : (r : PassState) (g : Forest Item) (ix : TreeIndex) (b : ItemBody) (n : ℕ)
@@ -431,8 +431,8 @@ module _ (d : Document) (defined : Tables) (r : PassState) (line : Place) (lines
       top_item : top_body r.tree ≡ Some (item_body b empty.columns)
       top_item = ap (top_in r.tree.nodes) empty.spine ∙ is
 
-      zero_is : emptied_top r.tree ≡ zero_tree
-      zero_is = ap (emptied_as r.tree) top_item ∙ emptied_is r.tree empty.place empty.outer b empty.columns empty.spine
+      zero_is : top_without_indent r.tree ≡ zero_tree
+      zero_is = ap (body_without_indent r.tree) top_item ∙ without_indent_is r.tree empty.place empty.outer b empty.columns empty.spine
 
       zero_body : body_at zero_tree.nodes empty.place.0 ≡ Some (item_body b 0)
       zero_body = body-changed r.tree.nodes empty.place.0 change (item_body b empty.columns) (item_body b 0) is (λ x h. refl)
@@ -449,17 +449,17 @@ module _ (d : Document) (defined : Tables) (r : PassState) (line : Place) (lines
           let below = subst (λ s. AreBelow (length zero_tree.nodes) (map (λ (i : TreeIndex). i.0) s)) empty.spine ready.completes.below in
           path_below d.options r.tree.nodes zero_tree.nodes empty.place.0 empty.outer (λ i h. body-other r.tree.nodes empty.place.0 i change h) below.1
 
-      emptied_blank : (blank : Bool) → r.blank ≡ blank → is_blank_rest rest ≡ true → ReadyInItem d defined r.tree e (line ∷ lines) blank
+      without_indent_blank : (blank : Bool) → r.blank ≡ blank → is_blank_rest rest ≡ true → ReadyInItem d defined r.tree e (line ∷ lines) blank
           → ReadyAt d defined zero_tree true (Blanks e) lines
-      emptied_blank true run h ready =
+      without_indent_blank true run h ready =
           let none = empty.none run in
           let item : body_at r.tree.nodes empty.place.0 ≡ Some (item_body b 0) = is ∙ ap (λ n. Some (item_body b n)) none in
           subst (λ f. ReadyAt d defined f true (Blanks e) lines) (sym (zero_same none))
           (only_blank d defined r.tree true e line lines
           (record { place = empty.place; outer = empty.outer; body = b; spine = empty.spine; is = item }) (blank_item h) ready)
-      emptied_blank false run h ready =
+      without_indent_blank false run h ready =
           let test : next_is_blank (path_of d.options r.tree) (line ∷ lines) ≡ true = ap is_blank_after goes ∙ h in
-          let now : ReadyAt d defined (emptied_top r.tree) false (Blanks e) (line ∷ lines) =
+          let now : ReadyAt d defined (top_without_indent r.tree) false (Blanks e) (line ∷ lines) =
           subst (ReadyBeforeLine d defined r.tree e (line ∷ lines)) test ready in
           let zero : ReadyAt d defined zero_tree false (Blanks e) (line ∷ lines) =
           subst (λ f. ReadyAt d defined f false (Blanks e) (line ∷ lines)) zero_is now in
@@ -472,11 +472,11 @@ module _ (d : Document) (defined : Tables) (r : PassState) (line : Place) (lines
       read_is : r.begin_list_item ≡ Some e → blank_read r ≡ record r { tree = zero_tree; blank = true }
       unfolding blank_read
       read_is some = ap (blank_read_by r) top_item ∙ blank_item_is r e b empty.columns some ∙ ap (λ f. record r { tree = f; blank = true })
-          (emptied_is r.tree empty.place empty.outer b empty.columns empty.spine)
+          (without_indent_is r.tree empty.place empty.outer b empty.columns empty.spine)
 
-      ready_emptied : r.begin_list_item ≡ Some e → is_blank_rest rest ≡ true → Ready d defined (blank_read r) lines
+      ready_without_indent : r.begin_list_item ≡ Some e → is_blank_rest rest ≡ true → Ready d defined (blank_read r) lines
       unfolding Ready
-      ready_emptied some h =
+      ready_without_indent some h =
           let now : PassState = record r { tree = zero_tree; blank = true } in
           let ready : ReadyEmpty d defined now e lines = record {
             place = empty.place;
@@ -485,7 +485,7 @@ module _ (d : Document) (defined : Tables) (r : PassState) (line : Place) (lines
             spine = empty.spine;
             item = ap (option_and_then item_columns) zero_body ∙ item_columns_of b 0;
             none = λ on. refl;
-            ready = emptied_blank r.blank refl h empty.ready;
+            ready = without_indent_blank r.blank refl h empty.ready;
           } in
           subst (λ q. ReadyWith d defined q lines q.begin_list_item) (sym (read_is some)) (subst (λ o. ReadyWith d defined now lines o) (sym some) ready)
 
@@ -493,7 +493,7 @@ module _ (d : Document) (defined : Tables) (r : PassState) (line : Place) (lines
       → ReadyWith d defined r (line ∷ lines) o → Ready d defined (blank_read r) lines
   blank_with None none stays h ready =
       ready_blank d defined r (at_rest line rest) lines h none (ready_enter d defined r.tree r.blank line lines rest goes stays ready)
-  blank_with (Some e) some stays h ready = let b = own e ready in ready_emptied e ready b.0 b.1 some h
+  blank_with (Some e) some stays h ready = let b = own e ready in ready_without_indent e ready b.0 b.1 some h
 
   -- a blank line that all open containers continue is read
   pub ready_blank_line : ends_here d.options r.tree r.blank ≡ false → is_blank_rest rest ≡ true
@@ -510,11 +510,11 @@ module _ (d : Document) (defined : Tables) (r : PassState) (line : Place) (lines
         ∙ ap (λ t. record (if t then popped e r else r) { begin_list_item = None }) (and_true r.blank ∙ is)
 
     -- the item ends before a line that is not blank
-    emptied_ends : (blank : Bool) → r.blank ≡ blank → is_blank_rest rest ≡ false → ReadyInItem d defined r.tree e (line ∷ lines) blank
+    without_indent_ends : (blank : Bool) → r.blank ≡ blank → is_blank_rest rest ≡ false → ReadyInItem d defined r.tree e (line ∷ lines) blank
         → (
         let q : PassState = record (if blank then popped e r else r) { begin_list_item = None } in ReadyAt d defined q.tree q.blank
         (Inside (at_rest line rest)) lines)
-    emptied_ends true is h ready =
+    without_indent_ends true is h ready =
         let none = empty.none is in
         let o = own e empty in
         let b : ItemBody = o.0 in
@@ -541,7 +541,7 @@ module _ (d : Document) (defined : Tables) (r : PassState) (line : Place) (lines
         (stays_in_list d defined g true (line ∷ lines) left.ready b 0 left.stands) left.ready in
         subst (λ (q : PassState). ReadyAt d defined q.tree q.blank (Inside (at_rest line rest)) lines) (sym now)
         (subst (λ t. ReadyAt d defined g t (Inside (at_rest line rest)) lines) (sym is) inside)
-    emptied_ends false is h ready =
+    without_indent_ends false is h ready =
         let test : next_is_blank (path_of d.options r.tree) (line ∷ lines) ≡ false = ap is_blank_after goes ∙ h in
         let now : ReadyAt d defined r.tree false Line (line ∷ lines) = subst (ReadyBeforeLine d defined r.tree e (line ∷ lines)) test ready in
         subst (λ t. ReadyAt d defined r.tree t (Inside (at_rest line rest)) lines) (sym is)
@@ -551,7 +551,7 @@ module _ (d : Document) (defined : Tables) (r : PassState) (line : Place) (lines
       → (let q : PassState = empty_item_closed_by r o in ReadyAt d defined q.tree q.blank (Inside (at_rest line rest)) lines)
   entered_with None stays h ready = ready_enter d defined r.tree r.blank line lines rest goes stays ready
   entered_with (Some e) stays h ready = subst (λ (q : PassState). ReadyAt d defined q.tree q.blank (Inside (at_rest line rest)) lines)
-      (sym (finished_is e ready r.blank refl)) (emptied_ends e ready r.blank refl h ready.ready)
+      (sym (finished_is e ready r.blank refl)) (without_indent_ends e ready r.blank refl h ready.ready)
 
   -- the place in a line that is not blank and that all open containers continue
   pub ready_line : ends_here d.options r.tree r.blank ≡ false → is_blank_rest rest ≡ false → Ready d defined r (line ∷ lines)

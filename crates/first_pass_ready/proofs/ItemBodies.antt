@@ -14,8 +14,8 @@ use Rattle.first_pass_grammar.specs.declared.kind.Container.TheVariants.{ListIte
 use Rattle.first_pass_grammar.specs.Containers.{prefix, after, is_quote}
 use Rattle.first_pass_grammar.specs.Completion.{InContainer}
 use Rattle.first_pass_open.specs.Path.{container_of}
-use Rattle.first_pass_lists.specs.Closing.{is_item, is_definition_list, emptied, emptied_definition}
-use Rattle.first_pass_ready.specs.State.{frame_of, item_columns, emptied_as}
+use Rattle.first_pass_lists.specs.Closing.{is_item, is_definition_list, item_without_indent, definition_without_indent}
+use Rattle.first_pass_ready.specs.State.{frame_of, item_columns, body_without_indent}
 
 -- an item of the same kind with a number of columns, as a node and as a container
 abbrev pub item_body : ItemBody → ℕ → ItemBody
@@ -61,10 +61,10 @@ item_no_quote (DefinitionListDefinition columns) n = refl
 item_no_quote b n = refl
 
 -- one that takes only blank lines
-pub emptied_is : (f : Forest Item) (ix : TreeIndex) (rest : List TreeIndex) (b : ItemBody) (n : ℕ) → f.spine ≡ ix ∷ rest
-    → emptied_as f (Some (item_body b n)) ≡ with_body_at f ix (item_body b 0)
-emptied_is f ix rest (DefinitionListDefinition columns) n spine = ap (emptied_definition f) spine
-emptied_is f ix rest b n spine = ap (emptied f) spine
+pub without_indent_is : (f : Forest Item) (ix : TreeIndex) (rest : List TreeIndex) (b : ItemBody) (n : ℕ) → f.spine ≡ ix ∷ rest
+    → body_without_indent f (Some (item_body b n)) ≡ with_body_at f ix (item_body b 0)
+without_indent_is f ix rest (DefinitionListDefinition columns) n spine = ap (definition_without_indent f) spine
+without_indent_is f ix rest b n spine = ap (item_without_indent f) spine
 
 -- every line continues an item that takes only blank lines
 zero_item : (q : Rest) → prefix (ListItem 0) q ≡ Some q

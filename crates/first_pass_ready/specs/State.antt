@@ -19,7 +19,7 @@ use Rattle.first_pass_grammar.specs.Completion.{Closed, OtherClosed, ParagraphAt
 use Rattle.first_pass_grammar.specs.Completion.{InDefinitions}
 use Rattle.first_pass_grammar.specs.Completion.{containers_of, last_of, Completes}
 use Rattle.first_pass_grammar.specs.WholeTables.{SilentClosed}
-use Rattle.first_pass_lists.specs.Closing.{top_body, top_end, emptied, emptied_definition}
+use Rattle.first_pass_lists.specs.Closing.{top_body, top_end, item_without_indent, definition_without_indent}
 use Rattle.first_pass_lists.specs.declared.state.PassState.{PassState}
 use Rattle.first_pass_open.specs.Path.{path_in, path_of, outer}
 use Rattle.first_pass_items.specs.declared.option_set.Options.{Options}
@@ -102,17 +102,17 @@ pub record ReadyAt (d : Document) (defined : Tables) (tree : Forest Item) (run :
   pub silent : SilentClosed tree.nodes (closed_in tree)
 
 -- the innermost open node, an item or a definition, takes only blank lines
-abbrev pub emptied_as : Forest Item → Option ItemBody → Forest Item
-emptied_as f (Some (DefinitionListDefinition columns)) = emptied_definition f f.spine
-emptied_as f _ = emptied f f.spine
+abbrev pub body_without_indent : Forest Item → Option ItemBody → Forest Item
+body_without_indent f (Some (DefinitionListDefinition columns)) = definition_without_indent f f.spine
+body_without_indent f _ = item_without_indent f f.spine
 
-abbrev pub emptied_top : Forest Item → Forest Item
-emptied_top f = emptied_as f (top_body f)
+abbrev pub top_without_indent : Forest Item → Forest Item
+top_without_indent f = body_without_indent f (top_body f)
 
 -- the same for an innermost item or definition that is empty and whose marker's line ends at an offset: the next line
 -- decides whether it takes only blank lines
 abbrev pub ReadyBeforeLine : Document → Tables → Forest Item → ℕ → List Place → Bool → Type 0
-ReadyBeforeLine d defined tree e lines true = ReadyAt d defined (emptied_top tree) false (Blanks e) lines
+ReadyBeforeLine d defined tree e lines true = ReadyAt d defined (top_without_indent tree) false (Blanks e) lines
 ReadyBeforeLine d defined tree e lines false = ReadyAt d defined tree false Line lines
 
 -- the same if a blank line after that line is already read, or not yet

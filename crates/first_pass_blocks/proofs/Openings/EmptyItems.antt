@@ -32,10 +32,10 @@ use Rattle.first_pass_open.proofs.PathLemmas.{get_front}
 use Rattle.first_pass_lists.specs.Closing.{top_body, is_list, is_definition_list, may_begin_definition, list_continued, list_kept, with_tree, definitions_opened}
 use Rattle.first_pass_lists.specs.Closing.{definition_begun}
 use Rattle.first_pass_lists.specs.declared.state.PassState.{PassState}
-use Rattle.first_pass_ready.specs.State.{closed_in, item_columns, emptied_as, emptied_top, ReadyAt, ReadyBeforeLine, ReadyInItem}
+use Rattle.first_pass_ready.specs.State.{closed_in, item_columns, body_without_indent, top_without_indent, ReadyAt, ReadyBeforeLine, ReadyInItem}
 use Rattle.first_pass_ready.specs.State.{ReadyEmpty, Ready}
 use Rattle.first_pass_ready.proofs.ClosedIn.{level_of, closed_at_body, no_paragraph}
-use Rattle.first_pass_ready.proofs.ItemBodies.{item_body, item_container, item_columns_of, item_path, emptied_is}
+use Rattle.first_pass_ready.proofs.ItemBodies.{item_body, item_container, item_columns_of, item_path, without_indent_is}
 use Rattle.first_pass_ready.proofs.OpenLemmas.{open_below, frame-append, get_end}
 use Rattle.first_pass_ready.proofs.PopLemmas.{ready_as}
 use Rattle.first_pass_ready.proofs.BegunLemmas.{depth_of, with_open, top_opened, IsBegun, plain_open}
@@ -143,10 +143,10 @@ module _ (b : ItemBody) (g : Forest Item) (start : ℕ) where
       top n ∙ ap (λ z. item_container b n ∷ z) (same n ∙ sym (same m) ∙ outer)
 
   -- a container that takes only blank lines, with the marker of a task after it or without one
-  emptied_nodes : (n : ℕ) (more : List (ℕ × Item))
+  without_indent_nodes : (n : ℕ) (more : List (ℕ × Item))
       → modify ((with_columns n).nodes ++ more) (length g.nodes) (λ x. record { start = x.start; «end» = x.«end»; body = item_body b 0 })
       ≡ (with_columns 0).nodes ++ more
-  emptied_nodes n more =
+  without_indent_nodes n more =
       let change : Item → Item = λ x. record { start = x.start; «end» = x.«end»; body = item_body b 0 } in
       modify-append (with_columns n).nodes more (length g.nodes) change (let l = longer n in omega arith)
       ∙ ap (λ z. z ++ more) (modify-at g.nodes [] (length g.spine + 1, node_of start 0 (item_body b n)) (length g.nodes) change refl)
@@ -162,13 +162,13 @@ module _ (b : ItemBody) (g : Forest Item) (start : ℕ) where
   named_marked n (Some y) =
       let f : Forest Item = appended (with_columns n) y in
       let h : Forest Item = appended (with_columns 0) y in
-      ap (λ ns. record f { nodes = ns }) (emptied_nodes n ((length (with_columns n).spine + 1, y) ∷ []))
+      ap (λ ns. record f { nodes = ns }) (without_indent_nodes n ((length (with_columns n).spine + 1, y) ∷ []))
       ∙ ap (λ k. record h { current = Some (record { 0 = k }) }) (longer n ∙ sym (longer 0))
 
-  emptied_marked : (n : ℕ) (marker : Option Item) → emptied_top (with_child (with_columns n) marker) ≡ with_child (with_columns 0) marker
-  emptied_marked n marker =
-      ap (emptied_as (with_child (with_columns n) marker)) (marked_item n marker)
-      ∙ emptied_is (with_child (with_columns n) marker) place g.spine b n (marked_spine (with_columns n) marker) ∙ named_marked n marker
+  without_indent_marked : (n : ℕ) (marker : Option Item) → top_without_indent (with_child (with_columns n) marker) ≡ with_child (with_columns 0) marker
+  without_indent_marked n marker =
+      ap (body_without_indent (with_child (with_columns n) marker)) (marked_item n marker)
+      ∙ without_indent_is (with_child (with_columns n) marker) place g.spine b n (marked_spine (with_columns n) marker) ∙ named_marked n marker
 
 -- the state after the markers of an empty item
 abbrev pub empty_item_read : PassState → Option Item → ℕ → PassState
@@ -233,7 +233,7 @@ module _ (d : Document) (defined : Tables) (b : ItemBody) (g : Forest Item) (sta
       subst (λ k. AreBelow k (map (λ (i : TreeIndex). i.0) full.spine)) (longer b g start 0 ∙ sym (longer b g start columns)) begun.ready.completes.below in
       empty_read true (marked_path d.options full marker below
       ∙ opened_path b g start d.options 0 columns path begun.ready.completes.below begun.path_is) next
-      (subst (λ f. ReadyAt d defined f false (Blanks e) lines) (sym (emptied_marked b g start columns marker)) marked)
+      (subst (λ f. ReadyAt d defined f false (Blanks e) lines) (sym (without_indent_marked b g start columns marker)) marked)
   empty_is false next begun =
       empty_read false (marked_path d.options full marker begun.ready.completes.below ∙ begun.path_is) next
       (ready_marked d defined full marker p None lines other (opened_last columns) begun.ready)

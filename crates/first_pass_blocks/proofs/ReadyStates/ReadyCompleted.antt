@@ -17,11 +17,11 @@ use Rattle.first_pass_exists.proofs.Completed.{line_goes_on, completion_derives}
 use Rattle.first_pass_open.specs.Path.{container_of, with_container, path_in, path_of}
 use Rattle.first_pass_lists.specs.declared.state.PassState.{PassState}
 use Rattle.first_pass_ready.specs.State.{AreOpen, ReadyAt, ReadyBeforeLine, ReadyInItem, ReadyEmpty, ReadyWith, Ready}
-use Rattle.first_pass_ready.specs.State.{closed_in, emptied_as, emptied_top}
+use Rattle.first_pass_ready.specs.State.{closed_in, body_without_indent, top_without_indent}
 use Rattle.first_pass_blocks.specs.Completed.{CompletedAt, CompletedBeforeLine, CompletedInItem, CompletedWith, IsCompleted}
 use Rattle.first_pass_tree.proofs.BodyLemmas.{body-changed}
 use Rattle.first_pass_grammar.specs.declared.kind.Container.{Container}
-use Rattle.first_pass_ready.proofs.ItemBodies.{item_body, columns_are, item_is, item_path, emptied_is}
+use Rattle.first_pass_ready.proofs.ItemBodies.{item_body, columns_are, item_is, item_path, without_indent_is}
 use Rattle.first_pass_ready.proofs.OpenLemmas.{open_path}
 use Rattle.first_pass_items.specs.declared.option_set.Options.{Options}
 
@@ -92,12 +92,12 @@ module _ (d : Document) (defined : Tables) (r : PassState) (lines : List Place) 
   continues : (from : Continues) → CanGoOn (path_of d.options r.tree) from
   continues from = item_goes_on d.options r.tree empty.place empty.outer top_is.0 empty.columns from empty.spine top_is.1
 
-  pub zero_is : emptied_top r.tree ≡ with_body_at r.tree empty.place (item_body top_is.0 0)
+  pub zero_is : top_without_indent r.tree ≡ with_body_at r.tree empty.place (item_body top_is.0 0)
   zero_is =
-      ap (λ (s : List TreeIndex). emptied_as r.tree (option_and_then (λ (ix : TreeIndex). body_at r.tree.nodes ix.0) (slice_get s 0))) empty.spine
-      ∙ ap (emptied_as r.tree) top_is.1 ∙ emptied_is r.tree empty.place empty.outer top_is.0 empty.columns empty.spine
+      ap (λ (s : List TreeIndex). body_without_indent r.tree (option_and_then (λ (ix : TreeIndex). body_at r.tree.nodes ix.0) (slice_get s 0))) empty.spine
+      ∙ ap (body_without_indent r.tree) top_is.1 ∙ without_indent_is r.tree empty.place empty.outer top_is.0 empty.columns empty.spine
 
-  zero_goes_on : CanGoOn (path_of d.options (emptied_top r.tree)) (Blanks e)
+  zero_goes_on : CanGoOn (path_of d.options (top_without_indent r.tree)) (Blanks e)
   zero_goes_on =
       let now : ItemBody = item_body top_is.0 0 in
       let body = body-changed r.tree.nodes empty.place.0 (λ x. record { start = x.start; «end» = x.«end»; body = now }) (item_body top_is.0 empty.columns) now
@@ -107,7 +107,7 @@ module _ (d : Document) (defined : Tables) (r : PassState) (lines : List Place) 
 
   before_line : (t : Bool) → ((more : Names) → Extends more d.names → ReadyBeforeLine (document d.text d.options more) defined r.tree e lines t)
       → CompletedBeforeLine d defined r.tree e lines t
-  before_line true ready = completed_at d defined (emptied_top r.tree) false (Blanks e) lines zero_goes_on ready
+  before_line true ready = completed_at d defined (top_without_indent r.tree) false (Blanks e) lines zero_goes_on ready
   before_line false ready = completed_at d defined r.tree false Line lines (line_goes_on (path_of d.options r.tree)) ready
 
   in_item : (blank : Bool)

@@ -26,7 +26,7 @@ use Rattle.first_pass_grammar.proofs.WholeTables.WholeForests.{whole_same}
 use Rattle.first_pass_lists.specs.declared.state.PassState.{PassState}
 use Rattle.first_pass_open.specs.Path.{path_of}
 use Rattle.first_pass_ready.specs.State.{frame_of, frame_at, AreOpen, ReadyBeforeLine, ReadyInItem, ReadyEmpty, ReadyWith, Ready, StaysReady, closed_in}
-use Rattle.first_pass_ready.specs.State.{emptied_top}
+use Rattle.first_pass_ready.specs.State.{top_without_indent}
 use Rattle.first_pass_blocks.specs.Completed.{CompletedAt, CompletedBeforeLine, CompletedInItem, CompletedWith, IsCompleted}
 use Rattle.first_pass_ready.proofs.ItemBodies.{item_body, item_container, item_frame}
 use Rattle.first_pass_blocks.proofs.ReadyStates.ReadyCompleted.{unfinished_of, top_is, zero_is, ready_completed}
@@ -72,9 +72,9 @@ module _ (d : Document) (defined : Tables) (lines : List Place) (at : AreAt d.te
   item_shows (DefinitionListDefinition columns) n = λ names depth start end. refl
   item_shows b n = λ names depth start end. refl
 
-  emptied_shows : (r : PassState) (e : ℕ) (empty : ReadyEmpty d defined r e lines) (names : Names)
-      → marks names (emptied_top r.tree).nodes ≡ marks names r.tree.nodes
-  emptied_shows r e empty names =
+  without_indent_shows : (r : PassState) (e : ℕ) (empty : ReadyEmpty d defined r e lines) (names : Names)
+      → marks names (top_without_indent r.tree).nodes ≡ marks names r.tree.nodes
+  without_indent_shows r e empty names =
       let top = top_is d defined r lines e empty in
       ap (λ (f : Forest Item). marks names f.nodes) (zero_is d defined r lines e empty)
       ∙ marks_modified names r.tree.nodes empty.place.0 (λ x. record { start = x.start; «end» = x.«end»; body = item_body top.0 0 })
@@ -85,8 +85,8 @@ module _ (d : Document) (defined : Tables) (lines : List Place) (at : AreAt d.te
   whole_before_line : (r : PassState) (e : ℕ) → ReadyEmpty d defined r e lines → (t : Bool) → ReadyBeforeLine d defined r.tree e lines t
       → CompletedBeforeLine d defined r.tree e lines t → IsWholeOnce d.names r.tree.nodes
   whole_before_line r e empty true ready c =
-      let (more, extends, whole) = whole_at (emptied_top r.tree) false (Blanks e) tt ready.silent c in
-      (more, extends, whole_same more (emptied_top r.tree).nodes r.tree.nodes (sym (emptied_shows r e empty more)) whole)
+      let (more, extends, whole) = whole_at (top_without_indent r.tree) false (Blanks e) tt ready.silent c in
+      (more, extends, whole_same more (top_without_indent r.tree).nodes r.tree.nodes (sym (without_indent_shows r e empty more)) whole)
   whole_before_line r e empty false ready c = whole_at r.tree false Line tt ready.silent c
 
   whole_in_item : (r : PassState) (e : ℕ) → ReadyEmpty d defined r e lines → (blank : Bool) → ReadyInItem d defined r.tree e lines blank
