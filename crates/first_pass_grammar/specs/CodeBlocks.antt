@@ -10,7 +10,7 @@ use Rattle.first_pass_items.specs.declared.item.Item.{Item}
 use Rattle.first_pass_items.specs.declared.item.MetadataBlockKind.{MetadataBlockKind}
 use Rattle.first_pass_items.specs.declared.item.MetadataBlockKind.TheVariants.{YamlStyle, PlusesStyle}
 use Rattle.first_pass_items.specs.declared.item.ItemBody.TheVariants.{IndentCodeBlock, FencedCodeBlock, MetadataBlock}
-use Rattle.first_pass_lines.specs.Lines.{is_white, is_ascii_white, line_len}
+use Rattle.first_pass_lines.specs.Lines.{is_white, is_white_or_line_end, line_len}
 use Rattle.first_pass_scan.specs.LeafLines.{closing_fence_len}
 use Rattle.first_pass_metadata.specs.Metadata.{closing_metadata_len}
 use Rattle.first_pass_lines.specs.Rest.{indent}
@@ -87,7 +87,7 @@ fenced_lines n path columns byte count lines = extent (in_containers path (fence
 
 -- the bytes of a line without the white space at their end (CommonMark 4.5)
 abbrev pub trimmed : List ℕ → List ℕ
-trimmed line = take (length line - suffix_len is_ascii_white line) line
+trimmed line = take (length line - suffix_len is_white_or_line_end line) line
 
 -- the info string of a code fence that ends before these bytes, without white space at its start and end (CommonMark
 -- 4.5)

@@ -8,7 +8,7 @@ use Rattle.std.proofs.lemmas.Bool.Decides.{nat_tests}
 use Rattle.std.proofs.lemmas.List.{take-append-drop, length-map, length-take-le}
 use Rattle.std.proofs.lemmas.List.Sums.{AllPass-from_list_all}
 use Rattle.first_pass_items.specs.Bytes.{solidus, greater_than}
-use Rattle.first_pass_lines.specs.Lines.{is_ascii_white, begins}
+use Rattle.first_pass_lines.specs.Lines.{is_white_or_line_end, begins}
 use Rattle.first_pass_html.specs.Names.{in_lower_case, block_names, IsBlockName, IsLongestName}
 use Rattle.first_pass_html.specs.Starts.{ends_block_name, HasBlockName}
 use Rattle.first_pass_html.proofs.ListFacts.{prefix_all, front_size, front_of, rest_after}
@@ -39,7 +39,7 @@ block_name_alphanumeric : (name : List ℕ) → IsBlockName name → list_all is
 block_name_alphanumeric name is =
     all_in_lower_case is_ascii_alphanumeric lower_alphanumeric name (contained_passes (list_all is_ascii_alphanumeric) block_names (in_lower_case name) refl is)
 
-ends_alphanumeric : (b : ℕ) (t : Bool) → (is_ascii_white b || b == greater_than) || (b == solidus && t) ≡ true → is_ascii_alphanumeric b ≡ false
+ends_alphanumeric : (b : ℕ) (t : Bool) → (is_white_or_line_end b || b == greater_than) || (b == solidus && t) ≡ true → is_ascii_alphanumeric b ≡ false
 ends_alphanumeric b t h = grind (arith, nat_tests, h)
 
 no_more_name : (rest : List ℕ) → ends_block_name rest ≡ true → prefix_len is_ascii_alphanumeric rest ≡ 0

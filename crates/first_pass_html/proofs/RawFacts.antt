@@ -9,7 +9,7 @@ use Rattle.std.proofs.lemmas.List.{take-append-drop, length-take-le}
 use Rattle.std.proofs.lemmas.List.Folds.{length-prefix_len}
 use Rattle.std.proofs.lemmas.Slice.Eq.{bytes_eq-Decides}
 use Rattle.first_pass_items.specs.Bytes.{greater_than}
-use Rattle.first_pass_lines.specs.Lines.{is_ascii_white}
+use Rattle.first_pass_lines.specs.Lines.{is_white_or_line_end}
 use Rattle.first_pass_html.specs.Names.{in_lower_case, begins_with_name}
 use Rattle.first_pass_html.specs.Ends.{AtRawEndTag, AtText}
 use Rattle.first_pass_html.specs.Starts.{ends_raw_name, begins_raw, is_raw_name, begins_raw_text, html_end}
@@ -21,7 +21,7 @@ use Rattle.first_pass_html.proofs.LongestNames.{front_within, same_length}
 lower_alphabetic : (b : ℕ) → is_ascii_alphabetic (to_ascii_lowercase b) ≡ true → is_ascii_alphabetic b ≡ true
 lower_alphabetic b h = grind (arith, nat_tests, h)
 
-ends_alphabetic : (b : ℕ) → is_ascii_white b || b == greater_than ≡ true → is_ascii_alphabetic b ≡ false
+ends_alphabetic : (b : ℕ) → is_white_or_line_end b || b == greater_than ≡ true → is_ascii_alphabetic b ≡ false
 ends_alphabetic b h = grind (arith, nat_tests, h)
 
 no_more_letters : (rest : List ℕ) → ends_raw_name rest ≡ true → prefix_len is_ascii_alphabetic rest ≡ 0

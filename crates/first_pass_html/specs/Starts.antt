@@ -4,7 +4,7 @@ use Rattle.std.specs.Prelude.{codes, if◌then◌else◌}
 use Rattle.std.specs.List.{prefix_len}
 use Rattle.std.specs.Char.{is_ascii_alphabetic, is_ascii_alphanumeric}
 use Rattle.first_pass_items.specs.Bytes.{solidus, greater_than}
-use Rattle.first_pass_lines.specs.Lines.{is_ascii_white, begins}
+use Rattle.first_pass_lines.specs.Lines.{is_white_or_line_end, begins}
 use Rattle.first_pass_html.specs.Ends.{BlockEnd, AtRawEndTag, AtText}
 use Rattle.first_pass_html.specs.Names.{in_lower_case, begins_with_name, IsBlockName, is_block_name}
 
@@ -21,7 +21,7 @@ begins_letter (b ∷ bs) = is_ascii_alphabetic b
 -- (CommonMark 4.6, start condition 1)
 abbrev pub ends_raw_name : List ℕ → Bool
 ends_raw_name [] = true
-ends_raw_name (b ∷ bs) = is_ascii_white b || b == greater_than
+ends_raw_name (b ∷ bs) = is_white_or_line_end b || b == greater_than
 
 -- the name of a block ends before these bytes: the same follows, or `/>` (CommonMark 4.6, start condition 6)
 abbrev pub ends_block_name : List ℕ → Bool

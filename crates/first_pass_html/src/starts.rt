@@ -9,7 +9,7 @@ ghost use Rattle.first_pass_html.specs.Starts as starts;
 
 use crate::ends::HtmlEnd;
 use crate::names::{begins_with_name, block_name_len};
-use first_pass_lines::lines::is_ascii_white;
+use first_pass_lines::lines::is_white_or_line_end;
 use first_pass_lines::places::rest_of;
 
 /// Returns the end condition of the HTML block of types 1 to 5 whose `<` directly precedes `bytes`. For `<pre`,
@@ -108,7 +108,7 @@ fn ends_raw_name(bytes: &[u8]) -> bool
 {
     match bytes {
         [] => true,
-        [byte, ..] => is_ascii_white(*byte) || *byte == b'>',
+        [byte, ..] => is_white_or_line_end(*byte) || *byte == b'>',
     }
 }
 

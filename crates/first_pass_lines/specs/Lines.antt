@@ -24,9 +24,9 @@ is_white b = (b == tab) || (b == line_tabulation) || (b == form_feed) || (b == s
 abbrev pub is_space_or_tab : ℕ → Bool
 is_space_or_tab b = (b == tab) || (b == space)
 
--- ASCII white space, including `\n` and `\r` (this project)
-abbrev pub is_ascii_white : ℕ → Bool
-is_ascii_white b = is_white b || is_line_end b
+-- white space, or `\n` or `\r` (this project)
+abbrev pub is_white_or_line_end : ℕ → Bool
+is_white_or_line_end b = is_white b || is_line_end b
 
 -- the bytes begin with the byte c (this project)
 abbrev pub begins : ℕ → List ℕ → Bool

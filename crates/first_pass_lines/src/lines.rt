@@ -2,7 +2,7 @@
 
 ghost use Rattle.std.specs.List.{prefix_len};
 ghost use Rattle.std.specs.Prelude.{◌≡◌, ◌<◌, ◌≤◌, length, true, IfSome};
-ghost use Rattle.first_pass_lines.specs.Lines.{is_line_end, is_white, is_space_or_tab, is_ascii_white, begins, is_content, is_number_sign, eol_len, blank_len, line_len, level_number as number_of, level_of, atx_level};
+ghost use Rattle.first_pass_lines.specs.Lines.{is_line_end, is_white, is_space_or_tab, is_white_or_line_end, begins, is_content, is_number_sign, eol_len, blank_len, line_len, level_number as number_of, level_of, atx_level};
 ghost use Rattle.first_pass_lines.specs.Plain.{begins_plain, begins_inert};
 
 use crate::lanes::{LANES, content_run, white_run};
@@ -30,9 +30,9 @@ pub fn is_space_or_tab(byte: u8) -> bool
     byte == b'\t' || byte == b' '
 }
 
-/// Whether the byte is ASCII white space: tab, 0x0B, 0x0C, space, `\n` or `\r`.
-pub fn is_ascii_white(byte: u8) -> bool
-    ensures { result ≡ is_ascii_white byte }
+/// Whether the byte is white space or part of a line ending: tab, 0x0B, 0x0C, space, `\n` or `\r`.
+pub fn is_white_or_line_end(byte: u8) -> bool
+    ensures { result ≡ is_white_or_line_end byte }
 {
     is_white(byte) || is_line_end(byte)
 }

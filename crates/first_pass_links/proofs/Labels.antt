@@ -12,7 +12,7 @@ use Rattle.std.proofs.lemmas.Grind.{common_steps}
 use Rattle.std.proofs.lemmas.Str.{IsCharBoundary-after_ascii, IsCharBoundary-start}
 use Rattle.std.proofs.lemmas.List.{drop_more, drop-drop, drop_all, get_or-drop, get_or_past, length-take-le, map-append, length-map, append-nil}
 use Rattle.first_pass_items.specs.Bytes.{space, left_bracket, backslash, right_bracket, pipe, ascii_end}
-use Rattle.first_pass_lines.specs.Lines.{begins, ends_line, is_ascii_white}
+use Rattle.first_pass_lines.specs.Lines.{begins, ends_line, is_white_or_line_end}
 use Rattle.first_pass_links.specs.declared.label.Unit.{Unit}
 use Rattle.first_pass_links.specs.Escapes.{begins_escape, without_pipe_escapes}
 use Rattle.first_pass_links.specs.Changes.{begins_pipe_escape}
@@ -124,7 +124,7 @@ index_past [] ys n m e = let f : n ≡ m = omega arith in rw f
 index_past (x ∷ xs) ys n m e = let f : n ≡ suc (length xs + m) = omega arith in rw f (index_past xs ys (length xs + m) m refl)
 
 abbrev is_solid : ℕ → Bool
-is_solid b = not (is_ascii_white b)
+is_solid b = not (is_white_or_line_end b)
 
 -- the state of a label before the remaining bytes: its number of characters, whether one is not white space, and the
 -- text read so far
@@ -210,23 +210,23 @@ label_unit t known us cs w e s =
 
 -- one byte
 
-solid_ends_none : (b : ℕ) (bs : List ℕ) → is_ascii_white b ≡ false → ends_line b bs ≡ false
+solid_ends_none : (b : ℕ) (bs : List ℕ) → is_white_or_line_end b ≡ false → ends_line b bs ≡ false
 solid_ends_none b bs h = grind (arith, nat_tests, h)
 
-pub single-solid : (b : ℕ) (bs : List ℕ) → is_ascii_white b ≡ false → single_spaced (b ∷ bs) ≡ b ∷ single_spaced bs
+pub single-solid : (b : ℕ) (bs : List ℕ) → is_white_or_line_end b ≡ false → single_spaced (b ∷ bs) ≡ b ∷ single_spaced bs
 unfolding single_spaced
 single-solid b bs h = rw h
 
-pub single-more : (b : ℕ) (bs : List ℕ) → is_ascii_white b ≡ true → is_ascii_white (slice_index bs 0) ≡ true → single_spaced (b ∷ bs) ≡ single_spaced bs
+pub single-more : (b : ℕ) (bs : List ℕ) → is_white_or_line_end b ≡ true → is_white_or_line_end (slice_index bs 0) ≡ true → single_spaced (b ∷ bs) ≡ single_spaced bs
 unfolding single_spaced
 single-more b bs h k = rw (h, k)
 
-pub single-last : (b : ℕ) (bs : List ℕ) → is_ascii_white b ≡ true → is_ascii_white (slice_index bs 0) ≡ false
+pub single-last : (b : ℕ) (bs : List ℕ) → is_white_or_line_end b ≡ true → is_white_or_line_end (slice_index bs 0) ≡ false
     → single_spaced (b ∷ bs) ≡ space ∷ single_spaced bs
 unfolding single_spaced
 single-last b bs h k = rw (h, k)
 
-as_read-solid : (t : Bool) (b : ℕ) (bs : List ℕ) → (b == backslash) ≡ false → is_ascii_white b ≡ false → as_read t (b ∷ bs) ≡ b ∷ as_read t bs
+as_read-solid : (t : Bool) (b : ℕ) (bs : List ℕ) → (b == backslash) ≡ false → is_white_or_line_end b ≡ false → as_read t (b ∷ bs) ≡ b ∷ as_read t bs
 as_read-solid true b bs h k = ap single_spaced (cell-other b bs h) ∙ single-solid b (without_pipe_escapes bs) k
 as_read-solid false b bs h k = single-solid b bs k
 
@@ -237,7 +237,7 @@ as_read-backslash false bs h = single-solid backslash bs refl
 as_read-pipe : (bs : List ℕ) → as_read true (backslash ∷ pipe ∷ bs) ≡ pipe ∷ as_read true bs
 as_read-pipe bs = ap single_spaced (cell-dropped backslash (pipe ∷ bs) refl refl) ∙ as_read-solid true pipe bs refl refl
 
-as_read-byte : (t : Bool) (p : ℕ) (bs : List ℕ) → is_ascii_white p ≡ false → (p == backslash) && begins pipe bs ≡ false → as_read t (p ∷ bs) ≡ p ∷ as_read t bs
+as_read-byte : (t : Bool) (p : ℕ) (bs : List ℕ) → is_white_or_line_end p ≡ false → (p == backslash) && begins pipe bs ≡ false → as_read t (p ∷ bs) ≡ p ∷ as_read t bs
 as_read-byte false p bs h k = single-solid p bs h
 as_read-byte true p bs h k = elim (cases_Bool (p == backslash)) [
   | inl e ↦ (let z : begins pipe bs ≡ false = rw e at k in ap single_spaced (cell-kept p bs z) ∙ single-solid p (without_pipe_escapes bs) h)
@@ -245,14 +245,14 @@ as_read-byte true p bs h k = elim (cases_Bool (p == backslash)) [
 ]
 
 -- runs of white space
-pub white_parts : (b : ℕ) (bs : List ℕ) → list_all is_ascii_white (b ∷ bs) ≡ true → (is_ascii_white b ≡ true) × (list_all is_ascii_white bs ≡ true)
+pub white_parts : (b : ℕ) (bs : List ℕ) → list_all is_white_or_line_end (b ∷ bs) ≡ true → (is_white_or_line_end b ≡ true) × (list_all is_white_or_line_end bs ≡ true)
 white_parts b bs h = and_parts _ _ h
 
 pub white_is_ascii : (b : ℕ)
-    → is_ascii_white b ≡ true → (b < ascii_end) × ((b == backslash) ≡ false) × (is_bracket b ≡ false) × (begins_character b ≡ true) × (is_solid b ≡ false)
+    → is_white_or_line_end b ≡ true → (b < ascii_end) × ((b == backslash) ≡ false) × (is_bracket b ≡ false) × (begins_character b ≡ true) × (is_solid b ≡ false)
 white_is_ascii b h = (grind (arith, nat_tests, h), grind (arith, nat_tests, h), grind (arith, nat_tests, h), grind (arith, nat_tests, h), rw h)
 
-pub upto-run : (u bs : List ℕ) → list_all is_ascii_white u ≡ true → label_len (u ++ bs) ≡ length u + label_len bs
+pub upto-run : (u bs : List ℕ) → list_all is_white_or_line_end u ≡ true → label_len (u ++ bs) ≡ length u + label_len bs
 upto-run [] bs h = omega arith
 upto-run (b ∷ u) bs h =
     let p = white_parts b u h in
@@ -262,24 +262,24 @@ upto-run (b ∷ u) bs h =
     let s = upto-byte is_bracket b (u ++ bs) e w.2 in
     omega arith
 
-cell-run : (u bs : List ℕ) → list_all is_ascii_white u ≡ true → without_pipe_escapes (u ++ bs) ≡ u ++ without_pipe_escapes bs
+cell-run : (u bs : List ℕ) → list_all is_white_or_line_end u ≡ true → without_pipe_escapes (u ++ bs) ≡ u ++ without_pipe_escapes bs
 cell-run [] bs h = refl
 cell-run (b ∷ u) bs h =
     let p = white_parts b u h in
     cell-other b (u ++ bs) (white_is_ascii b p.0).1 ∙ ap (λ xs. b ∷ xs) (cell-run u bs p.1)
 
 cell_first_by : (t : Bool) (b : ℕ) (bs : List ℕ)
-    → (b == backslash) ≡ t → (u : Bool) → begins pipe bs ≡ u → is_ascii_white b ≡ false → is_ascii_white (slice_index (without_pipe_escapes (b ∷ bs)) 0) ≡ false
-cell_first_by false b bs h u k e = ap (λ xs. is_ascii_white (slice_index xs 0)) (cell-other b bs h) ∙ e
-cell_first_by true b bs h true k e = ap (λ xs. is_ascii_white (slice_index xs 0)) (cell-dropped b bs h k ∙ pipe_after bs k)
-cell_first_by true b bs h false k e = ap (λ xs. is_ascii_white (slice_index xs 0)) (cell-kept b bs k) ∙ e
+    → (b == backslash) ≡ t → (u : Bool) → begins pipe bs ≡ u → is_white_or_line_end b ≡ false → is_white_or_line_end (slice_index (without_pipe_escapes (b ∷ bs)) 0) ≡ false
+cell_first_by false b bs h u k e = ap (λ xs. is_white_or_line_end (slice_index xs 0)) (cell-other b bs h) ∙ e
+cell_first_by true b bs h true k e = ap (λ xs. is_white_or_line_end (slice_index xs 0)) (cell-dropped b bs h k ∙ pipe_after bs k)
+cell_first_by true b bs h false k e = ap (λ xs. is_white_or_line_end (slice_index xs 0)) (cell-kept b bs k) ∙ e
 
-cell_first : (bs : List ℕ) → is_ascii_white (slice_index bs 0) ≡ false → is_ascii_white (slice_index (without_pipe_escapes bs) 0) ≡ false
-cell_first [] e = ap (λ xs. is_ascii_white (slice_index xs 0)) cell-nil
+cell_first : (bs : List ℕ) → is_white_or_line_end (slice_index bs 0) ≡ false → is_white_or_line_end (slice_index (without_pipe_escapes bs) 0) ≡ false
+cell_first [] e = ap (λ xs. is_white_or_line_end (slice_index xs 0)) cell-nil
 cell_first (b ∷ bs) e = cell_first_by _ b bs refl _ refl e
 
 single-run : (u bs : List ℕ)
-    → list_all is_ascii_white u ≡ true → 0 < length u → is_ascii_white (slice_index bs 0) ≡ false → single_spaced (u ++ bs) ≡ space ∷ single_spaced bs
+    → list_all is_white_or_line_end u ≡ true → 0 < length u → is_white_or_line_end (slice_index bs 0) ≡ false → single_spaced (u ++ bs) ≡ space ∷ single_spaced bs
 single-run [] bs h l e = absurd (omega arith)
 single-run (b ∷ []) bs h l e = single-last b bs (white_parts b [] h).0 e
 single-run (b ∷ c ∷ u) bs h l e =
@@ -288,11 +288,11 @@ single-run (b ∷ c ∷ u) bs h l e =
     single-more b (c ∷ (u ++ bs)) p.0 q.0 ∙ single-run (c ∷ u) bs p.1 (omega arith) e
 
 as_read-run : (t : Bool) (u bs : List ℕ)
-    → list_all is_ascii_white u ≡ true → 0 < length u → is_ascii_white (slice_index bs 0) ≡ false → as_read t (u ++ bs) ≡ space ∷ as_read t bs
+    → list_all is_white_or_line_end u ≡ true → 0 < length u → is_white_or_line_end (slice_index bs 0) ≡ false → as_read t (u ++ bs) ≡ space ∷ as_read t bs
 as_read-run true u bs h l e = ap single_spaced (cell-run u bs h) ∙ single-run u (without_pipe_escapes bs) h l (cell_first bs e)
 as_read-run false u bs h l e = single-run u bs h l e
 
-run_counts : (u : List ℕ) → list_all is_ascii_white u ≡ true → (count_by begins_character u ≡ length u) × (list_any is_solid u ≡ false)
+run_counts : (u : List ℕ) → list_all is_white_or_line_end u ≡ true → (count_by begins_character u ≡ length u) × (list_any is_solid u ≡ false)
 run_counts [] h = (refl, refl)
 run_counts (b ∷ u) h =
     let p = white_parts b u h in
@@ -334,7 +334,7 @@ read-kept text at n c s = ap (λ xs. part text at n ++ xs) (part-none text n) �
 
 -- a byte that is neither white space, bracket nor backslash
 pub byte_reads : (h : List ℕ → Option ℕ) (t : Bool) (text : List ℕ) (at c : ℕ)
-    → at < length text → is_ascii_white (get_or text at 0) ≡ false → is_bracket (get_or text at 0) ≡ false → (get_or text at 0 == backslash) ≡ false
+    → at < length text → is_white_or_line_end (get_or text at 0) ≡ false → is_bracket (get_or text at 0) ≡ false → (get_or text at 0 == backslash) ≡ false
     → c ≡ (if begins_character (get_or text at 0) then 1 else 0) → Reads h t text at (kept_unit (at + 1) c true)
 byte_reads h t text at c l white bracket plain e =
     let b = get_or text at 0 in
@@ -353,7 +353,7 @@ no_pipe b h = grind (arith, nat_tests, h)
 three : (n : ℕ) → 2 + (1 + n) ≡ 3 + n
 three n = omega arith
 
-pair_as_read : (t : Bool) (b : ℕ) (bs : List ℕ) → is_ascii_white b ≡ false → (t ≡ true → (b == pipe) ≡ false)
+pair_as_read : (t : Bool) (b : ℕ) (bs : List ℕ) → is_white_or_line_end b ≡ false → (t ≡ true → (b == pipe) ≡ false)
     → (t ≡ true → (b == backslash) ≡ true → begins pipe bs ≡ false) → as_read t (backslash ∷ b ∷ bs) ≡ backslash ∷ b ∷ as_read t bs
 pair_as_read true b bs s f g =
     as_read-backslash true (b ∷ bs) (f refl) ∙ ap (λ xs. backslash ∷ xs) (elim (cases_Bool (b == backslash)) [
@@ -383,7 +383,7 @@ eqb-same : (n : ℕ) → (n == n) ≡ true
 eqb-same n = grind (arith, nat_tests)
 
 -- a run that is not a single space is heavier than a space
-lone_weight : (text : List ℕ) (at next b : ℕ) → (b ≡ get_or text at 0) ⊎ (b ≡ 0) → is_ascii_white b ≡ true
+lone_weight : (text : List ℕ) (at next b : ℕ) → (b ≡ get_or text at 0) ⊎ (b ≡ 0) → is_white_or_line_end b ≡ true
     → (next == at + 1 && slice_index text at == space) ≡ false → (slice_index text at ≡ space → next ≡ at + 1) → (b == space) ≡ false
 lone_weight text at next b (inr z) s k f = absurd (false≢true (rw z at s))
 lone_weight text at next b (inl z) s k f = elim (cases_Bool (b == space)) [
@@ -397,7 +397,7 @@ lone_weight text at next b (inl z) s k f = elim (cases_Bool (b == space)) [
 ]
 
 run_heavier : (text : List ℕ) (at next characters : ℕ) (us : List ℕ)
-    → length us ≡ characters → list_all is_ascii_white us ≡ true → (slice_index us 0 ≡ get_or text at 0) ⊎ (slice_index us 0 ≡ 0) → 0 < characters
+    → length us ≡ characters → list_all is_white_or_line_end us ≡ true → (slice_index us 0 ≡ get_or text at 0) ⊎ (slice_index us 0 ≡ 0) → 0 < characters
     → (next == at + 1 && slice_index text at == space) ≡ false → (characters ≡ 1 → slice_index text at ≡ space → next ≡ at + 1) → 1 < weight us
 run_heavier text at next characters [] l w f some k lone = absurd (omega arith)
 run_heavier text at next characters (b ∷ []) l w f some k lone =
@@ -428,7 +428,7 @@ run_first h text at next n r some l =
     ])
 
 run_reads_by : (x : Bool) (h : List ℕ → Option ℕ) (t : Bool) (text : List ℕ) (at next characters : ℕ) → (next == at + 1 && slice_index text at == space) ≡ x
-    → IsWhiteRun h text at next characters → EndsWhiteRun text at next characters → is_ascii_white (slice_index text next) ≡ false
+    → IsWhiteRun h text at next characters → EndsWhiteRun text at next characters → is_white_or_line_end (slice_index text next) ≡ false
     → Reads h t text at (space_unit text at next characters)
 run_reads_by x h t text at next characters kind r ends e =
     let some = ends.some in
@@ -438,10 +438,10 @@ run_reads_by x h t text at next characters kind r ends e =
     let c = run_counts (bytes_of r.run) r.white in
     let len = length-map r.run (λ (c : ℕ × ℕ). c.1) in
     let count = r.count in
-    let first : is_ascii_white (slice_index (drop next text) 0) ≡ false =
-    ap is_ascii_white (get_or-drop next text 0 0 ∙ ap (λ n. get_or text n 0) (let z : next + 0 ≡ next = omega arith in z)) ∙ e
+    let first : is_white_or_line_end (slice_index (drop next text) 0) ≡ false =
+    ap is_white_or_line_end (get_or-drop next text 0 0 ∙ ap (λ n. get_or text n 0) (let z : next + 0 ≡ next = omega arith in z)) ∙ e
     in
-    let first' = first_fails is_ascii_white refl h text next first in
+    let first' = first_fails is_white_or_line_end refl h text next first in
     unit_reads h t text at (space_unit text at next characters) r.run
     (r.joins ∙ ap (λ n. r.run ++ left_at h text n) (sym f.0))
     (c.0 ∙ len ∙ count ∙ sym f.1)
@@ -452,7 +452,7 @@ run_reads_by x h t text at next characters kind r ends e =
     (λ no. run_heavier text at next characters (bytes_of r.run) (len ∙ count) r.white (run_first h text at next characters r some l) some (kind ∙ no)
     ends.lone))
     (λ n. ap (λ k. as_read t (bytes_of r.run ++ take n (bytes_of (left_at h text k)))) f.0
-    ∙ as_read-run t (bytes_of r.run) (take n X) r.white (omega arith) (taken_fails is_ascii_white refl n X first')
+    ∙ as_read-run t (bytes_of r.run) (take n X) r.white (omega arith) (taken_fails is_white_or_line_end refl n X first')
     ∙ ap (λ xs. xs ++ as_read t (take n X)) (sym (read-space text at next characters x kind l))
     ∙ ap (λ k. read_of text at (space_unit text at next characters) ++ as_read t (take n (bytes_of (left_at h text k)))) (sym f.0))
 
@@ -475,14 +475,14 @@ lone_reads h t text at l e p =
 
 -- a backslash that escapes a byte
 pair_joins : (h : List ℕ → Option ℕ) (text : List ℕ) (at : ℕ) → at + 1 < length text → get_or text at 0 ≡ backslash
-    → is_ascii_white (get_or text (at + 1) 0) ≡ false → left_at h text at ≡ (at, backslash) ∷ (at + 1, get_or text (at + 1) 0) ∷ left_at h text (at + 2)
+    → is_white_or_line_end (get_or text (at + 1) 0) ≡ false → left_at h text at ≡ (at, backslash) ∷ (at + 1, get_or text (at + 1) 0) ∷ left_at h text (at + 2)
 pair_joins h text at l e s =
     let k : at + 1 + 1 ≡ at + 2 = omega arith in
     left-byte h text at (omega arith) (rw e) ∙ ap (λ b. (at, b) ∷ left_at h text (at + 1)) e
     ∙ ap (λ cs. (at, backslash) ∷ cs) (left-byte h text (at + 1) l (solid_ends_none (get_or text (at + 1) 0) (drop (at + 1 + 1) text) s)
     ∙ ap (λ n. (at + 1, get_or text (at + 1) 0) ∷ left_at h text n) k)
 
-punctuation_facts : (p : ℕ) → is_ascii_punctuation p ≡ true → (is_ascii_white p ≡ false) × (begins_character p ≡ true)
+punctuation_facts : (p : ℕ) → is_ascii_punctuation p ≡ true → (is_white_or_line_end p ≡ false) × (begins_character p ≡ true)
     × (begins_escape (backslash ∷ p ∷ []) ≡ true)
 punctuation_facts p h = (grind (arith, nat_tests, h), grind (arith, nat_tests, h), h)
 
@@ -553,7 +553,7 @@ pipe_escape_reads h text at l e p q =
 
 -- a run of white space
 pub run_reads : (h : List ℕ → Option ℕ) (t : Bool) (text : List ℕ) (at next characters : ℕ)
-    → IsWhiteRun h text at next characters → EndsWhiteRun text at next characters → is_ascii_white (slice_index text next) ≡ false
+    → IsWhiteRun h text at next characters → EndsWhiteRun text at next characters → is_white_or_line_end (slice_index text next) ≡ false
     → Reads h t text at (space_unit text at next characters)
 run_reads h t text at next characters r ends e = run_reads_by _ h t text at next characters refl r ends e
 
@@ -636,7 +636,7 @@ dropped_is_unit text at n c p u l m w f e =
 length-part : (text : List ℕ) (a b : ℕ) → a ≤ b → b ≤ length text → length (part text a b) ≡ b - a
 length-part text a b h k = let d = length-drop a text in length-take-le (b - a) (drop a text) (omega arith)
 
-run_weight : (text : List ℕ) (at next : ℕ) → at < next → next ≤ length text → is_ascii_white (get_or text at 0) ≡ true
+run_weight : (text : List ℕ) (at next : ℕ) → at < next → next ≤ length text → is_white_or_line_end (get_or text at 0) ≡ true
     → (next == at + 1 && slice_index text at == space) ≡ false → (at + 1 < next) ⊎ (next ≤ at + 1) → 1 < weight (part text at next)
 run_weight text at next l w s k (inl more) =
     let n = length-part text at next (omega arith) w in
@@ -650,7 +650,7 @@ run_weight text at next l w s k (inr one) =
     omega arith
 
 space_unit_by : (x : Bool) (text : List ℕ) (at next c : ℕ) → (next == at + 1 && slice_index text at == space) ≡ x → EndsWhiteRun text at next c
-    → is_ascii_white (get_or text at 0) ≡ true → IsUnit text at (space_unit text at next c)
+    → is_white_or_line_end (get_or text at 0) ≡ true → IsUnit text at (space_unit text at next c)
 space_unit_by true text at next c k e s = rw k (kept_is_unit text at next c false e.later e.within e.bound)
 space_unit_by false text at next c k e s =
     let later = e.later in
@@ -668,7 +668,7 @@ space_unit_by false text at next c k e s =
     })
 
 pub space_is_unit : (text : List ℕ) (at next c : ℕ)
-    → EndsWhiteRun text at next c → is_ascii_white (get_or text at 0) ≡ true → IsUnit text at (space_unit text at next c)
+    → EndsWhiteRun text at next c → is_white_or_line_end (get_or text at 0) ≡ true → IsUnit text at (space_unit text at next c)
 space_is_unit text at next c e s = space_unit_by _ text at next c refl e s
 
 -- a backslash
@@ -748,12 +748,12 @@ blank_stops h t text at b =
     rw d
 
 pub end_stops : (h : List ℕ → Option ℕ) (t : Bool) (text : List ℕ) (at : ℕ) → length text ≤ at → Stops h t text at
-end_stops h t text at l = blank_stops h t text at (ap (λ cs. list_all is_ascii_white (bytes_of cs)) (left-past h text at l))
+end_stops h t text at l = blank_stops h t text at (ap (λ cs. list_all is_white_or_line_end (bytes_of cs)) (left-past h text at l))
 
 bracket_left : (h : List ℕ → Option ℕ) (text : List ℕ) (at k : ℕ)
-    → at < length text → get_or text at 0 ≡ k → is_ascii_white k ≡ false → left_at h text at ≡ (at, k) ∷ left_at h text (at + 1)
+    → at < length text → get_or text at 0 ≡ k → is_white_or_line_end k ≡ false → left_at h text at ≡ (at, k) ∷ left_at h text (at + 1)
 bracket_left h text at k l e s =
-    left-byte h text at l (solid_ends_none (get_or text at 0) (drop (at + 1) text) (ap is_ascii_white e ∙ s)) ∙ ap (λ b. (at, b) ∷ left_at h text (at + 1)) e
+    left-byte h text at l (solid_ends_none (get_or text at 0) (drop (at + 1) text) (ap is_white_or_line_end e ∙ s)) ∙ ap (λ b. (at, b) ∷ left_at h text (at + 1)) e
 
 open_by : (t : Bool) (known : Known) (at : ℕ) (cs : List (ℕ × ℕ)) → label_after t known ((at, left_bracket) ∷ cs) ≡ None
 unfolding label_after
@@ -801,14 +801,14 @@ too_long t known cs l = long_by t known cs (λ bs. rw (gt-leb (known.characters 
 pub differs : (a b : ℕ) → (a ≡ b → ⊥) → (a == b) ≡ false
 differs a b f = elim (cases_Bool (a == b)) [ inl e ↦ absurd (f (eqb-true a b e)) | inr e ↦ e ]
 
-all_more : (xs : List ℕ) (b : ℕ) → list_all is_ascii_white xs ≡ true → is_ascii_white b ≡ true → list_all is_ascii_white (xs ++ b ∷ []) ≡ true
+all_more : (xs : List ℕ) (b : ℕ) → list_all is_white_or_line_end xs ≡ true → is_white_or_line_end b ≡ true → list_all is_white_or_line_end (xs ++ b ∷ []) ≡ true
 all_more [] b h s = rw s
 all_more (x ∷ xs) b h s = let p = white_parts x xs h in rw p.0 (all_more xs b p.1 s)
 
 -- a run of white space, byte by byte
 
 pub run_more : (h : List ℕ → Option ℕ) (text : List ℕ) (at next following n : ℕ)
-    → IsWhiteRun h text at next n → left_at h text next ≡ (next, get_or text next 0) ∷ left_at h text following → is_ascii_white (get_or text next 0) ≡ true
+    → IsWhiteRun h text at next n → left_at h text next ≡ (next, get_or text next 0) ∷ left_at h text following → is_white_or_line_end (get_or text next 0) ≡ true
     → IsWhiteRun h text at following (n + 1)
 run_more h text at next following n r e s =
     let one : List (ℕ × ℕ) = (next, get_or text next 0) ∷ [] in
@@ -817,12 +817,12 @@ run_more h text at next following n r e s =
     record {
       run = r.run ++ one;
       joins = r.joins ∙ ap (λ cs. r.run ++ cs) e ∙ sym (append_assoc r.run one (left_at h text following));
-      white = ap (list_all is_ascii_white) (map-append (λ (x : ℕ × ℕ). x.1) r.run one) ∙ all_more (bytes_of r.run) (get_or text next 0) r.white s;
+      white = ap (list_all is_white_or_line_end) (map-append (λ (x : ℕ × ℕ). x.1) r.run one) ∙ all_more (bytes_of r.run) (get_or text next 0) r.white s;
       count = omega arith;
     }
 
 pub run_blank : (h : List ℕ → Option ℕ) (text : List ℕ) (at next n : ℕ) → IsWhiteRun h text at next n → left_at h text next ≡ [] → IsBlankRest h text at
-run_blank h text at next n r e = ap (λ cs. list_all is_ascii_white (bytes_of cs)) (r.joins ∙ ap (λ cs. r.run ++ cs) e ∙ append-nil r.run) ∙ r.white
+run_blank h text at next n r e = ap (λ cs. list_all is_white_or_line_end (bytes_of cs)) (r.joins ∙ ap (λ cs. r.run ++ cs) e ∙ append-nil r.run) ∙ r.white
 
 -- a place after a place
 pub place_past : (text : List ℕ) (a n : ℕ) → a ≤ length text → IsCharBoundary (drop a text) n → IsCharBoundary text (a + n)

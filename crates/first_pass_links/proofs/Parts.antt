@@ -5,7 +5,7 @@ use Rattle.std.proofs.Common.{get_or, refl, sym, ap, ◌∙◌, arith, append_as
 use Rattle.std.specs.Str.{IsCharBoundary}
 use Rattle.std.proofs.lemmas.List.{drop_more, drop-drop}
 use Rattle.first_pass_items.specs.Bytes.{space}
-use Rattle.first_pass_lines.specs.Lines.{is_ascii_white}
+use Rattle.first_pass_lines.specs.Lines.{is_white_or_line_end}
 use Rattle.first_pass_links.specs.declared.label.Unit.{Unit}
 use Rattle.first_pass_links.specs.Units.{part, weight, read_of, IsUnit, IsLighter}
 
@@ -61,7 +61,7 @@ unfolding weight
 weight-length [] = omega arith
 weight-length (x ∷ xs) =
     let i = weight-length xs in
-    let w = weigh_some (is_ascii_white x && not (x == space)) in
+    let w = weigh_some (is_white_or_line_end x && not (x == space)) in
     omega arith
 
 pub weight-nil : weight [] ≡ 0
@@ -72,7 +72,7 @@ pub weight-space : weight (space ∷ []) ≡ 1
 unfolding weight
 weight-space = refl
 
-pub weight-other : (b : ℕ) → is_ascii_white b ≡ true → (b == space) ≡ false → weight (b ∷ []) ≡ 2
+pub weight-other : (b : ℕ) → is_white_or_line_end b ≡ true → (b == space) ≡ false → weight (b ∷ []) ≡ 2
 unfolding weight
 weight-other b h k = rw (h, k)
 

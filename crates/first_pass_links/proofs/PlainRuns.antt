@@ -5,7 +5,7 @@ use Rattle.std.specs.List.{list_any, count_by}
 use Rattle.std.proofs.lemmas.Bool.Decides.{nat_tests}
 use Rattle.std.proofs.lemmas.List.{drop_more, map-append, length-map, get_or-drop}
 use Rattle.first_pass_items.specs.Bytes.{left_parenthesis, right_parenthesis, backslash}
-use Rattle.first_pass_lines.specs.Lines.{is_ascii_white}
+use Rattle.first_pass_lines.specs.Lines.{is_white_or_line_end}
 use Rattle.first_pass_links.specs.Escapes.{begins_escape}
 use Rattle.first_pass_links.specs.Destinations.{ends_run, closes_none, nesting_after, bare_len, longer}
 use Rattle.first_pass_links.specs.Labels.{is_bracket, begins_character, bytes_of, label_len, as_read}
@@ -36,7 +36,7 @@ plain_nests b n h = grind (arith, nat_tests, h)
 plain_backslash : (b : ℕ) → is_ordinary b ≡ true → (b == backslash) ≡ false
 plain_backslash b h = grind (arith, nat_tests, h)
 
-plain_white : (b : ℕ) → is_ordinary b ≡ true → is_ascii_white b ≡ false
+plain_white : (b : ℕ) → is_ordinary b ≡ true → is_white_or_line_end b ≡ false
 plain_white b h = grind (arith, nat_tests, h)
 
 plain_bracket : (b : ℕ) → is_ordinary b ≡ true → is_bracket b ≡ false
@@ -106,8 +106,8 @@ module _ (h : List ℕ → Option ℕ) (t : Bool) (text : List ℕ) (at m n c d 
         run = one.run ++ two.run;
         joins = one.joins ∙ ap (λ l. one.run ++ l) two.joins ∙ sym (append_assoc one.run two.run (left_at h text n));
         count = ap (count_by begins_character) both ∙ count_append begins_character us vs ∙ omega (arith, one.count, two.count);
-        something = ap (list_any (λ b. not (is_ascii_white b))) both ∙ any_append (λ b. not (is_ascii_white b)) us vs
-            ∙ ap (λ x. x || list_any (λ b. not (is_ascii_white b)) vs) one.something;
+        something = ap (list_any (λ b. not (is_white_or_line_end b))) both ∙ any_append (λ b. not (is_white_or_line_end b)) us vs
+            ∙ ap (λ x. x || list_any (λ b. not (is_white_or_line_end b)) vs) one.something;
         passed =
             ap (λ l. label_len (l ++ X)) both ∙ ap label_len (append_assoc us vs X) ∙ ap (λ l. label_len (us ++ l)) (sym later) ∙ one.passed
             ∙ omega (arith, ap label_len later, two.passed, length-append one.run two.run);

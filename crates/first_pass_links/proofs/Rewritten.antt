@@ -6,7 +6,7 @@ use Rattle.std.specs.declared.alloc.AllocError.{AllocError}
 use Rattle.std.proofs.lemmas.Bool.{cases_Bool, eqb-true}
 use Rattle.std.proofs.lemmas.List.{map-append, length-map, append-nil}
 use Rattle.first_pass_items.specs.Bytes.{space, backslash, pipe}
-use Rattle.first_pass_lines.specs.Lines.{begins, ends_line, is_ascii_white}
+use Rattle.first_pass_lines.specs.Lines.{begins, ends_line, is_white_or_line_end}
 use Rattle.first_pass_links.specs.Escapes.{without_pipe_escapes}
 use Rattle.first_pass_links.specs.declared.label.Unit.{Unit}
 use Rattle.first_pass_links.specs.Labels.{is_bracket, AnswersWith, CanErr, IsRewritten, HasNoBracket, before_bracket, bytes_of, label_len, single_spaced}
@@ -22,11 +22,11 @@ pub on_err : {A E P : Type 0} (r : Result A E) → P → OnErr r P
 on_err (Ok x) p = tt
 on_err (Err e) p = p
 
-weight-solid : (b : ℕ) → is_ascii_white b ≡ false → weight (b ∷ []) ≡ 1
+weight-solid : (b : ℕ) → is_white_or_line_end b ≡ false → weight (b ∷ []) ≡ 1
 unfolding weight
 weight-solid b h = rw h
 
-line_end_facts : (b : ℕ) (bs : List ℕ) → ends_line b bs ≡ true → (is_ascii_white b ≡ true) × ((b == space) ≡ false) × ((b == backslash) ≡ false)
+line_end_facts : (b : ℕ) (bs : List ℕ) → ends_line b bs ≡ true → (is_white_or_line_end b ≡ true) × ((b == space) ≡ false) × ((b == backslash) ≡ false)
     × (is_bracket b ≡ false)
 line_end_facts b bs h = (grind (arith, nat_tests, h), grind (arith, nat_tests, h), grind (arith, nat_tests, h), grind (arith, nat_tests, h))
 
@@ -58,7 +58,7 @@ lightens_through : (xs ys zs : List ℕ) → Lightens xs ys → Lightens ys zs �
 lightens_through xs ys zs (inl l) k = let w = lightens_weight ys zs k in inl (omega arith)
 lightens_through xs ys zs (inr e) k = subst (λ vs. Lightens vs zs) (sym e) k
 
-space_for : (b : ℕ) (xs ys : List ℕ) → is_ascii_white b ≡ true → Lightens xs ys → Lightens (space ∷ xs) (b ∷ ys)
+space_for : (b : ℕ) (xs ys : List ℕ) → is_white_or_line_end b ≡ true → Lightens xs ys → Lightens (space ∷ xs) (b ∷ ys)
 space_for b xs ys s l = elim (cases_Bool (b == space)) [
   | inl e ↦ subst (λ c. Lightens (space ∷ xs) (c ∷ ys)) (sym (eqb-true b space e)) (lightens_more space xs ys l)
   | inr e ↦ (
@@ -71,7 +71,7 @@ space_for b xs ys s l = elim (cases_Bool (b == space)) [
 ]
 
 single_by : (b : ℕ) (bs : List ℕ) (x y : Bool)
-    → is_ascii_white b ≡ x → is_ascii_white (slice_index bs 0) ≡ y → Lightens (single_spaced bs) bs → Lightens (single_spaced (b ∷ bs)) (b ∷ bs)
+    → is_white_or_line_end b ≡ x → is_white_or_line_end (slice_index bs 0) ≡ y → Lightens (single_spaced bs) bs → Lightens (single_spaced (b ∷ bs)) (b ∷ bs)
 single_by b bs false y h k l = subst (λ xs. Lightens xs (b ∷ bs)) (sym (single-solid b bs h)) (lightens_more b (single_spaced bs) bs l)
 single_by b bs true true h k l = subst (λ xs. Lightens xs (b ∷ bs)) (sym (single-more b bs h k)) (lightens_without b (single_spaced bs) bs l)
 single_by b bs true false h k l = subst (λ xs. Lightens xs (b ∷ bs)) (sym (single-last b bs h k)) (space_for b (single_spaced bs) bs h l)
@@ -96,7 +96,7 @@ as_read_lightens true bs =
     lightens_through (single_spaced (without_pipe_escapes bs)) (without_pipe_escapes bs) bs (single_lightens (without_pipe_escapes bs)) (cell_lightens bs)
 
 -- white space that is read is a space
-single_weighs_by : (b : ℕ) (bs : List ℕ) (x y : Bool) → is_ascii_white b ≡ x → is_ascii_white (slice_index bs 0) ≡ y
+single_weighs_by : (b : ℕ) (bs : List ℕ) (x y : Bool) → is_white_or_line_end b ≡ x → is_white_or_line_end (slice_index bs 0) ≡ y
     → weight (single_spaced bs) ≡ length (single_spaced bs) → weight (single_spaced (b ∷ bs)) ≡ length (single_spaced (b ∷ bs))
 single_weighs_by b bs false y h k l =
     let e = single-solid b bs h in
@@ -119,7 +119,7 @@ as_read_weighs false bs = single_weighs bs
 as_read_weighs true bs = single_weighs (without_pipe_escapes bs)
 
 -- bytes with white space other than a space are read differently
-heavy_differs : (t : Bool) (xs ys : List ℕ) (b : ℕ) → is_ascii_white b ≡ true → (b == space) ≡ false → as_read t (xs ++ b ∷ ys) ≢ xs ++ b ∷ ys
+heavy_differs : (t : Bool) (xs ys : List ℕ) (b : ℕ) → is_white_or_line_end b ≡ true → (b == space) ≡ false → as_read t (xs ++ b ∷ ys) ≢ xs ++ b ∷ ys
 heavy_differs t xs ys b h k = λ e.
     let w = as_read_weighs t (xs ++ b ∷ ys) in
     let same = ap weight e in

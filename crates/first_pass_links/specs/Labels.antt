@@ -8,7 +8,7 @@ use Rattle.std.specs.Borrow.{Bor}
 use Rattle.std.specs.Str.{IsCharBoundary}
 use Rattle.std.specs.declared.alloc.AllocError.{AllocError}
 use Rattle.first_pass_items.specs.Bytes.{space, left_bracket, right_bracket, ascii_end, least_lead}
-use Rattle.first_pass_lines.specs.Lines.{begins, is_ascii_white, is_line_end, ends_line}
+use Rattle.first_pass_lines.specs.Lines.{begins, is_white_or_line_end, is_line_end, ends_line}
 use Rattle.first_pass_links.specs.Escapes.{read_in}
 use Rattle.first_pass_links.specs.Destinations.{unescaped_upto}
 
@@ -63,7 +63,7 @@ label_len bs = unescaped_upto is_bracket 0 bs
 unfoldable pub single_spaced : List ℕ → List ℕ
 single_spaced [] = []
 single_spaced (b ∷ bs) =
-    if is_ascii_white b then (if is_ascii_white (slice_index bs 0) then single_spaced bs else space ∷ single_spaced bs) else b ∷ single_spaced bs
+    if is_white_or_line_end b then (if is_white_or_line_end (slice_index bs 0) then single_spaced bs else space ∷ single_spaced bs) else b ∷ single_spaced bs
 
 -- a label as it is read: runs of white space are single spaces; in a table, backslashes before pipes are dropped
 -- (CommonMark 6.3, GFM 4.10)
@@ -72,7 +72,7 @@ as_read in_table bs = single_spaced (read_in in_table bs)
 
 -- a label has at most 999 characters, and one of them at least is not white space (CommonMark 6.3)
 abbrev pub is_label : List ℕ → Bool
-is_label bs = nat_le (count_by begins_character bs) 999 && list_any (λ b. not (is_ascii_white b)) bs
+is_label bs = nat_le (count_by begins_character bs) 999 && list_any (λ b. not (is_white_or_line_end b)) bs
 
 -- The label after a `[`: the joined text before the first unescaped bracket, if that bracket is a `]` and `is_label`
 -- holds for this text. The result is the offset after the `]`, and the label as it is read (CommonMark 6.3).

@@ -7,7 +7,7 @@ use Rattle.std.specs.Borrow.{Bor}
 use Rattle.std.specs.Str.{IsCharBoundary}
 use Rattle.std.specs.declared.alloc.AllocError.{AllocError}
 use Rattle.first_pass_items.specs.Bytes.{space, pipe, ascii_end}
-use Rattle.first_pass_lines.specs.Lines.{begins, is_ascii_white}
+use Rattle.first_pass_lines.specs.Lines.{begins, is_white_or_line_end}
 use Rattle.first_pass_links.specs.Escapes.{begins_escape}
 use Rattle.first_pass_links.specs.Changes.{begins_pipe_escape}
 use Rattle.first_pass_links.specs.declared.label.Unit.{Unit}
@@ -53,7 +53,7 @@ left_at prefix text at = joined prefix at 0 (drop at text)
 -- changes gets lighter (this project)
 unfoldable pub weight : List ℕ → ℕ
 weight [] = 0
-weight (b ∷ bs) = (if is_ascii_white b && not (b == space) then 2 else 1) + weight bs
+weight (b ∷ bs) = (if is_white_or_line_end b && not (b == space) then 2 else 1) + weight bs
 
 -- a unit at an offset, and the bytes that it leaves out, if any (this project)
 pub record IsUnit (text : List ℕ) (at : ℕ) (unit : Unit) : Type 0 where
@@ -74,7 +74,7 @@ pub record Reads (prefix : List ℕ → Option ℕ) (in_table : Bool) (text : Li
   pub run : List (ℕ × ℕ)
   pub joins : left_at prefix text at ≡ run ++ left_at prefix text unit.next
   pub count : count_by begins_character (bytes_of run) ≡ unit.characters
-  pub something : list_any (λ b. not (is_ascii_white b)) (bytes_of run) ≡ unit.solid
+  pub something : list_any (λ b. not (is_white_or_line_end b)) (bytes_of run) ≡ unit.solid
   pub passed : label_len (bytes_of run ++ bytes_of (left_at prefix text unit.next)) ≡ length run + label_len (bytes_of (left_at prefix text unit.next))
   pub changes : (unit.paused ≡ unit.resumed) ⊎ (weight (read_of text at unit) < weight (bytes_of run))
   pub reads : (n : ℕ) → as_read in_table (bytes_of run ++ take n (bytes_of (left_at prefix text unit.next)))
@@ -93,12 +93,12 @@ pub record IsLighter (text : List ℕ) (written : List ℕ) (from at : ℕ) : Ty
 pub record IsWhiteRun (prefix : List ℕ → Option ℕ) (text : List ℕ) (at next characters : ℕ) : Type 0 where
   pub run : List (ℕ × ℕ)
   pub joins : left_at prefix text at ≡ run ++ left_at prefix text next
-  pub white : list_all is_ascii_white (bytes_of run) ≡ true
+  pub white : list_all is_white_or_line_end (bytes_of run) ≡ true
   pub count : length run ≡ characters
 
 -- the rest of the label has only white space (CommonMark 6.3)
 abbrev pub IsBlankRest : (List ℕ → Option ℕ) → List ℕ → ℕ → Type 0
-IsBlankRest prefix text at = list_all is_ascii_white (bytes_of (left_at prefix text at)) ≡ true
+IsBlankRest prefix text at = list_all is_white_or_line_end (bytes_of (left_at prefix text at)) ≡ true
 
 -- The end of a run of white space that begins at an offset: within the text, between characters, and after the first
 -- byte. A run of one space ends directly after it (CommonMark 6.3).

@@ -6,7 +6,7 @@ ghost use Rattle.std.specs.String.{string_bytes};
 ghost use Rattle.std.specs.Str.{IsCharBoundary};
 ghost use Rattle.first_pass_items.specs.Bytes.{backslash, space};
 ghost use Rattle.first_pass_items.specs.CowText.{text_of};
-ghost use Rattle.first_pass_lines.specs.Lines.{ends_line, is_ascii_white};
+ghost use Rattle.first_pass_lines.specs.Lines.{ends_line, is_white_or_line_end};
 ghost use Rattle.first_pass_links.specs.Destinations.{unescaped_upto};
 ghost use Rattle.first_pass_entities.specs.Texts.{Borrows};
 ghost use Rattle.first_pass_links.specs.Labels.{AnswersWith, AnswersPlaces, CanErr, ErrsAfter, is_bracket, begins_character, ends_line_label, is_label, label_at};
@@ -15,7 +15,7 @@ ghost use Rattle.first_pass_links.specs.Units.{part, read_of, left_at, kept_unit
 use crate::destination::unit_len;
 use crate::plain::plain_run;
 use first_pass_items::cow_str::CowStr;
-use first_pass_lines::lines::{begins, is_ascii_white, is_line_end};
+use first_pass_lines::lines::{begins, is_line_end, is_white_or_line_end};
 use first_pass_lines::places::rest_of;
 use std::alloc::{AllocError, Global};
 
@@ -121,9 +121,9 @@ fn count_characters(bytes: &[u8]) -> usize
 
 // Whether one of the bytes is not white space.
 fn holds_text(bytes: &[u8]) -> bool
-    ensures { result ≡ list_any (λ b. not (is_ascii_white b)) bytes.now }
+    ensures { result ≡ list_any (λ b. not (is_white_or_line_end b)) bytes.now }
 {
-    bytes.iter().any(|b| !is_ascii_white(*b))
+    bytes.iter().any(|b| !is_white_or_line_end(*b))
 }
 
 // Bytes of a label that are read together, up to the offset `next`. Those from `paused` up to `resumed` are left out;
@@ -163,7 +163,7 @@ where
     if plain > 0 {
         return Ok(Some(kept_unit(at + plain, plain, true)));
     }
-    if is_ascii_white(bytes[at]) {
+    if is_white_or_line_end(bytes[at]) {
         return match scan_white_run(bytes, at, linebreak_handler)? {
             Some((next, characters)) => Ok(Some(space_unit(bytes, at, next, characters))),
             None => Ok(None),
@@ -188,9 +188,10 @@ where
     requires places { AnswersPlaces bytes.now (F.post linebreak_handler.now) }
     requires within { at < length bytes.now }
     requires text { IsUtf8 bytes.now }
-    requires white { is_ascii_white (slice_index bytes.now at) ≡ true }
+    requires white { is_white_or_line_end (slice_index bytes.now at) ≡ true }
     ensures some { IfOk result (λ answer. IfSome answer (λ run. EndsWhiteRun bytes.now at run.0 run.1)) }
-    ensures ends { IfOk result (λ answer. IfSome answer (λ run. is_ascii_white (slice_index bytes.now run.0) ≡ false)) }
+    ensures ends { IfOk result (λ answer.
+        IfSome answer (λ run. is_white_or_line_end (slice_index bytes.now run.0) ≡ false)) }
     ensures reads { IfOk result (λ answer. IfSome answer (λ run. (prefix : List ℕ → Option ℕ)
         → AnswersWith bytes.now prefix (F.post linebreak_handler.now) → IsWhiteRun prefix bytes.now at run.0 run.1)) }
     ensures none { IfOk result (λ answer. answer ≡ None → (prefix : List ℕ → Option ℕ)
@@ -199,7 +200,7 @@ where
 {
     let mut next = at;
     let mut characters = 0;
-    while next < bytes.len() && is_ascii_white(bytes[next]) {
+    while next < bytes.len() && is_white_or_line_end(bytes[next]) {
         let Some(following) = scan_space_byte(bytes, next, linebreak_handler)? else {
             return Ok(None);
         };
@@ -222,7 +223,7 @@ where
     requires places { AnswersPlaces bytes.now (F.post linebreak_handler.now) }
     requires within { at < length bytes.now }
     requires text { IsUtf8 bytes.now }
-    requires white { is_ascii_white (slice_index bytes.now at) ≡ true }
+    requires white { is_white_or_line_end (slice_index bytes.now at) ≡ true }
     ensures some { IfOk result (λ answer. IfSome answer (λ next. (at < next) × IsCharBoundary bytes.now next)) }
     ensures reads { IfOk result (λ answer. IfSome answer (λ next. (prefix : List ℕ → Option ℕ)
         → AnswersWith bytes.now prefix (F.post linebreak_handler.now)

@@ -10,7 +10,7 @@ use Rattle.std.proofs.Math.Seq.{take-length}
 use Rattle.std.proofs.lemmas.Option.{none-some, same_Some}
 use Rattle.first_pass_items.specs.Bytes.{backquote, tilde}
 use Rattle.first_pass_items.specs.declared.item.Item.{Item}
-use Rattle.first_pass_lines.specs.Lines.{is_white, is_ascii_white, begins, line_len}
+use Rattle.first_pass_lines.specs.Lines.{is_white, is_white_or_line_end, begins, line_len}
 use Rattle.first_pass_lines.proofs.LineFacts.{line_len-fits}
 use Rattle.first_pass_scan.specs.LeafLines.{run_len, has_backquote, code_fence}
 use Rattle.first_pass_grammar.specs.CodeBlocks.{trimmed, info_string, NamesInfo, IsFencedCode}
@@ -45,19 +45,19 @@ info_bytes text start =
     let long : e + n + length info - (e + n) ≡ length info = omega arith in
     ap (λ k. take k (drop (e + n) text)) long
     ∙ ap (take (length info)) (sym (drop-drop n e text))
-    ∙ first_bytes info rest (line_len rest) (length line - suffix_len is_ascii_white line) refl
+    ∙ first_bytes info rest (line_len rest) (length line - suffix_len is_white_or_line_end line) refl
 
 -- the length of an info string
-pub trimmed_length : (bs : List ℕ) → length (trimmed (take (line_len bs) bs)) ≡ line_len bs - suffix_len is_ascii_white (take (line_len bs) bs)
+pub trimmed_length : (bs : List ℕ) → length (trimmed (take (line_len bs) bs)) ≡ line_len bs - suffix_len is_white_or_line_end (take (line_len bs) bs)
 trimmed_length bs =
     let line : List ℕ = take (line_len bs) bs in
     let whole : length line ≡ line_len bs = length-take-le (line_len bs) bs (line_len-fits bs) in
-    length-take-le (length line - suffix_len is_ascii_white line) line (omega arith) ∙ ap (λ n. n - suffix_len is_ascii_white line) whole
+    length-take-le (length line - suffix_len is_white_or_line_end line) line (omega arith) ∙ ap (λ n. n - suffix_len is_white_or_line_end line) whole
 
 -- the range that is read
 pub info_found : (text : List ℕ) (start run white next trailing : ℕ) → run ≡ run_len (slice_index (drop start text) 0) (drop start text)
     → white ≡ prefix_len is_white (drop (start + run) text) → next ≡ start + run + white + line_len (drop (start + run + white) text)
-    → trailing ≡ suffix_len is_ascii_white (slice_range text (start + run + white) next)
+    → trailing ≡ suffix_len is_white_or_line_end (slice_range text (start + run + white) next)
     → range_of (start + run + white) (next - trailing) ≡ info_range text start
 unfolding info_range info_string
 info_found text start run white next trailing run_is white_is next_is trailing_is =
@@ -67,8 +67,8 @@ info_found text start run white next trailing run_is white_is next_is trailing_i
     let fence : start + run ≡ fence_end text start = ap (λ n. start + n) run_is in
     let first : from ≡ info_start text start = ap (λ n. start + run + n) white_is ∙ ap (λ n. n + prefix_len is_white (drop n text)) fence in
     let size : next - from ≡ line_len rest = omega arith in
-    let white_end : trailing ≡ suffix_len is_ascii_white line = trailing_is ∙ ap (λ n. suffix_len is_ascii_white (take n rest)) size in
-    let fits = suffix_len-le-length is_ascii_white line in
+    let white_end : trailing ≡ suffix_len is_white_or_line_end line = trailing_is ∙ ap (λ n. suffix_len is_white_or_line_end (take n rest)) size in
+    let fits = suffix_len-le-length is_white_or_line_end line in
     let whole : length line ≡ line_len rest = length-take-le (line_len rest) rest (line_len-fits rest) in
     let long : next - trailing ≡ from + length (trimmed line) = omega (arith, trimmed_length rest, white_end, fits, whole) in
     let there : rest ≡ drop (prefix_len is_white (drop (fence_end text start) text)) (drop (fence_end text start) text) =

@@ -16,7 +16,7 @@ use Rattle.first_pass_items.specs.declared.item.CowIndex.{CowIndex}
 use Rattle.first_pass_items.specs.declared.item.Item.{Item}
 use Rattle.first_pass_items.specs.declared.item.ItemBody.{ItemBody}
 use Rattle.first_pass_items.specs.declared.item.ItemBody.TheVariants.{FencedCodeBlock, FootnoteDefinition}
-use Rattle.first_pass_lines.specs.Lines.{is_white, is_ascii_white, begins, line_len}
+use Rattle.first_pass_lines.specs.Lines.{is_white, is_white_or_line_end, begins, line_len}
 use Rattle.first_pass_lines.specs.Places.{line_place}
 use Rattle.first_pass_lines.proofs.LineFacts.{line_len-fits}
 use Rattle.first_pass_lines.proofs.PlaceFacts.{line_end_boundary, line_is_place, prefix_keeps, white_keeps}
@@ -94,7 +94,7 @@ first_of_last p xs some =
     let read : get_or (reverse xs) (n - 1) 0 ≡ slice_index xs (length xs - n) = get_or-reverse xs (n - 1) 0 (omega arith) ∙ ap (slice_index xs) place in
     ap p (sym read) ∙ prefix_len_passes p (reverse xs) (n - 1) 0 (omega arith)
 
-white_is_ascii : (b : ℕ) → is_ascii_white b ≡ true → b < ascii_end
+white_is_ascii : (b : ℕ) → is_white_or_line_end b ≡ true → b < ascii_end
 white_is_ascii b h = grind (arith, nat_tests, h)
 
 -- the end of a line
@@ -114,18 +114,18 @@ trimmed_between : (text : List ℕ) (at : ℕ) → IsUtf8 text → IsCharBoundar
 trimmed_between text at u b =
     let m : ℕ = line_len (drop at text) in
     let line : List ℕ = take m (drop at text) in
-    let w : ℕ = suffix_len is_ascii_white line in
+    let w : ℕ = suffix_len is_white_or_line_end line in
     let size : length (trimmed line) ≡ m - w = trimmed_length (drop at text) in
     let fits : m ≤ length (drop at text) = line_len-fits (drop at text) in
     let whole : length line ≡ m = length-take-le m (drop at text) fits in
-    let short : w ≤ length line = suffix_len-le-length is_ascii_white line in
+    let short : w ≤ length line = suffix_len-le-length is_white_or_line_end line in
     let rest : length (drop at text) ≡ length text - at = length-drop at text in
     elim (cases_lt 0 w) as (λ _. IsCharBoundary text (at + length (trimmed line))) [
       | inl some ↦ (
           let k : ℕ = length line - w in
           let low : k < m = omega (arith, whole, short, some) in
           let read : slice_index line k ≡ slice_index text (at + k) = part_at text at m k low in
-          let small = white_is_ascii (slice_index text (at + k)) (ap is_ascii_white (sym read) ∙ first_of_last is_ascii_white line some) in
+          let small = white_is_ascii (slice_index text (at + k)) (ap is_white_or_line_end (sym read) ∙ first_of_last is_white_or_line_end line some) in
           let e : at + k ≡ at + length (trimmed line) = omega (arith, size, whole) in
           subst (IsCharBoundary text) e (IsCharBoundary-before_ascii text (at + k) (omega (arith, low, fits, rest)) small))
       | inr none ↦ (

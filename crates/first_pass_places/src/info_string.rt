@@ -2,13 +2,13 @@
 
 ghost use Rattle.std.specs.Prelude.{◌≡◌, ◌≤◌, length, slice_index};
 ghost use Rattle.std.specs.List.{suffix_len};
-ghost use Rattle.first_pass_lines.specs.Lines.{is_ascii_white};
+ghost use Rattle.first_pass_lines.specs.Lines.{is_white_or_line_end};
 ghost use Rattle.first_pass_scan.specs.LeafLines.{run_len};
 ghost use Rattle.first_pass_places.specs.InfoStrings.{info_range};
 ghost use Rattle.first_pass_places.specs.RangeEnds.{IsAsciiAt, EndsAreBoundaries};
 
 use first_pass_items::item::Item;
-use first_pass_lines::lines::{is_ascii_white, scan_whitespace_no_nl};
+use first_pass_lines::lines::{is_white_or_line_end, scan_whitespace_no_nl};
 use first_pass_lines::places::{next_line, rest_of};
 use first_pass_scan::leaf_scan::scan_run;
 use std::ops::Range;
@@ -51,14 +51,14 @@ fn scan_fence(bytes: &[u8]) -> usize
     }
 }
 
-// The number of bytes of ASCII white space at the end.
+// The number of bytes at the end that are white space or part of a line ending.
 fn trailing_white(bytes: &[u8]) -> usize
-    ensures value { result ≡ suffix_len is_ascii_white bytes.now }
+    ensures value { result ≡ suffix_len is_white_or_line_end bytes.now }
     ensures within { result ≤ length bytes.now }
 {
     bytes
         .iter()
         .rev()
-        .take_while(|b| is_ascii_white(**b))
+        .take_while(|b| is_white_or_line_end(**b))
         .count()
 }

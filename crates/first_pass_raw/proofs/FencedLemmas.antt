@@ -16,7 +16,7 @@ use Rattle.first_pass_items.specs.declared.item.CowIndex.{CowIndex}
 use Rattle.first_pass_items.specs.declared.item.Item.{Item}
 use Rattle.first_pass_items.specs.declared.item.ItemBody.TheVariants.{FencedCodeBlock}
 use Rattle.first_pass_tree.specs.Forest.{Forest}
-use Rattle.first_pass_lines.specs.Lines.{is_white, is_ascii_white, begins, line_len}
+use Rattle.first_pass_lines.specs.Lines.{is_white, is_white_or_line_end, begins, line_len}
 use Rattle.first_pass_scan.specs.LeafLines.{run_len, has_backquote, code_fence, closing_fence_len}
 use Rattle.first_pass_lines.specs.Rest.{Rest, indent}
 use Rattle.first_pass_lines.specs.Places.{line_place, place_at, offset, IsPlaceOf}
@@ -55,16 +55,16 @@ closing_end text start n byte count r o node_bound u f i k =
 pub record IsInfo (text : List ℕ) (start from next white : ℕ) : Type 0 where
   pub from_is : from ≡ start + prefix_len is_white (drop start text)
   pub next_is : next ≡ from + line_len (drop from text)
-  pub white_is : white ≡ suffix_len is_ascii_white (take (next - from) (drop from text))
+  pub white_is : white ≡ suffix_len is_white_or_line_end (take (next - from) (drop from text))
 
 pub info_read : (text bytes : List ℕ) (start n next white : ℕ)
     → bytes ≡ text → n ≡ prefix_len is_white (drop start bytes) → next ≡ start + n + line_len (drop (start + n) bytes)
-    → white ≡ suffix_len is_ascii_white (take (next - (start + n)) (drop (start + n) bytes)) → IsInfo text start (start + n) next white
+    → white ≡ suffix_len is_white_or_line_end (take (next - (start + n)) (drop (start + n) bytes)) → IsInfo text start (start + n) next white
 info_read text bytes start n next white e g j k =
     record {
       from_is = ap (λ m. start + m) (g ∙ ap (λ bs. prefix_len is_white (drop start bs)) e);
       next_is = j ∙ ap (λ bs. start + n + line_len (drop (start + n) bs)) e;
-      white_is = k ∙ ap (λ bs. suffix_len is_ascii_white (take (next - (start + n)) (drop (start + n) bs))) e;
+      white_is = k ∙ ap (λ bs. suffix_len is_white_or_line_end (take (next - (start + n)) (drop (start + n) bs))) e;
     }
 
 -- the first of the bytes at the end that pass a test
@@ -98,7 +98,7 @@ module _ (text : List ℕ) (start from next white : ℕ) (info : IsInfo text sta
 
   white_within : white ≤ next - from
   white_within =
-      let f = suffix_len-le-length is_ascii_white (take (next - from) (drop from text)) in
+      let f = suffix_len-le-length is_white_or_line_end (take (next - from) (drop from text)) in
       let l = info_line.0 in let w = info.white_is in omega arith
 
   info_stops : 0 < white → IsCharBoundary text (next - white)
@@ -108,14 +108,14 @@ module _ (text : List ℕ) (start from next white : ℕ) (info : IsInfo text sta
       let n : length line ≡ next - from = l.0 in
       let m = white_within in
       let same = info.white_is in
-      let passes = last_passes is_ascii_white line (omega arith) in
-      let place : length line - suffix_len is_ascii_white line ≡ next - from - white = omega arith in
+      let passes = last_passes is_white_or_line_end line (omega arith) in
+      let place : length line - suffix_len is_white_or_line_end line ≡ next - from - white = omega arith in
       let following : from + (next - from - white) ≡ next - white = omega (arith, l.1) in
-      let read : get_or line (length line - suffix_len is_ascii_white line) 0 ≡ get_or text (next - white) 0 =
+      let read : get_or line (length line - suffix_len is_white_or_line_end line) 0 ≡ get_or text (next - white) 0 =
       ap (λ k. get_or line k 0) place ∙ get_or-take (next - from) (drop from text) (next - from - white) 0 (omega arith)
       ∙ get_or-drop from text (next - from - white) 0 ∙ ap (λ k. get_or text k 0) following in
-      let ascii : (k : ℕ) → is_ascii_white k ≡ true → k < ascii_end = λ k h. grind (arith, nat_tests, h) in
-      IsCharBoundary-before_ascii text (next - white) (omega (arith, l.1, l.2)) (ascii _ (ap is_ascii_white (sym read) ∙ passes))
+      let ascii : (k : ℕ) → is_white_or_line_end k ≡ true → k < ascii_end = λ k h. grind (arith, nat_tests, h) in
+      IsCharBoundary-before_ascii text (next - white) (omega (arith, l.1, l.2)) (ascii _ (ap is_white_or_line_end (sym read) ∙ passes))
 
   -- its end is between characters
   pub info_end : IsCharBoundary text (next - white)
@@ -132,7 +132,7 @@ module _ (text : List ℕ) (start from next white : ℕ) (info : IsInfo text sta
       let l = info_line in
       let same = info.white_is in
       let n : k ≡ line_len (drop from text) = omega (arith, info.next_is) in
-      let cut : next - white - from ≡ length (take k (drop from text)) - suffix_len is_ascii_white (take k (drop from text)) = omega (arith, l.0) in
+      let cut : next - white - from ≡ length (take k (drop from text)) - suffix_len is_white_or_line_end (take k (drop from text)) = omega (arith, l.0) in
       let inside : next - white - from ≤ k = omega arith in
       sym (take-take (next - white - from) k (drop from text) inside) ∙ ap (λ m. take m (take k (drop from text))) cut
       ∙ ap (λ m. trimmed (take m (drop from text))) n

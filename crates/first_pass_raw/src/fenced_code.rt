@@ -2,7 +2,7 @@
 
 ghost use Rattle.std.specs.Prelude.{◌≡◌, ◌≤◌, length, drop, Some, IfOk, OnOk, IsCharBoundary, IsUtf8};
 ghost use Rattle.std.specs.List.{suffix_len};
-ghost use Rattle.first_pass_lines.specs.Lines.{is_ascii_white};
+ghost use Rattle.first_pass_lines.specs.Lines.{is_white_or_line_end};
 ghost use Rattle.first_pass_lines.specs.Places.{place_at, IsPlaceOf};
 ghost use Rattle.first_pass_grammar.specs.Leaves.{document};
 ghost use Rattle.first_pass_open.specs.Path.{path_of};
@@ -15,7 +15,7 @@ use crate::extent::{JudgesLines, read_lines};
 use crate::raw_line::RawKind;
 use crate::verdict::Verdict;
 use first_pass_items::item::{Item, ItemBody};
-use first_pass_lines::lines::{is_ascii_white, scan_whitespace_no_nl};
+use first_pass_lines::lines::{is_white_or_line_end, scan_whitespace_no_nl};
 use first_pass_lines::places::{next_line, rest_of};
 use first_pass_links::escape::unescape;
 use first_pass_names::items::Allocations;
@@ -83,15 +83,15 @@ fn info_string(text: &str, start: usize) -> &str
     &text[from..next - trailing_white(&bytes[from..next])]
 }
 
-// The number of bytes of ASCII white space at the end.
+// The number of bytes at the end that are white space or part of a line ending.
 fn trailing_white(bytes: &[u8]) -> usize
-    ensures value { result ≡ suffix_len is_ascii_white bytes.now }
+    ensures value { result ≡ suffix_len is_white_or_line_end bytes.now }
     ensures within { result ≤ length bytes.now }
 {
     bytes
         .iter()
         .rev()
-        .take_while(|b| is_ascii_white(**b))
+        .take_while(|b| is_white_or_line_end(**b))
         .count()
 }
 

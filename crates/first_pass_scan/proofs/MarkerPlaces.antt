@@ -12,7 +12,7 @@ use Rattle.std.proofs.lemmas.Bool.{cases_lt, eqb-true, and_parts, both_ways, fal
 use Rattle.std.proofs.lemmas.Bool.Decides.{nat_tests}
 use Rattle.std.proofs.lemmas.Option.{cond_some, none-some, same_Some}
 use Rattle.first_pass_items.specs.Bytes.{right_parenthesis, full_stop, colon, left_bracket, right_bracket, ascii_end}
-use Rattle.first_pass_lines.specs.Lines.{is_content, is_white, is_ascii_white, begins, blank_len, at_line_end}
+use Rattle.first_pass_lines.specs.Lines.{is_content, is_white, is_white_or_line_end, begins, blank_len, at_line_end}
 use Rattle.first_pass_lines.specs.Rest.{Rest, past_bytes, after_columns, indent}
 use Rattle.first_pass_lines.specs.Places.{place_at, line_end, moved_bytes, IsPlaceOf}
 use Rattle.first_pass_scan.specs.LeafLines.{hrule_len}
@@ -199,11 +199,11 @@ unfolding task_box
 box_front bs checked h =
     let mark : ℕ = slice_index bs 1 in
     let p = cond_some
-    ((slice_index bs 0 == left_bracket) && (is_white mark || is_checked mark) && (slice_index bs 2 == right_bracket) && is_ascii_white (slice_index bs 3))
+    ((slice_index bs 0 == left_bracket) && (is_white mark || is_checked mark) && (slice_index bs 2 == right_bracket) && is_white_or_line_end (slice_index bs 3))
     (is_checked mark) checked h in
     let three =
     and_parts ((slice_index bs 0 == left_bracket) && (is_white mark || is_checked mark) && (slice_index bs 2 == right_bracket))
-    (is_ascii_white (slice_index bs 3)) p.0 in
+    (is_white_or_line_end (slice_index bs 3)) p.0 in
     let two = and_parts ((slice_index bs 0 == left_bracket) && (is_white mark || is_checked mark)) (slice_index bs 2 == right_bracket) three.0 in
     let one = and_parts (slice_index bs 0 == left_bracket) (is_white mark || is_checked mark) two.0 in
     let front : slice_index bs 0 ≡ left_bracket = eqb-true (slice_index bs 0) left_bracket one.0 in

@@ -9,7 +9,7 @@ use Rattle.first_pass_items.specs.Bytes.{right_parenthesis, asterisk, plus_sign,
 use Rattle.first_pass_items.specs.Bytes.{small_x}
 use Rattle.first_pass_items.specs.declared.item.BlockQuoteKind.{BlockQuoteKind}
 use Rattle.first_pass_items.specs.declared.item.BlockQuoteKind.TheVariants.{Note, Tip, Important, Warning, Caution}
-use Rattle.first_pass_lines.specs.Lines.{begins, blank_len, is_blank_line, at_line_end, is_white, is_ascii_white}
+use Rattle.first_pass_lines.specs.Lines.{begins, blank_len, is_blank_line, at_line_end, is_white, is_white_or_line_end}
 use Rattle.first_pass_scan.specs.LeafLines.{hrule_len}
 use Rattle.first_pass_lines.specs.Places.{line_rest}
 use Rattle.first_pass_lines.specs.Rest.{Rest, after_columns, indent, past_bytes}
@@ -98,7 +98,8 @@ is_checked b = (b == small_x) || (b == capital_x)
 unfoldable pub task_box : List ℕ → Option Bool
 task_box bs =
     let mark = slice_index bs 1 in
-    if (slice_index bs 0 == left_bracket) && (is_white mark || is_checked mark) && (slice_index bs 2 == right_bracket) && is_ascii_white (slice_index bs 3)
+    if (slice_index bs 0 == left_bracket) && (is_white mark || is_checked mark) && (slice_index bs 2 == right_bracket)
+    && is_white_or_line_end (slice_index bs 3)
     then Some (is_checked mark)
     else None
 

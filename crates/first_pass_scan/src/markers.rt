@@ -8,7 +8,7 @@ ghost use Rattle.first_pass_items.specs.Bytes.{digit_zero, digit_nine};
 ghost use Rattle.first_pass_scan.specs.Markers.{number_from, bullet_marker, ordered_marker, list_marker, task_box, tag_of as tag_bytes, has_tag as tag_stands, tag_kind, tag_line};
 
 use first_pass_items::item::BlockQuoteKind;
-use first_pass_lines::lines::{is_ascii_white, is_white, scan_blank_line};
+use first_pass_lines::lines::{is_white, is_white_or_line_end, scan_blank_line};
 use first_pass_lines::places::rest_of;
 
 // The most digits that are counted: one more than a list marker may have.
@@ -91,8 +91,8 @@ pub(crate) fn scan_task_box(bytes: &[u8]) -> Option<bool>
     ensures long { IfSome result (λ _. 3 ≤ length bytes.now) }
 {
     match bytes {
-        [b'[', b'x' | b'X', b']', after, ..] if is_ascii_white(*after) => Some(true),
-        [b'[', mark, b']', after, ..] if is_white(*mark) && is_ascii_white(*after) => Some(false),
+        [b'[', b'x' | b'X', b']', end, ..] if is_white_or_line_end(*end) => Some(true),
+        [b'[', mark, b']', end, ..] if is_white(*mark) && is_white_or_line_end(*end) => Some(false),
         _ => None,
     }
 }

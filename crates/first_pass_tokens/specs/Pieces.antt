@@ -4,7 +4,7 @@ use Rattle.std.specs.Prelude.{unwrap_or, nat_lt, if◌then◌else◌}
 use Rattle.std.specs.Option.{option_map_or}
 use Rattle.std.specs.Char.{is_ascii_punctuation}
 use Rattle.std.specs.List.{prefix_len, slice_range}
-use Rattle.first_pass_lines.specs.Lines.{is_ascii_white}
+use Rattle.first_pass_lines.specs.Lines.{is_white_or_line_end}
 use Rattle.first_pass_items.specs.Bytes.{exclamation_mark, quotation_mark, dollar_sign, ampersand, apostrophe, hyphen, full_stop, less_than, left_bracket}
 use Rattle.first_pass_items.specs.Bytes.{backslash, right_bracket, backquote, left_brace, pipe, right_brace, asterisk, underscore, circumflex, tilde}
 use Rattle.first_pass_flank.specs.declared.flank.DelimiterRun.{DelimiterRun}
@@ -167,12 +167,12 @@ reference_found text at = option_map_or (λ (e : ℕ × ℕ). Reference e.0 e.1)
 unfoldable pub dash_found : List ℕ → ℕ → TokenStart
 dash_found text at = if nat_lt 3 (run_at text at) then Dashes (run_at text at) else Ready (dash_piece text at)
 
--- the text has a byte at this place, and it is no white space (this project)
+-- the text has a byte at this offset, and it is neither white space nor part of a line ending (this project)
 abbrev pub is_solid_at : List ℕ → ℕ → Bool
-is_solid_at text at = nat_lt at (length text) && not (is_ascii_white (slice_index text at))
+is_solid_at text at = nat_lt at (length text) && not (is_white_or_line_end (slice_index text at))
 
--- the piece at a dollar sign: it can open if a byte follows that is no white space, and close if the content has such
--- a byte before it; no byte past the end of the content counts (math; this project)
+-- the piece at a dollar sign: it can open if a byte follows that is neither white space nor part of a line ending, and
+-- close if the content has such a byte before it; no byte past the end of the content counts (math; this project)
 unfoldable pub dollar_found : Inline → ℕ → TokenStart
 dollar_found s at = Dollar (is_solid_at s.text (at + 1)) (nat_lt s.start at && is_solid_at s.text (at - 1))
 

@@ -9,7 +9,7 @@ use first_pass_entities::entity::scan_reference;
 use first_pass_flank::flank::{DelimiterRun, ends_with_pipe, first_char, last_char};
 use first_pass_items::item::ItemBody;
 use first_pass_items::option_set::Options;
-use first_pass_lines::lines::is_ascii_white;
+use first_pass_lines::lines::is_white_or_line_end;
 use first_pass_lines::places::rest_of;
 
 /// The content of a line of text, or of a cell in a table row.
@@ -117,11 +117,11 @@ fn dollar_found(text: &[u8], content: Content<'_>, at: usize) -> TokenStart
     TokenStart::Dollar(opens, closes)
 }
 
-// Whether there is a byte at a place that is no white space.
+// Whether there is a byte at an offset, and it is neither white space nor part of a line ending.
 fn is_solid_at(text: &[u8], at: usize) -> bool
     ensures { result ≡ is_solid_at text.now at }
 {
-    at < text.len() && !is_ascii_white(text[at])
+    at < text.len() && !is_white_or_line_end(text[at])
 }
 
 // The piece found at an ampersand.

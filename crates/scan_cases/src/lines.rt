@@ -3,8 +3,8 @@
 use crate::call::Call;
 use first_pass_cases::answer::Answer;
 use first_pass_lines::lines::{
-    begins, is_ascii_white, is_line_end, is_space_or_tab, is_white, level_number, scan_atx_heading,
-    scan_blank_line, scan_blanks, scan_eol, scan_nextline, scan_whitespace_no_nl,
+    begins, is_line_end, is_space_or_tab, is_white, is_white_or_line_end, level_number,
+    scan_atx_heading, scan_blank_line, scan_blanks, scan_eol, scan_nextline, scan_whitespace_no_nl,
 };
 use first_pass_lines::places::{next_line, rest_of};
 use std::alloc::AllocError;
@@ -36,7 +36,7 @@ pub fn answer_bytes(call: &Call<'_>, answer: &mut Answer) -> Result<bool, AllocE
         "is_line_end" => answer.flag(is_line_end(byte))?,
         "is_white" => answer.flag(is_white(byte))?,
         "is_blank" => answer.flag(is_space_or_tab(byte))?,
-        "is_ascii_white" => answer.flag(is_ascii_white(byte))?,
+        "is_white_or_line_end" => answer.flag(is_white_or_line_end(byte))?,
         _ => return Ok(false),
     }
     Ok(true)

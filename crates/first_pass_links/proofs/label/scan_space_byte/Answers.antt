@@ -1,7 +1,7 @@
 use Rattle.std.proofs.Common.{◌≡◌, ◌<◌, ℕ, List, true, length, slice_index, Ok, ◌+◌, get_or, sym, ap, subst, ◌∙◌, arith, IsUtf8}
 use Rattle.std.specs.Str.{IsCharBoundary}
 use Rattle.std.proofs.lemmas.Str.{IsCharBoundary-after_ascii, IsUtf8-drop}
-use Rattle.first_pass_lines.specs.Lines.{ends_line, is_ascii_white}
+use Rattle.first_pass_lines.specs.Lines.{ends_line, is_white_or_line_end}
 use Rattle.first_pass_links.proofs.Labels.{left-byte, left-end, left-stop, white_is_ascii, place_past}
 use Rattle.first_pass_links.proofs.Rewritten.{on_err}
 use Rattle.first_pass_links.proofs.label.scan_space_byte.Goals as goal
@@ -9,7 +9,7 @@ use Rattle.first_pass_links.proofs.label.scan_space_byte.Goals.{After-rest_of-fo
 use Rattle.first_pass_links.proofs.label.scan_space_byte.Given.{Over}
 
 -- after a byte of white space
-after_white : (text : List ℕ) (at : ℕ) → IsUtf8 text → at < length text → is_ascii_white (slice_index text at) ≡ true → IsCharBoundary text (at + 1)
+after_white : (text : List ℕ) (at : ℕ) → IsUtf8 text → at < length text → is_white_or_line_end (slice_index text at) ≡ true → IsCharBoundary text (at + 1)
 after_white text at u l w = IsCharBoundary-after_ascii text at u l (white_is_ascii _ w).0
 
 -- after the byte

@@ -8,7 +8,7 @@ use Rattle.first_pass_links.proofs.label.scan_unit.Goals as goal
 pub returns-in-Some-clause-some : goal.returns-in-Some-clause-some
 returns-in-Some-clause-some g c =
     subst (IsUnit c.args.bytes.now c.args.at) (sym c.space_unit.ensures) (space_is_unit c.args.bytes.now c.args.at c.in-Some.next c.in-Some.characters
-    (rw c.in-Some.is at c.in_ok-next.ensures.some) (sym c.is_ascii_white.ensures ∙ c.if-is_ascii_white.true))
+    (rw c.in-Some.is at c.in_ok-next.ensures.some) (sym c.is_white_or_line_end.ensures ∙ c.if-is_white_or_line_end.true))
 
 pub returns-in-Some-clause-reads : goal.returns-in-Some-clause-reads
 returns-in-Some-clause-reads g c =
@@ -36,7 +36,7 @@ pub returns-clause-reads : goal.returns-clause-reads
 returns-clause-reads g c =
     λ h a. subst (Reads h c.args.in_table c.args.bytes.now c.args.at) (sym c.kept_unit-2.ensures)
     (byte_reads h c.args.in_table c.args.bytes.now c.args.at _ c.requires.within
-    (sym c.is_ascii_white.ensures ∙ c.if-is_ascii_white.false) c.requires.no_bracket (differs _ backslash c.if-bytes-at-eq92.false) c.begun_characters.ensures)
+    (sym c.is_white_or_line_end.ensures ∙ c.if-is_white_or_line_end.false) c.requires.no_bracket (differs _ backslash c.if-bytes-at-eq92.false) c.begun_characters.ensures)
 
 pub returns-then-plain-gt0-clause-reads : goal.returns-then-plain-gt0-clause-reads
 returns-then-plain-gt0-clause-reads g c =

@@ -31,5 +31,5 @@ loop-next-preserved g c =
           (rw c.in-Some.is at c.in_ok-following.ensures.space) c.loop-next.invariant.started one white;
       started = λ z. absurd (omega arith);
       run = λ h a. run_more h c.args.bytes.now c.args.at c.loop-next.next c.in-Some.following c.loop-next.characters (c.loop-next.invariant.run h a) (reads h a)
-          (sym c.is_ascii_white.ensures ∙ c.if-is_ascii_white.true);
+          (sym c.is_white_or_line_end.ensures ∙ c.if-is_white_or_line_end.true);
     }
