@@ -22,7 +22,7 @@ container_of options (FootnoteDefinitionBody label) = Some (FootnoteDefinition (
 container_of options (DefinitionListDefinition columns) = Some (Definition columns)
 container_of options _ = None
 
--- the same for the node at a place of the tree
+-- the same for the node at an index
 abbrev pub container_at : Options → List (ℕ × Item) → TreeIndex → Option Container
 container_at options ns ix = option_and_then (container_of options) (body_at ns ix.0)
 

@@ -45,21 +45,21 @@ key_with range at = record {
   value = Some (range_of (range.start + at + 1) range.«end»);
 }
 
--- the place of a key, up to the first `=` in a range, and of its value, if there is a `=` (this project)
+-- the ranges of a key, up to the first `=` in a range, and of its value, if there is a `=` (this project)
 abbrev pub key_place : List ℕ → Range ℕ → AttributeRanges
 key_place text range = option_map_or (key_with range) (position (λ b. b == equals_sign) (bytes_in text range)) (place_of Key range)
 
--- the place of the attribute of a word: `#` begins an id, and `.` a class (this project)
+-- the ranges of the attribute of a word in a range: `#` begins an id, and `.` a class (this project)
 abbrev pub attribute_place : List ℕ → Range ℕ → AttributeRanges
 attribute_place text range =
     if slice_index text range.start == number_sign
     then place_of Id (range_of (range.start + 1) range.«end»)
     else (if slice_index text range.start == full_stop then place_of Class (range_of (range.start + 1) range.«end») else key_place text range)
 
--- the places of the attributes in a range, in the order of the text (this project)
+-- the ranges of the attributes in a range, in the order of the text (this project)
 abbrev pub places_in : List ℕ → Range ℕ → List AttributeRanges
 places_in text range = map (attribute_place text) (word_ranges text range.start range.«end»)
 
--- the places of the attributes of a heading; none for any other node, and without an attribute block (this project)
+-- the ranges of the attributes of a heading; none for any other node, and without an attribute block (this project)
 abbrev pub attribute_ranges : List ℕ → Item → List AttributeRanges
 attribute_ranges text x = option_map_or (places_in text) (attribute_block_range text x) []

@@ -1,4 +1,4 @@
--- The attributes that the ranges of attribute places give (this project).
+-- The attributes that are written in given ranges (this project).
 use Rattle.std.specs.Prelude.{ℕ, Bool, true, false, List, map, filter, Option, None}
 use Rattle.std.specs.Option.{option_map}
 use Rattle.first_pass_attributes.specs.Attributes.{Attributes, last_or}
@@ -30,7 +30,7 @@ name_at text place = bytes_in text place.name
 abbrev pub key_at : List ℕ → AttributeRanges → List ℕ × Option (List ℕ)
 key_at text place = (name_at text place, option_map (bytes_in text) place.value)
 
--- the attributes at these places: the last id, if there is one, and the classes and the keys in order (this project)
+-- the attributes written in these ranges: the last id, if there is one, and the classes and the keys in order (this project)
 abbrev pub attributes_from_places : List ℕ → List AttributeRanges → Attributes
 attributes_from_places text places = record {
   id = last_or None (map (name_at text) (filter (λ place. is_id place.kind) places));

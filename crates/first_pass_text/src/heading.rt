@@ -95,10 +95,10 @@ struct AttributeBlock {
     line_end: usize,
 }
 
-// The place of a heading's attribute block, and the index of its attributes; neither if there is no block. The
-// heading's text begins at the offset `start`. Adds the attributes to `allocs`. Without the option for heading
-// attributes, it does not search for the end of the line, which reading the tokens finds anyway. Fails only if an
-// allocation fails (this project).
+// Returns where a heading's attribute block begins and where the line of the heading ends, and the index of its
+// attributes; neither if there is no block. The heading's text begins at the offset `start`. Adds the attributes to
+// `allocs`. Without the option for heading attributes, it does not search for the end of the line, which reading the
+// tokens finds anyway. Fails only if an allocation fails (this project).
 #[inline(always)]
 fn name_attribute_block<'a>(
     source: &Source<'a>,
@@ -124,19 +124,19 @@ fn name_attribute_block<'a>(
     Ok((Some(AttributeBlock { opening, line_end }), index))
 }
 
-// The start of the attribute block, if there is one.
-fn opening_of(place: Option<AttributeBlock>) -> Option<usize>
-    ensures { result ≡ option_map (λ p. p.opening) place }
+// The start of the attribute block, if there is one: an offset into the text.
+fn opening_of(block: Option<AttributeBlock>) -> Option<usize>
+    ensures { result ≡ option_map (λ b. b.opening) block }
 {
-    place.map(|block| block.opening)
+    block.map(|found| found.opening)
 }
 
-// The end of a heading's line: that in the place of its attribute block, or `next` if it has no block.
-fn line_end_of(place: Option<AttributeBlock>, next: usize) -> usize
-    ensures { result ≡ option_map_or (λ p. p.line_end) place next }
+// The end of a heading's line: that recorded with its attribute block, or `next` if it has no block.
+fn line_end_of(block: Option<AttributeBlock>, next: usize) -> usize
+    ensures { result ≡ option_map_or (λ b. b.line_end) block next }
 {
-    match place {
-        Some(block) => block.line_end,
+    match block {
+        Some(found) => found.line_end,
         None => next,
     }
 }
