@@ -23,7 +23,7 @@ use Rattle.first_pass_grammar.specs.Derivation.{Tables, Derives, with_all_of, li
 abbrev pub lines_from : List ℕ → ℕ → List Place
 lines_from text start = lines_at start (drop start text)
 
--- the nodes after the node at a place gets its end
+-- the nodes once the node at an index has its end
 unfoldable pub ended : List (ℕ × Item) → ℕ → ℕ → List (ℕ × Item)
 ended nodes place e = modify nodes place (λ x. record x { «end» = e })
 
@@ -33,15 +33,15 @@ flagged loose (ListBody flags byte number) = ListBody (list_flags (not loose)) b
 flagged loose (DefinitionList flags) = DefinitionList (list_flags (not loose))
 flagged loose body = body
 
--- The nodes after the paragraph at a place becomes the title of a definition list. The list takes its place, and what
--- was below the paragraph is below the title.
+-- The nodes once the paragraph at an index is the title of a definition list. The list begins where the paragraph was,
+-- and what was below the paragraph is below the title.
 unfoldable pub with_title : List (ℕ × Item) → ℕ → List (ℕ × Item)
 with_title [] place = []
 with_title (n ∷ nodes) zero =
     (n.0, record n.1 { body = DefinitionList (list_flags true) }) ∷ (suc n.0, record n.1 { body = DefinitionListTitle }) ∷ map deeper nodes
 with_title (n ∷ nodes) (suc place) = n ∷ with_title nodes place
 
--- the nodes after the possible title at a place, the last child of a definition list, becomes a title (this project)
+-- the nodes once the possible title at an index, the last child of a definition list, is a title (this project)
 unfoldable pub title_taken : List (ℕ × Item) → ℕ → List (ℕ × Item)
 title_taken nodes place = modify nodes place (λ x. record x { body = DefinitionListTitle })
 
@@ -49,7 +49,7 @@ title_taken nodes place = modify nodes place (λ x. record x { body = Definition
 unfoldable pub title_left : List (ℕ × Item) → ℕ → List (ℕ × Item)
 title_left nodes place = map_from shallower place (modify nodes place (λ x. record x { body = ParagraphBody }))
 
--- The nodes after the list at a place is closed; `depth` is that of the blocks in its items. The list gets its end and
+-- The nodes once the list at an index is closed; `depth` is that of the blocks in its items. The list has its end and
 -- is loose or tight. In a tight list the paragraphs are tightened.
 unfoldable pub list_closed : List (ℕ × Item) → ℕ → ℕ → Bool → ℕ → List (ℕ × Item)
 list_closed nodes place depth loose e =
@@ -57,9 +57,9 @@ list_closed nodes place depth loose e =
 
 -- The part of the innermost node's last child that rules depend on.
 -- Another child, or none.
--- A paragraph: its place.
+-- A paragraph: its index.
 -- A definition: its end, and whether it takes only blank lines.
--- A possible title: the end of the definition before it, and its own place.
+-- A possible title: the end of the definition before it, and its own index.
 pub data Closed : Type 0 where
   OtherClosed : Closed
   ParagraphAt : ℕ → Closed
@@ -68,8 +68,8 @@ pub data Closed : Type 0 where
 
 -- A list that may continue, if there is one.
 -- No list: the last child.
--- A list: its place, what continues it, and whether it is loose so far.
--- A definition list with a possible title after its last definition: the list's place, the title's place, the end of
+-- A list: its index, what continues it, and whether it is loose so far.
+-- A definition list with a possible title after its last definition: the list's index, the title's index, the end of
 -- that definition, and whether the list is loose so far.
 pub data Pending : Type 0 where
   NoList : Closed → Pending
@@ -125,13 +125,13 @@ rows_beyond (NoList closed) rows = beside_or (taken_in closed rows) rows
 rows_beyond (OneList place joins loose) rows = list_after joins rows
 rows_beyond (OneTitle place title e loose) rows = beside_or (definitions_first rows) rows
 
--- the nodes after the list at a place is closed with these definitions as its further children; the rows beside them
+-- the nodes once the list at an index is closed with these definitions as its further children; the rows beside them
 -- follow it at this depth
 abbrev pub closed_with : ℕ → List (ℕ × Item) → ℕ → Bool → Definitions → List (ℕ × Item)
 closed_with depth nodes place loose ds =
     list_closed nodes place (suc (suc depth)) loose ds.«end» ++ (items_of (suc depth) (not loose) ds.items ++ items_of depth false ds.beside)
 
--- the nodes, followed by these rows; the paragraph at a place becomes the title of the definitions at the start of the
+-- the nodes, followed by these rows; the paragraph at an index becomes the title of the definitions at the start of the
 -- rows, if there are any
 abbrev pub after_paragraph : ℕ → List (ℕ × Item) → ℕ → Option Definitions → Rows → List (ℕ × Item)
 after_paragraph depth nodes place None rows = nodes ++ items_of depth false rows
@@ -143,7 +143,7 @@ after_closed depth nodes (ParagraphAt place) rows = after_paragraph depth nodes 
 after_closed depth nodes (DefinitionClosed e blanks) rows = nodes ++ items_of depth false rows
 after_closed depth nodes (TitleAt e place) rows = nodes ++ items_of depth false rows
 
--- The same if the second place has a possible title of the definition list at the first. It becomes the title of the
+-- The same if the second index has a possible title of the definition list at the first. It becomes the title of the
 -- definitions at the start of the rows, unless link reference definitions come between. Otherwise it becomes a
 -- paragraph after that list, which ends with its last definition (this project).
 abbrev pub after_title : ℕ → List (ℕ × Item) → ℕ × ℕ × ℕ → Bool → Option Definitions → Rows → List (ℕ × Item)
@@ -191,7 +191,7 @@ closed_as (ListItem columns) e = OtherClosed
 closed_as (FootnoteDefinition columns) e = OtherClosed
 closed_as (Definition columns) e = DefinitionClosed e (columns == 0)
 
--- a definition list that is open at a place, given its last child
+-- a definition list that is open at an index, given its last child
 abbrev pub definitions_open : ℕ → Bool → Pending → Pending
 definitions_open place loose (NoList OtherClosed) = NoList OtherClosed
 definitions_open place loose (NoList (ParagraphAt at)) = NoList OtherClosed
@@ -200,7 +200,7 @@ definitions_open place loose (NoList (TitleAt e at)) = OneTitle place at e loose
 definitions_open place loose (OneList at joins l) = NoList OtherClosed
 definitions_open place loose (OneTitle at title e l) = NoList OtherClosed
 
--- the state after a container, whose node is at a place, is closed, given the rows of its remaining blocks
+-- the state once a container, whose node is at an index, is closed, given the rows of its remaining blocks
 abbrev pub container_closed : Container → ℕ → ℕ → Unfinished → Further → Rows → Unfinished
 container_closed c depth place w f rows = record {
   nodes = ended (rendered depth f.«end» w.nodes w.list rows) place f.«end»;
@@ -209,9 +209,9 @@ container_closed c depth place w f rows = record {
   defined = with_all_of w.defined f.blocks;
 }
 
--- The state becomes this forest and these tables after all open nodes are closed. The frames and places list the open
--- nodes, innermost first. Each container ends after its remaining blocks, from the innermost on; a list ends with what
--- continues it.
+-- The state becomes this forest and these tables once all open nodes are closed. The frames and the indices list the
+-- open nodes, innermost first. Each container ends after its remaining blocks, from the innermost on; a list ends with
+-- what continues it.
 unfoldable pub Becomes : List Frame → List ℕ → Unfinished → List Further → List (ℕ × Item) → Tables → Type 0
 Becomes [] [] w (f ∷ []) forest tables = (forest ≡ rendered 1 f.«end» w.nodes w.list (rows_on false w f)) × (tables ≡ with_all_of w.defined f.blocks)
 Becomes (InList byte loose ∷ frames) (place ∷ places) w further forest tables =
@@ -224,7 +224,7 @@ Becomes (InContainer c ∷ frames) (place ∷ places) w (f ∷ further) forest t
     (container_closed c (suc (length (place ∷ places))) place w f rows) further forest tables
 Becomes _ _ w further forest tables = ⊥
 
--- each place is before the one inside it, and the innermost is before `n`
+-- each index is before the one inside it, and the innermost is before `n`
 abbrev pub AreBelow : ℕ → List ℕ → Type 0
 AreBelow n [] = Unit {0}
 AreBelow n (place ∷ places) = (place < n) × AreBelow place places
@@ -273,7 +273,7 @@ IsShaped (InContainer c ∷ frames) = StandsIn c frames × IsShaped frames
 IsShaped (InList byte loose ∷ frames) = IsPlain frames × IsShaped frames
 IsShaped (InDefinitions loose ∷ frames) = IsPlain frames × IsShaped frames
 
--- The open nodes are at these places, as the frames list them, and every completion of the state from here on is
+-- The open nodes are at these indices, as the frames list them, and every completion of the state from here on is
 -- derived by the text.
 pub record Completes (d : Document) (frames : List Frame) (places : List ℕ) (w : Unfinished) (from : Continues) (lines : List Place) : Type 0 where
   pub below : AreBelow (length w.nodes) places

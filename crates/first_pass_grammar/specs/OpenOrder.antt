@@ -13,7 +13,7 @@ unfoldable pub laid_open : Ranged → List (Siblings × Ranged) → Siblings →
 laid_open root [] row = (0, root) ∷ laid 1 row
 laid_open root (level ∷ levels) row = laid_open root levels level.0 ++ (suc (length levels), level.1) ∷ laid (suc (suc (length levels))) row
 
--- the open nodes are at these places
+-- the open nodes are at these indices
 abbrev pub AreAt : Ranged → List (Siblings × Ranged) → List TreeIndex → Type 0
 AreAt root [] [] = Unit {0}
 AreAt root [] (ix ∷ spine) = ⊥

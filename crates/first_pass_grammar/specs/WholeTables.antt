@@ -99,7 +99,7 @@ abbrev pub AreEachNode : (ItemBody → Type 0) → List (ℕ × Item) → Type 0
 AreEachNode P [] = Unit {0}
 AreEachNode P (x ∷ nodes) = P x.1.body × AreEachNode P nodes
 
--- there is a node at a place, and neither it nor any node after it is part of a table
+-- there is a node at an index, and neither it nor any node after it is part of a table
 abbrev pub SilentFrom : List (ℕ × Item) → ℕ → Type 0
 SilentFrom [] i = ⊥
 SilentFrom (n ∷ nodes) zero = AreEachNode ShowsNothing (n ∷ nodes)
@@ -119,7 +119,7 @@ may_be_title Paragraph = true
 may_be_title MaybeDefinitionListTitle = true
 may_be_title _ = false
 
--- there is a node at each of these places, and it is neither a row nor such a text (this project)
+-- there is a node at each of these indices, and it is neither a row nor such a text (this project)
 abbrev pub HaveNoRows : List (ℕ × Item) → List TreeIndex → Type 0
 HaveNoRows nodes [] = Unit {0}
 HaveNoRows nodes (ix ∷ places) = IsSomeAnd (body_at nodes ix.0) (λ b. (is_row b || may_be_title b) ≡ false) × HaveNoRows nodes places

@@ -74,13 +74,13 @@ child_after r s e (ix ∷ rest) last forest is some current now =
     subst (λ (q : PassState). IsChildOfCurrent q.tree last) (sym now)
     (child_alike f _ last (closed_alike r f ix (body_at f.nodes ix.0)) (child_closed r.tree e ix last rest forest is current))
 
--- if all nodes of a list are moved up one level, the depth at each position is one less
+-- if all nodes of a list are moved up one level, the depth at each index is one less
 all_lower : (ns : List (ℕ × Item)) (k : ℕ) → slice_index (depths (map shallower ns)) k ≡ slice_index (depths ns) k - 1
 all_lower [] k = omega arith
 all_lower (n ∷ ns) zero = refl
 all_lower (n ∷ ns) (suc k) = all_lower ns k
 
--- if the nodes from a position on are moved up one level, the depth there and at each later position is one less
+-- if the nodes from an index on are moved up one level, the depth there and at each later index is one less
 lower : (ns : List (ℕ × Item)) (place k : ℕ) → place ≤ k → slice_index (depths (map_from shallower place ns)) k ≡ slice_index (depths ns) k - 1
 lower ns zero k l = all_lower ns k
 lower [] (suc place) k l = omega arith

@@ -1,4 +1,4 @@
--- The position of an open node is below the number of nodes.
+-- The index of an open node is below the number of nodes.
 use Rattle.std.proofs.Common.{◌≡◌, ℕ, zero, suc, ◌<◌, List, [], ◌∷◌, length, slice_get, Some, IsSome, true, refl, sym, ap, subst, ◌∙◌}
 use Rattle.std.proofs.lemmas.List.{length-map}
 use Rattle.std.specs.Option.{option_and_then}
@@ -17,7 +17,7 @@ second_by : (ds : List ℕ) (spine : List TreeIndex) (ix : TreeIndex) → IsOpen
 second_by ds [] ix p h = cc
 second_by ds (i ∷ spine) ix p h = top_by ds spine ix p.1 h
 
--- the open node around the innermost one has such a position
+-- the open node around the innermost one has such an index
 pub second_within : (f : Forest Item) (ix : TreeIndex) → IsForest f → slice_get f.spine 1 ≡ Some ix → ix.0 < length f.nodes
 second_within f ix forest h = subst (λ n. ix.0 < n) (length-map f.nodes (λ n. n.0)) (second_by (depths f.nodes) f.spine ix forest.opened h)
 
@@ -30,7 +30,7 @@ closed_length : (f : Forest Item) (e : ℕ) (spine : List TreeIndex) → length 
 closed_length f e [] = refl
 closed_length f e (ix ∷ rest) = length-modify f.nodes ix.0 _
 
--- the innermost open node still has such a position after it is closed
+-- the innermost open node still has such an index after it is closed
 pub closed_within : (f g : Forest Item) (e : ℕ) (ix : TreeIndex)
     → IsForest f → slice_get f.spine 0 ≡ Some ix → g ≡ closed_by f e f.spine → ix.0 < length g.nodes
 closed_within f g e ix forest h is =

@@ -1,7 +1,7 @@
 -- How containers and lists are opened and closed: the result of each call on the state of the pass. In these comments,
 -- a definition list is also a list, and its definitions are its items. An item is empty as long as only blank lines
 -- follow its marker, or the task list item marker after that. A possible title is a paragraph right after a definition.
--- A `:` after it makes it the next title of the definition list. Otherwise it comes after that list. A position is that
+-- A `:` after it makes it the next title of the definition list. Otherwise it comes after that list. An index is that
 -- of a node in reading order.
 use Rattle.std.specs.Prelude.{ℕ, ◌==◌, ◌&&◌, not, Bool, true, false, List, [], ◌∷◌, length}
 use Rattle.std.specs.Prelude.{Option, Some, None, is_some, slice_get, if◌then◌else◌}
@@ -35,7 +35,7 @@ with_tree r tree = record r { tree = tree }
 abbrev pub with_block : PassState → Forest Item → PassState
 with_block r tree = record r { tree = tree; begin_list_item = None }
 
--- a list at a position becomes loose, given the body there; any other node is unchanged
+-- a list at an index becomes loose, given the body there; any other node is unchanged
 abbrev pub loosened_by : Forest Item → TreeIndex → Option ItemBody → Forest Item
 loosened_by f ix (Some (ListBody flags byte number)) = with_body_at f ix (ListBody (list_flags false) byte number)
 loosened_by f ix (Some (DefinitionList flags)) = with_body_at f ix (DefinitionList (list_flags false))
@@ -80,9 +80,9 @@ abbrev pub is_footnote : Option ItemBody → Bool
 is_footnote (Some (FootnoteDefinitionBody label)) = true
 is_footnote _ = false
 
--- The state after a node is closed. Given are the state before, the tree with the node closed, and the position and
--- the body of the node. If the node is a tight list, the paragraphs directly in its items become tight. If it is an
--- item or a definition, the state records no empty item.
+-- The state once a node is closed. Given are the state before, the tree with the node closed, and the index and the
+-- body of the node. If the node is a tight list, the paragraphs directly in its items become tight. If it is an item or
+-- a definition, the state records no empty item.
 abbrev pub popped_by : PassState → Forest Item → TreeIndex → Option ItemBody → PassState
 popped_by r f ix (Some (ListBody flags byte number)) = record r { tree = if bit_and flags.0 1 == 1 then tight_items f ix else f }
 popped_by r f ix (Some (DefinitionList flags)) = record r { tree = if bit_and flags.0 1 == 1 then tight_items f ix else f }
@@ -90,7 +90,7 @@ popped_by r f ix (Some (ListItemBody columns)) = record r { tree = f; begin_list
 popped_by r f ix (Some (DefinitionListDefinition columns)) = record r { tree = f; begin_list_item = None }
 popped_by r f ix _ = record r { tree = f }
 
--- the innermost open node, at the first of these positions, is closed at an offset
+-- the innermost open node, at the first of these indices, is closed at an offset
 abbrev pub popped_at : ℕ → PassState → List TreeIndex → PassState
 popped_at e r [] = r
 popped_at e r (ix ∷ rest) = popped_by r (closed_by r.tree e (ix ∷ rest)) ix (body_at (closed_by r.tree e (ix ∷ rest)).nodes ix.0)
@@ -110,8 +110,8 @@ definitions_closed e r = current_moved (popped_at e r r.tree.spine) r.tree.curre
 abbrev pub top_end : Forest Item → ℕ
 top_end f = option_map_or (λ x. x.«end») (option_and_then (λ ix. item_at f ix) (slice_get f.spine 0)) 0
 
--- The position of the current node, if that is a possible title and the innermost open node is a definition list.
--- Given are the body of the innermost open node, and the position and the body of the current node.
+-- The index of the current node, if that is a possible title and the innermost open node is a definition list.
+-- Given are the body of the innermost open node, and the index and the body of the current node.
 abbrev pub title_by : Option ItemBody → TreeIndex → Option ItemBody → Option TreeIndex
 title_by top ix (Some MaybeDefinitionListTitle) = if is_definition_list top then Some ix else None
 title_by top ix _ = None
@@ -198,7 +198,7 @@ abbrev pub begun : ℕ → ItemBody → PassState → PassState
 begun start body r =
     record r { tree = pushed (appended r.tree (record { start = start; «end» = 0; body = body })) (record { 0 = length r.tree.nodes }) }
 
--- the tree with another body of the node at a position, if one is given
+-- the tree with another body of the node at an index, if one is given
 abbrev pub with_current : Forest Item → ItemBody → Option TreeIndex → Forest Item
 with_current f body None = f
 with_current f body (Some c) = with_body_at f c body
@@ -228,7 +228,7 @@ may_begin_definition f = precedes_definition (top_body f) (current_body f)
 abbrev pub is_after_definition : Forest Item → Bool
 is_after_definition f = is_definition_list (top_body f) && not (is_some (possible_title f))
 
--- The tree in which a new definition can be opened. Given are the position, the start, the end and the body of the
+-- The tree in which a new definition can be opened. Given are the index, the start, the end and the body of the
 -- current node. A possible title becomes the next title of the open definition list. A paragraph becomes the title of
 -- a new list, which is tight so far and is opened. Otherwise nothing changes (this project).
 abbrev pub definitions_by : Forest Item → TreeIndex → ℕ → ℕ → ItemBody → Forest Item
@@ -242,7 +242,7 @@ abbrev pub definitions_at : Forest Item → TreeIndex → Option Item → Forest
 definitions_at f c None = f
 definitions_at f c (Some x) = definitions_by f c x.start x.«end» x.body
 
--- the same, given the position of the current node
+-- the same, given the index of the current node
 abbrev pub definitions_opened : Forest Item → Option TreeIndex → Forest Item
 definitions_opened f None = f
 definitions_opened f (Some c) = definitions_at f c (item_at f c)

@@ -1,5 +1,5 @@
 -- A definition list keeps its leading titles and definitions, and all later children move out of it. The pass does not
--- make this call of the original. A position is that of a node in reading order.
+-- make this call of the original. An index is that of a node in reading order.
 use Rattle.std.specs.Prelude.{ℕ, ◌+◌, ◌==◌, ◌&&◌, not, nat_lt, Bool, true, false, List, drop, length, Option, Some, if◌then◌else◌}
 use Rattle.std.specs.List.{position_or_len}
 use Rattle.std.specs.Option.{option_map_or}
@@ -9,7 +9,7 @@ use Rattle.first_pass_items.specs.declared.item.ItemBody.TheVariants.{Paragraph,
 use Rattle.first_pass_tree.specs.declared.tree_index.TreeIndex.{TreeIndex}
 use Rattle.first_pass_tree.specs.Forest.{Forest, depths, body_at, item_at, last_before, moved_from, with_body_at, with_end_at}
 
--- the node at a position
+-- the node at an index
 abbrev pub place : ℕ → TreeIndex
 place n = record { 0 = n }
 
@@ -28,25 +28,25 @@ is_title_or_definition _ = false
 abbrev pub is_other_at : ℕ → (ℕ × Item) → Bool
 is_other_at d n = n.0 == d && not (is_title_or_definition n.1.body)
 
--- The position of the first node of this depth that is neither a title nor a definition. The search starts at the
--- position `from`. If there is no such node, the number of nodes.
+-- The index of the first node of this depth that is neither a title nor a definition. The search starts at the
+-- index `from`. If there is no such node, the number of nodes.
 abbrev pub first_other : ℕ → ℕ → List (ℕ × Item) → ℕ
 first_other d from ns = from + position_or_len (is_other_at d) (drop from ns)
 
--- the position of the last child of the current node before a position; 0 if there is none
+-- the index of the last child of the current node before an index; 0 if there is none
 abbrev pub child_before : Forest Item → ℕ → ℕ
 child_before f n = last_before (depths f.nodes) (length f.spine + 2) n
 
--- the end of the node at a position
+-- the end of the node at an index
 abbrev pub end_there : Forest Item → ℕ → ℕ
 end_there f n = option_map_or (λ x. x.«end») (item_at f (place n)) 0
 
--- the node at a position becomes a paragraph, if it is a possible title (this project)
+-- the node at an index becomes a paragraph, if it is a possible title (this project)
 abbrev pub left_untitled : Forest Item → ℕ → Forest Item
 left_untitled f n = if is_possible_title (body_at f.nodes n) then with_body_at f (place n) Paragraph else f
 
--- The child at the position `other` and all nodes after it are moved out of the list. The list then ends where the
--- child at the position `kept` ends. If `kept` is not after the list, no child precedes, and nothing changes.
+-- The child at the index `other` and all nodes after it are moved out of the list. The list then ends where the
+-- child at the index `kept` ends. If `kept` is not after the list, no child precedes, and nothing changes.
 abbrev pub left_with : Forest Item → TreeIndex → ℕ → ℕ → Forest Item
 left_with f list other kept = if nat_lt list.0 kept then moved_from (with_end_at f list (end_there f kept)) other else f
 

@@ -34,8 +34,8 @@ pub fn fixup_end_of_definition_list(tree: &mut Tree<Item>, list_ix: TreeIndex)
     tree.move_out(TreeIndex(other));
 }
 
-// The position of the first node of this depth that is neither a title nor a definition. The search starts at the
-// position `from`. If there is no such node, the number of nodes.
+// The index of the first node of this depth that is neither a title nor a definition. The search starts at the
+// index `from`. If there is no such node, the number of nodes.
 fn first_other(nodes: &[(usize, Item)], depth: usize, from: usize) -> usize
     requires { from ≤ length nodes.now }
     ensures { result ≡ first_other depth from nodes.now }
@@ -50,7 +50,7 @@ fn first_other(nodes: &[(usize, Item)], depth: usize, from: usize) -> usize
     place
 }
 
-// The position of the last node of this depth before the position `before`; 0 if there is none.
+// The index of the last node of this depth before the index `before`; 0 if there is none.
 fn last_of_depth(nodes: &[(usize, Item)], depth: usize, before: usize) -> usize
     requires { before ≤ length nodes.now }
     ensures { result ≡ last_before (depths nodes.now) depth before }
@@ -75,7 +75,7 @@ fn is_title_or_definition(body: &ItemBody) -> bool
     )
 }
 
-// If the node at the position `place` is a possible title, makes it a paragraph.
+// If the node at the index `place` is a possible title, makes it a paragraph.
 fn leave_untitled(tree: &mut Tree<Item>, place: usize)
     requires { place < length tree.old.nodes }
     ensures { tree.new ≡ left_untitled tree.old place }

@@ -55,19 +55,19 @@ AreOpen options nodes (ix ∷ spine) [] = ⊥
 AreOpen options nodes (ix ∷ spine) (frame ∷ frames) =
     (frame_at options nodes ix.0 ≡ Some frame) × AreOpen options nodes spine frames × (is_footnote_in_another frame frames ≡ false)
 
--- the last child of a definition list that ends at an offset: the node at a place, which ends at another offset; a
+-- the last child of a definition list that ends at an offset: the node at an index, which ends at another offset; a
 -- possible title, or otherwise a definition
 abbrev pub closed_in_definitions : ℕ → ℕ → ℕ → ItemBody → Closed
 closed_in_definitions e place x MaybeDefinitionListTitle = TitleAt e place
 closed_in_definitions e place x (DefinitionListDefinition columns) = DefinitionClosed x (columns == 0)
 closed_in_definitions e place x _ = DefinitionClosed x true
 
--- the last child of another node: the node at a place
+-- the last child of another node: the node at an index
 abbrev pub closed_elsewhere : ℕ → ItemBody → Closed
 closed_elsewhere place ParagraphBody = ParagraphAt place
 closed_elsewhere place _ = OtherClosed
 
--- the last child of an open node that ends at an offset: the node at a place
+-- the last child of an open node that ends at an offset: the node at an index
 abbrev pub closed_below : ℕ → Option ItemBody → ℕ → Item → Closed
 closed_below e (Some (DefinitionList flags)) place x = closed_in_definitions e place x.«end» x.body
 closed_below e _ place x = closed_elsewhere place x.body

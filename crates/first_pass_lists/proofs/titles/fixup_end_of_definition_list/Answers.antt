@@ -13,7 +13,7 @@ use Rattle.first_pass_tree.proofs.Keeps.{depths-modify, depth_read, current-with
 use Rattle.first_pass_lists.specs.Titles.{place, is_other_at, is_possible_title, first_other, left_untitled}
 use Rattle.first_pass_lists.proofs.titles.fixup_end_of_definition_list.Goals as goal
 
--- the position r is before n, and the node there has the depth d
+-- the index r is before n, and the node there has the depth d
 record IsFound (ds : List ℕ) (d n r : ℕ) : Type 0 where
   pub within : r < n
   pub depth : slice_index ds r ≡ d
@@ -30,7 +30,7 @@ found ds d (suc k) h = found_by (slice_index ds k == d) ds d k refl (found ds d 
 kept_at : (ds : List ℕ) (d n r list : ℕ) → r ≡ last_before ds d n → list < r → IsFound ds d n r
 kept_at ds d n r list is above = subst (IsFound ds d n) (sym is) (found ds d n (omega arith))
 
--- the position n is that of a node after the list, with the depth of a child of the current node
+-- the index n is that of a node after the list, with the depth of a child of the current node
 record IsOther (f : Forest Item) (list n : ℕ) : Type 0 where
   pub within : n < length f.nodes
   pub depth : slice_index (depths f.nodes) n ≡ length f.spine + 2
