@@ -7,7 +7,7 @@ use Rattle.first_pass_lines.specs.Rest.{Rest, past_byte}
 abbrev pub without_owed : Rest → Rest
 without_owed r = record r { owed = 0 }
 
--- the rest after the space or the tab with which these bytes begin, and after all columns of the tab (CommonMark 2.2)
+-- the rest after the space or the tab that these bytes begin with, and after all columns of the tab (CommonMark 2.2)
 abbrev pub past_blank_in : Rest → List ℕ → Option Rest
 past_blank_in r [] = None
 past_blank_in r (b ∷ bs) =

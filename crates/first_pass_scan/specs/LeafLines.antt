@@ -10,11 +10,11 @@ use Rattle.first_pass_items.specs.declared.item.HeadingLevel.TheVariants.{H1, H2
 use Rattle.first_pass_lines.specs.Lines.{is_content, is_space_or_tab, begins, eol_len, blank_len, at_line_end}
 use Rattle.first_pass_lines.specs.Rest.{columns_of}
 
--- the number of bytes c at the start (this project)
+-- the number of copies of the byte c at the start (this project)
 abbrev pub run_len : ℕ → List ℕ → ℕ
 run_len c bs = prefix_len (λ b. b == c) bs
 
--- a character of which a thematic break is made: `-`, `_` or `*` (CommonMark 4.1)
+-- a byte of which a thematic break is made: `-`, `_` or `*` (CommonMark 4.1)
 abbrev pub is_rule_byte : ℕ → Bool
 is_rule_byte b = (b == hyphen) || (b == underscore) || (b == asterisk)
 
@@ -38,7 +38,7 @@ hrule_len (b ∷ bs) = if is_rule_byte b then rule_len b (b ∷ bs) else None
 pub record HasNoRule (bs : List ℕ) (low : ℕ) (high : ℕ) : Type 0 where
   pub none : (k : ℕ) → low ≤ k → k < high → hrule_len (drop k bs) ≡ None
 
--- the length of an underline of the byte c, with its line ending: a run of that byte, then only white space
+-- the length of an underline of copies of the byte c, with its line ending: a run of that byte, then only white space
 -- (CommonMark 4.3)
 abbrev pub underline_len : ℕ → List ℕ → Option ℕ
 underline_len c bs = let n = run_len c bs in option_map (λ k. n + k) (blank_len (drop n bs))
@@ -63,8 +63,8 @@ code_fence bs =
     then (let n = run_len backquote bs in if nat_le 3 n && not (has_backquote (drop n bs)) then Some (n, backquote) else None)
     else (if begins tilde bs then (let n = run_len tilde bs in if nat_le 3 n then Some (n, tilde) else None) else None)
 
--- the length of the closing fence here, with trailing spaces and tabs but without its line ending: at least as many
--- bytes c as the opening fence has (CommonMark 4.5). The end of the text closes the block too (this project).
+-- the length of the closing code fence here, with trailing spaces and tabs but without its line ending: at least as
+-- many bytes c as the opening code fence has (CommonMark 4.5). The end of the text closes the block too (this project).
 unfoldable pub closing_fence_len : ℕ → ℕ → List ℕ → Option ℕ
 closing_fence_len c count bs =
     if length bs == 0

@@ -14,7 +14,7 @@ use Rattle.first_pass_scan.specs.LeafLines.{hrule_len}
 use Rattle.first_pass_lines.specs.Places.{line_rest}
 use Rattle.first_pass_lines.specs.Rest.{Rest, after_columns, indent, past_bytes}
 
--- the number written by the digits of n (none if n is 0) followed by these digits (CommonMark 5.2)
+-- the number that is written by the digits of n, followed by these digits; if n is 0, by these alone (CommonMark 5.2)
 abbrev pub number_from : ℕ → List ℕ → ℕ
 number_from n [] = n
 number_from n (b ∷ bs) = number_from (10 * n + (b - digit_zero)) bs
@@ -28,7 +28,7 @@ abbrev pub bullet_marker : List ℕ → Option (ℕ × ℕ × ℕ)
 bullet_marker [] = None
 bullet_marker (b ∷ bs) = if is_bullet b then Some (1, b, 0) else None
 
--- the marker of n digits with this number, if a `.` or `)` follows them (CommonMark 5.2)
+-- the marker of n digits that write this number, if a `.` or `)` follows them (CommonMark 5.2)
 abbrev pub delimited : ℕ → ℕ → List ℕ → Option (ℕ × ℕ × ℕ)
 delimited n number [] = None
 delimited n number (b ∷ bs) = if (b == full_stop) || (b == right_parenthesis) then Some (n + 1, b, number) else None
@@ -46,19 +46,18 @@ list_marker bs = if is_some (bullet_marker bs) then bullet_marker bs else ordere
 
 -- For an item with content at column n or later: the columns that a line needs to continue it, and the rest of its line
 -- after the columns that count. Of the columns after column n, up to three count. If there are four or more, none of
--- them counts, since the content is indented code. In a blank rest none counts either (CommonMark 5.2).
+-- them counts, since the content is indented code. If the rest is blank, none counts either (CommonMark 5.2).
 unfoldable pub content_indent : ℕ → Rest → ℕ × Rest
 content_indent n r =
     if is_blank_line r.left then (n, r) else (if nat_le 4 (indent r) then (n, r) else (n + indent r, after_columns (indent r) r))
 
--- the same after an item's marker that ends n columns in, if a column or the end of the line follows it
--- (CommonMark 5.2)
+-- the same after an item's marker that ends at column n, if a column or the end of the line follows it (CommonMark 5.2)
 unfoldable pub after_marker : ℕ → Rest → Option (ℕ × Rest)
 after_marker n r =
     if nat_le 1 (indent r) || at_line_end r.left then Some (content_indent (n + 1) (after_columns 1 r)) else None
 
--- the item after `outer` columns with this marker: the marker's byte and number, the item's indent, and the rest of its
--- line (CommonMark 5.2)
+-- the item that has this marker, after `outer` columns: the marker's byte and number, the item's indent, and the rest
+-- of its line (CommonMark 5.2)
 abbrev pub item_by : ℕ → Rest → Option (ℕ × ℕ × ℕ) → Option ((ℕ × ℕ × ℕ) × Rest)
 item_by outer r None = None
 item_by outer r (Some m) =
@@ -68,7 +67,7 @@ item_by outer r (Some m) =
 unfoldable pub item_of : ℕ → Rest → Option ((ℕ × ℕ × ℕ) × Rest)
 item_of outer r = if (r.owed == 0) && not (is_some (hrule_len r.left)) then item_by outer r (list_marker r.left) else None
 
--- the item at the start of a line with this marker: the marker's width, byte and number, and the item's indent
+-- the item that has this marker, at the start of a line: the marker's width, byte and number, and the item's indent
 -- (CommonMark 5.2)
 abbrev pub listitem_by : List ℕ → Option (ℕ × ℕ × ℕ) → Option (ℕ × ℕ × ℕ × ℕ)
 listitem_by bs None = None
@@ -79,8 +78,8 @@ listitem_by bs (Some m) = option_map (λ content. (m.0, m.1, m.2, content.0)) (a
 unfoldable pub listitem : List ℕ → Option (ℕ × ℕ × ℕ × ℕ)
 listitem bs = listitem_by bs (list_marker bs)
 
--- the indent of a definition whose marker ends n columns in, and the rest of its line; no column need follow the marker
--- (this project)
+-- the indent of a definition whose marker ends at column n, and the rest of its line; no column has to follow the
+-- marker (this project)
 abbrev pub after_colon : ℕ → Rest → ℕ × Rest
 after_colon n r = if nat_le 1 (indent r) then content_indent (n + 1) (after_columns 1 r) else (n, r)
 
@@ -123,7 +122,7 @@ unfoldable pub has_tag : BlockQuoteKind → List ℕ → Bool
 has_tag kind bs =
     let n = length (tag_of kind) in nat_le n (length bs) && str_eq_ignore_ascii_case (take n bs) (tag_of kind)
 
--- the kind with whose tag the bytes begin (GitHub's alerts)
+-- the kind whose tag the bytes begin with (GitHub's alerts)
 unfoldable pub tag_kind : List ℕ → Option BlockQuoteKind
 tag_kind bs =
     if has_tag Note bs then Some Note
@@ -133,7 +132,7 @@ tag_kind bs =
     else (if has_tag Caution bs then Some Caution
     else None))))
 
--- given this kind, with whose tag the bytes begin: the kind and the length of the line with its line ending, if the
+-- given this kind, whose tag the bytes begin with: the kind and the length of the line with its line ending, if the
 -- rest of the line is blank (GitHub's alerts)
 abbrev pub tag_line_of : List ℕ → Option BlockQuoteKind → Option (BlockQuoteKind × ℕ)
 tag_line_of bs None = None

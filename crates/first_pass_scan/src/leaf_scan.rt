@@ -1,5 +1,5 @@
-//! Lines that open or close a leaf block: thematic breaks, setext heading underlines and code fences. The width
-//! of indentation.
+//! Lines that open or close a leaf block: thematic breaks, setext heading underlines and code fences. The width of
+//! indentation.
 
 ghost use Rattle.std.specs.List.{prefix_len};
 ghost use Rattle.std.specs.Prelude.{◌≡◌, ◌≤◌, length, None, IfSome};
@@ -22,8 +22,9 @@ fn scan_rule_content(bytes: &[u8], byte: u8) -> usize
         .count()
 }
 
-/// The length in bytes of the thematic break at the start of `bytes`, with its line ending: three or more of
-/// one of `-`, `_` and `*`, with spaces and tabs between and after them. Otherwise `None`. CommonMark 4.1.
+/// Returns the length in bytes of the thematic break at the start of `bytes`, with its line ending, or `None` if there
+/// is none. A thematic break is three or more of one of `-`, `_` and `*`, with spaces and tabs between and after them.
+/// CommonMark 4.1.
 #[tactic(auto, unfolding(crate::specs::LeafLines::hrule_len))]
 pub fn scan_hrule(bytes: &[u8]) -> Option<usize>
     ensures value { result ≡ hrule_len bytes.now }
@@ -41,8 +42,8 @@ pub fn scan_hrule(bytes: &[u8]) -> Option<usize>
     Some(content + end)
 }
 
-// The number of bytes at the start that equal the first byte, or are spaces or tabs. If no thematic break begins at the
-// start, none begins at any of these bytes.
+// Returns the number of bytes at the start that equal the first byte, or are spaces or tabs. If no thematic break
+// begins at the start, none begins at any of these bytes.
 pub(crate) fn scan_rule_free(bytes: &[u8]) -> usize
     requires { hrule_len bytes.now ≡ None }
     ensures none { HasNoRule bytes.now 0 result }
@@ -54,7 +55,7 @@ pub(crate) fn scan_rule_free(bytes: &[u8]) -> usize
     }
 }
 
-/// The number of copies of `byte` at the start of `bytes`.
+/// Returns the number of copies of `byte` at the start of `bytes`.
 pub fn scan_run(bytes: &[u8], byte: u8) -> usize
     ensures value { result ≡ run_len byte bytes.now }
     ensures within { result ≤ length bytes.now }
@@ -62,7 +63,7 @@ pub fn scan_run(bytes: &[u8], byte: u8) -> usize
     bytes.iter().take_while(|b| **b == byte).count()
 }
 
-// The length in bytes of an underline of the byte, with its line ending.
+// The length in bytes of the underline of copies of `byte` at the start, with its line ending, if there is one.
 #[inline(always)]
 fn scan_underline(bytes: &[u8], byte: u8) -> Option<usize>
     ensures value { result ≡ underline_len byte bytes.now }
@@ -73,9 +74,9 @@ fn scan_underline(bytes: &[u8], byte: u8) -> Option<usize>
     Some(run + end)
 }
 
-/// The length in bytes of the setext heading underline at the start of `bytes`, with its line ending, and the
-/// level of the heading: a run of `=` (level 1) or `-` (level 2), then only white space. Otherwise `None`.
-/// CommonMark 4.3.
+/// Returns the length in bytes of the setext heading underline at the start of `bytes`, with its line ending, and the
+/// level of the heading. Returns `None` if there is none. An underline is a run of `=` (level 1) or `-` (level 2), then
+/// only white space. CommonMark 4.3.
 #[inline(always)]
 #[tactic(auto, unfolding(crate::specs::LeafLines::setext_underline))]
 pub fn scan_setext_heading(bytes: &[u8]) -> Option<(usize, HeadingLevel)>
@@ -103,8 +104,8 @@ fn has_backquote(bytes: &[u8]) -> bool
     bytes[..content].contains(&b'`')
 }
 
-/// The length in bytes and the byte of the code fence at the start of `bytes`: three or more backquotes with
-/// none in the rest of the line, or three or more tildes. Otherwise `None`. CommonMark 4.5.
+/// Returns the length in bytes and the byte of the code fence at the start of `bytes`, or `None` if there is none. A
+/// code fence is three or more backquotes with none in the rest of the line, or three or more tildes. CommonMark 4.5.
 #[tactic(auto, unfolding(crate::specs::LeafLines::code_fence))]
 pub fn scan_code_fence(bytes: &[u8]) -> Option<(usize, u8)>
     ensures value { result ≡ code_fence bytes.now }
@@ -129,9 +130,9 @@ pub fn scan_code_fence(bytes: &[u8]) -> Option<(usize, u8)>
     }
 }
 
-/// The length in bytes of the closing code fence at the start of `bytes`, with trailing spaces and tabs but
-/// without its line ending: at least `count` of `byte`, and nothing else on the line. 0 at the end of the text,
-/// which closes the block too. Otherwise `None`. CommonMark 4.5.
+/// Returns the length in bytes of the closing code fence at the start of `bytes`, with trailing spaces and tabs but
+/// without its line ending: at least `count` of `byte`, and nothing else on the line. Returns 0 at the end of the text,
+/// which closes the block too, and `None` if there is neither. CommonMark 4.5.
 #[tactic(auto, unfolding(crate::specs::LeafLines::closing_fence_len))]
 pub fn scan_closing_code_fence(bytes: &[u8], byte: u8, count: usize) -> Option<usize>
     ensures value { result ≡ closing_fence_len byte count bytes.now }
@@ -160,7 +161,7 @@ fn columns_of_blank(byte: u8, column: usize) -> usize
     }
 }
 
-/// The number of bytes and of columns in the longest run of whole spaces and tabs at the start of `bytes` that
+/// Returns the number of bytes and of columns in the longest run of whole spaces and tabs at the start of `bytes` that
 /// has at most `max` columns. CommonMark 2.2.
 pub fn calc_indent(bytes: &[u8], max: usize) -> (usize, usize)
     ensures { IsLongestIndent bytes.now max result.0 result.1 }

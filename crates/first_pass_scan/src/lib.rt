@@ -1,5 +1,5 @@
-//! Scanners for the start of a line: thematic breaks, setext heading underlines, code fences, indentation in
-//! columns, and the markers of containers.
+//! Scanners for the start of a line: thematic breaks, setext heading underlines, code fences, indentation in columns,
+//! and the markers of containers.
 #![tactic(auto)]
 
 pub mod leaf_scan;

@@ -71,7 +71,7 @@ fn is_plain_third(bytes: &[u8]) -> bool
 }
 
 impl<'a> LineStart<'a> {
-    /// The place at the start of the first line of `bytes`. `bytes` may continue after that line.
+    /// Returns the place at the start of the first line of `bytes`. `bytes` may continue after that line.
     pub fn new(bytes: &'a [u8]) -> LineStart<'a>
         ensures { result ≡ line_rest bytes.now }
     {
@@ -84,21 +84,21 @@ impl<'a> LineStart<'a> {
         }
     }
 
-    /// The number of bytes that were taken from the line.
+    /// Returns the number of bytes that were taken from the line.
     pub fn bytes_scanned(&self) -> usize
         ensures { result ≡ self.now.taken }
     {
         self.at
     }
 
-    /// The rest of the text from the place on: the rest of the line, and everything after it.
+    /// Returns the rest of the text from the place on: the rest of the line, and everything after it.
     pub fn left(&self) -> &'a [u8]
         ensures { result.now ≡ self.now.left }
     {
         rest_of(self.bytes, self.at)
     }
 
-    /// The columns that a partly taken tab owes: 0 to 3. CommonMark 2.2.
+    /// Returns the columns that a partly taken tab owes: 0 to 3. CommonMark 2.2.
     pub fn remaining_space(&self) -> usize
         ensures value { result ≡ self.now.owed }
         ensures small { result ≤ 3 }
@@ -106,15 +106,15 @@ impl<'a> LineStart<'a> {
         self.owed
     }
 
-    /// Whether the line or the text ends here, apart from owed columns. CommonMark 2.1.
+    /// Returns whether the line or the text ends here, apart from owed columns. CommonMark 2.1.
     pub fn is_at_eol(&self) -> bool
         ensures { result ≡ at_line_end self.now.left }
     {
         scan_eol(rest_of(self.bytes, self.at)).is_some()
     }
 
-    /// `true` only if no column is owed and the next byte is an ASCII letter or a non-ASCII byte. Then there is no
-    /// white space here, and a block that begins here is a paragraph, unless later lines turn it into a table or a
+    /// Returns `true` only if no column is owed and the next byte is an ASCII letter or a non-ASCII byte. Then there is
+    /// no white space here, and a block that begins here is a paragraph, unless later lines turn it into a table or a
     /// setext heading.
     #[inline(always)]
     pub fn is_at_plain(&self) -> bool
@@ -124,8 +124,8 @@ impl<'a> LineStart<'a> {
         self.owed == 0 && is_plain_front(rest_of(self.bytes, self.at))
     }
 
-    /// `true` only if no column is owed, and the next byte is no space or tab and cannot begin a list item or a block
-    /// quote.
+    /// Returns `true` only if no column is owed, and the next byte is neither a space nor a tab and can begin neither a
+    /// list item nor a block quote.
     #[inline(always)]
     pub fn is_at_inert(&self) -> bool
         ensures owed { result ≡ true → self.now.owed ≡ 0 }
@@ -134,7 +134,7 @@ impl<'a> LineStart<'a> {
         self.owed == 0 && is_inert_front(rest_of(self.bytes, self.at))
     }
 
-    /// Takes as many columns of spaces and tabs as there are, up to `n`, and returns how many. CommonMark 2.2.
+    /// Takes as many columns of spaces and tabs as there are, up to `n`, and returns their number. CommonMark 2.2.
     #[inline(always)]
     pub fn scan_space_upto(&mut self, n: usize) -> usize
         ensures rest { self.new ≡ after_columns n self.old }
@@ -146,8 +146,7 @@ impl<'a> LineStart<'a> {
         self.take_columns(n)
     }
 
-    /// Takes as many columns as there are, up to `n`, and returns whether there were `n` columns.
-    /// CommonMark 2.2.
+    /// Takes as many columns as there are, up to `n`, and returns whether there were `n` columns. CommonMark 2.2.
     pub fn scan_space(&mut self, n: usize) -> bool
         ensures rest { self.new ≡ after_columns n self.old }
         ensures value { result ≡ nat_le n (indent self.old) }
@@ -164,8 +163,8 @@ impl<'a> LineStart<'a> {
         while self.take_blank() {}
     }
 
-    /// Takes the block quote marker `>` here, and one column after it if there is one. Returns whether there
-    /// was a marker. There is none if a column is owed. CommonMark 5.1.
+    /// Takes the block quote marker `>` here, and one column after it if there is one. Returns whether there was a
+    /// marker. There is none if a column is owed. CommonMark 5.1.
     pub fn scan_blockquote_marker(&mut self) -> bool
         ensures { MatchOption (past_quote self.old) ((result ≡ false) × (self.new ≡ self.old)) (λ next. (result ≡ true)
             × (self.new ≡ after_columns 1 next)) }
@@ -179,9 +178,9 @@ impl<'a> LineStart<'a> {
         }
     }
 
-    /// Takes the line of the block quote tag here (such as `[!NOTE]`, in letters of either case), with its
-    /// blank rest and its line ending, and returns the kind. Returns `None`, and takes nothing, if a column is
-    /// owed or there is no such line.
+    /// Takes the line of the block quote tag here (such as `[!NOTE]`, in letters of either case), with its blank rest
+    /// and its line ending, and returns the kind. Returns `None`, and takes nothing, if a column is owed or there is no
+    /// such line.
     #[tactic(auto, unfolding(crate::specs::Markers::past_tag))]
     pub fn scan_blockquote_tag(&mut self) -> Option<BlockQuoteKind>
         ensures { MatchOption (past_tag self.old) ((result ≡ None) × (self.new ≡ self.old)) (λ tag.
@@ -251,7 +250,7 @@ impl<'a> LineStart<'a> {
         Some(checked)
     }
 
-    /// A copy of this place. Copying allocates nothing.
+    /// Returns a copy of this place. Copying allocates nothing.
     pub fn copy(&self) -> LineStart<'a>
         ensures { result ≡ self.now }
     {
@@ -264,7 +263,7 @@ impl<'a> LineStart<'a> {
         }
     }
 
-    // Takes `count` bytes. Requires that no column is owed.
+    // Takes `count` bytes. No column may be owed.
     fn skip(&mut self, count: usize)
         requires within { count ≤ length self.old.left }
         requires none_owed { self.old.owed ≡ 0 }
@@ -363,7 +362,8 @@ impl<'a> LineStart<'a> {
         Some(self.scan_content_indent(width + 1))
     }
 
-    // The same after a definition's `:`, which no column need follow.
+    // Takes the columns that count after a definition's `:`, which ends at column `width`. Returns the definition's
+    // indent. No column has to follow the `:`.
     fn scan_after_colon(&mut self, width: usize) -> usize
         requires { width < 2 ^ 61 }
         ensures { let content = after_colon width self.old in (result ≡ content.0) × (self.new ≡ content.1) }
@@ -409,7 +409,7 @@ impl<'a> LineStart<'a> {
         self.owed = 0;
     }
 
-    // Takes one space or tab with all its columns, and returns whether there was one. Requires that no column is owed.
+    // Takes one space or tab with all its columns, and returns whether there was one. No column may be owed.
     #[inline(always)]
     fn take_blank(&mut self) -> bool
         requires { self.old.owed ≡ 0 }
@@ -430,7 +430,7 @@ impl<'a> LineStart<'a> {
         }
     }
 
-    // Takes one column, if there is one.
+    // Takes one column, and returns whether there was one.
     fn take_column(&mut self) -> bool
         ensures { MatchOption (next_column self.old) ((result ≡ false) × (self.new ≡ self.old)) (λ next. (result ≡ true)
             × (self.new ≡ next)) }
@@ -455,9 +455,10 @@ impl<'a> LineStart<'a> {
     }
 }
 
-/// The list marker at the start of the line with which `bytes` begins: its length in bytes, its byte (`.` or
-/// `)` after digits), its number (0 for a bullet), and the columns that a line needs to continue the item. It does not
-/// matter whether the line is a thematic break, such as `- - -`. Otherwise `None`. CommonMark 5.2.
+/// Returns the list marker at the start of the line with which `bytes` begins: its length in bytes, its byte (`.` or
+/// `)` after digits), its number (0 for a bullet), and the columns that a line needs to continue the item. Returns
+/// `None` if no item begins there. It does not matter whether the line is a thematic break, such as `- - -`. CommonMark
+/// 5.2.
 #[tactic(auto, unfolding(crate::specs::Markers::listitem))]
 pub fn scan_listitem(bytes: &[u8]) -> Option<(usize, u8, u64, usize)>
     ensures value { result ≡ listitem bytes.now }

@@ -45,7 +45,7 @@ fn number(digits: &[u8]) -> u64
     value
 }
 
-// The bullet at the start, as a list marker: its width, its byte and 0.
+// The bullet at the start, if there is one, as a list marker: its width, its byte and 0.
 fn scan_bullet(bytes: &[u8]) -> Option<(usize, u8, u64)>
     ensures { result ≡ bullet_marker bytes.now }
 {
@@ -55,7 +55,7 @@ fn scan_bullet(bytes: &[u8]) -> Option<(usize, u8, u64)>
     }
 }
 
-// The ordered list marker at the start: its width, its last byte and its number.
+// The ordered list marker at the start, if there is one: its width, its last byte and its number.
 fn scan_ordered(bytes: &[u8]) -> Option<(usize, u8, u64)>
     ensures value { result ≡ ordered_marker bytes.now }
     ensures within { IfSome result (λ m. m.0 ≤ length bytes.now) }
@@ -71,7 +71,7 @@ fn scan_ordered(bytes: &[u8]) -> Option<(usize, u8, u64)>
     }
 }
 
-// The list marker at the start: its width, its byte and its number.
+// The list marker at the start, if there is one: its width, its byte and its number.
 #[tactic(auto, unfolding(crate::specs::Markers::list_marker))]
 pub(crate) fn scan_list_marker(bytes: &[u8]) -> Option<(usize, u8, u64)>
     ensures value { result ≡ list_marker bytes.now }
@@ -84,7 +84,8 @@ pub(crate) fn scan_list_marker(bytes: &[u8]) -> Option<(usize, u8, u64)>
     }
 }
 
-// Whether the task list item marker at the start is checked. White space or a line ending follows its `]`.
+// Whether the task list item marker at the start, if there is one, is checked. White space or a line ending follows its
+// `]`.
 #[tactic(auto, unfolding(crate::specs::Markers::task_box))]
 pub(crate) fn scan_task_box(bytes: &[u8]) -> Option<bool>
     ensures value { result ≡ task_box bytes.now }
@@ -97,7 +98,7 @@ pub(crate) fn scan_task_box(bytes: &[u8]) -> Option<bool>
     }
 }
 
-// The bytes of the kind's tag.
+// The bytes of the tag of a kind.
 fn tag_of(kind: BlockQuoteKind) -> &'static [u8]
     ensures { result.now ≡ tag_bytes kind }
 {
@@ -120,7 +121,7 @@ fn has_tag(bytes: &[u8], kind: BlockQuoteKind) -> bool
     tag.len() <= bytes.len() && bytes[..tag.len()].eq_ignore_ascii_case(tag)
 }
 
-// The kind with whose tag the bytes begin.
+// The kind whose tag the bytes begin with, if there is one.
 #[tactic(auto, unfolding(crate::specs::Markers::tag_kind))]
 fn scan_kind(bytes: &[u8]) -> Option<BlockQuoteKind>
     ensures value { result ≡ tag_kind bytes.now }
@@ -141,8 +142,8 @@ fn scan_kind(bytes: &[u8]) -> Option<BlockQuoteKind>
     }
 }
 
-// The kind with whose tag the bytes begin, and the length of that line with its line ending, if the rest of the
-// line is blank.
+// The kind whose tag the bytes begin with, and the length of that line with its line ending, if the rest of the line is
+// blank.
 #[tactic(auto, unfolding(crate::specs::Markers::tag_line))]
 pub(crate) fn scan_tag_line(bytes: &[u8]) -> Option<(BlockQuoteKind, usize)>
     ensures value { result ≡ tag_line bytes.now }

@@ -18,11 +18,11 @@ is_pipe b = b == pipe
 unfoldable pub stripped : List ℕ → List ℕ
 stripped bs = let s = drop (prefix_len is_space_or_tab bs) bs in take (length s - suffix_len is_space_or_tab s) s
 
--- the bytes without their first one, if it is c, which is not 0 (this project)
+-- the bytes without the first one, if that is c, which is not 0 (this project)
 abbrev pub without_first : ℕ → List ℕ → List ℕ
 without_first c bs = if begins c bs then drop 1 bs else bs
 
--- the bytes without their last one, if it is c, which is not 0 (this project)
+-- the bytes without the last one, if that is c, which is not 0 (this project)
 abbrev pub without_last : ℕ → List ℕ → List ℕ
 without_last c bs = if ends c bs then take (length bs - 1) bs else bs
 
@@ -45,7 +45,7 @@ delimiter_cell bs =
     let tail = without_first colon cell in
     if is_hyphens (without_last colon tail) then Some (alignment_by (begins colon cell) (ends colon tail)) else None
 
--- the values, if every one is there (this project)
+-- the values, if each one is there (this project)
 abbrev pub each_of : List (Option Alignment) → Option (List Alignment)
 each_of [] = Some []
 each_of (None ∷ os) = None
@@ -76,19 +76,19 @@ pipes_after b (c ∷ cs) = (if is_pipe c && not (b == backslash) then 1 else 0) 
 abbrev pub pipes_of : List ℕ → ℕ
 pipes_of bs = pipes_after 0 bs
 
--- The number of columns of a header row, from the number of its pipes and the place of the last one. A pipe that
--- begins the row after white space does not count. One more column counts if the rest of the line after the last pipe
--- is not blank (GFM 4.10).
+-- The number of columns of a header row, given the number of its pipes and the offset of the last one. A pipe that
+-- begins the row after white space does not count. If the rest of the line after the last pipe is not blank, it is one
+-- more column (GFM 4.10).
 abbrev pub columns_by_pipes : ℕ → List ℕ → ℕ → ℕ
 columns_by_pipes pipes bs last =
     pipes - (if begins pipe (drop (prefix_len is_white bs) bs) then 1 else 0) + (if is_blank_line (drop (last + 1) bs) then 0 else 1)
 
--- the number of columns of a header row, from the place of its last pipe (GFM 4.10)
+-- the number of columns of a header row, given the offset of its last pipe (GFM 4.10)
 abbrev pub header_columns : List ℕ → ℕ → ℕ
 header_columns bs last = columns_by_pipes (pipes_of (take (last + 1) bs)) bs last
 
--- the place of the last pipe not directly after a backslash in bytes that follow the byte b, if there is one
--- (GFM 4.10)
+-- the offset of the last pipe not directly after a backslash in bytes that follow the byte b, if there is one (GFM
+-- 4.10)
 abbrev pub last_pipe_after : ℕ → List ℕ → Option ℕ
 last_pipe_after b [] = None
 last_pipe_after b (c ∷ cs) =

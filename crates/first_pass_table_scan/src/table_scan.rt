@@ -40,7 +40,7 @@ fn stripped(bytes: &[u8]) -> &[u8]
     &rest[..rest.len() - last]
 }
 
-// The bytes without their first one, if it is this byte.
+// The bytes without the first one, if that is this byte.
 fn without_first(bytes: &[u8], byte: u8) -> &[u8]
     ensures { result.now ≡ past_first byte bytes.now }
 {
@@ -62,7 +62,7 @@ fn ends(bytes: &[u8], byte: u8) -> bool
     }
 }
 
-// The bytes without their last one, if it is this byte, which is not 0.
+// The bytes without the last one, if that is this byte, which is not 0.
 fn without_last(bytes: &[u8], byte: u8) -> &[u8]
     requires { 0 < byte }
     ensures { result.now ≡ before_last byte bytes.now }
@@ -119,7 +119,7 @@ pub(crate) fn cell_len(bytes: &[u8]) -> usize
     }
 }
 
-// The same, byte by byte: the cells of a delimiter row are short.
+// Returns the same as `cell_len`, but goes byte by byte: the cells of a delimiter row are short.
 fn short_cell_len(bytes: &[u8]) -> usize
     ensures value { result ≡ position_or_len is_pipe bytes.now }
     ensures within { result ≤ length bytes.now }
@@ -162,9 +162,9 @@ fn scan_alignments(alloc: Global, bytes: &[u8]) -> Result<Option<Vec<Alignment>>
 }
 
 /// Returns the length of the delimiter row at the start of `bytes`, with its line ending, and the alignment of each
-/// column. Pipes separate the cells, and one pipe at each end is optional. A cell is one or more hyphens, with an
-/// optional colon at each end. The row contains a pipe, and its indentation is at most three columns. Returns 0 and
-/// no alignments if there is no such row. Fails only if an allocation fails. GFM 4.10.
+/// column. Returns 0 and no alignments if there is no such row. Pipes separate the cells, and one pipe at each end is
+/// optional. A cell is one or more hyphens, with an optional colon at each end. The row contains a pipe, and its
+/// indentation is at most three columns. Fails only if an allocation fails. GFM 4.10.
 #[tactic(auto, unfolding(crate::specs::TableHead::table_head))]
 pub fn scan_table_head(alloc: Global, bytes: &[u8]) -> Result<(usize, Vec<Alignment>), AllocError>
     ensures value { IfOk result (λ head. (head.0, head.1.items) ≡ table_head bytes.now) }
@@ -176,7 +176,8 @@ pub fn scan_table_head(alloc: Global, bytes: &[u8]) -> Result<(usize, Vec<Alignm
     }
 }
 
-// The number of pipes of a header row, without the one that begins it after white space.
+// The number of pipes of a header row, not counting one that begins it after white space. `pipes` is that of all of
+// them.
 fn without_first_pipe(row: &[u8], pipes: usize) -> usize
     requires { 1 ≤ pipes }
     ensures { result ≡ pipes - (if begins pipe (drop (prefix_len is_white row.now) row.now) then 1 else 0) }
@@ -188,10 +189,10 @@ fn without_first_pipe(row: &[u8], pipes: usize) -> usize
     }
 }
 
-/// Returns the number of columns of the header row at the offset `start` of `bytes`. `pipes` is the number of its
-/// pipes that are not directly after a backslash, and `last_pipe_ix` is the offset of the last of them. A pipe that
-/// begins the row after white space does not count. One more column counts if the rest of the line after the last
-/// pipe is not blank. GFM 4.10.
+/// Returns the number of columns of the header row at the offset `start` of `bytes`. `pipes` is the number of its pipes
+/// that are not directly after a backslash, and `last_pipe_ix` is the offset of the last of them. A pipe that begins
+/// the row after white space does not count. If the rest of the line after the last pipe is not blank, it is one more
+/// column. GFM 4.10.
 pub fn count_header_cols(bytes: &[u8], pipes: usize, start: usize, last_pipe_ix: usize) -> usize
     requires some { 1 ≤ pipes }
     requires ordered { start ≤ last_pipe_ix }

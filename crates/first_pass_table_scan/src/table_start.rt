@@ -14,9 +14,9 @@ use first_pass_lines::lines::content_len;
 use first_pass_scan::line_start::LineStart;
 use std::alloc::{AllocError, Global};
 
-/// Returns the number of columns of the first line of `bytes` as a header row. It counts the pipes that are not
-/// directly after a backslash, without one that begins the line after white space. One more column counts if the rest
-/// of the line after the last pipe is not blank. Returns 0 if there is no such pipe. GFM 4.10.
+/// Returns the number of columns of the first line of `bytes` as a header row. Each pipe that is not directly after a
+/// backslash counts, except one that begins the line after white space. If the rest of the line after the last such
+/// pipe is not blank, it is one more column. Returns 0 if there is no such pipe. GFM 4.10.
 pub fn scan_head_columns(bytes: &[u8]) -> usize
     ensures { result ≡ head_columns bytes.now }
 {
@@ -32,7 +32,7 @@ pub fn scan_head_columns(bytes: &[u8]) -> usize
     count_header_cols(bytes, pipes, 0, end - 1)
 }
 
-/// Returns whether a pipe is among the bytes. Without one, a line is no header row of a table. GFM 4.10.
+/// Returns whether there is a pipe among the bytes. Without one, a line is no header row of a table. GFM 4.10.
 #[inline(always)]
 pub fn has_pipe(bytes: &[u8]) -> bool
     ensures { result ≡ list_any is_pipe bytes.now }
@@ -40,7 +40,7 @@ pub fn has_pipe(bytes: &[u8]) -> bool
     cell_len(bytes) < bytes.len()
 }
 
-// Whether the byte, at an offset of a row, is a pipe and the byte before it is not a backslash.
+// Whether `byte`, which is at the offset `at` of a row, is a pipe and no backslash is directly before it.
 fn is_open_pipe(row: &[u8], at: usize, byte: u8) -> bool
     requires { at ≤ length row.now }
     ensures { result ≡ (is_pipe byte && not (nat_lt 0 at && slice_index row.now (at - 1) == backslash)) }
@@ -48,7 +48,7 @@ fn is_open_pipe(row: &[u8], at: usize, byte: u8) -> bool
     byte == b'|' && (at == 0 || row[at - 1] != b'\\')
 }
 
-// The number of pipes of the row that are not directly after a backslash, and the offset after the last, or 0.
+// The number of pipes of the row that are not directly after a backslash, and the offset after the last of them, or 0.
 fn count_pipes(row: &[u8]) -> (usize, usize)
     ensures pipes { result.0 ≡ pipes_of row.now }
     ensures end { result.1 ≡ option_map_or (λ last. last + 1) (last_pipe_after 0 row.now) 0 }
@@ -95,8 +95,8 @@ pub fn scan_delimiter_row(
 }
 
 /// The number of columns of a header row follows from its pipes that are not directly after a backslash. It is 0 if
-/// there is no such pipe. Otherwise each of them counts, except one that begins the line after white space. One more
-/// column counts if the rest of the line after the last pipe is not blank. GFM 4.10.
+/// there is no such pipe. Otherwise each of them counts, except one that begins the line after white space. If the rest
+/// of the line after the last of them is not blank, it is one more column. GFM 4.10.
 pub fn law_of_head_columns(bytes: &[u8])
     ensures none { pipes_of (take_while is_content bytes.now) ≡ 0 → head_columns bytes.now ≡ 0 }
     ensures some { (last : ℕ) → last_pipe_after 0 (take_while is_content bytes.now) ≡ Some last
