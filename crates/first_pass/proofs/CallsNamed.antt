@@ -23,7 +23,7 @@ use Rattle.first_pass_grammar.specs.HtmlBlocks.{IsHtml}
 use Rattle.first_pass_grammar.specs.Leaves.{Document, heading_block, rule_block}
 use Rattle.first_pass_grammar.specs.Names.{Names, Extends, AreNamed, index_of}
 use Rattle.first_pass_grammar.specs.RawLines.{AreColumns, range_text, range_html, IsRawLine}
-use Rattle.first_pass_grammar.specs.Tables.{AreCells, row_block, table_so_far, filled, most_filled, taking}
+use Rattle.first_pass_grammar.specs.Tables.{AreCells, row_block, table_so_far, inserted, most_inserted, taking}
 use Rattle.first_pass_grammar.proofs.Each.EachToken.{AreEach, both_each, cell_each, heading_each, line_each, raw_each, range_text_each}
 use Rattle.first_pass_grammar.proofs.Names.MoreNames.{extends_none, extends_named}
 use Rattle.first_pass_grammar.proofs.Names.NamedItems.{HasEntry, IsNamed, block_named, each_named, html_is_free, lines_named, named_both, named_deeper}
@@ -180,7 +180,7 @@ rows_named d columns head_start body_start old new next before more r h =
     let holds = tokens_entered d.names in
     let head : List (ℕ × Item) = row_block TableHead columns head_start r.cells r.head_end in
     let cells = cells_nodes P d holds tt (spot head_start no_braces) r.cells (spot r.head_end r.after) r.are_cells in
-    let rows = rows_nodes P d holds tt (path_of d.options old) (table_so_far columns (most_filled - filled columns r.cells) r.after)
+    let rows = rows_nodes P d holds tt (path_of d.options old) (table_so_far columns (most_inserted - inserted columns r.cells) r.after)
     (lines_from d.text body_start) (taking r.body (lines_from d.text next)) tt r.are_rows in
     let items : List (ℕ × Item) = head ++ r.body in
     let own = nodes_named d.names items (both_nodes P head r.body (row_nodes P TableHead columns head_start r.cells r.head_end tt tt cells) rows) in

@@ -24,8 +24,8 @@ use Rattle.first_pass_grammar.specs.Names.{Names, Extends}
 use Rattle.first_pass_grammar.specs.Containers.{context}
 use Rattle.first_pass_grammar.specs.Leaves.{document, Document, TextLines}
 use Rattle.first_pass_grammar.specs.TableHeads.{headed_table}
-use Rattle.first_pass_grammar.specs.Tables.{cell_start, cell_text, cell_block, AreCells, filled, row_block, row_text, Taken, taking, FoundRow, HasCells}
-use Rattle.first_pass_grammar.specs.Tables.{TableSoFar, table_so_far, most_filled, IsTable}
+use Rattle.first_pass_grammar.specs.Tables.{cell_start, cell_text, cell_block, AreCells, inserted, row_block, row_text, Taken, taking, FoundRow, HasCells}
+use Rattle.first_pass_grammar.specs.Tables.{TableSoFar, table_so_far, most_inserted, IsTable}
 use Rattle.first_pass_grammar.specs.Headings.{heading_attributes_of}
 use Rattle.first_pass_grammar.specs.Texts.{IsPlainText, IsText, IsUnderlined, heading_bytes, heading_children, plain_text, underlined_text, underline_first}
 use Rattle.first_pass_grammar.proofs.Count.RowsWithRoom.{is_row, with_row, RowsWithRoom, are_rows}
@@ -212,7 +212,7 @@ table_found : (names : Names) (text : List ℕ) (options : Options) (path : List
 table_found names text options path p alignments lines =
     let columns : ℕ = length alignments in
     let head = cells_found names text options (spot (offset p) no_braces) in
-    let table : TableSoFar = table_so_far columns (most_filled - filled columns head.cells) head.to.braces in
+    let table : TableSoFar = table_so_far columns (most_inserted - inserted columns head.cells) head.to.braces in
     let body = rows_found head.more text options path (drop 1 lines) table in
     let ix = named_alignments body.more alignments in
     let rows = are_rows (document text options body.more) path table (drop 1 lines) body.rows body.are in

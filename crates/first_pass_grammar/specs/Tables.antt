@@ -51,8 +51,8 @@ AreCells d p (cell ∷ cells) to =
     × (cell ≡ cell_block (cell_start d.text p.at) stop.at tokens) × AreCells d stop cells to
 
 -- the number of empty cells that are inserted into a row, given its columns and its own cells (GFM 4.10)
-abbrev pub filled : ℕ → List (List (ℕ × Item)) → ℕ
-filled columns cells = columns - length cells
+abbrev pub inserted : ℕ → List (List (ℕ × Item)) → ℕ
+inserted columns cells = columns - length cells
 
 -- the items of blocks side by side (this project)
 abbrev pub side_by_side : List (List (ℕ × Item)) → List (ℕ × Item)
@@ -61,7 +61,7 @@ side_by_side (block ∷ blocks) = block ++ side_by_side blocks
 
 -- as many cells as columns: the first cells of the row, then empty cells at its end (GFM 4.10)
 abbrev pub row_cells : ℕ → List (List (ℕ × Item)) → ℕ → List (ℕ × Item)
-row_cells columns cells «end» = side_by_side (take columns cells ++ replicate (filled columns cells) (cell_block «end» «end» []))
+row_cells columns cells «end» = side_by_side (take columns cells ++ replicate (inserted columns cells) (cell_block «end» «end» []))
 
 -- the row or header row with this many columns and these cells, between two offsets (GFM 4.10)
 abbrev pub row_block : ItemBody → ℕ → ℕ → List (List (ℕ × Item)) → ℕ → List (ℕ × Item)
@@ -113,7 +113,7 @@ TakesRows d path before (row ∷ rows) (line ∷ lines) left =
 -- the number of cells that are inserted into all these rows, for this many columns (GFM 4.10)
 abbrev pub all_inserted : ℕ → List FoundRow → ℕ
 all_inserted columns [] = 0
-all_inserted columns (row ∷ rows) = filled columns row.cells + all_inserted columns rows
+all_inserted columns (row ∷ rows) = inserted columns row.cells + all_inserted columns rows
 
 -- a table up to a line: its number of columns, how many more cells may be inserted into its rows, and the brace
 -- contexts before the line (GFM 4.10, and this project)
@@ -131,7 +131,7 @@ unfoldable pub EndRows : Document → List Container → TableSoFar → List Pla
 EndRows d path table [] = Unit {0}
 EndRows d path table (line ∷ lines) =
     (row_text (around d path) line ≡ None)
-    ⊎ ((row : FoundRow) × HasCells d path line table.braces row × ((row.cells ≡ []) ⊎ (table.room < filled table.columns row.cells)))
+    ⊎ ((row : FoundRow) × HasCells d path line table.braces row × ((row.cells ≡ []) ⊎ (table.room < inserted table.columns row.cells)))
 
 -- the items of rows with this many columns, in order (GFM 4.10)
 abbrev pub row_blocks : ℕ → List FoundRow → List (ℕ × Item)
@@ -151,8 +151,8 @@ pub record AreRows (d : Document) (path : List Container) (table : TableSoFar) (
   pub items_are : t.items ≡ row_blocks table.columns rows
 
 -- the greatest number of cells that may be inserted into one table (this project)
-abbrev pub most_filled : ℕ
-most_filled = 262144
+abbrev pub most_inserted : ℕ
+most_inserted = 262144
 
 -- the table whose header row begins at a place, with these alignments; the lines begin with its delimiter row (GFM
 -- 4.10)
@@ -164,6 +164,7 @@ pub record IsTable (d : Document) (path : List Container) (p : Place) (alignment
   pub after : MathBraces
   pub are_cells : AreCells d (spot (offset p) no_braces) cells (spot head_end after)
   pub body : List (ℕ × Item)
-  pub are_rows : AreRows d path (table_so_far (length alignments) (most_filled - filled (length alignments) cells) after) (drop 1 lines) (taking body t.left)
+  pub are_rows : AreRows d path (table_so_far (length alignments) (most_inserted - inserted (length alignments) cells) after) (drop 1 lines)
+      (taking body t.left)
   pub items_are : t.items ≡ block_of (record { start = offset p; «end» = start_of (length d.text) t.left; body = Table index })
       (row_block TableHead (length alignments) (offset p) cells head_end ++ body)

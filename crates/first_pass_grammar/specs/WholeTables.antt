@@ -11,7 +11,7 @@ use Rattle.first_pass_tree.specs.Forest.{Forest, body_at}
 use Rattle.first_pass_grammar.specs.Completion.{Closed, OtherClosed, ParagraphAt, DefinitionClosed, TitleAt}
 use Rattle.first_pass_grammar.specs.Counting.{is_row}
 use Rattle.first_pass_grammar.specs.Names.{Names, alignments_named}
-use Rattle.first_pass_grammar.specs.Tables.{most_filled}
+use Rattle.first_pass_grammar.specs.Tables.{most_inserted}
 
 -- the part of a table that a node is, with its depth: a table with its number of columns, a row or header row with its
 -- end, or a cell with its start (GFM 4.10)
@@ -63,9 +63,9 @@ how_often at (start ∷ starts) = (if start == at then 1 else 0) + how_often at 
 
 -- The number of inserted cells in rows: those that start at the end of their row. A written cell starts before that
 -- (GFM 4.10, and this project).
-unfoldable pub filled_in : List RowCells → ℕ
-filled_in [] = 0
-filled_in (row ∷ rows) = how_often row.«end» row.starts + filled_in rows
+unfoldable pub inserted_in : List RowCells → ℕ
+inserted_in [] = 0
+inserted_in (row ∷ rows) = how_often row.«end» row.starts + inserted_in rows
 
 -- The cells of a row with this end start apart: each starts after the one before it, or at the end of the row, as
 -- inserted cells do (GFM 4.10, and this project).
@@ -80,10 +80,10 @@ HaveCells columns [] = Unit {0}
 HaveCells columns (row ∷ rows) = (length row.starts ≡ columns) × StartApart row.«end» row.starts × HaveCells columns rows
 
 -- in each table, each row has as many cells as there are columns, which start apart; the number of inserted cells is at
--- most `most_filled` (GFM 4.10, and this project)
+-- most `most_inserted` (GFM 4.10, and this project)
 unfoldable pub AreFull : List TableRows → Type 0
 AreFull [] = Unit {0}
-AreFull (table ∷ tables) = HaveCells table.columns table.rows × (filled_in table.rows ≤ most_filled) × AreFull tables
+AreFull (table ∷ tables) = HaveCells table.columns table.rows × (inserted_in table.rows ≤ most_inserted) × AreFull tables
 
 -- The marks of these nodes are those of full tables, in order: each table has its rows one deeper and their cells two
 -- deeper, and there are no other rows or cells (GFM 4.10, and this project).

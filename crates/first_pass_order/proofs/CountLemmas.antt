@@ -148,9 +148,9 @@ unfolding own
 own_deeper cell [] = refl
 own_deeper cell (n ∷ nodes) = ap (λ k. (if is_inserted_after cell n.1 then 0 else 1) + k) (own_deeper (last_cell cell n.1) nodes)
 
-filled_one : (t : Bool) (m : ℕ) → (if t then 0 else 1) + m ≤ m + 1
-filled_one true m = omega arith
-filled_one false m = omega arith
+inserted_one : (t : Bool) (m : ℕ) → (if t then 0 else 1) + m ≤ m + 1
+inserted_one true m = omega arith
+inserted_one false m = omega arith
 
 own_wrapped : (cell : Option ℕ) (nodes : List (ℕ × Item)) (j d : ℕ) (x : Item) → is_cell x.body ≡ false → is_row x.body ≡ false
     → own cell (take j nodes ++ (d, x) ∷ map deeper (drop j nodes)) ≤ own cell nodes + 1
@@ -158,9 +158,9 @@ unfolding own
 own_wrapped cell nodes zero d x cells rows =
     let same : last_cell cell x ≡ cell = rw (rows, cells) refl in
     let e : own (last_cell cell x) (map deeper nodes) ≡ own cell nodes = ap (λ c. own c (map deeper nodes)) same ∙ own_deeper cell nodes in
-    let most = filled_one (is_inserted_after cell x) (own (last_cell cell x) (map deeper nodes)) in
+    let most = inserted_one (is_inserted_after cell x) (own (last_cell cell x) (map deeper nodes)) in
     omega arith
-own_wrapped cell [] (suc j) d x cells rows = (let most = filled_one (is_inserted_after cell x) 0 in omega arith)
+own_wrapped cell [] (suc j) d x cells rows = (let most = inserted_one (is_inserted_after cell x) 0 in omega arith)
 own_wrapped cell (n ∷ nodes) (suc j) d x cells rows = (let h = own_wrapped (last_cell cell n.1) nodes j d x cells rows in omega arith)
 
 opened_by_count : (f : Forest Item) (c : TreeIndex) (start e : ℕ) (b : ItemBody) → body_at f.nodes c.0 ≡ Some b

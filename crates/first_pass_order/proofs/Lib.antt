@@ -3,8 +3,8 @@ pub mod CountLemmas
 pub mod DefinitionBegun
 pub mod DefinitionOrder
 pub mod DefinitionsWhole
-pub mod FilledCells
 pub mod HeadLines
+pub mod InsertedCells
 pub mod LeavesNamed
 pub mod LeftOrder
 pub mod NamedLemmas

@@ -23,10 +23,10 @@ use Rattle.first_pass_tokens.proofs.OrderLemmas.{order_from, cell_in_order, cell
 use Rattle.first_pass_grammar.specs.Counting.{counted_nodes}
 use Rattle.first_pass_grammar.specs.Leaves.{Document}
 use Rattle.first_pass_grammar.specs.Order.{Ranged, extent_of, extents, Siblings, Empty, Node, laid, IsBetween, Elsewhere, below, Fits}
-use Rattle.first_pass_grammar.specs.Tables.{cell_start, cell_text, cell_block, AreCells, filled, side_by_side, row_cells, row_block}
+use Rattle.first_pass_grammar.specs.Tables.{cell_start, cell_text, cell_block, AreCells, inserted, side_by_side, row_cells, row_block}
 use Rattle.first_pass_grammar.proofs.Order.Orders.{beside, extents-append, extents-at_depth, laid-beside, laid-at_depth, fits-order, fits-later, fits-any}
 use Rattle.first_pass_grammar.proofs.Order.Orders.{fits-beside, row_of, row_of-fits, length-block}
-use Rattle.first_pass_grammar.proofs.Count.CountedNodes.{own_at_most, own_join, own_at_depth, AreCellsAt, own_filled}
+use Rattle.first_pass_grammar.proofs.Count.CountedNodes.{own_at_most, own_join, own_at_depth, AreCellsAt, own_inserted}
 use Rattle.first_pass_grammar.proofs.Order.RowEnds.{row_ends_its_line, begun_there, cell_takes_a_byte}
 use Rattle.first_pass_grammar.proofs.Order.TableEnds.{cells_end, text_within}
 use Rattle.first_pass_open.proofs.PlaceLemmas.{place_end, line_start_end}
@@ -221,16 +221,16 @@ row_fits d body columns p cells to utf8 boundary are =
     let kept = kept_cells d columns p cells to utf8 boundary are in
     let ends = row_boundary d p cells to utf8 boundary are in
     let order = (cells_end d p cells to boundary.0 are).0 in
-    let missing : List (List (ℕ × Item)) = replicate (filled columns cells) (cell_block stop stop []) in
+    let missing : List (List (ℕ × Item)) = replicate (inserted columns cells) (cell_block stop stop []) in
     let parts = side_more (take columns cells) missing in
     let x : Item = record { start = start; «end» = stop; body = body } in
     let inside : AreBetween d.text start stop (row_cells columns cells stop) = subst (AreBetween d.text start stop) (sym parts)
     (between-join d.text start stop stop (side_by_side (take columns cells)) (side_by_side missing) kept.between
-    (empty_between d.text stop (filled columns cells) ends)) in
+    (empty_between d.text stop (inserted columns cells) ends)) in
     let own = own_block x (row_cells columns cells stop) in
     let split = ap counted_nodes parts in
     let both = own_join None (side_by_side (take columns cells)) (side_by_side missing) in
-    let last = own_filled None stop (side_by_side missing) (empty_at stop (filled columns cells)) in
+    let last = own_inserted None stop (side_by_side missing) (empty_at stop (inserted columns cells)) in
     let some = kept.node_bound in
     record {
       between = between-block d.text start stop x (row_cells columns cells stop)

@@ -13,7 +13,7 @@ use Rattle.first_pass_tokens.specs.TreeTokens.{chained, leaves}
 use Rattle.first_pass_tokens.proofs.ChainLemmas.{chained-spine, chained-nodes}
 use Rattle.first_pass_tokens.specs.LineTokens.{Spot, spot}
 use Rattle.first_pass_grammar.specs.Leaves.{Document}
-use Rattle.first_pass_grammar.specs.Tables.{cell_block, AreCells, filled, side_by_side, row_cells, row_block, FoundRow, most_filled}
+use Rattle.first_pass_grammar.specs.Tables.{cell_block, AreCells, inserted, side_by_side, row_cells, row_block, FoundRow, most_inserted}
 use Rattle.first_pass_open.specs.OpenBlock.{IsJustPushed, opened_block, begun_item, closed_by}
 use Rattle.first_pass_tables.specs.Appends.{AppendsCells, empty_cell, keeps_row, OpenTable, AddsRow, ReadsRow}
 use Rattle.first_pass_tables.proofs.RowCells.{side_more}
@@ -59,7 +59,7 @@ module _ {d : Document} {columns : ℕ} {start : Spot} {body : ItemBody} {old : 
   pub row_is_open : IsSome (slice_get full.spine 0)
   row_is_open = subst (λ (s : List TreeIndex). IsSome (slice_get s 0)) (sym spine_of_row) refl
 
-  pub missing_are : missing ≡ filled columns o.adds.cells
+  pub missing_are : missing ≡ inserted columns o.adds.cells
   missing_are = missing_is ∙ ap (λ (n : ℕ). columns - n) o.adds.count
 
   nodes_are : full.nodes ≡ o.opened.nodes ++ at_depth (length o.opened.spine + 1) (row_cells columns o.adds.cells o.stop.at)
@@ -98,7 +98,7 @@ module _ {d : Document} {columns : ℕ} {start : Spot} {body : ItemBody} {old : 
       new_is ∙ ap (closed_by full o.stop.at) spine_of_row ∙ block-built old x (λ (y : Item). record y { «end» = o.stop.at }) cells place closed calls
 
 -- the numbers of a row's cells and of the missing ones decide whether it is kept
-pub same_test : (following : Bool) (columns most count missing : ℕ) (cells : List (List (ℕ × Item))) → count ≡ length cells → missing ≡ filled columns cells
+pub same_test : (following : Bool) (columns most count missing : ℕ) (cells : List (List (ℕ × Item))) → count ≡ length cells → missing ≡ inserted columns cells
     → ((not following || nat_lt 0 count) && nat_le missing most) ≡ keeps_row following columns most cells
 same_test following columns most count missing cells count_is missing_is =
     ap (λ (n : ℕ). (not following || nat_lt 0 n) && nat_le missing most) count_is
@@ -130,9 +130,9 @@ row_after {d} {columns} {start} {body} {old} o back (Some ix) h =
 -- the row is read
 pub row_read : (d : Document) (columns : ℕ) (row : FoundRow) (old new : OpenTable) (answer : Option (ℕ × TreeIndex))
     → AreCells d (spot row.start old.braces) row.cells (spot row.row_end row.after) → new.braces ≡ row.after
-    → keeps_row (is_some old.tree.current) columns (most_filled - old.filled_in) row.cells ≡ true
+    → keeps_row (is_some old.tree.current) columns (most_inserted - old.inserted_in) row.cells ≡ true
     → new.tree ≡ added old.tree (row_block TableRow columns row.start row.cells row.row_end)
-    → new.filled_in ≡ old.filled_in + filled columns row.cells → answer ≡ option_map (λ (ix : TreeIndex). (row.row_end, ix)) new.tree.current
+    → new.inserted_in ≡ old.inserted_in + inserted columns row.cells → answer ≡ option_map (λ (ix : TreeIndex). (row.row_end, ix)) new.tree.current
     → ReadsRow d columns row.start old new answer
 row_read d columns row old new answer are braces_is kept new_is after_is answer_is =
     let here : new.tree.current ≡ Some (row_place old.tree) = ap (λ (f : Forest Item). f.current) new_is in

@@ -17,7 +17,7 @@ use Rattle.first_pass_grammar.specs.Completion.{lines_from}
 use Rattle.first_pass_grammar.specs.Leaves.{Document, around}
 use Rattle.first_pass_grammar.specs.OpenOrder.{within_top}
 use Rattle.first_pass_grammar.specs.Order.{Within, Elsewhere, FitsBetween}
-use Rattle.first_pass_grammar.specs.Tables.{AreCells, filled, row_block, taking, table_so_far, most_filled}
+use Rattle.first_pass_grammar.specs.Tables.{AreCells, inserted, row_block, taking, table_so_far, most_inserted}
 use Rattle.first_pass_grammar.proofs.Order.Orders.{between-any}
 use Rattle.first_pass_grammar.proofs.Count.CountedNodes.{own_join}
 use Rattle.first_pass_grammar.proofs.Order.RowEnds.{row_ends_its_line}
@@ -123,7 +123,7 @@ rows_between d columns head_start body_start next from old new utf8 starts r low
     let row = row_fits d TableHead columns (spot head_start no_braces) r.cells (spot r.head_end r.after) utf8 starts.head r.are_cells in
     let stop : start_of (length text) (lines_from text next) ≡ next = start_of-lines text next r.boundary.0 in
     let rows = subst (λ (k : ℕ). RowsBetween text body_start k r.body) stop
-    (rows_fit d (path_of d.options old) (table_so_far columns (most_filled - filled columns r.cells) r.after) (lines_from text body_start) body_start
+    (rows_fit d (path_of d.options old) (table_so_far columns (most_inserted - inserted columns r.cells) r.after) (lines_from text body_start) body_start
     (taking r.body (lines_from text next)) utf8 starts.body refl r.are_rows) in
     let within = r.boundary.0 in
     let apart = starts.apart in

@@ -18,7 +18,7 @@ use Rattle.first_pass_grammar.specs.Containers.{Context, at_rest, after}
 use Rattle.first_pass_grammar.specs.Counting.{counted_nodes}
 use Rattle.first_pass_grammar.specs.Kinds.{unindented}
 use Rattle.first_pass_grammar.specs.Leaves.{Document, around}
-use Rattle.first_pass_grammar.specs.Tables.{AreCells, filled, row_block, interrupts_row, row_text, Taken, taking, TableSoFar, AreRows}
+use Rattle.first_pass_grammar.specs.Tables.{AreCells, inserted, row_block, interrupts_row, row_text, Taken, taking, TableSoFar, AreRows}
 use Rattle.first_pass_grammar.proofs.Count.RowsWithRoom.{with_row, RowsWithRoom, counted}
 use Rattle.first_pass_grammar.proofs.Count.CountedNodes.{own_at_most, own_join}
 use Rattle.first_pass_grammar.proofs.Order.RowEnds.{row_ends_at_place}
@@ -139,7 +139,7 @@ counted_fit d path table (line ∷ lines) n t utf8 boundary is (inr (row, has, i
     row_ends_at_place d p.place table.braces cells ended p.is (subst (λ (k : ℕ). AreCells d (spot k table.braces) cells ended) p.start_is are) ∙ p.ends in
     let further = counted_fit d path (with_row table row) lines row.row_end more utf8 (row_boundary d begin cells ended utf8 starts are)
     (first.1 ∙ ap (lines_from d.text) (sym ends)) rest in
-    let some = ltb-true 0 (length cells) (and_parts (nat_lt 0 (length cells)) (nat_le (filled table.columns cells) table.room) kept).0 in
+    let some = ltb-true 0 (length cells) (and_parts (nat_lt 0 (length cells)) (nat_le (inserted table.columns cells) table.room) kept).0 in
     subst (λ (z : Taken). RowsBetween d.text n (start_of (length d.text) z.left) z.items) (sym e)
     (one_more_row d table.columns n
     (record { begin = begin; cells = cells; ended = ended; boundary = starts; are = are; following = p.following; some = some })

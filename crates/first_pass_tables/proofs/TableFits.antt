@@ -13,7 +13,7 @@ use Rattle.first_pass_grammar.specs.declared.kind.Container.{Container}
 use Rattle.first_pass_grammar.specs.Completion.{lines_from}
 use Rattle.first_pass_grammar.specs.Leaves.{Document}
 use Rattle.first_pass_grammar.specs.Order.{Within, Elsewhere, FitsBetween}
-use Rattle.first_pass_grammar.specs.Tables.{filled, row_block, taking, table_so_far, most_filled, IsTable}
+use Rattle.first_pass_grammar.specs.Tables.{inserted, row_block, taking, table_so_far, most_inserted, IsTable}
 use Rattle.first_pass_grammar.proofs.Order.Orders.{between-any}
 use Rattle.first_pass_grammar.proofs.Count.CountedNodes.{own_join}
 use Rattle.first_pass_grammar.proofs.Order.RowEnds.{row_ends_its_line}
@@ -74,7 +74,7 @@ table_fits d path p alignments next items w from utf8 t low =
     let mid_boundary = line_end_boundary d.text start utf8 place.boundary (omega arith) in
     let after_boundary = line_end_boundary d.text mid utf8 mid_boundary further in
     let stop : start_of (length d.text) (lines_from d.text next) ≡ next = start_of-lines d.text next t.ends.0 in
-    let rows = rows_fit d path (table_so_far columns (most_filled - filled columns table.cells) table.after) (drop 1 (lines_from d.text mid)) following
+    let rows = rows_fit d path (table_so_far columns (most_inserted - inserted columns table.cells) table.after) (drop 1 (lines_from d.text mid)) following
     (taking table.body (lines_from d.text next)) utf8 after_boundary (others d.text mid further) table.are_rows in
     let x : Item = record { start = start; «end» = start_of (length d.text) (lines_from d.text next); body = Table table.index } in
     let block = block_between d.text from x (row_block TableHead columns start table.cells table.head_end) table.body

@@ -9,8 +9,8 @@ use Rattle.first_pass_tokens.specs.LineTokens.{Spot, spot}
 use Rattle.first_pass_grammar.specs.Names.{Names}
 use Rattle.first_pass_grammar.specs.Leaves.{Document}
 use Rattle.first_pass_grammar.specs.Completion.{lines_from}
-use Rattle.first_pass_grammar.specs.Tables.{filled, row_block, taking, TableSoFar, table_so_far, most_filled}
-use Rattle.first_pass_grammar.specs.WholeTables.{Mark, ATable, ARow, ACell, shown, marks, RowCells, row_marks, filled_in, HaveCells}
+use Rattle.first_pass_grammar.specs.Tables.{inserted, row_block, taking, TableSoFar, table_so_far, most_inserted}
+use Rattle.first_pass_grammar.specs.WholeTables.{Mark, ATable, ARow, ACell, shown, marks, RowCells, row_marks, inserted_in, HaveCells}
 use Rattle.first_pass_grammar.proofs.WholeTables.HeadCells.{head_has_cells}
 use Rattle.first_pass_grammar.proofs.WholeTables.TableMarks.{marks-append, row_shows, rows_show}
 use Rattle.first_pass_open.specs.Path.{path_of}
@@ -55,12 +55,12 @@ rows_no_table depth (row ∷ rows) = cells_no_table (suc depth) row.starts (row_
 -- the header row and the rows after it
 pub added_whole : (d : Document) (columns head_start body_start : ℕ) (old new : Forest Item) (next : ℕ)
     → AppendsRows d columns head_start body_start old new next → AddsWholeRows d columns head_start old new next
-unfolding row_marks filled_in HaveCells
+unfolding row_marks inserted_in HaveCells
 added_whole d columns head_start body_start old new next r =
     let head : List (ℕ × Item) = row_block TableHead columns head_start r.cells r.head_end in
     let begin : Spot = spot head_start no_braces in
     let stop : Spot = spot r.head_end r.after in
-    let table : TableSoFar = table_so_far columns (most_filled - filled columns r.cells) r.after in
+    let table : TableSoFar = table_so_far columns (most_inserted - inserted columns r.cells) r.after in
     let (starts, show, size, apart, often) = row_shows d TableHead columns begin r.cells stop refl r.are_cells in
     let (rows, these, have, node_bound) = rows_show d (path_of d.options old) table (lines_from d.text body_start) (taking r.body (lines_from d.text next))
     r.are_rows in

@@ -16,9 +16,9 @@ use Rattle.first_pass_grammar.specs.Leaves.{Document, around}
 use Rattle.first_pass_grammar.specs.Completion.{lines_from}
 use Rattle.first_pass_grammar.specs.OpenOrder.{within_top}
 use Rattle.first_pass_grammar.specs.Order.{FitsBetween}
-use Rattle.first_pass_grammar.specs.Tables.{cell_content, cell_block, AreCells, filled, side_by_side, row_block, row_text, taking, FoundRow, TableSoFar}
-use Rattle.first_pass_grammar.specs.Tables.{table_so_far, AreRows, most_filled}
-use Rattle.first_pass_grammar.specs.WholeTables.{marks, RowCells, row_marks, filled_in, HaveCells}
+use Rattle.first_pass_grammar.specs.Tables.{cell_content, cell_block, AreCells, inserted, side_by_side, row_block, row_text, taking, FoundRow, TableSoFar}
+use Rattle.first_pass_grammar.specs.Tables.{table_so_far, AreRows, most_inserted}
+use Rattle.first_pass_grammar.specs.WholeTables.{marks, RowCells, row_marks, inserted_in, HaveCells}
 use Rattle.first_pass_open.specs.OpenBlock.{closed_by}
 use Rattle.first_pass_open.specs.Path.{path_of}
 
@@ -67,29 +67,29 @@ pub record IsOpenNode (f : Forest Item) : Type 0 where
 -- A row with these cells is kept if it has one or is the first in its table. It may not need more inserted cells than
 -- are allowed (GFM 4.10, and this project).
 abbrev pub keeps_row : Bool → ℕ → ℕ → List (List (ℕ × Item)) → Bool
-keeps_row following columns most cells = (not following || nat_lt 0 (length cells)) && nat_le (filled columns cells) most
+keeps_row following columns most cells = (not following || nat_lt 0 (length cells)) && nat_le (inserted columns cells) most
 
 -- a tree with an open table, the number of cells inserted into its rows so far, and the brace contexts after the part
 -- that was read (this project)
 pub record OpenTable : Type 0 where
   pub tree : Forest Item
-  pub filled_in : ℕ
+  pub inserted_in : ℕ
   pub braces : MathBraces
 
 -- such a tree, with this number of inserted cells and these brace contexts
 abbrev pub open_table : Forest Item → ℕ → MathBraces → OpenTable
-open_table tree filled_in braces = record { tree = tree; filled_in = filled_in; braces = braces }
+open_table tree inserted_in braces = record { tree = tree; inserted_in = inserted_in; braces = braces }
 
 -- an open table with this number of columns, in terms of the grammar, before the next row
 abbrev pub so_far : ℕ → OpenTable → TableSoFar
-so_far columns table = table_so_far columns (most_filled - table.filled_in) table.braces
+so_far columns table = table_so_far columns (most_inserted - table.inserted_in) table.braces
 
 -- The header row that begins at a place is added, and its inserted cells are counted (GFM 4.10, and this project).
 pub record AddsHead (d : Document) (columns : ℕ) (start : Spot) (old : Forest Item) (new : OpenTable) : Type 0 where
   pub cells : List (List (ℕ × Item))
   pub row_end : ℕ
   pub are_cells : AreCells d start cells (spot row_end new.braces)
-  pub missing_is : new.filled_in ≡ filled columns cells
+  pub missing_is : new.inserted_in ≡ inserted columns cells
   pub tree_is : new.tree ≡ added old (row_block TableHead columns start.at cells row_end)
 
 -- A row is added to a table with this number of columns if it is kept. Its inserted cells are counted, and the call
@@ -97,11 +97,11 @@ pub record AddsHead (d : Document) (columns : ℕ) (start : Spot) (old : Forest 
 -- contexts after the row's cells (GFM 4.10, and this project).
 abbrev pub AddsRow : ℕ → FoundRow → OpenTable → OpenTable → Option (ℕ × TreeIndex) → Type 0
 AddsRow columns row old new None =
-    (keeps_row (is_some old.tree.current) columns (most_filled - old.filled_in) row.cells ≡ false) × (new ≡ open_table old.tree old.filled_in row.after)
+    (keeps_row (is_some old.tree.current) columns (most_inserted - old.inserted_in) row.cells ≡ false) × (new ≡ open_table old.tree old.inserted_in row.after)
 AddsRow columns row old new (Some (stop, ix)) =
-    (keeps_row (is_some old.tree.current) columns (most_filled - old.filled_in) row.cells ≡ true)
-    × (new.tree ≡ added old.tree (row_block TableRow columns row.start row.cells row.row_end)) × (new.filled_in ≡ old.filled_in + filled columns row.cells)
-    × (stop ≡ row.row_end) × (ix.0 ≡ length old.tree.nodes) × (new.braces ≡ row.after)
+    (keeps_row (is_some old.tree.current) columns (most_inserted - old.inserted_in) row.cells ≡ true)
+    × (new.tree ≡ added old.tree (row_block TableRow columns row.start row.cells row.row_end))
+    × (new.inserted_in ≡ old.inserted_in + inserted columns row.cells) × (stop ≡ row.row_end) × (ix.0 ≡ length old.tree.nodes) × (new.braces ≡ row.after)
 
 -- the row that begins at an offset is read, in a table with this number of columns (GFM 4.10, and this project)
 pub record ReadsRow (d : Document) (columns start : ℕ) (old new : OpenTable) (answer : Option (ℕ × TreeIndex)) : Type 0 where
@@ -126,7 +126,7 @@ pub record AppendsRows (d : Document) (columns head_start body_start : ℕ) (old
   pub after : MathBraces
   pub are_cells : AreCells d (spot head_start no_braces) cells (spot head_end after)
   pub body : List (ℕ × Item)
-  pub are_rows : AreRows d (path_of d.options old) (table_so_far columns (most_filled - filled columns cells) after) (lines_from d.text body_start)
+  pub are_rows : AreRows d (path_of d.options old) (table_so_far columns (most_inserted - inserted columns cells) after) (lines_from d.text body_start)
       (taking body (lines_from d.text next))
   pub tree_is : new ≡ closed_by (with_below old (row_block TableHead columns head_start cells head_end ++ body)) next old.spine
   pub later : body_start ≤ next
@@ -149,5 +149,5 @@ pub record AddsWholeRows (d : Document) (columns head_start : ℕ) (old new : Fo
   pub body : List RowCells
   pub show : (names : Names) → marks names items ≡ row_marks 0 (head ∷ body)
   pub have_cells : HaveCells columns (head ∷ body)
-  pub node_bound : filled_in (head ∷ body) ≤ max most_filled (filled_in (head ∷ []))
-  pub full_head : has d.options tables ≡ true → columns ≤ head_columns (drop head_start d.text) → filled_in (head ∷ []) ≡ 0
+  pub node_bound : inserted_in (head ∷ body) ≤ max most_inserted (inserted_in (head ∷ []))
+  pub full_head : has d.options tables ≡ true → columns ≤ head_columns (drop head_start d.text) → inserted_in (head ∷ []) ≡ 0

@@ -24,7 +24,7 @@ use Rattle.first_pass_grammar.specs.Names.{Names, Extends, NamesAlignments}
 use Rattle.first_pass_grammar.specs.Leaves.{Document, document}
 use Rattle.first_pass_grammar.specs.Completion.{lines_from}
 use Rattle.first_pass_grammar.specs.TableHeads.{headed_table}
-use Rattle.first_pass_grammar.specs.Tables.{AreCells, filled, row_block, Taken, taking, TableSoFar, table_so_far, AreRows, most_filled, IsTable}
+use Rattle.first_pass_grammar.specs.Tables.{AreCells, inserted, row_block, Taken, taking, TableSoFar, table_so_far, AreRows, most_inserted, IsTable}
 use Rattle.first_pass_grammar.specs.Texts.{IsPlainText, IsText}
 use Rattle.first_pass_grammar.specs.OpenOrder.{within_top}
 use Rattle.first_pass_order.proofs.HeadLines.{headed_has_line}
@@ -135,7 +135,7 @@ module _ (text : List ℕ) (options : Options) (names : Names) (start body next 
   table_is there named body_is more e p i at =
       let d = document text options more in
       let columns : ℕ = length alignments in
-      let table : TableSoFar = table_so_far columns (most_filled - filled columns r.cells) r.after in
+      let table : TableSoFar = table_so_far columns (most_inserted - inserted columns r.cells) r.after in
       let left : List Place = lines_from text next in
       let path = path_of-opened options old (begun_item start (Table ix)) (record { 0 = length old.nodes }) refl there in
       let ends : start_of (length text) left ≡ next = start_of-lines text next r.boundary.0 in

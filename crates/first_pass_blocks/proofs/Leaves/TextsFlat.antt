@@ -19,7 +19,7 @@ use Rattle.first_pass_grammar.specs.declared.kind.Container.{Container}
 use Rattle.first_pass_grammar.specs.Before.{begins_paragraph}
 use Rattle.first_pass_grammar.specs.Leaves.{Document, around, TextLines}
 use Rattle.first_pass_grammar.specs.TableHeads.{headed_table}
-use Rattle.first_pass_grammar.specs.Tables.{Taken, taking, IsTable, TableSoFar, table_so_far, most_filled, filled, row_block}
+use Rattle.first_pass_grammar.specs.Tables.{Taken, taking, IsTable, TableSoFar, table_so_far, most_inserted, inserted, row_block}
 use Rattle.first_pass_grammar.specs.Texts.{IsPlainText, IsText, IsUnderlined, heading_children, plain_text, underline_first}
 use Rattle.first_pass_grammar.proofs.Each.EachToken.{AreEach, HoldsOfTokens, heading_children_each, lines_each}
 use Rattle.first_pass_completion.proofs.FlatBlocks.{IsNoParagraph, NoParagraph}
@@ -58,7 +58,7 @@ table_flat d path p alignments lines t h =
     let P : ItemBody → Type 0 = IsNoParagraph in
     let holds = tokens_flat d.names.texts in
     let cells = cells_nodes P d holds refl (spot (offset p) no_braces) h.cells (spot h.head_end h.after) h.are_cells in
-    let table : TableSoFar = table_so_far columns (most_filled - filled columns h.cells) h.after in
+    let table : TableSoFar = table_so_far columns (most_inserted - inserted columns h.cells) h.after in
     let rows = rows_nodes P d holds refl path table (drop 1 lines) (taking h.body t.left) refl h.are_rows in
     let kids = both_nodes P head h.body (row_nodes P TableHead columns (offset p) h.cells h.head_end refl refl cells) rows in
     record {

@@ -67,9 +67,9 @@ pub record CountAlike (x y : Item) : Type 0 where
 pub alike_ended : (x : Item) (e : ℕ) → CountAlike x (record x { «end» = e })
 alike_ended x e = record { start = refl; cell = refl; row = refl }
 
-filled_alike : (x y : Item) (cell : Option ℕ) → CountAlike x y → is_inserted_after cell y ≡ is_inserted_after cell x
-filled_alike x y None h = refl
-filled_alike x y (Some start) h = (let s = h.start in let c = h.cell in cc)
+inserted_alike : (x y : Item) (cell : Option ℕ) → CountAlike x y → is_inserted_after cell y ≡ is_inserted_after cell x
+inserted_alike x y None h = refl
+inserted_alike x y (Some start) h = (let s = h.start in let c = h.cell in cc)
 
 last_alike : (x y : Item) (cell : Option ℕ) → CountAlike x y → last_cell cell y ≡ last_cell cell x
 last_alike x y cell h = (let s = h.start in let c = h.cell in let r = h.row in cc)
@@ -79,7 +79,7 @@ pub alike_first : (cell : Option ℕ) (d e : ℕ) (x y : Item) (nodes more : Lis
     → ((after : Option ℕ) → own after more ≡ own after nodes) → own cell ((e, y) ∷ more) ≡ own cell ((d, x) ∷ nodes)
 unfolding own
 alike_first cell d e x y nodes more h same =
-    ap (λ (t : Bool). (if t then 0 else 1) + own (last_cell cell y) more) (filled_alike x y cell h)
+    ap (λ (t : Bool). (if t then 0 else 1) + own (last_cell cell y) more) (inserted_alike x y cell h)
     ∙ ap (λ (c : Option ℕ). (if is_inserted_after cell x then 0 else 1) + own c more) (last_alike x y cell h)
     ∙ ap (λ (k : ℕ). (if is_inserted_after cell x then 0 else 1) + k) (same (last_cell cell x))
 
@@ -123,16 +123,16 @@ cell_again start x is at = (let same = eq-eqb x.start start at in rw (is, same) 
 
 -- cells that all start where the cell before them starts count nothing, so the cells that are inserted into a row count
 -- at most one
-own_refilled : (start : ℕ) (nodes : List (ℕ × Item)) → AreCellsAt start nodes → own (Some start) nodes ≡ 0
+own_reinserted : (start : ℕ) (nodes : List (ℕ × Item)) → AreCellsAt start nodes → own (Some start) nodes ≡ 0
 unfolding own AreCellsAt
-own_refilled start [] h = refl
-own_refilled start (n ∷ nodes) h =
-    let none = own_refilled start nodes h.2 in
+own_reinserted start [] h = refl
+own_reinserted start (n ∷ nodes) h =
+    let none = own_reinserted start nodes h.2 in
     rw (cell_again start n.1 h.0 h.1, cell_next (Some start) start n.1 h.0 h.1, none) refl
 
-pub own_filled : (cell : Option ℕ) (start : ℕ) (nodes : List (ℕ × Item)) → AreCellsAt start nodes → own cell nodes ≤ 1
+pub own_inserted : (cell : Option ℕ) (start : ℕ) (nodes : List (ℕ × Item)) → AreCellsAt start nodes → own cell nodes ≤ 1
 unfolding own AreCellsAt
-own_filled cell start [] h = omega arith
-own_filled cell start (n ∷ nodes) h =
-    let none = own_refilled start nodes h.2 in
+own_inserted cell start [] h = omega arith
+own_inserted cell start (n ∷ nodes) h =
+    let none = own_reinserted start nodes h.2 in
     rw (cell_next cell start n.1 h.0 h.1, none) (one_at_most (is_inserted_after cell n.1) 0 0 (omega arith))

@@ -8,16 +8,16 @@ use Rattle.first_pass_items.specs.declared.item.ItemBody.TheVariants.{TableRow}
 use Rattle.first_pass_lines.specs.Places.{Place}
 use Rattle.first_pass_grammar.specs.declared.kind.Container.{Container}
 use Rattle.first_pass_grammar.specs.Leaves.{Document, around}
-use Rattle.first_pass_grammar.specs.Tables.{filled, row_block, row_text, Taken, taking, FoundRow, HasCells, braces_after_rows, TakesRows, all_inserted}
+use Rattle.first_pass_grammar.specs.Tables.{inserted, row_block, row_text, Taken, taking, FoundRow, HasCells, braces_after_rows, TakesRows, all_inserted}
 use Rattle.first_pass_grammar.specs.Tables.{TableSoFar, table_so_far, with_rows, EndRows, row_blocks, AreRows}
 
 -- a line with these cells is a row if it has a cell and needs no more inserted cells than allowed
 abbrev pub is_row : TableSoFar → List (List (ℕ × Item)) → Bool
-is_row table cells = nat_lt 0 (length cells) && nat_le (filled table.columns cells) table.room
+is_row table cells = nat_lt 0 (length cells) && nat_le (inserted table.columns cells) table.room
 
 -- a table after one more row
 abbrev pub with_row : TableSoFar → FoundRow → TableSoFar
-with_row table row = table_so_far table.columns (table.room - filled table.columns row.cells) row.after
+with_row table row = table_so_far table.columns (table.room - inserted table.columns row.cells) row.after
 
 -- The rows of a table among lines, up to the first line that is no row; the number of inserted cells that are allowed
 -- falls with each row.
@@ -34,13 +34,13 @@ RowsWithRoom d path table (line ∷ lines) t =
 -- a row has a cell, and its inserted cells are allowed; otherwise it has no cell, or needs more inserted cells than
 -- allowed
 row_parts : (table : TableSoFar) (cells : List (List (ℕ × Item))) → is_row table cells ≡ true
-    → (0 < length cells) × (filled table.columns cells ≤ table.room)
+    → (0 < length cells) × (inserted table.columns cells ≤ table.room)
 row_parts table cells h =
-    let both = and_parts (nat_lt 0 (length cells)) (nat_le (filled table.columns cells) table.room) h in
+    let both = and_parts (nat_lt 0 (length cells)) (nat_le (inserted table.columns cells) table.room) h in
     let some : nat_lt 0 (length cells) ≡ true = both.0 in
-    (grind (arith, nat_tests, some), leb-true (filled table.columns cells) table.room both.1)
+    (grind (arith, nat_tests, some), leb-true (inserted table.columns cells) table.room both.1)
 
-row_of : (table : TableSoFar) (cells : List (List (ℕ × Item))) → 0 < length cells → filled table.columns cells ≤ table.room → is_row table cells ≡ true
+row_of : (table : TableSoFar) (cells : List (List (ℕ × Item))) → 0 < length cells → inserted table.columns cells ≤ table.room → is_row table cells ≡ true
 row_of table cells some node_bound = grind (arith, nat_tests)
 
 -- the number of inserted cells that are allowed in a table before any is inserted
@@ -49,18 +49,18 @@ all_room table =
     let room : table.room - 0 ≡ table.room = omega arith in
     ap (λ (k : ℕ). table_so_far table.columns k table.braces) room
 
-no_row : (table : TableSoFar) (cells : List (List (ℕ × Item))) → is_row table cells ≡ false → (cells ≡ []) ⊎ (table.room < filled table.columns cells)
+no_row : (table : TableSoFar) (cells : List (List (ℕ × Item))) → is_row table cells ≡ false → (cells ≡ []) ⊎ (table.room < inserted table.columns cells)
 no_row table [] h = inl refl
 no_row table (cell ∷ cells) h = inr (grind (arith, nat_tests, h))
 
-none_of : (table : TableSoFar) (cells : List (List (ℕ × Item))) → (cells ≡ []) ⊎ (table.room < filled table.columns cells) → is_row table cells ≡ false
+none_of : (table : TableSoFar) (cells : List (List (ℕ × Item))) → (cells ≡ []) ⊎ (table.room < inserted table.columns cells) → is_row table cells ≡ false
 none_of table cells (inl none) = subst (λ z. is_row table z ≡ false) (sym none) refl
 none_of table cells (inr over) = grind (arith, nat_tests)
 
 -- rows end after a first row and other rows if they end after all of them
 rows_after : (table : TableSoFar) (row : FoundRow) (rows : List FoundRow) → with_rows (with_row table row) rows ≡ with_rows table (row ∷ rows)
 rows_after table row rows =
-    let room : table.room - filled table.columns row.cells - all_inserted table.columns rows
+    let room : table.room - inserted table.columns row.cells - all_inserted table.columns rows
     ≡ table.room - all_inserted table.columns (row ∷ rows) = omega arith in
     ap (λ (k : ℕ). table_so_far table.columns k (braces_after_rows row.after rows)) room
 
@@ -80,7 +80,7 @@ all_counted d path table [] lines left same fits ends =
     subst (λ z. RowsWithRoom d path table z (taking [] left)) same (none_counted d path table left (subst (λ z. EndRows d path z left) (all_room table) ends))
 all_counted d path table (row ∷ rows) [] left none fits ends = absurd none
 all_counted d path table (row ∷ rows) (line ∷ lines) left (has, some, takes) fits ends =
-    let here : filled table.columns row.cells ≤ table.room = omega arith in
+    let here : inserted table.columns row.cells ≤ table.room = omega arith in
     let more = all_counted d path (with_row table row) rows lines left takes (omega arith)
     (subst (λ z. EndRows d path z left) (sym (rows_after table row rows)) ends) in
     inr (row, has, inr (row_of table row.cells some here, taking (row_blocks table.columns rows) left, more, refl))

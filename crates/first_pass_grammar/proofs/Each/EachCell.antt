@@ -10,7 +10,7 @@ use Rattle.first_pass_tokens.specs.TreeTokens.{leaves}
 use Rattle.first_pass_grammar.specs.declared.kind.Container.{Container}
 use Rattle.first_pass_grammar.specs.Names.{Names, AreNamed}
 use Rattle.first_pass_grammar.specs.Leaves.{Document}
-use Rattle.first_pass_grammar.specs.Tables.{cell_content, cell_start, cell_text, cell_block, AreCells, filled, side_by_side, row_cells, row_block, Taken}
+use Rattle.first_pass_grammar.specs.Tables.{cell_content, cell_start, cell_text, cell_block, AreCells, inserted, side_by_side, row_cells, row_block, Taken}
 use Rattle.first_pass_grammar.specs.Tables.{TableSoFar, AreRows}
 use Rattle.first_pass_grammar.proofs.Count.RowsWithRoom.{with_row, RowsWithRoom, counted}
 use Rattle.first_pass_grammar.proofs.Each.EachToken.{AreEach, HoldsOfTokens, cell_each}
@@ -68,9 +68,9 @@ module _ (P : ItemBody → Type 0) where
       → AreEachNode P (row_block body columns start cells «end»)
   row_nodes body columns start cells end own cell h =
       block_nodes (record { start = start; «end» = end; body = body }) (row_cells columns cells end) own
-      (side_nodes (take columns cells ++ replicate (filled columns cells) (cell_block end end []))
-      (both_blocks (take columns cells) (replicate (filled columns cells) (cell_block end end [])) (first_blocks columns cells h)
-      (copies (filled columns cells) (cell_block end end []) (cell, tt))))
+      (side_nodes (take columns cells ++ replicate (inserted columns cells) (cell_block end end []))
+      (both_blocks (take columns cells) (replicate (inserted columns cells) (cell_block end end [])) (first_blocks columns cells h)
+      (copies (inserted columns cells) (cell_block end end []) (cell, tt))))
 
 module _ (P : ItemBody → Type 0) (d : Document) (holds : HoldsOfTokens d.names.texts P) (cell_holds : P TableCell) where
   -- the cells of a row

@@ -44,7 +44,7 @@ use Rattle.first_pass_grammar.specs.Skeleton.{OpensText, OpensRun, OpensAs, Open
 use Rattle.first_pass_grammar.specs.Skeleton.{OpensBy, OpensFootnote, Opens, OpensAt, may_define, Level, level_in, level_after_leaf, level_after, Remaining, Lines}
 use Rattle.first_pass_grammar.specs.Skeleton.{InLine, onward, after_first, IsFirst, IsSequence}
 use Rattle.first_pass_grammar.specs.TableHeads.{headed_table}
-use Rattle.first_pass_grammar.specs.Tables.{filled, most_filled, row_block, table_so_far, Taken, taking, IsTable}
+use Rattle.first_pass_grammar.specs.Tables.{inserted, most_inserted, row_block, table_so_far, Taken, taking, IsTable}
 use Rattle.first_pass_grammar.specs.Texts.{IsPlainText, IsText, IsUnderlined, text_children, heading_children, plain_text, underline_first}
 use Rattle.first_pass_grammar.specs.WholeTables.{AreEachNode}
 use Rattle.first_pass_grammar.proofs.Each.EachToken.{AreEach, HoldsOfTokens, HoldsOfRaw, children_each, heading_children_each, lines_each, heading_each}
@@ -196,7 +196,7 @@ module _ (Own Inner : ItemBody → Type 0) (d : Document) (own : HoldsOfBlocks O
       let head : List (ℕ × Item) = row_block TableHead columns (offset p) h.cells h.head_end in
       let cells = cells_nodes Inner d within.tokens within.cell (spot (offset p) no_braces) h.cells (spot h.head_end h.after) h.are_cells in
       let first = row_nodes Inner TableHead columns (offset p) h.cells h.head_end within.head within.cell cells in
-      let rows = rows_nodes Inner d within.tokens within.cell path (table_so_far columns (most_filled - filled columns h.cells) h.after) (drop 1 lines)
+      let rows = rows_nodes Inner d within.tokens within.cell path (table_so_far columns (most_inserted - inserted columns h.cells) h.after) (drop 1 lines)
       (taking h.body t.left) within.row h.are_rows in
       subst IsBlock (sym h.items_are)
       (refl, own.table h.index, deeper_nodes Inner 1 (head ++ h.body) (both_nodes Inner head h.body first rows))

@@ -14,7 +14,7 @@ use Rattle.first_pass_grammar.specs.Headings.{heading_attributes_of}
 use Rattle.first_pass_grammar.specs.Names.{Names, NamesAttributes, NamesEntry, AttributesAt, AreNamed, index_of}
 use Rattle.first_pass_grammar.specs.Leaves.{Document, around, TextLines, block_with}
 use Rattle.first_pass_grammar.specs.TableHeads.{headed_table}
-use Rattle.first_pass_grammar.specs.Tables.{filled, row_block, Taken, taking, TableSoFar, table_so_far, most_filled, IsTable}
+use Rattle.first_pass_grammar.specs.Tables.{inserted, row_block, Taken, taking, TableSoFar, table_so_far, most_inserted, IsTable}
 use Rattle.first_pass_grammar.specs.Texts.{IsPlainText, IsText, IsUnderlined, text_children, heading_bytes, heading_children, plain_text, underline_first}
 use Rattle.first_pass_grammar.proofs.Each.EachToken.{AreEach, children_each, heading_children_each, lines_each}
 use Rattle.first_pass_grammar.proofs.Names.NoIndex.{HasNoIndex}
@@ -35,7 +35,7 @@ table_named d path p alignments lines t h =
     let P : ItemBody → Type 0 = HasEntry d.names in
     let holds = tokens_entered d.names in
     let cells = cells_nodes P d holds tt (spot (offset p) no_braces) h.cells (spot h.head_end h.after) h.are_cells in
-    let table : TableSoFar = table_so_far columns (most_filled - filled columns h.cells) h.after in
+    let table : TableSoFar = table_so_far columns (most_inserted - inserted columns h.cells) h.after in
     let rows = rows_nodes P d holds tt path table (drop 1 lines) (taking h.body t.left) tt h.are_rows in
     let kids = both_nodes P head h.body (row_nodes P TableHead columns (offset p) h.cells h.head_end tt tt cells) rows in
     subst (AreNamed d.names) (sym h.items_are)

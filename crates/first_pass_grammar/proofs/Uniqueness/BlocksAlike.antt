@@ -5,7 +5,7 @@ use Rattle.first_pass_items.specs.declared.item.ItemBody.{ItemBody}
 use Rattle.first_pass_tree.specs.Forest.{at_depth, block_of}
 use Rattle.first_pass_grammar.specs.Names.{Names, read, read_nodes}
 use Rattle.first_pass_grammar.specs.Derivation.{node_of}
-use Rattle.first_pass_grammar.specs.Tables.{cell_block, filled, side_by_side, row_cells, row_block}
+use Rattle.first_pass_grammar.specs.Tables.{cell_block, inserted, side_by_side, row_cells, row_block}
 use Rattle.first_pass_grammar.proofs.Uniqueness.Alike.{AlikeNodes, nodes_append, read_at_depth}
 
 -- two lists have as many blocks, and blocks at the same place read alike
@@ -56,11 +56,11 @@ pub row_alike : (m n : Names) (body : ItemBody) (columns start : ℕ) (cells cel
     → AlikeNodes m n (row_block body columns start cells stop) (row_block body columns start cells' stop)
 row_alike m n body columns start cells cells' stop own are =
     let empty : List (ℕ × Item) = cell_block stop stop [] in
-    let node_bound : filled columns cells ≡ filled columns cells' = ap (λ (k : ℕ). columns - k) (as_many m n cells cells' are) in
-    let copies : AlikeBlocks m n (replicate (filled columns cells) empty) (replicate (filled columns cells') empty) =
-    subst (λ (k : ℕ). AlikeBlocks m n (replicate (filled columns cells) empty) (replicate k empty)) node_bound
-    (copies_alike m n (filled columns cells) empty empty refl) in
+    let node_bound : inserted columns cells ≡ inserted columns cells' = ap (λ (k : ℕ). columns - k) (as_many m n cells cells' are) in
+    let copies : AlikeBlocks m n (replicate (inserted columns cells) empty) (replicate (inserted columns cells') empty) =
+    subst (λ (k : ℕ). AlikeBlocks m n (replicate (inserted columns cells) empty) (replicate k empty)) node_bound
+    (copies_alike m n (inserted columns cells) empty empty refl) in
     own_alike m n (node_of start stop body) (node_of start stop body) (row_cells columns cells stop) (row_cells columns cells' stop) own
-    (side_alike m n (take columns cells ++ replicate (filled columns cells) empty) (take columns cells' ++ replicate (filled columns cells') empty)
-    (both_alike m n (take columns cells) (take columns cells') (replicate (filled columns cells) empty) (replicate (filled columns cells') empty)
+    (side_alike m n (take columns cells ++ replicate (inserted columns cells) empty) (take columns cells' ++ replicate (inserted columns cells') empty)
+    (both_alike m n (take columns cells) (take columns cells') (replicate (inserted columns cells) empty) (replicate (inserted columns cells') empty)
     (first_alike m n columns cells cells' are) copies))

@@ -21,8 +21,8 @@ use Rattle.first_pass_grammar.specs.Names.{Names, NamesAttributes, read_nodes}
 use Rattle.first_pass_grammar.specs.Leaves.{Document, around, marker_items, TextLines, text_lines}
 use Rattle.first_pass_grammar.specs.TableHeads.{headed_table}
 use Rattle.first_pass_grammar.specs.Derivation.{node_of}
-use Rattle.first_pass_grammar.specs.Tables.{cell_content, cell_start, cell_text, cell_block, AreCells, filled, row_block, Taken, taking, FoundRow, HasCells}
-use Rattle.first_pass_grammar.specs.Tables.{TableSoFar, table_so_far, AreRows, most_filled, IsTable}
+use Rattle.first_pass_grammar.specs.Tables.{cell_content, cell_start, cell_text, cell_block, AreCells, inserted, row_block, Taken, taking, FoundRow, HasCells}
+use Rattle.first_pass_grammar.specs.Tables.{TableSoFar, table_so_far, AreRows, most_inserted, IsTable}
 use Rattle.first_pass_grammar.specs.Headings.{heading_attributes_of, heading_attribute_block, kept_before}
 use Rattle.first_pass_grammar.specs.Texts.{IsPlainText, IsText, IsUnderlined, by_backslash, text_children, children_without, heading_bytes, heading_children}
 use Rattle.first_pass_grammar.specs.Texts.{plain_text, underlined_text, underline_first, IsEnded}
@@ -93,7 +93,7 @@ same_row table m n cells cells' are = ap (λ (k : ℕ). nat_lt 0 k && nat_le (ta
 same_table : (table : TableSoFar) (m n : Names) (row other : FoundRow) → AlikeRows m n row other → with_row table row ≡ with_row table other
 same_table table m n row other are =
     ap (λ (k : ℕ). table_so_far table.columns (table.room - (table.columns - k)) row.after) (as_many m n row.cells other.cells are.0)
-    ∙ ap (λ (z : MathBraces). table_so_far table.columns (table.room - filled table.columns other.cells) z) are.3
+    ∙ ap (λ (z : MathBraces). table_so_far table.columns (table.room - inserted table.columns other.cells) z) are.3
 
 -- their blocks read alike
 same_block : (table : TableSoFar) (m n : Names) (row other : FoundRow) → AlikeRows m n row other
@@ -152,12 +152,13 @@ one_table d n path p alignments lines t u h k =
     let columns : ℕ = length alignments in
     let c = one_cells d n (spot (offset p) no_braces) h.cells k.cells (spot h.head_end h.after) (spot k.head_end k.after) h.are_cells k.are_cells in
     let ends : h.head_end ≡ k.head_end = ap (λ (z : Spot). z.at) c.1 in
-    let node_bound : filled columns k.cells ≡ filled columns h.cells = ap (λ (z : ℕ). columns - z) (sym (as_many d.names n h.cells k.cells c.0)) in
-    let same : table_so_far columns (most_filled - filled columns k.cells) k.after ≡ table_so_far columns (most_filled - filled columns h.cells) h.after =
-    ap (λ (z : ℕ). table_so_far columns (most_filled - z) k.after) node_bound
-    ∙ ap (λ (z : Spot). table_so_far columns (most_filled - filled columns h.cells) z.braces) (sym c.1) in
+    let node_bound : inserted columns k.cells ≡ inserted columns h.cells = ap (λ (z : ℕ). columns - z) (sym (as_many d.names n h.cells k.cells c.0)) in
+    let same :
+    table_so_far columns (most_inserted - inserted columns k.cells) k.after ≡ table_so_far columns (most_inserted - inserted columns h.cells) h.after =
+    ap (λ (z : ℕ). table_so_far columns (most_inserted - z) k.after) node_bound
+    ∙ ap (λ (z : Spot). table_so_far columns (most_inserted - inserted columns h.cells) z.braces) (sym c.1) in
     let body : AlikeTaken d.names n (taking h.body t.left) (taking k.body u.left) =
-    one_rows d n path (drop 1 lines) (table_so_far columns (most_filled - filled columns h.cells) h.after) (taking h.body t.left) (taking k.body u.left)
+    one_rows d n path (drop 1 lines) (table_so_far columns (most_inserted - inserted columns h.cells) h.after) (taking h.body t.left) (taking k.body u.left)
     h.are_rows (subst (λ z. AreRows (with_names d n) path z (drop 1 lines) (taking k.body u.left)) same k.are_rows) in
     let head : List (ℕ × Item) = row_block TableHead columns (offset p) h.cells h.head_end in
     let other : List (ℕ × Item) = row_block TableHead columns (offset p) k.cells k.head_end in

@@ -14,7 +14,7 @@ use Rattle.first_pass_tokens.specs.LineTokens.{Spot, spot}
 use Rattle.first_pass_grammar.specs.declared.kind.Container.{Container}
 use Rattle.first_pass_grammar.specs.Leaves.{Document, around}
 use Rattle.first_pass_grammar.specs.TableHeads.{alignments_after, if_as_many, table_at, ends_in_backslash, headed_table}
-use Rattle.first_pass_grammar.specs.Tables.{AreCells, filled}
+use Rattle.first_pass_grammar.specs.Tables.{AreCells, inserted}
 use Rattle.first_pass_grammar.proofs.Sequences.PlacesKept.{IsAt}
 use Rattle.first_pass_grammar.proofs.WholeTables.WholeBlocks.{HeadsAreFull}
 use Rattle.first_pass_grammar.proofs.WholeTables.HeadCells.{head_has_cells}
@@ -38,7 +38,7 @@ headed_by false s o alignments e = absurd (none-some alignments e)
 
 -- No cell is inserted into a header row.
 pub head_is_full : (d : Document) (path : List Container) (p : Place) (alignments : List Alignment) (cells : List (List (ℕ × Item))) (to : Spot) → IsAt d.text p
-    → headed_table (around d path) p.rest.left ≡ Some alignments → AreCells d (spot (offset p) no_braces) cells to → filled (length alignments) cells ≡ 0
+    → headed_table (around d path) p.rest.left ≡ Some alignments → AreCells d (spot (offset p) no_braces) cells to → inserted (length alignments) cells ≡ 0
 unfolding headed_table table_at
 head_is_full d path p alignments cells to i e are =
     let headed = headed_by (has d.options tables) (not (ends_in_backslash p.rest.left)) _ alignments e in

@@ -20,9 +20,9 @@ use Rattle.first_pass_tokens.proofs.LineLemmas.{cell_ends}
 use Rattle.first_pass_grammar.specs.declared.kind.Container.{Container}
 use Rattle.first_pass_grammar.specs.Names.{Names}
 use Rattle.first_pass_grammar.specs.Leaves.{Document}
-use Rattle.first_pass_grammar.specs.Tables.{cell_content, cell_start, cell_text, cell_block, AreCells, filled, side_by_side, row_cells, row_block, Taken}
-use Rattle.first_pass_grammar.specs.Tables.{TableSoFar, table_so_far, AreRows, most_filled, IsTable}
-use Rattle.first_pass_grammar.specs.WholeTables.{Mark, ATable, ARow, ACell, shown, marks, RowCells, row_marks, TableRows, table_marks, how_often, filled_in}
+use Rattle.first_pass_grammar.specs.Tables.{cell_content, cell_start, cell_text, cell_block, AreCells, inserted, side_by_side, row_cells, row_block, Taken}
+use Rattle.first_pass_grammar.specs.Tables.{TableSoFar, table_so_far, AreRows, most_inserted, IsTable}
+use Rattle.first_pass_grammar.specs.WholeTables.{Mark, ATable, ARow, ACell, shown, marks, RowCells, row_marks, TableRows, table_marks, how_often, inserted_in}
 use Rattle.first_pass_grammar.specs.WholeTables.{StartApart, HaveCells, AreFull, AreWholeTables}
 use Rattle.first_pass_grammar.proofs.Count.RowsWithRoom.{with_row, RowsWithRoom, counted}
 use Rattle.first_pass_grammar.proofs.Each.EachToken.{AreEach, HoldsOfTokens, HoldsOfRaw, cell_each}
@@ -288,9 +288,9 @@ cells_show d p (cell ∷ cells) to (on, tokens, stop, is, e, more) =
       (omega arith, here.0, later_between (suc (cell_start d.text p.at)) (cell_start d.text stop.at) to.at rest.0 (omega arith) rest.2),
     )
 
-filled_shows : (names : Names) («end» : ℕ) → marks names (cell_block «end» «end» []) ≡ ACell 0 «end» ∷ []
+inserted_shows : (names : Names) («end» : ℕ) → marks names (cell_block «end» «end» []) ≡ ACell 0 «end» ∷ []
 unfolding marks
-filled_shows names end = refl
+inserted_shows names end = refl
 
 -- the marks of these nodes are those of a row: its end, and as many cells as columns, of which so many inserted ones
 -- start at its end
@@ -301,14 +301,14 @@ ShowsRow names columns «end» many items =
 
 pub row_shows : (d : Document) (body : ItemBody) (columns : ℕ) (p : Spot) (cells : List (List (ℕ × Item))) (to : Spot)
     → shown d.names 0 p.at to.at body ≡ ARow 0 to.at ∷ [] → AreCells d p cells to
-    → ShowsRow d.names columns to.at (filled columns cells) (row_block body columns p.at cells to.at)
+    → ShowsRow d.names columns to.at (inserted columns cells) (row_block body columns p.at cells to.at)
 unfolding marks
 row_shows d body columns p cells to own are =
     let (starts, show, before) = cells_show d p cells to are in
     let end : ℕ = to.at in
-    let n : ℕ = filled columns cells in
+    let n : ℕ = inserted columns cells in
     let both = both_show d.names (take columns cells) (replicate n (cell_block end end [])) (take columns starts) (replicate n end)
-    (first_show d.names columns cells starts show) (copies_show d.names n (cell_block end end []) end (filled_shows d.names end)) in
+    (first_show d.names columns cells starts show) (copies_show d.names n (cell_block end end []) end (inserted_shows d.names end)) in
     let all = side_shows d.names (take columns cells ++ replicate n (cell_block end end [])) (take columns starts ++ replicate n end) both in
     let from : ℕ = cell_start d.text p.at in
     let first = first_between from end columns starts before in
@@ -328,15 +328,15 @@ row_shows d body columns p cells to own are =
 -- the marks of these nodes are those of the rows of a table body with so many columns, and at most so many inserted
 -- cells
 abbrev pub ShowRows : Names → ℕ → ℕ → List (ℕ × Item) → Type 0
-ShowRows names columns most items = (rows : List RowCells) × (marks names items ≡ row_marks 0 rows) × HaveCells columns rows × (filled_in rows ≤ most)
+ShowRows names columns most items = (rows : List RowCells) × (marks names items ≡ row_marks 0 rows) × HaveCells columns rows × (inserted_in rows ≤ most)
 
 none_over : (d : Document) (columns : ℕ) (items : List (ℕ × Item)) → items ≡ [] → (most : ℕ) → ShowRows d.names columns most items
-unfolding marks row_marks HaveCells filled_in
+unfolding marks row_marks HaveCells inserted_in
 none_over d columns items e most = ([], ap (marks d.names) e, tt, omega arith)
 
 one_over : (names : Names) (columns most «end» many : ℕ) (first more items : List (ℕ × Item)) → items ≡ first ++ more → many ≤ most
     → ShowsRow names columns «end» many first → ShowRows names columns (most - many) more → ShowRows names columns most items
-unfolding row_marks HaveCells filled_in
+unfolding row_marks HaveCells inserted_in
 one_over names columns most end many first more items e fits (starts, show, size, apart, often) (rows, these, have, node_bound) = (
   record { «end» = end; starts = starts } ∷ rows,
   ap (marks names) e ∙ marks-append names first more ∙ ap (λ (z : List Mark). z ++ marks names more) show
@@ -353,7 +353,7 @@ counted_show d path table (line ∷ lines) t (inl (none, e)) = none_over d table
 counted_show d path table (line ∷ lines) t (inr (row, has, inl (stops, e))) =
     none_over d table.columns t.items (ap (λ (z : Taken). z.items) e) table.room
 counted_show d path table (line ∷ lines) t (inr (row, has, inr (is, more, rest, e))) =
-    let n : ℕ = filled table.columns row.cells in
+    let n : ℕ = inserted table.columns row.cells in
     let fits = leb-true n table.room (and_parts (nat_lt 0 (length row.cells)) (nat_le n table.room) is).1 in
     one_over d.names table.columns table.room row.row_end n (row_block TableRow table.columns row.start row.cells row.row_end) more.items t.items
     (ap (λ (z : Taken). z.items) e) fits
@@ -367,13 +367,14 @@ rows_show d path table lines t h = counted_show d path table lines t (counted d 
 -- The marks of a table are those of one table, which is whole if its header row needs no more inserted cells than
 -- allowed.
 pub table_shows : (d : Document) (path : List Container) (p : Place) (alignments : List Alignment) (lines : List Place) (t : Taken)
-    → (h : IsTable d path p alignments lines t) → filled (length alignments) h.cells ≤ most_filled → AreWholeTables d.names t.items
-unfolding AreWholeTables marks row_marks table_marks HaveCells filled_in AreFull
+    → (h : IsTable d path p alignments lines t) → inserted (length alignments) h.cells ≤ most_inserted → AreWholeTables d.names t.items
+unfolding AreWholeTables marks row_marks table_marks HaveCells inserted_in AreFull
 table_shows d path p alignments lines t h low =
     let columns : ℕ = length alignments in
     let (starts, show, size, apart, often) =
     row_shows d TableHead columns (spot (offset p) no_braces) h.cells (spot h.head_end h.after) refl h.are_cells in
-    let (rows, these, have, node_bound) = rows_show d path (table_so_far columns (most_filled - filled columns h.cells) h.after) (drop 1 lines) _ h.are_rows in
+    let (rows, these, have, node_bound) =
+    rows_show d path (table_so_far columns (most_inserted - inserted columns h.cells) h.after) (drop 1 lines) _ h.are_rows in
     let head : List (ℕ × Item) = row_block TableHead columns (offset p) h.cells h.head_end in
     let first : RowCells = record { «end» = h.head_end; starts = starts } in
     let count : shown d.names 0 (offset p) (start_of (length d.text) t.left) (Table h.index) ≡ ATable 0 columns ∷ [] = rw h.named refl in

@@ -28,7 +28,7 @@ use Rattle.first_pass_grammar.specs.LinkTables.{LinkEntry}
 use Rattle.first_pass_grammar.specs.LinkRuns.{kind_in, Beyond, Ended, FlowsOn}
 use Rattle.first_pass_grammar.specs.RawLines.{range_text, range_html}
 use Rattle.first_pass_grammar.specs.TableHeads.{headed_table}
-use Rattle.first_pass_grammar.specs.Tables.{filled, Taken, most_filled, IsTable}
+use Rattle.first_pass_grammar.specs.Tables.{inserted, Taken, most_inserted, IsTable}
 use Rattle.first_pass_grammar.specs.Texts.{IsPlainText, IsText, IsUnderlined, text_children, heading_children, plain_text, underline_first}
 use Rattle.first_pass_grammar.specs.Blocks.{opened, Skeleton, Nil, Then, Node}
 use Rattle.first_pass_grammar.specs.Skeleton.{OpensBeyond, OpensRun, Continues, Line, Blanks, AtPlace, Allowed, Anything, OnlyALeaf, TextOf, OnlyMark, after_marker}
@@ -67,7 +67,8 @@ whole_none names nodes h = ([], h, tt)
 abbrev pub HeadsAreFull : Document → Type 0
 HeadsAreFull d =
     (path : List Container) (p : Place) (alignments : List Alignment) (lines : List Place) (t : Taken) → IsAt d.text p
-    → headed_table (around d path) p.rest.left ≡ Some alignments → (h : IsTable d path p alignments lines t) → filled (length alignments) h.cells ≤ most_filled
+    → headed_table (around d path) p.rest.left ≡ Some alignments → (h : IsTable d path p alignments lines t)
+    → inserted (length alignments) h.cells ≤ most_inserted
 
 -- the marker where blocks continue, if there is one, is no part of a table
 abbrev pub PlainMay : Allowed → Type 0

@@ -12,7 +12,7 @@ use Rattle.first_pass_names.specs.TableEntries.{tables_of, names_of}
 use Rattle.first_pass_blocks.specs.Written.{TablesAreWritten}
 use Rattle.first_pass_blocks.proofs.LinkDefinitions.WrittenLemmas.{none_written}
 use Rattle.first_pass_grammar.proofs.Count.CountedNodes.{own_at_most}
-use Rattle.first_pass_order.proofs.FilledCells.{all_nodes}
+use Rattle.first_pass_order.proofs.InsertedCells.{all_nodes}
 use Rattle.first_pass_grammar.proofs.Uniqueness.Unique.{only_derived}
 use Rattle.first_pass_grammar.proofs.WholeTables.WholeForests.{derived_whole}
 use Rattle.first_pass_order.proofs.SettledNodes.{derived_settled}

@@ -7,7 +7,7 @@ use Rattle.first_pass_tree.specs.Forest.{Forest, IsChild}
 use Rattle.first_pass_names.specs.TableEntries.{names_of}
 use Rattle.first_pass_tokens.specs.LineTokens.{spot}
 use Rattle.first_pass_grammar.specs.Leaves.{document}
-use Rattle.first_pass_grammar.specs.Tables.{most_filled}
+use Rattle.first_pass_grammar.specs.Tables.{most_inserted}
 use Rattle.first_pass_tables.specs.Appends.{keeps_row, open_table, without_after}
 use Rattle.first_pass_tables.proofs.RowDrops.{current_is_child, dropped}
 use Rattle.first_pass_tables.proofs.RowClosed.{OpenRow, row_place, row_opened, row_is_open, row_closed, same_test, row_after, row_read}
@@ -38,10 +38,10 @@ open_row c = record {
 
 -- the test of the row is that of its cells
 kept_is : (c : After-is_kept) → keeps_row (is_some c.args.tree.now.current) c.args.wanted.most
-    (most_filled - c.args.table.now.missing_empty_cells) c.in_ok-end.ensures.cells.cells ≡ c.is_kept.result
+    (most_inserted - c.args.table.now.missing_empty_cells) c.in_ok-end.ensures.cells.cells ≡ c.is_kept.result
 kept_is c =
     let adds = c.in_ok-end.ensures.cells in
-    let most = most_filled - c.args.table.now.missing_empty_cells in
+    let most = most_inserted - c.args.table.now.missing_empty_cells in
     let missing_is = c.saturating_sub-missing.ensures ∙ ap (λ (n : ℕ). c.args.wanted.most - n) adds.count in
     let following : c.is_some.result ≡ is_some c.args.tree.now.current =
     c.is_some.ensures ∙ ap (λ (o : Option TreeIndex). is_some o) c.cur-before.ensures in

@@ -43,9 +43,9 @@ at_end «end» [] = 0
 at_end «end» (m ∷ ms) = (if starts_at «end» m then 1 else 0) + at_end (end_after «end» m) ms
 
 -- one of the two counts each node
-filled_is : (cell : Option ℕ) (start e : ℕ) → is_inserted_after cell (record { start = start; «end» = e; body = TableCell }) ≡ is_at cell start
-filled_is None start e = refl
-filled_is (Some at) start e = refl
+inserted_is : (cell : Option ℕ) (start e : ℕ) → is_inserted_after cell (record { start = start; «end» = e; body = TableCell }) ≡ is_at cell start
+inserted_is None start e = refl
+inserted_is (Some at) start e = refl
 
 one_or_other : (t : Bool) (m k n : ℕ) → m + k ≡ n → (if t then 0 else 1) + m + ((if t then 1 else 0) + k) ≡ suc n
 one_or_other true m k n h = omega arith
@@ -73,7 +73,7 @@ counted_with names cell depth start e TableRow nodes h =
     let not = plain_past cell (record { start = start; «end» = e; body = TableRow }) refl in
     rw not (omega arith)
 counted_with names cell depth start e TableCell nodes h =
-    rw (filled_is cell start e)
+    rw (inserted_is cell start e)
     (one_or_other (is_at cell start) (own (Some start) nodes) (repeated (Some start) (marks names nodes)) (length nodes) (h (Some start)))
 counted_with names cell depth start e b nodes h =
     let rest = h cell in
@@ -86,32 +86,32 @@ counted names cell [] = refl
 counted names cell (n ∷ nodes) = counted_with names cell n.0 n.1.start n.1.«end» n.1.body nodes (λ after. counted names after nodes)
 
 -- the cells at their row's end are the inserted ones
-filled_at : («end» : Option ℕ) (start e : ℕ) → is_inserted «end» (record { start = start; «end» = e; body = TableCell }) ≡ is_at «end» start
-filled_at None start e = refl
-filled_at (Some at) start e = refl
+inserted_at : («end» : Option ℕ) (start e : ℕ) → is_inserted «end» (record { start = start; «end» = e; body = TableCell }) ≡ is_at «end» start
+inserted_at None start e = refl
+inserted_at (Some at) start e = refl
 
-unfilled : («end» : Option ℕ) (x : Item) → is_cell x.body ≡ false → is_inserted «end» x ≡ false
-unfilled None x h = refl
-unfilled (Some at) x h = rw h refl
+not_inserted : («end» : Option ℕ) (x : Item) → is_cell x.body ≡ false → is_inserted «end» x ≡ false
+not_inserted None x h = refl
+not_inserted (Some at) x h = rw h refl
 
-filled_with : (names : Names) («end» : Option ℕ) (depth start e : ℕ) (b : ItemBody) (nodes : List (ℕ × Item))
+inserted_with : (names : Names) («end» : Option ℕ) (depth start e : ℕ) (b : ItemBody) (nodes : List (ℕ × Item))
     → ((after : Option ℕ) → inserted_in_row after nodes ≡ at_end after (marks names nodes))
     → inserted_in_row «end» ((depth, record { start = start; «end» = e; body = b }) ∷ nodes) ≡ at_end «end» (shown names depth start e b ++ marks names nodes)
 unfolding inserted_in_row at_end
-filled_with names end depth start e (Table ix) nodes h =
-    (let rest = h end in let none = unfilled end (record { start = start; «end» = e; body = Table ix }) refl in rw none (omega arith))
-filled_with names end depth start e TableHead nodes h =
-    (let rest = h (Some e) in let none = unfilled end (record { start = start; «end» = e; body = TableHead }) refl in rw none (omega arith))
-filled_with names end depth start e TableRow nodes h =
-    (let rest = h (Some e) in let none = unfilled end (record { start = start; «end» = e; body = TableRow }) refl in rw none (omega arith))
-filled_with names end depth start e TableCell nodes h = rw (filled_at end start e, h end) refl
-filled_with names end depth start e b nodes h =
-    (let rest = h end in let none = unfilled end (record { start = start; «end» = e; body = b }) refl in rw none (omega arith))
+inserted_with names end depth start e (Table ix) nodes h =
+    (let rest = h end in let none = not_inserted end (record { start = start; «end» = e; body = Table ix }) refl in rw none (omega arith))
+inserted_with names end depth start e TableHead nodes h =
+    (let rest = h (Some e) in let none = not_inserted end (record { start = start; «end» = e; body = TableHead }) refl in rw none (omega arith))
+inserted_with names end depth start e TableRow nodes h =
+    (let rest = h (Some e) in let none = not_inserted end (record { start = start; «end» = e; body = TableRow }) refl in rw none (omega arith))
+inserted_with names end depth start e TableCell nodes h = rw (inserted_at end start e, h end) refl
+inserted_with names end depth start e b nodes h =
+    (let rest = h end in let none = not_inserted end (record { start = start; «end» = e; body = b }) refl in rw none (omega arith))
 
-filled_are : (names : Names) («end» : Option ℕ) (nodes : List (ℕ × Item)) → inserted_in_row «end» nodes ≡ at_end «end» (marks names nodes)
+inserted_are : (names : Names) («end» : Option ℕ) (nodes : List (ℕ × Item)) → inserted_in_row «end» nodes ≡ at_end «end» (marks names nodes)
 unfolding inserted_in_row at_end marks
-filled_are names end [] = refl
-filled_are names end (n ∷ nodes) = filled_with names end n.0 n.1.start n.1.«end» n.1.body nodes (λ after. filled_are names after nodes)
+inserted_are names end [] = refl
+inserted_are names end (n ∷ nodes) = inserted_with names end n.0 n.1.start n.1.«end» n.1.body nodes (λ after. inserted_are names after nodes)
 
 -- for any row before these marks, at most as many of their cells start with the one before them as are at their row's
 -- end
@@ -161,6 +161,6 @@ pub all_nodes : (names : Names) (nodes : List (ℕ × Item)) → AreWholeTables 
 unfolding AreWholeTables
 all_nodes names nodes (tables, are, full) =
     let sum = counted names None nodes in
-    let same = filled_are names None nodes in
+    let same = inserted_are names None nodes in
     let node_bound = subst FewAre (sym are) (tables_few tables full) None None in
     omega arith
