@@ -204,7 +204,7 @@ fn open_start<'a>(
     Ok(())
 }
 
-/// The end of the line of a place: the start of the next line.
+/// Returns the end of the line of a place: the start of the next line.
 pub(crate) fn next_line_start<'a>(source: &Source<'a>, place: &Place<'a>) -> usize
     requires { IsPlaceOf source.now.text.now place.now }
     ensures { result ≡ line_end place.now }

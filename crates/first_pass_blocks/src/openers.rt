@@ -40,9 +40,9 @@ pub(crate) struct Start {
     pub(crate) after: AfterMarker,
 }
 
-/// The container that begins at a place: a list item; otherwise a definition, if one may begin; otherwise a block
-/// quote. Moves the place past its marker, and past a task list item marker. If none begins, returns `None` and leaves
-/// the place unchanged.
+/// Returns the container that begins at a place: a list item; otherwise a definition, if one may begin; otherwise a
+/// block quote. Moves the place past its marker, and past a task list item marker. If none begins, returns `None` and
+/// leaves the place unchanged.
 #[inline(always)]
 pub(crate) fn start_at<'a>(
     source: &Source<'a>,

@@ -19,9 +19,9 @@ use first_pass_open::source::Source;
 use first_pass_tree::forest::Tree;
 use std::alloc::AllocError;
 
-/// The head of the footnote definition that begins at the offset `start` into the text: its length in bytes, up to
-/// after its colon, and its label. In GitHub's form the label has no line ending; in the old form it continues over
-/// lines as in `parse_refdef_label`. `tree` has the open blocks.
+/// Reads the head of the footnote definition that begins at the offset `start` into the text. Returns its length in
+/// bytes, up to after its colon, and its label. In GitHub's form the label has no line ending; in the old form it
+/// continues over lines as in `parse_refdef_label`. `tree` has the open blocks.
 ///
 /// Returns `None` if no head begins. Fails only if an allocation fails. That can happen only in two cases: the label
 /// after `[^` has to be copied; or, in the old form, no bracket ends it and some later line of the text may head a

@@ -14,13 +14,13 @@ use first_pass_open::source::Source;
 use first_pass_tree::forest::Tree;
 use std::alloc::AllocError;
 
-/// The white space at the offset `start` into the text, with at most one line ending: the offset after it, and the
-/// number of its line endings, 0 or 1. After a line ending it continues at the place in the next line at which the
-/// definition continues.
+/// Reads the white space at the offset `start` into the text, with at most one line ending. Returns the offset after
+/// it, and the number of its line endings, 0 or 1. After a line ending it continues at the place in the next line at
+/// which the definition continues.
 ///
 /// Returns `None` if a second line ending follows, or if no line follows in which the definition continues. Fails only
-/// if an allocation fails, which can happen only if the line after the first line ending may head a table
-/// (CommonMark 4.7).
+/// if an allocation fails, which can happen only if the line after the first line ending may head a table (CommonMark
+/// 4.7).
 #[inline(always)]
 pub fn scan_refdef_space(
     source: &Source<'_>,

@@ -9,7 +9,7 @@ use std::simd::prelude::*;
 /// The number of bytes read at once.
 pub const LANES: usize = 16;
 
-/// The number of spaces at the start of the first 16 bytes: the position of the first other byte, or 16.
+/// Returns the number of spaces at the start of the first 16 bytes: the position of the first other byte, or 16.
 #[inline(always)]
 pub fn space_run(bytes: &[u8]) -> usize
     requires { 16 ≤ length bytes.now }
@@ -19,7 +19,7 @@ pub fn space_run(bytes: &[u8]) -> usize
     first_set(lanes.simd_ne(u8x16::splat(b' ')).to_bitmask())
 }
 
-/// The number of bytes before the first `\n` or `\r` among the 16 bytes from the offset `at` on, or 16.
+/// Returns the number of bytes before the first `\n` or `\r` among the 16 bytes from the offset `at` on, or 16.
 #[inline(always)]
 pub fn content_run(bytes: &[u8], at: usize) -> usize
     requires { at + 16 ≤ length bytes.now }
@@ -30,7 +30,7 @@ pub fn content_run(bytes: &[u8], at: usize) -> usize
     first_set(ends.to_bitmask())
 }
 
-/// The number of bytes of white space before the first other byte among the 16 from the offset `at` on, or 16.
+/// Returns the number of bytes of white space before the first other byte among the 16 from the offset `at` on, or 16.
 #[inline(always)]
 pub fn white_run(bytes: &[u8], at: usize) -> usize
     requires { at + 16 ≤ length bytes.now }
@@ -44,7 +44,7 @@ pub fn white_run(bytes: &[u8], at: usize) -> usize
     first_set(others.to_bitmask())
 }
 
-/// The position of the lowest set bit, or 16 if no bit is set.
+/// Returns the position of the lowest set bit, or 16 if no bit is set.
 #[inline(always)]
 pub fn first_set(mask: u64) -> usize
     ensures { result ≡ lowest mask 16 }

@@ -9,35 +9,35 @@ use crate::lanes::{LANES, content_run, white_run};
 use first_pass_items::item::HeadingLevel;
 use memchr::memchr2;
 
-/// Whether the byte is `\n` or `\r`. CommonMark 2.1.
+/// Returns whether the byte is `\n` or `\r`. CommonMark 2.1.
 pub fn is_line_end(byte: u8) -> bool
     ensures { result ≡ is_line_end byte }
 {
     byte == b'\n' || byte == b'\r'
 }
 
-/// Whether the byte is white space other than a line ending: tab, 0x0B, 0x0C or space.
+/// Returns whether the byte is white space: tab, 0x0B, 0x0C or space. Line endings are not.
 pub fn is_white(byte: u8) -> bool
     ensures { result ≡ is_white byte }
 {
     matches!(byte, b'\t' | 0x0b | 0x0c | b' ')
 }
 
-/// Whether the byte is a space or a tab. CommonMark 2.1.
+/// Returns whether the byte is a space or a tab. CommonMark 2.1.
 pub fn is_space_or_tab(byte: u8) -> bool
     ensures { result ≡ is_space_or_tab byte }
 {
     byte == b'\t' || byte == b' '
 }
 
-/// Whether the byte is white space or part of a line ending: tab, 0x0B, 0x0C, space, `\n` or `\r`.
+/// Returns whether the byte is white space or in a line ending: tab, 0x0B, 0x0C, space, `\n` or `\r`.
 pub fn is_white_or_line_end(byte: u8) -> bool
     ensures { result ≡ is_white_or_line_end byte }
 {
     is_white(byte) || is_line_end(byte)
 }
 
-/// Whether `bytes` begins with `byte`.
+/// Returns whether `bytes` begins with `byte`.
 pub fn begins(byte: u8, bytes: &[u8]) -> bool
     ensures value { result ≡ begins byte bytes.now }
     ensures some { result ≡ true → 0 < length bytes.now }
@@ -48,7 +48,7 @@ pub fn begins(byte: u8, bytes: &[u8]) -> bool
     }
 }
 
-/// Whether `bytes` begins with an ASCII letter or a non-ASCII byte. No block except a paragraph begins with
+/// Returns whether `bytes` begins with an ASCII letter or a non-ASCII byte. No block except a paragraph begins with
 /// such a byte.
 #[inline(always)]
 #[tactic(auto, unfolding(crate::specs::Plain::is_plain))]
@@ -61,8 +61,8 @@ pub fn is_plain_front(bytes: &[u8]) -> bool
     }
 }
 
-/// Whether `bytes` begins with a byte that is no space or tab, and with which no list item or block quote
-/// begins.
+/// Returns whether `bytes` begins with a byte that is neither a space nor a tab, and with which no list item or block
+/// quote begins.
 #[inline(always)]
 #[tactic(auto, unfolding(crate::specs::Plain::is_inert))]
 pub fn is_inert_front(bytes: &[u8]) -> bool
@@ -77,8 +77,8 @@ pub fn is_inert_front(bytes: &[u8]) -> bool
     }
 }
 
-/// The length in bytes of the line ending at the start of `bytes`: `\n`, `\r\n` or `\r`; 0 if `bytes` is empty.
-/// Otherwise `None`. CommonMark 2.1.
+/// Returns the length in bytes of the line ending at the start of `bytes`: `\n`, `\r\n` or `\r`. Returns 0 if `bytes`
+/// is empty, and `None` if there is neither. CommonMark 2.1.
 pub fn scan_eol(bytes: &[u8]) -> Option<usize>
     ensures value { result ≡ eol_len bytes.now }
     ensures within { IfSome result (λ n. n ≤ length bytes.now) }
@@ -92,7 +92,7 @@ pub fn scan_eol(bytes: &[u8]) -> Option<usize>
     }
 }
 
-/// The number of spaces and tabs at the start of `bytes`. CommonMark 2.1.
+/// Returns the number of spaces and tabs at the start of `bytes`. CommonMark 2.1.
 pub fn scan_blanks(bytes: &[u8]) -> usize
     ensures value { result ≡ prefix_len is_space_or_tab bytes.now }
     ensures within { result ≤ length bytes.now }
@@ -100,7 +100,7 @@ pub fn scan_blanks(bytes: &[u8]) -> usize
     bytes.iter().take_while(|b| is_space_or_tab(**b)).count()
 }
 
-/// The number of bytes of white space at the start of `bytes`, without line endings: tab, 0x0B, 0x0C and space.
+/// Returns the number of bytes of white space at the start of `bytes`, without line endings: tab, 0x0B, 0x0C and space.
 /// CommonMark 2.1.
 pub fn scan_whitespace_no_nl(bytes: &[u8]) -> usize
     ensures value { result ≡ prefix_len is_white bytes.now }
@@ -140,8 +140,8 @@ fn near_white_len(bytes: &[u8]) -> usize
     bytes.iter().take_while(|b| is_white(**b)).count()
 }
 
-/// The length in bytes of the blank line at the start of `bytes`, with its line ending, which it may lack at
-/// the end of the text. `None` if the line is not blank. CommonMark 2.1.
+/// Returns the length in bytes of the blank line at the start of `bytes`, with its line ending, which it may lack at
+/// the end of the text. Returns `None` if the line is not blank. CommonMark 2.1.
 pub fn scan_blank_line(bytes: &[u8]) -> Option<usize>
     ensures value { result ≡ blank_len bytes.now }
     ensures within { IfSome result (λ n. n ≤ length bytes.now) }
@@ -163,7 +163,7 @@ pub fn scan_blank_line(bytes: &[u8]) -> Option<usize>
 // has a higher cost to start.
 const NEAR: usize = 128;
 
-/// The number of bytes before the first line ending, or the length of `bytes`. CommonMark 2.1.
+/// Returns the number of bytes before the first line ending, or the length of `bytes` if there is none. CommonMark 2.1.
 pub fn content_len(bytes: &[u8]) -> usize
     ensures value { result ≡ prefix_len is_content bytes.now }
     ensures within { result ≤ length bytes.now }
@@ -192,8 +192,8 @@ fn far_content_len(bytes: &[u8]) -> usize
     }
 }
 
-/// The length in bytes of the line at the start of `bytes`, with its line ending. Without a line ending, the
-/// length of `bytes`. CommonMark 2.1.
+/// Returns the length in bytes of the line at the start of `bytes`, with its line ending, or the length of `bytes` if
+/// there is no line ending. CommonMark 2.1.
 #[tactic(auto, unfolding(crate::specs::Lines::line_len))]
 pub fn scan_nextline(bytes: &[u8]) -> usize
     ensures value { result ≡ line_len bytes.now }
@@ -232,8 +232,8 @@ fn heading_level(signs: usize) -> Option<HeadingLevel>
     }
 }
 
-/// The level of the ATX heading at the start of `bytes`: 1 to 6 number signs, then a space, a tab, or the end
-/// of the line or of the text. Otherwise `None`. CommonMark 4.2.
+/// Returns the level of the ATX heading at the start of `bytes`, or `None` if there is none. It begins with 1 to 6
+/// number signs, then a space, a tab, or the end of the line or of the text. CommonMark 4.2.
 #[tactic(auto, unfolding(crate::specs::Lines::atx_level))]
 pub fn scan_atx_heading(bytes: &[u8]) -> Option<HeadingLevel>
     ensures value { result ≡ atx_level bytes.now }
@@ -247,7 +247,7 @@ pub fn scan_atx_heading(bytes: &[u8]) -> Option<HeadingLevel>
     }
 }
 
-/// The number of number signs that open a heading of this level: 1 to 6. CommonMark 4.2.
+/// Returns the number of number signs that open a heading of this level: 1 to 6. CommonMark 4.2.
 pub fn level_number(level: HeadingLevel) -> usize
     ensures value { result ≡ number_of level }
 {

@@ -6,7 +6,7 @@ ghost use Rattle.first_pass_lines.specs.Places.{line_place, lines_at, line_of, I
 
 use crate::lines::scan_nextline;
 
-/// The bytes of the text from the offset `start` on.
+/// Returns the bytes of the text from the offset `start` on.
 pub fn rest_of(text: &[u8], start: usize) -> &[u8]
     requires { start ≤ length text.now }
     ensures value { result.now ≡ drop start text.now }
@@ -15,7 +15,7 @@ pub fn rest_of(text: &[u8], start: usize) -> &[u8]
     &text[start..]
 }
 
-/// The end of the line that begins at the offset `start`, after its line ending. The next line begins there, or
+/// Returns the end of the line that begins at the offset `start`, after its line ending. The next line begins there, or
 /// the text ends. CommonMark 2.1.
 pub fn next_line(text: &[u8], start: usize) -> usize
     requires { start ≤ length text.now }

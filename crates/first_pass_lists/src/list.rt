@@ -193,9 +193,9 @@ impl PassState {
         self.blank = false;
     }
 
-    /// Whether a `:` may begin a definition after the current node. After a paragraph it may, unless the innermost
-    /// open node is a list. If that node is a definition list, it may after a possible title, and after a definition
-    /// whose indent is not 0. A definition with the indent 0 takes only blank lines (this project).
+    /// Returns whether a `:` may begin a definition after the current node. After a paragraph it may, unless the
+    /// innermost open node is a list. If that node is a definition list, it may after a possible title, and after a
+    /// definition whose indent is not 0. A definition with the indent 0 takes only blank lines (this project).
     pub fn may_begin_definition(&self) -> bool
         ensures { result ≡ may_begin_definition self.now.tree }
     {
@@ -211,8 +211,8 @@ impl PassState {
         }
     }
 
-    /// Whether a paragraph that begins here may become the next title. This is so if the innermost open node is a
-    /// definition list whose last child is not a possible title. That last child is then a definition (this project).
+    /// Returns whether a paragraph that begins here may become the next title. This is so if the innermost open node is
+    /// a definition list whose last child is not a possible title. That last child is then a definition (this project).
     pub fn is_after_definition(&self) -> bool
         ensures { result ≡ is_after_definition self.now.tree }
     {
@@ -435,7 +435,7 @@ impl PassState {
         }
     }
 
-    /// Whether the innermost open node is a footnote definition.
+    /// Returns whether the innermost open node is a footnote definition.
     #[tactic(auto, using(first_pass_open::proofs::BlockLemmas::open_node_in))]
     pub fn is_in_footnote(&self) -> bool
         ensures { result ≡ is_footnote (top_body self.now.tree) }

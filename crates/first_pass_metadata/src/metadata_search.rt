@@ -34,7 +34,7 @@ impl MetadataEnds {
     }
 }
 
-/// The byte of the metadata block that begins at the offset `start` into the text, as `scan_metadata_block`
+/// Returns the byte of the metadata block that begins at the offset `start` into the text, as `scan_metadata_block`
 /// returns it for the bytes there: `-` if `yaml` is on, `+` if `pluses` is on. Closing lines that are found are
 /// recorded in `ends`. If the calls follow the order of the text, its lines are searched once for each byte.
 #[tactic(auto, unfolding(crate::specs::Metadata::metadata_byte))]

@@ -21,7 +21,7 @@ use first_pass_tree::forest::Tree;
 use first_pass_tree::tree_index::TreeIndex;
 use std::alloc::AllocError;
 
-/// The start of the cell at the offset `at` into `bytes`: after its pipe, if there is one (GFM 4.10).
+/// Returns the start of the cell at the offset `at` into `bytes`: after its pipe, if there is one (GFM 4.10).
 pub fn cell_start(bytes: &[u8], at: usize) -> usize
     requires { at ≤ length bytes.now }
     ensures value { result ≡ cell_start bytes.now at }
