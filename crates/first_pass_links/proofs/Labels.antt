@@ -217,7 +217,8 @@ pub single-solid : (b : ℕ) (bs : List ℕ) → is_white_or_line_end b ≡ fals
 unfolding single_spaced
 single-solid b bs h = rw h
 
-pub single-more : (b : ℕ) (bs : List ℕ) → is_white_or_line_end b ≡ true → is_white_or_line_end (slice_index bs 0) ≡ true → single_spaced (b ∷ bs) ≡ single_spaced bs
+pub single-more : (b : ℕ) (bs : List ℕ) → is_white_or_line_end b ≡ true → is_white_or_line_end (slice_index bs 0) ≡ true
+    → single_spaced (b ∷ bs) ≡ single_spaced bs
 unfolding single_spaced
 single-more b bs h k = rw (h, k)
 
@@ -237,7 +238,8 @@ as_read-backslash false bs h = single-solid backslash bs refl
 as_read-pipe : (bs : List ℕ) → as_read true (backslash ∷ pipe ∷ bs) ≡ pipe ∷ as_read true bs
 as_read-pipe bs = ap single_spaced (cell-dropped backslash (pipe ∷ bs) refl refl) ∙ as_read-solid true pipe bs refl refl
 
-as_read-byte : (t : Bool) (p : ℕ) (bs : List ℕ) → is_white_or_line_end p ≡ false → (p == backslash) && begins pipe bs ≡ false → as_read t (p ∷ bs) ≡ p ∷ as_read t bs
+as_read-byte : (t : Bool) (p : ℕ) (bs : List ℕ) → is_white_or_line_end p ≡ false → (p == backslash) && begins pipe bs ≡ false
+    → as_read t (p ∷ bs) ≡ p ∷ as_read t bs
 as_read-byte false p bs h k = single-solid p bs h
 as_read-byte true p bs h k = elim (cases_Bool (p == backslash)) [
   | inl e ↦ (let z : begins pipe bs ≡ false = rw e at k in ap single_spaced (cell-kept p bs z) ∙ single-solid p (without_pipe_escapes bs) h)
@@ -245,7 +247,8 @@ as_read-byte true p bs h k = elim (cases_Bool (p == backslash)) [
 ]
 
 -- runs of white space
-pub white_parts : (b : ℕ) (bs : List ℕ) → list_all is_white_or_line_end (b ∷ bs) ≡ true → (is_white_or_line_end b ≡ true) × (list_all is_white_or_line_end bs ≡ true)
+pub white_parts : (b : ℕ) (bs : List ℕ) → list_all is_white_or_line_end (b ∷ bs) ≡ true
+    → (is_white_or_line_end b ≡ true) × (list_all is_white_or_line_end bs ≡ true)
 white_parts b bs h = and_parts _ _ h
 
 pub white_is_ascii : (b : ℕ)
@@ -269,7 +272,8 @@ cell-run (b ∷ u) bs h =
     cell-other b (u ++ bs) (white_is_ascii b p.0).1 ∙ ap (λ xs. b ∷ xs) (cell-run u bs p.1)
 
 cell_first_by : (t : Bool) (b : ℕ) (bs : List ℕ)
-    → (b == backslash) ≡ t → (u : Bool) → begins pipe bs ≡ u → is_white_or_line_end b ≡ false → is_white_or_line_end (slice_index (without_pipe_escapes (b ∷ bs)) 0) ≡ false
+    → (b == backslash) ≡ t → (u : Bool) → begins pipe bs ≡ u → is_white_or_line_end b ≡ false
+    → is_white_or_line_end (slice_index (without_pipe_escapes (b ∷ bs)) 0) ≡ false
 cell_first_by false b bs h u k e = ap (λ xs. is_white_or_line_end (slice_index xs 0)) (cell-other b bs h) ∙ e
 cell_first_by true b bs h true k e = ap (λ xs. is_white_or_line_end (slice_index xs 0)) (cell-dropped b bs h k ∙ pipe_after bs k)
 cell_first_by true b bs h false k e = ap (λ xs. is_white_or_line_end (slice_index xs 0)) (cell-kept b bs k) ∙ e
@@ -279,7 +283,8 @@ cell_first [] e = ap (λ xs. is_white_or_line_end (slice_index xs 0)) cell-nil
 cell_first (b ∷ bs) e = cell_first_by _ b bs refl _ refl e
 
 single-run : (u bs : List ℕ)
-    → list_all is_white_or_line_end u ≡ true → 0 < length u → is_white_or_line_end (slice_index bs 0) ≡ false → single_spaced (u ++ bs) ≡ space ∷ single_spaced bs
+    → list_all is_white_or_line_end u ≡ true → 0 < length u → is_white_or_line_end (slice_index bs 0) ≡ false
+    → single_spaced (u ++ bs) ≡ space ∷ single_spaced bs
 single-run [] bs h l e = absurd (omega arith)
 single-run (b ∷ []) bs h l e = single-last b bs (white_parts b [] h).0 e
 single-run (b ∷ c ∷ u) bs h l e =
@@ -753,7 +758,8 @@ end_stops h t text at l = blank_stops h t text at (ap (λ cs. list_all is_white_
 bracket_left : (h : List ℕ → Option ℕ) (text : List ℕ) (at k : ℕ)
     → at < length text → get_or text at 0 ≡ k → is_white_or_line_end k ≡ false → left_at h text at ≡ (at, k) ∷ left_at h text (at + 1)
 bracket_left h text at k l e s =
-    left-byte h text at l (solid_ends_none (get_or text at 0) (drop (at + 1) text) (ap is_white_or_line_end e ∙ s)) ∙ ap (λ b. (at, b) ∷ left_at h text (at + 1)) e
+    left-byte h text at l (solid_ends_none (get_or text at 0) (drop (at + 1) text) (ap is_white_or_line_end e ∙ s))
+    ∙ ap (λ b. (at, b) ∷ left_at h text (at + 1)) e
 
 open_by : (t : Bool) (known : Known) (at : ℕ) (cs : List (ℕ × ℕ)) → label_after t known ((at, left_bracket) ∷ cs) ≡ None
 unfolding label_after
@@ -808,7 +814,8 @@ all_more (x ∷ xs) b h s = let p = white_parts x xs h in rw p.0 (all_more xs b 
 -- a run of white space, byte by byte
 
 pub run_more : (h : List ℕ → Option ℕ) (text : List ℕ) (at next following n : ℕ)
-    → IsWhiteRun h text at next n → left_at h text next ≡ (next, get_or text next 0) ∷ left_at h text following → is_white_or_line_end (get_or text next 0) ≡ true
+    → IsWhiteRun h text at next n → left_at h text next ≡ (next, get_or text next 0) ∷ left_at h text following
+    → is_white_or_line_end (get_or text next 0) ≡ true
     → IsWhiteRun h text at following (n + 1)
 run_more h text at next following n r e s =
     let one : List (ℕ × ℕ) = (next, get_or text next 0) ∷ [] in

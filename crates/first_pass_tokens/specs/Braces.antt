@@ -47,7 +47,7 @@ after_close b =
     else (if nat_lt 25 (length b.stack) && nat_lt 25 b.next then record { stack = b.stack; next = b.next - 1 }
     else record { stack = take (length b.stack - 1) b.stack; next = b.next })
 
--- the brace contexts after the piece at a place (this project)
+-- the brace contexts after the piece at an offset (this project)
 abbrev pub braces_after : TokenStart → MathBraces → MathBraces
 braces_after (Ready piece) b = b
 braces_after (Reference n c) b = b

@@ -21,12 +21,12 @@ use Rattle.first_pass_tokens.specs.NamedTexts.{MakesPiece}
 abbrev pub ends_cell : Inline → ℕ → Bool
 ends_cell s b = s.row && (has s.options tables && b == pipe)
 
--- the content ends at this place: at a line ending or the end of the text (CommonMark 2.1), or at a pipe that ends a
+-- the content ends at this offset: at a line ending or the end of the text (CommonMark 2.1), or at a pipe that ends a
 -- cell; an escaped pipe is inside a piece (GFM 4.10)
 unfoldable pub content_ends_at : Inline → ℕ → Bool
 content_ends_at s at = nat_le (length s.text) at || (is_line_end (slice_index s.text at) || ends_cell s (slice_index s.text at))
 
--- a place with the brace contexts before it (this project)
+-- an offset with the brace contexts before it (this project)
 pub record Spot : Type 0 where
   pub at : ℕ
   pub braces : MathBraces
@@ -34,7 +34,7 @@ pub record Spot : Type 0 where
 abbrev pub spot : ℕ → MathBraces → Spot
 spot at braces = record { at = at; braces = braces }
 
--- the pieces of a content from one place up to another: each is that at its place, with its text among these; the
+-- the pieces of a content from one offset up to another: each is that at its offset, with its text among these; the
 -- next one follows it, with the brace contexts after it (this project)
 abbrev pub ArePieces : List CowStr → Inline → ℕ → MathBraces → List Piece → Spot → Type 0
 ArePieces texts s at braces [] to = spot at braces ≡ to
@@ -59,7 +59,7 @@ abbrev pub add_pieces : ℕ → ℕ → List Piece → List Item → List Item
 add_pieces stop at [] chain = chain
 add_pieces stop at (p ∷ ps) chain = add_pieces stop (at + size p) ps (add_piece stop at p chain)
 
--- the length of the line ending at a place: 0 at the end of the text, 2 for `\r\n` (CommonMark 2.1)
+-- the length of the line ending at an offset: 0 at the end of the text, 2 for `\r\n` (CommonMark 2.1)
 unfoldable pub line_end_len : Inline → ℕ → ℕ
 line_end_len s end =
     if nat_le (length s.text) end then 0

@@ -39,7 +39,7 @@ NamesAmong texts ix text = (named : CowStr) × (slice_get texts ix.0 ≡ Some na
 abbrev pub IsNamingToken : List CowStr → ℕ → List ℕ → Piece → Type 0
 IsNamingToken texts n text piece = (ix : CowIndex) × NamesAmong texts ix text × (piece ≡ Token 0 n (SynthesizeText ix))
 
--- The piece at a place after these brace contexts, with the text that it names among these. A reference names its
+-- The piece at an offset after these brace contexts, with the text that it names among these. A reference names its
 -- character, a run of hyphens its dashes. A dollar sign is a token of possible math with its context; a brace is
 -- plain text (CommonMark 2.5; smart punctuation and math: this project).
 abbrev pub MakesPiece : List CowStr → MathBraces → TokenStart → Piece → Type 0
@@ -58,7 +58,7 @@ AreMore new old = (more : List CowStr) × (new ≡ old ++ more)
 abbrev pub AddsOne : (CowStr → Type 0) → List CowStr → List CowStr → Type 0
 AddsOne P new old = (text : CowStr) × P text × (new ≡ old ++ text ∷ [])
 
--- these texts are the old ones with that of the piece at a place, if it has one; the character of a reference takes
+-- these texts are the old ones with that of the piece at an offset, if it has one; the character of a reference takes
 -- no memory, nor do seven dashes or fewer (this project)
 abbrev pub AddsNamed : TokenStart → List CowStr → List CowStr → Type 0
 AddsNamed (Ready piece) new old = new ≡ old

@@ -1,4 +1,4 @@
--- The pieces of the content of a line. Places are offsets into the text.
+-- The pieces of the content of a line. Each offset is into the text.
 use Rattle.std.specs.Prelude.{◌≡◌, ℕ, ◌+◌, ◌-◌, ◌==◌, ◌<◌, ◌&&◌, ◌||◌, not, Bool, true, false, List, take, drop, slice_index, length, Option, Some, None}
 use Rattle.std.specs.Prelude.{unwrap_or, nat_lt, if◌then◌else◌}
 use Rattle.std.specs.Option.{option_map_or}
@@ -44,7 +44,7 @@ content_in text c braces = record { options = c.options; whole = c.whole.now; te
 abbrev pub source : Content → MathBraces → Inline
 source c braces = content_in (text_upto c.whole.now c.«end») c braces
 
--- the length of the run of equal bytes at a place (CommonMark 6.1, backtick string)
+-- the length of the run of equal bytes at an offset (CommonMark 6.1, backtick string)
 unfoldable pub run_at : List ℕ → ℕ → ℕ
 run_at text at = prefix_len (λ b. b == slice_index text at) (drop at text)
 
@@ -79,11 +79,11 @@ is_delimiter b = b == asterisk || (b == underscore || (b == tilde || b == circum
 abbrev pub is_quote : ℕ → Bool
 is_quote b = b == quotation_mark || b == apostrophe
 
--- the character before a place of a content, unless the place is its start (this project)
+-- the character before an offset of a content, unless the offset is its start (this project)
 unfoldable pub char_before : Inline → ℕ → Option ℕ
 char_before s at = if nat_lt s.start at then last_char (take at s.whole) else None
 
--- the delimiter run of this many bytes at a place of a content: the character before it is one of the content, the
+-- the delimiter run of this many bytes at an offset of a content: the character before it is one of the content, the
 -- character after it one of the whole text (CommonMark 6.2, delimiter run)
 unfoldable pub run_in : Inline → ℕ → ℕ → DelimiterRun
 run_in s at size = record {
@@ -104,7 +104,7 @@ is_too_long r = r.delimiter == tilde && nat_lt 2 r.size
 abbrev pub run_piece : DelimiterRun → Piece
 run_piece r = if (can_open r || can_close r) && not (is_too_long r) then Run r.size (can_open r) (can_close r) else Left r.size
 
--- the length of the delimiter run at a place: all equal bytes, or one quote (CommonMark 6.2; quotes: this project)
+-- the length of the delimiter run at an offset: all equal bytes, or one quote (CommonMark 6.2; quotes: this project)
 unfoldable pub run_size : List ℕ → ℕ → ℕ
 run_size text at = if is_quote (slice_index text at) then 1 else run_at text at
 
@@ -142,7 +142,7 @@ bracket_piece text at =
     else (if slice_index text at == right_bracket then Token 0 1 (MaybeLinkClose true)
     else Left 1)))
 
--- the byte at a place is `[`, `]`, or `<` with no backslash after it (CommonMark 6.3 to 6.6)
+-- the byte at an offset is `[`, `]`, or `<` with no backslash after it (CommonMark 6.3 to 6.6)
 abbrev pub is_bracket_at : List ℕ → ℕ → Bool
 is_bracket_at text at =
     (slice_index text at == less_than && not (slice_index text (at + 1) == backslash))
@@ -190,7 +190,7 @@ special_found s at =
 abbrev pub IsReadyAt : Inline → ℕ → Piece → Type 0
 IsReadyAt s at piece = special_found s at ≡ Ready piece
 
--- the piece at a place: a byte that is not special is plain text (CommonMark 6.9, textual content)
+-- the piece at an offset: a byte that is not special is plain text (CommonMark 6.9, textual content)
 unfoldable pub found_at : Inline → ℕ → TokenStart
 found_at s at = if is_special s.options (slice_index s.text at) then special_found s at else Ready (Left 1)
 
@@ -201,7 +201,7 @@ size (Begins dropped escaped) = dropped + 1
 size (Token dropped n body) = dropped + n
 size (Run n opens closes) = n
 
--- the number of bytes of the piece found at a place (this project)
+-- the number of bytes of the piece found at an offset (this project)
 abbrev pub found_size : TokenStart → ℕ
 found_size (Ready piece) = size piece
 found_size (Reference n c) = n
@@ -218,7 +218,7 @@ EndsSolid text at (Begins dropped escaped) = (0 < dropped) × (slice_index text 
 EndsSolid text at (Token dropped n body) = 0 < n
 EndsSolid text at (Run n opens closes) = 0 < n
 
--- the same for the piece found at a place (this project)
+-- the same for the piece found at an offset (this project)
 abbrev pub FoundSolid : List ℕ → ℕ → TokenStart → Type 0
 FoundSolid text at (Ready piece) = EndsSolid text at piece
 FoundSolid text at (Reference n c) = 0 < n

@@ -1,4 +1,4 @@
-//! The pieces of the content of a line: the one that begins at a place.
+//! The pieces of the content of a line: the one that begins at an offset.
 
 ghost use Rattle.std.specs.Prelude.{◌≡◌, ◌||◌, ◌+◌, ◌<◌, ◌≤◌, ◌^◌, true, IfSome, is_some, length, slice_index, take, ℕ, List, IsCharBoundary, IsUtf8};
 ghost use Rattle.first_pass_items.specs.Bytes.{ampersand, backslash, backquote, hyphen, full_stop};
@@ -42,7 +42,7 @@ pub enum Piece {
     Run(usize, bool, bool),
 }
 
-/// A piece at a place of a content, or one that `named_piece` completes with the texts that tokens name and the brace
+/// A piece at an offset of a content, or one that `named_piece` completes with the texts that tokens name and the brace
 /// contexts.
 #[derive(Clone, Copy, Drop)]
 pub enum TokenStart {
@@ -279,7 +279,7 @@ fn run_piece(run: &DelimiterRun) -> Piece
     }
 }
 
-// The delimiter run at a place, with the characters beside it.
+// The delimiter run at an offset, with the characters beside it.
 #[inline(always)]
 #[tactic(auto, unfolding(crate::specs::Pieces::run_in))]
 fn run_in(text: &[u8], content: Content<'_>, at: usize) -> DelimiterRun
@@ -303,7 +303,7 @@ fn run_in(text: &[u8], content: Content<'_>, at: usize) -> DelimiterRun
     }
 }
 
-// The length of the delimiter run at a place; a quote is a run of one.
+// The length of the delimiter run at an offset; a quote is a run of one.
 #[tactic(auto, unfolding(crate::specs::Pieces::run_size))]
 fn run_size(text: &[u8], at: usize) -> usize
     requires { at < length text.now }
@@ -354,7 +354,7 @@ fn dot_piece(text: &[u8], at: usize) -> Piece
     }
 }
 
-// The character before a place of a content, unless the place is its start.
+// The character before an offset of a content, unless the offset is its start.
 #[inline(always)]
 #[tactic(auto, unfolding(crate::specs::Pieces::char_before))]
 fn char_before(content: Content<'_>, at: usize) -> Option<char>
@@ -385,7 +385,7 @@ fn bracket_piece(text: &[u8], at: usize) -> Piece
     }
 }
 
-// The length of the run of equal bytes at a place.
+// The length of the run of equal bytes at an offset.
 #[tactic(auto, unfolding(crate::specs::Pieces::run_at))]
 pub(crate) fn run_len(text: &[u8], at: usize) -> usize
     requires { at < length text.now }
@@ -397,7 +397,7 @@ pub(crate) fn run_len(text: &[u8], at: usize) -> usize
     rest_of(text, at).iter().take_while(|b| **b == byte).count()
 }
 
-// The byte at a place; 0 past the end.
+// The byte at an offset; 0 past the end.
 fn byte_at(text: &[u8], at: usize) -> u8
     ensures { result ≡ slice_index text.now at }
 {

@@ -36,7 +36,8 @@ pub returns-clause-reads : goal.returns-clause-reads
 returns-clause-reads g c =
     λ h a. subst (Reads h c.args.in_table c.args.bytes.now c.args.at) (sym c.kept_unit-2.ensures)
     (byte_reads h c.args.in_table c.args.bytes.now c.args.at _ c.requires.within
-    (sym c.is_white_or_line_end.ensures ∙ c.if-is_white_or_line_end.false) c.requires.no_bracket (differs _ backslash c.if-bytes-at-eq92.false) c.begun_characters.ensures)
+    (sym c.is_white_or_line_end.ensures ∙ c.if-is_white_or_line_end.false) c.requires.no_bracket
+    (differs _ backslash c.if-bytes-at-eq92.false) c.begun_characters.ensures)
 
 pub returns-then-plain-gt0-clause-reads : goal.returns-then-plain-gt0-clause-reads
 returns-then-plain-gt0-clause-reads g c =
