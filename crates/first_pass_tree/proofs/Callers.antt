@@ -3,7 +3,7 @@ use Rattle.std.proofs.Common.{◌≡◌, ℕ, ◌+◌, ◌<◌, List, ◌∷◌,
 use Rattle.std.proofs.Common.{arith, append_assoc}
 use Rattle.std.proofs.lemmas.List.{length-append, length-map, map-append, get_or_append_left}
 use Rattle.first_pass_tree.specs.declared.tree_index.TreeIndex.{TreeIndex}
-use Rattle.first_pass_tree.specs.Forest.{Forest, IsChild, depths, open_place, appended, added, at_depth}
+use Rattle.first_pass_tree.specs.Forest.{Forest, IsChild, depths, open_place, appended, added, at_depth, block_of}
 use Rattle.first_pass_tree.proofs.Blocks.{at_depth-append}
 
 abbrev last_place : {T : Type 0} → Forest T → TreeIndex
@@ -40,5 +40,16 @@ pub appended-block : {T : Type 0} (f : Forest T) (x : T) → appended f x ≡ ad
 appended-block f x =
     let z : length f.spine + 1 ≡ length f.spine + 1 + 0 = omega arith in
     ap (λ k. record f { nodes = f.nodes ++ (k, x) ∷ []; current = Some (last_place f) }) z
+
+-- adding an item and then one below it is adding a block that has only both
+pub below-block : {T : Type 0} (f : Forest T) (x y : T)
+    → record (appended f x) { nodes = (appended f x).nodes ++ (length f.spine + 2, y) ∷ [] } ≡ added f (block_of x ((0, y) ∷ []))
+below-block {T = T} f x y =
+    let d = length f.spine + 1 in
+    let z : d ≡ d + 0 = omega arith in
+    let n : length f.spine + 2 ≡ d + (1 + 0) = omega arith in
+    ap (λ (ns : List (ℕ × T)). record f { nodes = ns; current = Some (last_place f) })
+    (append_assoc f.nodes ((d, x) ∷ []) ((length f.spine + 2, y) ∷ []) ∙ ap (λ k. f.nodes ++ (k, x) ∷ (length f.spine + 2, y) ∷ []) z
+    ∙ ap (λ k. f.nodes ++ (d + 0, x) ∷ (k, y) ∷ []) n)
 
 -- a text after a text that ends at its start is joined to it

@@ -38,6 +38,22 @@ pub appended-by : {T : Type 0} (f : Forest T) (x : T) (ns : List (ℕ × T)) (d 
     → n ≡ length f.nodes → record f { nodes = ns; current = Some (record { 0 = n }) } ≡ appended f x
 appended-by f x ns d n h e p q = cc
 
+-- a child of the current node, after all its descendants
+pub below-is : {T : Type 0} (f : Forest T) (c : TreeIndex) (x : T)
+    → f.current ≡ Some c → IsForest f → IsForest (record f { nodes = f.nodes ++ (length f.spine + 2, x) ∷ [] })
+below-is {T = T} f c x q h =
+    let d = length f.spine + 1 in
+    let l = subst (λ (o : Option TreeIndex). IfSome o (λ c. IsLastAt (depths f.nodes) d c.0)) q h.at_current in
+    let opened : Forest T = record f { spine = c ∷ f.spine; current = None } in
+    let p = appended-is opened x (record { preorder = h.preorder; opened = (l, h.opened); at_current = tt }) in
+    let n : length (c ∷ f.spine) + 1 ≡ length f.spine + 2 = omega arith in
+    let o = p.opened in
+    subst (λ (e : ℕ). IsForest (record f { nodes = f.nodes ++ (e, x) ∷ [] })) n (record {
+      preorder = p.preorder;
+      opened = o.1;
+      at_current = subst (λ (k : Option TreeIndex). IfSome k (λ c. IsLastAt (depths (appended opened x).nodes) d c.0)) (sym q) o.0;
+    })
+
 -- a write to one item
 pub modify-set : {T : Type 0} (ns : List (ℕ × T)) (i : ℕ) (n : ℕ × T) (g : T → T) → n ≡ get_or ns i n → set ns i (n.0, g n.1) ≡ modify ns i g
 modify-set [] i n g e = refl

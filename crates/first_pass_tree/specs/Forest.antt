@@ -255,6 +255,10 @@ added f block = record f { nodes = f.nodes ++ at_depth (length f.spine + 1) bloc
 abbrev pub block_of : {T : Type 0} → T → List (ℕ × T) → List (ℕ × T)
 block_of x kids = (0, x) ∷ at_depth 1 kids
 
+-- the block of the text between two offsets, unless it is empty
+abbrev pub text_between : ℕ → ℕ → List (ℕ × Item)
+text_between s e = if nat_lt s e then (0, record { start = s; «end» = e; body = Text false }) ∷ [] else []
+
 -- the node one level less deep
 abbrev pub shallower : {T : Type 0} → ℕ × T → ℕ × T
 shallower n = (n.0 - 1, n.1)

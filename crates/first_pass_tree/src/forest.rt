@@ -1,13 +1,13 @@
 //! The tree as a list of nodes in reading order, with the path of its open nodes.
 
 ghost use Rattle.std.specs.Prelude.{◌≡◌, ◌+◌, ◌<◌, ◌≤◌, ◌∷◌, [], ◌-◌, length, reverse, Some, None, if◌then◌else◌, IfOk, IfSome, OnOk, OnErr, IsSome, MatchOption, slice_get};
-ghost use Rattle.first_pass_tree.specs.Forest.{empty_forest, appended, pushed, popped, cut_to, with_text, with_item, with_end_at, with_body_at, item_at, depths, child_of, sibling_of, kept_after, childless, in_table, wrapped, IsChildOfCurrent, CanMoveFrom, moved_from, moved_out, IsChild, cut_siblings, IsForest, end_of, open_place};
+ghost use Rattle.first_pass_tree.specs.Forest.{empty_forest, appended, pushed, popped, cut_to, with_text, with_item, with_end_at, with_body_at, item_at, depths, child_of, sibling_of, kept_after, childless, in_table, wrapped, IsChildOfCurrent, CanMoveFrom, moved_from, moved_out, IsChild, cut_siblings, IsForest, end_of, open_place, added, block_of, text_between};
 ghost use Rattle.first_pass_tree.specs.Subtrees.{IsSubtree};
 ghost use Rattle.std.specs.Borrow.{sem};
 
 use crate::node_list::{
-    child_in, cut_nodes, deeper_end, first_place, in_table_of, is_single_before, last_child,
-    last_of_depth, lower, sibling_in, wrap,
+    cut_nodes, deeper_end, first_place, in_table_of, is_single_before, last_child, last_of_depth,
+    lower, sibling_in, wrap,
 };
 use crate::subtrees::{Subtree, Subtrees};
 use crate::tree_index::TreeIndex;
@@ -139,6 +139,32 @@ impl Tree<Item> {
             end,
             body: ItemBody::Text { backslash_escaped },
         })?;
+        Ok(())
+    }
+
+    /// Adds a last child to the innermost open node, and makes it current. Its only child is the text of the bytes
+    /// `start..end`; it has none if that range is empty. Fails only if an allocation fails.
+    #[inline(always)]
+    pub fn append_with_text(
+        &mut self,
+        item: Item,
+        start: usize,
+        end: usize,
+    ) -> Result<(), AllocError>
+        ensures { OnOk result (self.new ≡ added self.old (block_of item (text_between start end))) }
+    {
+        self.append(item)?;
+        if end <= start {
+            return Ok(());
+        }
+        let text = Item {
+            start,
+            end,
+            body: ItemBody::Text {
+                backslash_escaped: false,
+            },
+        };
+        self.nodes.push((self.spine.len() + 2, text))?;
         Ok(())
     }
 
@@ -352,7 +378,12 @@ impl Tree<Item> {
         requires { ix.0 < length self.now.nodes }
         ensures { result ≡ child_of (depths self.now.nodes) ix.0 }
     {
-        child_in(&self.nodes, ix.0)
+        let nodes = self.nodes();
+        if ix.0 + 1 < nodes.len() && nodes[ix.0].0 < nodes[ix.0 + 1].0 {
+            Some(TreeIndex(ix.0 + 1))
+        } else {
+            None
+        }
     }
 
     /// Returns the index of the next sibling of the node `ix`, or `None` if it has none.

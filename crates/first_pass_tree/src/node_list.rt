@@ -1,7 +1,7 @@
 //! Operations on the list of nodes in reading order; each node is a pair of its depth and its item.
 
 ghost use Rattle.std.specs.Prelude.{◌≡◌, ℕ, ◌+◌, ◌<◌, ◌≤◌, ◌∷◌, slice_index, ◌++◌, ◌^◌, ◌-◌, length, take, drop, reverse, map, Some, None, EachIndex, if◌then◌else◌, nat_lt, IfSome, OnOk, OnErr, slice_get};
-ghost use Rattle.first_pass_tree.specs.Forest.{depths, child_of, sibling_of, run_end, in_table, shallower, last_before, deeper, map_from, IsShallow, open_place, cut_tokens, is_single_before, IsOpenPath};
+ghost use Rattle.first_pass_tree.specs.Forest.{depths, sibling_of, run_end, in_table, shallower, last_before, deeper, map_from, IsShallow, open_place, cut_tokens, is_single_before, IsOpenPath};
 
 use crate::tree_index::TreeIndex;
 use first_pass_items::item::{Item, ItemBody};
@@ -149,18 +149,6 @@ pub(crate) fn is_single_before(nodes: &[(usize, Item)], first: usize, end: usize
     ensures { result ≡ is_single_before end (drop first nodes.now) }
 {
     first + 1 == nodes.len() && nodes[first].1.start < end && nodes[first].1.end <= end
-}
-
-/// Returns the index of the first child of the node at the index `place`, or `None` if it has no child.
-pub(crate) fn child_in(nodes: &[(usize, Item)], place: usize) -> Option<TreeIndex>
-    requires { place < length nodes.now }
-    ensures { result ≡ child_of (depths nodes.now) place }
-{
-    if place + 1 < nodes.len() && nodes[place].0 < nodes[place + 1].0 {
-        Some(TreeIndex(place + 1))
-    } else {
-        None
-    }
 }
 
 /// Returns the index of the next sibling of the node at the index `place`, or `None` if it has none.
