@@ -10,7 +10,7 @@ use Rattle.first_pass_items.specs.declared.item.Item.{Item}
 use Rattle.first_pass_tree.specs.declared.tree_index.TreeIndex.{TreeIndex}
 use Rattle.first_pass_tree.specs.Forest.{Forest, depths, item_at, modify, modified, appended, pushed, popped, childless, is_text, is_escaped, cut_item}
 use Rattle.first_pass_tree.specs.Forest.{cut_tokens, cut_siblings, last_before, last_child, open_place, HasLeaves, ends_text_at, joins_at, with_end}
-use Rattle.first_pass_tree.specs.Forest.{with_end_at, with_text, at_depth, added, block_of}
+use Rattle.first_pass_tree.specs.Forest.{with_end_at, with_text, at_depth, added, block_of, text_between}
 use Rattle.first_pass_tree.proofs.Blocks.{modify-at, forest-eq, BlockCalls, block-built}
 use Rattle.first_pass_tokens.specs.Chains.{text_token, touches, AreApart, add_token, add_tokens, add_text, cut}
 use Rattle.first_pass_tokens.specs.TreeTokens.{with_token, with_tokens, chained, leaves, JoinsNone}
@@ -22,6 +22,14 @@ add_text-none from to escaped chain none = cond-false _ _ _ (le-ltb from to none
 pub add_text-some : (from to : ℕ) (escaped : Bool) (chain : List Item)
     → from < to → add_text from to escaped chain ≡ add_token chain (text_token from to escaped)
 add_text-some from to escaped chain some = cond-true _ _ _ (lt-ltb from to some)
+
+-- a chain of only a text as nodes
+pub leaves_text : (from to : ℕ) → leaves (add_text from to false []) ≡ text_between from to
+leaves_text from to =
+    elim (cases_lt from to) [
+      | inl some ↦ ap leaves (add_text-some from to false [] some) ∙ sym (cond-true _ _ _ (lt-ltb from to some))
+      | inr none ↦ ap leaves (add_text-none from to false [] none) ∙ sym (cond-false _ _ _ (le-ltb from to none))
+    ]
 
 -- the first token of a chain stays at its place
 add_token-cons : (x z : Item) (zs : List Item) (t u : Item) → add_token (x ∷ add_token (z ∷ zs) t) u ≡ x ∷ add_token (add_token (z ∷ zs) t) u

@@ -22,7 +22,7 @@ use Rattle.first_pass_tokens.specs.declared.pieces.TokenStart.TheVariants.{Ready
 use Rattle.first_pass_tokens.specs.NamedTexts.{MakesPiece, AreMore}
 use Rattle.first_pass_tokens.specs.Pieces.{Inline, found_at, special_found, special_piece, bracket_piece, run_at, size, EndsSolid, FoundSolid}
 use Rattle.first_pass_tokens.specs.LineTokens.{Spot, spot, content_ends_at, ends_cell, ArePieces, add_piece, add_pieces, text_end, breaks_by_backslash, backslashes_at_end}
-use Rattle.first_pass_tokens.specs.LineTokens.{blanks_at_end, line_end_len, line_break}
+use Rattle.first_pass_tokens.specs.LineTokens.{blanks_at_end, line_end_len, line_break, IsCell}
 use Rattle.first_pass_tokens.specs.TreeTokens.{with_tokens, AppendsLine, AppendsCell}
 use Rattle.first_pass_tokens.specs.HeldText.{held_after, tree_after, IsHeldTo}
 use Rattle.first_pass_tokens.proofs.PieceFacts.{IsPieceAt, run_same, IsMarkup, IsDelimiterRun, delimiter_other, markup_plain, visible_solid, off}
@@ -450,6 +450,21 @@ read_cell z old tree new pending end after r new_is = record {
   cell = record { pieces = r.pieces; division = r.division; tokens_are = refl };
   tree_is = new_is ∙ r.appended (end - blanks_at_end z end) r.before_white (omega arith);
 }
+
+-- a cell that is plain text up to its end: that text is its only token
+pub cell_plain : {texts : List CowStr} (z : Inline) (end : ℕ) → z.start ≤ end → end ≤ length z.text → ((k : ℕ) → z.start ≤ k → k < end → IsPlain z k)
+    → content_ends_at z end ≡ true → IsCell texts z (add_text z.start (end - blanks_at_end z end) false []) end z.braces
+cell_plain {texts} z end order within plain ended =
+    let stop = end - blanks_at_end z end in
+    let begun : SoFar texts z [] (record { begin = z.start; escaped = false }) z.start z.braces = so_far_start z (omega arith) in
+    let s = so_far_upto z [] (record { begin = z.start; escaped = false }) z.start end z.braces begun order within plain in
+    let ahead : z.start ≤ stop = (cell_text_end z end within).following z.start s.from s.upto s.begins in
+    let here : min end stop ≡ stop = omega arith in
+    record {
+      pieces = s.pieces;
+      division = record { divided = s.divided; ended = ended };
+      tokens_are = sym (s.shown stop ahead ∙ ap (λ (x : ℕ). add_text z.start x false []) here);
+    }
 
 pub ended_by_text : (z : Inline) → content_ends_at z (length z.text) ≡ true
 unfolding content_ends_at
