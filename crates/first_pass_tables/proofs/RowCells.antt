@@ -1,7 +1,6 @@
 -- The cells of a row, read one after the other.
 use Rattle.std.proofs.Common.{◌≡◌, ℕ, ◌+◌, ◌≤◌, ◌<◌, ◌==◌, ◌&&◌, ◌||◌, Bool, true, false, List, [], ◌∷◌, ◌++◌, length, drop, slice_index, Option, Some, None}
 use Rattle.std.proofs.Common.{is_some, inl, inr, refl, sym, ap, subst, ◌∙◌, arith, append_assoc, if◌then◌else◌}
-use Rattle.std.specs.List.{prefix_len}
 use Rattle.std.proofs.lemmas.Bool.{cases_lt, lt-leb}
 use Rattle.std.proofs.lemmas.List.{append-nil, length-append, at_drop_all, at_drop_more}
 use Rattle.std.proofs.lemmas.Option.{none-some}
@@ -10,7 +9,7 @@ use Rattle.first_pass_items.specs.OptionWords.{has, tables}
 use Rattle.first_pass_items.specs.declared.item.Item.{Item}
 use Rattle.first_pass_tree.specs.Forest.{Forest, at_depth, added}
 use Rattle.first_pass_tree.proofs.Callers.{more-added}
-use Rattle.first_pass_lines.specs.Lines.{is_white, is_line_end, begins, eol_len, at_line_end}
+use Rattle.first_pass_lines.specs.Lines.{is_line_end, begins, eol_len, at_line_end}
 use Rattle.first_pass_tokens.specs.Braces.{MathBraces}
 use Rattle.first_pass_tokens.specs.LineTokens.{Spot, spot, content_ends_at, IsCell}
 use Rattle.first_pass_tokens.proofs.LineLemmas.{cell_ends}
@@ -43,20 +42,17 @@ pub record CellPlace (d : Document) (at : ℕ) : Type 0 where
   pub within : text ≤ length d.text
 
 -- the scanners' findings on a cell: its place, and whether a line ends there
-abbrev pub place_found : (d : Document) (bytes rest : List ℕ) (at cell white : ℕ) → bytes ≡ d.text → cell ≡ cell_start bytes at → rest ≡ drop cell bytes
-    → white ≡ prefix_len is_white rest → at ≤ cell → cell + white ≤ length d.text → CellPlace d at
-place_found d bytes rest at cell white same begins rest_is white_is from within =
-    let here : cell ≡ cell_start d.text at = begins ∙ ap (λ (bs : List ℕ). cell_start bs at) same in
-    record {
-      cell = cell;
-      text = cell + white;
-      cell_is = here;
-      text_is = ap (λ (k : ℕ). cell + k) (white_is ∙ ap (prefix_len is_white) (rest_is ∙ ap (drop cell) same))
-          ∙ ap (λ (k : ℕ). k + prefix_len is_white (drop k d.text)) here;
-      from = from;
-      order = omega arith;
-      within = within;
-    }
+abbrev pub place_found : (d : Document) (bytes : List ℕ) (at cell text : ℕ) → bytes ≡ d.text → cell ≡ cell_start bytes at → text ≡ cell_text bytes at
+    → (at ≤ cell) × (cell ≤ text) → text ≤ length bytes → CellPlace d at
+place_found d bytes at cell text same begins content order within = record {
+  cell = cell;
+  text = text;
+  cell_is = begins ∙ ap (λ (bs : List ℕ). cell_start bs at) same;
+  text_is = content ∙ ap (λ (bs : List ℕ). cell_text bs at) same;
+  from = order.0;
+  order = order.1;
+  within = omega (arith, within, ap length same);
+}
 
 pub end_found : (text bytes rest : List ℕ) (at : ℕ) (found : Option ℕ)
     → bytes ≡ text → rest ≡ drop at bytes → found ≡ eol_len rest → eol_len (drop at text) ≡ found

@@ -6,11 +6,11 @@ ghost use Rattle.first_pass_tokens.specs.LineTokens.{spot};
 ghost use Rattle.first_pass_tokens.specs.TreeTokens.{chained};
 ghost use Rattle.first_pass_names.specs.TableEntries.{names_of, AddsTexts, NamesMore};
 ghost use Rattle.first_pass_grammar.specs.Leaves.{document};
-ghost use Rattle.first_pass_grammar.specs.Tables.{cell_start};
+ghost use Rattle.first_pass_grammar.specs.Tables.{cell_start, cell_text};
 ghost use Rattle.first_pass_tables.specs.Appends.{AddsCell, empty_cell, without_after};
 
 use first_pass_items::item::{Item, ItemBody};
-use first_pass_lines::lines::begins;
+use first_pass_lines::lines::{begins, scan_whitespace_no_nl};
 use first_pass_lines::places::rest_of;
 use first_pass_names::items::Allocations;
 use first_pass_open::open_block::{close_block, open_block};
@@ -40,6 +40,23 @@ pub fn cell_start(bytes: &[u8], at: usize) -> usize
 pub struct CellStart {
     pub at: usize,
     pub content: usize,
+}
+
+/// The starts of the cell at the offset `at` into `bytes` and of its content, which is after the white space there
+/// (GFM 4.10).
+#[inline(always)]
+pub fn cell_at(bytes: &[u8], at: usize) -> CellStart
+    requires { at ≤ length bytes.now }
+    ensures begins { result.at ≡ cell_start bytes.now at }
+    ensures content { result.content ≡ cell_text bytes.now at }
+    ensures within { result.content ≤ length bytes.now }
+    ensures order { (at ≤ result.at) × (result.at ≤ result.content) }
+{
+    let cell = cell_start(bytes, at);
+    CellStart {
+        at: cell,
+        content: cell + scan_whitespace_no_nl(rest_of(bytes, cell)),
+    }
 }
 
 /// Appends a cell with its tokens to the innermost open node, and returns the offset at which it ends. Adds the texts

@@ -10,9 +10,9 @@ ghost use Rattle.first_pass_open.specs.Between.{AddsBetween};
 ghost use Rattle.first_pass_tables.specs.Appends.{AppendsCells, AddsHead, IsOpenNode, open_table, ReadsRow};
 ghost use Rattle.first_pass_tables.specs.Reading.{AppendsSome};
 
-use crate::cells::{CellStart, append_table_cell, cell_start, drop_beyond, fill_row};
+use crate::cells::{append_table_cell, cell_at, drop_beyond, fill_row};
 use first_pass_items::item::{Item, ItemBody};
-use first_pass_lines::lines::{scan_eol, scan_whitespace_no_nl};
+use first_pass_lines::lines::scan_eol;
 use first_pass_lines::places::rest_of;
 use first_pass_names::items::Allocations;
 use first_pass_open::open_block::{close_block, open_block};
@@ -72,28 +72,25 @@ fn append_some_cells(
     let bytes = source.text.as_bytes();
     let mut at = wanted.start;
     let mut count = 0;
-    while count < wanted.most {
-        let cell = cell_start(bytes, at);
-        let text = cell + scan_whitespace_no_nl(rest_of(bytes, cell));
-        if let Some(eol) = scan_eol(rest_of(bytes, text)) {
+    'cells: loop {
+        let start = cell_at(bytes, at);
+        if let Some(eol) = scan_eol(rest_of(bytes, start.content)) {
             return Ok(CellsRead {
-                at: text + eol,
+                at: start.content + eol,
                 count,
                 ended: true,
             });
         }
-        let start = CellStart {
-            at: cell,
-            content: text,
-        };
+        if count == wanted.most {
+            return Ok(CellsRead {
+                at,
+                count,
+                ended: false,
+            });
+        }
         at = append_table_cell(source, tree, allocs, braces, start)?;
         count += 1;
     }
-    Ok(CellsRead {
-        at,
-        count,
-        ended: false,
-    })
 }
 
 // Appends the wanted cells of a row to the innermost open node, which was just opened. Returns the end of the row and

@@ -7,8 +7,8 @@ use Rattle.first_pass_names.proofs.NameLemmas.{extends_texts, texts_none, texts_
 use Rattle.first_pass_tables.proofs.RowCells.{none_read, place_found, end_found, cell_read, all_read}
 use Rattle.first_pass_tables.proofs.row.append_some_cells.Goals as goal
 
-pub loop-count-init : goal.loop-count-init
-loop-count-init c =
+pub cells-init : goal.cells-init
+cells-init c =
     record {
       read = none_read (document c.args.source.now.text.now c.args.source.now.options (names_of c.args.allocs.now)) (spot c.args.wanted.start c.args.braces.now)
           c.args.tree.now c.requires.within;
@@ -20,25 +20,21 @@ loop-count-init c =
 pub returns-in-Some-clause-cells : goal.returns-in-Some-clause-cells
 returns-in-Some-clause-cells c =
     let text = c.args.source.now.text.now in
-    let d = document text c.args.source.now.options (names_of c.loop-count.allocs) in
+    let d = document text c.args.source.now.options (names_of c.cells.allocs) in
     let bytes = c.as_bytes-bytes.result.now in
-    let at = c.loop-count.at in
-    let cell = c.cell_start-cell.result in
-    let from = cell + c.scan_whitespace_no_nl.result in
+    let at = c.cells.at in
+    let start = c.cell_at-start.result in
+    let place = c.cell_at-start.ensures in
     let same = c.as_bytes-bytes.ensures.value in
-    let size : length bytes ≡ length text = ap length same in
-    let white = c.scan_whitespace_no_nl.ensures.within in
-    let whole = c.rest_of-in-loop-count.ensures.whole in
-    let order : at ≤ cell = c.cell_start-cell.ensures.order in
     let eol = c.in-Some.ensures.within in
+    let whole = c.rest_of.ensures.whole in
+    let size : length bytes ≡ length text = ap length same in
     record {
-      node_bound = c.loop-count.invariant.node_bound;
-      all = λ ended. all_read d (spot c.args.wanted.start c.args.braces.now) (spot at c.loop-count.braces) c.loop-count.count
-          (place_found d bytes c.rest_of.result.now at cell c.scan_whitespace_no_nl.result same c.cell_start-cell.ensures.value c.rest_of.ensures.value
-          c.scan_whitespace_no_nl.ensures.value order (omega arith))
-          c.in-Some.eol c.args.tree.now c.loop-count.tree c.loop-count.invariant.read (omega arith)
-          (end_found text bytes c.rest_of-in-loop-count.result.now from c.scan_eol.result same c.rest_of-in-loop-count.ensures.value c.scan_eol.ensures.value
-          ∙ c.in-Some.is);
+      node_bound = c.cells.invariant.node_bound;
+      all = λ ended. all_read d (spot c.args.wanted.start c.args.braces.now) (spot at c.cells.braces) c.cells.count
+          (place_found d bytes at start.at start.content same place.begins place.content place.order place.within)
+          c.in-Some.eol c.args.tree.now c.cells.tree c.cells.invariant.read (omega arith)
+          (end_found text bytes c.rest_of.result.now start.content c.scan_eol.result same c.rest_of.ensures.value c.scan_eol.ensures.value ∙ c.in-Some.is);
       first = λ ended. cc;
     }
 
@@ -48,53 +44,47 @@ one_read : (c : goal.In_ok-at)
     (spot c.args.wanted.start c.args.braces.now)
     c.args.tree.now c.append_table_cell.new.tree
     (spot c.in_ok-at.at c.append_table_cell.new.braces)
-    (c.loop-count.count + 1)
-    × (c.loop-count.at < c.in_ok-at.at)
+    (c.cells.count + 1)
+    × (c.cells.at < c.in_ok-at.at)
 one_read c =
     let text = c.args.source.now.text.now in
     let d = document text c.args.source.now.options (names_of c.append_table_cell.new.allocs) in
     let bytes = c.as_bytes-bytes.result.now in
-    let at = c.loop-count.at in
-    let cell = c.cell_start-cell.result in
-    let from = cell + c.scan_whitespace_no_nl.result in
+    let at = c.cells.at in
+    let start = c.cell_at-start.result in
+    let place = c.cell_at-start.ensures in
     let same = c.as_bytes-bytes.ensures.value in
-    let size : length bytes ≡ length text = ap length same in
-    let whole = c.rest_of-in-loop-count.ensures.whole in
-    cell_read d (spot c.args.wanted.start c.args.braces.now) (spot at c.loop-count.braces) c.loop-count.count
-    (place_found d bytes c.rest_of.result.now at cell c.scan_whitespace_no_nl.result same c.cell_start-cell.ensures.value c.rest_of.ensures.value
-    c.scan_whitespace_no_nl.ensures.value c.cell_start-cell.ensures.order (omega arith))
-    (spot c.in_ok-at.at c.append_table_cell.new.braces) c.args.tree.now c.loop-count.tree c.append_table_cell.new.tree
-    (record { before = names_of c.loop-count.allocs; grown = c.in_ok-at.ensures.more.names; far = c.loop-count.invariant.read })
-    (end_found text bytes c.rest_of-in-loop-count.result.now from c.scan_eol.result same c.rest_of-in-loop-count.ensures.value c.scan_eol.ensures.value
-    ∙ c.in_default.is)
+    cell_read d (spot c.args.wanted.start c.args.braces.now) (spot at c.cells.braces) c.cells.count
+    (place_found d bytes at start.at start.content same place.begins place.content place.order place.within)
+    (spot c.in_ok-at.at c.append_table_cell.new.braces) c.args.tree.now c.cells.tree c.append_table_cell.new.tree
+    (record { before = names_of c.cells.allocs; grown = c.in_ok-at.ensures.more.names; far = c.cells.invariant.read })
+    (end_found text bytes c.rest_of.result.now start.content c.scan_eol.result same c.rest_of.ensures.value c.scan_eol.ensures.value ∙ c.in_default.is)
     c.in_ok-at.ensures.cell
 
-pub loop-count-smaller : goal.loop-count-smaller
-loop-count-smaller c =
+pub cells-smaller : goal.cells-smaller
+cells-smaller c =
     let read = one_read c in
     let within : c.in_ok-at.at ≤ length c.args.source.now.text.now = read.0.within in
-    let later : c.loop-count.at < c.in_ok-at.at = read.1 in
+    let later : c.cells.at < c.in_ok-at.at = read.1 in
     omega arith
 
-pub loop-count-preserved : goal.loop-count-preserved
-loop-count-preserved c =
-    let test = c.loop-count-test.true in
-    record {
-      read = (one_read c).0;
-      node_bound = omega arith;
-      grown = texts_both (names_of c.append_table_cell.new.allocs) (names_of c.loop-count.allocs) (names_of c.args.allocs.now) c.in_ok-at.ensures.texts
-          c.loop-count.invariant.grown;
-      entries = c.in_ok-at.ensures.more.entries ∙ c.loop-count.invariant.entries;
-    }
+pub cells-preserved : goal.cells-preserved
+cells-preserved c = record {
+  read = (one_read c).0;
+  node_bound = omega arith;
+  grown = texts_both (names_of c.append_table_cell.new.allocs) (names_of c.cells.allocs) (names_of c.args.allocs.now) c.in_ok-at.ensures.texts
+      c.cells.invariant.grown;
+  entries = c.in_ok-at.ensures.more.entries ∙ c.cells.invariant.entries;
+}
 
 pub returns-in-Some-clause-more : goal.returns-in-Some-clause-more
 returns-in-Some-clause-more c = record {
-  names = extends_texts (names_of c.loop-count.allocs) (names_of c.args.allocs.now) c.loop-count.invariant.grown;
-  entries = c.loop-count.invariant.entries;
+  names = extends_texts (names_of c.cells.allocs) (names_of c.args.allocs.now) c.cells.invariant.grown;
+  entries = c.cells.invariant.entries;
 }
 
-pub returns-clause-more : goal.returns-clause-more
-returns-clause-more c = record {
-  names = extends_texts (names_of c.loop-count.allocs) (names_of c.args.allocs.now) c.loop-count.invariant.grown;
-  entries = c.loop-count.invariant.entries;
+pub returns-then-count-wanted-clause-more : goal.returns-then-count-wanted-clause-more
+returns-then-count-wanted-clause-more c = record {
+  names = extends_texts (names_of c.cells.allocs) (names_of c.args.allocs.now) c.cells.invariant.grown;
+  entries = c.cells.invariant.entries;
 }

@@ -6,8 +6,8 @@ use Rattle.first_pass_tables.specs.Reading.{AreAppended}
 use Rattle.first_pass_tables.proofs.row.append_some_cells.Given as goal
 
 -- the cells up to here are appended
-abbrev pub invariant-loop-count : goal.invariant-loop-count
-invariant-loop-count l = record {
+abbrev pub invariant-cells : goal.invariant-cells
+invariant-cells l = record {
   read : AreAppended (document l.source.text.now l.source.options (names_of l.allocs)) (spot l.wanted.start l.initial.braces) l.initial.tree l.tree
       (spot l.at l.braces) l.count;
   node_bound : l.count ≤ l.wanted.most;
@@ -15,5 +15,5 @@ invariant-loop-count l = record {
   entries : entries l.allocs ≡ entries l.initial.allocs;
 }
 
-abbrev pub decreases-loop-count : goal.decreases-loop-count
-decreases-loop-count l = length l.source.text.now - l.at
+abbrev pub decreases-cells : goal.decreases-cells
+decreases-cells l = length l.source.text.now - l.at
