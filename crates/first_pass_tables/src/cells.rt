@@ -16,6 +16,7 @@ use first_pass_names::items::Allocations;
 use first_pass_open::open_block::{close_block, open_block};
 use first_pass_open::source::Source;
 use first_pass_tokens::braces::BraceContexts;
+use first_pass_tokens::line::scan_plain_cell;
 use first_pass_tokens::pieces::Content;
 use first_pass_tree::forest::Tree;
 use first_pass_tree::tree_index::TreeIndex;
@@ -62,7 +63,45 @@ pub fn cell_at(bytes: &[u8], at: usize) -> CellStart
 /// Appends a cell with its tokens to the innermost open node, and returns the offset at which it ends. Adds the texts
 /// that tokens name to `allocs`. `braces`, the brace contexts before the cell, become those after it. Fails only if an
 /// allocation fails (GFM 4.10).
+#[inline(always)]
 pub fn append_table_cell(
+    source: &Source<'_>,
+    tree: &mut Tree<Item>,
+    allocs: &mut Allocations<'_>,
+    braces: &mut BraceContexts,
+    cell: CellStart,
+) -> Result<usize, AllocError>
+    requires within { cell.content ≤ length source.now.text.now }
+    ensures cell { IfOk result (λ stop.
+        AddsCell (document source.now.text.now source.now.options (names_of allocs.new)) cell.at
+        (spot cell.content braces.old) tree.old tree.new (spot stop braces.new)) }
+    ensures more { OnOk result (NamesMore allocs.old allocs.new) }
+    ensures texts { OnOk result (AddsTexts (names_of allocs.new) (names_of allocs.old)) }
+{
+    let content = Content {
+        options: source.options,
+        whole: source.text,
+        special: &source.special,
+        start: cell.content,
+        end: None,
+        row: true,
+    };
+    // Most cells are plain text.
+    if let Some(plain) = scan_plain_cell(content) {
+        let item = Item {
+            start: cell.at,
+            end: plain.end,
+            body: ItemBody::TableCell,
+        };
+        tree.append_with_text(item, cell.content, plain.text_end)?;
+        return Ok(plain.end);
+    }
+    append_tokens_cell(source, tree, allocs, braces, cell)
+}
+
+// The same, for a cell with any tokens.
+#[inline(never)]
+fn append_tokens_cell(
     source: &Source<'_>,
     tree: &mut Tree<Item>,
     allocs: &mut Allocations<'_>,

@@ -1,33 +1,29 @@
-use Rattle.std.proofs.Common.{length, refl, ap, ◌∙◌}
+use Rattle.std.proofs.Common.{ap, ◌∙◌, refl, sym, List, [], ℕ, false}
 use Rattle.first_pass_items.specs.declared.item.Item.{Item}
 use Rattle.first_pass_items.specs.declared.item.ItemBody.TheVariants.{TableCell}
-use Rattle.first_pass_tree.specs.Forest.{Forest}
-use Rattle.first_pass_tokens.specs.TreeTokens.{chained}
-use Rattle.first_pass_tokens.proofs.ChainLemmas.{joins_none-fresh}
-use Rattle.first_pass_tokens.proofs.LineLemmas.{only_appended_cell}
-use Rattle.first_pass_open.specs.OpenBlock.{begun_item}
-use Rattle.first_pass_open.proofs.BlockLemmas.{still_open, block_closed}
+use Rattle.first_pass_tree.specs.Forest.{added, block_of}
+use Rattle.first_pass_names.specs.TableEntries.{names_of}
+use Rattle.first_pass_tokens.specs.Chains.{add_text}
+use Rattle.first_pass_tokens.proofs.ChainLemmas.{leaves_text}
+use Rattle.first_pass_names.proofs.NameLemmas.{extends_texts, texts_none}
 use Rattle.first_pass_tables.proofs.cells.append_table_cell.Goals as goal
 
-pub close_block-requires : goal.close_block-requires
-close_block-requires c =
-    let g = c.args.tree.now in
-    let opened = c.in_ok-open_block.ensures.tree in
-    let cell = c.in_ok-end.ensures.cell in
-    let filled =
-    only_appended_cell cell (joins_none-fresh c.open_block.new.tree (ap (λ (f : Forest Item). f.current) opened)) ∙ ap (λ v. chained v cell.tokens) opened in
-    still_open g c.append_cell.new.tree (begun_item c.args.cell.at TableCell) cell.tokens (record { 0 = length g.nodes }) refl filled
-
-pub returns-clause-cell : goal.returns-clause-cell
-returns-clause-cell c =
-    let g = c.args.tree.now in
-    let opened = c.in_ok-open_block.ensures.tree in
-    let cell = c.in_ok-end.ensures.cell in
-    let filled =
-    only_appended_cell cell (joins_none-fresh c.open_block.new.tree (ap (λ (f : Forest Item). f.current) opened)) ∙ ap (λ v. chained v cell.tokens) opened in
+pub returns-in-Some-clause-cell : goal.returns-in-Some-clause-cell
+returns-in-Some-clause-cell c =
+    let from = c.args.cell.content in
+    let to = c.in-Some.plain.text_end in
+    let item : Item = record { start = c.args.cell.at; «end» = c.in-Some.plain.«end»; body = TableCell } in
     record {
-      tokens = cell.tokens;
-      cell = cell.cell;
-      tree_is = block_closed g c.append_cell.new.tree (begun_item c.args.cell.at TableCell) cell.tokens (record { 0 = length g.nodes }) refl filled
-          c.close_block.new.tree c.in_ok-end.end c.close_block.ensures.tree;
+      tokens = add_text from to false [];
+      cell = c.in-Some.ensures (names_of c.args.allocs.now).texts c.args.braces.now;
+      tree_is = c.in_ok-append_with_text.ensures ∙ ap (λ (kids : List (ℕ × Item)). added c.args.tree.now (block_of item kids)) (sym (leaves_text from to));
     }
+
+pub returns-in-Some-clause-texts : goal.returns-in-Some-clause-texts
+returns-in-Some-clause-texts c = texts_none (names_of c.args.allocs.now)
+
+pub returns-in-Some-clause-more : goal.returns-in-Some-clause-more
+returns-in-Some-clause-more c = record {
+  names = extends_texts (names_of c.args.allocs.now) (names_of c.args.allocs.now) (texts_none (names_of c.args.allocs.now));
+  entries = refl;
+}
