@@ -18,7 +18,7 @@ use Rattle.first_pass_grammar.specs.RawLines.{Ranges, IsRawLine, AreRawLines}
 use Rattle.first_pass_grammar.specs.Extents.{Extent, with_line, extent_to, Verdict, extent_by, extent, judged, in_containers}
 use Rattle.first_pass_grammar.specs.Completion.{lines_from}
 use Rattle.first_pass_raw.specs.declared.raw_line.RawKind.{RawKind}
-use Rattle.first_pass_raw.specs.RawBlocks.{range_of, said, AppendsRaw, AppendsLines, after_line_at}
+use Rattle.first_pass_raw.specs.RawBlocks.{range_of, said, AppendsRaw, AppendsLines, after_line_at, extent_from}
 use Rattle.first_pass_open.specs.Path.{path_of, container_of, with_container, has_quote_after}
 use Rattle.first_pass_items.specs.declared.item.ItemBody.{ItemBody}
 use Rattle.first_pass_open.specs.OpenBlock.{begun_item, opened_block, closed_by}
@@ -148,10 +148,6 @@ within_line at from next r e f = omega arith
 -- no lines remain
 pub none_left : (text : List ℕ) (at : ℕ) → length text ≤ at → lines_from text at ≡ []
 none_left text at past = lines_at-end text at past
-
--- the rest of the lines of a block from an offset on
-abbrev pub extent_from : List ℕ → List Container → (Place → Place → Verdict) → ℕ → Extent
-extent_from text path judge at = extent (in_containers path judge) (length text) (lines_from text at)
 
 extent_none : (judge : Place → Verdict) (n : ℕ) → extent judge n [] ≡ extent_to n []
 unfolding extent

@@ -35,9 +35,9 @@ use Rattle.first_pass_names.proofs.NameLemmas.{extends_none, extends_both}
 use Rattle.first_pass_open.specs.OpenBlock.{closed_by, opened_block}
 use Rattle.first_pass_open.specs.Path.{path_of}
 use Rattle.first_pass_open.proofs.PathLemmas.{AreIn}
-use Rattle.first_pass_raw.specs.RawBlocks.{IsPlaceAt, AppendsRaw, AppendsLines, AddsRaw, after_line_at, html_to_end, html_to_blank}
+use Rattle.first_pass_raw.specs.RawBlocks.{IsPlaceAt, AppendsRaw, AppendsLines, AddsRaw, after_line_at, extent_from, html_to_end, html_to_blank}
 use Rattle.first_pass_raw.proofs.IndentedLemmas.{first_at, first_is}
-use Rattle.first_pass_raw.proofs.ExtentLemmas.{LinesSoFar, Filled, lines_start, lines_more, lines_end, lines_path, opened_path, extent_from, block_open, block_done}
+use Rattle.first_pass_raw.proofs.ExtentLemmas.{LinesSoFar, Filled, lines_start, lines_more, lines_end, lines_path, opened_path, block_open, block_done}
 
 -- a text at the start of bytes is part of them
 begun : (text bs : List ℕ) → Decides (begins_with text bs) ((b : List ℕ) × (bs ≡ text ++ b))

@@ -12,7 +12,7 @@ use Rattle.first_pass_grammar.specs.Names.{Names, Extends}
 use Rattle.first_pass_grammar.specs.Leaves.{Document, document}
 use Rattle.first_pass_grammar.specs.RawLines.{AreColumns, Ranges, range_text, range_html, IsRawLine, AreRawLines}
 use Rattle.first_pass_grammar.specs.CodeBlocks.{code_lines, last_is_blank, IsIndentedCode, fenced_lines, metadata_lines}
-use Rattle.first_pass_grammar.specs.Extents.{Extent, Verdict}
+use Rattle.first_pass_grammar.specs.Extents.{Extent, Verdict, extent, in_containers}
 use Rattle.first_pass_grammar.specs.Extents as Judged
 use Rattle.first_pass_raw.specs.declared.raw_line.RawKind.{RawKind}
 use Rattle.first_pass_raw.specs.declared.raw_line.RawKind.TheVariants.{Code, Html}
@@ -87,6 +87,10 @@ pub record AppendsLines (range : Ranges) (d : Document) (e : Extent) (old new : 
   pub lines : (more : Names) → Extends more d.names → AreRawLines range (document d.text d.options more) [] e.places chain
   pub end_is : «end» ≡ e.«end»
   pub left_is : lines_from d.text next ≡ e.left
+
+-- the rest of the lines of a block from an offset on
+abbrev pub extent_from : List ℕ → List Container → (Place → Place → Verdict) → ℕ → Extent
+extent_from text path judge at = extent (in_containers path judge) (length text) (lines_from text at)
 
 -- A block is appended as a last child of the innermost open node. A relation holds for its items, also if more is
 -- named later. The lines from an offset on remain.

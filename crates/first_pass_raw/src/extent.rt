@@ -1,15 +1,14 @@
 //! The lines of a raw leaf block: those up to the first that ends it (CommonMark 4.5, 4.6).
 
-ghost use Rattle.std.specs.Prelude.{◌≡◌, ◌≤◌, length, drop, IfOk, OnOk, IsCharBoundary};
+ghost use Rattle.std.specs.Prelude.{◌≡◌, ◌≤◌, drop, IfOk, OnOk, IsCharBoundary};
 ghost use Rattle.first_pass_lines.specs.Places.{Place, place_at, line_place, line_end, IsPlaceOf};
 ghost use Rattle.first_pass_tokens.specs.TreeTokens.{JoinsNone};
 ghost use Rattle.first_pass_grammar.specs.Leaves.{document};
-ghost use Rattle.first_pass_grammar.specs.Completion.{lines_from};
-ghost use Rattle.first_pass_grammar.specs.Extents.{Verdict as Judgement, extent, in_containers};
+ghost use Rattle.first_pass_grammar.specs.Extents.{Verdict as Judgement};
 ghost use Rattle.first_pass_open.specs.Path.{path_of};
 ghost use Rattle.first_pass_names.specs.TableEntries.{names_of, NamesMore};
 ghost use Rattle.first_pass_raw.specs.declared.raw_line.RawKind.{RawKind};
-ghost use Rattle.first_pass_raw.specs.RawBlocks.{range_of, said, AppendsLines};
+ghost use Rattle.first_pass_raw.specs.RawBlocks.{range_of, said, extent_from, AppendsLines};
 
 use crate::raw_line::{RawKind, RawLine, append_raw_line};
 use crate::verdict::Verdict;
@@ -68,14 +67,12 @@ pub fn read_lines<'a, J: JudgesLines>(
     requires apart { JoinsNone tree.old }
     ensures lines { IfOk result (λ lines. AppendsLines (range_of (J.kinds judge.now))
         (document source.now.text.now source.now.options (names_of allocs.new))
-        (extent (in_containers (path_of source.now.options tree.old) (J.judges judge.now)) (length source.now.text.now)
-        (lines_from source.now.text.now start))
+        (extent_from source.now.text.now (path_of source.now.options tree.old) (J.judges judge.now) start)
         tree.old tree.new lines.«end» lines.next) }
     ensures boundary { IfOk result (λ lines. (start ≤ lines.next) × IsCharBoundary source.now.text.now lines.next) }
     ensures more { OnOk result (NamesMore allocs.old allocs.new) }
 {
     tree.recall_forest();
-    let kind = judge.kind();
     let nodes_to_quote = nodes_to_quote(tree);
     let mut ix = start;
     while ix < source.text.len() {
@@ -90,12 +87,7 @@ pub fn read_lines<'a, J: JudgesLines>(
         if let Verdict::Closes(end) = verdict {
             return Ok(BlockLines { end, next });
         }
-        let line = RawLine {
-            kind,
-            owed: line_start.remaining_space(),
-            start: ix + line_start.bytes_scanned(),
-            end: next,
-        };
+        let line = RawLine::from_place(judge.kind(), ix, &line_start, next);
         append_raw_line(tree, allocs, source.text, line)?;
         if let Verdict::IsLast = verdict {
             return Ok(BlockLines { end: next, next });

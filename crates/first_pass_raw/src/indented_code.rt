@@ -3,7 +3,7 @@
 ghost use Rattle.std.specs.Prelude.{◌≡◌, ◌≤◌, length, drop, Some, false, if◌then◌else◌, IfOk, OnOk, IfSome};
 ghost use Rattle.std.specs.Prelude.{IsCharBoundary, IsUtf8};
 ghost use Rattle.first_pass_tree.specs.Forest.{IsChild, kept_after, with_end_at};
-ghost use Rattle.first_pass_lines.specs.Places.{Place, place_at, offset, IsPlaceOf};
+ghost use Rattle.first_pass_lines.specs.Places.{Place, place_at, IsPlaceOf};
 ghost use Rattle.first_pass_grammar.specs.Leaves.{document};
 ghost use Rattle.first_pass_grammar.specs.RawLines.{range_text};
 ghost use Rattle.first_pass_open.specs.Path.{path_of, has_quote_after};

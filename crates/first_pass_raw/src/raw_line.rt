@@ -1,6 +1,7 @@
 //! Raw lines: the lines of code, metadata and HTML, in which no markup is read (CommonMark 4.4, 4.5, 4.6).
 
 ghost use Rattle.std.specs.Prelude.{◌≡◌, ◌≤◌, length, OnOk};
+ghost use Rattle.first_pass_lines.specs.Places.{offset, place_at};
 ghost use Rattle.first_pass_grammar.specs.RawLines.{ends_with_both};
 ghost use Rattle.first_pass_tokens.specs.TreeTokens.{with_tokens};
 ghost use Rattle.first_pass_names.specs.TableEntries.{names_of, NamesMore};
@@ -9,6 +10,7 @@ ghost use Rattle.first_pass_raw.specs.RawBlocks.{range_of, AppendsColumns, Appen
 use first_pass_items::cow_str::CowStr;
 use first_pass_items::item::{Item, ItemBody};
 use first_pass_names::items::Allocations;
+use first_pass_scan::line_start::LineStart;
 use first_pass_tree::forest::Tree;
 use std::alloc::AllocError;
 
@@ -63,6 +65,33 @@ pub struct RawLine {
     pub start: usize,
     /// The end of its bytes, after its line ending if it has one.
     pub end: usize,
+}
+
+impl RawLine {
+    /// Returns the raw line of a kind from a place on up to `end`. The place is in the line that begins at `start`.
+    #[inline(always)]
+    pub fn from_place(
+        kind: RawKind,
+        start: usize,
+        line_start: &LineStart<'_>,
+        end: usize,
+    ) -> RawLine
+        requires { offset (place_at start line_start.now) ≤ end }
+        ensures line { result ≡ record {
+          kind = kind;
+          owed = line_start.now.owed;
+          start = offset (place_at start line_start.now);
+          «end» = end;
+        } }
+        ensures small { result.owed ≤ 3 }
+    {
+        RawLine {
+            kind,
+            owed: line_start.remaining_space(),
+            start: start + line_start.bytes_scanned(),
+            end,
+        }
+    }
 }
 
 // Appends a range of the bytes of a raw line.

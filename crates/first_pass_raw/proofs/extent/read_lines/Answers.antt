@@ -1,12 +1,12 @@
-use Rattle.std.proofs.Common.{◌+◌, refl, sym, ap, ◌∙◌, arith}
+use Rattle.std.proofs.Common.{refl, sym, ap, ◌∙◌, arith}
 use Rattle.first_pass_lines.specs.Places.{place_at}
 use Rattle.first_pass_grammar.specs.Leaves.{document}
 use Rattle.first_pass_open.specs.Path.{path_of}
 use Rattle.first_pass_names.specs.TableEntries.{names_of}
 use Rattle.first_pass_open.proofs.PathLemmas.{open_are_in}
 use Rattle.first_pass_names.proofs.NameLemmas.{extends_none, extends_both}
-use Rattle.first_pass_raw.specs.RawBlocks.{range_of}
-use Rattle.first_pass_raw.proofs.ExtentLemmas.{LineAppended, LineJudged, IsLineAt, lines_start, line_read, after_path, within_line, extent_from, goes_by, read_end, read_left, read_stops}
+use Rattle.first_pass_raw.specs.RawBlocks.{range_of, extent_from}
+use Rattle.first_pass_raw.proofs.ExtentLemmas.{LineAppended, LineJudged, IsLineAt, lines_start, line_read, after_path, within_line, goes_by, read_end, read_left, read_stops}
 use Rattle.first_pass_raw.proofs.ExtentLemmas.{read_closes, read_last, read_more, line_as, lines_quotes}
 use Rattle.first_pass_raw.proofs.extent.read_lines.Goals as goal
 use Rattle.first_pass_raw.proofs.extent.read_lines.Goals.{After-next_line-next, After-judge-verdict, In_ok-append_raw_line}
@@ -81,9 +81,14 @@ returns-in-Closes g c =
       more = record { names = c.loop-ix.invariant.names; entries = c.loop-ix.invariant.same_entries };
     }
 
+pub from_place-line-requires : goal.from_place-line-requires
+from_place-line-requires g c =
+    within_line c.loop-ix.ix _ _ c.judge-verdict.new.line_start refl (sym c.judge-verdict.ensures.next)
+
 pub append_raw_line-requires-clause-order : goal.append_raw_line-requires-clause-order
 append_raw_line-requires-clause-order g c =
-    within_line c.loop-ix.ix _ _ c.judge-verdict.new.line_start (ap (λ n. c.loop-ix.ix + n) c.bytes_scanned.ensures) (sym c.judge-verdict.ensures.next)
+    within_line c.loop-ix.ix _ _ c.judge-verdict.new.line_start (ap (λ l. l.start) c.from_place-line.ensures.line)
+    (sym (ap (λ l. l.«end») c.from_place-line.ensures.line ∙ c.judge-verdict.ensures.next))
 
 -- the line is appended
 abbrev appended : (g : _) (c : In_ok-append_raw_line g) → LineAppended (range_of (g.J.JudgesLines.kinds c.args.judge.now))
@@ -92,15 +97,16 @@ abbrev appended : (g : _) (c : In_ok-append_raw_line g) → LineAppended (range_
 appended g c = record {
   new = c.append_raw_line.new.tree;
   named = names_of c.append_raw_line.new.allocs;
-  owed = c.remaining_space.result;
-  from = c.loop-ix.ix + c.bytes_scanned.result;
-  to = c.next_line-next.result;
+  owed = c.from_place-line.result.owed;
+  from = c.from_place-line.result.start;
+  to = c.from_place-line.result.«end»;
   extends = c.in_ok-append_raw_line.ensures.more.names;
-  line = line_as c.args.source.now.text.now (names_of c.append_raw_line.new.allocs) c.kind-kind.result
-      (g.J.JudgesLines.kinds c.args.judge.now) _ _ _ c.loop-ix.tree c.append_raw_line.new.tree c.kind-kind.ensures c.in_ok-append_raw_line.ensures.line;
-  owed_is = c.remaining_space.ensures.value;
-  from_is = ap (λ n. c.loop-ix.ix + n) c.bytes_scanned.ensures;
-  to_is = c.judge-verdict.ensures.next;
+  line = line_as c.args.source.now.text.now (names_of c.append_raw_line.new.allocs) c.from_place-line.result.kind
+      (g.J.JudgesLines.kinds c.args.judge.now) _ _ _ c.loop-ix.tree c.append_raw_line.new.tree
+      (ap (λ l. l.kind) c.from_place-line.ensures.line ∙ c.kind.ensures) c.in_ok-append_raw_line.ensures.line;
+  owed_is = ap (λ l. l.owed) c.from_place-line.ensures.line;
+  from_is = ap (λ l. l.start) c.from_place-line.ensures.line;
+  to_is = ap (λ l. l.«end») c.from_place-line.ensures.line ∙ c.judge-verdict.ensures.next;
 }
 
 pub returns-in-IsLast : goal.returns-in-IsLast
