@@ -1,5 +1,5 @@
 -- The JSON lines of a tree and its tables: one object a line (this project).
-use Rattle.std.specs.Prelude.{ℕ, List, ◌++◌, codes}
+use Rattle.std.specs.Prelude.{ℕ, List, ◌++◌, Option, codes}
 use Rattle.std.specs.List.{flat_map}
 use Rattle.first_pass_items.specs.declared.item.Item.{Item}
 use Rattle.first_pass_grammar.specs.Names.{Names}
@@ -21,12 +21,13 @@ node_members node = codes "\"kind\":" ++ word (kind_name node.1.body) ++ codes "
 abbrev pub node_line : Names → ℕ × Item → List ℕ
 node_line names node = codes "{" ++ node_members node ++ block_members names node.1.body ++ token_members names node.1.body ++ codes "}\n"
 
--- the members of a link definition: its label as it is spelled, its destination, and its title or `null`
--- (CommonMark 4.7)
+-- the members of a link definition's destination, and of its title, which is `null` if there is none (CommonMark 4.7)
+unfoldable pub target_members : List ℕ → Option (List ℕ) → List ℕ
+target_members dest title = codes ",\"destination\":" ++ json_string dest ++ codes ",\"title\":" ++ text_or_null title
+
+-- the members of a link definition: its label as it is spelled, and those of its destination and title
 unfoldable pub link_members : LinkEntry → List ℕ
-link_members link =
-    codes "\"definition\":" ++ json_string link.label ++ codes ",\"destination\":" ++ json_string link.dest
-    ++ codes ",\"title\":" ++ text_or_null link.title
+link_members link = codes "\"definition\":" ++ json_string link.label ++ target_members link.dest link.title
 
 -- the line of a link definition: its own members, and its range
 abbrev pub definition_line : LinkEntry → List ℕ

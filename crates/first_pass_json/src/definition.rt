@@ -4,7 +4,7 @@ ghost use Rattle.std.specs.Option.{option_map};
 ghost use Rattle.std.specs.Prelude.{◌≡◌, ◌++◌, OnOk, codes};
 ghost use Rattle.first_pass_items.specs.CowText.{text_of};
 ghost use Rattle.first_pass_names.specs.TableEntries.{link_entry};
-ghost use Rattle.first_pass_json.specs.JsonLines.{definition_line, footnote_line, link_members};
+ghost use Rattle.first_pass_json.specs.JsonLines.{definition_line, footnote_line, link_members, target_members};
 ghost use Rattle.first_pass_json.specs.JsonValues.{text_or_null};
 
 use crate::node::append_range;
@@ -32,6 +32,7 @@ pub fn append_definition(
 }
 
 /// Appends the label, the destination and the title of a link definition.
+#[tactic(auto, unfolding(crate::specs::JsonLines::link_members))]
 fn append_link(
     line: &mut Vec<u8>,
     label: &LabelKey<'_>,
@@ -40,6 +41,15 @@ fn append_link(
     ensures { OnOk result (line.new.items ≡ line.old.items ++ link_members (link_entry (label.now, definition.now))) }
 {
     append_string_after(line, b"\"definition\":", label.label())?;
+    append_target(line, definition)
+}
+
+/// Appends the destination and the title of a link definition.
+#[tactic(auto, unfolding(crate::specs::JsonLines::target_members))]
+fn append_target(line: &mut Vec<u8>, definition: &LinkDef<'_>) -> Result<(), AllocError>
+    ensures { OnOk result (line.new.items ≡ line.old.items
+        ++ target_members (text_of definition.now.dest) (option_map text_of definition.now.title)) }
+{
     append_string_after(line, b",\"destination\":", definition.dest.deref())?;
     append_title(line, &definition.title)
 }
