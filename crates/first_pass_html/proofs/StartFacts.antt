@@ -1,5 +1,5 @@
 -- Facts on the tests of the start conditions 1 to 6 of HTML blocks.
-use Rattle.std.proofs.Common.{◌≡◌, ◌↔◌, ℕ, IsTrue, List, ◌∷◌, take, drop, refl, sym}
+use Rattle.std.proofs.Common.{◌↔◌, ℕ, IsTrue, List, take, drop, refl, sym}
 use Rattle.std.specs.List.{prefix_len}
 use Rattle.std.specs.Char.{is_ascii_alphanumeric}
 use Rattle.std.proofs.lemmas.Bool.{and_parts, and_from}

@@ -10,7 +10,7 @@ use Rattle.first_pass_items.specs.declared.item.Alignment.{Alignment}
 use Rattle.first_pass_lines.specs.Lines.{begins, line_len}
 use Rattle.first_pass_lines.specs.Plain.{begins_inert, is_inert}
 use Rattle.first_pass_lines.specs.Places.{line_rest}
-use Rattle.first_pass_lines.specs.Rest.{Rest, after_columns, indent}
+use Rattle.first_pass_lines.specs.Rest.{Rest, after_columns}
 use Rattle.first_pass_scan.proofs.PlainFacts.{inert_after, inert_indent}
 use Rattle.first_pass_table_scan.specs.TableHead.{is_pipe, delimiter_row_of, head_columns}
 use Rattle.first_pass_table_scan.proofs.DelimiterRows.{row_of-refused, row_of-some}

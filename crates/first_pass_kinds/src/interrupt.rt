@@ -5,7 +5,7 @@ ghost use Rattle.first_pass_items.specs.Bytes.{space, colon};
 ghost use Rattle.first_pass_items.specs.OptionWords.{has, definition_list};
 ghost use Rattle.first_pass_lines.specs.Lines.{begins, at_line_end};
 ghost use Rattle.first_pass_lines.specs.Plain.{begins_plain};
-ghost use Rattle.first_pass_lines.specs.Places.{line_rest, place_at, offset, IsPlaceOf};
+ghost use Rattle.first_pass_lines.specs.Places.{line_rest, place_at, IsPlaceOf};
 ghost use Rattle.first_pass_lines.specs.Rest.{indent};
 ghost use Rattle.first_pass_scan.specs.LeafLines.{setext_underline};
 ghost use Rattle.first_pass_scan.specs.Markers.{is_bullet, bullet_marker, listitem};

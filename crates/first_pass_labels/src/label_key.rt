@@ -1,8 +1,7 @@
 //! A label as the key of a table.
 
-ghost use Rattle.std.specs.Prelude.{◌≡◌, Some, IfOk, nat_eq, refl};
+ghost use Rattle.std.specs.Prelude.{◌≡◌, Some, IfOk, refl};
 ghost use Rattle.std.proofs.Common.{rules};
-ghost use Rattle.std.specs.Ordering.{nat_cmp};
 ghost use Rattle.std.specs.Hash as fed;
 ghost use Rattle.std.specs.Cmp.{on_equiv, on_total, on_po, on_per, partial_equiv_from_equiv};
 ghost use Rattle.std.specs.Cmp.Lexicographic.{nat_list_eq_equiv, nat_list_cmp_total, texts_ties, texts_po};

@@ -1,6 +1,6 @@
 //! Link labels (CommonMark 6.3).
 
-ghost use Rattle.std.specs.Prelude.{◌≡◌, ◌≢◌, ◌+◌, ◌-◌, ◌<◌, ◌≤◌, ◌++◌, ◌∷◌, [], ℕ, List, Option, true, false, not, None, Some, length, take, drop, slice_index, nat_lt, IfOk, IfSome, IsUtf8, OnOk, OnErr, IsSomeAnd, MatchOption, if◌then◌else◌};
+ghost use Rattle.std.specs.Prelude.{◌≡◌, ◌≢◌, ◌+◌, ◌-◌, ◌<◌, ◌≤◌, ◌++◌, ◌∷◌, [], ℕ, List, Option, true, false, not, None, Some, length, take, drop, slice_index, IfOk, IfSome, IsUtf8, OnErr, IsSomeAnd, MatchOption, if◌then◌else◌};
 ghost use Rattle.std.specs.List.{list_any, count_by};
 ghost use Rattle.std.specs.String.{string_bytes};
 ghost use Rattle.std.specs.Str.{IsCharBoundary};

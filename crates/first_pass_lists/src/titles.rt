@@ -2,8 +2,8 @@
 //! all later children move out of it (this project).
 
 ghost use Rattle.std.specs.Prelude.{◌≡◌, ◌<◌, ◌≤◌, length, Some};
-ghost use Rattle.first_pass_tree.specs.Forest.{body_at, depths, last_before};
-ghost use Rattle.first_pass_lists.specs.Titles.{first_other, fixed_up, is_title_or_definition, is_possible_title, left_untitled};
+ghost use Rattle.first_pass_tree.specs.Forest.{depths, last_before};
+ghost use Rattle.first_pass_lists.specs.Titles.{first_other, fixed_up, is_title_or_definition, left_untitled};
 
 use first_pass_items::item::{Item, ItemBody};
 use first_pass_tree::forest::Tree;

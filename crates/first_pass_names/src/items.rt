@@ -2,9 +2,8 @@
 
 ghost use Rattle.std.specs.Option.{option_map};
 ghost use Rattle.first_pass_attributes.specs.Attributes.{attributes_in};
-ghost use Rattle.std.specs.Prelude.{◌≡◌, ◌<◌, ◌∷◌, ◌++◌, [], length, slice_get, None, Ok, Some, IfOk, IsSomeAnd, MatchOption, OnOk, OnErr, false};
+ghost use Rattle.std.specs.Prelude.{◌≡◌, ◌<◌, ◌∷◌, [], length, slice_get, None, Ok, Some, IfOk, IsSomeAnd, MatchOption, OnOk, OnErr, false};
 ghost use Rattle.first_pass_links.specs.Labels.{label_at};
-ghost use Rattle.first_pass_grammar.specs.Names.{NamesText, Extends};
 ghost use Rattle.first_pass_items.specs.CowText.{text_of};
 ghost use Rattle.first_pass_names.specs.TableEntries.{entries, with_definition, IsCopy, AddsFootnote, tables_of, names_of, no_names, with_named, with_alignments, with_heading, link_entry, link_at as link_at_of, refdefs_of, footdefs_of};
 ghost use Rattle.first_pass_grammar.specs.Names.{text_named, alignments_named};

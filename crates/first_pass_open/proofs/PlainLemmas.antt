@@ -1,6 +1,6 @@
 -- If a plain or an inert byte is next (`is_plain`, `is_inert`), there is no indentation. No list item or block quote
 -- begins there.
-use Rattle.std.proofs.Common.{◌≡◌, ℕ, min, true, false, Bool, List, [], ◌∷◌, Option, Some, None, refl, sym, ap, ◌∙◌, if◌then◌else◌}
+use Rattle.std.proofs.Common.{◌≡◌, min, true, false, Bool, List, [], ◌∷◌, Option, Some, None, refl, sym, ap, ◌∙◌, if◌then◌else◌}
 use Rattle.std.specs.Option.{option_and_then}
 use Rattle.std.proofs.lemmas.Option.{none-some}
 use Rattle.first_pass_items.specs.declared.item.BlockQuoteKind.{BlockQuoteKind}

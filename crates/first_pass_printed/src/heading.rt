@@ -3,7 +3,7 @@
 ghost use Rattle.std.specs.Prelude.{◌≡◌, ◌++◌, OnOk, map};
 ghost use Rattle.std.specs.Option.{option_map};
 ghost use Rattle.first_pass_attributes.specs.Attributes.{attributes_in, pair_in};
-ghost use Rattle.first_pass_printed.specs.HeadingValues.{attribute_values, class_value, class_values, heading_values, id_value, key_value, key_values, value_after_key};
+ghost use Rattle.first_pass_printed.specs.HeadingValues.{attribute_values, class_values, heading_values, id_value, key_value, key_values, value_after_key};
 ghost use Rattle.first_pass_printed.specs.Printed.{visible};
 
 use crate::node::{append_number, append_visible};

@@ -1,9 +1,7 @@
 //! The lines of link definitions, footnote definitions and references.
 
 ghost use Rattle.std.specs.Prelude.{◌≡◌, ◌++◌, OnOk};
-ghost use Rattle.std.specs.List.{flat_map};
-ghost use Rattle.std.specs.Option.{option_to_list};
-ghost use Rattle.first_pass_names.specs.TableEntries.{link_entry, names_of, tables_of};
+ghost use Rattle.first_pass_names.specs.TableEntries.{link_entry, names_of};
 ghost use Rattle.first_pass_references.specs.Lines.{definition_line, footnote_line, reference_line};
 ghost use Rattle.first_pass_references.specs.References.{reference_at, reference_of};
 

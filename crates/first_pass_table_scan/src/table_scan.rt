@@ -1,7 +1,7 @@
 //! The delimiter row of a table, and the number of columns of its header row (GFM 4.10).
 
 ghost use Rattle.std.specs.List.{prefix_len, suffix_len, position_or_len};
-ghost use Rattle.std.specs.Prelude.{◌≡◌, ◌≤◌, ◌<◌, ◌+◌, ◌-◌, ◌==◌, true, slice_index, length, take, drop, IfOk, if◌then◌else◌};
+ghost use Rattle.std.specs.Prelude.{◌≡◌, ◌≤◌, ◌<◌, ◌+◌, ◌-◌, ◌==◌, true, length, take, drop, IfOk, if◌then◌else◌};
 ghost use Rattle.std.specs.Option.{option_map};
 ghost use Rattle.first_pass_items.specs.Bytes.{pipe};
 ghost use Rattle.first_pass_lines.specs.Lines.{begins, is_space_or_tab, is_white, ends as ends_with};

@@ -1,6 +1,6 @@
 //! The texts that tokens name: those of references (CommonMark 2.5), and of runs of four and more hyphens.
 
-ghost use Rattle.std.specs.Prelude.{◌≡◌, ◌+◌, ◌*◌, [], ◌∷◌, ◌++◌, ◌≤◌, ◌^◌, ◌<◌, encode_utf8, IfOk, OnOk};
+ghost use Rattle.std.specs.Prelude.{◌≡◌, ◌+◌, ◌*◌, [], ◌∷◌, ◌++◌, ◌≤◌, encode_utf8, IfOk, OnOk};
 ghost use Rattle.std.specs.String.{string_bytes};
 ghost use Rattle.first_pass_items.specs.CowText.{text_of};
 ghost use Rattle.first_pass_entities.specs.Texts.{TakesNoMemory};

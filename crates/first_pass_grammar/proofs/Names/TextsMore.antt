@@ -1,5 +1,5 @@
 -- What is read under some names is read the same under names that extend them.
-use Rattle.std.proofs.Common.{◌≡◌, inl, inr, ℕ, List, ◌∷◌, Option, []}
+use Rattle.std.proofs.Common.{inl, inr, ℕ, List, ◌∷◌, Option, []}
 use Rattle.first_pass_items.specs.declared.item.Item.{Item}
 use Rattle.first_pass_items.specs.declared.option_set.Options.{Options}
 use Rattle.first_pass_lines.specs.Places.{Place, offset}

@@ -2,7 +2,7 @@
 -- limited.
 use Rattle.std.proofs.Common.{◌≡◌, inl, inr, ℕ, zero, suc, ◌+◌, ◌-◌, ◌<◌, ◌≤◌, ◌==◌, nat_lt, nat_le, Bool, true, false, List, ◌∷◌, ◌++◌, length, map, take}
 use Rattle.std.proofs.Common.{[]}
-use Rattle.std.proofs.Common.{drop, replicate, refl, sym, ap, ◌∙◌, arith, if◌then◌else◌}
+use Rattle.std.proofs.Common.{drop, replicate, refl, sym, ap, ◌∙◌, arith}
 use Rattle.std.proofs.lemmas.Bool.{cases_lt, and_parts, eq-eqb, ne_eqb, leb-true, true≢false}
 use Rattle.std.proofs.lemmas.List.{append_assoc, append-nil, map-append, at_drop_all}
 use Rattle.first_pass_items.specs.declared.item.Alignment.{Alignment}

@@ -7,7 +7,7 @@ use Rattle.first_pass_links.specs.Labels.{label_at, CanErr}
 use Rattle.first_pass_links.proofs.Footnotes.{IsAnswer, after_mark, further, no_mark, no_label, head_by, after_colon}
 use Rattle.first_pass_links.proofs.Rewritten.{on_err}
 use Rattle.first_pass_links.proofs.footnote.scan_footnote_head.Goals as goal
-use Rattle.first_pass_links.proofs.footnote.scan_footnote_head.Goals.{Else-not-begins_footnote_mark, In_default, After-begins}
+use Rattle.first_pass_links.proofs.footnote.scan_footnote_head.Goals.{Else-not-begins_footnote_mark, After-begins}
 
 pub returns-then-not-begins_footnote_mark-clause-value : goal.returns-then-not-begins_footnote_mark-clause-value
 returns-then-not-begins_footnote_mark-clause-value g c = λ prefix a.

@@ -11,7 +11,7 @@ use Rattle.first_pass_links.proofs.Labels.{closing_bracket}
 use Rattle.first_pass_links.proofs.Rewritten.{on_err, track_none, track_unit, track_written, track_stop}
 use Rattle.first_pass_links.proofs.label.scan_link_label_rest.Goals as goal
 use Rattle.first_pass_links.proofs.label.scan_link_label_rest.Goals.{then-at-bytes-via-then-at-bytes, then-at-bytes-via-else-at-bytes+then-bytes-at-eq91}
-use Rattle.first_pass_links.proofs.label.scan_link_label_rest.Goals.{then-loop-at-test+else-not-is_bracket, else-loop-at-test, Else-at-bytes}
+use Rattle.first_pass_links.proofs.label.scan_link_label_rest.Goals.{then-loop-at-test+else-not-is_bracket, else-loop-at-test}
 
 pub scan_unit-requires-clause-places : goal.scan_unit-requires-clause-places
 scan_unit-requires-clause-places g c =
