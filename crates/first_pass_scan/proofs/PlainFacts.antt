@@ -1,16 +1,17 @@
 -- With a plain byte no line ending, marker, thematic break, ATX heading or code fence begins. With an inert byte no
 -- column, block quote or list item begins.
-use Rattle.std.proofs.Common.{◌≡◌, inl, inr, ℕ, zero, suc, if◌then◌else◌, ◌+◌, ◌==◌, ◌||◌, not, Bool, true, false, true≢false, List, [], ◌∷◌}
+use Rattle.std.proofs.Common.{◌≡◌, inl, inr, ℕ, if◌then◌else◌, ◌+◌, ◌==◌, ◌||◌, not, Bool, true, false, true≢false, List, [], ◌∷◌}
 use Rattle.std.proofs.Common.{None, refl, sym, ap, ◌∙◌, arith}
 use Rattle.std.proofs.lemmas.Bool.{cases_eq, ne_eqb}
 use Rattle.std.proofs.lemmas.Bool.Decides.{nat_tests}
 use Rattle.std.specs.Char.{is_ascii_digit}
 use Rattle.first_pass_items.specs.Bytes.{tab, line_feed, line_tabulation, form_feed, carriage_return, space, number_sign, asterisk, plus_sign, hyphen}
 use Rattle.first_pass_items.specs.Bytes.{greater_than, underscore, backquote, tilde}
-use Rattle.first_pass_lines.specs.Rest.{Rest, column_of_byte, next_column, columns_of, after_columns, indent, past_quote_byte, past_quote}
+use Rattle.first_pass_lines.specs.Rest.{Rest, column_of_byte, columns_of, after_columns, indent, past_quote_byte, past_quote}
 use Rattle.first_pass_lines.specs.Lines.{is_white, begins, eol_len, blank_len, atx_level}
 use Rattle.first_pass_scan.specs.LeafLines.{hrule_len, code_fence}
 use Rattle.first_pass_scan.specs.Markers.{content_indent, item_by, list_marker, listitem, item_of}
+use Rattle.first_pass_lines.proofs.Columns.{after-none}
 use Rattle.first_pass_lines.specs.Plain.{is_plain, begins_plain, is_inert, begins_inert}
 
 -- a byte that passes a test differs from a byte that fails it
@@ -95,13 +96,9 @@ unfolding is_inert
 inert_byte r [] h = refl
 inert_byte r (b ∷ bs) h = rw (isnt is_inert b space h refl) (rw (isnt is_inert b tab h refl) refl)
 
-after_none : (k : ℕ) (r : Rest) → next_column r ≡ None → after_columns k r ≡ r
-after_none zero r e = refl
-after_none (suc k) r e = rw e refl
-
 -- so taking columns changes nothing
 pub inert_after : (k : ℕ) (r : Rest) → r.owed ≡ 0 → begins_inert r.left ≡ true → after_columns k r ≡ r
-inert_after k r o h = after_none k r (rw o (inert_byte r r.left h))
+inert_after k r o h = after-none k r (rw o (inert_byte r r.left h))
 
 pub plain_indent : (r : Rest) → r.owed ≡ 0 → begins_plain r.left ≡ true → indent r ≡ 0
 plain_indent r o h = inert_indent r o (begins_both r.left h)

@@ -110,7 +110,7 @@ row_refused b bs blank p h k f =
     if_none (nat_le (columns_of bs 0) 3 && list_any is_pipe row) (delimiter_cells (without_last pipe inner))
     (cells-refused-at b (without_last pipe inner) blank h k (last_or_not b inner (ends pipe inner) inner_front))
 
-either_no : (s t : Bool) → (s || t) ≡ false → (s ≡ false) × (t ≡ false)
+pub either_no : (s t : Bool) → (s || t) ≡ false → (s ≡ false) × (t ≡ false)
 either_no false false h = (refl, refl)
 either_no false true h = absurd cc
 either_no true t h = absurd cc

@@ -9,6 +9,7 @@ use Rattle.std.proofs.lemmas.List.Folds.{length-prefix_len}
 use Rattle.first_pass_items.specs.Bytes.{backslash}
 use Rattle.first_pass_lines.specs.Lines.{is_content, line_len}
 use Rattle.first_pass_table_scan.specs.TableHead.{is_pipe, pipes_after, pipes_of, last_pipe_after, header_columns, columns_by_pipes, head_columns}
+use Rattle.first_pass_table_scan.proofs.DelimiterRows.{either_no}
 
 -- the offset after the last pipe of a row: of the bytes from an offset on, or the one found before
 abbrev pub end_past : ℕ → ℕ → ℕ → List ℕ → ℕ
@@ -124,34 +125,24 @@ pub open_at : (row : List ℕ) (at : ℕ)
     → is_open_at row at ≡ (is_pipe (get_or row at 0) && not (nat_lt 0 at && slice_index row (at - 1) == backslash))
 open_at row at = ap (λ t. is_pipe (get_or row at 0) && not t) (sym (backslash_if (nat_lt 0 at) (slice_index row (at - 1))))
 
--- a row with one more byte, which is a pipe that counts, or not
-pub step-open : (row : List ℕ) (i pipes end : ℕ) → i < length row → is_open_at row i ≡ true → IsCounted row i pipes end
-    → IsCounted row (i + 1) (pipes + 1) (i + 1)
-step-open row i pipes end l t old =
-    let x : ℕ = get_or row i 0 in
-    let b : ℕ = byte_before row i in
-    let one = one_if (is_open_at row i) t in
-    let counted = pipes-at row i b x l refl in
-    let past = byte_past row i in
-    let left = ap (λ (y : ℕ). pipes_after y (drop (i + 1) row)) past in
-    record {
-      pipes_left = omega (arith, old.pipes_left);
-      ending = ap (λ (y : ℕ). end_past (i + 1) (i + 1) y (drop (i + 1) row)) past
-          ∙ sym (ap (λ u. end_past (i + 1) (if u then i + 1 else end) x (drop (i + 1) row)) t) ∙ sym (ending-at row i end b x l refl) ∙ old.ending;
-    }
+count_if : (t : Bool) (n : ℕ) → (if t then n + 1 else n) ≡ n + (if t then 1 else 0)
+count_if true n = refl
+count_if false n = omega arith
 
-pub step-other : (row : List ℕ) (i pipes end : ℕ) → i < length row → is_open_at row i ≡ false → IsCounted row i pipes end → IsCounted row (i + 1) pipes end
-step-other row i pipes end l t old =
+-- a row with one more byte, which is a pipe that counts, or not
+pub step : (row : List ℕ) (i pipes end : ℕ) (t : Bool) → i < length row → is_open_at row i ≡ t → IsCounted row i pipes end
+    → IsCounted row (i + 1) (if t then pipes + 1 else pipes) (if t then i + 1 else end)
+step row i pipes end t l is old =
     let x : ℕ = get_or row i 0 in
     let b : ℕ = byte_before row i in
-    let none = none_if (is_open_at row i) t in
+    let one = count_if t pipes ∙ ap (λ u. pipes + (if u then 1 else 0)) (sym is) in
     let counted = pipes-at row i b x l refl in
     let past = byte_past row i in
     let left = ap (λ (y : ℕ). pipes_after y (drop (i + 1) row)) past in
     record {
       pipes_left = omega (arith, old.pipes_left);
-      ending = ap (λ (y : ℕ). end_past (i + 1) end y (drop (i + 1) row)) past
-          ∙ sym (ap (λ u. end_past (i + 1) (if u then i + 1 else end) x (drop (i + 1) row)) t) ∙ sym (ending-at row i end b x l refl) ∙ old.ending;
+      ending = ap (λ (y : ℕ). end_past (i + 1) (if t then i + 1 else end) y (drop (i + 1) row)) past
+          ∙ sym (ap (λ u. end_past (i + 1) (if u then i + 1 else end) x (drop (i + 1) row)) is) ∙ sym (ending-at row i end b x l refl) ∙ old.ending;
     }
 
 pub pipes-first : (row : List ℕ) (i : ℕ) → i < length row → is_open_at row i ≡ true → 1 ≤ pipes_after (byte_before row i) (drop i row)
@@ -195,10 +186,6 @@ unfolding head_columns
 head-some bs n h = ap (λ o. option_map_or (header_columns bs) o 0) h
 
 -- bytes without a pipe have no last pipe, and part of them has none
-either_no : (s t : Bool) → (s || t) ≡ false → (s ≡ false) × (t ≡ false)
-either_no false t h = (refl, h)
-either_no true t h = absurd cc
-
 last-unpiped : (b : ℕ) (bs : List ℕ) → list_any is_pipe bs ≡ false → last_pipe_after b bs ≡ None
 last-unpiped b [] h = refl
 last-unpiped b (c ∷ cs) h =

@@ -1,5 +1,5 @@
-use Rattle.std.proofs.Common.{ℕ, List, refl, sym, ◌∙◌, arith}
-use Rattle.first_pass_table_scan.proofs.HeaderRows.{byte_before, open_at, pipes-first, step-open, step-other, pipes-end, ending-end}
+use Rattle.std.proofs.Common.{ℕ, true, false, List, refl, sym, ◌∙◌, arith}
+use Rattle.first_pass_table_scan.proofs.HeaderRows.{byte_before, open_at, pipes-first, step, pipes-end, ending-end}
 use Rattle.first_pass_table_scan.proofs.TableFacts.{pipes-fit}
 use Rattle.first_pass_table_scan.proofs.table_start.count_pipes.Goals as goal
 use Rattle.first_pass_table_scan.proofs.table_start.count_pipes.Goals.{then-is_open_pipe, else-is_open_pipe}
@@ -25,9 +25,9 @@ loop-at-preserved c =
     let is = open_at row old.at ∙ sym c.is_open_pipe.ensures in
     elim c.if-is_open_pipe.branch [
       | then-is_open_pipe w ↦
-          record { counted = rw (w.pipes-is, w.end-is) (step-open row old.at old.pipes old.end l (is ∙ w.if-is_open_pipe.true) old.invariant.counted) }
+          record { counted = rw (w.pipes-is, w.end-is) (step row old.at old.pipes old.end true l (is ∙ w.if-is_open_pipe.true) old.invariant.counted) }
       | else-is_open_pipe w ↦
-          record { counted = rw (w.pipes-is, w.end-is) (step-other row old.at old.pipes old.end l (is ∙ w.if-is_open_pipe.false) old.invariant.counted) }
+          record { counted = rw (w.pipes-is, w.end-is) (step row old.at old.pipes old.end false l (is ∙ w.if-is_open_pipe.false) old.invariant.counted) }
     ]
 
 pub overflow_add-pipes : goal.overflow_add-pipes
