@@ -1,6 +1,6 @@
 //! The attribute block at the end of a heading's text (this project).
 
-ghost use Rattle.std.specs.Prelude.{◌≡◌, ◌≤◌, ◌<◌, ◌+◌, ◌-◌, List, length, slice_get, IfOk, IfSome, OnOk, Some, None, if◌then◌else◌};
+ghost use Rattle.std.specs.Prelude.{◌≡◌, ◌≤◌, ◌+◌, ◌-◌, List, length, slice_get, IfOk, IfSome, OnOk, Some, None, if◌then◌else◌};
 ghost use Rattle.std.specs.List.{slice_range, suffix_len};
 ghost use Rattle.first_pass_lines.specs.Lines.{is_white};
 ghost use Rattle.std.specs.Option.{option_map};

@@ -7,10 +7,11 @@ ghost use Rattle.first_pass_grammar.specs.Texts.{by_backslash};
 ghost use Rattle.first_pass_grammar.specs.Leaves.{document};
 ghost use Rattle.first_pass_tree.specs.Forest.{is_text};
 ghost use Rattle.first_pass_text.specs.Appends.{AppendsLines, AddsPlainText, with_closed_break};
+ghost use Rattle.first_pass_text.specs.LineBreaks.{break_item};
 ghost use Rattle.first_pass_open.specs.Between.{AddsBetween, MarkerIsInItem, MarkerBetween};
 
 use crate::attributes::{Underlined, make_heading};
-use crate::line_break::{break_item, held_break};
+use crate::line_break::{LineBreak, break_item, held_break};
 use first_pass_items::item::{HeadingLevel, Item, ItemBody};
 use first_pass_kinds::interrupt::{NextLine, scan_next_line};
 use first_pass_lines::places::next_line;
@@ -62,6 +63,18 @@ struct TextEnd {
     next: usize,
     line_break: Option<Item>,
     underline: Option<HeadingLevel>,
+}
+
+// The end of paragraph text before the line at `next`, with the break after its last line.
+#[inline(always)]
+fn text_end(next: usize, held: Option<LineBreak>, underline: Option<HeadingLevel>) -> TextEnd
+    ensures { result ≡ record { next = next; line_break = break_item held; underline = underline } }
+{
+    TextEnd {
+        next,
+        line_break: break_item(held),
+        underline,
+    }
 }
 
 /// Appends a paragraph or a setext heading to the innermost open node. Its text begins at the offset `start_ix` into
@@ -141,20 +154,8 @@ fn append_text_lines<'a>(
                 append_item(tree, break_item(held))?;
                 ix = at;
             }
-            NextLine::Underline(level) => {
-                return Ok(TextEnd {
-                    next,
-                    line_break: break_item(held),
-                    underline: Some(level),
-                });
-            }
-            NextLine::NotText => {
-                return Ok(TextEnd {
-                    next,
-                    line_break: break_item(held),
-                    underline: None,
-                });
-            }
+            NextLine::Underline(level) => return Ok(text_end(next, held, Some(level))),
+            NextLine::NotText => return Ok(text_end(next, held, None)),
         }
     }
 }

@@ -8,6 +8,7 @@ use Rattle.first_pass_items.specs.declared.item.HeadingLevel.{HeadingLevel}
 use Rattle.first_pass_tree.specs.Forest.{Forest}
 use Rattle.first_pass_open.specs.OpenBlock.{with_child}
 use Rattle.first_pass_text.specs.Appends.{AppendsLines}
+use Rattle.first_pass_text.specs.declared.paragraph.TextEnd.{TextEnd}
 use Rattle.first_pass_text.proofs.SoFar.{LinesSoFar}
 use Rattle.first_pass_grammar.specs.Leaves.{Document, document}
 use Rattle.first_pass_open.proofs.PathLemmas.{open_are_in}
@@ -15,12 +16,14 @@ use Rattle.first_pass_text.proofs.ParagraphLemmas.{LineRead, next_boundary, so_f
 use Rattle.first_pass_text.proofs.paragraph.append_text_lines.Goals as goal
 use Rattle.first_pass_text.proofs.paragraph.append_text_lines.Goals.{In_ok-at}
 
--- with the break as the original item
-ended_by : {d : Document} {start next : ℕ} {old new : Forest Item} {item now : Option Item} {underline : Option HeadingLevel} → now ≡ item
-    → AppendsLines d start old new (record { next = next; line_break = item; underline = underline })
-    → AppendsLines d start old new (record { next = next; line_break = now; underline = underline })
-ended_by {d} {start} {next} {old} {new} {item} {now} {underline} e h =
-    subst (λ b. AppendsLines d start old new (record { next = next; line_break = b; underline = underline })) (sym e) h
+abbrev end_with : ℕ → Option HeadingLevel → Option Item → TextEnd
+end_with next underline line_break = record { next = next; line_break = line_break; underline = underline }
+
+-- the end, with the break as the original item
+ended_by : {d : Document} {start next : ℕ} {old new : Forest Item} {item now : Option Item} {underline : Option HeadingLevel} {end : TextEnd}
+    → now ≡ item → end ≡ end_with next underline now → AppendsLines d start old new (end_with next underline item) → AppendsLines d start old new end
+ended_by {d} {start} {next} {old} {new} {item} {now} {underline} {end} e is h =
+    subst (λ x. AppendsLines d start old new x) (sym (is ∙ ap (end_with next underline) e)) h
 
 pub lines-init : goal.lines-init
 lines-init c = record {
@@ -79,13 +82,13 @@ lines-preserved c = record {
 
 pub returns-in-Underline-clause-lines : goal.returns-in-Underline-clause-lines
 returns-in-Underline-clause-lines c =
-    ended_by (c.break_item-in-Underline.ensures ∙ c.held_break-held.ensures)
+    ended_by c.held_break-held.ensures c.text_end.ensures
     (so_far_stop (line_read (goal.at.returns-in-Underline-clause-lines c).In_ok-at) _ (omega (arith, c.recall_length.ensures))
     (underlined_by _ _ _ _ _ c.in_ok-at.ensures.value c.in-Underline.is))
 
 pub returns-in-NotText-clause-lines : goal.returns-in-NotText-clause-lines
 returns-in-NotText-clause-lines c =
-    ended_by (c.break_item-in-NotText.ensures ∙ c.held_break-held.ensures)
+    ended_by c.held_break-held.ensures c.text_end-in-NotText.ensures
     (so_far_stop (line_read (goal.at.returns-in-NotText-clause-lines c).In_ok-at) _ (omega (arith, c.recall_length.ensures))
     (stops_by _ _ _ _ c.in_ok-at.ensures.value c.in-NotText.is))
 
