@@ -1,5 +1,5 @@
 -- Link reference definitions that are read (only private functions cite this).
-use Rattle.std.specs.Prelude.{◌≡◌, ◌⊎◌, ◌≤◌, ℕ, Bool, false, List, ◌++◌, IsCharBoundary}
+use Rattle.std.specs.Prelude.{◌≡◌, ◌⊎◌, ◌≤◌, ℕ, Bool, false, List, IsCharBoundary}
 use Rattle.first_pass_lines.specs.Places.{Place, offset, line_end, IsPlaceOf}
 use Rattle.first_pass_grammar.specs.Containers.{Context}
 use Rattle.first_pass_grammar.specs.Derivation.{Tables, with_definitions}

@@ -35,10 +35,7 @@ impl<'a> BlockPass<'a> {
         ensures { IfOk result (λ next. AddsLeaf self.old self.new place.entry (marked_kind leaf) next) }
     {
         match leaf {
-            MarkedLeaf::IndentedCode => {
-                let next = self.append_code(place)?;
-                Ok(next)
-            }
+            MarkedLeaf::IndentedCode => self.append_code(place),
             MarkedLeaf::Metadata(byte) => {
                 let next = self.append_metadata(byte, at)?;
                 Ok(next)

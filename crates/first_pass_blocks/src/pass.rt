@@ -191,10 +191,7 @@ impl<'a> BlockPass<'a> {
                 self.state.read_blank_line();
                 Ok(next_line(self.source.text.as_bytes(), at))
             }
-            BlockStart::Paragraph => {
-                let next = self.parse_definitions_or_text(place, at)?;
-                Ok(next)
-            }
+            BlockStart::Paragraph => self.parse_definitions_or_text(place, at),
             BlockStart::HtmlToBlank => {
                 self.state.finish_list(place.line);
                 self.state.tree.recall_forest();

@@ -1,4 +1,4 @@
-use Rattle.std.proofs.Common.{sym, subst}
+use Rattle.std.proofs.Common.{IfOk, sym, subst}
 use Rattle.first_pass_kinds.specs.BlockStart.{marked_kind}
 use Rattle.first_pass_kinds.specs.declared.kinds.MarkedLeaf.{MarkedLeaf}
 use Rattle.first_pass_blocks.specs.Adding.{AddsLeaf, IsFoundIn}
@@ -11,11 +11,11 @@ append_code-requires c = (
   subst (λ (l : MarkedLeaf). IsFoundIn c.args.self.now c.args.place l c.args.columns c.args.at) c.in-IndentedCode.is c.requires,
 )
 
-pub returns-in_ok-next-in-IndentedCode : goal.returns-in_ok-next-in-IndentedCode
-returns-in_ok-next-in-IndentedCode c =
-    subst (λ (l : MarkedLeaf). AddsLeaf c.args.self.now c.append_code.new.self c.args.place (marked_kind l) c.in_ok-next-in-IndentedCode.next)
+pub returns-in-IndentedCode : goal.returns-in-IndentedCode
+returns-in-IndentedCode c =
+    subst (λ (l : MarkedLeaf). IfOk c.append_code.result (λ next. AddsLeaf c.args.self.now c.append_code.new.self c.args.place (marked_kind l) next))
     (sym c.in-IndentedCode.is)
-    c.in_ok-next-in-IndentedCode.ensures
+    c.append_code.ensures
 
 pub append_metadata-requires : goal.append_metadata-requires
 append_metadata-requires c = (
