@@ -33,7 +33,6 @@ use Rattle.first_pass_open.specs.OpenBlock.{IsJustPushed, begun_item, opened_blo
 use Rattle.first_pass_open.proofs.BlockLemmas.{just_pushed}
 use Rattle.first_pass_open.specs.Path.{path_of, context_of}
 use Rattle.first_pass_open.proofs.PathLemmas.{AreIn, path_of-opened}
-use Rattle.first_pass_open.proofs.PlaceLemmas.{line_start_end, place_end}
 use Rattle.first_pass_open.specs.Between.{line_end_at}
 use Rattle.first_pass_text.specs.Appends.{AddsPlainText}
 use Rattle.first_pass_open.specs.Between.{AddsBetween}
@@ -92,10 +91,6 @@ body_lines text mid =
     ]
 
 -- the start of the lines after a header row and its delimiter row
-pub line_bounds : (text : List ℕ) (start : ℕ) → IsUtf8 text → IsCharBoundary text start → IsCharBoundary text (line_end_at text start)
-line_bounds text start utf8 boundary =
-    subst (IsCharBoundary text) (line_start_end text start) (place_end text (line_place start (drop start text)) utf8 (line_is_place text start boundary))
-
 pub body_at : (text : List ℕ) (start len : ℕ) → len ≡ table_head_len (drop start text) → start + len ≡ line_end_at text (line_end_at text start)
 body_at text start len is =
     let n : ℕ = line_len (drop start text) in

@@ -6,8 +6,9 @@ use Rattle.first_pass_grammar.specs.Leaves.{document}
 use Rattle.first_pass_names.specs.TableEntries.{names_of}
 use Rattle.first_pass_names.proofs.NameLemmas.{extends_none, extends_both, extends_alignments, alignments_last}
 use Rattle.first_pass_open.proofs.PathLemmas.{open_are_in}
+use Rattle.first_pass_text.proofs.OrderHeading.{line_stops}
 use Rattle.first_pass_tables.specs.Appends.{AppendsRows}
-use Rattle.first_pass_blocks.proofs.Leaves.TextsAre.{only_opened, line_bounds, body_at, table_text, table_between}
+use Rattle.first_pass_blocks.proofs.Leaves.TextsAre.{only_opened, body_at, table_text, table_between}
 use Rattle.first_pass_blocks.proofs.text.append_table.Goals as goal
 
 pub parse_table-requires-clause-body : goal.parse_table-requires-clause-body
@@ -15,7 +16,7 @@ parse_table-requires-clause-body c =
     let text = c.args.source.now.text.now in
     let body_is = body_at text c.args.start c.args.table.table_head_len c.requires.head in
     let utf8 = c.requires.utf8 in
-    subst (IsCharBoundary text) (sym body_is) (line_bounds text _ utf8 (line_bounds text c.args.start utf8 c.requires.boundary))
+    subst (IsCharBoundary text) (sym body_is) (line_stops text _ utf8 (line_stops text c.args.start utf8 c.requires.boundary))
 
 pub parse_table-requires-clause-open : goal.parse_table-requires-clause-open
 parse_table-requires-clause-open c = only_opened c.args.tree.now c.open_block.new.tree c.args.start c.in_ok-index.index c.in_ok-open_block.ensures.tree

@@ -5,7 +5,7 @@ use Rattle.first_pass_grammar.proofs.Names.NamedItems.{named_more}
 use Rattle.first_pass_names.specs.TableEntries.{names_of}
 use Rattle.first_pass_names.proofs.NameLemmas.{extends_both, extends_alignments}
 use Rattle.first_pass_tokens.specs.Pieces.{text_upto}
-use Rattle.first_pass_blocks.proofs.Leaves.TextsAre.{line_bounds}
+use Rattle.first_pass_text.proofs.OrderHeading.{line_stops}
 use Rattle.first_pass.specs.Views.{allocs_of, tree_of}
 use Rattle.first_pass_order.proofs.OrderLemmas.{ordered_at_later}
 use Rattle.first_pass.proofs.state.FirstPass.append_possible_head.Goals as goal
@@ -41,7 +41,7 @@ returns-clause-tokens c =
       boundary = λ whole boundary.
           let bytes : c.text_upto-bytes.result.now ≡ text = c.text_upto-bytes.ensures.value ∙ ap (text_upto text) whole in
           let there = value ∙ ap (λ t. next + line_len (drop next t)) bytes in
-          subst (IsCharBoundary text) (sym there) (line_bounds text next c.in_ok-next.ensures.place.utf8 (e.boundary whole boundary));
+          subst (IsCharBoundary text) (sym there) (line_stops text next c.in_ok-next.ensures.place.utf8 (e.boundary whole boundary));
       order = λ ends boundary at low o.
           ordered_at_later text c.append_content.new.self.pass.state next c.next_line.result later (omega arith) (e.order ends boundary at low o);
       node_bound = omega arith;
