@@ -1,5 +1,5 @@
 -- After each call, each index in the nodes names an entry, if each did before.
-use Rattle.std.proofs.Common.{◌≡◌, ◌⊎◌, inl, inr, ℕ, zero, suc, ◌+◌, ◌-◌, ◌<◌, ◌==◌, ◌&&◌, nat_lt, Bool, true, false, if◌then◌else◌, List, [], ◌∷◌, ◌++◌}
+use Rattle.std.proofs.Common.{◌≡◌, inl, inr, ℕ, zero, suc, ◌+◌, ◌-◌, ◌==◌, ◌&&◌, nat_lt, Bool, true, false, if◌then◌else◌, List, [], ◌∷◌, ◌++◌}
 use Rattle.std.proofs.Common.{length, length-append, take, drop, Option, Some, None, IfSome, IsSomeAnd, MatchOption, IsCharBoundary, sym, ap, subst, ◌∙◌}
 use Rattle.std.proofs.Common.{arith}
 use Rattle.std.proofs.lemmas.Bool.{cond_both}
@@ -9,7 +9,7 @@ use Rattle.first_pass_items.specs.declared.item.Item.{Item}
 use Rattle.first_pass_items.specs.declared.item.ItemBody.{ItemBody}
 use Rattle.first_pass_items.specs.declared.item.ItemBody.TheVariants.{Heading, TableHead, TableRow, Text}
 use Rattle.first_pass_tree.specs.declared.tree_index.TreeIndex.{TreeIndex}
-use Rattle.first_pass_tree.specs.Forest.{Forest, added, appended, at_depth, cut_item, cut_tokens, is_escaped, is_text, item_at, joins_at}
+use Rattle.first_pass_tree.specs.Forest.{Forest, appended, at_depth, cut_item, cut_tokens, is_escaped, is_text, item_at, joins_at}
 use Rattle.first_pass_tree.specs.Forest.{open_place, with_end}
 use Rattle.first_pass_lines.specs.Places.{Place, line_place}
 use Rattle.first_pass_lines.proofs.PlaceFacts.{line_is_place}

@@ -92,6 +92,12 @@ ordered_tokens text f from to (x ∷ xs) forest h high o =
     (record { following = h.0; order = h.1; before = omega arith; starts = h.2; ends = h.3 }) (omega arith) o in
     ordered_tokens text (with_token f x) x.«end» to xs one.0 h.4 high one.1
 
+-- the end of a part of a text, if it has one: it is not before the start, and at a character boundary
+pub both_ends : (text : List ℕ) (start : ℕ) (end : Option ℕ)
+    → IfSome end (λ e. (start ≤ e) × (e ≤ length text)) → IfSome end (λ e. IsCharBoundary text e) → IfSome end (λ e. (start ≤ e) × IsCharBoundary text e)
+both_ends text start None h b = tt
+both_ends text start (Some e) h b = (h.0, b)
+
 -- A range of a text, which may be cut off at an offset, begins at a character boundary. The cut is one too, and not before
 -- that.
 pub record IsRange (text : List ℕ) (start : ℕ) (end : Option ℕ) : Type 0 where

@@ -1,4 +1,4 @@
-use Rattle.std.proofs.Common.{◌≡◌, ◌≤◌, ℕ, List, Option, Some, None, IfSome, IsCharBoundary, length, refl, ap, subst, sym, arith}
+use Rattle.std.proofs.Common.{◌≡◌, ◌≤◌, ℕ, None, IsCharBoundary, length, refl, ap, subst, sym, arith}
 use Rattle.first_pass_names.specs.TableEntries.{names_of, no_names}
 use Rattle.first_pass_tokens.specs.Pieces.{text_upto}
 use Rattle.first_pass_tokens.proofs.BytesLemmas.{few_of_cell}
@@ -7,14 +7,9 @@ use Rattle.first_pass_lists.specs.declared.state.PassState.{PassState}
 use Rattle.first_pass_order.specs.Ordered.{reached}
 use Rattle.first_pass_order.proofs.OrderLemmas.{ordered_none}
 use Rattle.first_pass.proofs.CallsNamed.{cell_named}
-use Rattle.first_pass.proofs.OrderJoin.{ordered_cell}
+use Rattle.first_pass.proofs.OrderJoin.{both_ends, ordered_cell}
 use Rattle.first_pass.proofs.state.FirstPass.append_cell_content.Goals as goal
 use Rattle.first_pass_grammar.specs.Leaves.{document}
-
-both_ends : (text : List ℕ) (start : ℕ) (end : Option ℕ)
-    → IfSome end (λ e. (start ≤ e) × (e ≤ length text)) → IfSome end (λ e. IsCharBoundary text e) → IfSome end (λ e. (start ≤ e) × IsCharBoundary text e)
-both_ends text start None h b = tt
-both_ends text start (Some e) h b = (h.0, b)
 
 pub returns : goal.returns
 returns c =

@@ -1,4 +1,4 @@
-use Rattle.std.proofs.Common.{false, ◌≤◌, ℕ, List, length, Option, Some, None, IfSome, IsCharBoundary, refl, subst, arith}
+use Rattle.std.proofs.Common.{false, ◌≤◌, ℕ, Option, None, refl, subst, arith}
 use Rattle.first_pass_names.specs.TableEntries.{names_of, no_names}
 use Rattle.first_pass_grammar.specs.Leaves.{document}
 use Rattle.first_pass_tokens.specs.Pieces.{text_upto}
@@ -8,14 +8,9 @@ use Rattle.first_pass_lists.specs.declared.state.PassState.{PassState}
 use Rattle.first_pass_order.specs.Ordered.{reached}
 use Rattle.first_pass_order.proofs.OrderLemmas.{ordered_none}
 use Rattle.first_pass.proofs.CallsNamed.{line_named}
-use Rattle.first_pass.proofs.OrderJoin.{ordered_line}
+use Rattle.first_pass.proofs.OrderJoin.{both_ends, ordered_line}
 use Rattle.first_pass_text.proofs.ParagraphLemmas.{next_boundary}
 use Rattle.first_pass.proofs.state.FirstPass.append_content.Goals as goal
-
-both_ends : (text : List ℕ) (start : ℕ) (end : Option ℕ)
-    → IfSome end (λ e. (start ≤ e) × (e ≤ length text)) → IfSome end (λ e. IsCharBoundary text e) → IfSome end (λ e. (start ≤ e) × IsCharBoundary text e)
-both_ends text start None h b = tt
-both_ends text start (Some e) h b = (h.0, b)
 
 pub returns-clause-line : goal.returns-clause-line
 returns-clause-line c =
