@@ -2,22 +2,17 @@
 
 use crate::case::{append_difference, printed, read_case};
 use first_pass_cases::fault::CasesFault;
+use first_pass_cases::table::compare_groups;
 use first_pass_cases::tally::{Tally, append_place};
-use first_pass_cases::texts::is_heading;
 use std::alloc::Global;
 
 /// Runs each case of the table, and appends each that differs to the report.
 pub fn compare(alloc: Global, table: &str, report: &mut String) -> Result<Tally, CasesFault> {
-    let mut tally = Tally::new();
-    let mut line: usize = 1;
-    for group in table.trim_end_matches('\n').split("\n\n") {
-        if !is_heading(group) {
-            let differs = compare_case(alloc, group, line, report)?;
-            tally.count(differs);
-        }
-        line = line.saturating_add(group.lines().count()).saturating_add(1);
-    }
-    Ok(tally)
+    compare_groups(
+        table,
+        report,
+        |group, line, report| compare_case(alloc, group, line, report),
+    )
 }
 
 /// Runs the case whose first line has this number, and returns whether it differs.

@@ -2,6 +2,7 @@
 
 use crate::fault::CasesFault;
 use crate::tally::Tally;
+use crate::texts::is_heading;
 use first_pass_host::fault::RunFault;
 use first_pass_host::input::read_whole;
 use first_pass_host::output::write_whole;
@@ -22,4 +23,23 @@ pub fn write_report(rt: &HostRuntime, report: &str, tally: Tally) -> Result<(), 
     write_whole(&mut output, report.as_bytes())?;
     write_whole(&mut output, tally.line(rt.alloc())?.as_bytes())?;
     Ok(())
+}
+
+/// Compares each group of lines of a table that is not a heading. `compare` gets a group and the number of its first
+/// line. It appends the group to the report if it differs, and returns whether it does.
+pub fn compare_groups<F, E>(table: &str, report: &mut String, compare: F) -> Result<Tally, E>
+where
+    F: Fn(&str, usize, &mut String) -> Result<bool, E> + Drop,
+    requires { F.IsAlwaysCallable compare }
+{
+    let mut tally = Tally::new();
+    let mut line: usize = 1;
+    for group in table.trim_end_matches('\n').split("\n\n") {
+        if !is_heading(group) {
+            let differs = compare(group, line, report)?;
+            tally.count(differs);
+        }
+        line = line.saturating_add(group.lines().count()).saturating_add(1);
+    }
+    Ok(tally)
 }

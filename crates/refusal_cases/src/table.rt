@@ -6,22 +6,17 @@ use crate::programs::call_program;
 use crate::tables::call_tables;
 use crate::trees::call_tree;
 use first_pass_cases::fault::CasesFault;
+use first_pass_cases::table::compare_groups;
 use first_pass_cases::tally::{Tally, append_place};
-use first_pass_cases::texts::is_heading;
 use std::alloc::{AllocError, Global};
 
 /// Makes the call of each case. Appends its outcome to the report if the case requests it, and each case that differs.
 pub fn compare(rt: &HostRuntime, table: &str, report: &mut String) -> Result<Tally, CasesFault> {
-    let mut tally = Tally::new();
-    let mut line: usize = 1;
-    for group in table.trim_end_matches('\n').split("\n\n") {
-        if !is_heading(group) {
-            let differs = compare_case(rt, group, line, report)?;
-            tally.count(differs);
-        }
-        line = line.saturating_add(group.lines().count()).saturating_add(1);
-    }
-    Ok(tally)
+    compare_groups(
+        table,
+        report,
+        |group, line, report| compare_case(rt, group, line, report),
+    )
 }
 
 /// Makes the call of the case whose first line has this number, and returns whether it differs.
