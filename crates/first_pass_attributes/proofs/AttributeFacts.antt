@@ -1,5 +1,5 @@
 -- The effect of a word on attributes.
-use Rattle.std.proofs.Common.{◌≡◌, ℕ, Bool, true, false, cond, List, [], ◌∷◌, ◌++◌, map, filter, drop, Option, Some, refl, sym, ap, ◌∙◌, append_assoc}
+use Rattle.std.proofs.Common.{◌≡◌, ℕ, Bool, true, false, cond, get_or, List, [], ◌∷◌, ◌++◌, map, filter, drop, Option, Some, refl, sym, ap, ◌∙◌, append_assoc}
 use Rattle.std.proofs.Common.{append-nil, ne_eqb}
 use Rattle.first_pass_items.specs.Bytes.{number_sign, full_stop}
 use Rattle.first_pass_lines.specs.Lines.{begins}
@@ -73,11 +73,15 @@ pub told-class : (a : Attributes) (w x : List ℕ) → is_attribute_word w ≡ t
     → with_words a (filter is_attribute_word (w ∷ [])) ≡ record { id = a.id; classes = a.classes ++ x ∷ []; attrs = a.attrs }
 told-class a w x h e = telling a w h ∙ ap (λ v. with_words a (v ∷ [])) e ∙ with-class a x
 
-begins-none : (c : ℕ) (w : List ℕ) → ((rest : List ℕ) → ¬ (w ≡ c ∷ rest)) → begins c w ≡ false
-begins-none c [] h = refl
-begins-none c (b ∷ bs) h = ne_eqb b c (λ e. h bs (ap (λ x. x ∷ bs) e))
+-- the mark of a word
+pub begins-mark : (c : ℕ) (w : List ℕ) → is_attribute_word w ≡ true → get_or w 0 0 ≡ c → w ≡ c ∷ drop 1 w
+begins-mark c [] h e = absurd (cc)
+begins-mark c (b ∷ bs) h e = ap (λ x. x ∷ bs) e
 
-pub told-key : (a : Attributes) (w : List ℕ) → is_attribute_word w ≡ true → ((rest : List ℕ) → ¬ (w ≡ number_sign ∷ rest))
-    → ((rest : List ℕ) → ¬ (w ≡ full_stop ∷ rest))
+pub begins-other : (c : ℕ) (w : List ℕ) → is_attribute_word w ≡ true → ¬ (get_or w 0 0 ≡ c) → begins c w ≡ false
+begins-other c [] h e = refl
+begins-other c (b ∷ bs) h e = ne_eqb b c e
+
+pub told-key : (a : Attributes) (w : List ℕ) → is_attribute_word w ≡ true → begins number_sign w ≡ false → begins full_stop w ≡ false
     → with_words a (filter is_attribute_word (w ∷ [])) ≡ record { id = a.id; classes = a.classes; attrs = a.attrs ++ key_and_value w ∷ [] }
-told-key a w h e f = telling a w h ∙ with-key a w (begins-none number_sign w e) (begins-none full_stop w f)
+told-key a w h e f = telling a w h ∙ with-key a w e f

@@ -1,3 +1,4 @@
 pub mod AttributeFacts
 pub mod BlockFacts
+pub mod BreakFacts
 pub mod WordFacts

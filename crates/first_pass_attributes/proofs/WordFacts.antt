@@ -1,79 +1,72 @@
--- The places of words in bytes.
-use Rattle.std.proofs.Common.{◌≡◌, ℕ, ◌<◌, ◌≤◌, true, false, cond, nat_lt, List, [], ◌∷◌, ◌++◌, length, filter, slice_index_or, inl, inr, refl, sym, ap, ◌∙◌}
-use Rattle.std.proofs.Common.{append-nil, arith}
-use Rattle.std.specs.List.{All, AllPass, slice_split}
-use Rattle.std.specs.Char.{is_ascii_whitespace}
-use Rattle.std.specs.Str.{NoCharPasses}
-use Rattle.std.specs.Str.Iter.{IsAsciiSeparator}
-use Rattle.std.proofs.lemmas.Bool.{cases_lt}
+-- The first word of bytes, and where it ends.
+use Rattle.std.proofs.Common.{◌≡◌, ℕ, ◌+◌, ◌<◌, not, Bool, true, false, cond, nat_lt, List, [], ◌∷◌, ◌++◌, length, filter, take, drop, get_or}
+use Rattle.std.proofs.Common.{IsUtf8, IsCharBoundary, inl, inr, refl, sym, ap, subst, ◌∙◌, arith}
+use Rattle.std.specs.List.{All, slice_split, prefix_len}
+use Rattle.std.proofs.lemmas.Bool.{cases_lt, not-true, not-false}
 use Rattle.std.proofs.lemmas.Bool.Decides.{nat_tests}
-use Rattle.std.proofs.lemmas.Grind.{common_steps}
-use Rattle.std.proofs.lemmas.List.Elements.{All-head, All-tail}
-use Rattle.std.proofs.lemmas.List.Splits.{slice_split-cons_yes, slice_split_none, slice_split_at}
-use Rattle.std.proofs.lemmas.Str.{NoCharPasses-byte}
-use Rattle.first_pass_attributes.specs.Attributes.{is_between_words, words}
+use Rattle.std.proofs.lemmas.List.{get_or-take, drop_more, take-append-drop, take_all, length-take}
+use Rattle.std.proofs.lemmas.List.Splits.{slice_split_none, slice_split_at}
+use Rattle.std.proofs.lemmas.List.Sums.{prefix_len_passes, prefix_len_stops, prefix_len-le-length}
+use Rattle.std.proofs.lemmas.Str.{IsCharBoundary-end, IsCharBoundary-before_ascii, IsCharBoundary-after_ascii}
+use Rattle.first_pass_attributes.specs.Attributes.{is_between_words, is_attribute_word, words}
 
--- the bytes between words are ASCII white space
-is_white : (b : ℕ) → is_between_words b ≡ is_ascii_whitespace b
-is_white b = grind (arith, nat_tests)
+-- a byte of a word
+abbrev in_word : ℕ → Bool
+in_word b = not (is_between_words b)
 
-no_white : (b : ℕ) → 128 ≤ b → is_between_words b ≡ false
-no_white b h = grind (arith, nat_tests)
+separator_is_ascii : (b : ℕ) → is_between_words b ≡ true → b < 128
+separator_is_ascii b h = grind (arith, nat_tests, h)
 
-kept : (x : List ℕ) (parts : List (List ℕ)) → 0 < length x
-    → filter (λ part. nat_lt 0 (length part)) (x ∷ parts) ≡ x ∷ filter (λ part. nat_lt 0 (length part)) parts
-kept [] parts h = absurd (omega arith)
-kept (b ∷ bs) parts h =
+kept : (b : ℕ) (bs : List ℕ) (parts : List (List ℕ))
+    → filter (λ part. nat_lt 0 (length part)) ((b ∷ bs) ∷ parts) ≡ (b ∷ bs) ∷ filter (λ part. nat_lt 0 (length part)) parts
+kept b bs parts =
     let more : nat_lt 0 (length (b ∷ bs)) ≡ true = grind (arith, nat_tests) in
     let rest : List (List ℕ) = filter (λ part. nat_lt 0 (length part)) parts in
     ap (λ t. cond t ((b ∷ bs) ∷ rest) rest) more
 
-between : (bs : List ℕ) → AllPass is_ascii_whitespace bs → All (λ b. is_between_words b ≡ true) bs
-between bs h = λ k d l. is_white (slice_index_or bs k d) ∙ h k d l
+-- an empty part has no attribute, so it need not be left out
+told : (x : List ℕ) (parts : List (List ℕ)) → filter is_attribute_word (filter (λ part. nat_lt 0 (length part)) (x ∷ parts))
+    ≡ filter is_attribute_word (x ∷ filter (λ part. nat_lt 0 (length part)) parts)
+told [] parts = refl
+told (b ∷ bs) parts = ap (filter is_attribute_word) (kept b bs parts)
 
-within : (bs : List ℕ) → NoCharPasses is_ascii_whitespace bs → All (λ b. is_between_words b ≡ false) bs
-within bs h = λ k d l.
-    let b : ℕ = slice_index_or bs k 0 in
-    let same : slice_index_or bs k d ≡ b = grind (arith, common_steps) in
-    ap is_between_words same ∙ elim (cases_lt b 128) as (λ _. is_between_words b ≡ false) [
-      | inl low ↦ is_white b ∙ NoCharPasses-byte is_ascii_whitespace bs k h l low
-      | inr high ↦ no_white b high
+plain : (bs : List ℕ) (n : ℕ) → n ≡ prefix_len in_word bs → All (λ b. is_between_words b ≡ false) (take n bs)
+plain bs n e k d l =
+    let fits = prefix_len-le-length in_word bs in
+    let low : k < n = omega (arith, length-take n bs) in
+    ap is_between_words (get_or-take n bs k d low) ∙ not-true _ (prefix_len_passes in_word bs k d (omega (arith, e, low)))
+
+stops : (bs : List ℕ) (n : ℕ) → n ≡ prefix_len in_word bs → n < length bs → is_between_words (get_or bs n 0) ≡ true
+stops bs n e less = not-false _ (ap (λ k. in_word (get_or bs k 0)) e ∙ prefix_len_stops in_word bs 0 (omega (arith, e, less)))
+
+-- the words with attributes are the first part, if it is one, and those after it
+pub words-next : (bs : List ℕ) (n : ℕ) → n ≡ prefix_len in_word bs → n < length bs
+    → filter is_attribute_word (words bs) ≡ filter is_attribute_word (take n bs ∷ words (drop (n + 1) bs))
+unfolding words
+words-next bs n e less =
+    let b : ℕ = get_or bs n 0 in
+    let later : List ℕ = drop (n + 1) bs in
+    let parts : bs ≡ take n bs ++ b ∷ later = sym (take-append-drop n bs) ∙ ap (λ l. take n bs ++ l) (drop_more bs n 0 less) in
+    let split = ap (slice_split is_between_words) parts ∙ slice_split_at is_between_words (take n bs) b later (plain bs n e) (stops bs n e less) in
+    ap (λ l. filter is_attribute_word (filter (λ part. nat_lt 0 (length part)) l)) split ∙ told (take n bs) (slice_split is_between_words later)
+
+pub words-last : (bs : List ℕ) (n : ℕ) → n ≡ prefix_len in_word bs → n ≡ length bs
+    → filter is_attribute_word (words bs) ≡ filter is_attribute_word (take n bs ∷ [])
+unfolding words
+words-last bs n e all =
+    let same : take n bs ≡ bs = take_all n bs (omega (arith, all)) in
+    let split = ap (slice_split is_between_words) (sym same) ∙ slice_split_none is_between_words (take n bs) (plain bs n e) in
+    ap (λ l. filter is_attribute_word (filter (λ part. nat_lt 0 (length part)) l)) split ∙ told (take n bs) []
+
+-- a word ends on a character boundary, and the next one begins on one
+pub word-end : (bs : List ℕ) (n : ℕ) → n ≡ prefix_len in_word bs → IsCharBoundary bs n
+word-end bs n e =
+    elim (cases_lt n (length bs)) as (λ _. IsCharBoundary bs n) [
+      | inl less ↦ IsCharBoundary-before_ascii bs n less (separator_is_ascii (get_or bs n 0) (stops bs n e less))
+      | inr past ↦ (
+          let all : length bs ≡ n = omega (arith, past, prefix_len-le-length in_word bs, e) in
+          subst (IsCharBoundary bs) all (IsCharBoundary-end bs))
     ]
 
-words-following : (gap bs : List ℕ) → All (λ b. is_between_words b ≡ true) gap → words (gap ++ bs) ≡ words bs
-unfolding words
-words-following [] bs h = refl
-words-following (b ∷ gap) bs h =
-    ap (filter (λ part. nat_lt 0 (length part)))
-    (slice_split-cons_yes is_between_words b (gap ++ bs) (All-head (λ c. is_between_words c ≡ true) b gap h))
-    ∙ words-following gap bs (All-tail (λ c. is_between_words c ≡ true) b gap h)
-
-word-last : (x : List ℕ) → 0 < length x → All (λ b. is_between_words b ≡ false) x → words x ≡ x ∷ []
-unfolding words
-word-last x some h = ap (filter (λ part. nat_lt 0 (length part))) (slice_split_none is_between_words x h) ∙ kept x [] some
-
-word-before : (x : List ℕ) (b : ℕ) (rest : List ℕ) → 0 < length x → All (λ b. is_between_words b ≡ false) x
-    → is_between_words b ≡ true → words (x ++ b ∷ rest) ≡ x ∷ words rest
-unfolding words
-word-before x b rest some h e =
-    ap (filter (λ part. nat_lt 0 (length part))) (slice_split_at is_between_words x b rest h e) ∙ kept x (slice_split is_between_words rest) some
-
-word-first : (x sep rest : List ℕ) → 0 < length x → All (λ b. is_between_words b ≡ false) x
-    → All (λ b. is_between_words b ≡ true) sep → length sep ≤ 1 → (length sep ≡ 0 → length rest ≡ 0)
-    → words (x ++ (sep ++ rest)) ≡ x ∷ words rest
-unfolding words
-word-first x [] [] some h s one none = ap words (append-nil x) ∙ word-last x some h
-word-first x [] (b ∷ rest) some h s one none = absurd (let no = none refl in omega arith)
-word-first x (b ∷ []) rest some h s one none = word-before x b rest some h (All-head (λ c. is_between_words c ≡ true) b [] s)
-word-first x (b ∷ c ∷ sep) rest some h s one none = absurd (omega arith)
-
--- the first word, between white space, and the words of the rest
-pub words-cut : (gap x sep rest bs : List ℕ) → bs ≡ gap ++ (x ++ (sep ++ rest)) → 0 < length x
-    → NoCharPasses is_ascii_whitespace x → AllPass is_ascii_whitespace gap → IsAsciiSeparator sep rest → words bs ≡ x ∷ words rest
-words-cut gap x sep rest bs e some h g s =
-    ap words e ∙ words-following gap (x ++ (sep ++ rest)) (between gap g) ∙ word-first x sep rest some (within x h) (between sep s.0) s.1 s.2
-
--- white space has no words
-pub words-none : (bs : List ℕ) → AllPass is_ascii_whitespace bs → words bs ≡ []
-unfolding words
-words-none bs h = ap words (sym (append-nil bs)) ∙ words-following bs [] (between bs h)
+pub word-start : (bs : List ℕ) (n : ℕ) → n ≡ prefix_len in_word bs → IsUtf8 bs → n < length bs → IsCharBoundary bs (n + 1)
+word-start bs n e utf8 less = IsCharBoundary-after_ascii bs n utf8 less (separator_is_ascii (get_or bs n 0) (stops bs n e less))

@@ -71,6 +71,6 @@ pair_in pair = (pair.0.now, option_map (λ value. value.now) pair.1)
 abbrev pub attributes_in : HeadingAttributes → Attributes
 attributes_in h = record {
   id = option_map (λ id. id.now) h.id;
-  classes = map (λ class. class.now) h.classes.items;
-  attrs = map pair_in h.attrs.items;
+  classes = map (λ class. class.now) h.classes;
+  attrs = map pair_in h.attrs;
 }

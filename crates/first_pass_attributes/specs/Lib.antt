@@ -1,2 +1,3 @@
 pub mod AttributeBlocks
 pub mod Attributes
+pub mod ShortLists

@@ -1,16 +1,20 @@
 //! The attribute block at the end of a heading, and its attributes (this project).
 
-ghost use Rattle.std.specs.List.{suffix_len};
+ghost use Rattle.std.specs.Int.{bit_at};
+ghost use Rattle.std.specs.List.{position, prefix_len, suffix_len};
 ghost use Rattle.std.specs.Option.{option_map};
-ghost use Rattle.std.specs.Prelude.{◌≡◌, ◌≤◌, ◌<◌, ◌+◌, ◌-◌, length, true, take, slice_index, IfSome, IfOk, OnOk, IsSomeAnd, Some, None, IsUtf8, IsCharBoundary, filter, [], ◌∷◌, ◌++◌};
-ghost use Rattle.first_pass_items.specs.Bytes.{left_brace, right_brace};
+ghost use Rattle.std.specs.Prelude.{◌≡◌, ◌==◌, ◌^◌, ℕ, ◌≤◌, ◌<◌, ◌+◌, ◌-◌, not, length, true, take, drop, slice_index, IfSome, IfOk, OnOk, IsSomeAnd, Some, None, IsUtf8, IsCharBoundary, filter, [], ◌∷◌};
+ghost use Rattle.first_pass_items.specs.Bytes.{left_brace, right_brace, equals_sign};
 ghost use Rattle.first_pass_lines.specs.Lines.{ends as ends_with};
 ghost use Rattle.first_pass_attributes.specs.AttributeBlocks.{is_after_block, is_inside_block, opening_brace as opening_of, length_before_block, inside_block};
-ghost use Rattle.first_pass_attributes.specs.Attributes.{is_attribute_word, key_and_value as key_and_value_of, with_words, attributes_of, pair_in, attributes_in};
+ghost use Rattle.first_pass_attributes.specs.Attributes.{is_between_words, is_attribute_word, key_and_value as key_and_value_of, with_words, attributes_of, pair_in, attributes_in};
 
+pub use crate::short_list::ShortList;
+use first_pass_lines::lanes::LANES;
 use first_pass_lines::lines::{is_line_end, is_space_or_tab};
 use std::alloc::{AllocError, Global};
 use std::ops::Range;
+use std::simd::prelude::*;
 
 /// Returns the length of the content of `heading`, and the range inside its attribute block. The content is all bytes
 /// before the block, with the white space directly before it. The range has the offsets in `heading` of the bytes
@@ -56,6 +60,39 @@ fn scan_after_block(bytes: &[u8]) -> usize
 
 // The number of trailing bytes that may be between the braces of an attribute block.
 fn scan_inside_block(bytes: &[u8]) -> usize
+    ensures value { result ≡ suffix_len is_inside_block bytes.now }
+    ensures within { result ≤ length bytes.now }
+{
+    let mut at = bytes.len();
+    while LANES <= at {
+        let breaks = block_breaks(bytes, at - LANES);
+        if breaks != 0 {
+            let last = at - LANES + breaks.ilog2() as usize;
+            return bytes.len() - (last + 1);
+        }
+        at -= LANES;
+    }
+    bytes.len() - at + scan_near_inside_block(without_last(bytes, bytes.len() - at))
+}
+
+// The bytes among the 16 from an offset on that can't be between the braces of an attribute block. Each byte has a bit;
+// that of the first is the lowest.
+#[inline(always)]
+fn block_breaks(bytes: &[u8], at: usize) -> u64
+    requires { at + 16 ≤ length bytes.now }
+    ensures within { result < 2 ^ 16 }
+    ensures breaks { (k : ℕ) → k < 16 → is_inside_block (slice_index bytes.now (at + k)) ≡ (bit_at result k == 0) }
+{
+    let lanes = u8x16::from_slice(&bytes[at..]);
+    let braces = lanes.simd_eq(u8x16::splat(b'{')) | lanes.simd_eq(u8x16::splat(b'}'));
+    let angles = lanes.simd_eq(u8x16::splat(b'<')) | lanes.simd_eq(u8x16::splat(b'>'));
+    let ends = lanes.simd_eq(u8x16::splat(b'\n')) | lanes.simd_eq(u8x16::splat(b'\r'));
+    let breaks = braces | angles | ends | lanes.simd_eq(u8x16::splat(b'\\'));
+    breaks.to_bitmask()
+}
+
+// The same as `scan_inside_block`, a byte at a time.
+fn scan_near_inside_block(bytes: &[u8]) -> usize
     ensures value { result ≡ suffix_len is_inside_block bytes.now }
     ensures within { result ≤ length bytes.now }
 {
@@ -116,14 +153,16 @@ fn opening_brace(bytes: &[u8]) -> Option<usize>
 #[derive(Drop)]
 pub struct HeadingAttributes<'a> {
     pub id: Option<&'a str>,
-    pub classes: Vec<&'a str>,
-    pub attrs: Vec<(&'a str, Option<&'a str>)>,
+    pub classes: ShortList<&'a str>,
+    pub attrs: ShortList<(&'a str, Option<&'a str>)>,
 }
 
 /// Returns the attributes in the text between the braces of an attribute block, never `None`. Tabs, 0x0C, spaces and
 /// line endings separate its words, and words of one byte are ignored. `#install` is an id, and the last id counts.
 /// `.wide` is a class. Any other word is a key; its value, if any, is the part after its first `=`. The key and the
-/// value may be empty. Fails only if an allocation fails (this project).
+/// value may be empty. Fails only if an allocation fails. With at most one class and at most one key, it allocates
+/// nothing (this project).
+#[inline(always)]
 pub fn parse_inside_attribute_block<'a>(
     alloc: Global,
     inside_attr_block: &'a str,
@@ -132,60 +171,101 @@ pub fn parse_inside_attribute_block<'a>(
 {
     let mut attributes = HeadingAttributes {
         id: None,
-        classes: Vec::new(alloc),
-        attrs: Vec::new(alloc),
+        classes: ShortList::new(),
+        attrs: ShortList::new(),
     };
-    for word in inside_attr_block.split_ascii_whitespace() {
-        add_word(&mut attributes, word)?;
+    let mut rest = inside_attr_block;
+    loop {
+        let end = scan_word(rest.as_bytes());
+        add_word(alloc, &mut attributes, &rest[..end])?;
+        if end == rest.len() {
+            return Ok(Some(attributes));
+        }
+        rest = &rest[end + 1..];
     }
-    Ok(Some(attributes))
 }
 
-// Adds the attribute of a word.
-fn add_word<'a>(attributes: &mut HeadingAttributes<'a>, word: &'a str) -> Result<(), AllocError>
+// The number of bytes before the first one that separates words.
+#[inline(always)]
+fn scan_word(bytes: &[u8]) -> usize
+    ensures value { result ≡ prefix_len (λ b. not (is_between_words b)) bytes.now }
+    ensures within { result ≤ length bytes.now }
+{
+    bytes.iter().take_while(|b| !is_between_words(**b)).count()
+}
+
+// Whether a byte separates words. Most bytes are above a space.
+fn is_between_words(byte: u8) -> bool
+    ensures { result ≡ is_between_words byte }
+{
+    if byte > b' ' {
+        return false;
+    }
+    matches!(byte, b'\t' | b'\x0c' | b' ' | b'\n' | b'\r')
+}
+
+// Adds the attribute of a word, if it has one.
+#[inline(always)]
+fn add_word<'a>(
+    alloc: Global,
+    attributes: &mut HeadingAttributes<'a>,
+    word: &'a str,
+) -> Result<(), AllocError>
     ensures { OnOk result (attributes_in attributes.new
         ≡ with_words (attributes_in attributes.old) (filter is_attribute_word (word.now ∷ []))) }
 {
     if !is_attribute_word(word) {
         return Ok(());
     }
-    if let Some(id) = word.strip_prefix('#') {
-        attributes.id = Some(id);
+    let mark = word.as_bytes()[0];
+    if mark == b'#' {
+        attributes.id = Some(without_mark(word));
         return Ok(());
     }
-    if let Some(class) = word.strip_prefix('.') {
-        append(&mut attributes.classes, class)?;
+    if mark == b'.' {
+        attributes.classes.push(alloc, without_mark(word))?;
         return Ok(());
     }
-    append(&mut attributes.attrs, key_and_value(word))?;
-    Ok(())
-}
-
-// Appends an item. Most headings have at most one of a kind, so the first item takes memory for itself alone.
-fn append<T: Copy>(list: &mut Vec<T>, item: T) -> Result<(), AllocError>
-    ensures { OnOk result (list.new.items ≡ list.old.items ++ item ∷ []) }
-{
-    if list.is_empty() {
-        list.reserve_exact(1)?;
-    }
-    list.push(item)?;
+    attributes.attrs.push(alloc, key_and_value(word))?;
     Ok(())
 }
 
 // Whether a word has an attribute.
+#[inline(always)]
 fn is_attribute_word(word: &str) -> bool
     ensures { result ≡ is_attribute_word word.now }
 {
     2 <= word.len()
 }
 
+// A word without its first byte, which is ASCII.
+#[inline(always)]
+fn without_mark(word: &str) -> &str
+    requires some { 0 < length word.now }
+    requires ascii { slice_index word.now 0 < 128 }
+    ensures { result.now ≡ drop 1 word.now }
+{
+    &word[1..]
+}
+
 // The key of a word, and its value.
+#[inline(always)]
 #[tactic(auto, unfolding(crate::specs::Attributes::key_and_value))]
 fn key_and_value(word: &str) -> (&str, Option<&str>)
     ensures { pair_in result ≡ key_and_value_of word.now }
 {
-    match word.split_once('=') {
+    match scan_key(word.as_bytes()) {
         None => (word, None),
-        Some((key, value)) => (key, Some(value)),
+        Some(at) => (&word[..at], Some(&word[at + 1..])),
     }
+}
+
+// The number of bytes before the first `=`, if there is one.
+#[inline(always)]
+fn scan_key(bytes: &[u8]) -> Option<usize>
+    ensures value { result ≡ position (λ b. b == equals_sign) bytes.now }
+    ensures within { IfSome result (λ at. at < length bytes.now) }
+    ensures sign { IfSome result (λ at. slice_index bytes.now at ≡ equals_sign) }
+{
+    bytes.iter().position(|b| *b == b'=')
 }

@@ -3,3 +3,4 @@
 
 pub mod attrs;
 pub mod laws;
+pub mod short_list;

@@ -1,7 +1,7 @@
 //! Every public name of the two library crates, by the module that exports it. A missing name is a compiler error.
 
 pub use first_pass::attrs::{
-    extract_attribute_block_content_from_header_text, parse_inside_attribute_block,
+    ShortList, extract_attribute_block_content_from_header_text, parse_inside_attribute_block,
 };
 pub use first_pass::below::{
     Alignment, AlignmentIndex, BlockQuoteKind, CowIndex, CowStr, HeadingIndex, HeadingLevel, Item,

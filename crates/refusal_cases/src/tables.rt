@@ -1,6 +1,7 @@
 //! Calls of tables that allocate, each made many times.
 
 use crate::outcome::Outcome;
+use first_pass_attributes::attrs::ShortList;
 use first_pass_items::cow_str::CowStr;
 use first_pass_items::item::{Alignment, AlignmentIndex, CowIndex, HeadingIndex};
 use first_pass_labels::label_key::LabelKey;
@@ -171,11 +172,11 @@ fn allocate_alignment(alloc: Global) -> Result<Outcome, AllocError> {
     Ok(outcome)
 }
 
-fn with_id<'a>(alloc: Global, id: &'a str) -> HeadingAttributes<'a> {
+fn with_id(id: &str) -> HeadingAttributes<'_> {
     HeadingAttributes {
         id: Some(id),
-        classes: Vec::new(alloc),
-        attrs: Vec::new(alloc),
+        classes: ShortList::new(),
+        attrs: ShortList::new(),
     }
 }
 
@@ -183,13 +184,13 @@ fn allocate_heading(alloc: Global) -> Result<Outcome, AllocError> {
     let mut allocs = Allocations::new(alloc);
     let mut outcome = Outcome::Usual;
     for headings in 0..TIMES {
-        let mut answer = allocs.allocate_heading(with_id(alloc, WORDS[headings]));
+        let mut answer = allocs.allocate_heading(with_id(WORDS[headings]));
         if answer.is_err() {
             outcome = outcome.refused(has(&allocs, Counts { headings, ..NONE }));
             if outcome != Outcome::Refused {
                 return Ok(outcome);
             }
-            answer = allocs.allocate_heading(with_id(alloc, WORDS[headings]));
+            answer = allocs.allocate_heading(with_id(WORDS[headings]));
         }
         let after = Counts {
             headings: headings + 1,

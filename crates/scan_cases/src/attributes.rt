@@ -46,10 +46,12 @@ fn append_attributes(
     answer: &mut Answer,
 ) -> Result<(), AllocError> {
     append_named("id", attributes.id, answer)?;
-    for class in attributes.classes.iter() {
+    let classes: &[&str] = &attributes.classes;
+    for class in classes {
         append_named("class", Some(*class), answer)?;
     }
-    for (key, value) in attributes.attrs.iter() {
+    let keys: &[(&str, Option<&str>)] = &attributes.attrs;
+    for (key, value) in keys {
         append_named("key", Some(*key), answer)?;
         append_named("value", *value, answer)?;
     }

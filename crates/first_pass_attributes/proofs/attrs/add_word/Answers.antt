@@ -1,8 +1,7 @@
-use Rattle.std.proofs.Common.{◌≡◌, ℕ, true, false, ◌∷◌, [], ◌++◌, List, map, Some, None, refl, sym, ap, ◌∙◌, arith}
+use Rattle.std.proofs.Common.{◌≡◌, ℕ, true, false, ◌∷◌, [], ◌++◌, List, map, drop, get_or, Some, refl, sym, ap, ◌∙◌, arith}
 use Rattle.std.proofs.lemmas.List.{map-append}
-use Rattle.std.proofs.lemmas.Str.Pattern.{strip_prefix_char}
 use Rattle.first_pass_attributes.specs.Attributes.{Attributes, is_attribute_word, pair_in, attributes_in}
-use Rattle.first_pass_attributes.proofs.AttributeFacts.{same_parts, told-none, told-id, told-class, told-key}
+use Rattle.first_pass_attributes.proofs.AttributeFacts.{same_parts, told-none, told-id, told-class, told-key, begins-mark, begins-other}
 use Rattle.first_pass_attributes.proofs.attrs.add_word.Goals as goal
 
 pub returns-then-not-is_attribute_word : goal.returns-then-not-is_attribute_word
@@ -10,35 +9,36 @@ returns-then-not-is_attribute_word c =
     let no : is_attribute_word c.args.word.now ≡ false = cc in
     sym (told-none (attributes_in c.args.attributes.now) c.args.word.now no)
 
-pub returns-in-Some : goal.returns-in-Some
-returns-in-Some c =
+pub returns-then-mark-eq35 : goal.returns-then-mark-eq35
+returns-then-mark-eq35 c =
     let word : List ℕ = c.args.word.now in
     let tells : is_attribute_word word ≡ true = cc in
-    let marked = strip_prefix_char 35 word (Some c.in-Some.id) c.in-Some.ensures.cases (omega arith) in
-    sym (told-id (attributes_in c.args.attributes.now) word c.in-Some.id.now tells marked)
+    let mark : get_or word 0 0 ≡ 35 = grind arith in
+    let id = c.without_mark.ensures in
+    same_parts (ap Some id) refl refl
+    ∙ sym (told-id (attributes_in c.args.attributes.now) word (drop 1 word) tells (begins-mark 35 word tells mark))
 
-pub returns-in-Some-strip_prefix : goal.returns-in-Some-strip_prefix
-returns-in-Some-strip_prefix c =
+pub returns-then-mark-eq46 : goal.returns-then-mark-eq46
+returns-then-mark-eq46 c =
     let before : Attributes = attributes_in c.args.attributes.now in
     let word : List ℕ = c.args.word.now in
-    let class = c.in-Some-strip_prefix.class in
-    let classes = c.args.attributes.now.classes.items in
-    let pushed : c.append.new.list.items ≡ classes ++ class ∷ [] = grind arith in
+    let class = c.without_mark-then-mark-eq46.result in
+    let classes = c.args.attributes.now.classes in
     let tells : is_attribute_word word ≡ true = cc in
-    let marked = strip_prefix_char 46 word (Some class) c.in-Some-strip_prefix.ensures.cases (omega arith) in
-    same_parts refl (ap (map (λ text. text.now)) pushed ∙ map-append (λ text. text.now) classes (class ∷ [])) refl
-    ∙ sym (told-class before word class.now tells marked)
+    let mark : get_or word 0 0 ≡ 46 = grind arith in
+    let added = ap (map (λ text. text.now)) c.in_ok-push.ensures ∙ map-append (λ text. text.now) classes (class ∷ []) in
+    same_parts refl (added ∙ ap (λ text. map (λ text. text.now) classes ++ text ∷ []) c.without_mark-then-mark-eq46.ensures) refl
+    ∙ sym (told-class before word (drop 1 word) tells (begins-mark 46 word tells mark))
 
 pub returns : goal.returns
 returns c =
     let before : Attributes = attributes_in c.args.attributes.now in
     let word : List ℕ = c.args.word.now in
     let pair = c.key_and_value.result in
-    let pairs = c.args.attributes.now.attrs.items in
-    let pushed : c.append-2.new.list.items ≡ pairs ++ pair ∷ [] = grind arith in
+    let pairs = c.args.attributes.now.attrs in
     let tells : is_attribute_word word ≡ true = cc in
-    let no_id = strip_prefix_char 35 word None c.in_default.ensures.cases (omega arith) in
-    let no_class = strip_prefix_char 46 word None c.in_default-strip_prefix.ensures.cases (omega arith) in
-    let added = ap (map pair_in) pushed ∙ map-append pair_in pairs (pair ∷ []) in
+    let added = ap (map pair_in) c.in_ok-push-2.ensures ∙ map-append pair_in pairs (pair ∷ []) in
     same_parts refl refl (added ∙ ap (λ q. map pair_in pairs ++ q ∷ []) c.key_and_value.ensures)
-    ∙ sym (told-key before word tells no_id no_class)
+    ∙ sym (told-key before word tells
+    (begins-other 35 word tells (λ e. c.if-mark-eq35.false (grind arith)))
+    (begins-other 46 word tells (λ e. c.if-mark-eq46.false (grind arith))))

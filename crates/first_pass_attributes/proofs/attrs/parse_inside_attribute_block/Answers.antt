@@ -1,35 +1,60 @@
-use Rattle.std.proofs.Common.{◌≡◌, ℕ, ◌∷◌, [], List, filter, refl, sym, ap, ◌∙◌}
-use Rattle.std.specs.Str.Iter.{split_ascii_whitespace_text}
-use Rattle.first_pass_attributes.specs.Attributes.{Attributes, is_attribute_word, words, with_words, attributes_of, attributes_in}
-use Rattle.first_pass_attributes.proofs.AttributeFacts.{with-none, with-next}
-use Rattle.first_pass_attributes.proofs.WordFacts.{words-cut, words-none}
+use Rattle.std.proofs.Common.{◌≡◌, ℕ, ◌+◌, ◌-◌, ◌<◌, ◌∷◌, [], List, filter, length, take, drop, not, refl, sym, ap, ◌∙◌, arith}
+use Rattle.std.specs.List.{prefix_len}
+use Rattle.first_pass_attributes.specs.Attributes.{Attributes, is_between_words, is_attribute_word, words, with_words, attributes_of, attributes_in}
+use Rattle.first_pass_attributes.proofs.AttributeFacts.{with-next}
+use Rattle.first_pass_attributes.proofs.WordFacts.{words-next, words-last, word-end, word-start}
 use Rattle.first_pass_attributes.proofs.attrs.parse_inside_attribute_block.Goals as goal
 
-pub loop-word-init : goal.loop-word-init
+pub loop-attributes-init : goal.loop-attributes-init
 unfolding attributes_of
-loop-word-init c =
-    let rest_is_text = ap split_ascii_whitespace_text c.into_iter-word-iterator.ensures.into_iter_gives ∙ c.split_ascii_whitespace-word-items.ensures.text in
-    rw (rest_is_text, c.new.ensures.items, c.new-2.ensures.items) refl
+loop-attributes-init c = record {
+  utf8 = c.utf8.inside_attr_block;
+  left = rw (c.new.ensures, c.new-2.ensures) refl;
+}
 
-pub loop-word-preserved : goal.loop-word-preserved
-loop-word-preserved c =
-    let before : Attributes = attributes_in c.loop-word.attributes in
-    let text : List ℕ = split_ascii_whitespace_text c.loop-word.word-iterator in
-    let rest : List ℕ = split_ascii_whitespace_text c.next.new.self in
-    let word : List ℕ = c.in-Some.word.now in
-    let step = c.in-Some.ensures.steps in
-    let cut = step.3 in
-    let one_less : words text ≡ word ∷ words rest = words-cut cut.0 word cut.1 rest text cut.2 step.0 step.1 cut.3 cut.4 in
-    let added : attributes_in c.add_word.new.attributes ≡ with_words before (filter is_attribute_word (word ∷ [])) = c.in_ok-add_word.ensures in
-    ap (λ a. with_words a (filter is_attribute_word (words rest))) added
-    ∙ sym (with-next before word (words rest))
-    ∙ ap (λ ws. with_words before (filter is_attribute_word ws)) (sym one_less)
-    ∙ c.loop-word.invariant
+pub range-requires-clause-end_boundary : goal.range-requires-clause-end_boundary
+range-requires-clause-end_boundary c =
+    let text : List ℕ = c.loop-attributes.rest.now in
+    word-end text c.scan_word-end.result (c.scan_word-end.ensures.value ∙ ap (prefix_len (λ b. not (is_between_words b))) c.as_bytes.ensures.value)
 
-pub returns : goal.returns
-returns c =
-    let before : Attributes = attributes_in c.loop-word.attributes in
-    sym (with-none before)
-    ∙ ap (λ ws. with_words before (filter is_attribute_word ws))
-    (sym (words-none (split_ascii_whitespace_text c.loop-word.word-iterator) c.in-None.ensures.steps.0))
-    ∙ c.loop-word.invariant
+pub range_from-rest-requires : goal.range_from-rest-requires
+range_from-rest-requires c some =
+    let text : List ℕ = c.loop-attributes.rest.now in
+    let less : c.scan_word-end.result < length text = grind arith in
+    word-start text c.scan_word-end.result (c.scan_word-end.ensures.value ∙ ap (prefix_len (λ b. not (is_between_words b))) c.as_bytes.ensures.value)
+    c.loop-attributes.invariant.utf8 less
+
+pub returns-then-end-rest : goal.returns-then-end-rest
+returns-then-end-rest c =
+    let before : Attributes = attributes_in c.loop-attributes.attributes in
+    let text : List ℕ = c.loop-attributes.rest.now in
+    let last = words-last text c.scan_word-end.result
+    (c.scan_word-end.ensures.value ∙ ap (prefix_len (λ b. not (is_between_words b))) c.as_bytes.ensures.value) c.if-end-rest.true in
+    let whole : c.scan_word-end.result - 0 ≡ c.scan_word-end.result = omega arith in
+    c.in_ok-add_word.ensures
+    ∙ ap (λ x. with_words before (filter is_attribute_word (x ∷ []))) (c.range.ensures.value ∙ ap (λ n. take n text) whole)
+    ∙ ap (with_words before) (sym last)
+    ∙ c.loop-attributes.invariant.left
+
+pub loop-attributes-preserved : goal.loop-attributes-preserved
+loop-attributes-preserved c =
+    let before : Attributes = attributes_in c.loop-attributes.attributes in
+    let text : List ℕ = c.loop-attributes.rest.now in
+    let end : ℕ = c.scan_word-end.result in
+    let word : List ℕ = take end text in
+    let rest : List ℕ = c.range_from-rest.result.now in
+    let less : end < length text = grind arith in
+    let on : rest ≡ drop (end + 1) text = c.range_from-rest.ensures.value in
+    let next = words-next text end
+    (c.scan_word-end.ensures.value ∙ ap (prefix_len (λ b. not (is_between_words b))) c.as_bytes.ensures.value) less in
+    let whole : end - 0 ≡ end = omega arith in
+    let added : attributes_in c.add_word.new.attributes ≡ with_words before (filter is_attribute_word (word ∷ [])) =
+    c.in_ok-add_word.ensures ∙ ap (λ x. with_words before (filter is_attribute_word (x ∷ []))) (c.range.ensures.value ∙ ap (λ n. take n text) whole) in
+    record {
+      utf8 = c.range_from-rest.utf8;
+      left = ap (λ a. with_words a (filter is_attribute_word (words rest))) added
+          ∙ sym (with-next before word (words rest))
+          ∙ ap (λ bs. with_words before (filter is_attribute_word (word ∷ words bs))) on
+          ∙ ap (with_words before) (sym next)
+          ∙ c.loop-attributes.invariant.left;
+    }

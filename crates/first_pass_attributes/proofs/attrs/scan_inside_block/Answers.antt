@@ -1,13 +1,38 @@
-use Rattle.std.proofs.Common.{arith, rules}
-use Rattle.std.proofs.lemmas.List.{take_all}
-use Rattle.std.proofs.lemmas.List.Sums.{suffix_len-take_yes, suffix_len-take_no}
+use Rattle.std.proofs.Common.{◌≡◌, ℕ, ◌+◌, ◌-◌, length, take, sym, ap, ◌∙◌, arith}
+use Rattle.std.specs.List.{suffix_len}
+use Rattle.first_pass_attributes.specs.AttributeBlocks.{is_inside_block}
+use Rattle.first_pass_attributes.proofs.BreakFacts.{top-low, after-break, after-none, before-kept}
 use Rattle.first_pass_attributes.proofs.attrs.scan_inside_block.Goals as goal
 
-pub loop-at-init : goal.loop-at-init
-loop-at-init c = search (rules, take_all)
+pub overflow_sub-result : goal.overflow_sub-result
+overflow_sub-result c =
+    let low = top-low c.block_breaks-breaks.result c.ilog2.result c.block_breaks-breaks.ensures.within c.ilog2.ensures.power_le c.ilog2.ensures.next_power_gt in
+    omega (arith, low, c.loop-at-test.true, c.loop-at.invariant.within)
+
+pub returns-then-breaks-ne0-clause-value : goal.returns-then-breaks-ne0-clause-value
+returns-then-breaks-ne0-clause-value c =
+    let at : ℕ = c.loop-at.at - 16 in
+    let back : at + 16 ≡ c.loop-at.at = omega (arith, c.loop-at-test.true) in
+    sym (after-break c.args.bytes.now at c.block_breaks-breaks.result c.ilog2.result (omega (arith, back, c.loop-at.invariant.within))
+    c.block_breaks-breaks.ensures.within c.ilog2.ensures.power_le c.ilog2.ensures.next_power_gt c.block_breaks-breaks.ensures.breaks
+    (λ k from. c.loop-at.invariant.inside k (omega (arith, back, from))))
 
 pub loop-at-preserved : goal.loop-at-preserved
-loop-at-preserved c = grind (arith, suffix_len-take_yes)
+loop-at-preserved c =
+    let at : ℕ = c.loop-at.at - 16 in
+    let back : at + 16 ≡ c.loop-at.at = omega (arith, c.loop-at-test.true) in
+    record {
+      within = omega (arith, c.loop-at.invariant.within);
+      inside = after-none c.args.bytes.now at c.block_breaks-breaks.result c.if-breaks-ne0.false c.block_breaks-breaks.ensures.breaks
+          (λ k from. c.loop-at.invariant.inside k (omega (arith, back, from)));
+    }
 
 pub returns-clause-value : goal.returns-clause-value
-returns-clause-value c = grind (arith, suffix_len-take_no)
+returns-clause-value c =
+    let bytes = c.args.bytes.now in
+    let at : ℕ = c.loop-at.at in
+    let size : length bytes - (length bytes - at) ≡ at = omega (arith, c.loop-at.invariant.within) in
+    let near = c.scan_near_inside_block.ensures.value
+    ∙ ap (suffix_len is_inside_block) (c.without_last.ensures ∙ ap (λ n. take n bytes) size) in
+    let whole = before-kept bytes at c.loop-at.invariant.within c.loop-at.invariant.inside in
+    omega (arith, near, whole)
