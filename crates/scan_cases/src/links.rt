@@ -1,6 +1,7 @@
 //! Calls of `first_pass_links`.
 
 ghost use Rattle.std.specs.Prelude.{◌≡◌, ◌<◌, length, slice_index, IfSome};
+ghost use Rattle.first_pass_items.specs.Bytes.{space};
 
 use crate::call::Call;
 use first_pass_cases::answer::Answer;
@@ -94,7 +95,7 @@ fn quoted_label<'t>(
 }
 
 fn quote_prefix(line: &[u8]) -> Option<usize>
-    ensures { IfSome result (λ n. (n ≡ 2) × (1 < length line.now) × (slice_index line.now 1 ≡ 32)) }
+    ensures { IfSome result (λ n. (n ≡ 2) × (1 < length line.now) × (slice_index line.now 1 ≡ space)) }
 {
     match line {
         [b'>', b' ', ..] => Some(2),
