@@ -1,6 +1,10 @@
 -- Names for bytes: Unicode's name of the character, or the standard's if that is shorter.
 use Rattle.std.specs.Prelude.{ℕ}
 
+-- NUL
+abbrev pub nul : ℕ
+nul = 0
+
 -- TAB
 abbrev pub tab : ℕ
 tab = 9

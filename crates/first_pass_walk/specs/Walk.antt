@@ -4,7 +4,7 @@ use Rattle.std.specs.Prelude.{◌≡◌, ℕ, ◌+◌, ◌^◌, ◌<◌, ◌≤�
 use Rattle.std.specs.List.{slice_index_or, list_any}
 use Rattle.std.specs.Char.{is_ascii_alphabetic}
 use Rattle.std.specs.Int.{bit_at}
-use Rattle.first_pass_items.specs.Bytes.{line_feed, carriage_return, space, exclamation_mark, quotation_mark, dollar_sign, ampersand, apostrophe, asterisk}
+use Rattle.first_pass_items.specs.Bytes.{nul, line_feed, carriage_return, space, exclamation_mark, quotation_mark, dollar_sign, ampersand, apostrophe, asterisk}
 use Rattle.first_pass_items.specs.Bytes.{hyphen, full_stop, less_than, left_bracket, backslash, right_bracket, circumflex, underscore, backquote, left_brace}
 use Rattle.first_pass_items.specs.Bytes.{pipe, right_brace, tilde}
 use Rattle.first_pass_items.specs.declared.option_set.Options.{Options}
@@ -62,9 +62,9 @@ pub record IsNextMarked (lut : List Bool) (bytes : List ℕ) (ix j : ℕ) : Type
 abbrev pub NoneMarkedFrom : List Bool → List ℕ → ℕ → Type 0
 NoneMarkedFrom lut bytes ix = (k : ℕ) → ix ≤ k → k < length bytes → is_marked lut bytes k ≡ false
 
--- a letter, a space or a byte of a character beyond ASCII (this project)
+-- NUL, a letter, a space or a byte of a character beyond ASCII (this project)
 abbrev pub is_word_byte : ℕ → Bool
-is_word_byte b = (is_ascii_alphabetic b || b == space) || (nat_lt 127 b && nat_lt b 256)
+is_word_byte b = (is_ascii_alphabetic b || (b == nul || b == space)) || (nat_lt 127 b && nat_lt b 256)
 
 -- The mask of the 16 bytes from an offset on. Bit k is 1 exactly if byte k of them is not a word byte, and no bit from
 -- 16 on is set (this project).
@@ -72,7 +72,7 @@ pub record AreWordStops (bytes : List ℕ) (at mask : ℕ) : Type 0 where
   pub within : mask < 2 ^ 16
   pub stops : (k : ℕ) → k < 16 → is_word_byte (slice_index bytes (at + k)) ≡ (bit_at mask k == 0)
 
--- the table marks no letter, no space and no byte of a character beyond ASCII (this project)
+-- the table marks no NUL, no letter, no space and no byte of a character beyond ASCII (this project)
 abbrev pub SparesWords : List Bool → Type 0
 SparesWords lut = (b : ℕ) → is_word_byte b ≡ true → slice_index_or lut b false ≡ false
 

@@ -47,8 +47,8 @@ pub fn next_special(lut: &[bool; 256], bytes: &[u8], ix: usize) -> Option<usize>
 // The mask of 16 bytes each of which is a stop: a run of digits or of punctuation.
 const ALL_STOPS: u64 = 0xFFFF;
 
-/// Returns the same as `next_special`, but reads 16 bytes at a time. The table must not mark a letter, a space or a
-/// byte of a character beyond ASCII.
+/// Returns the same as `next_special`, but reads 16 bytes at a time. The table must not mark NUL, a letter, a space or
+/// a byte of a character beyond ASCII.
 #[inline(always)]
 pub fn next_special_in_words(lut: &[bool; 256], bytes: &[u8], ix: usize) -> Option<usize>
     requires { SparesWords lut.now }
@@ -100,17 +100,19 @@ fn first_in_lanes(lut: &[bool; 256], bytes: &[u8], at: usize) -> Option<usize>
     None
 }
 
-// Which of the 16 bytes from the offset `at` on are not letters, spaces or bytes beyond ASCII: a bit for each byte, the
-// lowest for the first.
+// Which of the 16 bytes from the offset `at` on are not NUL, a letter, a space or a byte beyond ASCII: a bit for each
+// byte, the lowest for the first.
 #[inline(always)]
 fn word_stops(bytes: &[u8], at: usize) -> u64
     requires { at + 16 ≤ length bytes.now }
     ensures { AreWordStops bytes.now at result }
 {
     let lanes = u8x16::from_slice(&bytes[at..]);
-    let from_a = (lanes | u8x16::splat(0x20)) - u8x16::splat(b'a');
-    let ascii = from_a.simd_ge(u8x16::splat(26)) & lanes.simd_ne(u8x16::splat(b' '));
-    let stops = ascii & lanes.simd_lt(u8x16::splat(128));
+    // A letter becomes a small one. A space stays a space, and a byte beyond ASCII stays beyond it.
+    let small = lanes | u8x16::splat(0x20);
+    let after_space = (small - u8x16::splat(b'!')).simd_lt(u8x16::splat(0x80 - b'!'));
+    let no_letter = (small - u8x16::splat(b'a')).simd_ge(u8x16::splat(26));
+    let stops = after_space & no_letter;
     stops.to_bitmask()
 }
 
