@@ -169,6 +169,6 @@ tilde = 126
 abbrev pub ascii_end : ℕ
 ascii_end = 128
 
--- the least byte with which a character of several bytes begins
+-- the least first byte of a character of several bytes
 abbrev pub least_lead : ℕ
 least_lead = 192

@@ -6,8 +6,8 @@ ghost use Rattle.first_pass_items.specs.OptionWords.{gfm_footnotes};
 use bitflags::{Flag, Flags, bitflag_items};
 
 /// The set of extensions of CommonMark that are on. The calls `empty`, `contains`, `insert`, `union`,
-/// `from_bits` and `bits` are those of `bitflags::Flags`. `from_bits` returns `None` if a bit is set that no
-/// constant has (bit 0, or a bit above 15).
+/// `from_bits` and `bits` are those of `bitflags::Flags`. `from_bits` returns `None` if bit 0 or a bit above 15 is set,
+/// since no constant has these bits.
 #[derive(Clone, Copy, PartialEq, Eq)]
 pub struct Options(u32);
 
