@@ -24,7 +24,7 @@ module _ {T : Type 0} where
   abbrev pub item_at : Forest T → TreeIndex → Option T
   item_at f ix = option_map (λ n. n.1) (slice_get f.nodes ix.0)
 
-  -- the nodes with the item at an index changed
+  -- the nodes with a function applied to the item at an index
   abbrev pub modify : List (ℕ × T) → ℕ → (T → T) → List (ℕ × T)
   modify [] i g = []
   modify (n ∷ ns) zero g = (n.0, g n.1) ∷ ns
@@ -34,7 +34,7 @@ module _ {T : Type 0} where
   abbrev pub with_item : Forest T → TreeIndex → T → Forest T
   with_item f ix x = record f { nodes = modify f.nodes ix.0 (λ _. x) }
 
-  -- the forest with the item at an index changed
+  -- the forest with a function applied to the item at an index
   abbrev pub modified : Forest T → TreeIndex → (T → T) → Forest T
   modified f ix g = record f { nodes = modify f.nodes ix.0 g }
 
@@ -54,18 +54,18 @@ IsOpenPath ds (i ∷ is) = IsLastAt ds (length is + 1) i.0 × IsOpenPath ds is
 abbrev pub IsPreorder : List ℕ → Type 0
 IsPreorder ds = (k : ℕ) → k + 1 < length ds → slice_index ds (k + 1) ≤ slice_index ds k + 1
 
--- The invariant of a tree. The list is a tree in reading order, the open nodes are a path from the root along its last
--- nodes, and the current node is the last child of the innermost open node.
+-- The invariant of a tree. The list is a tree in reading order. The open nodes are a path from the root along its last
+-- nodes. The current node, if there is one, is the last child of the innermost open node.
 pub record IsForest {T : Type 0} (f : Forest T) : Type 0 where
   pub preorder : IsPreorder (depths f.nodes)
   pub opened : IsOpenPath (depths f.nodes) f.spine
   pub at_current : IfSome f.current (λ c. IsLastAt (depths f.nodes) (length f.spine + 1) c.0)
 
--- the first index from another on at which the depth is at most this, or the length
+-- the first index, from another on, at which the depth is at most this one; the length if there is none
 abbrev pub run_end : List ℕ → ℕ → ℕ → ℕ
 run_end ds depth from = from + prefix_len (λ d. nat_lt depth d) (drop from ds)
 
--- each depth can be increased by one
+-- each depth is less than 2^63, so it can be increased by one
 abbrev pub IsShallow : List ℕ → Type 0
 IsShallow ds = (k : ℕ) → k < length ds → slice_index ds k < 2 ^ 63
 
@@ -108,7 +108,7 @@ module _ {T : Type 0} where
   abbrev pub deeper : ℕ × T → ℕ × T
   deeper n = (n.0 + 1, n.1)
 
-  -- the list with the elements from an index on changed
+  -- the list with a function applied to each element from an index on
   abbrev pub map_from : (ℕ × T → ℕ × T) → ℕ → List (ℕ × T) → List (ℕ × T)
   map_from g zero ns = map g ns
   map_from g (suc i) [] = []
@@ -167,8 +167,8 @@ abbrev pub with_end : Forest Item → ℕ → Option TreeIndex → Forest Item
 with_end f e None = f
 with_end f e (Some c) = with_end_at f c e
 
--- the forest with one more text, unless it is empty; it is joined to the current node if that is a text that ends at
--- its start
+-- The forest with one more text, unless that text is empty. If the current node is a text that ends where the new one
+-- begins, the two are joined.
 abbrev pub with_text : Forest Item → ℕ → ℕ → Bool → Forest Item
 with_text f s e b =
     if s == e
@@ -188,8 +188,8 @@ in_table_by outer (Some TableRow) = outer
 in_table_by outer (Some TableCell) = outer
 in_table_by outer (Some _) = false
 
--- the innermost open node is a table or a part of one: a table is reached from it outwards over only table heads, rows
--- and cells
+-- the innermost open node is a table or a part of one: the open nodes from it outwards are table heads, rows and cells,
+-- up to a table
 abbrev pub in_table : List (ℕ × Item) → List TreeIndex → Bool
 in_table ns [] = false
 in_table ns (i ∷ is) = in_table_by (in_table ns is) (body_at ns i.0)
@@ -203,9 +203,10 @@ is_escaped _ = false
 abbrev pub cut_item : ℕ → Item → Item
 cut_item e x = if nat_lt e x.«end» then record x { «end» = e } else x
 
--- The nodes below a node, cut at an offset; its children, the tokens, have this depth. A token that starts before the
--- offset stays with its descendants, and ends there at the latest. The first other token goes, with all nodes that
--- follow. If it is a text that starts at the offset after a backslash, the backslash stays as a text.
+-- The nodes below a node, cut at an offset. The children of that node, the tokens, have this depth. A token that starts
+-- before the offset stays, with its descendants, and ends at or before the offset. The first other token is removed,
+-- with all nodes after it. If that token is a text that starts at the offset after a backslash, the backslash stays as
+-- a text.
 abbrev pub cut_tokens : ℕ → ℕ → List (ℕ × Item) → List (ℕ × Item)
 cut_tokens e d [] = []
 cut_tokens e d (n ∷ ns) =
@@ -215,7 +216,7 @@ cut_tokens e d (n ∷ ns) =
     then (n.0, cut_item e n.1) ∷ cut_tokens e d ns
     else (if is_escaped n.1.body && (n.1.start == e) then (n.0, record { start = e - 1; «end» = e; body = Text false }) ∷ [] else []))
 
--- a single node, which starts before this offset and ends there at the latest
+-- there is exactly one node; it starts before this offset, and ends at or before it
 abbrev pub is_single_before : ℕ → List (ℕ × Item) → Bool
 is_single_before e [] = false
 is_single_before e (n ∷ []) = nat_lt n.1.start e && nat_le n.1.«end» e
@@ -225,7 +226,7 @@ is_single_before e (n ∷ m ∷ ns) = false
 abbrev pub HasLeaves : {T : Type 0} → Forest T → Type 0
 HasLeaves f = (k : ℕ) → open_place f.spine < k → k < length f.nodes → slice_index (depths f.nodes) k ≡ length f.spine + 1
 
--- the last index before another at which there is this depth, or 0
+-- the last index before another at which the depth is this one; 0 if there is none
 abbrev pub last_before : List ℕ → ℕ → ℕ → ℕ
 last_before ds d zero = 0
 last_before ds d (suc k) = if slice_index ds k == d then k else last_before ds d k
@@ -241,8 +242,8 @@ cut_siblings f e =
     let ns = take (open_place f.spine + 1) f.nodes ++ cut_tokens e (length f.spine + 1) (drop (open_place f.spine + 1) f.nodes) in
     record f { nodes = ns; current = last_child f.spine ns }
 
--- A block is a list of items in reading order with their depths: its own item first, at 0, then its descendants. Here
--- its own item is at depth d.
+-- A block is a list of items in reading order, each with its depth: first its own item, at depth 0, then its
+-- descendants. This is the same block with its own item at depth d.
 abbrev pub at_depth : {T : Type 0} → ℕ → List (ℕ × T) → List (ℕ × T)
 at_depth d [] = []
 at_depth d (n ∷ ns) = (d + n.0, n.1) ∷ at_depth d ns
@@ -255,11 +256,11 @@ added f block = record f { nodes = f.nodes ++ at_depth (length f.spine + 1) bloc
 abbrev pub block_of : {T : Type 0} → T → List (ℕ × T) → List (ℕ × T)
 block_of x kids = (0, x) ∷ at_depth 1 kids
 
--- the block of the text between two offsets, unless it is empty
+-- the block of the text between two offsets; nothing if the second is not after the first
 abbrev pub text_between : ℕ → ℕ → List (ℕ × Item)
 text_between s e = if nat_lt s e then (0, record { start = s; «end» = e; body = Text false }) ∷ [] else []
 
--- the node one level less deep
+-- the node one level higher up
 abbrev pub shallower : {T : Type 0} → ℕ × T → ℕ × T
 shallower n = (n.0 - 1, n.1)
 
@@ -269,17 +270,17 @@ pub record IsChildOfCurrent {T : Type 0} (f : Forest T) (ix : TreeIndex) : Type 
   pub depth : slice_index (depths f.nodes) ix.0 ≡ length f.spine + 2
   pub current : IsSomeAnd f.current (λ c. c.0 < ix.0)
 
--- an index after the current node: that of the end of the nodes, or of a node at most as deep as a child of the current
--- node
-pub record CanMoveFrom {T : Type 0} (f : Forest T) (place : ℕ) : Type 0 where
-  pub within : place ≤ length f.nodes
-  pub depth : place < length f.nodes → slice_index (depths f.nodes) place ≤ length f.spine + 2
-  pub current : IsSomeAnd f.current (λ c. c.0 < place)
+-- an index after the current node: the number of nodes, or the index of a node at most as deep as a child of the
+-- current node
+pub record CanMoveFrom {T : Type 0} (f : Forest T) (index : ℕ) : Type 0 where
+  pub within : index ≤ length f.nodes
+  pub depth : index < length f.nodes → slice_index (depths f.nodes) index ≤ length f.spine + 2
+  pub current : IsSomeAnd f.current (λ c. c.0 < index)
 
--- the forest with the nodes from an index on one level less deep; the last node of the current node's depth is current
+-- the forest with each node from an index on moved one level up; the last node of the current node's depth is current
 abbrev pub moved_from : {T : Type 0} → Forest T → ℕ → Forest T
-moved_from f place =
-    let ns = map_from shallower place f.nodes in
+moved_from f index =
+    let ns = map_from shallower index f.nodes in
     record f { nodes = ns; current = Some (record { 0 = last_before (depths ns) (length f.spine + 1) (length ns) }) }
 
 -- the forest with the later siblings of a node, and their descendants, moved after the current node into its parent;

@@ -6,6 +6,6 @@ use Rattle.first_pass_tree.specs.Forest.{Forest, with_item}
 use Rattle.first_pass_tree.specs.contracts.forest.Tree.{the_row}
 use Rattle.first_pass_items.specs.contracts.item.Item.{the_row as item_row}
 
--- after the borrow ends, the node has the last item that was written through it
+-- when the borrow has ended, the node has the item that was last written through it
 abbrev pub LendsItem : MutBor (Forest Item) → TreeIndex → MutBor Item → Fml
 LendsItem s ix r = Lends (the_row item_row) item_row s r (with_item s.now ix)

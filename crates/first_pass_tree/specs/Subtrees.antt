@@ -8,8 +8,8 @@ pub record IsSubtree (ds : List ℕ) (place : ℕ) (past : ℕ) : Type 0 where
   pub following : place < past
   pub deeper : (k : ℕ) → place < k → k < past → slice_index ds place < slice_index ds k
 
--- The records, last first, are subtrees of a tree with these depths. None ends after the one recorded next, and the
--- last ends at n at the latest.
+-- These records, the last one first, are subtrees of a tree with these depths. Each ends at or before the end of the
+-- one recorded next, and the last one at or before n.
 abbrev pub AreSubtrees : List ℕ → ℕ → List Subtree → Type 0
 AreSubtrees ds n [] = Unit {0}
 AreSubtrees ds n (s ∷ ss) = (s.past ≤ n) × IsSubtree ds s.place s.past × AreSubtrees ds s.past ss
@@ -19,24 +19,24 @@ pub record IsTree {T : Type 0} (f : Forest T) (subtrees : List Subtree) : Type 0
   pub forest : IsForest f
   pub known : AreSubtrees (depths f.nodes) (length f.nodes) subtrees
 
--- the record of a node's index, and of the index before which the nodes after it are its descendants
+-- the record of the subtree that begins with the node at an index, and ends before another index
 abbrev pub subtree : ℕ → ℕ → Subtree
 subtree place past = record { place = place; past = past }
 
--- the records, last first, without the last ones that end after the first n nodes
+-- the records, the last one first; the last ones are dropped as long as they end after the first `count` nodes
 abbrev pub within_first : ℕ → List Subtree → List Subtree
 within_first count [] = []
 within_first count (s ∷ ss) = if nat_lt count s.past then within_first count ss else s ∷ ss
 
--- the records with the last one ended before an index, if it belongs to the node at `place`; if it is the only one, it
--- is removed
+-- The records. If the last one is that of the node at `place`, its subtree now ends before an index; but if it is also
+-- the only one, it is removed.
 abbrev pub ended_last : ℕ → ℕ → List Subtree → List Subtree
 ended_last place past [] = []
 ended_last place past (s ∷ []) = if s.place == place then [] else s ∷ []
 ended_last place past (s ∷ outer ∷ ss) = (if s.place == place then subtree place past else s) ∷ outer ∷ ss
 
--- the records with the subtree of the node at `place` ended before an index: those inside it are removed, and it too if
--- no other remains
+-- The records once the subtree of the node at `place` ends before an index. Records of subtrees inside it are removed.
+-- Its own record is removed too if no other remains.
 abbrev pub ended : ℕ → ℕ → List Subtree → List Subtree
 ended place past ss = ended_last place past (within_first (place + 1) ss)
 
@@ -44,12 +44,12 @@ ended place past ss = ended_last place past (within_first (place + 1) ss)
 abbrev pub stands_outside : ℕ → ℕ → Subtree → Bool
 stands_outside from to s = nat_lt s.place from || nat_lt to s.past
 
--- the last record, if its subtree is between these indices
+-- the last record, if its subtree is between two indices
 abbrev pub last_between : ℕ → ℕ → List Subtree → Option Subtree
 last_between from to [] = None
 last_between from to (s ∷ ss) = if stands_outside from to s then None else Some s
 
--- the records without that one
+-- the records without the last one, if its subtree is between two indices
 abbrev pub left_between : ℕ → ℕ → List Subtree → List Subtree
 left_between from to [] = []
 left_between from to (s ∷ ss) = if stands_outside from to s then s ∷ ss else ss

@@ -11,11 +11,11 @@ abbrev pub tight_body : ItemBody → ItemBody
 tight_body Paragraph = TightParagraph
 tight_body body = body
 
--- a node below a tight list, made tight if it is a paragraph of this depth, that of the blocks in the items
+-- a node below a tight list; a paragraph at this depth, that of the blocks in the items, becomes tight
 abbrev pub tightened : ℕ → ℕ × Item → ℕ × Item
 tightened depth n = (n.0, if n.0 == depth then record { start = n.1.start; «end» = n.1.«end»; body = tight_body n.1.body } else n.1)
 
--- the nodes below a node of this depth, up to the first that is not below it: paragraphs two levels deeper are tight
+-- the nodes after a node of this depth: up to the first that is not below it, paragraphs two levels deeper become tight
 unfoldable pub tight_run : ℕ → List (ℕ × Item) → List (ℕ × Item)
 tight_run depth [] = []
 tight_run depth (n ∷ ns) = if nat_lt depth n.0 then tightened (depth + 2) n ∷ tight_run depth ns else n ∷ ns
@@ -26,13 +26,13 @@ tight_at depth zero ns = tight_run depth ns
 tight_at depth (suc i) [] = []
 tight_at depth (suc i) (n ∷ ns) = n ∷ tight_at depth i ns
 
--- the nodes with one of them, below a node of this depth, made tight if it is a paragraph two levels deeper
+-- the nodes; the one at an index, below a node of this depth, becomes tight if it is a paragraph two levels deeper
 unfoldable pub tight_node : ℕ → ℕ → List (ℕ × Item) → List (ℕ × Item)
 tight_node depth i [] = []
 tight_node depth zero (n ∷ ns) = tightened (depth + 2) n ∷ ns
 tight_node depth (suc i) (n ∷ ns) = n ∷ tight_node depth i ns
 
--- the tree with these nodes
+-- the same for a tree, whose other parts stay the same
 abbrev pub with_tight_node : Forest Item → ℕ → TreeIndex → Forest Item
 with_tight_node f depth ix = record f { nodes = tight_node depth ix.0 f.nodes }
 

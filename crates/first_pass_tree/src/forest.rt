@@ -105,10 +105,10 @@ impl Tree<Item> {
         ensures ok { OnOk result (self.new ≡ appended self.old item) }
         ensures err { OnErr result (self.new ≡ self.old) }
     {
-        let place = TreeIndex(self.nodes.len());
+        let ix = TreeIndex(self.nodes.len());
         self.nodes.push((self.spine.len() + 1, item))?;
-        self.cur = Some(place);
-        Ok(place)
+        self.cur = Some(ix);
+        Ok(ix)
     }
 
     /// Adds the text of the bytes `start..end`. An empty range changes nothing. If the current node is a text that ends
@@ -267,10 +267,10 @@ impl Tree<Item> {
             × (self.new ≡ wrapped self.old c item))) }
         ensures err { OnErr result (self.new ≡ self.old) }
     {
-        let place = self.cur.unwrap().0 + 1;
-        wrap(&mut self.nodes, place, self.spine.len() + 2, item)?;
-        self.subtrees.cut_to(place);
-        Ok(TreeIndex(place))
+        let index = self.cur.unwrap().0 + 1;
+        wrap(&mut self.nodes, index, self.spine.len() + 2, item)?;
+        self.subtrees.cut_to(index);
+        Ok(TreeIndex(index))
     }
 
     /// Moves the later siblings of `ix`, a child of the current node, out of the current node, with their descendants.
@@ -293,15 +293,15 @@ impl Tree<Item> {
         self.move_from(ix.0);
     }
 
-    // Moves the nodes from the index `place` on, which are all below the current node, one level up. The last node of
+    // Moves the nodes from `index` on, which are all below the current node, one level up. The last node of
     // the current node's depth becomes current.
-    fn move_from(&mut self, place: usize)
-        requires { CanMoveFrom self.old place }
-        ensures { self.new ≡ moved_from self.old place }
+    fn move_from(&mut self, index: usize)
+        requires { CanMoveFrom self.old index }
+        ensures { self.new ≡ moved_from self.old index }
     {
         let depth = self.spine.len() + 1;
-        self.subtrees.cut_to(place);
-        lower(&mut self.nodes, place);
+        self.subtrees.cut_to(index);
+        lower(&mut self.nodes, index);
         self.cur = Some(TreeIndex(last_of_depth(&self.nodes, depth)));
     }
 
@@ -419,8 +419,8 @@ impl Tree<Item> {
         Ok(())
     }
 
-    /// Records that the subtree of the current node, if its beginning is recorded, ends with the last node. Removes the
-    /// records of subtrees inside it, and its own too if no other remains.
+    /// Removes the records of subtrees inside that of the current node. If the subtree of the current node is recorded,
+    /// records that it ends with the last node, or removes its record if no other remains.
     pub fn note_end(&mut self)
         ensures { self.new ≡ self.old }
     {
@@ -429,8 +429,8 @@ impl Tree<Item> {
         }
     }
 
-    /// Records that the subtree of the current node, if its beginning is recorded, ends before the node `ix`, which is
-    /// then moved out of the current node. Removes records like `note_end`.
+    /// Does the same as `note_end`, for a subtree that ends before the node `ix`. The caller then moves that node out
+    /// of the current node.
     pub fn note_end_before(&mut self, ix: TreeIndex)
         ensures { self.new ≡ self.old }
     {
@@ -450,8 +450,8 @@ impl Tree<Item> {
         self.subtrees.take_between(from, to)
     }
 
-    /// Returns whether the innermost open node is a table or a part of one: a table is reached from it outwards over
-    /// only table heads, rows and cells.
+    /// Returns whether the innermost open node is a table or a part of one: the open nodes from it outwards are table
+    /// heads, rows and cells, up to a table.
     pub fn is_in_table(&self) -> bool
         ensures { result ≡ in_table self.now.nodes self.now.spine }
     {

@@ -19,23 +19,23 @@ pub(crate) fn deeper_end(nodes: &[(usize, Item)], depth: usize, from: usize) -> 
     end
 }
 
-/// Inserts a node at the index `place`, and moves each node after it one level deeper. If the allocation fails, the
-/// list is unchanged.
+/// Inserts a node at `index`, and moves each node after it one level deeper. If the allocation fails, the list is
+/// unchanged.
 pub(crate) fn wrap(
     nodes: &mut Vec<(usize, Item)>,
-    place: usize,
+    index: usize,
     depth: usize,
     item: Item,
 ) -> Result<(), AllocError>
-    requires place_in { place ≤ length nodes.old.items }
+    requires place_in { index ≤ length nodes.old.items }
     requires small { IsShallow (depths nodes.old.items) }
     ensures ok { OnOk result
-        (nodes.new.items ≡ take place nodes.old.items
-        ++ (depth, item) ∷ map deeper (drop place nodes.old.items)) }
+        (nodes.new.items ≡ take index nodes.old.items
+        ++ (depth, item) ∷ map deeper (drop index nodes.old.items)) }
     ensures err { OnErr result (nodes.new.items ≡ nodes.old.items) }
 {
-    nodes.insert(place, (depth, item))?;
-    raise(nodes, place + 1);
+    nodes.insert(index, (depth, item))?;
+    raise(nodes, index + 1);
     Ok(())
 }
 
@@ -65,15 +65,15 @@ pub(crate) fn lower(nodes: &mut Vec<(usize, Item)>, from: usize)
     }
 }
 
-/// Returns the last index at which there is this depth, or 0 if there is none.
+/// Returns the last index at which the depth is this one, or 0 if there is none.
 pub(crate) fn last_of_depth(nodes: &[(usize, Item)], depth: usize) -> usize
     ensures { result ≡ last_before (depths nodes.now) depth (length nodes.now) }
 {
-    let mut place = nodes.len();
-    while 0 < place {
-        place -= 1;
-        if nodes[place].0 == depth {
-            return place;
+    let mut index = nodes.len();
+    while 0 < index {
+        index -= 1;
+        if nodes[index].0 == depth {
+            return index;
         }
     }
     0
@@ -151,21 +151,21 @@ pub(crate) fn is_single_before(nodes: &[(usize, Item)], first: usize, end: usize
     first + 1 == nodes.len() && nodes[first].1.start < end && nodes[first].1.end <= end
 }
 
-/// Returns the index of the next sibling of the node at the index `place`, or `None` if it has none.
-pub(crate) fn sibling_in(nodes: &[(usize, Item)], place: usize) -> Option<TreeIndex>
-    requires { place < length nodes.now }
-    ensures { result ≡ sibling_of (depths nodes.now) place }
+/// Returns the index of the next sibling of the node at `index`, or `None` if it has none.
+pub(crate) fn sibling_in(nodes: &[(usize, Item)], index: usize) -> Option<TreeIndex>
+    requires { index < length nodes.now }
+    ensures { result ≡ sibling_of (depths nodes.now) index }
 {
-    let end = deeper_end(nodes, nodes[place].0, place + 1);
-    if end < nodes.len() && nodes[end].0 == nodes[place].0 {
+    let end = deeper_end(nodes, nodes[index].0, index + 1);
+    if end < nodes.len() && nodes[end].0 == nodes[index].0 {
         Some(TreeIndex(end))
     } else {
         None
     }
 }
 
-/// Returns whether the innermost open node is a table or a part of one: a table is reached from it outwards over only
-/// table heads, rows and cells. `spine` is outermost first.
+/// Returns whether the innermost open node is a table or a part of one: the open nodes from it outwards are table
+/// heads, rows and cells, up to a table. `spine` is outermost first.
 pub(crate) fn in_table_of(nodes: &[(usize, Item)], spine: &[TreeIndex]) -> bool
     requires { IsOpenPath (depths nodes.now) (reverse spine.now) }
     ensures { result ≡ in_table nodes.now (reverse spine.now) }
@@ -173,8 +173,8 @@ pub(crate) fn in_table_of(nodes: &[(usize, Item)], spine: &[TreeIndex]) -> bool
     let mut left = spine.len();
     while 0 < left {
         left -= 1;
-        let place = spine[left];
-        match nodes[place.0].1.body {
+        let ix = spine[left];
+        match nodes[ix.0].1.body {
             ItemBody::Table(_) => return true,
             ItemBody::TableHead | ItemBody::TableRow | ItemBody::TableCell => {}
             _ => return false,

@@ -13,8 +13,8 @@ pub(crate) struct Subtree {
     pub(crate) past: usize,
 }
 
-/// Records of subtrees, in the order in which these begin; none ends after the next one. In contracts the last one
-/// comes first.
+/// Records of subtrees, in the order in which the subtrees begin. Each ends at or before the end of the next one. In
+/// contracts the last record comes first.
 #[derive(Drop)]
 pub(crate) struct Subtrees {
     list: Vec<Subtree>,
@@ -39,8 +39,8 @@ impl Subtrees {
         }
     }
 
-    /// Adds a record, after removing those of subtrees that end after the node with which it begins. Fails only if an
-    /// allocation fails.
+    /// Adds a record. First removes the last records, as long as their subtrees reach the first node of the new one.
+    /// Fails only if an allocation fails.
     pub(crate) fn add(&mut self, subtree: Subtree) -> Result<(), AllocError>
         ensures ok { OnOk result (self.new ≡ subtree ∷ within_first subtree.place self.old) }
         ensures err { OnErr result (self.new ≡ within_first subtree.place self.old) }
@@ -61,8 +61,9 @@ impl Subtrees {
         self.list.truncate(kept);
     }
 
-    /// Records that the subtree of the node at the index `place` ends before the index `past`, if the subtree is the
-    /// last one after those inside it are removed. If no other remains, it is removed too, since it is then not needed.
+    /// Removes the records of subtrees inside that of the node at the index `place`. If the last remaining record is
+    /// that of this node, records that its subtree ends before the index `past`. If no other record remains, removes it
+    /// instead, since it is then not needed.
     pub(crate) fn note_end(&mut self, place: usize, past: usize)
         requires { place < past }
         ensures { self.new ≡ ended place past self.old }

@@ -14,10 +14,10 @@ pub invariant_of-self-2 : goal.invariant_of-self-2
 invariant_of-self-2 c =
     let ns = c.self.inside.nodes.items in
     let d : c.len.result + 2 ≡ length c.self.inside.spine.items + 2 = omega arith in
-    let w = current-within _ c.unwrap-place.result c.unwrap-place.ensures c.self.invariant.forest in
+    let w = current-within _ c.unwrap-index.result c.unwrap-index.ensures c.self.invariant.forest in
     record {
       forest = rw (c.in_ok-wrap.ensures.ok, d, ← length-reverse c.self.inside.spine.items)
-          (wrapped-is _ c.unwrap-place.result c.args.item c.unwrap-place.ensures c.self.invariant.forest);
-      known = subtrees-joined ns c.wrap.new.nodes.items _ (c.unwrap-place.result.0 + 1) _ (omega arith) c.in_ok-wrap.ensures.ok
+          (wrapped-is _ c.unwrap-index.result c.args.item c.unwrap-index.ensures c.self.invariant.forest);
+      known = subtrees-joined ns c.wrap.new.nodes.items _ (c.unwrap-index.result.0 + 1) _ (omega arith) c.in_ok-wrap.ensures.ok
           (subtrees-first (depths ns) (length ns) _ _ _ c.cut_to.ensures c.self.invariant.known);
     }
