@@ -7,8 +7,8 @@ use Rattle.first_pass_items.specs.Bytes.{space}
 abbrev pub first_set : ℕ → ℕ → ℕ
 first_set mask n = if mask == 0 then n else trailing_zeros w64 mask
 
--- of the n bytes from an offset on, the first r pass the test; the next one fails it, if it is one of the n
--- (this project)
+-- The first r of the n bytes from an offset on pass the test. If r is less than n, the next byte fails it (this
+-- project).
 abbrev pub IsRunIn : (ℕ → Bool) → List ℕ → ℕ → ℕ → ℕ → Type 0
 IsRunIn test bytes at n r = (r ≤ n) × ((k : ℕ) → at ≤ k → k < at + r → test (slice_index bytes k) ≡ true) × (r < n → test (slice_index bytes (at + r)) ≡ false)
 

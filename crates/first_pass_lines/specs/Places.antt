@@ -42,7 +42,7 @@ unfoldable pub lines_at : ℕ → List ℕ → List Place
 lines_at start [] = []
 lines_at start (b ∷ bs) = line_place start (b ∷ bs) ∷ lines_after b (start + 1) bs
 
--- the start of the first of these lines in a text of n bytes; without lines, the end of the text (this project)
+-- the start of the first of these lines in a text of n bytes; the end of the text if there are no lines (this project)
 abbrev pub start_of : ℕ → List Place → ℕ
 start_of n [] = n
 start_of n (p ∷ ps) = p.line

@@ -1,4 +1,4 @@
--- Bytes with which no block begins except a paragraph, or a table or setext heading that later lines make of one.
+-- Bytes with which only a paragraph begins, unless later lines turn it into a table or a setext heading.
 use Rattle.std.specs.Prelude.{ℕ, ◌==◌, ◌||◌, not, nat_le, Bool, false, List, [], ◌∷◌}
 use Rattle.std.specs.Char.{is_ascii_alphabetic, is_ascii_digit}
 use Rattle.first_pass_items.specs.Bytes.{tab, space, asterisk, plus_sign, hyphen, greater_than, ascii_end}

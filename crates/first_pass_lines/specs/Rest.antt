@@ -16,8 +16,8 @@ pub record Rest : Type 0 where
 abbrev pub past_byte : Rest → List ℕ → Rest
 past_byte r bs = record { left = bs; taken = r.taken + 1; owed = 0; column = r.column + 1 }
 
--- the rest after one column of its first byte: a whole space, or the first column of a tab, which owes the others up to
--- the next tab stop (CommonMark 2.2)
+-- The rest after one column of its first byte, if that is a space or a tab. A tab then owes its other columns, up to
+-- the next tab stop (CommonMark 2.2).
 abbrev pub column_of_byte : Rest → List ℕ → Option Rest
 column_of_byte r [] = None
 column_of_byte r (b ∷ bs) =

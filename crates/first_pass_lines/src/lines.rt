@@ -48,8 +48,8 @@ pub fn begins(byte: u8, bytes: &[u8]) -> bool
     }
 }
 
-/// Returns whether `bytes` begins with an ASCII letter or a non-ASCII byte. No block except a paragraph begins with
-/// such a byte.
+/// Returns whether `bytes` begins with an ASCII letter or a non-ASCII byte. Only a paragraph begins with such a byte,
+/// unless later lines turn it into a table or a setext heading.
 #[inline(always)]
 #[tactic(auto, unfolding(crate::specs::Plain::is_plain))]
 pub fn is_plain_front(bytes: &[u8]) -> bool
@@ -78,7 +78,7 @@ pub fn is_inert_front(bytes: &[u8]) -> bool
 }
 
 /// Returns the length in bytes of the line ending at the start of `bytes`: `\n`, `\r\n` or `\r`. Returns 0 if `bytes`
-/// is empty, and `None` if there is neither. CommonMark 2.1.
+/// is empty. Otherwise returns `None` if no line ending is there. CommonMark 2.1.
 pub fn scan_eol(bytes: &[u8]) -> Option<usize>
     ensures value { result ≡ eol_len bytes.now }
     ensures within { IfSome result (λ n. n ≤ length bytes.now) }
@@ -106,7 +106,7 @@ pub fn scan_whitespace_no_nl(bytes: &[u8]) -> usize
     ensures value { result ≡ prefix_len is_white bytes.now }
     ensures within { result ≤ length bytes.now }
 {
-    // Most often there is none, or one space.
+    // Most often there is no white space, or one space.
     match bytes {
         [first, ..] if *first > b' ' => 0,
         [b' ', next, ..] if *next > b' ' => 1,
@@ -140,8 +140,8 @@ fn near_white_len(bytes: &[u8]) -> usize
     bytes.iter().take_while(|b| is_white(**b)).count()
 }
 
-/// Returns the length in bytes of the blank line at the start of `bytes`, with its line ending, which it may lack at
-/// the end of the text. Returns `None` if the line is not blank. CommonMark 2.1.
+/// Returns the length in bytes of the blank line at the start of `bytes`, with its line ending. The last line of the
+/// text may have no line ending. Returns `None` if the line is not blank. CommonMark 2.1.
 pub fn scan_blank_line(bytes: &[u8]) -> Option<usize>
     ensures value { result ≡ blank_len bytes.now }
     ensures within { IfSome result (λ n. n ≤ length bytes.now) }
@@ -232,8 +232,8 @@ fn heading_level(signs: usize) -> Option<HeadingLevel>
     }
 }
 
-/// Returns the level of the ATX heading at the start of `bytes`, or `None` if there is none. It begins with 1 to 6
-/// number signs, then a space, a tab, or the end of the line or of the text. CommonMark 4.2.
+/// Returns the level of the ATX heading at the start of `bytes`. An ATX heading begins with 1 to 6 number signs, then a
+/// space, a tab, or the end of the line or of the text. Returns `None` if none is there. CommonMark 4.2.
 #[tactic(auto, unfolding(crate::specs::Lines::atx_level))]
 pub fn scan_atx_heading(bytes: &[u8]) -> Option<HeadingLevel>
     ensures value { result ≡ atx_level bytes.now }
