@@ -63,8 +63,9 @@ code_fence bs =
     then (let n = run_len backquote bs in if nat_le 3 n && not (has_backquote (drop n bs)) then Some (n, backquote) else None)
     else (if begins tilde bs then (let n = run_len tilde bs in if nat_le 3 n then Some (n, tilde) else None) else None)
 
--- the length of the closing code fence here, with trailing spaces and tabs but without its line ending: at least as
--- many bytes c as the opening code fence has (CommonMark 4.5). The end of the text closes the block too (this project).
+-- The length of the closing code fence here, with trailing spaces and tabs but without its line ending. It has at least
+-- `count` bytes c, the number in the opening code fence (CommonMark 4.5). The end of the text closes the block too
+-- (this project).
 unfoldable pub closing_fence_len : ℕ → ℕ → List ℕ → Option ℕ
 closing_fence_len c count bs =
     if length bs == 0

@@ -14,7 +14,8 @@ use Rattle.first_pass_scan.specs.LeafLines.{hrule_len}
 use Rattle.first_pass_lines.specs.Places.{line_rest}
 use Rattle.first_pass_lines.specs.Rest.{Rest, after_columns, indent, past_bytes}
 
--- the number that is written by the digits of n, followed by these digits; if n is 0, by these alone (CommonMark 5.2)
+-- the number that is written with the digits of n and then these digits; if n is 0, with only these digits (CommonMark
+-- 5.2)
 abbrev pub number_from : ℕ → List ℕ → ℕ
 number_from n [] = n
 number_from n (b ∷ bs) = number_from (10 * n + (b - digit_zero)) bs
@@ -132,8 +133,8 @@ tag_kind bs =
     else (if has_tag Caution bs then Some Caution
     else None))))
 
--- given this kind, whose tag the bytes begin with: the kind and the length of the line with its line ending, if the
--- rest of the line is blank (GitHub's alerts)
+-- For this kind, whose tag the bytes begin with: the kind, and the length of the line with its line ending. There is no
+-- result if the rest of the line is not blank (GitHub's alerts).
 abbrev pub tag_line_of : List ℕ → Option BlockQuoteKind → Option (BlockQuoteKind × ℕ)
 tag_line_of bs None = None
 tag_line_of bs (Some kind) = let n = length (tag_of kind) in option_map (λ k. (kind, n + k)) (blank_len (drop n bs))

@@ -131,8 +131,9 @@ pub fn scan_code_fence(bytes: &[u8]) -> Option<(usize, u8)>
 }
 
 /// Returns the length in bytes of the closing code fence at the start of `bytes`, with trailing spaces and tabs but
-/// without its line ending: at least `count` of `byte`, and nothing else on the line. Returns 0 at the end of the text,
-/// which closes the block too, and `None` if there is neither. CommonMark 4.5.
+/// without its line ending. A closing code fence is at least `count` of `byte`, then only spaces and tabs. Returns 0 if
+/// `bytes` is empty, since the end of the text closes the block too. Otherwise returns `None` if no closing fence is
+/// there. CommonMark 4.5.
 #[tactic(auto, unfolding(crate::specs::LeafLines::closing_fence_len))]
 pub fn scan_closing_code_fence(bytes: &[u8], byte: u8, count: usize) -> Option<usize>
     ensures value { result ≡ closing_fence_len byte count bytes.now }

@@ -124,8 +124,8 @@ impl<'a> LineStart<'a> {
         self.owed == 0 && is_plain_front(rest_of(self.bytes, self.at))
     }
 
-    /// Returns `true` only if no column is owed, and the next byte is neither a space nor a tab and can begin neither a
-    /// list item nor a block quote.
+    /// Returns `true` only if no column is owed, and no indentation, list item or block quote can begin with the next
+    /// byte.
     #[inline(always)]
     pub fn is_at_inert(&self) -> bool
         ensures owed { result ≡ true → self.now.owed ≡ 0 }
@@ -324,7 +324,7 @@ impl<'a> LineStart<'a> {
     }
 
     // Takes the further columns between column `width` and an item's content, if they count. Returns the item's indent:
-    // `width` and what was taken. Takes none if there are four or more, or if the rest is blank.
+    // `width` plus the columns taken. Takes none if there are four or more, or if the rest is blank.
     #[inline(always)]
     #[tactic(auto, unfolding(crate::specs::Markers::content_indent))]
     fn scan_content_indent(&mut self, width: usize) -> usize
@@ -375,7 +375,8 @@ impl<'a> LineStart<'a> {
     }
 
     // Takes `n` spaces and returns `true`, if they are next, no column is owed, and at least 16 bytes are left.
-    // Otherwise takes nothing. Reads 16 bytes at once, without a loop whose end is hard to predict.
+    // Otherwise takes nothing, and returns `false`. Reads 16 bytes at once, without a loop whose end is hard to
+    // predict.
     #[inline(always)]
     fn take_spaces(&mut self, n: usize) -> bool
         ensures yes { result ≡ true → (self.new ≡ after_columns n self.old) × (n ≤ indent self.old) }
@@ -455,10 +456,10 @@ impl<'a> LineStart<'a> {
     }
 }
 
-/// Returns the list marker at the start of the line with which `bytes` begins: its length in bytes, its byte (`.` or
-/// `)` after digits), its number (0 for a bullet), and the columns that a line needs to continue the item. Returns
-/// `None` if no item begins there. It does not matter whether the line is a thematic break, such as `- - -`. CommonMark
-/// 5.2.
+/// Returns the list marker at the start of the first line of `bytes`. The four values are the length of the marker in
+/// bytes, its byte (`.` or `)` after digits), its number (0 for a bullet), and the columns that a line needs to
+/// continue the item. Returns `None` if no item begins there. It does not matter whether the line is a thematic break,
+/// such as `- - -`. CommonMark 5.2.
 #[tactic(auto, unfolding(crate::specs::Markers::listitem))]
 pub fn scan_listitem(bytes: &[u8]) -> Option<(usize, u8, u64, usize)>
     ensures value { result ≡ listitem bytes.now }
