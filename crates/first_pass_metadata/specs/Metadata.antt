@@ -34,8 +34,8 @@ any_line_closes c start bs = list_any (λ line. closes_metadata c line.rest.left
 abbrev pub after_line : List ℕ → List ℕ
 after_line bs = drop (line_len bs) bs
 
--- The first two lines allow metadata of the byte c to open here: the first is exactly three of that byte, then white
--- space, and the second is neither blank nor a closing line (this project).
+-- The first two lines allow metadata of the byte c to open here. The first is exactly three of that byte, then white
+-- space. The second is neither blank nor a closing line (this project).
 unfoldable pub begins_metadata : ℕ → List ℕ → Bool
 begins_metadata c bs =
     let next = after_line bs in

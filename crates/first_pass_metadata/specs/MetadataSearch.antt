@@ -6,8 +6,8 @@ use Rattle.first_pass_metadata.specs.Metadata.{closes_metadata}
 use Rattle.first_pass_metadata.specs.declared.metadata_search.ClosingLine.{ClosingLine}
 use Rattle.first_pass_metadata.specs.declared.metadata_search.MetadataEnds.{MetadataEnds}
 
--- the start of the first of these lines that closes metadata of the byte c, in a text of n bytes; the end of the text,
--- if none does (this project)
+-- the start of the first of these lines that closes metadata of the byte c; if none does, n, the length of the text
+-- (this project)
 unfoldable pub first_closing : ℕ → ℕ → List Place → ℕ
 first_closing c n [] = n
 first_closing c n (line ∷ lines) = if closes_metadata c line.rest.left then line.line else first_closing c n lines
@@ -17,8 +17,8 @@ first_closing c n (line ∷ lines) = if closes_metadata c line.rest.left then li
 unfoldable pub closing_line_from : ℕ → List ℕ → ℕ → ℕ
 closing_line_from c text from = first_closing c (length text) (lines_at from (drop from text))
 
--- the record for the byte c is right: the first line from `found.from` on that closes metadata of that byte begins at
--- `found.at` (this project)
+-- the record for the byte c is right: `found.at` is the start of the first line from `found.from` on that closes
+-- metadata of that byte (this project)
 pub record IsClosingLine (c : ℕ) (text : List ℕ) (found : ClosingLine) : Type 0 where
   pub within : found.from ≤ length text
   pub first : found.at ≡ closing_line_from c text found.from

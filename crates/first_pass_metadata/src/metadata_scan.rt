@@ -22,8 +22,8 @@ fn has_closing_marks(bytes: &[u8], byte: u8) -> bool
 }
 
 /// Returns the length in bytes of the closing line of metadata at the start of `bytes`, with trailing spaces but
-/// without its line ending, or `None` if there is none. It is three of `byte`, or `...` if that is `-`, then only
-/// spaces.
+/// without its line ending. A closing line is three of `byte`, or `...` if `byte` is `-`, then only spaces. Returns
+/// `None` if none is there.
 #[tactic(auto, unfolding(crate::specs::Metadata::closing_metadata_len))]
 pub fn scan_closing_metadata_block(bytes: &[u8], byte: u8) -> Option<usize>
     ensures value { result ≡ closing_metadata_len byte bytes.now }
@@ -91,10 +91,10 @@ fn opens_metadata(bytes: &[u8], byte: u8) -> bool
     }
 }
 
-/// Returns the byte of the metadata block at the start of `bytes`: `-` if `yaml` is on, `+` if `pluses` is on. Returns
-/// `None` if there is none. Its first line is exactly three of that byte, then white space. The next line is neither
-/// blank nor a closing line, and a later line is a closing line. `bytes` runs to the end of the text, and its lines are
-/// read with their container prefixes.
+/// Returns the byte of the metadata block at the start of `bytes`: `-` if `yaml` is on, `+` if `pluses` is on. The
+/// first line of the block is exactly three of that byte, then white space. The next line is neither blank nor a
+/// closing line, and a later line is a closing line. Returns `None` if no such block is there. `bytes` extends to the
+/// end of the text, and its lines are read with their container prefixes.
 #[tactic(auto, unfolding(crate::specs::Metadata::metadata_byte))]
 pub fn scan_metadata_block(bytes: &[u8], yaml: bool, pluses: bool) -> Option<u8>
     ensures value { result ≡ metadata_byte yaml pluses bytes.now }

@@ -7,8 +7,8 @@ ghost use Rattle.first_pass_metadata.specs.MetadataSearch.{IsClosingLine, IsKnow
 use crate::metadata_scan::{scan_closing_line, scan_metadata_opening};
 use first_pass_lines::places::{next_line, rest_of};
 
-// The first line from an offset on that closes metadata of a byte: the offset `from` where the search began,
-// and the start of the line, or the text's length if there is none.
+// The first line that closes metadata of a byte, in a search from the offset `from` on. `at` is the start of that line,
+// or the text's length if there is none.
 #[derive(Clone, Copy, PartialEq, Eq)]
 struct ClosingLine {
     from: usize,
