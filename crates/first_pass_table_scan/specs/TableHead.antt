@@ -45,7 +45,7 @@ delimiter_cell bs =
     let tail = without_first colon cell in
     if is_hyphens (without_last colon tail) then Some (alignment_by (begins colon cell) (ends colon tail)) else None
 
--- the values, if each one is there (this project)
+-- all the values, if none is missing (this project)
 abbrev pub each_of : List (Option Alignment) → Option (List Alignment)
 each_of [] = Some []
 each_of (None ∷ os) = None
@@ -55,8 +55,8 @@ each_of (Some x ∷ os) = option_map (λ xs. x ∷ xs) (each_of os)
 unfoldable pub delimiter_cells : List ℕ → Option (List Alignment)
 delimiter_cells bs = each_of (map delimiter_cell (slice_split is_pipe bs))
 
--- the alignments of the line that begins here, if it is a delimiter row: it contains a pipe, and its indentation is
--- at most three columns; one pipe at each end is optional (GFM 4.10)
+-- The alignments of the line that begins here, if it is a delimiter row. Such a row contains a pipe, and its
+-- indentation is at most three columns. One pipe at each end is optional (GFM 4.10).
 unfoldable pub delimiter_row : List ℕ → Option (List Alignment)
 delimiter_row bs =
     let row = stripped (take_while is_content bs) in
