@@ -5,7 +5,7 @@ use Rattle.first_pass_html.specs.Names.{begins_with_name}
 use Rattle.first_pass_html.specs.declared.ends.HtmlEnd.{HtmlEnd}
 use Rattle.first_pass_html.specs.declared.ends.HtmlEnd.TheVariants.{AnyRawTag, Text}
 
--- an end condition of an HTML block of these kinds (CommonMark 4.6, end conditions 1 to 5)
+-- an end condition of an HTML block of types 1 to 5 (CommonMark 4.6, end conditions 1 to 5)
 pub data BlockEnd : Type 0 where
   -- the line contains any end tag of raw text, whichever tag opened the block: type 1
   AtRawEndTag : BlockEnd

@@ -27,8 +27,8 @@ pub record IsEndBefore (bs : List ℕ) (following : List ℕ) : Type 0 where
   pub parts : bs ≡ ending ++ following
   pub ends : IsOpenTagEnd ending
 
--- the first n bytes are attributes; if the bytes begin with the rest of an open tag, only the end of that tag follows
--- these attributes (CommonMark 6.6, open tag)
+-- The first n bytes are attributes. If the bytes begin with the rest of an open tag, the end of that tag directly
+-- follows these attributes (CommonMark 6.6, open tag).
 pub record IsPastAttributes (bs : List ℕ) (n : ℕ) : Type 0 where
   pub attributes : List (List ℕ)
   pub parts : take n bs ≡ concat attributes

@@ -23,7 +23,7 @@ abbrev pub ends_raw_name : List ℕ → Bool
 ends_raw_name [] = true
 ends_raw_name (b ∷ bs) = is_white_or_line_end b || b == greater_than
 
--- the name of a block ends before these bytes: the same follows, or `/>` (CommonMark 4.6, start condition 6)
+-- the name of a block ends before these bytes: the same as above follows, or `/>` (CommonMark 4.6, start condition 6)
 abbrev pub ends_block_name : List ℕ → Bool
 ends_block_name [] = true
 ends_block_name (b ∷ bs) = ends_raw_name (b ∷ bs) || (b == solidus && begins greater_than bs)
