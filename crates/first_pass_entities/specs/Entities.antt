@@ -45,7 +45,7 @@ named_in_xml name =
     else (if bytes_eq name (codes "apos") then Some 39
     else None))))
 
--- the character of an entity name for a letter or sign, of those that this project keeps (CommonMark 2.5)
+-- the character of an entity name for a letter or sign, one of those that this project keeps (CommonMark 2.5)
 unfoldable pub named_sign : List ℕ → Option ℕ
 named_sign name =
     if bytes_eq name (codes "nbsp") then Some 0xA0
@@ -54,7 +54,7 @@ named_sign name =
     else (if bytes_eq name (codes "AElig") then Some 0xC6
     else None)))
 
--- the character of an entity name for punctuation, of those that this project keeps (CommonMark 2.5)
+-- the character of an entity name for punctuation, one of those that this project keeps (CommonMark 2.5)
 unfoldable pub named_punctuation : List ℕ → Option ℕ
 named_punctuation name =
     if bytes_eq name (codes "hellip") then Some 0x2026
