@@ -12,8 +12,8 @@ use Rattle.first_pass_lines.specs.Lines.{begins, is_white_or_line_end, is_line_e
 use Rattle.first_pass_links.specs.Escapes.{read_in}
 use Rattle.first_pass_links.specs.Destinations.{unescaped_upto}
 
--- if the handler of line endings succeeds on the bytes from any character of the text on, it returns what `prefix`
--- gives for them: the length of the next line's prefix, or none if the label may not continue there (this project)
+-- On the bytes from any character of the text on, the handler of line endings fails, or returns what `prefix` gives for
+-- them. That is the length of the next line's prefix, or `None` if the label may not continue there (this project).
 abbrev pub AnswersWith : List ℕ → (List ℕ → Option ℕ) → (Bor (List ℕ) → Result (Option ℕ) AllocError → Type 0) → Type 0
 AnswersWith text prefix post =
     (following : Bor (List ℕ)) (answer : Option ℕ) (at : ℕ) → IsCharBoundary text at → following.now ≡ drop at text → post following (Ok answer)
@@ -59,18 +59,20 @@ ends_line_label b = is_bracket b || is_line_end b
 abbrev pub label_len : List ℕ → ℕ
 label_len bs = unescaped_upto is_bracket 0 bs
 
--- each run of white space as one space (CommonMark 6.3), at both ends too (this project; CommonMark 6.3 drops it there)
+-- each run of white space and line endings as one space (CommonMark 6.3), at both ends too (this project; CommonMark
+-- 6.3 drops it there)
 unfoldable pub single_spaced : List ℕ → List ℕ
 single_spaced [] = []
 single_spaced (b ∷ bs) =
     if is_white_or_line_end b then (if is_white_or_line_end (slice_index bs 0) then single_spaced bs else space ∷ single_spaced bs) else b ∷ single_spaced bs
 
--- a label as it is read: runs of white space are single spaces; in a table, backslashes before pipes are dropped
--- (CommonMark 6.3, GFM 4.10)
+-- a label as it is read: each run of white space and line endings is one space; in a table, backslashes before pipes
+-- are dropped (CommonMark 6.3, GFM 4.10)
 abbrev pub as_read : Bool → List ℕ → List ℕ
 as_read in_table bs = single_spaced (read_in in_table bs)
 
--- a label has at most 999 characters, and one of them at least is not white space (CommonMark 6.3)
+-- a label has at most 999 characters, and at least one of them is neither white space nor part of a line ending
+-- (CommonMark 6.3)
 abbrev pub is_label : List ℕ → Bool
 is_label bs = nat_le (count_by begins_character bs) 999 && list_any (λ b. not (is_white_or_line_end b)) bs
 
@@ -90,8 +92,8 @@ label_at prefix in_table text =
 abbrev pub before_bracket : (List ℕ → Option ℕ) → List ℕ → List ℕ
 before_bracket prefix text = let bs = bytes_of (joined prefix 0 0 text) in take (label_len bs) bs
 
--- the label as it is read differs from its source: it has a line ending, white space other than single spaces, or in
--- a table a backslash before a pipe (CommonMark 6.3)
+-- The label as it is read differs from its source. The source has a line ending, white space other than single spaces,
+-- or in a table a backslash before a pipe (CommonMark 6.3).
 abbrev pub IsRewritten : (List ℕ → Option ℕ) → Bool → List ℕ → Type 0
 IsRewritten prefix in_table text = as_read in_table (before_bracket prefix text) ≢ before_bracket prefix text
 
@@ -109,7 +111,7 @@ pub record ErrsAfter (text : List ℕ) (at : ℕ) (post : Bor (List ℕ) → Res
   pub error : AllocError
   pub errs : post following (Err error)
 
--- reading a label may fail in two cases: its source changes as it is read, or the joined text has no unescaped bracket
--- and the handler fails after a line ending (this project)
+-- Reading a label may fail in two cases. Its source changes as it is read; or the joined text has no unescaped bracket,
+-- and the handler fails after a line ending (this project).
 abbrev pub CanErr : (List ℕ → Option ℕ) → Bool → List ℕ → (Bor (List ℕ) → Result (Option ℕ) AllocError → Type 0) → Type 0
 CanErr prefix in_table text post = IsRewritten prefix in_table text ⊎ (HasNoBracket prefix text × ((at : ℕ) × ErrsAfter text at post))

@@ -2,8 +2,8 @@
 use Rattle.std.specs.Prelude.{ℕ, Bool, ◌==◌, ◌&&◌, ◌||◌, not, nat_le}
 use Rattle.first_pass_items.specs.Bytes.{backslash, ampersand}
 
--- an ASCII character from `*` to `~`, except square brackets and the backslash: in a label, or in a destination
--- outside `<..>`, it ends, nests and escapes nothing, and is no white space (CommonMark 6.3)
+-- An ASCII character from `*` to `~`, except square brackets and the backslash. In a label, or in a destination outside
+-- `<..>`, it ends, nests and escapes nothing. It is no white space (CommonMark 6.3).
 abbrev pub is_ordinary : ℕ → Bool
 is_ordinary b = (nat_le 42 b && nat_le b 90) || (nat_le 94 b && nat_le b 126)
 

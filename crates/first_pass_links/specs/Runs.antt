@@ -25,8 +25,8 @@ pub data IsBare : ℕ → List ℕ → List ℕ → Type 0 where
       → IsBare deepest inside (right_parenthesis ∷ (more ++ following)) → IsBare (suc deepest) more following
       → IsBare (suc deepest) (left_parenthesis ∷ (inside ++ right_parenthesis ∷ more)) following
 
--- a run ends before these bytes: there are none, or the first is an ASCII control character, a space, or a `)`; since
--- the run is balanced, that `)` closes none (CommonMark 6.3)
+-- A run ends before these bytes: there are none, or the first is an ASCII control character, a space, or a `)`. Since
+-- the run is balanced, that `)` closes none of its parentheses (CommonMark 6.3).
 abbrev pub ends_before : List ℕ → Bool
 ends_before [] = true
 ends_before (b ∷ bs) = ends_run b || b == right_parenthesis

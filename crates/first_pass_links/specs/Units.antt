@@ -21,7 +21,7 @@ part text from to = take (to - from) (drop from text)
 abbrev pub kept_unit : ℕ → ℕ → Bool → Unit
 kept_unit next characters solid = record { next = next; characters = characters; solid = solid; paused = next; resumed = next; space = false }
 
--- a run of white space: a space replaces it, unless it is a single space (CommonMark 6.3)
+-- a run of white space and line endings: a space replaces it, unless it is a single space (CommonMark 6.3)
 abbrev pub space_unit : List ℕ → ℕ → ℕ → ℕ → Unit
 space_unit text at next characters =
     if next == at + 1 && slice_index text at == space
@@ -30,7 +30,8 @@ space_unit text at next characters =
 
 -- a unit without the backslash at an offset (GFM 4.10)
 abbrev pub dropped_unit : ℕ → ℕ → ℕ → Unit
-dropped_unit next characters place = record { next = next; characters = characters; solid = true; paused = place; resumed = place + 1; space = false }
+dropped_unit next characters dropped =
+    record { next = next; characters = characters; solid = true; paused = dropped; resumed = dropped + 1; space = false }
 
 -- the unit that begins with a backslash: `\\|` or `\|` in a table, without the backslash directly before the pipe;
 -- otherwise an escape, or a backslash that escapes nothing (CommonMark 2.4, GFM 4.10)
@@ -49,8 +50,8 @@ read_of text at unit = part text at unit.paused ++ ((if unit.space then space �
 abbrev pub left_at : (List ℕ → Option ℕ) → List ℕ → ℕ → List (ℕ × ℕ)
 left_at prefix text at = joined prefix at 0 (drop at text)
 
--- the weight of a text: two for each byte of white space other than a space, and one for each other byte; a text that
--- changes gets lighter (this project)
+-- The weight of a text: 2 for each byte of white space or of a line ending, except spaces; 1 for each other byte. A
+-- text that changes gets lighter (this project).
 unfoldable pub weight : List ℕ → ℕ
 weight [] = 0
 weight (b ∷ bs) = (if is_white_or_line_end b && not (b == space) then 2 else 1) + weight bs
@@ -88,7 +89,7 @@ pub record IsLighter (text : List ℕ) (written : List ℕ) (from at : ℕ) : Ty
   pub boundary : IsCharBoundary text from
   pub lighter : ((from ≡ 0) × (written ≡ [])) ⊎ (weight written < weight (take from text))
 
--- a run of white space from one offset up to another, across line endings and prefixes, with its number of characters
+-- a run of white space and line endings from one offset up to another, across prefixes, with its number of characters
 -- (CommonMark 6.3)
 pub record IsWhiteRun (prefix : List ℕ → Option ℕ) (text : List ℕ) (at next characters : ℕ) : Type 0 where
   pub run : List (ℕ × ℕ)
@@ -96,12 +97,12 @@ pub record IsWhiteRun (prefix : List ℕ → Option ℕ) (text : List ℕ) (at n
   pub white : list_all is_white_or_line_end (bytes_of run) ≡ true
   pub count : length run ≡ characters
 
--- the rest of the label has only white space (CommonMark 6.3)
+-- the rest of the label has only white space and line endings (CommonMark 6.3)
 abbrev pub IsBlankRest : (List ℕ → Option ℕ) → List ℕ → ℕ → Type 0
 IsBlankRest prefix text at = list_all is_white_or_line_end (bytes_of (left_at prefix text at)) ≡ true
 
--- The end of a run of white space that begins at an offset: within the text, between characters, and after the first
--- byte. A run of one space ends directly after it (CommonMark 6.3).
+-- The end of a run of white space and line endings that begins at an offset. It is within the text, between characters,
+-- and after the first byte. A run of one space ends directly after it (CommonMark 6.3).
 pub record EndsWhiteRun (text : List ℕ) (at next characters : ℕ) : Type 0 where
   pub later : at < next
   pub within : next ≤ length text
@@ -110,8 +111,8 @@ pub record EndsWhiteRun (text : List ℕ) (at next characters : ℕ) : Type 0 wh
   pub bound : characters ≤ next - at
   pub lone : characters ≡ 1 → slice_index text at ≡ space → next ≡ at + 1
 
--- white space extends from `at` up to `next`; the byte at `next` ends a line, and the handler fails after it (this
--- project)
+-- white space and line endings extend from `at` up to `next`; the byte at `next` ends a line, and the handler fails
+-- after it (this project)
 pub record StopsByError (text : List ℕ) (at : ℕ) (post : Bor (List ℕ) → Result (Option ℕ) AllocError → Type 0) : Type 0 where
   pub next : ℕ
   pub characters : ℕ

@@ -13,9 +13,9 @@ use first_pass_lines::places::rest_of;
 
 /// Returns the length of the link destination at `start_ix`, and its text. `start_ix` is an offset into `text`; the
 /// length is in bytes. If the destination is inside `<..>`, the length includes the angle brackets, the text does not.
-/// Otherwise it ends before a space, an ASCII control character or an unescaped `)` that closes no parenthesis, or at
-/// the end; its unescaped parentheses are balanced, and nest at most `max_next` deep. Returns `None` if there is none.
-/// CommonMark 6.3.
+/// Otherwise the destination ends before a space, an ASCII control character or an unescaped `)` that closes no
+/// parenthesis, or at the end of `text`. Its unescaped parentheses are then balanced, and nest at most `max_next` deep.
+/// Returns `None` if there is no destination. CommonMark 6.3.
 #[tactic(auto, unfolding(crate::specs::Destinations::destination_at, crate::specs::Destinations::bracketed_at))]
 pub fn scan_link_dest(text: &str, start_ix: usize, max_next: usize) -> Option<(usize, &str)>
     requires within { start_ix ≤ length text.now }

@@ -22,19 +22,19 @@ use std::alloc::{AllocError, Global};
 // The most characters that a label may have (CommonMark 6.3).
 const MOST_CHARACTERS: usize = 999;
 
-/// Returns the length of the link label at the start of `text`, and the label as it is read. `text` is the bytes
-/// after a `[`; the length is in bytes, with the `]`. Each run of white space is read as one space. In a table, a
-/// backslash directly before a pipe is dropped; all other backslashes stay. If nothing changes, the label is borrowed
-/// and takes no memory.
+/// Returns the length of the link label at the start of `text`, and the label as it is read. `text` is the bytes after
+/// a `[`; the length is in bytes, with the `]`. Each run of white space and line endings is read as one space. In a
+/// table, a backslash directly before a pipe is dropped; all other backslashes stay. If nothing changes, the label is
+/// borrowed and takes no memory.
 ///
 /// `linebreak_handler` gets the bytes after each line ending. It returns the length of the next line's prefix, which
 /// is not part of the label, or `None` if the label may not continue there.
 ///
 /// Returns `None` if no unescaped `]` comes before an unescaped `[`, the end, or a line on which the label may not
-/// continue. Also returns `None` if the label has only white space, or more than 999 characters; the prefixes of lines
-/// do not count. Fails only if the handler fails at a line ending before any unescaped bracket, or if an allocation
-/// fails. An allocation is needed only if the text before the first unescaped bracket changes as it is read.
-/// CommonMark 6.3.
+/// continue. Also returns `None` if the label has only white space and line endings, or more than 999 characters; the
+/// prefixes of lines do not count. Fails only if the handler fails at a line ending before any unescaped bracket, or if
+/// an allocation fails. An allocation is needed only if the text before the first unescaped bracket changes as it is
+/// read. CommonMark 6.3.
 pub fn scan_link_label_rest<'t, F>(
     alloc: Global,
     text: &'t str,
@@ -104,8 +104,8 @@ fn ends_line_label(byte: u8) -> bool
     is_bracket(byte) || is_line_end(byte)
 }
 
-/// Returns whether these bytes may be a label: they have at most 999 characters, one of which is not white space
-/// (CommonMark 6.3).
+/// Returns whether these bytes may be a label: they have at most 999 characters, and one of these is neither white
+/// space nor part of a line ending (CommonMark 6.3).
 pub(crate) fn is_label(bytes: &[u8]) -> bool
     ensures { result ≡ is_label bytes.now }
 {
@@ -119,7 +119,7 @@ fn count_characters(bytes: &[u8]) -> usize
     bytes.iter().filter(|b| begins_character(**b)).count()
 }
 
-// Whether one of the bytes is not white space.
+// Whether one of the bytes is neither white space nor part of a line ending.
 fn holds_text(bytes: &[u8]) -> bool
     ensures { result ≡ list_any (λ b. not (is_white_or_line_end b)) bytes.now }
 {
@@ -175,8 +175,8 @@ where
     Ok(Some(kept_unit(at + 1, begun_characters(bytes[at]), true)))
 }
 
-// The run of white space at an offset, across line endings and the prefixes after them: its end, and its number of
-// characters. `None` if the label may not continue.
+// The run of white space and line endings at an offset, across the prefixes after these line endings: its end, and its
+// number of characters. `None` if the label may not continue.
 fn scan_white_run<F>(
     bytes: &[u8],
     at: usize,
@@ -210,8 +210,8 @@ where
     Ok(Some((next, characters)))
 }
 
-// The offset after a byte of white space, and after the prefix of the next line if the byte ends a line; `None` if
-// the label may not continue there.
+// The offset after a byte of white space or of a line ending, and after the prefix of the next line if the byte ends a
+// line; `None` if the label may not continue there.
 fn scan_space_byte<F>(
     bytes: &[u8],
     at: usize,
@@ -245,7 +245,7 @@ where
     }
 }
 
-// A run of white space from one offset up to another.
+// A run of white space and line endings from one offset up to another.
 fn space_unit(bytes: &[u8], at: usize, next: usize, characters: usize) -> Unit
     requires { at < length bytes.now }
     ensures { result ≡ space_unit bytes.now at next characters }
@@ -292,22 +292,22 @@ fn kept_unit(next: usize, characters: usize, solid: bool) -> Unit
 }
 
 // A unit without the backslash at an offset.
-fn dropped_unit(next: usize, characters: usize, place: usize) -> Unit
-    requires { place < next }
-    ensures { result ≡ dropped_unit next characters place }
+fn dropped_unit(next: usize, characters: usize, dropped: usize) -> Unit
+    requires { dropped < next }
+    ensures { result ≡ dropped_unit next characters dropped }
 {
     Unit {
         next,
         characters,
         solid: true,
-        paused: place,
-        resumed: place + 1,
+        paused: dropped,
+        resumed: dropped + 1,
         space: false,
     }
 }
 
-// If a unit leaves bytes out, writes the bytes from `from` up to these, and their replacement. Returns the offset of
-// the first byte that is not yet written.
+// If a unit leaves bytes out, writes the bytes from `from` up to those, and then their replacement. Returns the offset
+// of the first byte that is not yet written.
 #[inline(always)]
 fn write_unit(
     written: &mut String,
