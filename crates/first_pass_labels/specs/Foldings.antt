@@ -29,7 +29,7 @@ is_same_label x y = pointwise nat_eq (folding_of x) (folding_of y)
 abbrev pub label_cmp : CowStr → CowStr → Ordering
 label_cmp x y = slice_cmp nat_cmp (folding_of x) (folding_of y)
 
--- an ASCII byte that is no capital letter (The Unicode Standard 3.13: it has no other folding)
+-- an ASCII byte that is no capital letter: its folding is the byte itself (The Unicode Standard 3.13)
 abbrev pub folds_to_itself : ℕ → Bool
 folds_to_itself b = nat_lt b ascii_end && not (is_ascii_uppercase b)
 

@@ -104,8 +104,8 @@ fn is_own_folding(bytes: &[u8]) -> bool
         .all(|byte| byte.is_ascii() && !byte.is_ascii_uppercase())
 }
 
-/// Returns the first sixteen bytes as one number, the first byte the most significant, with 0 for each missing byte.
-/// A text with a smaller number comes before the other in byte order.
+/// Returns the first sixteen bytes as one number, the first byte the most significant, with 0 for each missing byte. Of
+/// two texts, the one with the smaller number is first in byte order.
 pub(crate) fn leading_number(bytes: &[u8]) -> u128
     ensures value { result ≡ leading_number 16 bytes.now }
     ensures fit { (at : ℕ) → slice_index bytes.now at < 256 }

@@ -18,7 +18,7 @@ use std::marker::Model;
 use std::ops::DerefStr;
 
 /// A label as it is spelled, with its full default case folding. Keys are compared by folding, first by its first
-/// sixteen bytes. Contracts see only the label.
+/// sixteen bytes. In contracts a key is only its label.
 #[derive(Drop)]
 pub struct LabelKey<'a> {
     label: CowStr<'a>,
@@ -69,7 +69,8 @@ impl<'a> LabelKey<'a> {
         self.folding.text_of(self.label.deref())
     }
 
-    // The byte order of the foldings. Most keys differ in their first bytes, so no search in a table inlines it.
+    // The byte order of the foldings. Most keys differ in their first bytes, so this call is seldom needed and is not
+    // inlined.
     #[inline(never)]
     fn cmp_foldings(&self, other: &LabelKey<'a>) -> Ordering
         ensures { result ≡ label_cmp self.now other.now }
