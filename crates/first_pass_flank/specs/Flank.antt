@@ -35,8 +35,8 @@ unfoldable pub ends_with_pipe : List ℕ → Bool
 ends_with_pipe text =
     slice_index text (length text - 1) == pipe && not (nat_le 2 (length text) && slice_index text (length text - 2) == backslash)
 
--- the run of this size at the start of the text, and the characters beside it, from its place in the content; an
--- empty run has no delimiter, so no rule for a delimiter applies to it (CommonMark 6.2, delimiter run)
+-- The run of this size at the start of the text, and the characters beside it, given its offset in the content. An
+-- empty run has no delimiter, so no rule for a delimiter applies to it (CommonMark 6.2, delimiter run).
 unfoldable pub run_beside : List ℕ → List ℕ → ℕ → ℕ → TableParseMode → DelimiterRun
 run_beside content text size at mode = record {
   delimiter = slice_index (take size text) 0;

@@ -118,8 +118,8 @@ pub fn delim_run_can_close(
 }
 
 /// Outside the rows of a table, runs of `*` and `_` open and close emphasis exactly by the first four rules of
-/// CommonMark 6.2, except that U+000B, U+0085, U+2028 and U+2029 count as white space beside a run. The rules use
-/// left-flanking and right-flanking runs.
+/// CommonMark 6.2. These rules use left-flanking and right-flanking runs. There is one exception: U+000B, U+0085,
+/// U+2028 and U+2029 count as white space beside a run.
 pub fn law_of_emphasis(run: &DelimiterRun)
     ensures star_opens { GoesBy asterisk flanks.can_open is_left_flanking run.now }
     ensures star_closes { GoesBy asterisk flanks.can_close is_right_flanking run.now }
