@@ -37,8 +37,8 @@ list_is_open (LastParagraph title) = title
 list_is_open LastItem = true
 list_is_open (LastDefinition blanks) = true
 
--- a `:` may begin a definition: after a paragraph, or after a definition whose indent is not 0, which is one that does
--- not take only blank lines
+-- a `:` may begin a definition: after a paragraph, or after a definition whose indent is not 0; one with the indent 0
+-- takes only blank lines
 abbrev pub definition_may_follow : Last → Bool
 definition_may_follow LastOther = false
 definition_may_follow (LastParagraph title) = true

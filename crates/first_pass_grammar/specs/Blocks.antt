@@ -9,9 +9,9 @@ use Rattle.first_pass_grammar.specs.declared.kind.Container.TheVariants.{BlockQu
 use Rattle.first_pass_grammar.specs.Kinds.{Kind, LinkDefinitions, Paragraph, unindented}
 use Rattle.first_pass_grammar.specs.LinkTables.{LinkEntry}
 
--- A leaf block (CommonMark 4): its kind; the start of its line; its own start, at its first byte other than a space or
--- tab; its items, with depths relative to it; whether it ends with counting blank lines; its link reference
--- definitions.
+-- A leaf block (CommonMark 4): its kind, the start of its line, its own start, its items, whether it ends with counting
+-- blank lines, and its link reference definitions. Its own start is at its first byte other than a space or tab. The
+-- depths of its items are relative to it.
 pub record LeafBlock : Type 0 where
   pub kind : Kind
   pub line : ℕ

@@ -25,8 +25,8 @@ use Rattle.first_pass_grammar.specs.Leaves.{Document, block_with}
 use Rattle.first_pass_grammar.specs.RawLines.{range_text, AreRawLines}
 use Rattle.first_pass_grammar.specs.Extents.{Extent, Verdict, GoesOn, Closes, extent, in_containers}
 
--- The place where the text of a line begins that continues indented code: after the container prefixes and four
--- columns, or fewer and then the end of the line (CommonMark 4.4).
+-- If a line continues indented code: the place at which its text begins, after the container prefixes and four columns.
+-- There may be fewer columns if the line ends after them (CommonMark 4.4).
 abbrev pub code_place : List Container → Place → Option Place
 code_place path line = option_and_then (λ (q : Place). if has_columns 4 q.rest then Some (moved_columns 4 q) else None) (taken path line)
 
@@ -66,8 +66,8 @@ pub record IsIndentedCode (d : Document) (p : Place) (further : List Place) (ite
   pub lines : AreRawLines range_text d [] (without_blanks (p ∷ further)) chain
   pub items_are : items ≡ block_with (offset p) (last_end (offset p) (without_blanks (p ∷ further))) IndentCodeBlock chain
 
--- the end of the closing fence that is the rest of a line, at fewer than four columns: at least this many of a byte;
--- the end of the text is a closing fence too (CommonMark 4.5)
+-- If the rest of a line, at fewer than four columns, is a closing fence: the end of that fence. A closing fence has at
+-- least this many of a byte; the end of the text is one too (CommonMark 4.5).
 abbrev pub closing_fence_end : ℕ → ℕ → Place → Option ℕ
 closing_fence_end byte count p =
     if nat_lt (indent p.rest) 4 then option_map (λ n. offset (unindented p) + n) (closing_fence_len byte count (all_taken p.rest).left) else None
@@ -85,7 +85,7 @@ fence_judge columns byte count line q = fence_verdict columns q (closing_fence_e
 abbrev pub fenced_lines : ℕ → List Container → ℕ → ℕ → ℕ → List Place → Extent
 fenced_lines n path columns byte count lines = extent (in_containers path (fence_judge columns byte count)) n lines
 
--- the bytes of a line without the white space at their end (CommonMark 4.5)
+-- the bytes of a line without the white space and the line ending at their end (CommonMark 4.5)
 abbrev pub trimmed : List ℕ → List ℕ
 trimmed line = take (length line - suffix_len is_white_or_line_end line) line
 
@@ -110,8 +110,8 @@ pub record IsFencedCode (d : Document) (start count : ℕ) (places : List Place)
   pub lines : AreRawLines range_text d [] places chain
   pub items_are : items ≡ block_with start «end» (FencedCodeBlock info) chain
 
--- What a line means for a metadata block: a closing line closes it. It is looked for in the whole line, including
--- container prefixes (this project).
+-- What a line means for a metadata block: a closing line closes it. The whole line is tested, including its container
+-- prefixes (this project).
 abbrev pub metadata_verdict : Place → Place → Option ℕ → Verdict
 metadata_verdict line q None = GoesOn q
 metadata_verdict line q (Some n) = Closes (line.line + n)

@@ -19,15 +19,15 @@ is_cell _ = false
 abbrev pub last_cell : Option ℕ → Item → Option ℕ
 last_cell cell x = if is_row x.body then None else (if is_cell x.body then Some x.start else cell)
 
--- An inserted cell after another cell. Into a row with too few cells, empty ones are inserted. These all start at the
--- row's end, and no two written cells start at the same offset. So an inserted cell after another one starts where that
--- one does, and a written cell does not (GFM 4.10, and this project).
+-- An inserted cell after another inserted cell of its row. Empty cells are inserted into a row that has too few. These
+-- all start at the row's end. A written cell starts before that, and after the cell before it. So a cell that starts
+-- where the last cell does is an inserted cell after another one, and no other cell is (GFM 4.10, and this project).
 abbrev pub is_inserted_after : Option ℕ → Item → Bool
 is_inserted_after None x = false
 is_inserted_after (Some start) x = is_cell x.body && (x.start == start)
 
--- the number of these nodes that are not inserted cells after other cells of the same start; `cell` is the start of the
--- row's last cell so far, if it has one (this project)
+-- the number of these nodes without inserted cells after other inserted cells; `cell` is the start of the row's last
+-- cell so far, if it has one (this project)
 unfoldable pub own : Option ℕ → List (ℕ × Item) → ℕ
 own cell [] = 0
 own cell (n ∷ nodes) = (if is_inserted_after cell n.1 then 0 else 1) + own (last_cell cell n.1) nodes

@@ -27,8 +27,8 @@ crossed in_label around line =
     then None
     else Some (after_columns 4 (front around.path line))
 
--- the number of bytes in the line before the place where a definition continues in it, if it does; the line begins
--- with these bytes
+-- the number of bytes before the place at which a definition continues in the line at the start of these bytes, if it
+-- does
 abbrev pub prefix_crossed : Bool → Context → List ℕ → Option ℕ
 prefix_crossed in_label around bs = option_map (λ (r : Rest). r.taken) (crossed in_label around (line_rest bs))
 
@@ -54,8 +54,8 @@ title_end b = if b == apostrophe || b == quotation_mark then Some b else (if b =
 abbrev pub ends_title : ℕ → ℕ → Bool
 ends_title close b = b == close || (close == right_parenthesis && b == left_parenthesis)
 
--- the number of bytes in the line before the text with which a title continues: all spaces and tabs are dropped; in a
--- blank line no title continues (CommonMark 4.7)
+-- The number of bytes in a line before the text with which a title continues: all spaces and tabs are dropped. No title
+-- continues in a blank line (CommonMark 4.7).
 abbrev pub text_crossed : Rest → Option ℕ
 text_crossed r = if is_blank_rest (all_taken r) then None else Some (all_taken r).taken
 
@@ -70,8 +70,8 @@ with_line_feeds (c ∷ cs) =
     then (if begins line_feed (bytes_of cs) then with_line_feeds cs else (c.0, line_feed) ∷ with_line_feeds cs)
     else c ∷ with_line_feeds cs
 
--- The title after its opening byte, with this end, in lines with these prefixes: its length in bytes, including its
--- end, and its text with the lines joined (CommonMark 4.7, 6.3).
+-- The title after its opening byte, with this closing byte, in lines with these prefixes. The result is its length in
+-- bytes, including the closing byte, and its text with the lines joined (CommonMark 4.7, 6.3).
 unfoldable pub title_text : (List ℕ → Option ℕ) → ℕ → List ℕ → Option (ℕ × List ℕ)
 title_text prefix close bs =
     let whole = with_line_feeds (joined prefix 0 0 bs) in
@@ -83,7 +83,8 @@ unfoldable pub title_at : Context → List ℕ → Option (ℕ × List ℕ)
 title_at around [] = None
 title_at around (b ∷ bs) = option_and_then (λ close. option_map (λ (t : ℕ × List ℕ). (t.0 + 1, t.1)) (title_text (title_prefix around) close bs)) (title_end b)
 
--- The title after a destination: white space separates them, and the line is blank after the title (CommonMark 4.7).
+-- The title after a destination: white space with at most one line ending separates them, and the line is blank after
+-- the title (CommonMark 4.7).
 abbrev pub alone_after : ℕ → List ℕ → ℕ × List ℕ → Option (ℕ × List ℕ)
 alone_after n bs t = if is_some (blank_len (drop (n + t.0) bs)) then Some (n + t.0, t.1) else None
 
@@ -103,7 +104,8 @@ after_destination around bs =
 abbrev pub deepest_nesting : ℕ
 deepest_nesting = 32
 
--- the length of the white space between a destination and its title, 0 if there is no title (CommonMark 4.7)
+-- the length of the white space, with at most one line ending, between a destination and its title; 0 if there is no
+-- title (CommonMark 4.7)
 abbrev pub title_distance : Context → List ℕ → Option (List ℕ) → ℕ
 title_distance around bs None = 0
 title_distance around bs (Some title) = option_map_or (λ (space : ℕ × ℕ). space.0) (space_at around bs) 0
@@ -118,8 +120,8 @@ pub record Target : Type 0 where
   pub dest_end : ℕ
   pub title_start : ℕ
 
--- The part of a definition after the colon, and its length in bytes: white space, a destination before these bytes, and
--- a title, if any (CommonMark 4.7).
+-- The part of a definition after the colon, and its length in bytes. It is white space with at most one line ending, a
+-- destination before these bytes, and a title, if any (CommonMark 4.7).
 abbrev pub target_of : Context → List ℕ → ℕ → ℕ × List ℕ → ℕ × Option (List ℕ) → ℕ × Target
 target_of around bs n dest further = (
   n + dest.0 + further.0,

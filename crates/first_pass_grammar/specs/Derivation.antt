@@ -106,7 +106,8 @@ with_all_of tables s = record { links = with_links tables.links (definitions_of 
 abbrev pub root_of : ℕ → ℕ × Item
 root_of n = (0, record { start = 0; «end» = n; body = Root })
 
--- The grammar derives this forest and these tables: the whole text is a sequence of blocks, and they are read off it.
+-- The grammar derives this forest and these tables: the whole text is a sequence of blocks, and both are read off that
+-- sequence.
 pub record Derives (d : Document) (forest : List (ℕ × Item)) (tables : Tables) : Type 0 where
   pub skeleton : Skeleton
   pub sequence : IsSequence d skeleton (level [] nothing) Line (lines_at 0 d.text) (Lines [])

@@ -16,8 +16,9 @@ use Rattle.first_pass_grammar.specs.Kinds.{unindented, is_blank_rest}
 use Rattle.first_pass_grammar.specs.Names.{Names}
 use Rattle.first_pass_grammar.specs.Definitions.{prefix_crossed}
 
--- Where the label of a footnote continues on the next line: nowhere in GitHub's form; in the old form where the label
--- of a link reference definition does (this project).
+-- The number of bytes in the next line before the place at which a footnote's label continues. In GitHub's form the
+-- label does not continue there. In the old form it continues as the label of a link reference definition does (this
+-- project).
 abbrev pub footnote_prefix : Context → List ℕ → Option ℕ
 footnote_prefix around bs = if gfm_footnotes around.options then None else prefix_crossed true around bs
 

@@ -27,7 +27,7 @@ unfoldable pub holds_end : BlockEnd → List ℕ → Bool
 holds_end AtRawEndTag bs = holds_raw_end_tag bs
 holds_end (AtText text) bs = holds text bs
 
--- What a line from a place on means for an HTML block of types 1 to 5: a line that meets the end condition is the last
+-- What a line from a place on means for an HTML block of types 1 to 5. A line that meets the end condition is the last
 -- (CommonMark 4.6, end conditions 1 to 5).
 abbrev pub tag_verdict : BlockEnd → Place → Verdict
 tag_verdict until q = if holds_end until (line_of q) then IsLast q else GoesOn q

@@ -161,8 +161,8 @@ interrupts_in around c bs =
     interrupts_with c.whole bs
     || (footnote_interrupts around.options false bs || (definition_interrupts around.options c.at_definition bs || table_interrupts around bs))
 
--- A line at fewer than four columns ends the paragraph before it if its text interrupts. A line at four columns or
--- more does so only if it has nothing but spaces and tabs.
+-- A line at fewer than four columns ends the paragraph before it if its text interrupts. A line at four columns or more
+-- does so only if all its bytes are spaces and tabs.
 unfoldable pub interrupts : Context → Continued → Rest → Bool
 interrupts around c r = if nat_lt (indent r) 4 then interrupts_in around c (all_taken r).left else at_line_end (all_taken r).left
 
@@ -187,8 +187,8 @@ colon_ends around r =
     has around.options definition_list
     && (is_some (after around.path r) && (nat_lt (indent (front around.path r)) 4 && begins colon (all_taken (front around.path r)).left))
 
--- this rest of a line ends the text before it: it is an underline (CommonMark 4.3), it ends a paragraph (4.8), or it
--- begins with a `:` that ends the text (this project)
+-- This rest of a line ends the text before it. It is an underline (CommonMark 4.3), it ends a paragraph (4.8), or it
+-- begins with a `:` that ends the text (this project).
 abbrev pub ends_text : Context → Rest → Bool
 ends_text around r = is_some (underline_of around.path r) || (ends_paragraph around r || colon_ends around r)
 

@@ -97,7 +97,7 @@ ends_closing text =
 abbrev pub without_closing : List ℕ → List ℕ
 without_closing text = if ends_closing text then without_end (λ b. b == space) (before_signs text) else text
 
--- The number of bytes of an ATX heading's text that are kept: all except the spaces and line ending at its end, and
+-- The number of bytes of an ATX heading's text that are kept. The spaces and line ending at its end are dropped, and
 -- the closing sequence before those (CommonMark 4.2, which drops tabs there too; that a tab after number signs keeps
 -- them: this project).
 unfoldable pub kept_len : List ℕ → ℕ

@@ -104,8 +104,8 @@ IsLead text (InFirst before) from x = ⊥
 IsLead text (InText before) from x = (x.marker ≡ true) × IsBetween text before from x
 
 -- The siblings lie between two offsets in order, and the nodes below each sibling lie within it. Only a task list item
--- marker that is first in a paragraph or heading may start before the start of that block: in the list item around it,
--- where the block itself might start (GFM 5.3, and this project).
+-- marker that is first in a paragraph or heading may start before that block. It then starts in the list item around
+-- the block, where the block itself might start (GFM 5.3, and this project).
 unfoldable pub Fits : List ℕ → Within → ℕ → ℕ → Siblings → Type 0
 Fits text within from to Empty = from ≤ to
 Fits text within from to (Node x kids next) =

@@ -15,7 +15,7 @@ spaces zero = []
 spaces (suc n) = space ∷ spaces n
 
 -- The columns at an offset that a tab or an indentation owes, so that no bytes of the text are left for them. They
--- become a text of that many spaces with an empty range. No columns become no item (CommonMark 2.2).
+-- become a text of that many spaces with an empty range; no item if there are no such columns (CommonMark 2.2).
 abbrev pub AreColumns : Names → ℕ → ℕ → List Item → Type 0
 AreColumns names zero at items = items ≡ []
 AreColumns names (suc n) at items =

@@ -11,7 +11,7 @@ use Rattle.first_pass_grammar.specs.Before.{before_end}
 use Rattle.first_pass_grammar.specs.Containers.{is_quote}
 
 -- A definition list so far: without a title; with one; or with one that link reference definitions separate from the
--- first definition. The last one begins a new list, no matter what precedes its title (this project).
+-- first definition. The last one always begins a new list, even if a definition list precedes its title (this project).
 pub data Titled : Type 0 where
   Untitled : Titled
   WithTitle : Titled
@@ -32,8 +32,8 @@ pub data What : Type 0 where
   ATitle : LeafBlock → What
   ADefinition : ℕ → ℕ → What
 
--- A row: what it is, the start of its line, its own start, and whether it has a gap before it: the blank lines
--- directly before it include a counting one (CommonMark 5.3).
+-- A row: what it is, the start of its line, its own start, and whether it has a gap before it. It has one if the blank
+-- lines directly before it include a counting one (CommonMark 5.3).
 pub record Row : Type 0 where
   pub what : What
   pub line : ℕ
@@ -65,9 +65,9 @@ abbrev pub is_paragraph : Kind → Bool
 is_paragraph Paragraph = true
 is_paragraph _ = false
 
--- The end of a list before a row, which starts at one offset in a line that starts at another: the start of the row if
--- it is a text, an item of another list, a footnote definition or a definition list, otherwise the start of the line
--- (this project).
+-- The end of a list before a row, given the start of the row's line and the start of the row. The list ends at the
+-- start of the row if that is a text, an item of another list, a footnote definition or a definition list. Otherwise it
+-- ends at the start of the line (this project).
 abbrev pub closing_place : What → ℕ → ℕ → ℕ
 closing_place (ALeaf block) line start = if is_paragraph block.kind then start else line
 closing_place (AQuote kind e) line start = line
@@ -182,8 +182,9 @@ container_row last (DefinitionMarker columns) row inner next =
 abbrev pub row_of_leaf : LeafBlock → Bool → Row
 row_of_leaf block gap = record { what = ALeaf block; line = block.line; start = block.start; gap = gap }
 
--- the definitions without a title at the start of rows, perhaps after link reference definitions: the end of their
--- list, the definitions, the rows beside them, and whether link reference definitions precede them (this project)
+-- The definitions without a title at the start of rows, perhaps after link reference definitions. Given are the end of
+-- their list, the definitions, the rows beside them, and whether link reference definitions precede them (this
+-- project).
 pub record Definitions : Type 0 where
   pub «end» : ℕ
   pub items : Rows

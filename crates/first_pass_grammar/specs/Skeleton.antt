@@ -134,8 +134,8 @@ abbrev pub next_is_blank : List Container → List Place → Bool
 next_is_blank path [] = false
 next_is_blank path (line ∷ lines) = is_blank_after (after path line.rest)
 
--- where blocks continue if a container's marker is the last of its line, except perhaps for a task list item marker:
--- at the next line; with an offset, in an item that takes only blank lines
+-- Where blocks continue if nothing follows a container's marker on its line, or only a task list item marker. An offset
+-- is given in an item that takes only blank lines.
 abbrev pub only_task : Option Item → Place → Option ℕ → Continues
 only_task None p blanks = after_marker blanks
 only_task (Some marker) p blanks = AtPlace p (OnlyMark marker blanks)
@@ -250,8 +250,8 @@ pub data NextBlock : Type 0 where
   Begins : Place → List Place → NextBlock
   Ends : Remaining → NextBlock
 
--- A footnote definition in the old form ends at the first line after a counting blank line if no list is open in it,
--- so that it is innermost (this project).
+-- A footnote definition in the old form ends at the first line after a counting blank line, if it is innermost: no list
+-- is open in it (this project).
 abbrev pub ends_old_footnote : Level → Bool
 ends_old_footnote l = in_old_footnote l.path && (l.before.counted && not (list_is_open l.before.last))
 
@@ -273,7 +273,7 @@ next_block_blank (Some q) lines = if is_blank_rest q.rest then Begins q (drop 1 
 
 -- Whether a sequence of blocks continues, and where: at a place inside a line, or at the next line after the prefixes
 -- of the path. It ends with the text, or before a line that does not continue its path. In an item that takes only
--- blank lines it also ends before a line that is not blank; in a footnote definition it also ends where that
+-- blank lines, it also ends before a line that is not blank. In a footnote definition, it also ends where that
 -- definition does (CommonMark 5, and this project).
 unfoldable pub next_block : Options → Level → Continues → List Place → NextBlock
 next_block options l (AtPlace p Anything) lines = next_block_at (context options l.path) p lines

@@ -125,8 +125,8 @@ pub record TableSoFar : Type 0 where
 abbrev pub table_so_far : ℕ → ℕ → MathBraces → TableSoFar
 table_so_far columns room braces = record { columns = columns; room = room; braces = braces }
 
--- The rows of a table end before these lines: there is no line, or the first one is no row, has no cell, or is a row
--- into which more cells would be inserted than allowed (GFM 4.10, and this project).
+-- The rows of a table end before these lines: there is no line, or the first one is no row or has no cell. They also
+-- end before a row into which more cells would be inserted than allowed (GFM 4.10, and this project).
 unfoldable pub EndRows : Document → List Container → TableSoFar → List Place → Type 0
 EndRows d path table [] = Unit {0}
 EndRows d path table (line ∷ lines) =

@@ -47,8 +47,8 @@ abbrev pub before_block : Document → ℕ → Option Item → TextLines → Bra
 before_block d start marker l block =
     cut (start + kept_before (by_backslash l.break) block.opening (heading_bytes d start marker l)) (marker_items marker ++ l.chain)
 
--- the children of a heading: all those of its lines if its text has no attribute block, otherwise those before the
--- block; a backslash at the end of the last line is text after them (CommonMark 4.3, 6.7, and this project)
+-- The children of a heading: those of its lines, or if its text has an attribute block, only those before the block. A
+-- backslash at the end of the last line is text after them (CommonMark 4.3, 6.7, and this project).
 abbrev pub children_without : Document → ℕ → Option Item → TextLines → Option Braces → List Item
 children_without d start marker l None = text_children marker l
 children_without d start marker l (Some block) = close_break l.break (before_block d start marker l block)

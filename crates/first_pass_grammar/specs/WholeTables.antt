@@ -13,8 +13,8 @@ use Rattle.first_pass_grammar.specs.Counting.{is_row}
 use Rattle.first_pass_grammar.specs.Names.{Names, alignments_named}
 use Rattle.first_pass_grammar.specs.Tables.{most_inserted}
 
--- the part of a table that a node is, with its depth: a table with its number of columns, a row or header row with its
--- end, or a cell with its start (GFM 4.10)
+-- A node as a part of a table, with its depth: a table with its number of columns, a row or header row with its end, or
+-- a cell with its start (GFM 4.10).
 pub data Mark : Type 0 where
   ATable : ℕ → ℕ → Mark
   ARow : ℕ → ℕ → Mark
@@ -67,7 +67,7 @@ unfoldable pub inserted_in : List RowCells → ℕ
 inserted_in [] = 0
 inserted_in (row ∷ rows) = how_often row.«end» row.starts + inserted_in rows
 
--- The cells of a row with this end start apart: each starts after the one before it, or at the end of the row, as
+-- The cells of a row with this end start apart. Each starts after the one before it, or at the end of the row, as
 -- inserted cells do (GFM 4.10, and this project).
 unfoldable pub StartApart : ℕ → List ℕ → Type 0
 StartApart «end» [] = Unit {0}
@@ -85,8 +85,8 @@ unfoldable pub AreFull : List TableRows → Type 0
 AreFull [] = Unit {0}
 AreFull (table ∷ tables) = HaveCells table.columns table.rows × (inserted_in table.rows ≤ most_inserted) × AreFull tables
 
--- The marks of these nodes are those of full tables, in order: each table has its rows one deeper and their cells two
--- deeper, and there are no other rows or cells (GFM 4.10, and this project).
+-- The marks of these nodes are those of full tables, in order. Each table has its rows one level deeper and their cells
+-- two levels deeper. There are no other rows or cells (GFM 4.10, and this project).
 unfoldable pub AreWholeTables : Names → List (ℕ × Item) → Type 0
 AreWholeTables names nodes = (tables : List TableRows) × (marks names nodes ≡ table_marks tables) × AreFull tables
 
@@ -105,13 +105,13 @@ SilentFrom [] i = ⊥
 SilentFrom (n ∷ nodes) zero = AreEachNode ShowsNothing (n ∷ nodes)
 SilentFrom (n ∷ nodes) (suc i) = SilentFrom nodes i
 
--- the last child, with what is below it, has no part of a table, if a definition list may take it in: a paragraph or a
--- possible title
+-- If the last child is a paragraph or a possible title, neither it nor any node after it is part of a table. A
+-- definition list may take in such a child.
 abbrev pub SilentClosed : List (ℕ × Item) → Closed → Type 0
 SilentClosed nodes OtherClosed = Unit {0}
-SilentClosed nodes (ParagraphAt place) = SilentFrom nodes place
+SilentClosed nodes (ParagraphAt index) = SilentFrom nodes index
 SilentClosed nodes (DefinitionClosed e blanks) = Unit {0}
-SilentClosed nodes (TitleAt e place) = SilentFrom nodes place
+SilentClosed nodes (TitleAt e index) = SilentFrom nodes index
 
 -- a paragraph or a possible title: a definition list may take it in (this project)
 abbrev pub may_be_title : ItemBody → Bool
@@ -122,7 +122,7 @@ may_be_title _ = false
 -- there is a node at each of these indices, and it is neither a row nor such a text (this project)
 abbrev pub HaveNoRows : List (ℕ × Item) → List TreeIndex → Type 0
 HaveNoRows nodes [] = Unit {0}
-HaveNoRows nodes (ix ∷ places) = IsSomeAnd (body_at nodes ix.0) (λ b. (is_row b || may_be_title b) ≡ false) × HaveNoRows nodes places
+HaveNoRows nodes (ix ∷ indices) = IsSomeAnd (body_at nodes ix.0) (λ b. (is_row b || may_be_title b) ≡ false) × HaveNoRows nodes indices
 
 -- the last text, if a definition list may take it in, has no part of a table in it (this project)
 abbrev pub IsSilentLast : List (ℕ × Item) → Option TreeIndex → Type 0
