@@ -26,7 +26,7 @@ container_of options _ = None
 abbrev pub container_at : Options → List (ℕ × Item) → TreeIndex → Option Container
 container_at options ns ix = option_and_then (container_of options) (body_at ns ix.0)
 
--- the rest of a line after the prefix of a container; without a container, after an empty prefix, which every line has
+-- the rest of a line after the prefix of a container; if none is given, the whole rest
 abbrev pub prefix_of : Option Container → Rest → Option Rest
 prefix_of None r = Some r
 prefix_of (Some c) r = prefix c r
