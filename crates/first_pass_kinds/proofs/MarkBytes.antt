@@ -1,5 +1,5 @@
 -- If `cannot_interrupt_by_standard` holds of the first byte, a line interrupts a paragraph at most as a table, a
--- footnote or a definition.
+-- footnote definition or a definition.
 -- Thematic breaks, metadata and HTML blocks do not begin with `#`.
 use Rattle.std.proofs.Common.{◌≡◌, inl, inr, ℕ, ◌==◌, nat_lt, Bool, true, false, true≢false, List, [], ◌∷◌, Option, Some, None, if◌then◌else◌}
 use Rattle.std.proofs.Common.{refl, sym, ap, ◌∙◌, subst, arith, is_some, ◌||◌}
@@ -50,7 +50,7 @@ unfolding cannot_interrupt_by_standard
 no_digit b h = grind (arith, nat_tests, h)
 
 -- If `cannot_interrupt_by_standard` holds of its first byte, a line interrupts a paragraph at most as a table, a
--- footnote or a definition.
+-- footnote definition or a definition.
 unmarked_first : (whole : Bool) (b : ℕ) (bs : List ℕ) → cannot_interrupt_by_standard b ≡ true → interrupts_with whole (b ∷ bs) ≡ false
 unfolding cannot_interrupt_by_standard hrule_len code_fence list_marker listitem
 unmarked_first whole b bs h =

@@ -12,7 +12,7 @@ use Rattle.first_pass_grammar.specs.Kinds.{all_taken}
 abbrev pub may_head_table : Context → List ℕ → Bool
 may_head_table around bs = has around.options tables && begins pipe bs
 
--- A line may head a table: tables are on, and the line begins with `|` at fewer than four columns, after the prefixes
--- of the containers that it continues (this project).
+-- A line may head a table: tables are on, and the line begins with `|`. Fewer than four columns are before it, after
+-- the prefixes of the containers that the line continues (this project).
 abbrev pub line_may_head_table : Context → Rest → Bool
 line_may_head_table around line = nat_lt (indent (front around.path line)) 4 && may_head_table around (all_taken (front around.path line)).left

@@ -8,8 +8,9 @@ use Rattle.first_pass_grammar.specs.Kinds.{unindented, underline_of, ends_paragr
 use Rattle.first_pass_kinds.specs.declared.interrupt.NextLine.{NextLine}
 use Rattle.first_pass_kinds.specs.declared.interrupt.NextLine.TheVariants.{More, Underline, NotText}
 
--- the role of a line after paragraph text, given the underline that it is, if any, whether it ends the paragraph text,
--- and the offset after its prefixes and indentation (CommonMark 4.3, 4.8, and for a `:` this project)
+-- The role of a line after paragraph text. Given are the underline that the line is, if it is one; whether the line
+-- ends the paragraph text; and the offset after its prefixes and indentation (CommonMark 4.3, 4.8, and for a `:` this
+-- project).
 abbrev pub next_by : Option (ℕ × HeadingLevel) → Bool → ℕ → NextLine
 next_by (Some underline) ends at = Underline underline.1
 next_by None true at = NotText

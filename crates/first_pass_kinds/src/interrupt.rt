@@ -58,12 +58,13 @@ fn is_bullet(byte: u8) -> bool
     matches!(byte, b'-' | b'+' | b'*')
 }
 
-/// Returns whether `bytes` interrupts a paragraph, except as a table, a footnote or a definition. `bytes` is the rest
-/// of a line after its indentation: of fewer than four columns after paragraph text, of any width after a table row. It
-/// interrupts if it is empty or begins with a line ending. Otherwise one of these has to begin: a thematic break, an
-/// ATX heading, a code fence, a block quote, a list item, an HTML block of types 1 to 6. `current_container`: the line
-/// continues all open containers, and does not follow a table row. Then an item interrupts only if it has a bullet or
-/// the number 1, and a rest that is not blank (CommonMark 4.8, 4.1, 4.2, 4.5, 5.1, 5.2, 4.6).
+/// Returns whether `bytes` interrupts a paragraph, except as a table, a footnote definition or a definition. `bytes` is
+/// the rest of a line after its indentation: of fewer than four columns after paragraph text, of any width after a
+/// table row. It interrupts if it is empty or begins with a line ending. Otherwise one of these has to begin: a
+/// thematic break, an ATX heading, a code fence, a block quote, a list item, an HTML block of types 1 to 6.
+/// `current_container`: the line continues all open containers, and does not follow a table row. Then an item
+/// interrupts only if it has a bullet or the number 1, and a rest that is not blank (CommonMark 4.8, 4.1, 4.2, 4.5,
+/// 5.1, 5.2, 4.6).
 #[inline(always)]
 pub fn interrupts_by_standard(bytes: &[u8], current_container: bool) -> bool
     ensures { result ≡ interrupts_with current_container bytes.now }
@@ -77,7 +78,7 @@ pub fn interrupts_by_standard(bytes: &[u8], current_container: bool) -> bool
     interrupts_by_scanners(bytes, current_container)
 }
 
-// Whether there is a first byte with which a line interrupts a paragraph at most as a table, a footnote or a
+// Whether there is a first byte with which a line interrupts a paragraph at most as a table, a footnote definition or a
 // definition.
 #[inline(always)]
 #[tactic(auto, unfolding(crate::specs::Marks::cannot_interrupt_by_standard))]
@@ -148,11 +149,11 @@ fn begins_definition(bytes: &[u8], options: Options) -> bool
 }
 
 /// Returns whether `bytes` interrupts a paragraph inside the open containers. `bytes` is the rest of a line after its
-/// indentation of fewer than four columns, and all the text that follows. The line continues the outermost `kept`
-/// open nodes. It interrupts as in `interrupts_by_standard`; as the head of a footnote definition; as the `:` of a
-/// definition, if the first container that the line does not continue is a definition; or as the header row of a
-/// table (CommonMark 4.8, GFM 4.10). Fails only if an allocation fails, which can happen only if the line may head a
-/// table.
+/// indentation of fewer than four columns, and all the text that follows. The line continues the outermost `kept` open
+/// nodes. It interrupts as in `interrupts_by_standard`, as the head of a footnote definition, or as the header row of a
+/// table. It also interrupts as the `:` of a definition, if the first container that the line does not continue is a
+/// definition (CommonMark 4.8, GFM 4.10). Fails only if an allocation fails, which can happen only if the line may head
+/// a table.
 #[inline(always)]
 pub fn scan_interruption(
     source: &Source<'_>,
@@ -244,10 +245,10 @@ fn scan_unindented<'a>(source: &Source<'a>, tree: &Tree<Item>, start: usize) -> 
 }
 
 /// Returns the role of a line that follows paragraph text. The line begins at the offset `start`. It is an underline
-/// only if it continues all open containers. It is no line of the paragraph text if it interrupts a paragraph, or if,
-/// with definition lists, it continues all open containers and begins with a `:` at fewer than four columns. Otherwise
-/// it is one more line, no matter which open containers it continues (CommonMark 4.3, 4.8, 5.1). Fails only if an
-/// allocation fails, which can happen only if the line may head a table.
+/// only if it continues all open containers. It is no line of the paragraph text if it interrupts a paragraph. With
+/// definition lists, neither is a line that continues all open containers and begins with a `:` at fewer than four
+/// columns. Otherwise it is one more line, no matter which open containers it continues (CommonMark 4.3, 4.8, 5.1).
+/// Fails only if an allocation fails, which can happen only if the line may head a table.
 #[tactic(auto, unfolding(first_pass_grammar::specs::Kinds::interrupts, first_pass_grammar::specs::Kinds::underline_of))]
 pub fn scan_next_line(
     source: &Source<'_>,
@@ -385,7 +386,7 @@ fn scan_definition_end(
 
 /// Returns the rest of the line at `start` if a link reference definition continues there. `in_label`: the definition
 /// would continue in its label. The rest is after the container prefixes on the line, and after up to four columns.
-/// Returns `None` if the line interrupts a paragraph, or is the underline of a setext heading; in a label, an underline
+/// Returns `None` if the line interrupts a paragraph, or is the underline of a setext heading. In a label, an underline
 /// counts only if its line continues all open containers (CommonMark 4.7). Fails only if an allocation fails, which can
 /// happen only if the line may head a table.
 #[tactic(auto, unfolding(first_pass_grammar::specs::Definitions::crossed))]

@@ -115,9 +115,9 @@ fn ends_in_backslash(bytes: &[u8]) -> bool
 
 /// Returns the table whose header row is the first line of `bytes`, given that no container or other block begins
 /// there. `bytes` extends from there to the end of the text, or to an earlier end that the caller sets. Returns `None`
-/// if the line is no header row; then it is the first line of paragraph text. A header row needs `ENABLE_TABLES`, has
-/// as many columns as the delimiter row in the next line, and does not end in an odd number of backslashes (GFM 4.10,
-/// and this project). Fails only if an allocation fails.
+/// if the line is no header row; then it is the first line of paragraph text. A header row needs `ENABLE_TABLES`. It
+/// has as many columns as the delimiter row in the next line, and does not end in an odd number of backslashes (GFM
+/// 4.10, and this project). Fails only if an allocation fails.
 #[tactic(auto, unfolding(first_pass_grammar::specs::TableHeads::headed_table))]
 pub fn scan_headed_line(
     source: &Source<'_>,
