@@ -30,7 +30,7 @@ link_entry e = record {
 abbrev pub footnote_label : CowStr × FootnoteDef → List ℕ
 footnote_label e = text_of e.0
 
--- the entries of both tables; each string is a `CowStr`, which tells whether it is borrowed (this project)
+-- the entries of both tables; each string is a `CowStr`, borrowed or owned (this project)
 pub record Entries : Type 0 where
   pub links : List (CowStr × LinkDef)
   pub footnotes : List (CowStr × FootnoteDef)

@@ -17,13 +17,13 @@ use first_pass_tree::forest::Tree;
 use std::alloc::AllocError;
 
 impl<'a> Allocations<'a> {
-    /// Appends the tokens of one line to the innermost open node, and their strings to the list of strings.
-    /// `first_pass_tokens::line::append_line` explains the tokens. On entry, `braces` has the brace contexts before
-    /// the line; on return, those after it.
+    /// Appends the tokens of one line to the innermost open node, and their strings to the list of strings. The tokens
+    /// are those of `first_pass_tokens::line::append_line`. On entry, `braces` has the brace contexts before the line;
+    /// on return, those after it.
     ///
-    /// The line ends after its first line ending. If `content` has none, it ends at `content.end`, or else with the
-    /// text. Returns this end, and the break at the line ending (CommonMark 6.7, 6.8), which is not appended. The
-    /// break is `None` if there is no line ending. Fails only if an allocation fails.
+    /// The line ends after its first line ending. If `content` has none, it ends at `content.end`, or with the text if
+    /// that is `None`. Returns this end, and the break at the line ending (CommonMark 6.7, 6.8), which is not appended.
+    /// The break is `None` if there is no line ending. Fails only if an allocation fails.
     #[inline(always)]
     pub fn append_line(
         &mut self,
@@ -48,12 +48,12 @@ impl<'a> Allocations<'a> {
     }
 
     /// Appends the tokens of one cell of a table row to the innermost open node, and their strings to the list of
-    /// strings. `first_pass_tokens::line::append_cell` explains the tokens. On entry, `braces` has the brace contexts
-    /// before the cell; on return, those after it.
+    /// strings. The tokens are those of `first_pass_tokens::line::append_cell`. On entry, `braces` has the brace
+    /// contexts before the cell; on return, those after it.
     ///
     /// Returns the offset at which the content of the cell ends: that of the first line ending, or of an earlier pipe
-    /// that ends the cell (GFM 4.10). Without either, it is `content.end`, or else the length of the text. Fails only
-    /// if an allocation fails.
+    /// that ends the cell (GFM 4.10). Without either, it is `content.end`, or the length of the text if that is `None`.
+    /// Fails only if an allocation fails.
     #[inline(always)]
     pub fn append_cell(
         &mut self,

@@ -1,4 +1,4 @@
-//! A parser of texts, as a report takes one.
+//! The parser that a report calls.
 
 ghost use Rattle.std.specs.Prelude.{IfOk};
 ghost use Rattle.first_pass_grammar.specs.Derivation.{Derives};
