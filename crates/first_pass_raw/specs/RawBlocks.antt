@@ -26,7 +26,7 @@ use Rattle.first_pass_lines.specs.Places.{line_rest}
 use Rattle.first_pass_grammar.specs.Containers.{has_columns, after}
 use Rattle.first_pass_open.specs.Path.{path_of}
 
--- Owed columns are appended after the nodes of a tree, and stay what they are if more is named later.
+-- Owed columns are appended after the nodes of a tree. The new items are still those columns if names are added.
 pub record AppendsColumns (names : Names) (owed at : ℕ) (old new : Forest Item) : Type 0 where
   pub items : List Item
   pub tree_is : new ≡ chained old items
@@ -45,7 +45,7 @@ abbrev pub range_of : RawKind → Ranges
 range_of Code = range_text
 range_of Html = range_html
 
--- A raw line is appended after the nodes of a tree, and stays what it is if more is named later.
+-- A raw line is appended after the nodes of a tree. The new items are still that line if names are added.
 pub record AppendsRaw (range : Ranges) (text : List ℕ) (names : Names) (owed from to : ℕ) (old new : Forest Item) : Type 0 where
   pub items : List Item
   pub tree_is : new ≡ with_tokens old items
@@ -73,14 +73,15 @@ pub record AddsIndented (d : Document) (p : Place) (old new : Forest Item) (next
   pub blank_is : blank ≡ last_is_blank (code_after d.text (path_of d.options old) (offset p)).0
   pub left_is : lines_from d.text next ≡ (code_after d.text (path_of d.options old) (offset p)).1
 
--- the verdict of the grammar for a returned one, with the place of the text of the line if it has any
+-- a returned verdict in terms of the grammar, with the place at which the text of the line begins, if it has any
 abbrev pub said : Answer → Place → Verdict
 said GoesOn p = Judged.GoesOn p
 said IsLast p = Judged.IsLast p
 said (Closes e) p = Judged.Closes e
 said (Stops e) p = Judged.Stops e
 
--- The raw lines of an extent are appended after the nodes of a tree, and stay what they are if more is named later.
+-- The raw lines of an extent are appended after the nodes of a tree. The new items are still those lines if names are
+-- added.
 pub record AppendsLines (range : Ranges) (d : Document) (e : Extent) (old new : Forest Item) («end» next : ℕ) : Type 0 where
   pub chain : List Item
   pub tree_is : new ≡ chained old chain
@@ -88,12 +89,12 @@ pub record AppendsLines (range : Ranges) (d : Document) (e : Extent) (old new : 
   pub end_is : «end» ≡ e.«end»
   pub left_is : lines_from d.text next ≡ e.left
 
--- the rest of the lines of a block from an offset on
+-- the extent of a block among the lines from an offset on
 abbrev pub extent_from : List ℕ → List Container → (Place → Place → Verdict) → ℕ → Extent
 extent_from text path judge at = extent (in_containers path judge) (length text) (lines_from text at)
 
--- A block is appended as a last child of the innermost open node. A relation holds for its items, also if more is
--- named later. The lines from an offset on remain.
+-- A block is appended as a last child of the innermost open node. A relation holds for its items, also if names are
+-- added. The lines from an offset on remain.
 pub record AddsRaw (d : Document) (Are : Document → List (ℕ × Item) → Type 0) (left : List Place) (old new : Forest Item) (next : ℕ) : Type 0 where
   pub items : List (ℕ × Item)
   pub tree_is : new ≡ added old items

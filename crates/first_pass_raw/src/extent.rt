@@ -31,7 +31,7 @@ pub trait JudgesLines {
     // The kind of its raw lines.
     ghost kinds: { Self → RawKind };
 
-    /// Returns the kind of its raw lines, as which their bytes are appended.
+    /// Returns the kind of its raw lines, which decides how their bytes are appended.
     fn kind(&self) -> RawKind
         ensures { result ≡ kinds self.now };
 

@@ -25,9 +25,9 @@ use first_pass_tree::forest::Tree;
 use first_pass_tree::tree_index::TreeIndex;
 use std::alloc::AllocError;
 
-/// Appends the indented code whose first line has its text at the offset `start_ix`, after its four columns. At most
-/// 3 columns, `remaining_space`, are owed there. Returns the start of the next unread line, or the end of the text,
-/// and whether the last line read is blank: blank lines at the end are no part of the block (CommonMark 4.4). Fails
+/// Appends the indented code whose first line has its text at the offset `start_ix`, after its four columns. At most 3
+/// columns, `remaining_space`, are owed there. Returns the start of the next unread line, or the end of the text. Also
+/// returns whether the last line read is blank: blank lines at the end are no part of the block (CommonMark 4.4). Fails
 /// only if an allocation fails.
 pub fn parse_indented_code_block<'a>(
     source: &Source<'a>,

@@ -118,8 +118,8 @@ fn append_range(
     Ok(())
 }
 
-/// Appends a raw line of the text to the innermost open node: the columns that are owed before it, and its bytes,
-/// without a `\r` before a `\n` at the end. Fails only if an allocation fails.
+/// Appends a raw line of the text to the innermost open node: the columns that are owed before it, and its bytes. If
+/// the line ends with `\r\n`, leaves out the `\r`. Fails only if an allocation fails.
 #[inline(always)]
 pub fn append_raw_line<'a>(
     tree: &mut Tree<Item>,
