@@ -9,9 +9,9 @@ use Rattle.first_pass_items.specs.declared.item.ItemBody.TheVariants.{Paragraph,
 use Rattle.first_pass_tree.specs.declared.tree_index.TreeIndex.{TreeIndex}
 use Rattle.first_pass_tree.specs.Forest.{Forest, depths, body_at, item_at, last_before, moved_from, with_body_at, with_end_at}
 
--- the node at an index
-abbrev pub place : ℕ → TreeIndex
-place n = record { 0 = n }
+-- an index as a `TreeIndex`
+abbrev pub tree_index : ℕ → TreeIndex
+tree_index n = record { 0 = n }
 
 -- the body of a possible title
 abbrev pub is_possible_title : Option ItemBody → Bool
@@ -39,11 +39,11 @@ child_before f n = last_before (depths f.nodes) (length f.spine + 2) n
 
 -- the end of the node at an index
 abbrev pub end_there : Forest Item → ℕ → ℕ
-end_there f n = option_map_or (λ x. x.«end») (item_at f (place n)) 0
+end_there f n = option_map_or (λ x. x.«end») (item_at f (tree_index n)) 0
 
 -- the node at an index becomes a paragraph, if it is a possible title (this project)
 abbrev pub left_untitled : Forest Item → ℕ → Forest Item
-left_untitled f n = if is_possible_title (body_at f.nodes n) then with_body_at f (place n) Paragraph else f
+left_untitled f n = if is_possible_title (body_at f.nodes n) then with_body_at f (tree_index n) Paragraph else f
 
 -- The child at the index `other` and all nodes after it are moved out of the list. The list then ends where the
 -- child at the index `kept` ends. If `kept` is not after the list, no child precedes, and nothing changes.

@@ -1,4 +1,4 @@
-//! What the pass knows about the lines that it has read.
+//! The state of the pass after the lines that it has read.
 
 use first_pass_items::item::Item;
 use first_pass_tree::forest::Tree;

@@ -40,14 +40,14 @@ fn first_other(nodes: &[(usize, Item)], depth: usize, from: usize) -> usize
     requires { from ≤ length nodes.now }
     ensures { result ≡ first_other depth from nodes.now }
 {
-    let mut place = from;
-    while place < nodes.len() {
-        if nodes[place].0 == depth && !is_title_or_definition(&nodes[place].1.body) {
-            return place;
+    let mut index = from;
+    while index < nodes.len() {
+        if nodes[index].0 == depth && !is_title_or_definition(&nodes[index].1.body) {
+            return index;
         }
-        place += 1;
+        index += 1;
     }
-    place
+    index
 }
 
 // The index of the last node of this depth before the index `before`; 0 if there is none.
@@ -55,11 +55,11 @@ fn last_of_depth(nodes: &[(usize, Item)], depth: usize, before: usize) -> usize
     requires { before ≤ length nodes.now }
     ensures { result ≡ last_before (depths nodes.now) depth before }
 {
-    let mut place = before;
-    while 0 < place {
-        place -= 1;
-        if nodes[place].0 == depth {
-            return place;
+    let mut index = before;
+    while 0 < index {
+        index -= 1;
+        if nodes[index].0 == depth {
+            return index;
         }
     }
     0
@@ -75,16 +75,16 @@ fn is_title_or_definition(body: &ItemBody) -> bool
     )
 }
 
-// If the node at the index `place` is a possible title, makes it a paragraph.
-fn leave_untitled(tree: &mut Tree<Item>, place: usize)
-    requires { place < length tree.old.nodes }
-    ensures { tree.new ≡ left_untitled tree.old place }
+// If the node at `index` is a possible title, makes it a paragraph.
+fn leave_untitled(tree: &mut Tree<Item>, index: usize)
+    requires { index < length tree.old.nodes }
+    ensures { tree.new ≡ left_untitled tree.old index }
 {
     tree.recall_forest();
     if matches!(
-        tree[TreeIndex(place)].body,
+        tree[TreeIndex(index)].body,
         ItemBody::MaybeDefinitionListTitle
     ) {
-        tree.set_body(TreeIndex(place), ItemBody::Paragraph);
+        tree.set_body(TreeIndex(index), ItemBody::Paragraph);
     }
 }

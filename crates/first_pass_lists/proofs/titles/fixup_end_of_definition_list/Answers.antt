@@ -10,7 +10,7 @@ use Rattle.first_pass_items.specs.declared.item.ItemBody.TheVariants.{Paragraph}
 use Rattle.first_pass_tree.specs.declared.tree_index.TreeIndex.{TreeIndex}
 use Rattle.first_pass_tree.specs.Forest.{Forest, IsChildOfCurrent, depths, last_before, with_body_at, with_end_at, body_at}
 use Rattle.first_pass_tree.proofs.Keeps.{depths-modify, depth_read, current-within}
-use Rattle.first_pass_lists.specs.Titles.{place, is_other_at, is_possible_title, first_other, left_untitled}
+use Rattle.first_pass_lists.specs.Titles.{tree_index, is_other_at, is_possible_title, first_other, left_untitled}
 use Rattle.first_pass_lists.proofs.titles.fixup_end_of_definition_list.Goals as goal
 
 -- the index r is before n, and the node there has the depth d
@@ -76,7 +76,7 @@ like_length : (f g : Forest Item) → IsLike f g → length g.nodes ≡ length f
 like_length f g like =
     sym (length-map g.nodes (λ n. n.0)) ∙ ap (λ (ds : List ℕ). length ds) like.depths ∙ length-map f.nodes (λ n. n.0)
 
-untitled_like : (t : Bool) (f : Forest Item) (n : ℕ) → IsLike f (if t then with_body_at f (place n) Paragraph else f)
+untitled_like : (t : Bool) (f : Forest Item) (n : ℕ) → IsLike f (if t then with_body_at f (tree_index n) Paragraph else f)
 untitled_like true f n = record { depths = depths-modify f.nodes n (λ x. record x { body = Paragraph }); spine = refl; current = refl }
 untitled_like false f n = record { depths = refl; spine = refl; current = refl }
 
@@ -91,7 +91,7 @@ ended f g h list e like is =
       current = like.current;
     })
 
-child_of : (f g : Forest Item) (list : TreeIndex) (n : ℕ) → IsOther f list.0 n → IsLike f g → f.current ≡ Some list → IsChildOfCurrent g (place n)
+child_of : (f g : Forest Item) (list : TreeIndex) (n : ℕ) → IsOther f list.0 n → IsLike f g → f.current ≡ Some list → IsChildOfCurrent g (tree_index n)
 child_of f g list n other like current = record {
   within = omega (arith, other.within, like_length f g like);
   depth = ap (λ ds. slice_index ds n) like.depths ∙ other.depth ∙ ap (λ (s : List TreeIndex). length s + 2) (sym like.spine);
