@@ -28,8 +28,8 @@ use Rattle.first_pass_text.specs.declared.paragraph.TextEnd.{TextEnd}
 abbrev pub line_from : List ℕ → ℕ → List ℕ
 line_from text start = take (line_len (drop start text)) (drop start text)
 
--- of the rest of a line from an offset on, if an attribute block ends it: the start of the block, and the end of the
--- line (this project)
+-- if the rest of a line from an offset on ends with an attribute block: the start of the block, and the end of the line
+-- (this project)
 abbrev pub attribute_place : Options → List ℕ → ℕ → Option AttributeBlock
 attribute_place options text start =
     option_map (λ block. record { opening = start + block.opening; line_end = line_end_at text start }) (heading_attribute_block options (line_from text start))

@@ -95,9 +95,9 @@ struct AttributeBlock {
     line_end: usize,
 }
 
-// Returns where a heading's attribute block begins and where the line of the heading ends, and the index of its
-// attributes; neither if there is no block. The heading's text begins at the offset `start`. Adds the attributes to
-// `allocs`. Without the option for heading attributes, it does not search for the end of the line, which reading the
+// Returns where a heading's attribute block begins, where the line of the heading ends, and the index of its
+// attributes; none of these if there is no block. The heading's text begins at the offset `start`. Adds the attributes
+// to `allocs`. Without the option for heading attributes, it does not search for the end of the line, which reading the
 // tokens finds anyway. Fails only if an allocation fails (this project).
 #[inline(always)]
 fn name_attribute_block<'a>(

@@ -56,8 +56,9 @@ pub fn append_last_backslash(
     }
 }
 
-// What follows the lines of paragraph text: the start of the next line, or the end of the whole text; the break after
-// the last line; and the level of the heading, if the next line is an underline.
+// What follows the lines of paragraph text. `next` is the start of the next line, or the end of the whole text.
+// `line_break` is the break after the last line. `underline` is the level of the heading, if the next line is an
+// underline.
 #[derive(Clone, Copy, Drop)]
 struct TextEnd {
     next: usize,
