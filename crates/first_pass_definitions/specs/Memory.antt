@@ -23,8 +23,8 @@ abbrev pub MeetsTable : Context → List ℕ → Type 0
 MeetsTable around bs =
     (at : ℕ) × (at < length bs) × (ends_line (slice_index bs at) (drop (at + 1) bs) ≡ true) × (line_may_head_table around (line_rest (drop (at + 1) bs)) ≡ true)
 
--- A label has to be copied, since reading changes it; or no bracket ends it, and some line after a line ending of the
--- text may head a table (CommonMark 4.7, GFM 4.10).
+-- A label may need memory in two cases. Reading changes it, so it has to be copied; or no bracket ends it, and some
+-- line after a line ending of the text may head a table (CommonMark 4.7, GFM 4.10).
 abbrev pub LabelAsks : Context → Bool → List ℕ → Type 0
 LabelAsks around in_table bs =
     IsRewritten (prefix_crossed true around) in_table bs ⊎ (HasNoBracket (prefix_crossed true around) bs × MeetsTable around bs)

@@ -19,16 +19,16 @@ use first_pass_open::source::Source;
 use first_pass_tree::forest::Tree;
 use std::alloc::AllocError;
 
-/// The label after the `[` that is before the offset `start` into the text: its length in bytes from there on, with
-/// its `]`, and the label as read. Each run of white space is read as one space. Backslashes stay, except that in a
-/// table a backslash directly before a pipe is dropped. The label is borrowed if this changes nothing. It continues
-/// over the lines that a definition crosses, without their prefixes of the open containers, and without up to four
-/// columns after these.
+/// Reads the label after the `[` that is before the offset `start` into the text. Returns its length in bytes from
+/// there on, with its `]`, and the label as it is read. Each run of white space and line endings is read as one space.
+/// Backslashes stay, except that in a table a backslash directly before a pipe is dropped. The label is borrowed if
+/// this changes nothing. It continues over the lines that a definition crosses, without their prefixes of the open
+/// containers, and without up to four columns after these.
 ///
-/// Returns `None` if there is no label: if an unescaped `[`, a line that ends the definition or the end of the text
-/// comes first, if all is white space, or if there are more than 999 characters. Fails only if an allocation fails.
-/// That can happen only in two cases: reading changes the label; or no bracket ends it and some later line of the text
-/// may head a table (CommonMark 4.7).
+/// Returns `None` if an unescaped `[`, a line that ends the definition or the end of the text comes before an unescaped
+/// `]`. Also returns `None` if there are only white space and line endings, or more than 999 characters. Fails only if
+/// an allocation fails. That can happen only in two cases: reading changes the label; or no bracket ends it and some
+/// later line of the text may head a table (CommonMark 4.7).
 pub fn parse_refdef_label<'a>(
     source: &Source<'a>,
     tree: &Tree<Item>,

@@ -20,8 +20,8 @@ use first_pass_open::source::Source;
 use first_pass_tree::forest::Tree;
 use std::alloc::AllocError;
 
-/// Returns the link reference definition that begins at the offset `start` into the text: its number of bytes, up to
-/// the end of its destination or title, its label, and the definition, whose span begins at `start`. `tree` has the
+/// Reads the link reference definition that begins at the offset `start` into the text. Returns its number of bytes, up
+/// to the end of its destination or title; its label; and the definition, whose span begins at `start`. `tree` has the
 /// open blocks: the lines of the definition may have the prefixes of its containers, and in a table backslashes before
 /// pipes are dropped.
 ///

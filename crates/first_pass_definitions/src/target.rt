@@ -30,10 +30,10 @@ use std::boxed::BoxedStr;
 // The deepest nesting of parentheses in a destination.
 const DEEPEST_NESTING: usize = 32;
 
-/// Reads the part of a definition after its colon, which is directly before the offset `start` into the text: white
-/// space, a destination, and optionally white space and a title. Returns its number of bytes from `start` on, and the
-/// definition, whose destination and title are unescaped. Its span begins at `span_start`, and its label ends two bytes
-/// before `start`.
+/// Reads the part of a definition after its colon, from the offset `start` into the text on. The colon is directly
+/// before `start`. The part is white space, a destination, and optionally white space and a title. Each white space may
+/// have one line ending. Returns its number of bytes from `start` on, and the definition, whose destination and title
+/// are unescaped. Its span begins at `span_start`, and its label ends two bytes before `start`.
 ///
 /// Returns `None` if there is no destination. Also returns `None` if something other than white space or a line ending
 /// directly follows it, or if neither a title nor a blank rest of its line follows it. Fails only if an allocation

@@ -28,15 +28,15 @@ use first_pass_open::source::Source;
 use first_pass_tree::forest::Tree;
 use std::alloc::AllocError;
 
-/// The title at the start of `text`, which is the rest of the whole text from a place on: its length in bytes, with
-/// its delimiters (`'..'`, `".."` or `(..)`), and the text between these, not yet unescaped. It continues over the
-/// lines that a definition crosses, each without the prefixes and the indentation before its text. Each line ending is
-/// one `\n`. If there is no line ending, the text is borrowed and needs no memory.
+/// Reads the title at the start of `text`, which is the rest of the whole text from a place on. Returns its length in
+/// bytes, with its delimiters (`'..'`, `".."` or `(..)`), and the text between these, not yet unescaped. The title
+/// continues over the lines that a definition crosses, each without the prefixes and the indentation before its text.
+/// Each line ending is one `\n`. If there is no line ending, the text is borrowed and needs no memory.
 ///
-/// Returns `None` if there is no title: if a blank line, a line that ends the definition or the end of the text comes
-/// before its end, or in parentheses an unescaped `(`. Fails only if an allocation fails. That can happen only if the
-/// title has a line ending, and the line after the first one either continues the title or may head a table
-/// (CommonMark 4.7, 6.3).
+/// Returns `None` if no title begins there. Also returns `None` if a blank line, a line that ends the definition or the
+/// end of the text comes before the end of the title. A title in parentheses may not have an unescaped `(` either.
+/// Fails only if an allocation fails. That can happen only if the title has a line ending, and the line after the first
+/// one either continues the title or may head a table (CommonMark 4.7, 6.3).
 pub fn scan_refdef_title<'t>(
     source: &Source<'_>,
     tree: &Tree<Item>,
