@@ -143,8 +143,8 @@ module _ (d : Document) (before : Names) (columns start : ℕ) (old now new : Op
       (subst (λ k. AreCells d (spot begin now.braces) r.cells (spot k r.after)) (sym stop_is) r.are_cells) in
       let new_is : new.tree ≡ _ = a.1 ∙ ap (λ e. added now.tree (row_block TableRow columns begin r.cells e)) (sym stop_is) in
       let is = is_row_of (is_some now.tree.current) true (so_far columns now) r.cells (some_by now.tree.current s.some) a.0 in
-      let after : new.inserted_in ≡ now.inserted_in + inserted columns r.cells = a.2 in
-      let left : most_inserted - new.inserted_in ≡ most_inserted - now.inserted_in - inserted columns r.cells = omega (arith, after) in
+      let after : new.inserted_so_far ≡ now.inserted_so_far + inserted columns r.cells = a.2 in
+      let left : most_inserted - new.inserted_so_far ≡ most_inserted - now.inserted_so_far - inserted columns r.cells = omega (arith, after) in
       let later = line_len-within d.text at within in
       let low = s.later in (
         record {
@@ -234,7 +234,7 @@ rows_closed d columns head_start body_start old new r (ix, pushed) there new_is 
     let nodes : headed.nodes ≡ old.nodes ++ at_depth (length old.spine + 1) row = ap (λ (f : Forest Item). f.nodes) head.tree_is in
     let spine : headed.spine ≡ old.spine = ap (λ (f : Forest Item). f.spine) head.tree_is in
     let path : path_of d.options headed ≡ path_of d.options old = same_path d.options old headed (at_depth (length old.spine + 1) row) nodes spine there in
-    let budget : most_inserted - headed_table.inserted_in ≡ most_inserted - inserted columns head.cells = ap (λ n. most_inserted - n) head.missing_is in
+    let budget : most_inserted - headed_table.inserted_so_far ≡ most_inserted - inserted columns head.cells = ap (λ n. most_inserted - n) head.missing_is in
     let all : bodied.nodes ≡ old.nodes ++ at_depth (length old.spine + 1) (row ++ body.body) =
     body.nodes ∙ ap (λ (s : List TreeIndex). headed.nodes ++ at_depth (length s + 1) body.body) spine
     ∙ ap (λ ns. ns ++ at_depth (length old.spine + 1) body.body) nodes
@@ -248,7 +248,7 @@ rows_closed d columns head_start body_start old new r (ix, pushed) there new_is 
       body = body.body;
       are_rows = subst (λ most. AreRows d (path_of d.options old) (table_so_far columns most after) (lines_from d.text body_start)
           (taking body.body (lines_from d.text next))) budget
-          (subst (λ path. AreRows d path (table_so_far columns (most_inserted - headed_table.inserted_in) after) (lines_from d.text body_start)
+          (subst (λ path. AreRows d path (table_so_far columns (most_inserted - headed_table.inserted_so_far) after) (lines_from d.text body_start)
           (taking body.body (lines_from d.text next))) path body.are_rows);
       tree_is = new_is ∙ ap (closed_by bodied next) (body.spine ∙ spine)
           ∙ closed_as bodied (with_below old (row ++ body.body)) next ix pushed.rest old.spine all pushed.innermost;

@@ -130,9 +130,9 @@ row_after {d} {columns} {start} {body} {old} o back (Some ix) h =
 -- the row is read
 pub row_read : (d : Document) (columns : ℕ) (row : FoundRow) (old new : OpenTable) (answer : Option (ℕ × TreeIndex))
     → AreCells d (spot row.start old.braces) row.cells (spot row.row_end row.after) → new.braces ≡ row.after
-    → keeps_row (is_some old.tree.current) columns (most_inserted - old.inserted_in) row.cells ≡ true
+    → keeps_row (is_some old.tree.current) columns (most_inserted - old.inserted_so_far) row.cells ≡ true
     → new.tree ≡ added old.tree (row_block TableRow columns row.start row.cells row.row_end)
-    → new.inserted_in ≡ old.inserted_in + inserted columns row.cells → answer ≡ option_map (λ (ix : TreeIndex). (row.row_end, ix)) new.tree.current
+    → new.inserted_so_far ≡ old.inserted_so_far + inserted columns row.cells → answer ≡ option_map (λ (ix : TreeIndex). (row.row_end, ix)) new.tree.current
     → ReadsRow d columns row.start old new answer
 row_read d columns row old new answer are braces_is kept new_is after_is answer_is =
     let here : new.tree.current ≡ Some (row_place old.tree) = ap (λ (f : Forest Item). f.current) new_is in

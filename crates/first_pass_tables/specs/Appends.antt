@@ -73,23 +73,23 @@ keeps_row following columns most cells = (not following || nat_lt 0 (length cell
 -- that was read (this project)
 pub record OpenTable : Type 0 where
   pub tree : Forest Item
-  pub inserted_in : ℕ
+  pub inserted_so_far : ℕ
   pub braces : MathBraces
 
 -- such a tree, with this number of inserted cells and these brace contexts
 abbrev pub open_table : Forest Item → ℕ → MathBraces → OpenTable
-open_table tree inserted_in braces = record { tree = tree; inserted_in = inserted_in; braces = braces }
+open_table tree count braces = record { tree = tree; inserted_so_far = count; braces = braces }
 
 -- an open table with this number of columns, in terms of the grammar, before the next row
 abbrev pub so_far : ℕ → OpenTable → TableSoFar
-so_far columns table = table_so_far columns (most_inserted - table.inserted_in) table.braces
+so_far columns table = table_so_far columns (most_inserted - table.inserted_so_far) table.braces
 
 -- The header row that begins at a place is added, and its inserted cells are counted (GFM 4.10, and this project).
 pub record AddsHead (d : Document) (columns : ℕ) (start : Spot) (old : Forest Item) (new : OpenTable) : Type 0 where
   pub cells : List (List (ℕ × Item))
   pub row_end : ℕ
   pub are_cells : AreCells d start cells (spot row_end new.braces)
-  pub missing_is : new.inserted_in ≡ inserted columns cells
+  pub missing_is : new.inserted_so_far ≡ inserted columns cells
   pub tree_is : new.tree ≡ added old (row_block TableHead columns start.at cells row_end)
 
 -- A row is added to a table with this number of columns if it is kept. Its inserted cells are counted, and the call
@@ -97,11 +97,13 @@ pub record AddsHead (d : Document) (columns : ℕ) (start : Spot) (old : Forest 
 -- contexts after the row's cells (GFM 4.10, and this project).
 abbrev pub AddsRow : ℕ → FoundRow → OpenTable → OpenTable → Option (ℕ × TreeIndex) → Type 0
 AddsRow columns row old new None =
-    (keeps_row (is_some old.tree.current) columns (most_inserted - old.inserted_in) row.cells ≡ false) × (new ≡ open_table old.tree old.inserted_in row.after)
+    (keeps_row (is_some old.tree.current) columns (most_inserted - old.inserted_so_far) row.cells ≡ false)
+    × (new ≡ open_table old.tree old.inserted_so_far row.after)
 AddsRow columns row old new (Some (stop, ix)) =
-    (keeps_row (is_some old.tree.current) columns (most_inserted - old.inserted_in) row.cells ≡ true)
+    (keeps_row (is_some old.tree.current) columns (most_inserted - old.inserted_so_far) row.cells ≡ true)
     × (new.tree ≡ added old.tree (row_block TableRow columns row.start row.cells row.row_end))
-    × (new.inserted_in ≡ old.inserted_in + inserted columns row.cells) × (stop ≡ row.row_end) × (ix.0 ≡ length old.tree.nodes) × (new.braces ≡ row.after)
+    × (new.inserted_so_far ≡ old.inserted_so_far + inserted columns row.cells)
+    × (stop ≡ row.row_end) × (ix.0 ≡ length old.tree.nodes) × (new.braces ≡ row.after)
 
 -- the row that begins at an offset is read, in a table with this number of columns (GFM 4.10, and this project)
 pub record ReadsRow (d : Document) (columns start : ℕ) (old new : OpenTable) (answer : Option (ℕ × TreeIndex)) : Type 0 where
