@@ -25,7 +25,7 @@ node_line names node = codes "{" ++ node_members node ++ block_members names nod
 unfoldable pub target_members : List ℕ → Option (List ℕ) → List ℕ
 target_members dest title = codes ",\"destination\":" ++ json_string dest ++ codes ",\"title\":" ++ text_or_null title
 
--- the members of a link definition: its label as it is spelled, and those of its destination and title
+-- the members of a link definition: its label as it is spelled, and those of its destination and title (CommonMark 4.7)
 unfoldable pub link_members : LinkEntry → List ℕ
 link_members link = codes "\"definition\":" ++ json_string link.label ++ target_members link.dest link.title
 
