@@ -6,7 +6,7 @@ use first_pass_cases::table::compare_groups;
 use first_pass_cases::tally::{Tally, append_place};
 use std::alloc::Global;
 
-/// Runs each case of the table, and appends each that differs to the report.
+/// Runs each case of the table. Appends to the report each case that differs.
 pub fn compare(alloc: Global, table: &str, report: &mut String) -> Result<Tally, CasesFault> {
     compare_groups(
         table,

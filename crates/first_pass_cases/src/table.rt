@@ -25,8 +25,8 @@ pub fn write_report(rt: &HostRuntime, report: &str, tally: Tally) -> Result<(), 
     Ok(())
 }
 
-/// Compares each group of lines of a table that is not a heading. `compare` gets a group and the number of its first
-/// line. It appends the group to the report if it differs, and returns whether it does.
+/// Compares the groups of lines of a table, except headings. `compare` gets a group and the number of its first line.
+/// If the result of the group differs, it appends the group to the report. It returns whether it differs.
 pub fn compare_groups<F, E>(table: &str, report: &mut String, compare: F) -> Result<Tally, E>
 where
     F: Fn(&str, usize, &mut String) -> Result<bool, E> + Drop,

@@ -6,7 +6,7 @@ use first_pass_cases::fault::CasesFault;
 use first_pass_cases::texts::{is_heading, read_text};
 use std::alloc::Global;
 
-/// Checks the fronts of each text of the table, and appends each whose tree is not in order to the report.
+/// Checks the fronts of each text of the table. Appends to the report each front whose tree is not in order.
 pub fn check(
     alloc: Global,
     table: &str,

@@ -10,7 +10,7 @@ use first_pass_cases::table::compare_groups;
 use first_pass_cases::tally::{Tally, append_place};
 use std::alloc::{AllocError, Global};
 
-/// Makes the call of each case. Appends its outcome to the report if the case requests it, and each case that differs.
+/// Makes the call of each case. Appends to the report the outcome that a case requests, and each case that differs.
 pub fn compare(rt: &HostRuntime, table: &str, report: &mut String) -> Result<Tally, CasesFault> {
     compare_groups(
         table,

@@ -30,7 +30,7 @@ struct Case<'t> {
     want: &'t str,
 }
 
-/// Makes the call of each line, and appends each line that differs to the report.
+/// Makes the call of each line. Appends to the report each line whose result differs.
 pub fn compare(alloc: Global, table: &str, report: &mut String) -> Result<Tally, CasesFault> {
     let mut tally = Tally::new();
     let mut number: usize = 0;
