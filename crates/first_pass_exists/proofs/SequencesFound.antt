@@ -110,61 +110,68 @@ module _ (text : List ℕ) (options : Options) where
   abbrev AreFirst : Names → Level → Continues → List Place → Opening → Type 0
   AreFirst names l from lines o = (later : Names) → Extends later names → IsFirst (document text options later) l from lines o
 
-  leaf_first : (names more : Names) (l : Level) (from there : Continues) (lines following left : List Place) (p : Place) (leaf : Leaf)
-      → Extends more names → BeginsAt l.path from lines p following → AreFirst more l from lines (OpensLeaf leaf there left)
-      → Shrinks (length p.rest.left) following (OpensLeaf leaf there left) → Others (length p.rest.left) following
+  -- A first block opens at a place, under names that extend these. After its opening less of the text is left.
+  record FirstOpens (names : Names) (l : Level) (from : Continues) (lines : List Place) (o : Opening) : Type 0 where
+    place : Place
+    following : List Place
+    begins : BeginsAt l.path from lines place following
+    more : Names
+    extends : Extends more names
+    opens : AreFirst more l from lines o
+    shrinks : Shrinks (length place.rest.left) following o
+
+  leaf_first : (names : Names) (l : Level) (from there : Continues) (lines left : List Place) (leaf : Leaf)
+      → (first : FirstOpens names l from lines (OpensLeaf leaf there left)) → Others (length first.place.rest.left) first.following
       → SequenceFrom text options names l from lines
   unfolding IsSequence
-  leaf_first names more l from there lines following left p leaf extends begins first (less, alone) others =
-      let most : ℕ = length p.rest.left in
+  leaf_first names l from there lines left leaf first others =
+      let most : ℕ = length first.place.rest.left in
+      let following : List Place = first.following in
       let next : Continues = after_first from there in
-      let now = shorter_after most following left from there less in
-      let rest = others more (level_after_leaf l leaf) next left now in
+      let now = shorter_after most following left from there first.shrinks.0 in
+      let rest = others first.more (level_after_leaf l leaf) next left now in
       record {
         blocks = Then leaf rest.blocks;
         left = rest.left;
         more = rest.more;
-        extends = extends_both _ _ _ rest.extends extends;
-        is = λ later x. (there, left, first later (extends_both _ _ _ x rest.extends), rest.is later x);
-        shorter = shorter_from l.path from (onward rest.left).0 lines following (onward rest.left).1 p begins
+        extends = extends_both _ _ _ rest.extends first.extends;
+        is = λ later x. (there, left, first.opens later (extends_both _ _ _ x rest.extends), rest.is later x);
+        shorter = shorter_from l.path from (onward rest.left).0 lines following (onward rest.left).1 first.place first.begins
             (shorter_both most following left (onward rest.left).1 next (onward rest.left).0 now rest.shorter);
-        ends = λ top h. rest.ends top (alone_after from there h alone);
+        ends = λ top h. rest.ends top (alone_after from there h first.shrinks.1);
       }
 
-  node_first : (names more : Names) (l : Level) (from inside : Continues) (lines following kids : List Place) (p : Place) (head : Head)
-      → Extends more names → BeginsAt l.path from lines p following → AreFirst more l from lines (OpensNode head inside kids)
-      → Shrinks (length p.rest.left) following (OpensNode head inside kids) → Others (length p.rest.left) following
+  node_first : (names : Names) (l : Level) (from inside : Continues) (lines kids : List Place) (head : Head)
+      → (first : FirstOpens names l from lines (OpensNode head inside kids)) → Others (length first.place.rest.left) first.following
       → SequenceFrom text options names l from lines
   unfolding IsSequence
-  node_first names more l from inside lines following kids p head extends begins first shrinks others =
-      let most : ℕ = length p.rest.left in
-      let inner = others more (level_in (opened head.opener) l) inside kids shrinks in
+  node_first names l from inside lines kids head first others =
+      let most : ℕ = length first.place.rest.left in
+      let following : List Place = first.following in
+      let inner = others first.more (level_in (opened head.opener) l) inside kids first.shrinks in
       let there : Continues = (onward inner.left).0 in
       let left : List Place = (onward inner.left).1 in
       let next : Continues = after_first from there in
-      let now = shorter_after most following left from there (shorter_both most following kids left inside there shrinks inner.shorter) in
+      let now = shorter_after most following left from there (shorter_both most following kids left inside there first.shrinks inner.shorter) in
       let rest = others inner.more (level_after l head inner.blocks) next left now in
       let extends_more = extends_both _ _ _ rest.extends inner.extends in
       record {
         blocks = Node head (end_before (length text) l.path inside inner.left) inner.blocks rest.blocks;
         left = rest.left;
         more = rest.more;
-        extends = extends_both _ _ _ extends_more extends;
+        extends = extends_both _ _ _ extends_more first.extends;
         is = λ later x.
-            let opens = first later (extends_both _ _ _ x extends_more) in
+            let opens = first.opens later (extends_both _ _ _ x extends_more) in
             (inside, kids, inner.left, opens, inner.is later (extends_both _ _ _ x rest.extends), refl, rest.is later x);
-        shorter = shorter_from l.path from (onward rest.left).0 lines following (onward rest.left).1 p begins
+        shorter = shorter_from l.path from (onward rest.left).0 lines following (onward rest.left).1 first.place first.begins
             (shorter_both most following left (onward rest.left).1 next (onward rest.left).0 now rest.shorter);
         ends = λ top h. rest.ends top (alone_after from there h (alone_onward inner.left));
       }
 
-  opening_first : (names more : Names) (l : Level) (from : Continues) (lines following : List Place) (p : Place) (o : Opening)
-      → Extends more names → BeginsAt l.path from lines p following → AreFirst more l from lines o → Shrinks (length p.rest.left) following o
-      → Others (length p.rest.left) following → SequenceFrom text options names l from lines
-  opening_first names more l from lines following p (OpensLeaf leaf there left) extends begins first shrinks others =
-      leaf_first names more l from there lines following left p leaf extends begins first shrinks others
-  opening_first names more l from lines following p (OpensNode head inside kids) extends begins first shrinks others =
-      node_first names more l from inside lines following kids p head extends begins first shrinks others
+  opening_first : (names : Names) (l : Level) (from : Continues) (lines : List Place) (o : Opening) → (first : FirstOpens names l from lines o)
+      → Others (length first.place.rest.left) first.following → SequenceFrom text options names l from lines
+  opening_first names l from lines (OpensLeaf leaf there left) first others = leaf_first names l from there lines left leaf first others
+  opening_first names l from lines (OpensNode head inside kids) first others = node_first names l from inside lines kids head first others
 
   leads_at : (names : Names) (l : Level) (from : Continues) (p : Place) (lines : List Place)
       → Leads names (length p.rest.left) lines (λ later o. OpensAt (document text options later) l from p lines o)
@@ -177,8 +184,16 @@ module _ (text : List ℕ) (options : Options) where
   first_block names l from lines following p is others =
       let leads : Leads names (length p.rest.left) following (λ later o. IsFirst (document text options later) l from lines o) =
       leads_also (leads_at names l from p following) (λ later o opens. record { place = p; following = following; begins = is; opens = opens }) in
-      opening_first names leads.more l from lines following p leads.opening leads.extends (begins_at options l from lines p following is)
-      leads.opens leads.shrinks others
+      let first : FirstOpens names l from lines leads.opening = record {
+        place = p;
+        following = following;
+        begins = begins_at options l from lines p following is;
+        more = leads.more;
+        extends = leads.extends;
+        opens = leads.opens;
+        shrinks = leads.shrinks;
+      } in
+      opening_first names l from lines leads.opening first others
 
   -- a sequence without blocks
   no_block : (names : Names) (l : Level) (from : Continues) (lines : List Place) (left : Remaining) → next_block options l from lines ≡ Ends left
@@ -194,32 +209,41 @@ module _ (text : List ℕ) (options : Options) where
     ends = λ top h. all_taken_at options l.before from lines left (subst (λ p. next_block options (level p l.before) from lines ≡ Ends left) top is) h;
   }
 
+  -- At most this is left where blocks are looked for, and there are blocks from each place on where less is left.
+  record LessIsFound (from : Continues) (lines : List Place) : Type 0 where
+    most_lines : ℕ
+    most_reach : ℕ
+    within : length lines ≤ most_lines
+    near : reach from ≤ most_reach
+    fewer : Fewer most_lines
+    nearer : Nearer most_lines most_reach
+
   -- blocks, by how much of the text is left
-  others_at : (n k : ℕ) (path : List Container) (from : Continues) (lines following : List Place) (p : Place) → BeginsAt path from lines p following
-      → length lines ≤ n → reach from ≤ k → Fewer n → Nearer n k → Others (length p.rest.left) following
-  others_at n k path Line [] following p begins within near fewer nearer names l there left less = absurd begins
-  others_at n k path Line (line ∷ lines) following p (is, same) within near fewer nearer names l there left (bound, less) =
-      let m = ap length same in fewer names l there left (omega arith)
-  others_at n k path (Blanks e) [] following p begins within near fewer nearer names l there left less = absurd begins
-  others_at n k path (Blanks e) (line ∷ lines) following p (is, same) within near fewer nearer names l there left (bound, less) =
-      let m = ap length same in fewer names l there left (omega arith)
-  others_at n k path (AtPlace q may) lines following p (is, same) within near fewer nearer names l there left (bound, inl less) =
+  others_at : (path : List Container) (from : Continues) (lines following : List Place) (p : Place) → BeginsAt path from lines p following
+      → LessIsFound from lines → Others (length p.rest.left) following
+  others_at path Line [] following p begins f names l there left less = absurd begins
+  others_at path Line (line ∷ lines) following p (is, same) f names l there left (bound, less) =
+      let m = ap length same in f.fewer names l there left (omega (arith, f.within))
+  others_at path (Blanks e) [] following p begins f names l there left less = absurd begins
+  others_at path (Blanks e) (line ∷ lines) following p (is, same) f names l there left (bound, less) =
+      let m = ap length same in f.fewer names l there left (omega (arith, f.within))
+  others_at path (AtPlace q may) lines following p (is, same) f names l there left (bound, inl less) =
       let m = ap length same in
       let r = ap (λ (z : Place). length z.rest.left) is in
-      nearer names l there left (omega arith) (omega arith)
-  others_at n k path (AtPlace q may) lines following p (is, same) within near fewer nearer names l there left (bound, inr fewest) =
-      let m = ap length same in fewer names l there left (omega arith)
+      f.nearer names l there left (omega (arith, f.within)) (omega (arith, f.near))
+  others_at path (AtPlace q may) lines following p (is, same) f names l there left (bound, inr fewest) =
+      let m = ap length same in f.fewer names l there left (omega (arith, f.within))
 
-  goes : (n k : ℕ) (names : Names) (l : Level) (from : Continues) (lines : List Place) (g : NextBlock) → next_block options l from lines ≡ g
-      → length lines ≤ n → reach from ≤ k → Fewer n → Nearer n k → SequenceFrom text options names l from lines
-  goes n k names l from lines (Ends left) is within near fewer nearer = no_block names l from lines left is
-  goes n k names l from lines (Begins p following) is within near fewer nearer =
-      first_block names l from lines following p is
-      (others_at n k l.path from lines following p (begins_at options l from lines p following is) within near fewer nearer)
+  goes : (names : Names) (l : Level) (from : Continues) (lines : List Place) (g : NextBlock) → next_block options l from lines ≡ g
+      → LessIsFound from lines → SequenceFrom text options names l from lines
+  goes names l from lines (Ends left) is f = no_block names l from lines left is
+  goes names l from lines (Begins p following) is f =
+      first_block names l from lines following p is (others_at l.path from lines following p (begins_at options l from lines p following is) f)
 
   nearer_by : (n k : ℕ) → Fewer n → Nearer n k → Nearer n (suc k)
   nearer_by n k fewer nearer names l from lines within near =
-      goes n k names l from lines (next_block options l from lines) refl within (omega arith) fewer nearer
+      goes names l from lines (next_block options l from lines) refl
+      (record { most_lines = n; most_reach = k; within = within; near = omega arith; fewer = fewer; nearer = nearer })
 
   nearer_to : (n k : ℕ) → Fewer n → Nearer n k
   nearer_to n zero fewer = λ names l from lines within near. absurd (omega arith)
