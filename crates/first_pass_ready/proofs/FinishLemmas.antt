@@ -19,7 +19,7 @@ use Rattle.first_pass_grammar.specs.Completion.{flagged, Closed, OtherClosed, Pa
 use Rattle.first_pass_grammar.specs.Completion.{InDefinitions}
 use Rattle.first_pass_grammar.specs.Completion.{IsPlain, StandsIn, last_defined}
 use Rattle.first_pass_grammar.specs.WholeTables.{ShowsNothing, SilentClosed}
-use Rattle.first_pass_grammar.proofs.Sequences.Finishes.{CompletesAt, Tail}
+use Rattle.first_pass_grammar.proofs.Sequences.Finishes.{CompletesAt}
 use Rattle.first_pass_completion.proofs.Extending.{tail, StaysAt, loosened_in}
 use Rattle.first_pass_completion.proofs.EarlierNodes.{IsBefore}
 use Rattle.first_pass_completion.proofs.Moved.{OpensBlock, opens_definition}
@@ -331,52 +331,73 @@ loosened_frames c (InContainer b) frames none = refl
 loosened_frames c (InList byte loose) frames none = refl
 loosened_frames c (InDefinitions loose) frames none = refl
 
-module _ (d : Document) (defined : Tables) (f : Forest Item) (p : Place) (lines : List Place) (opening : Opening)
-    (before : (ix jx : TreeIndex) (s : List TreeIndex) → f.spine ≡ ix ∷ jx ∷ s → IsBefore jx.0 (closed_in f))
-    (stays : StaysAt d (path_of d.options f) p) (opens : Opens d (level_of d.options f true) p lines opening) (block : OpensBlock opening)
-    (other : opens_definition opening ≡ false) where
-  abbrev t : Tail
-  t = tail (closed_in f) true
+-- The innermost open node is a container in a list of either kind, among nodes with these frames.
+record InsideList (options : Options) (f : Forest Item) : Type 0 where
+  inner : TreeIndex
+  list : TreeIndex
+  rest : List TreeIndex
+  container : Container
+  frame : Frame
+  frames : List Frame
+  body : ItemBody
+  flags : ListFlags
+  spine : f.spine ≡ inner ∷ list ∷ rest
+  is : body_at f.nodes list.0 ≡ Some body
+  listed : list_flags_of body ≡ Some flags
+  are_open : AreOpen options f.nodes (inner ∷ list ∷ rest) (InContainer container ∷ frame ∷ frames)
 
-  noted_at : (frames : List Frame)
-      → IsPlain frames → AreOpen d.options f.nodes f.spine frames
-      → CompletesAt d defined t frames f.nodes (map (λ (i : TreeIndex). i.0) f.spine) (Inside p) lines
-      → CompletesAt d defined (tail (closed_in f) false) (loosened_in true frames) f.nodes (map (λ (i : TreeIndex). i.0) f.spine) (Inside p) lines
-  noted_at frames plain o k =
-      completes-note d (open_nodes defined frames f.nodes (map (λ (i : TreeIndex). i.0) f.spine)) t (record {
+-- the opening at a place in these containers opens a block, no definition, and ends no footnote definition
+pub record OpensOther (d : Document) (path : List Container) (p : Place) (opening : Opening) : Type 0 where
+  pub stays : StaysAt d path p
+  pub block : OpensBlock opening
+  pub other : opens_definition opening ≡ false
+
+-- a block opens after blank lines
+module _ (d : Document) (defined : Tables) (f : Forest Item) (p : Place) (lines : List Place) (opening : Opening)
+    (left : LeftPlain d defined f true p lines opening) (begins : OpensOther d (path_of d.options f) p opening) where
+  abbrev old : ReadyAt d defined f true (Inside p) lines
+  old = left.ready.0
+
+  noted_at : CompletesAt d defined (tail (closed_in f) false) (loosened_in true old.frames) f.nodes (map (λ (i : TreeIndex). i.0) f.spine) (Inside p) lines
+  noted_at =
+      completes-note d (open_nodes defined old.frames f.nodes (map (λ (i : TreeIndex). i.0) f.spine)) (tail (closed_in f) true) (record {
         place = p;
         lines = lines;
         opening = opening;
-        stays = subst (λ z. StaysAt d z p) (open_path d.options f.nodes f.spine frames o) stays;
-        opens = subst (λ z. Opens d z p lines opening) (open_level d.options f frames true o) opens;
-      }) plain block other k
+        stays = subst (λ z. StaysAt d z p) (open_path d.options f.nodes f.spine old.frames old.are_open) begins.stays;
+        opens = subst (λ z. Opens d z p lines opening) (open_level d.options f old.frames true old.are_open) left.opens;
+      }) left.ready.1 begins.block begins.other old.completes
 
   -- if the innermost open node is not in a list
-  noted_still : (frames : List Frame) → SilentClosed f.nodes (closed_in f) → loosened_in true frames ≡ frames → IsPlain frames
-      → AreOpen d.options f.nodes f.spine frames
-      → CompletesAt d defined t frames f.nodes (map (λ (i : TreeIndex). i.0) f.spine) (Inside p) lines
-      → PlainAfter d defined f false (Inside p) lines (closed_in f)
-  noted_still frames silent same plain o k =
-      let q : ReadyAt d defined f false (Inside p) lines =
-      ready_as d defined f false (Inside p) lines frames (closed_in f) refl o silent
-      (subst (λ z. CompletesAt d defined (tail (closed_in f) false) z f.nodes (map (λ (i : TreeIndex). i.0) f.spine) (Inside p) lines) same
-      (noted_at frames plain o k)) in
-      record { ready = q; plain = plain; last = refl }
+  noted_still : (frames : List Frame) → old.frames ≡ frames → loosened_in true frames ≡ frames → PlainAfter d defined f false (Inside p) lines (closed_in f)
+  noted_still frames same still =
+      let now : ReadyAt d defined f false (Inside p) lines =
+      ready_as d defined f false (Inside p) lines old.frames (closed_in f) refl old.are_open old.silent
+      (subst (λ z. CompletesAt d defined (tail (closed_in f) false) z f.nodes (map (λ (i : TreeIndex). i.0) f.spine) (Inside p) lines)
+      (subst (λ z. loosened_in true z ≡ z) (sym same) still) noted_at) in
+      record { ready = now; plain = left.ready.1; last = refl }
 
   -- if it is in a list
-  noted_loose : (ix jx : TreeIndex) (s : List TreeIndex) (c : Container) (frame : Frame) (frames : List Frame) (b : ItemBody) (flags : ListFlags)
-      → f.spine ≡ ix ∷ jx ∷ s → SilentClosed f.nodes (closed_in f) → body_at f.nodes jx.0 ≡ Some b → list_flags_of b ≡ Some flags
-      → AreOpen d.options f.nodes (ix ∷ jx ∷ s) (InContainer c ∷ frame ∷ frames)
-      → CompletesAt d defined (tail (closed_in f) false) (InContainer c ∷ loose_frame_of frame ∷ frames) f.nodes (ix.0 ∷ jx.0 ∷ map (λ (i : TreeIndex). i.0) s)
-      (Inside p) lines
-      → PlainAfter d defined (loosened_at f jx) false (Inside p) lines (closed_in f)
-  noted_loose ix jx s c frame frames b flags spine silent is listed o k =
+  noted_loose : (l : InsideList d.options f)
+      → CompletesAt d defined (tail (closed_in f) false) (InContainer l.container ∷ loose_frame_of l.frame ∷ l.frames) f.nodes
+      (l.inner.0 ∷ l.list.0 ∷ map (λ (i : TreeIndex). i.0) l.rest) (Inside p) lines
+      → PlainAfter d defined (loosened_at f l.list) false (Inside p) lines (closed_in f)
+  noted_loose l k =
+      let ix : TreeIndex = l.inner in
+      let jx : TreeIndex = l.list in
+      let s : List TreeIndex = l.rest in
+      let c : Container = l.container in
+      let frame : Frame = l.frame in
+      let frames : List Frame = l.frames in
+      let b : ItemBody = l.body in
+      let flags : ListFlags = l.flags in
+      let o = l.are_open in
       let g : Forest Item = loosened_at f jx in
       let now : Forest Item = with_body_at f jx (flagged true b) in
-      let as_now : g ≡ now = ap (loosened_by f jx) is ∙ loosened_is f jx b flags listed in
+      let as_now : g ≡ now = ap (loosened_by f jx) l.is ∙ loosened_is f jx b flags l.listed in
       let change : Item → Item = λ x. record { start = x.start; «end» = x.«end»; body = flagged true b } in
-      let nodes : g.nodes ≡ reflagged f.nodes jx.0 true = loose_is f jx b flags is listed in
-      let same : g.spine ≡ ix ∷ jx ∷ s = loosened_spine f jx (body_at f.nodes jx.0) ∙ spine in
+      let nodes : g.nodes ≡ reflagged f.nodes jx.0 true = loose_is f jx b flags l.is l.listed in
+      let same : g.spine ≡ ix ∷ jx ∷ s = loosened_spine f jx (body_at f.nodes jx.0) ∙ l.spine in
       let below : jx.0 < ix.0 = k.below.1.0 in
       let top_is : body_at g.nodes ix.0 ≡ body_at f.nodes ix.0 =
       ap (λ (z : Forest Item). body_at z.nodes ix.0) as_now ∙ body-later f.nodes jx.0 ix.0 change below in
@@ -385,84 +406,100 @@ module _ (d : Document) (defined : Tables) (f : Forest Item) (p : Place) (lines 
       subst (λ (z : Forest Item). AreOpen d.options z.nodes s frames) (sym as_now)
       (open_below d.options f.nodes now.nodes jx.0 s frames (λ i h. ap (option_and_then (frame_of d.options)) (body-other f.nodes jx.0 i change h))
       k.below.1.1 o.1.1) in
-      let own : frame_of d.options b ≡ Some frame = sym (ap (option_and_then (frame_of d.options)) is) ∙ o.1.0 in
-      let none = list_frame_only d.options b flags frame listed own in
+      let own : frame_of d.options b ≡ Some frame = sym (ap (option_and_then (frame_of d.options)) l.is) ∙ o.1.0 in
+      let none = list_frame_only d.options b flags frame l.listed own in
       let opened : AreOpen d.options g.nodes (ix ∷ jx ∷ s) (InContainer c ∷ loose_frame_of frame ∷ frames) =
-      (first, (loose_frame d.options f jx b flags frame is listed o.1.0, outer, apart_loose frame frames none), apart_in c frame frames none o.2) in
-      let old_top : is_definition_list (top_body f) ≡ false = ap (λ z. is_definition_list (top_in f.nodes z)) spine
+      (first, (loose_frame d.options f jx b flags frame l.is l.listed o.1.0, outer, apart_loose frame frames none), apart_in c frame frames none o.2) in
+      let old_top : is_definition_list (top_body f) ≡ false = ap (λ z. is_definition_list (top_in f.nodes z)) l.spine
       ∙ top_no_definitions d.options (body_at f.nodes ix.0) (InContainer c ∷ frame ∷ frames) o.0 tt in
       let new_top : is_definition_list (top_body g) ≡ false = ap (λ z. is_definition_list (top_in g.nodes z)) same
       ∙ top_no_definitions d.options (body_at g.nodes ix.0) (InContainer c ∷ frame ∷ frames) first tt in
       let last : closed_in g ≡ closed_in f =
       closed_same f g old_top new_top (ap (λ (z : Forest Item). z.current) as_now)
       (λ i. ap (λ (z : Forest Item). option_map_or (closed_elsewhere i) (body_at z.nodes i) OtherClosed) as_now
-      ∙ closed_renamed f.nodes jx.0 b (flagged true b) (list_no_paragraph b flags listed) (flagged_no_paragraph b flags listed) is i i) in
+      ∙ closed_renamed f.nodes jx.0 b (flagged true b) (list_no_paragraph b flags l.listed) (flagged_no_paragraph b flags l.listed) l.is i i) in
       let done = completes-reflag d (open_nodes defined frames f.nodes (map (λ (i : TreeIndex). i.0) s)) (tail (closed_in f) false) (loose_frame_of frame) c
-      ix.0 jx.0 (Inside p) lines (list_around (loose_frame_of frame) c frames (loose_only frame none) k.shape.0) (before ix jx s spine) k in
-      let q : ReadyAt d defined g false (Inside p) lines =
+      ix.0 jx.0 (Inside p) lines (list_around (loose_frame_of frame) c frames (loose_only frame none) k.shape.0) (left.before ix jx s l.spine) k in
+      let now_ready : ReadyAt d defined g false (Inside p) lines =
       ready_as d defined g false (Inside p) lines (InContainer c ∷ loose_frame_of frame ∷ frames) (closed_in f) last
       (subst (λ z. AreOpen d.options g.nodes z (InContainer c ∷ loose_frame_of frame ∷ frames)) (sym same) opened)
-      (subst (λ z. SilentClosed z (closed_in f)) (sym nodes) (silent_reflagged f.nodes jx.0 true (closed_in f) silent))
+      (subst (λ z. SilentClosed z (closed_in f)) (sym nodes) (silent_reflagged f.nodes jx.0 true (closed_in f) old.silent))
       (subst (λ z. CompletesAt d defined (tail (closed_in f) false) (InContainer c ∷ loose_frame_of frame ∷ frames) g.nodes (map (λ (i : TreeIndex). i.0) z)
       (Inside p) lines) (sym same)
       (subst (λ z. CompletesAt d defined (tail (closed_in f) false) (InContainer c ∷ loose_frame_of frame ∷ frames) z
       (ix.0 ∷ jx.0 ∷ map (λ (i : TreeIndex). i.0) s) (Inside p) lines) (sym nodes) done)) in
-      record { ready = q; plain = tt; last = last }
+      record { ready = now_ready; plain = tt; last = last }
 
   -- the frames of the tree's own open nodes
-  opened_here : (s : List TreeIndex) (frames : List Frame) → f.spine ≡ s → AreOpen d.options f.nodes s frames → AreOpen d.options f.nodes f.spine frames
-  opened_here s frames spine o = subst (λ z. AreOpen d.options f.nodes z frames) (sym spine) o
+  opened_here : (s : List TreeIndex) (frames : List Frame) → f.spine ≡ s → old.frames ≡ frames → AreOpen d.options f.nodes s frames
+  opened_here s frames spine same =
+      subst (λ z. AreOpen d.options f.nodes z frames) spine (subst (λ z. AreOpen d.options f.nodes f.spine z) same old.are_open)
 
-  becoming_here : (s : List TreeIndex) (frames : List Frame) → f.spine ≡ s
-      → CompletesAt d defined t frames f.nodes (map (λ (i : TreeIndex). i.0) s) (Inside p) lines
-      → CompletesAt d defined t frames f.nodes (map (λ (i : TreeIndex). i.0) f.spine) (Inside p) lines
-  becoming_here s frames spine k =
-      subst (λ z. CompletesAt d defined t frames f.nodes (map (λ (i : TreeIndex). i.0) z) (Inside p) lines) (sym spine) k
+  noted_around : (l : InsideList d.options f) → old.frames ≡ InContainer l.container ∷ l.frame ∷ l.frames
+      → PlainAfter d defined (loosened_at f l.list) false (Inside p) lines (closed_in f)
+  noted_around l same =
+      let here : List Frame = InContainer l.container ∷ l.frame ∷ l.frames in
+      let own : frame_of d.options l.body ≡ Some l.frame = sym (ap (option_and_then (frame_of d.options)) l.is) ∙ l.are_open.1.0 in
+      noted_loose l
+      (subst (λ z. CompletesAt d defined (tail (closed_in f) false) z f.nodes (l.inner.0 ∷ l.list.0 ∷ map (λ (i : TreeIndex). i.0) l.rest) (Inside p) lines)
+      (loosened_frames l.container l.frame l.frames (list_frame_only d.options l.body l.flags l.frame l.listed own))
+      (subst (λ z. CompletesAt d defined (tail (closed_in f) false) (loosened_in true here) f.nodes (map (λ (i : TreeIndex). i.0) z) (Inside p) lines) l.spine
+      (subst (λ z. CompletesAt d defined (tail (closed_in f) false) (loosened_in true z) f.nodes (map (λ (i : TreeIndex). i.0) f.spine) (Inside p) lines) same
+      noted_at)))
 
-  noted_around : (ix jx : TreeIndex) (s : List TreeIndex) (c : Container) (frame : Frame) (frames : List Frame) (b : ItemBody) (flags : ListFlags)
-      → f.spine ≡ ix ∷ jx ∷ s → SilentClosed f.nodes (closed_in f) → body_at f.nodes jx.0 ≡ Some b → list_flags_of b ≡ Some flags
-      → AreOpen d.options f.nodes (ix ∷ jx ∷ s) (InContainer c ∷ frame ∷ frames)
-      → CompletesAt d defined t (InContainer c ∷ frame ∷ frames) f.nodes (ix.0 ∷ jx.0 ∷ map (λ (i : TreeIndex). i.0) s) (Inside p) lines
-      → PlainAfter d defined (loosened_at f jx) false (Inside p) lines (closed_in f)
-  noted_around ix jx s c frame frames b flags spine silent is listed o k =
-      let here : List Frame = InContainer c ∷ frame ∷ frames in
-      let own : frame_of d.options b ≡ Some frame = sym (ap (option_and_then (frame_of d.options)) is) ∙ o.1.0 in
-      let noted = noted_at here tt (opened_here (ix ∷ jx ∷ s) here spine o) (becoming_here (ix ∷ jx ∷ s) here spine k) in
-      noted_loose ix jx s c frame frames b flags spine silent is listed o
-      (subst (λ z. CompletesAt d defined (tail (closed_in f) false) z f.nodes (ix.0 ∷ jx.0 ∷ map (λ (i : TreeIndex). i.0) s) (Inside p) lines)
-      (loosened_frames c frame frames (list_frame_only d.options b flags frame listed own))
-      (subst (λ z. CompletesAt d defined (tail (closed_in f) false) (loosened_in true here) f.nodes (map (λ (i : TreeIndex). i.0) z) (Inside p) lines)
-      spine noted))
-
-  noted_by : (s : List TreeIndex) (frames : List Frame) → f.spine ≡ s → SilentClosed f.nodes (closed_in f) → IsPlain frames
-      → AreOpen d.options f.nodes s frames
-      → CompletesAt d defined t frames f.nodes (map (λ (i : TreeIndex). i.0) s) (Inside p) lines
+  noted_by : (s : List TreeIndex) (frames : List Frame) → f.spine ≡ s → old.frames ≡ frames
       → PlainAfter d defined (gap_tree f s) false (Inside p) lines (closed_in f)
-  noted_by [] [] spine silent plain o k = noted_still [] silent refl tt (opened_here [] [] spine o) (becoming_here [] [] spine k)
-  noted_by [] (frame ∷ frames) spine silent plain o k = absurd o
-  noted_by (ix ∷ s) [] spine silent plain o k = absurd o
-  noted_by (ix ∷ s) (InList byte loose ∷ frames) spine silent plain o k = absurd plain
-  noted_by (ix ∷ s) (InDefinitions loose ∷ frames) spine silent plain o k = absurd plain
-  noted_by (ix ∷ []) (InContainer c ∷ []) spine silent plain o k =
-      noted_still (InContainer c ∷ []) silent refl tt (opened_here (ix ∷ []) (InContainer c ∷ []) spine o)
-      (becoming_here (ix ∷ []) (InContainer c ∷ []) spine k)
-  noted_by (ix ∷ []) (InContainer c ∷ frame ∷ frames) spine silent plain o k = absurd o.1
-  noted_by (ix ∷ jx ∷ s) (InContainer c ∷ []) spine silent plain o k = absurd o.1
-  noted_by (ix ∷ jx ∷ s) (InContainer c ∷ InContainer b ∷ frames) spine silent plain o k =
+  noted_by [] [] spine same = noted_still [] same refl
+  noted_by [] (frame ∷ frames) spine same = absurd (opened_here [] (frame ∷ frames) spine same)
+  noted_by (ix ∷ s) [] spine same = absurd (opened_here (ix ∷ s) [] spine same)
+  noted_by (ix ∷ s) (InList byte loose ∷ frames) spine same = absurd (subst IsPlain same left.ready.1)
+  noted_by (ix ∷ s) (InDefinitions loose ∷ frames) spine same = absurd (subst IsPlain same left.ready.1)
+  noted_by (ix ∷ []) (InContainer c ∷ []) spine same = noted_still (InContainer c ∷ []) same refl
+  noted_by (ix ∷ []) (InContainer c ∷ frame ∷ frames) spine same = absurd (opened_here (ix ∷ []) (InContainer c ∷ frame ∷ frames) spine same).1
+  noted_by (ix ∷ jx ∷ s) (InContainer c ∷ []) spine same = absurd (opened_here (ix ∷ jx ∷ s) (InContainer c ∷ []) spine same).1
+  noted_by (ix ∷ jx ∷ s) (InContainer c ∷ InContainer b ∷ frames) spine same =
       let here : List Frame = InContainer c ∷ InContainer b ∷ frames in
-      let same : loosened_at f jx ≡ f = no_list_at d.options (body_at f.nodes jx.0) b o.1.0 f jx in
-      subst (λ g. PlainAfter d defined g false (Inside p) lines (closed_in f)) (sym same)
-      (noted_still here silent refl tt (opened_here (ix ∷ jx ∷ s) here spine o) (becoming_here (ix ∷ jx ∷ s) here spine k))
-  noted_by (ix ∷ jx ∷ s) (InContainer c ∷ InList byte loose ∷ frames) spine silent plain o k =
+      let o = opened_here (ix ∷ jx ∷ s) here spine same in
+      let unchanged : loosened_at f jx ≡ f = no_list_at d.options (body_at f.nodes jx.0) b o.1.0 f jx in
+      subst (λ g. PlainAfter d defined g false (Inside p) lines (closed_in f)) (sym unchanged) (noted_still here same refl)
+  noted_by (ix ∷ jx ∷ s) (InContainer c ∷ InList byte loose ∷ frames) spine same =
+      let o = opened_here (ix ∷ jx ∷ s) (InContainer c ∷ InList byte loose ∷ frames) spine same in
       let b = list_at d.options (body_at f.nodes jx.0) byte loose o.1.0 in
-      noted_around ix jx s c (InList byte loose) frames (ListBody b.0 b.1 b.2) b.0 spine silent b.3 refl o k
-  noted_by (ix ∷ jx ∷ s) (InContainer c ∷ InDefinitions loose ∷ frames) spine silent plain o k =
+      noted_around (record {
+        inner = ix;
+        list = jx;
+        rest = s;
+        container = c;
+        frame = InList byte loose;
+        frames = frames;
+        body = ListBody b.0 b.1 b.2;
+        flags = b.0;
+        spine = spine;
+        is = b.3;
+        listed = refl;
+        are_open = o;
+      }) same
+  noted_by (ix ∷ jx ∷ s) (InContainer c ∷ InDefinitions loose ∷ frames) spine same =
+      let o = opened_here (ix ∷ jx ∷ s) (InContainer c ∷ InDefinitions loose ∷ frames) spine same in
       let b = definitions_at d.options (body_at f.nodes jx.0) loose o.1.0 in
-      noted_around ix jx s c (InDefinitions loose) frames (DefinitionList b.0) b.0 spine silent b.1 refl o k
+      noted_around (record {
+        inner = ix;
+        list = jx;
+        rest = s;
+        container = c;
+        frame = InDefinitions loose;
+        frames = frames;
+        body = DefinitionList b.0;
+        flags = b.0;
+        spine = spine;
+        is = b.1;
+        listed = refl;
+        are_open = o;
+      }) same
 
   -- a blank line before a block is noted
-  pub noted_run : ReadyPlain d defined f true p lines → PlainAfter d defined (gap_tree f f.spine) false (Inside p) lines (closed_in f)
-  noted_run (q, plain) = noted_by f.spine q.frames refl q.silent plain q.are_open q.completes
+  pub noted_run : PlainAfter d defined (gap_tree f f.spine) false (Inside p) lines (closed_in f)
+  noted_run = noted_by f.spine old.frames refl refl
 
 gap_paths : (options : Options) (f : Forest Item) (spine s : List TreeIndex) → path_in options (gap_tree f spine).nodes s ≡ path_in options f.nodes s
 gap_paths options f [] s = refl
@@ -491,18 +528,12 @@ pub record MayBegin (d : Document) (defined : Tables) (r : PassState) (p : Place
   pub none : r.begin_list_item ≡ None
   pub ready : ReadyAt d defined r.tree r.blank (Inside p) lines
 
--- the opening at a place in these containers opens a block, no definition, and ends no footnote definition
-pub record OpensOther (d : Document) (path : List Container) (p : Place) (opening : Opening) : Type 0 where
-  pub stays : StaysAt d path p
-  pub block : OpensBlock opening
-  pub other : opens_definition opening ≡ false
-
 pub noted_as : (d : Document) (defined : Tables) (r : PassState) (p : Place) (lines : List Place) (opening : Opening) (run : Bool)
     → r.blank ≡ run → r.begin_list_item ≡ None → OpensOther d (path_of d.options r.tree) p opening → LeftPlain d defined r.tree run p lines opening
     → (let q : PassState = if run then record r { tree = gap_tree r.tree r.tree.spine; blank = false } else r in Finished d defined r q p lines opening)
 noted_as d defined r p lines opening true is none opens left =
     let g : Forest Item = gap_tree r.tree r.tree.spine in
-    let n = noted_run d defined r.tree p lines opening left.before opens.stays left.opens opens.block opens.other left.ready in
+    let n = noted_run d defined r.tree p lines opening left opens in
     let path = gap_path d.options r.tree r.tree.spine in
     let q = left.ready.0 in
     let takes : takes_after (last_in r.tree) ≡ takes_after (last_in g) =
