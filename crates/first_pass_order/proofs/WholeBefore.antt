@@ -23,7 +23,7 @@ use Rattle.first_pass_grammar.proofs.Names.MoreNames.{alignments_kept}
 use Rattle.first_pass_grammar.proofs.Sequences.PlacesKept.{AreAt}
 use Rattle.first_pass_completion.proofs.SilentNodes.{IsSilent, AreSilent, SilentList, ShowsMore, more_both, marks_ended, rendered_shows, silent_rendered}
 use Rattle.first_pass_completion.proofs.SilentNodes.{silent_place, silent_as, silent_definitions}
-use Rattle.first_pass_grammar.proofs.WholeTables.WholeBlocks.{HeadsAreFull, PlainFrom, sequence_whole}
+use Rattle.first_pass_grammar.proofs.WholeTables.WholeBlocks.{PlainFrom, sequence_whole}
 use Rattle.first_pass_grammar.proofs.WholeTables.WholeForests.{WholeRows, derived_whole}
 
 -- the nodes still open have no part of a table when a container is closed
@@ -40,44 +40,50 @@ container_shows names depth place w f rows list silent whole =
     let still = silent_rendered depth f.«end» w.nodes w.list rows place list silent in
     (more, marks_ended names (rendered depth f.«end» w.nodes w.list rows) place f.«end» still ∙ shows)
 
+-- Blocks are read on from lines of the text, after no part of a table.
+record PlainStart (text : List ℕ) : Type 0 where
+  from : Continues
+  lines : List Place
+  plain : PlainFrom text from
+  at : AreAt text lines
+
 -- The completion of nodes keeps their marks and adds those of tables: each container takes blocks with whole tables,
 -- or with none.
-module _ (d : Document) (full : HeadsAreFull d) where
-  becomes_shows : (frames : List Frame) (places : List ℕ) (w : Unfinished) (further : List Further) (from : Continues) (lines : List Place)
-      (forest : List (ℕ × Item)) (tables : Tables) → PlainFrom d.text from → AreAt d.text lines → AreSilent w.nodes places → SilentList w.nodes w.list
-      → AreFurther d (containers_of frames) w.before from lines further → Becomes frames places w further forest tables → ShowsMore d.names w.nodes forest
+module _ (d : Document) where
+  becomes_shows : (frames : List Frame) (places : List ℕ) (w : Unfinished) (further : List Further) (s : PlainStart d.text) (forest : List (ℕ × Item))
+      (tables : Tables) → AreSilent w.nodes places → SilentList w.nodes w.list → AreFurther d (containers_of frames) w.before s.from s.lines further
+      → Becomes frames places w further forest tables → ShowsMore d.names w.nodes forest
   unfolding AreFurther Becomes
-  becomes_shows [] [] w [] from lines forest tables plain at silent list are becomes = absurd are
-  becomes_shows [] [] w (f ∷ []) from lines forest tables plain at silent list (sequence, ends) (is, told) =
-      let blocks = (sequence_whole d full f.blocks (level [] w.before) from lines (Lines []) plain at sequence).0 in
+  becomes_shows [] [] w [] s forest tables silent list are becomes = absurd are
+  becomes_shows [] [] w (f ∷ []) s forest tables silent list (sequence, ends) (is, told) =
+      let blocks = (sequence_whole d (heads_are_full d) f.blocks (level [] w.before) s.from s.lines (Lines []) s.plain s.at sequence).0 in
       let rows = each_row (AreWholeTables d.names) false w.before f.«end» f.blocks blocks in
       subst (ShowsMore d.names w.nodes) (sym is) (rendered_shows d.names 1 f.«end» w.nodes w.list (rows_on false w f) list rows)
-  becomes_shows [] [] w (f ∷ g ∷ more) from lines forest tables plain at silent list are becomes = absurd are
-  becomes_shows [] (place ∷ places) w further from lines forest tables plain at silent list are becomes = absurd becomes
-  becomes_shows (InList byte loose ∷ frames) [] w further from lines forest tables plain at silent list are becomes = absurd becomes
-  becomes_shows (InDefinitions loose ∷ frames) [] w further from lines forest tables plain at silent list are becomes = absurd becomes
-  becomes_shows (InContainer c ∷ frames) [] w further from lines forest tables plain at silent list are becomes = absurd becomes
-  becomes_shows (InList byte loose ∷ frames) (place ∷ places) w further from lines forest tables plain at silent list are becomes =
+  becomes_shows [] [] w (f ∷ g ∷ more) s forest tables silent list are becomes = absurd are
+  becomes_shows [] (place ∷ places) w further s forest tables silent list are becomes = absurd becomes
+  becomes_shows (InList byte loose ∷ frames) [] w further s forest tables silent list are becomes = absurd becomes
+  becomes_shows (InDefinitions loose ∷ frames) [] w further s forest tables silent list are becomes = absurd becomes
+  becomes_shows (InContainer c ∷ frames) [] w further s forest tables silent list are becomes = absurd becomes
+  becomes_shows (InList byte loose ∷ frames) (place ∷ places) w further s forest tables silent list are becomes =
       let inside : Unfinished = record { nodes = w.nodes; list = OneList place (ItemsOf byte) loose; before = w.before; defined = w.defined } in
-      becomes_shows frames places inside further from lines forest tables plain at silent.1 silent.0 are becomes
-  becomes_shows (InDefinitions loose ∷ frames) (place ∷ places) w further from lines forest tables plain at silent list are becomes =
+      becomes_shows frames places inside further s forest tables silent.1 silent.0 are becomes
+  becomes_shows (InDefinitions loose ∷ frames) (place ∷ places) w further s forest tables silent list are becomes =
       let inside : Unfinished = record { nodes = w.nodes; list = definitions_open place loose w.list; before = w.before; defined = w.defined } in
-      becomes_shows frames places inside further from lines forest tables plain at silent.1
-      (silent_definitions w.nodes place loose w.list silent.0 list) are becomes
-  becomes_shows (InContainer c ∷ frames) (place ∷ places) w [] from lines forest tables plain at silent list are becomes = absurd are
-  becomes_shows (InContainer c ∷ frames) (place ∷ places) w (f ∷ further) from lines forest tables plain at silent list (left, sequence, ends, are) becomes =
+      becomes_shows frames places inside further s forest tables silent.1 (silent_definitions w.nodes place loose w.list silent.0 list) are becomes
+  becomes_shows (InContainer c ∷ frames) (place ∷ places) w [] s forest tables silent list are becomes = absurd are
+  becomes_shows (InContainer c ∷ frames) (place ∷ places) w (f ∷ further) s forest tables silent list (left, sequence, ends, are) becomes =
       let rows : Rows = rows_on (is_quote c) w f in
       let gap : Bool = any_gap (rows_beyond w.list rows) in
       let depth : ℕ = suc (length (place ∷ places)) in
       let now : Unfinished = container_closed c depth place w f rows in
-      let blocks = sequence_whole d full f.blocks (level (c ∷ containers_of frames) w.before) from lines left plain at sequence in
+      let blocks = sequence_whole d (heads_are_full d) f.blocks (level (c ∷ containers_of frames) w.before) s.from s.lines left s.plain s.at sequence in
+      let next : PlainStart d.text = record { from = (onward left).0; lines = (onward left).1; plain = blocks.1.0; at = blocks.1.1 } in
       let whole = each_row (AreWholeTables d.names) (is_quote c) w.before f.«end» f.blocks blocks.0 in
       let here = container_shows d.names depth place w f rows list silent.0 whole in
       let still = silent_places depth f.«end» place f.«end» w.nodes w.list rows places list silent.1 in
       more_both d.names w.nodes now.nodes forest here
-      (becomes_shows (loosened gap frames) places now further (onward left).0 (onward left).1 forest tables blocks.1.0 blocks.1.1 still
-      (silent_as now.nodes c f.«end»)
-      (subst (λ (path : List Container). AreFurther d path now.before (onward left).0 (onward left).1 further) (sym (containers-loosened gap frames)) are)
+      (becomes_shows (loosened gap frames) places now further next forest tables still (silent_as now.nodes c f.«end»)
+      (subst (λ (path : List Container). AreFurther d path now.before next.from next.lines further) (sym (containers-loosened gap frames)) are)
       becomes)
 
 -- If tables follow some marks, and all marks together are whole tables, the first marks are whole tables: those of a
@@ -153,7 +159,8 @@ pub completed_whole : (d : Document) (frames : List Frame) (places : List ℕ) (
 completed_whole d frames places w from lines plain at silent list c derives =
     let named : Document = document d.text d.options c.names in
     front_whole c.names w.nodes c.forest
-    (becomes_shows named (heads_are_full named) frames places w c.further from lines c.forest c.tables plain at silent list c.taken c.becomes)
+    (becomes_shows named frames places w c.further (record { from = from; lines = lines; plain = plain; at = at }) c.forest c.tables silent list
+    c.taken c.becomes)
     (derived_whole named c.forest c.tables derives)
 
 -- Each index names the same under further names.
