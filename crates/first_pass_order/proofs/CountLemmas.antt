@@ -37,8 +37,8 @@ use Rattle.first_pass_items.specs.declared.item.CowIndex.{CowIndex}
 use Rattle.first_pass_lists.specs.declared.state.PassState.{PassState}
 use Rattle.first_pass_open.specs.OpenBlock.{begun_item}
 use Rattle.first_pass_order.proofs.AlikeNodes.{AreAlike, NoNodes, OneMore}
-use Rattle.first_pass_order.proofs.PropertyKept.{IsLeft, Property, HoldsAt, popped_at_keeps, popped_keeps, empty_item_closed_keeps, noted_keeps, kept_keeps}
-use Rattle.first_pass_order.proofs.PropertyKept.{blank_keeps}
+use Rattle.first_pass_order.proofs.PropertyKept.{IsLeft, Property, HoldsAt, HoldsBefore, popped_at_keeps, popped_keeps, empty_item_closed_keeps, noted_keeps}
+use Rattle.first_pass_order.proofs.PropertyKept.{kept_keeps, blank_keeps}
 use Rattle.first_pass_order.proofs.PropertyKept.{list_finished_keeps, quote_keeps, item_keeps, note_keeps}
 use Rattle.first_pass_open.specs.Between.{AddsBetween}
 use Rattle.first_pass_lists.proofs.NoEmptyItem.{item_opened}
@@ -86,6 +86,9 @@ count_kept = record {
 counted : (r : PassState) → HoldsAt count_kept 0 (count r) r
 counted r = record { holds = (let same : count r ≤ count r = omega arith in same); goes = tt; marked = λ e is. (tt, tt) }
 
+counted_before : (r : PassState) → HoldsBefore count_kept 0 (count r) r
+counted_before r = record { held = counted r; leaves = λ t is. tt }
+
 pub popped_count : (e most : ℕ) (r : PassState) → count r ≤ most → count (popped e r) ≤ most
 popped_count e most r h = popped_keeps count_kept 0 e most r (λ t is. tt) tt tt h
 
@@ -93,7 +96,8 @@ pub empty_item_closed_count : (r : PassState) → count (empty_item_closed r) �
 empty_item_closed_count r = empty_item_closed_keeps count_kept 0 (count r) r (counted r)
 
 pub list_finished_count : (e : ℕ) (r : PassState) → count (list_finished e r) ≤ count r
-list_finished_count e r = list_finished_keeps count_kept 0 e 0 (count r) r (counted r) (λ t is. tt) (λ list. tt) tt tt tt
+list_finished_count e r =
+    list_finished_keeps count_kept 0 e 0 (count r) r (counted_before r) (record { closes = λ list. tt; ends = tt; short = tt; later = tt })
 
 pub blank_count : (r : PassState) → count (blank_read r) ≤ count r
 blank_count r = blank_keeps count_kept 0 (count r) r (omega arith)
@@ -101,19 +105,20 @@ blank_count r = blank_keeps count_kept 0 (count r) r (omega arith)
 pub item_count : (start byte number columns : ℕ) (r : PassState) → count (item_opened start byte number columns r) ≤ count r + 2
 item_count start byte number columns r =
     let two : count (item_opened start byte number columns r) ≤ suc (suc (count r)) =
-    item_keeps count_kept 0 start byte number columns (count r) r (counted r) (λ t is. tt) tt tt tt tt tt tt in
+    item_keeps count_kept 0 start byte number columns (count r) r (counted_before r) (record { here = tt; goes = tt; there = tt; starts = tt }) tt tt in
     omega arith
 
 pub quote_count : (line start : ℕ) (body : ItemBody) (r : PassState) → count (begun start body (list_finished line r)) ≤ count r + 1
 quote_count line start body r =
     let one : count (begun start body (list_finished line r)) ≤ suc (count r) =
-    quote_keeps count_kept 0 line 0 start (count r) body r (counted r) (λ t is. tt) (λ list. tt) tt tt tt tt tt tt in
+    quote_keeps count_kept 0 line 0 start (count r) body r (counted_before r) (record { closes = λ list. tt; ends = tt; short = tt; later = tt })
+    (record { goes = tt; starts = tt }) tt in
     omega arith
 
 pub note_count : (start : ℕ) (index : CowIndex) (r : PassState) → count (footnote_begun start index r) ≤ count r + 1
 note_count start index r =
     let one : count (footnote_begun start index r) ≤ suc (count r) =
-    note_keeps count_kept 0 start (count r) index r (counted r) (λ t is. tt) tt tt tt tt in
+    note_keeps count_kept 0 start (count r) index r (counted_before r) tt tt tt tt in
     omega arith
 
 -- ending a definition list before a heading or a table adds none

@@ -23,7 +23,7 @@ use Rattle.std.proofs.Common.{Bool}
 use Rattle.first_pass_order.specs.Ordered.{reached, IsOrderedAt}
 use Rattle.first_pass_order.proofs.OrderLemmas.{flags_of, ordered_same, ordered_later, ordered_begun}
 use Rattle.first_pass_order.proofs.AlikeNodes.{AreAlike, NoNodes, OneMore}
-use Rattle.first_pass_order.proofs.PropertyKept.{IsLeft, Property, MayLeave, HoldsAt}
+use Rattle.first_pass_order.proofs.PropertyKept.{IsLeft, Property, MayLeave, HoldsAt, HoldsBefore}
 use Rattle.first_pass_tokens.proofs.BytesLemmas.{length-modify}
 
 -- an end at a place, in the extents
@@ -143,6 +143,9 @@ ordered_at text r at h = record {
       let within : at ≤ length text = h.within in
       ((omega arith, omega arith), (h.innermost e is).1);
 }
+
+pub ordered_before : (text : List ℕ) (r : PassState) (at : ℕ) → IsOrderedAt text r at → EndsBeforeTitle text r.tree at → HoldsBefore (order_kept text) at 0 r
+ordered_before text r at h closes = record { held = ordered_at text r at h; leaves = may_leave text r.tree at closes }
 
 -- up to a later offset
 pub title_later : (text : List ℕ) (f : Forest Item) (a b : ℕ) → a ≤ b → EndsBeforeTitle text f a → EndsBeforeTitle text f b

@@ -26,7 +26,7 @@ use Rattle.first_pass_names.proofs.NameLemmas.{extends_none}
 use Rattle.first_pass_open.specs.Path.{path_of}
 use Rattle.first_pass_order.specs.LeafBlocks.{AddsKind}
 use Rattle.first_pass_order.proofs.AlikeNodes.{AreAlike, NoNodes, OneMore}
-use Rattle.first_pass_order.proofs.PropertyKept.{IsLeft, Property, HoldsAt, popped_keeps, empty_item_closed_keeps, kept_keeps, blank_keeps}
+use Rattle.first_pass_order.proofs.PropertyKept.{IsLeft, Property, HoldsAt, HoldsBefore, popped_keeps, empty_item_closed_keeps, kept_keeps, blank_keeps}
 use Rattle.first_pass_order.proofs.PropertyKept.{list_finished_keeps, list_continued_keeps, quote_keeps, item_keeps, note_keeps}
 use Rattle.first_pass_open.specs.OpenBlock.{with_child, begun_item}
 use Rattle.first_pass_lists.specs.Closing.{list_continued, popped, empty_item_closed}
@@ -103,6 +103,9 @@ module _ (names : Names) where
   named_at : (r : PassState) → AreReadNamed r → HoldsAt named_kept 0 0 r
   named_at r h = record { holds = h; goes = tt; marked = λ e is. (tt, tt) }
 
+  named_before : (r : PassState) → AreReadNamed r → HoldsBefore named_kept 0 0 r
+  named_before r h = record { held = named_at r h; leaves = λ t is. tt }
+
   pub popped_named : (e : ℕ) (r : PassState) → AreReadNamed r → AreReadNamed (popped e r)
   popped_named e r h = popped_keeps named_kept 0 e 0 r (λ t is. tt) tt tt h
 
@@ -110,25 +113,28 @@ module _ (names : Names) where
   empty_item_closed_named r h = empty_item_closed_keeps named_kept 0 0 r (named_at r h)
 
   pub list_finished_named : (e : ℕ) (r : PassState) → AreReadNamed r → AreReadNamed (list_finished e r)
-  list_finished_named e r h = list_finished_keeps named_kept 0 e 0 0 r (named_at r h) (λ t is. tt) (λ list. tt) tt tt tt
+  list_finished_named e r h =
+      list_finished_keeps named_kept 0 e 0 0 r (named_before r h) (record { closes = λ list. tt; ends = tt; short = tt; later = tt })
 
   pub blank_named : (r : PassState) → AreReadNamed r → AreReadNamed (blank_read r)
   blank_named r h = blank_keeps named_kept 0 0 r h
 
   pub continued_named : (start byte number : ℕ) (r : PassState) → AreReadNamed r → AreReadNamed (list_continued start byte number r)
-  continued_named start byte number r h = list_continued_keeps named_kept 0 start byte number 0 r (named_at r h) (λ t is. tt) tt tt tt tt tt
+  continued_named start byte number r h =
+      list_continued_keeps named_kept 0 start byte number 0 r (named_before r h) (record { here = tt; goes = tt; there = tt; starts = tt }) tt
 
   pub item_named : (start byte number columns : ℕ) (r : PassState) → AreReadNamed r → AreReadNamed (item_opened start byte number columns r)
   item_named start byte number columns r h =
-      item_keeps named_kept 0 start byte number columns 0 r (named_at r h) (λ t is. tt) tt tt tt tt tt tt
+      item_keeps named_kept 0 start byte number columns 0 r (named_before r h) (record { here = tt; goes = tt; there = tt; starts = tt }) tt tt
 
   pub quote_named : (line start : ℕ) (body : ItemBody) (r : PassState)
       → NamesEntry names (index_of body) → AreReadNamed r → AreReadNamed (begun start body (list_finished line r))
   quote_named line start body r own h =
-      quote_keeps named_kept 0 line 0 start 0 body r (named_at r h) (λ t is. tt) (λ list. tt) tt tt tt tt tt own
+      quote_keeps named_kept 0 line 0 start 0 body r (named_before r h) (record { closes = λ list. tt; ends = tt; short = tt; later = tt })
+      (record { goes = tt; starts = tt }) own
 
   pub note_named : (start : ℕ) (index : CowIndex) (r : PassState) → index.0 < length names.texts → AreReadNamed r → AreReadNamed (footnote_begun start index r)
-  note_named start index r own h = note_keeps named_kept 0 start 0 index r (named_at r h) (λ t is. tt) tt tt tt own
+  note_named start index r own h = note_keeps named_kept 0 start 0 index r (named_before r h) tt tt tt own
 
   end_named : (f : Forest Item) (e : ℕ) (o : Option TreeIndex) → AreNamed names f.nodes → AreNamed names (with_end f e o).nodes
   end_named f e None h = h

@@ -22,7 +22,7 @@ use Rattle.first_pass_order.proofs.AlikeNodes.{like_blank}
 use Rattle.first_pass_order.proofs.Nests.{title_there, popped_settled, empty_item_closed_nested, like_item, like_nested}
 use Rattle.first_pass_order.proofs.Nests.{empty_item_closed_last, blank_last, settled_closes, outside_closes, list_finished_outside, list_continued_settled}
 use Rattle.first_pass_order.proofs.Nests.{footnote_begun_settled}
-use Rattle.first_pass_order.proofs.LeftOrder.{title_later, order_kept, ordered_at, may_leave}
+use Rattle.first_pass_order.proofs.LeftOrder.{title_later, order_kept, ordered_at, ordered_before, may_leave}
 use Rattle.std.proofs.lemmas.Bool.{true≢false}
 use Rattle.first_pass_order.proofs.PropertyKept.{popped_here, empty_item_closed_keeps, empty_item_closed_leaves, noted_keeps, kept_keeps, blank_keeps, no_item_list}
 use Rattle.first_pass_lists.proofs.NoEmptyItem.{finished_none, popped_at_none}
@@ -111,15 +111,15 @@ pub ordered_list_finished : (text : List ℕ) (r : PassState) (at e b : ℕ) →
 ordered_list_finished text r at e b closes later short within ends order h =
     let e_within : e ≤ length text = omega arith in
     ordered_none text (list_finished e r) b (list_finished_none e r) within
-    (list_finished_keeps (order_kept text) at e b 0 r (ordered_at text r at h) (may_leave text r.tree at closes) (λ t. (order t, e_within)) ends (short, within)
-    (later, within))
+    (list_finished_keeps (order_kept text) at e b 0 r (ordered_before text r at h closes)
+    (record { closes = λ t. (order t, e_within); ends = ends; short = (short, within); later = (later, within) }))
 
 -- a footnote definition is opened where the innermost open nodes end
 pub ordered_note : (text : List ℕ) (r : PassState) (at start : ℕ) (index : CowIndex) → EndsBeforeTitle text r.tree at → at ≤ start → start ≤ length text
     → IsCharBoundary text start → IsOrderedAt text r at → IsOrderedTo text (footnote_begun start index r).tree start
 ordered_note text r at start index closes later within starts h =
     let there : start ≤ start = omega arith in
-    note_keeps (order_kept text) at start 0 index r (ordered_at text r at h) (may_leave text r.tree at closes) (later, within) (there, within) starts tt
+    note_keeps (order_kept text) at start 0 index r (ordered_before text r at h closes) (later, within) (there, within) starts tt
 
 -- a list that continues, or a new one
 pub ordered_list_continued : (text : List ℕ) (r : PassState) (at start byte number : ℕ) → EndsBeforeTitle text r.tree at
@@ -128,8 +128,8 @@ ordered_list_continued text r at start byte number closes later within starts h 
     let here : at ≤ at = omega arith in
     let there : start ≤ start = omega arith in
     ordered_none text (list_continued start byte number r) start (list_continued_none start byte number r) within
-    (list_continued_keeps (order_kept text) at start byte number 0 r (ordered_at text r at h) (may_leave text r.tree at closes) (here, h.within) (later, within)
-    (there, within) starts tt)
+    (list_continued_keeps (order_kept text) at start byte number 0 r (ordered_before text r at h closes)
+    (record { here = (here, h.within); goes = (later, within); there = (there, within); starts = starts }) tt)
 
 -- a blank line is read
 blank_by_empty : (r : PassState) (b : Option ItemBody) → (blank_read_by r b).begin_list_item ≡ r.begin_list_item

@@ -153,6 +153,11 @@ module _ (p : Property) where
     pub goes : p.Goes (reached r.begin_list_item a) a
     pub marked : (e : ℕ) → r.begin_list_item ≡ Some e → p.Goes e e × p.Bounds e
 
+  -- The property holds of the state, and the last child may be moved out of its list.
+  pub record HoldsBefore (a k : ℕ) (r : PassState) : Type 0 where
+    pub held : HoldsAt a k r
+    pub leaves : MayLeave a r.tree
+
   -- an item that began with two blank lines is closed at the end of its marker's line
   finished_by_keeps : (b k : ℕ) (r : PassState) (o : Option ℕ) → ((e : ℕ) → o ≡ Some e → p.Goes e e × p.Bounds e) → p.Goes (reached o b) b
       → p.Holds (reached o b) k r.tree → p.Holds b k (empty_item_closed_by r o).tree
@@ -176,6 +181,17 @@ module _ (p : Property) where
   pub empty_item_closed_leaves : (a : ℕ) (r : PassState) → MayLeave a r.tree → MayLeave a (empty_item_closed r).tree
   unfolding empty_item_closed
   empty_item_closed_leaves a r h = finished_by_leaves a r r.begin_list_item h
+
+  empty_item_closed_before : (a k : ℕ) (r : PassState) → p.Goes a a → HoldsBefore a k r → HoldsBefore a k (empty_item_closed r)
+  empty_item_closed_before a k r here h =
+      let s : PassState = empty_item_closed r in
+      let none = finished_none r in
+      let now : HoldsAt a k s = record {
+        holds = subst (λ o. p.Holds (reached o a) k s.tree) (sym none) (empty_item_closed_keeps a k r h.held);
+        goes = subst (λ o. p.Goes (reached o a) a) (sym none) here;
+        marked = λ e is. absurd (none-some e (sym none ∙ is));
+      } in
+      record { held = now; leaves = empty_item_closed_leaves a r h.leaves }
 
   -- the innermost open node is closed, an empty item if there is one
   popped_with : (b e k : ℕ) (r : PassState) (o : Option ℕ) → ((x : ℕ) → o ≡ Some x → is_item (top_body r.tree) ≡ true) → MayLeave b r.tree
@@ -203,64 +219,75 @@ module _ (p : Property) where
   left_by a e b k r true may ends short goes h = p.later e b k (popped e r).tree short (popped_keeps a e k r (may refl).0 (may refl).1 ends h)
   left_by a e b k r false may ends short goes h = p.later a b k r.tree goes h
 
+  -- Reading goes on from one offset to another, past the end of an innermost list.
+  pub record PassesList (a e b : ℕ) (r : PassState) : Type 0 where
+    pub closes : is_list (top_body (empty_item_closed r).tree) ≡ true → p.Goes a e
+    pub ends : p.Bounds e
+    pub short : p.Goes e b
+    pub later : p.Goes a b
+
+  -- Reading goes on from an offset to the start of a node.
+  pub record GoesToStart (a start : ℕ) : Type 0 where
+    pub goes : p.Goes a start
+    pub starts : p.Bounds start
+
+  -- The same, where a list may end at the start.
+  pub record GoesToItem (a start : ℕ) : Type 0 where
+    pub here : p.Goes a a
+    pub goes : p.Goes a start
+    pub there : p.Goes start start
+    pub starts : p.Bounds start
+
   -- before a block that ends a list
-  pub list_finished_keeps : (a e b k : ℕ) (r : PassState) → HoldsAt a k r → MayLeave a r.tree
-      → (is_list (top_body (empty_item_closed r).tree) ≡ true → p.Goes a e) → p.Bounds e
-      → p.Goes e b → p.Goes a b → p.Holds b k (list_finished e r).tree
+  pub list_finished_keeps : (a e b k : ℕ) (r : PassState) → HoldsBefore a k r → PassesList a e b r → p.Holds b k (list_finished e r).tree
   unfolding list_finished
-  list_finished_keeps a e b k r h leaves goes ends short later =
+  list_finished_keeps a e b k r h g =
       let q : PassState = empty_item_closed r in
       noted_keeps b k (list_closed e q)
-      (left_by a e b k q (is_list (top_body q.tree)) (λ t. (empty_item_closed_leaves a r leaves, goes t)) ends short later (empty_item_closed_keeps a k r h))
+      (left_by a e b k q (is_list (top_body q.tree)) (λ t. (empty_item_closed_leaves a r h.leaves, g.closes t)) g.ends g.short g.later
+      (empty_item_closed_keeps a k r h.held))
 
   -- a container is opened there
-  pub quote_keeps : (a e b start k : ℕ) (body : ItemBody) (r : PassState) → HoldsAt a k r → MayLeave a r.tree
-      → (is_list (top_body (empty_item_closed r).tree) ≡ true → p.Goes a e)
-      → p.Bounds e → p.Goes e b → p.Goes a b → p.Goes b start → p.Bounds start → p.Opens body
+  pub quote_keeps : (a e b start k : ℕ) (body : ItemBody) (r : PassState) → HoldsBefore a k r → PassesList a e b r → GoesToStart b start → p.Opens body
       → p.Holds start (suc k) (begun start body (list_finished e r)).tree
-  quote_keeps a e b start k body r h leaves goes ends short later on starts opens =
-      p.opened b start k (list_finished e r).tree body on starts opens (list_finished_keeps a e b k r h leaves goes ends short later)
+  quote_keeps a e b start k body r h g there opens =
+      p.opened b start k (list_finished e r).tree body there.goes there.starts opens (list_finished_keeps a e b k r h g)
 
   -- an item is opened, in the list that continues or in a new one
-  continued_by : (a start byte number k : ℕ) (s : PassState) (t : Bool) → s.begin_list_item ≡ None → MayLeave a s.tree → p.Goes a a → p.Goes a start
-      → p.Goes start start → p.Bounds start → p.Opens (ListBody (list_flags true) byte number) → p.Holds a k s.tree
+  continued_by : (a start byte number k : ℕ) (s : PassState) (t : Bool) → s.begin_list_item ≡ None → HoldsBefore a k s
+      → GoesToItem a start → p.Opens (ListBody (list_flags true) byte number)
       → p.Holds start (suc k) (if t then list_kept s else begun start (ListBody (list_flags true) byte number) (list_finished start s)).tree
-  continued_by a start byte number k s true none leaves here goes there starts opens h =
-      p.later a start (suc k) (list_kept s).tree goes (kept_keeps a (suc k) s (p.more a k s.tree h))
-  continued_by a start byte number k s false none leaves here goes there starts opens h =
-      let now : HoldsAt a k s = record {
-        holds = subst (λ o. p.Holds (reached o a) k s.tree) (sym none) h;
-        goes = subst (λ o. p.Goes (reached o a) a) (sym none) here;
-        marked = λ e is. absurd (none-some e (sym none ∙ is));
-      } in
-      quote_keeps a start start start k (ListBody (list_flags true) byte number) s now leaves (λ t. goes) starts there goes there starts opens
+  continued_by a start byte number k s true none h g opens =
+      let holds : p.Holds a k s.tree = subst (λ o. p.Holds (reached o a) k s.tree) none h.held.holds in
+      p.later a start (suc k) (list_kept s).tree g.goes (kept_keeps a (suc k) s (p.more a k s.tree holds))
+  continued_by a start byte number k s false none h g opens =
+      quote_keeps a start start start k (ListBody (list_flags true) byte number) s h
+      (record { closes = λ t. g.goes; ends = g.starts; short = g.there; later = g.goes }) (record { goes = g.there; starts = g.starts }) opens
 
-  pub list_continued_keeps : (a start byte number k : ℕ) (r : PassState) → HoldsAt a k r → MayLeave a r.tree → p.Goes a a → p.Goes a start → p.Goes start start
-      → p.Bounds start → p.Opens (ListBody (list_flags true) byte number) → p.Holds start (suc k) (list_continued start byte number r).tree
+  pub list_continued_keeps : (a start byte number k : ℕ) (r : PassState) → HoldsBefore a k r → GoesToItem a start
+      → p.Opens (ListBody (list_flags true) byte number) → p.Holds start (suc k) (list_continued start byte number r).tree
   unfolding list_continued
-  list_continued_keeps a start byte number k r h leaves here goes there starts lists =
+  list_continued_keeps a start byte number k r h g lists =
       let s : PassState = empty_item_closed r in
-      continued_by a start byte number k s (is_list_of byte (top_body s.tree)) (finished_none r)
-      (empty_item_closed_leaves a r leaves) here goes there starts lists
-      (empty_item_closed_keeps a k r h)
+      continued_by a start byte number k s (is_list_of byte (top_body s.tree)) (finished_none r) (empty_item_closed_before a k r g.here h) g lists
 
-  pub item_keeps : (a start byte number columns k : ℕ) (r : PassState) → HoldsAt a k r → MayLeave a r.tree → p.Goes a a → p.Goes a start → p.Goes start start
-      → p.Bounds start → p.Opens (ListBody (list_flags true) byte number) → p.Opens (ListItemBody columns)
+  pub item_keeps : (a start byte number columns k : ℕ) (r : PassState) → HoldsBefore a k r → GoesToItem a start
+      → p.Opens (ListBody (list_flags true) byte number) → p.Opens (ListItemBody columns)
       → p.Holds start (suc (suc k)) (begun start (ListItemBody columns) (list_continued start byte number r)).tree
-  item_keeps a start byte number columns k r h leaves here goes there starts lists opens =
-      p.opened start start (suc k) (list_continued start byte number r).tree (ListItemBody columns) there starts opens
-      (list_continued_keeps a start byte number k r h leaves here goes there starts lists)
+  item_keeps a start byte number columns k r h g lists opens =
+      p.opened start start (suc k) (list_continued start byte number r).tree (ListItemBody columns) g.there g.starts opens
+      (list_continued_keeps a start byte number k r h g lists)
 
   -- a footnote definition is opened
-  pub note_keeps : (a start k : ℕ) (index : CowIndex) (r : PassState) → HoldsAt a k r → MayLeave a r.tree → p.Goes a start → p.Goes start start → p.Bounds start
+  pub note_keeps : (a start k : ℕ) (index : CowIndex) (r : PassState) → HoldsBefore a k r → p.Goes a start → p.Goes start start → p.Bounds start
       → p.Opens (FootnoteDefinitionBody index) → p.Holds start (suc k) (footnote_begun start index r).tree
   unfolding footnote_begun
-  note_keeps a start k index r h leaves goes there starts opens =
+  note_keeps a start k index r h goes there starts opens =
       let s : PassState = empty_item_closed r in
       let l : PassState = list_closed start s in
       let q : PassState = footnote_left start l in
       p.opened start start k (gap_marked q).tree (FootnoteDefinitionBody index) there starts opens
       (noted_keeps start k q
       (left_by start start start k l (is_footnote (top_body l.tree)) (λ note. (note_leaves start l.tree note, there)) starts there there
-      (left_by a start start k s (is_list (top_body s.tree)) (λ list. (empty_item_closed_leaves a r leaves, goes)) starts there goes
-      (empty_item_closed_keeps a k r h))))
+      (left_by a start start k s (is_list (top_body s.tree)) (λ list. (empty_item_closed_leaves a r h.leaves, goes)) starts there goes
+      (empty_item_closed_keeps a k r h.held))))

@@ -53,8 +53,8 @@ use Rattle.std.proofs.Common.{inl, inr}
 use Rattle.first_pass_open.specs.OpenBlock.{begun_item, opened_block}
 use Rattle.first_pass_order.proofs.Nests.{title_there}
 use Rattle.first_pass_order.proofs.AlikeNodes.{IsBodyLike, IsAlike, AreAlike, NoNodes, OneMore, LooksAlike}
-use Rattle.first_pass_order.proofs.PropertyKept.{IsLeft, Property, MayLeave, none_leaves, HoldsAt, popped_keeps, empty_item_closed_keeps, list_finished_keeps}
-use Rattle.first_pass_order.proofs.PropertyKept.{quote_keeps, item_keeps, note_keeps, blank_keeps}
+use Rattle.first_pass_order.proofs.PropertyKept.{IsLeft, Property, MayLeave, none_leaves, HoldsAt, HoldsBefore, popped_keeps, empty_item_closed_keeps}
+use Rattle.first_pass_order.proofs.PropertyKept.{list_finished_keeps, quote_keeps, item_keeps, note_keeps, blank_keeps}
 use Rattle.first_pass_lists.proofs.NoEmptyItem.{item_opened}
 
 -- the node at a place is neither a row nor a text that a definition list may take in
@@ -327,6 +327,9 @@ module _ (names : Names) where
   whole_at : (r : PassState) → IsReadWhole r → HoldsAt whole_kept 0 0 r
   whole_at r h = record { holds = h; goes = tt; marked = λ e is. (tt, tt) }
 
+  whole_before : (r : PassState) → IsForest r.tree → IsReadWhole r → HoldsBefore whole_kept 0 0 r
+  whole_before r forest h = record { held = whole_at r h; leaves = may_leave r.tree forest h }
+
   pub popped_whole : (e : ℕ) (r : PassState) → IsForest r.tree → IsReadWhole r → IsReadWhole (popped e r)
   popped_whole e r forest h = popped_keeps whole_kept 0 e 0 r (may_leave r.tree forest h) tt tt h
 
@@ -334,22 +337,24 @@ module _ (names : Names) where
   empty_item_closed_whole r h = empty_item_closed_keeps whole_kept 0 0 r (whole_at r h)
 
   pub list_finished_whole : (e : ℕ) (r : PassState) → IsForest r.tree → IsReadWhole r → IsReadWhole (list_finished e r)
-  list_finished_whole e r forest h = list_finished_keeps whole_kept 0 e 0 0 r (whole_at r h) (may_leave r.tree forest h) (λ list. tt) tt tt tt
+  list_finished_whole e r forest h =
+      list_finished_keeps whole_kept 0 e 0 0 r (whole_before r forest h) (record { closes = λ list. tt; ends = tt; short = tt; later = tt })
 
   pub item_whole : (start byte number columns : ℕ) (r : PassState) → IsForest r.tree → IsReadWhole r
       → IsReadWhole (item_opened start byte number columns r)
   item_whole start byte number columns r forest h =
-      item_keeps whole_kept 0 start byte number columns 0 r (whole_at r h) (may_leave r.tree forest h) tt tt tt tt
+      item_keeps whole_kept 0 start byte number columns 0 r (whole_before r forest h) (record { here = tt; goes = tt; there = tt; starts = tt })
       (λ names depth start end. refl, refl) (λ names depth start end. refl, refl)
 
   pub quote_whole : (line start : ℕ) (body : ItemBody) (r : PassState) → ShowsNothing body → may_not_open body ≡ false → IsForest r.tree → IsReadWhole r
       → IsReadWhole (begun start body (list_finished line r))
   quote_whole line start body r own other forest h =
-      quote_keeps whole_kept 0 line 0 start 0 body r (whole_at r h) (may_leave r.tree forest h) (λ list. tt) tt tt tt tt tt (own, other)
+      quote_keeps whole_kept 0 line 0 start 0 body r (whole_before r forest h) (record { closes = λ list. tt; ends = tt; short = tt; later = tt })
+      (record { goes = tt; starts = tt }) (own, other)
 
   pub note_whole : (start : ℕ) (index : CowIndex) (r : PassState) → IsForest r.tree → IsReadWhole r → IsReadWhole (footnote_begun start index r)
   note_whole start index r forest h =
-      note_keeps whole_kept 0 start 0 index r (whole_at r h) (may_leave r.tree forest h) tt tt tt (λ names depth start end. refl, refl)
+      note_keeps whole_kept 0 start 0 index r (whole_before r forest h) tt tt tt (λ names depth start end. refl, refl)
 
   pub blank_whole : (r : PassState) → IsReadWhole r → IsReadWhole (blank_read r)
   blank_whole r h = blank_keeps whole_kept 0 0 r h
