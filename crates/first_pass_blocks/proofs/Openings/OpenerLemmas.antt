@@ -158,6 +158,16 @@ item_away (Some (DefinitionList flags)) (DefinitionClosed e blanks) p byte numbe
 item_away (Some (DefinitionList flags)) (TitleAt e at) p byte number columns inside lines other = tt
 item_away (Some b) closed p byte number columns inside lines other = tt
 
+-- The innermost open node is a list.
+record InnermostList (f : Forest Item) : Type 0 where
+  list : TreeIndex
+  rest : List TreeIndex
+  flags : ListFlags
+  byte : ℕ
+  number : ℕ
+  spine : f.spine ≡ list ∷ rest
+  body : body_at f.nodes list.0 ≡ Some (ListBody flags byte number)
+
 module _ (d : Document) (defined : Tables) (r : PassState) (p : Place) (lines : List Place) (byte number columns : ℕ) (inside : Continues)
     (may : MayBegin d defined r p lines)
     (opens : Opens d (level_of d.options r.tree r.blank) p lines (OpensNode (item_head p byte number columns) inside lines)) where
@@ -212,53 +222,54 @@ module _ (d : Document) (defined : Tables) (r : PassState) (p : Place) (lines : 
   kept_by true is ix rest spine = (ap (loosened_top r.tree) spine, refl, may.none)
   kept_by false is ix rest spine = (refl, is, may.none)
 
-  goes_on_as : (run : Bool) (ix : TreeIndex) (rest : List TreeIndex) (flags : ListFlags) (list n b : ℕ) (loose : Bool) (frames : List Frame)
-      → r.tree.spine ≡ ix ∷ rest → body_at r.tree.nodes ix.0 ≡ Some (ListBody flags list n)
-      → AreOpen d.options r.tree.nodes (ix ∷ rest) (InList b loose ∷ frames)
-      → CompletesAt d defined (tail (closed_in r.tree) run) (InList b loose ∷ frames) r.tree.nodes (ix.0 ∷ map (λ i. i.0) rest) (Inside p) lines
-      → (let f : Forest Item = if run then loosened_at r.tree ix else r.tree in
-      AreOpen d.options f.nodes (ix ∷ rest) (InList b (loose || run) ∷ frames)
-      × CompletesAt d defined (tail (closed_in r.tree) run) (InList b loose ∷ frames) f.nodes (ix.0 ∷ map (λ i. i.0) rest) (Inside p) lines
-      × (f.spine ≡ ix ∷ rest))
-  goes_on_as true ix rest flags list n b loose frames spine body o k =
+  goes_on_as : (run : Bool) (l : InnermostList r.tree) (b : ℕ) (loose : Bool) (frames : List Frame)
+      → AreOpen d.options r.tree.nodes (l.list ∷ l.rest) (InList b loose ∷ frames)
+      → CompletesAt d defined (tail (closed_in r.tree) run) (InList b loose ∷ frames) r.tree.nodes (l.list.0 ∷ map (λ i. i.0) l.rest) (Inside p) lines
+      → (let f : Forest Item = if run then loosened_at r.tree l.list else r.tree in
+      AreOpen d.options f.nodes (l.list ∷ l.rest) (InList b (loose || run) ∷ frames)
+      × CompletesAt d defined (tail (closed_in r.tree) run) (InList b loose ∷ frames) f.nodes (l.list.0 ∷ map (λ i. i.0) l.rest) (Inside p) lines
+      × (f.spine ≡ l.list ∷ l.rest))
+  goes_on_as true l b loose frames o k =
+      let ix : TreeIndex = l.list in
+      let rest : List TreeIndex = l.rest in
       let g : Forest Item = loosened_at r.tree ix in
-      let l : ItemBody = ListBody flags list n in
-      let nodes = loose_is r.tree ix l flags body refl in
-      let change : Item → Item = λ x. record { start = x.start; «end» = x.«end»; body = ListBody (list_flags false) list n } in
-      let named = ap (loosened_by r.tree ix) body in
+      let body : ItemBody = ListBody l.flags l.byte l.number in
+      let nodes = loose_is r.tree ix body l.flags l.body refl in
+      let change : Item → Item = λ x. record { start = x.start; «end» = x.«end»; body = ListBody (list_flags false) l.byte l.number } in
+      let named = ap (loosened_by r.tree ix) l.body in
       let outer : AreOpen d.options g.nodes rest frames =
       subst (λ (z : Forest Item). AreOpen d.options z.nodes rest frames) (sym named)
       (open_below d.options r.tree.nodes _ ix.0 rest frames (λ i h. ap (option_and_then (frame_of d.options)) (body-other r.tree.nodes ix.0 i change h))
       k.below.1 o.1) in (
-        (loose_frame d.options r.tree ix l flags (InList b loose) body refl o.0, outer, refl),
+        (loose_frame d.options r.tree ix body l.flags (InList b loose) l.body refl o.0, outer, refl),
         subst (λ z. CompletesAt d defined (tail (closed_in r.tree) true) (InList b loose ∷ frames) z (ix.0 ∷ map (λ i. i.0) rest) (Inside p) lines) (sym nodes)
             (completes-reflag_list d (open_nodes defined frames r.tree.nodes (map (λ i. i.0) rest)) (tail (closed_in r.tree) true) b loose ix.0
             (Inside p) lines k),
-        loosened_spine r.tree ix (body_at r.tree.nodes ix.0) ∙ spine,
+        loosened_spine r.tree ix (body_at r.tree.nodes ix.0) ∙ l.spine,
       )
-  goes_on_as false ix rest flags list n b loose frames spine body o k =
-      ((o.0 ∙ ap (λ l. Some (InList b l)) (sym (or_false loose)), o.1, refl), k, spine)
+  goes_on_as false l b loose frames o k = ((o.0 ∙ ap (λ z. Some (InList b z)) (sym (or_false loose)), o.1, refl), k, l.spine)
 
-  item_by : (run : Bool) (ix : TreeIndex) (rest : List TreeIndex) (flags : ListFlags) (list n : ℕ) (frames : List Frame)
-      → r.tree.spine ≡ ix ∷ rest → body_at r.tree.nodes ix.0 ≡ Some (ListBody flags list n) → list ≡ byte
-      → AreOpen d.options r.tree.nodes (ix ∷ rest) frames → Opens d (lvl frames (tail (closed_in r.tree) run)) p lines opening
-      → CompletesAt d defined (tail (closed_in r.tree) run) frames r.tree.nodes (ix.0 ∷ map (λ i. i.0) rest) (Inside p) lines
-      → (let f : Forest Item = if run then loosened_at r.tree ix else r.tree in
+  item_by : (run : Bool) (l : InnermostList r.tree) (frames : List Frame) → l.byte ≡ byte → AreOpen d.options r.tree.nodes (l.list ∷ l.rest) frames
+      → Opens d (lvl frames (tail (closed_in r.tree) run)) p lines opening
+      → CompletesAt d defined (tail (closed_in r.tree) run) frames r.tree.nodes (l.list.0 ∷ map (λ i. i.0) l.rest) (Inside p) lines
+      → (let f : Forest Item = if run then loosened_at r.tree l.list else r.tree in
       IsBegun d defined (with_open f item) (ListItem columns) inside lines (path_of d.options r.tree))
-  item_by run ix rest flags list n [] spine body same o opens' k = absurd o
-  item_by run ix rest flags list n (InContainer c ∷ frames) spine body same o opens' k =
-      absurd (items_no_container (flags.0 == 1) (flags.0 == 0) list c (sym (ap (option_and_then (frame_of d.options)) body) ∙ o.0))
-  item_by run ix rest flags list n (InDefinitions loose ∷ frames) spine body same o opens' k =
-      absurd (items_no_definitions (flags.0 == 1) (flags.0 == 0) list loose (sym (ap (option_and_then (frame_of d.options)) body) ∙ o.0))
-  item_by run ix rest flags list n (InList b loose ∷ frames) spine body same o opens' k =
+  item_by run l [] same o opens' k = absurd o
+  item_by run l (InContainer c ∷ frames) same o opens' k =
+      absurd (items_no_container (l.flags.0 == 1) (l.flags.0 == 0) l.byte c (sym (ap (option_and_then (frame_of d.options)) l.body) ∙ o.0))
+  item_by run l (InDefinitions loose ∷ frames) same o opens' k =
+      absurd (items_no_definitions (l.flags.0 == 1) (l.flags.0 == 0) l.byte loose (sym (ap (option_and_then (frame_of d.options)) l.body) ∙ o.0))
+  item_by run l (InList b loose ∷ frames) same o opens' k =
+      let ix : TreeIndex = l.list in
+      let rest : List TreeIndex = l.rest in
       let f : Forest Item = if run then loosened_at r.tree ix else r.tree in
       let t = tail (closed_in r.tree) run in
-      let set = open_flags d.options flags list n b loose (sym (ap (option_and_then (frame_of d.options)) body) ∙ o.0) in
+      let set = open_flags d.options l.flags l.byte l.number b loose (sym (ap (option_and_then (frame_of d.options)) l.body) ∙ o.0) in
       let os : List ℕ = map (λ (i : TreeIndex). i.0) rest in
       let b_is : b ≡ byte = sym set.0 ∙ same in
       let path : containers_of frames ≡ path_of d.options r.tree =
-      sym (ap (path_in d.options r.tree.nodes) spine ∙ open_path d.options r.tree.nodes (ix ∷ rest) (InList b loose ∷ frames) o) in
-      let now = goes_on_as run ix rest flags list n b loose frames spine body o k in
+      sym (ap (path_in d.options r.tree.nodes) l.spine ∙ open_path d.options r.tree.nodes (ix ∷ rest) (InList b loose ∷ frames) o) in
+      let now = goes_on_as run l b loose frames o k in
       let k' : CompletesAt d defined t (InList byte loose ∷ frames) f.nodes (ix.0 ∷ os) (Inside p) lines =
       subst (λ z. CompletesAt d defined t (InList z loose ∷ frames) f.nodes (ix.0 ∷ os) (Inside p) lines) b_is now.1 in
       let done = completes-item d (open_nodes defined frames f.nodes os) (closed_in r.tree) run loose ix.0
@@ -288,7 +299,8 @@ module _ (d : Document) (defined : Tables) (r : PassState) (p : Place) (lines : 
       let equal : list ≡ byte = grind (arith, nat_tests, same) in
       let ready = may.ready in
       let opens' = subst (λ z. Opens d z p lines opening) (open_level d.options r.tree ready.frames r.blank ready.are_open) opens in
-      let done = item_by r.blank ix rest flags list n ready.frames spine is equal
+      let l : InnermostList r.tree = record { list = ix; rest = rest; flags = flags; byte = list; number = n; spine = spine; body = is } in
+      let done = item_by r.blank l ready.frames equal
       (subst (λ z. AreOpen d.options r.tree.nodes z ready.frames) spine ready.are_open) opens'
       (subst (λ z. CompletesAt d defined (tail (closed_in r.tree) r.blank) ready.frames r.tree.nodes (map (λ (i : TreeIndex). i.0) z) (Inside p) lines) spine
       ready.completes) in
