@@ -31,6 +31,12 @@ unfolding LieBetween
 between_both text from mid to [] more h k = between_from text from mid to more h k
 between_both text from mid to (e ∷ entries) more h k = (h.0, between_both text e.«end» mid to entries more h.1 k)
 
+-- the ranges of a row's first node, of its descendants and of the nodes after it
+pub record NodeFits (text : List ℕ) (least to : ℕ) (x : Ranged) (kids next : List Entry) : Type 0 where
+  pub range : IsRangeFrom text least x.start x.«end»
+  pub inner : LieBetween text least x.«end» kids
+  pub after : LieBetween text x.«end» to next
+
 -- a node's level does not depend on its index
 kind_level : (b : ItemBody) → heading_level_of (only_kind b) ≡ heading_level_of b
 kind_level (Heading level ix) = refl
@@ -53,20 +59,19 @@ module _ (names : Names) where
   module _ (text : List ℕ) where
     -- the entries of a node, of its descendants and of the nodes after it
     node_by : (o : Option HeadingLevel) (from to : ℕ) (n : ℕ × Item) (kids next : List (ℕ × Item)) → heading_level_of n.1.body ≡ o
-        → IsRangeFrom text from (n.1.start) (n.1.«end») → LieBetween text from n.1.«end» (entries_of names kids)
-        → LieBetween text n.1.«end» to (entries_of names next) → IsNoHeading n.1.body ⊎ AreEachNode IsNoHeading kids
-        → LieBetween text from to (entries_of names (n ∷ (kids ++ next)))
+        → NodeFits text from to (extent_of n.1) (entries_of names kids) (entries_of names next)
+        → IsNoHeading n.1.body ⊎ AreEachNode IsNoHeading kids → LieBetween text from to (entries_of names (n ∷ (kids ++ next)))
     unfolding LieBetween
-    node_by None from to n kids next is range h k leaf =
+    node_by None from to n kids next is fits leaf =
         subst (LieBetween text from to) (sym (entries_first n (kids ++ next) None is ∙ entries_of-append names kids next))
-        (between_both text from n.1.«end» to (entries_of names kids) (entries_of names next) h k)
-    node_by (Some level) from to n kids next is range h k (inl other) = absurd (let e : None ≡ Some level = sym other ∙ is in cc)
-    node_by (Some level) from to n kids next is range h k (inr none) =
+        (between_both text from n.1.«end» to (entries_of names kids) (entries_of names next) fits.inner fits.after)
+    node_by (Some level) from to n kids next is fits (inl other) = absurd (let e : None ≡ Some level = sym other ∙ is in cc)
+    node_by (Some level) from to n kids next is fits (inr none) =
         let after : entries_of names (kids ++ next) ≡ entries_of names next =
         entries_of-append names kids next ∙ ap (λ (z : List Entry). z ++ entries_of names next) (no_entries kids none) in
         subst (LieBetween text from to)
         (sym (entries_first n (kids ++ next) (Some level) is ∙ ap (λ (z : List Entry). cons_option (entry_with n.1 (Some level)) z) after))
-        (range, k)
+        (fits.range, fits.after)
 
 -- nodes that are all at least this deep
 abbrev AreDeep : {T : Type 0} → ℕ → List (ℕ × T) → Type 0
@@ -120,6 +125,25 @@ split_nodes (n ∷ nodes) (x ∷ xs) ys e =
     let (kids, next, is, a, b) = split_nodes nodes xs ys rest in
     (n ∷ kids, next, ap (λ z. n ∷ z) is, ap (λ z. z ∷ extents kids) first ∙ ap (λ z. x ∷ z) a, b)
 
+-- A node is the first of a row, with this extent. After it are its descendants, all deeper, and then further nodes.
+record FirstOfRow (depth : ℕ) (x : Ranged) (n : ℕ × Item) (nodes : List (ℕ × Item)) : Type 0 where
+  kids : List (ℕ × Item)
+  next : List (ℕ × Item)
+  first : ◌≡◌ {A = ℕ × Ranged} (n.0, extent_of n.1) (depth, x)
+  is : nodes ≡ kids ++ next
+  deep : AreDeep (suc depth) kids
+
+split_row : (depth : ℕ) (x : Ranged) (kids next : Siblings) (n : ℕ × Item) (nodes : List (ℕ × Item)) → extents (n ∷ nodes) ≡ laid depth (Node x kids next)
+    → (f : FirstOfRow depth x n nodes) × (extents f.kids ≡ laid (suc depth) kids) × (extents f.next ≡ laid depth next)
+unfolding laid
+split_row depth x kids next n nodes e =
+    let first : ◌≡◌ {A = ℕ × Ranged} (n.0, extent_of n.1) (depth, x) = cc in
+    let rest : extents nodes ≡ laid (suc depth) kids ++ laid depth next = cc in
+    let (ks, ns, is, a, b) = split_nodes nodes (laid (suc depth) kids) (laid depth next) rest in
+    let deep : AreDeep (suc depth) ks =
+    extents_deep (suc depth) ks (subst (AreDeep (suc depth)) (sym a) (laid_deep (suc depth) (suc depth) kids (omega arith))) in
+    (record { kids = ks; next = ns; first = first; is = is; deep = deep }, a, b)
+
 -- the earliest offset that a row with this context may reach
 abbrev reach : Within → ℕ → ℕ
 reach Elsewhere from = from
@@ -155,27 +179,21 @@ beyond_reach InItem from = refl
 beyond_reach (InText before) from = refl
 beyond_reach (InFirst before) from = refl
 
--- the ranges of a row's first node, of its descendants and of the nodes after it
-pub record NodeFits (text : List ℕ) (least to : ℕ) (x : Ranged) (kids next : List Entry) : Type 0 where
-  pub range : IsRangeFrom text least x.start x.«end»
-  pub inner : LieBetween text least x.«end» kids
-  pub after : LieBetween text x.«end» to next
-
 range_from : (text : List ℕ) (least from to : ℕ) (x : Ranged) → least ≤ from → IsBetween text from to x → IsRangeFrom text least x.start x.«end»
 range_from text least from to x le h =
     record { following = (let a = h.following in omega arith); order = h.order; starts = h.starts; ends = h.ends }
 
 module _ (names : Names) (text : List ℕ) where
-  node_entries : (least to depth : ℕ) (x : Ranged) (n : ℕ × Item) (nodes kids next : List (ℕ × Item)) → ◌≡◌ {A = ℕ × Ranged} (n.0, extent_of n.1) (depth, x)
-      → nodes ≡ kids ++ next → AreDeep (suc depth) kids → NodeFits text least to x (entries_of names kids) (entries_of names next)
-      → NoneInside (n ∷ nodes) → LieBetween text least to (entries_of names (n ∷ nodes))
-  node_entries least to depth x n nodes kids next first is deep fits none =
-      let own : NodeFits text least to (extent_of n.1) (entries_of names kids) (entries_of names next) =
-      subst (λ (z : ℕ × Ranged). NodeFits text least to z.1 (entries_of names kids) (entries_of names next)) (sym first) fits in
-      let below : AreDeep (suc n.0) kids = subst (λ (z : ℕ × Ranged). AreDeep (suc z.0) kids) (sym first) deep in
-      let leaf = leaf_kids n kids next below (subst (λ (z : List (ℕ × Item)). IsNoHeading n.1.body ⊎ NoneBelow n.0 z) is none.0) in
-      subst (λ (z : List (ℕ × Item)). LieBetween text least to (entries_of names (n ∷ z))) (sym is)
-      (node_by names text (heading_level_of n.1.body) least to n kids next refl own.range own.inner own.after leaf)
+  node_entries : (least to depth : ℕ) (x : Ranged) (n : ℕ × Item) (nodes : List (ℕ × Item)) → (f : FirstOfRow depth x n nodes)
+      → NodeFits text least to x (entries_of names f.kids) (entries_of names f.next) → NoneInside (n ∷ nodes)
+      → LieBetween text least to (entries_of names (n ∷ nodes))
+  node_entries least to depth x n nodes f fits none =
+      let own : NodeFits text least to (extent_of n.1) (entries_of names f.kids) (entries_of names f.next) =
+      subst (λ (z : ℕ × Ranged). NodeFits text least to z.1 (entries_of names f.kids) (entries_of names f.next)) (sym f.first) fits in
+      let below : AreDeep (suc n.0) f.kids = subst (λ (z : ℕ × Ranged). AreDeep (suc z.0) f.kids) (sym f.first) f.deep in
+      let leaf = leaf_kids n f.kids f.next below (subst (λ (z : List (ℕ × Item)). IsNoHeading n.1.body ⊎ NoneBelow n.0 z) f.is none.0) in
+      subst (λ (z : List (ℕ × Item)). LieBetween text least to (entries_of names (n ∷ z))) (sym f.is)
+      (node_by names text (heading_level_of n.1.body) least to n f.kids f.next refl own leaf)
 
   -- the entries of a row
   row_entries : (within : Within) (from to : ℕ) (row : Siblings) (depth : ℕ) (nodes : List (ℕ × Item)) → reach within from ≤ from
@@ -186,39 +204,31 @@ module _ (names : Names) (text : List ℕ) where
   row_entries within from to Empty depth (n ∷ nodes) back fits e none = cc
   row_entries within from to (Node x kids next) depth [] back fits e none = cc
   row_entries within from to (Node x kids next) depth (n ∷ nodes) back (inl (between, inner, after)) e none =
-      let first : ◌≡◌ {A = ℕ × Ranged} (n.0, extent_of n.1) (depth, x) = cc in
-      let rest : extents nodes ≡ laid (suc depth) kids ++ laid depth next = cc in
-      let (ks, ns, is, a, b) = split_nodes nodes (laid (suc depth) kids) (laid depth next) rest in
-      let apart : NoneInside (ks ++ ns) = subst NoneInside is none.1 in
-      let deep : AreDeep (suc depth) ks =
-      extents_deep (suc depth) ks (subst (AreDeep (suc depth)) (sym a) (laid_deep (suc depth) (suc depth) kids (omega arith))) in
+      let (f, a, b) = split_row depth x kids next n nodes e in
+      let apart : NoneInside (f.kids ++ f.next) = subst NoneInside f.is none.1 in
       let reaches = below_reaches within from x back between.following in
-      let kids_in = row_entries (below within from x) x.start x.«end» kids (suc depth) ks reaches.1 inner a (inside_front ks ns apart) in
+      let kids_in = row_entries (below within from x) x.start x.«end» kids (suc depth) f.kids reaches.1 inner a (inside_front f.kids f.next apart) in
       let beyond_is = beyond_reach within x.«end» in
-      let next_in = row_entries (beyond within) x.«end» to next depth ns (omega (arith, beyond_is)) after b (inside_back ks ns apart) in
-      node_entries (reach within from) to depth x n nodes ks ns first is deep
+      let next_in = row_entries (beyond within) x.«end» to next depth f.next (omega (arith, beyond_is)) after b (inside_back f.kids f.next apart) in
+      node_entries (reach within from) to depth x n nodes f
       (record {
         range = range_from text (reach within from) from to x back between;
-        inner = between_from text (reach within from) (reach (below within from x) x.start) x.«end» (entries_of names ks) reaches.0 kids_in;
-        after = subst (λ (z : ℕ). LieBetween text z to (entries_of names ns)) beyond_is next_in;
+        inner = between_from text (reach within from) (reach (below within from x) x.start) x.«end» (entries_of names f.kids) reaches.0 kids_in;
+        after = subst (λ (z : ℕ). LieBetween text z to (entries_of names f.next)) beyond_is next_in;
       }) none
   row_entries Elsewhere from to (Node x kids next) depth (n ∷ nodes) back (inr (lead, inner, after)) e none = absurd lead
   row_entries InItem from to (Node x kids next) depth (n ∷ nodes) back (inr (lead, inner, after)) e none = absurd lead
   row_entries (InFirst before) from to (Node x kids next) depth (n ∷ nodes) back (inr (lead, inner, after)) e none = absurd lead
   row_entries (InText before) from to (Node x kids next) depth (n ∷ nodes) back (inr (lead, inner, after)) e none =
-      let first : ◌≡◌ {A = ℕ × Ranged} (n.0, extent_of n.1) (depth, x) = cc in
-      let rest : extents nodes ≡ laid (suc depth) kids ++ laid depth next = cc in
-      let (ks, ns, is, a, b) = split_nodes nodes (laid (suc depth) kids) (laid depth next) rest in
-      let apart : NoneInside (ks ++ ns) = subst NoneInside is none.1 in
-      let deep : AreDeep (suc depth) ks =
-      extents_deep (suc depth) ks (subst (AreDeep (suc depth)) (sym a) (laid_deep (suc depth) (suc depth) kids (omega arith))) in
-      let kids_in = row_entries Elsewhere x.start x.«end» kids (suc depth) ks (omega arith) inner a (inside_front ks ns apart) in
-      let next_in = row_entries Elsewhere from to next depth ns (omega arith) after b (inside_back ks ns apart) in
-      node_entries before to depth x n nodes ks ns first is deep
+      let (f, a, b) = split_row depth x kids next n nodes e in
+      let apart : NoneInside (f.kids ++ f.next) = subst NoneInside f.is none.1 in
+      let kids_in = row_entries Elsewhere x.start x.«end» kids (suc depth) f.kids (omega arith) inner a (inside_front f.kids f.next apart) in
+      let next_in = row_entries Elsewhere from to next depth f.next (omega arith) after b (inside_back f.kids f.next apart) in
+      node_entries before to depth x n nodes f
       (record {
         range = range_from text before before from x (omega arith) lead.1;
-        inner = between_from text before x.start x.«end» (entries_of names ks) lead.1.following kids_in;
-        after = between_from text x.«end» from to (entries_of names ns) lead.1.before next_in;
+        inner = between_from text before x.start x.«end» (entries_of names f.kids) lead.1.following kids_in;
+        after = between_from text x.«end» from to (entries_of names f.next) lead.1.before next_in;
       }) none
 
 -- the entries of a derived tree
