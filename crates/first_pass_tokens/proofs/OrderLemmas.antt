@@ -74,8 +74,26 @@ order_text text from mid a b escaped chain h following order starts ends =
     (λ some. order_add text from mid chain (text_token a b escaped) h following order starts ends)
     (λ none. order_to text from mid b chain h (omega arith))
 
--- a chain in order, the pending text that grows after it, and pieces; texts end at an offset
-module _ (s : Inline) (utf8 : IsUtf8 s.text) (stop : ℕ) (to : Spot) (from : ℕ) (stops : IsCharBoundary s.text stop) (last_text : IsTextEnd s to.at stop) where
+-- The texts of pieces that are read to a place end at an offset, between two characters.
+record TextsStop (s : Inline) : Type 0 where
+  to : Spot
+  stop : ℕ
+  stops : IsCharBoundary s.text stop
+  last_text : IsTextEnd s to.at stop
+
+-- A chain in order from an offset, and after it the text that is pending at another offset.
+record IsPending (s : Inline) (stop from at : ℕ) : Type 0 where
+  chain : List Item
+  begin : ℕ
+  escaped : Bool
+  low : s.start ≤ begin
+  upto : begin ≤ at
+  marked : (begin < at) ⊎ (escaped ≡ false)
+  ahead : begin ≤ stop
+  starts : IsCharBoundary s.text begin
+  order : AreInOrder s.text from begin chain
+
+module _ (s : Inline) (utf8 : IsUtf8 s.text) where
   -- there is a place between two characters before a visible byte
   place_before : (at : ℕ) → IsVisible (slice_index s.text at) → IsCharBoundary s.text at
   place_before at h = IsCharBoundary-before_ascii s.text at (at_byte s.text at (omega (arith, h.0))) (omega (arith, h.1))
@@ -101,57 +119,107 @@ module _ (s : Inline) (utf8 : IsUtf8 s.text) (stop : ℕ) (to : Spot) (from : �
             (run_in_order (at + 1) n opens closes (λ k low high. bytes k (omega arith) (omega arith))),
       )
 
-  pieces_in_order : (texts : List CowStr) (at : ℕ) (b : MathBraces) (ps : List Piece) (begin : ℕ) (escaped : Bool) (chain : List Item)
-      → ArePieces texts s at b ps to → s.start ≤ begin → begin ≤ at
-      → (begin < at) ⊎ (escaped ≡ false) → begin ≤ stop
-      → IsCharBoundary s.text begin → AreInOrder s.text from begin chain
-      → AreInOrder s.text from stop (add_pieces stop at ps (add_text begin (min at stop) escaped chain))
-  pieces_in_order texts at b [] begin escaped chain is low upto mark ahead starts h =
-      let same : at ≡ to.at = ap (λ (t : Spot). t.at) is in
-      let short = last_text.short in
+  -- after a token no text is pending
+  pending_none : (stop from begin at : ℕ) (chain : List Item) → s.start ≤ begin → begin ≤ at → begin ≤ stop → IsCharBoundary s.text begin
+      → AreInOrder s.text from begin chain → IsPending s stop from at
+  pending_none stop from begin at chain low upto ahead starts h = record {
+    chain = chain;
+    begin = begin;
+    escaped = false;
+    low = low;
+    upto = upto;
+    marked = inr refl;
+    ahead = ahead;
+    starts = starts;
+    order = h;
+  }
+
+  -- the pending text grows and is appended, piece by piece
+  pieces_in_order : (texts : List CowStr) (e : TextsStop s) (from at : ℕ) (b : MathBraces) (ps : List Piece) → ArePieces texts s at b ps e.to
+      → (t : IsPending s e.stop from at) → AreInOrder s.text from e.stop (add_pieces e.stop at ps (add_text t.begin (min at e.stop) t.escaped t.chain))
+  unfolding pending_none
+  pieces_in_order texts e from at b [] is t =
+      let stop : ℕ = e.stop in
+      let begin : ℕ = t.begin in
+      let ahead : begin ≤ stop = t.ahead in
+      let same : at ≡ e.to.at = ap (λ (z : Spot). z.at) is in
+      let short : stop ≤ e.to.at = e.last_text.short in
       let here : min at stop ≡ stop = omega arith in
-      rw here (order_text s.text from begin begin stop escaped chain h (omega arith) ahead starts stops)
-  pieces_in_order texts at b (Left n ∷ ps) begin escaped chain pieces low upto mark ahead starts h =
-      subst (λ c. AreInOrder s.text from stop (add_pieces stop (at + n) ps c)) (sym (add_text_grows begin at n stop escaped chain upto mark ahead))
-      (pieces_in_order texts (at + n) (braces_after (found_at s at) b) ps begin escaped chain pieces.2 low (omega arith)
-      (elim mark [ inl longer ↦ inl (omega arith) | inr plain ↦ inr plain ]) ahead starts h)
-  pieces_in_order texts at b (Begins dropped mark_next ∷ ps) begin escaped chain pieces low upto mark ahead starts h =
+      rw here (order_text s.text from begin begin stop t.escaped t.chain t.order (omega arith) ahead t.starts e.stops)
+  pieces_in_order texts e from at b (Left n ∷ ps) pieces t =
+      let upto : t.begin ≤ at = t.upto in
+      let now : IsPending s e.stop from (at + n) = record {
+        chain = t.chain;
+        begin = t.begin;
+        escaped = t.escaped;
+        low = t.low;
+        upto = omega arith;
+        marked = elim t.marked [ inl longer ↦ inl (omega arith) | inr plain ↦ inr plain ];
+        ahead = t.ahead;
+        starts = t.starts;
+        order = t.order;
+      } in
+      subst (λ c. AreInOrder s.text from e.stop (add_pieces e.stop (at + n) ps c))
+      (sym (add_text_grows t.begin at n e.stop t.escaped t.chain t.upto t.marked t.ahead))
+      (pieces_in_order texts e from (at + n) (braces_after (found_at s at) b) ps pieces.2 now)
+  pieces_in_order texts e from at b (Begins dropped mark_next ∷ ps) pieces t =
+      let stop : ℕ = e.stop in
+      let begin : ℕ = t.begin in
+      let low : s.start ≤ begin = t.low in
+      let upto : begin ≤ at = t.upto in
       let facts : IsEscape s.text at dropped = piece_of texts b s at (Begins dropped mark_next) pieces.0 pieces.1 in
       let here = place_before at (facts.bytes at (omega arith) (omega arith)) in
       let following = place_before (at + dropped) (facts.bytes (at + dropped) (omega arith) (omega arith)) in
-      let reach = pieces_reach texts s (at + (dropped + 1)) (braces_after (found_at s at) b) ps to pieces.2 in
+      let reach = pieces_reach texts s (at + (dropped + 1)) (braces_after (found_at s at) b) ps e.to pieces.2 in
       let is_backslash = facts.backslashes (at + dropped - 1) (omega (arith, facts.some)) (omega (arith, facts.some)) in
-      let before : at + dropped ≤ stop = last_text.following (at + dropped) (omega arith) (omega arith)
+      let before : at + dropped ≤ stop = e.last_text.following (at + dropped) (omega arith) (omega arith)
       (inr (omega (arith, facts.some), ap is_white is_backslash, inl (omega arith))) in
       let cut : min at stop ≡ at = omega arith in
-      pieces_in_order texts (at + (dropped + 1)) (braces_after (found_at s at) b) ps (at + dropped) mark_next
-      (add_text begin (min at stop) escaped chain) pieces.2
-      (omega arith) (omega arith) (inl (omega arith)) before following
-      (rw cut (order_to s.text from at (at + dropped) (add_text begin at escaped chain)
-      (order_text s.text from begin begin at escaped chain h (omega arith) upto starts here) (omega arith)))
-  pieces_in_order texts at b (Token dropped n body ∷ ps) begin escaped chain pieces low upto mark ahead starts h =
+      let now : IsPending s stop from (at + (dropped + 1)) = record {
+        chain = add_text begin (min at stop) t.escaped t.chain;
+        begin = at + dropped;
+        escaped = mark_next;
+        low = omega arith;
+        upto = omega arith;
+        marked = inl (omega arith);
+        ahead = before;
+        starts = following;
+        order = rw cut (order_to s.text from at (at + dropped) (add_text begin at t.escaped t.chain)
+            (order_text s.text from begin begin at t.escaped t.chain t.order (omega arith) upto t.starts here) (omega arith));
+      } in
+      pieces_in_order texts e from (at + (dropped + 1)) (braces_after (found_at s at) b) ps pieces.2 now
+  pieces_in_order texts e from at b (Token dropped n body ∷ ps) pieces t =
+      let stop : ℕ = e.stop in
+      let begin : ℕ = t.begin in
+      let low : s.start ≤ begin = t.low in
+      let upto : begin ≤ at = t.upto in
       let facts : IsMarkup s.text at dropped n body = piece_of texts b s at (Token dropped n body) pieces.0 pieces.1 in
-      let reach = pieces_reach texts s (at + (dropped + n)) (braces_after (found_at s at) b) ps to pieces.2 in
+      let reach = pieces_reach texts s (at + (dropped + n)) (braces_after (found_at s at) b) ps e.to pieces.2 in
       let byte = facts.bytes (at + dropped + n - 1) (omega (arith, facts.some)) (omega (arith, facts.some)) in
-      let before : at + dropped + n ≤ stop = last_text.following (at + dropped + n) (omega arith) (omega arith)
+      let before : at + dropped + n ≤ stop = e.last_text.following (at + dropped + n) (omega arith) (omega arith)
       (inr (omega (arith, facts.some), visible_solid (slice_index s.text (at + dropped + n - 1)) byte, inr facts.last)) in
       let here = place_before at (facts.bytes at (omega arith) (omega (arith, facts.some))) in
       let first = place_before (at + dropped) (facts.bytes (at + dropped) (omega arith) (omega (arith, facts.some))) in
       let last = place_past (at + dropped + n) (omega (arith, facts.some)) byte in
       let cut : min at stop ≡ at = omega arith in
-      let more = add_token (add_text begin at escaped chain) (token (at + dropped) n body) in
+      let more = add_token (add_text begin at t.escaped t.chain) (token (at + dropped) n body) in
       let none = add_text-none (at + dropped + n) (min (at + (dropped + n)) stop) false more (omega arith) in
+      let now : IsPending s stop from (at + (dropped + n)) = pending_none stop from (at + dropped + n) (at + (dropped + n)) more (omega arith) (omega arith)
+      before last
+      (order_add s.text from at (add_text begin at t.escaped t.chain) (token (at + dropped) n body)
+      (order_text s.text from begin begin at t.escaped t.chain t.order (omega arith) upto t.starts here) (omega arith) (omega arith) first last) in
       rw cut (subst (λ c. AreInOrder s.text from stop (add_pieces stop (at + (dropped + n)) ps c)) none
-      (pieces_in_order texts (at + (dropped + n)) (braces_after (found_at s at) b) ps (at + dropped + n) false more pieces.2 (omega arith) (omega arith)
-      (inr refl) before last
-      (order_add s.text from at (add_text begin at escaped chain) (token (at + dropped) n body)
-      (order_text s.text from begin begin at escaped chain h (omega arith) upto starts here) (omega arith) (omega arith) first last)))
-  pieces_in_order texts at b (Run n opens closes ∷ ps) begin escaped chain pieces low upto mark ahead starts h =
+      (pieces_in_order texts e from (at + (dropped + n)) (braces_after (found_at s at) b) ps pieces.2 now))
+  pieces_in_order texts e from at b (Run n opens closes ∷ ps) pieces t =
+      let stop : ℕ = e.stop in
+      let begin : ℕ = t.begin in
+      let low : s.start ≤ begin = t.low in
+      let upto : begin ≤ at = t.upto in
       let facts : IsDelimiterRun s.text at n = piece_of texts b s at (Run n opens closes) pieces.0 pieces.1 in
-      let reach = pieces_reach texts s (at + n) (braces_after (found_at s at) b) ps to pieces.2 in
+      let reach = pieces_reach texts s (at + n) (braces_after (found_at s at) b) ps e.to pieces.2 in
       let byte = facts.bytes (at + n - 1) (omega (arith, facts.some)) (omega (arith, facts.some)) in
       let same = facts.same (at + n - 1) (omega (arith, facts.some)) (omega (arith, facts.some)) in
-      let before : at + n ≤ stop = last_text.following (at + n) (omega arith) (omega arith)
+      let before : at + n ≤ stop = e.last_text.following (at + n) (omega arith) (omega arith)
       (inr (
         omega (arith, facts.some),
         visible_solid (slice_index s.text (at + n - 1)) byte,
@@ -160,12 +228,13 @@ module _ (s : Inline) (utf8 : IsUtf8 s.text) (stop : ℕ) (to : Spot) (from : �
       let here = place_before at (facts.bytes at (omega arith) (omega (arith, facts.some))) in
       let last = place_past (at + n) (omega (arith, facts.some)) byte in
       let cut : min at stop ≡ at = omega arith in
-      let more = add_tokens (add_text begin at escaped chain) (run_tokens at n opens closes) in
+      let more = add_tokens (add_text begin at t.escaped t.chain) (run_tokens at n opens closes) in
       let none = add_text-none (at + n) (min (at + n) stop) false more (omega arith) in
+      let now : IsPending s stop from (at + n) = pending_none stop from (at + n) (at + n) more (omega arith) (omega arith) before last
+      (order_adds s.text from at (at + n) (add_text begin at t.escaped t.chain) (run_tokens at n opens closes)
+      (order_text s.text from begin begin at t.escaped t.chain t.order (omega arith) upto t.starts here) (run_in_order at n opens closes facts.bytes)) in
       rw cut (subst (λ c. AreInOrder s.text from stop (add_pieces stop (at + n) ps c)) none
-      (pieces_in_order texts (at + n) (braces_after (found_at s at) b) ps (at + n) false more pieces.2 (omega arith) (omega arith) (inr refl) before last
-      (order_adds s.text from at (at + n) (add_text begin at escaped chain) (run_tokens at n opens closes)
-      (order_text s.text from begin begin at escaped chain h (omega arith) upto starts here) (run_in_order at n opens closes facts.bytes))))
+      (pieces_in_order texts e from (at + n) (braces_after (found_at s at) b) ps pieces.2 now))
 
 -- the first and the last of the bytes that pass a test at the end of the first bytes of a list
 pub suffix_first : (p : ℕ → Bool) (xs : List ℕ) (n : ℕ)
@@ -333,11 +402,12 @@ pub record LineInOrder (s : Inline) (stop : ℕ) (tokens : List Item) (answer : 
 content_in_order : (texts : List CowStr) (s : Inline) (pieces : List Piece) (to : Spot) (stop : ℕ)
     → IsUtf8 s.text → IsCharBoundary s.text s.start → ArePieces texts s s.start s.braces pieces to
     → IsTextEnd s to.at stop → IsPlaceFrom s.text s.start stop → AreInOrder s.text s.start stop (add_pieces stop s.start pieces [])
+unfolding pending_none
 content_in_order texts s pieces to stop utf8 boundary are last_text place =
     let empty : add_text s.start (min s.start stop) false [] ≡ [] = add_text-none s.start (min s.start stop) false [] (omega arith) in
     subst (AreInOrder s.text s.start stop) (ap (add_pieces stop s.start pieces) empty)
-    (pieces_in_order s utf8 stop to s.start place.1 last_text texts s.start s.braces pieces s.start false [] are
-    (omega arith) (omega arith) (inr refl) place.0 boundary (omega arith))
+    (pieces_in_order s utf8 texts (record { to = to; stop = stop; stops = place.1; last_text = last_text }) s.start s.start s.braces pieces are
+    (pending_none s utf8 stop s.start s.start s.start [] (omega arith) (omega arith) place.0 boundary (omega arith)))
 
 -- The tokens of a cell are in order from its start up to its end, which is between two characters.
 pub cell_in_order : {texts : List CowStr} {s : Inline} {tokens : List Item} {end : ℕ} {after : MathBraces}
