@@ -1,7 +1,8 @@
 //! The cells of a row, one by one (GFM 4.10).
 
-ghost use Rattle.std.specs.Prelude.{◌≡◌, ◌≤◌, length, replicate, IfOk, OnOk, IfSome};
+ghost use Rattle.std.specs.Prelude.{◌≡◌, ◌≤◌, true, None, length, replicate, IfOk, OnOk, IfSome};
 ghost use Rattle.first_pass_tree.specs.Forest.{IsChild};
+ghost use Rattle.first_pass_walk.specs.Walk.{MarksSpecial};
 ghost use Rattle.first_pass_tokens.specs.LineTokens.{spot};
 ghost use Rattle.first_pass_tokens.specs.TreeTokens.{chained};
 ghost use Rattle.first_pass_names.specs.TableEntries.{names_of, AddsTexts, NamesMore};
@@ -43,8 +44,8 @@ pub struct CellStart {
     pub content: usize,
 }
 
-/// The starts of the cell at the offset `at` into `bytes` and of its content, which is after the white space there
-/// (GFM 4.10).
+/// Returns the start of the cell at the offset `at` into `bytes`, and the start of its content after the white space
+/// there (GFM 4.10).
 #[inline(always)]
 pub fn cell_at(bytes: &[u8], at: usize) -> CellStart
     requires { at ≤ length bytes.now }
@@ -96,35 +97,30 @@ pub fn append_table_cell(
         tree.append_with_text(item, cell.content, plain.text_end)?;
         return Ok(plain.end);
     }
-    append_tokens_cell(source, tree, allocs, braces, cell)
+    append_tokens_cell(content, tree, allocs, braces, cell.at)
 }
 
-// The same, for a cell with any tokens.
+// The same, for a cell with any tokens, given its content and the offset at which it starts.
 #[inline(never)]
 fn append_tokens_cell(
-    source: &Source<'_>,
+    content: Content<'_>,
     tree: &mut Tree<Item>,
     allocs: &mut Allocations<'_>,
     braces: &mut BraceContexts,
-    cell: CellStart,
+    start: usize,
 ) -> Result<usize, AllocError>
-    requires within { cell.content ≤ length source.now.text.now }
+    requires whole { content.«end» ≡ None }
+    requires row { content.row ≡ true }
+    requires within { content.start ≤ length content.whole.now }
+    requires marks { MarksSpecial content.special.now content.options }
     ensures cell { IfOk result (λ stop.
-        AddsCell (document source.now.text.now source.now.options (names_of allocs.new)) cell.at
-        (spot cell.content braces.old) tree.old tree.new (spot stop braces.new)) }
+        AddsCell (document content.entry.whole.now content.entry.options (names_of allocs.new)) start
+        (spot content.entry.start braces.old) tree.old tree.new (spot stop braces.new)) }
     ensures more { OnOk result (NamesMore allocs.old allocs.new) }
     ensures texts { OnOk result (AddsTexts (names_of allocs.new) (names_of allocs.old)) }
 {
     tree.recall_forest();
-    open_block(tree, cell.at, ItemBody::TableCell)?;
-    let content = Content {
-        options: source.options,
-        whole: source.text,
-        special: &source.special,
-        start: cell.content,
-        end: None,
-        row: true,
-    };
+    open_block(tree, start, ItemBody::TableCell)?;
     let end = allocs.append_cell(content, tree, braces)?;
     close_block(tree, end);
     Ok(end)

@@ -1,13 +1,25 @@
-use Rattle.std.proofs.Common.{length, refl, ap, ◌∙◌}
+use Rattle.std.proofs.Common.{◌≡◌, length, refl, ap, subst, ◌∙◌}
 use Rattle.first_pass_items.specs.declared.item.Item.{Item}
 use Rattle.first_pass_items.specs.declared.item.ItemBody.TheVariants.{TableCell}
 use Rattle.first_pass_tree.specs.Forest.{Forest}
+use Rattle.first_pass_tokens.specs.Pieces.{Inline, source}
+use Rattle.first_pass_tokens.specs.LineTokens.{spot, IsCell}
 use Rattle.first_pass_tokens.specs.TreeTokens.{chained}
 use Rattle.first_pass_tokens.proofs.ChainLemmas.{joins_none-fresh}
 use Rattle.first_pass_tokens.proofs.LineLemmas.{only_appended_cell}
+use Rattle.first_pass_names.specs.TableEntries.{names_of}
+use Rattle.first_pass_grammar.specs.Leaves.{document}
+use Rattle.first_pass_grammar.specs.Tables.{cell_content}
 use Rattle.first_pass_open.specs.OpenBlock.{begun_item}
 use Rattle.first_pass_open.proofs.BlockLemmas.{still_open, block_closed}
 use Rattle.first_pass_tables.proofs.cells.append_tokens_cell.Goals as goal
+use Rattle.first_pass_tables.proofs.cells.append_tokens_cell.Goals.{In_ok-end}
+
+-- the content is that of a cell
+content_is : (c : In_ok-end) → source c.args.content c.args.braces.now
+    ≡ cell_content (document c.args.content.whole.now c.args.content.options (names_of c.append_cell.new.self))
+    (spot c.args.content.start c.args.braces.now)
+content_is c = rw c.requires.whole (rw c.requires.row refl)
 
 pub close_block-requires : goal.close_block-requires
 close_block-requires c =
@@ -16,7 +28,7 @@ close_block-requires c =
     let cell = c.in_ok-end.ensures.cell in
     let filled =
     only_appended_cell cell (joins_none-fresh c.open_block.new.tree (ap (λ (f : Forest Item). f.current) opened)) ∙ ap (λ v. chained v cell.tokens) opened in
-    still_open g c.append_cell.new.tree (begun_item c.args.cell.at TableCell) cell.tokens (record { 0 = length g.nodes }) refl filled
+    still_open g c.append_cell.new.tree (begun_item c.args.start TableCell) cell.tokens (record { 0 = length g.nodes }) refl filled
 
 pub returns-clause-cell : goal.returns-clause-cell
 returns-clause-cell c =
@@ -27,7 +39,8 @@ returns-clause-cell c =
     only_appended_cell cell (joins_none-fresh c.open_block.new.tree (ap (λ (f : Forest Item). f.current) opened)) ∙ ap (λ v. chained v cell.tokens) opened in
     record {
       tokens = cell.tokens;
-      cell = cell.cell;
-      tree_is = block_closed g c.append_cell.new.tree (begun_item c.args.cell.at TableCell) cell.tokens (record { 0 = length g.nodes }) refl filled
+      cell = subst (λ (s : Inline). IsCell (names_of c.append_cell.new.self).texts s cell.tokens c.in_ok-end.end c.append_cell.new.braces)
+          (content_is (goal.at.returns-clause-cell c).In_ok-end) cell.cell;
+      tree_is = block_closed g c.append_cell.new.tree (begun_item c.args.start TableCell) cell.tokens (record { 0 = length g.nodes }) refl filled
           c.close_block.new.tree c.in_ok-end.end c.close_block.ensures.tree;
     }
