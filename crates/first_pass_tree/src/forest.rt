@@ -1,6 +1,6 @@
 //! The tree as a list of nodes in reading order, with the path of its open nodes.
 
-ghost use Rattle.std.specs.Prelude.{◌≡◌, ◌+◌, ◌<◌, ◌≤◌, ◌∷◌, [], ◌-◌, length, reverse, Some, None, IfOk, IfSome, OnOk, OnErr, IsSome, MatchOption, slice_get};
+ghost use Rattle.std.specs.Prelude.{◌≡◌, ◌⊎◌, ◌+◌, ◌<◌, ◌≤◌, ◌∷◌, [], ◌-◌, length, reverse, Some, None, IfOk, IfSome, OnOk, OnErr, IsSome, MatchOption, slice_get};
 ghost use Rattle.first_pass_tree.specs.Forest.{empty_forest, appended, pushed, popped, cut_to, with_text, with_item, with_end_at, with_body_at, item_at, depths, child_of, sibling_of, kept_after, childless, in_table, wrapped, IsChildOfCurrent, CanMoveFrom, moved_from, moved_out, IsChild, cut_siblings, IsForest, end_of, open_place, added, block_of, text_between};
 ghost use Rattle.first_pass_tree.specs.Subtrees.{IsSubtree};
 ghost use Rattle.std.specs.Borrow.{sem};
@@ -143,7 +143,8 @@ impl Tree<Item> {
     }
 
     /// Adds a last child to the innermost open node, and makes it current. Its only child is the text of the bytes
-    /// `start..end`; it has none if that range is empty. Fails only if an allocation fails.
+    /// `start..end`; it has none if that range is empty. Fails only if an allocation fails; the tree is then unchanged,
+    /// or has the new node without its text.
     #[inline(always)]
     pub fn append_with_text(
         &mut self,
@@ -151,7 +152,8 @@ impl Tree<Item> {
         start: usize,
         end: usize,
     ) -> Result<(), AllocError>
-        ensures { OnOk result (self.new ≡ added self.old (block_of item (text_between start end))) }
+        ensures ok { OnOk result (self.new ≡ added self.old (block_of item (text_between start end))) }
+        ensures err { OnErr result ((self.new ≡ self.old) ⊎ (self.new ≡ appended self.old item)) }
     {
         self.append(item)?;
         if end <= start {

@@ -16,7 +16,7 @@ returns-in-Some-clause-cell c =
     record {
       tokens = add_text from to false [];
       cell = c.in-Some.ensures (names_of c.args.allocs.now).texts c.args.braces.now;
-      tree_is = c.in_ok-append_with_text.ensures ∙ ap (λ (kids : List (ℕ × Item)). added c.args.tree.now (block_of item kids)) (sym (leaves_text from to));
+      tree_is = c.in_ok-append_with_text.ensures.ok ∙ ap (λ (kids : List (ℕ × Item)). added c.args.tree.now (block_of item kids)) (sym (leaves_text from to));
     }
 
 pub returns-in-Some-clause-texts : goal.returns-in-Some-clause-texts

@@ -23,14 +23,14 @@ invariant_of-self-2 c =
           (ap (take (length ns)) c.in_ok-push.ensures.items ∙ take-append-le (length ns) ns _ (omega arith)) c.self.invariant.known;
     }
 
-pub returns-then-end-start : goal.returns-then-end-start
-returns-then-end-start c =
+pub returns-then-end-start-clause-ok : goal.returns-then-end-start-clause-ok
+returns-then-end-start-clause-ok c =
     c.in_ok-append.ensures.ok ∙ appended-block c.args.self.now c.args.item
     ∙ ap (λ (kids : List (ℕ × Item)). added c.args.self.now (block_of c.args.item kids))
     (sym (cond-false _ _ _ (le-ltb c.args.start c.args.end c.if-end-start.true)))
 
-pub returns : goal.returns
-returns c =
+pub returns-clause-ok : goal.returns-clause-ok
+returns-clause-ok c =
     let ns = c.self.inside.nodes.items in
     let f : Forest Item = record { nodes = ns; spine = reverse c.self.inside.spine.items; current = c.self.inside.cur } in
     let text : Item = record { start = c.args.start; «end» = c.args.end; body = Text false } in
