@@ -94,7 +94,7 @@ pub fn append_table_cell(
             end: plain.end,
             body: ItemBody::TableCell,
         };
-        tree.append_with_text(item, cell.content, plain.text_end)?;
+        tree.append_with_text(item, cell.content, plain.token_end)?;
         return Ok(plain.end);
     }
     append_tokens_cell(content, tree, allocs, braces, cell.at)

@@ -9,6 +9,7 @@ use Rattle.first_pass_items.specs.declared.item.Item.{Item}
 use Rattle.first_pass_items.specs.declared.item.ItemBody.{ItemBody}
 use Rattle.first_pass_items.specs.declared.item.ItemBody.TheVariants.{SoftBreak, HardBreak}
 use Rattle.first_pass_lines.specs.Lines.{is_line_end, is_content, is_white, line_len}
+use Rattle.first_pass_walk.specs.Walk.{IsNextMarked}
 use Rattle.first_pass_tokens.specs.declared.pieces.Piece.{Piece}
 use Rattle.first_pass_tokens.specs.declared.pieces.Piece.TheVariants.{Left, Begins, Token, Run}
 use Rattle.first_pass_tokens.specs.Chains.{token, run_tokens, add_token, add_tokens, add_text}
@@ -25,6 +26,11 @@ ends_cell s b = s.row && (has s.options tables && b == pipe)
 -- cell; an escaped pipe is inside a piece (GFM 4.10)
 unfoldable pub content_ends_at : Inline → ℕ → Bool
 content_ends_at s at = nat_le (length s.text) at || (is_line_end (slice_index s.text at) || ends_cell s (slice_index s.text at))
+
+-- the content ends at this offset, and the first marked byte from its start on is there (this project)
+pub record EndsAtFirstMark (lut : List Bool) (s : Inline) (at : ℕ) : Type 0 where
+  pub first : IsNextMarked lut s.text s.start at
+  pub ended : content_ends_at s at ≡ true
 
 -- an offset with the brace contexts before it (this project)
 pub record Spot : Type 0 where

@@ -1,6 +1,6 @@
 //! The tokens of a line, appended to the tree.
 
-ghost use Rattle.std.specs.Prelude.{◌≡◌, ◌==◌, ◌&&◌, ◌%◌, nat_lt, ◌+◌, ◌-◌, ◌<◌, ◌≤◌, ◌^◌, not, true, false, IsTrue, IsUtf8, List, [], length, slice_index, OnOk, IfOk, IfSome};
+ghost use Rattle.std.specs.Prelude.{◌≡◌, ℕ, ◌==◌, ◌&&◌, ◌%◌, nat_lt, ◌+◌, ◌-◌, ◌<◌, ◌≤◌, ◌^◌, not, true, false, IsTrue, IsUtf8, List, [], length, slice_index, OnOk, IfOk, IfSome, IfNone};
 ghost use Rattle.std.specs.List.{suffix_len, slice_range};
 ghost use Rattle.first_pass_items.specs.Bytes.{backslash, space};
 ghost use Rattle.first_pass_items.specs.declared.cow_str.CowStr.{CowStr};
@@ -10,7 +10,7 @@ ghost use Rattle.first_pass_tree.specs.Forest.{with_text};
 ghost use Rattle.first_pass_tokens.specs.Braces.{MathBraces};
 ghost use Rattle.first_pass_tokens.specs.NamedTexts.{AreMore};
 ghost use Rattle.first_pass_tokens.specs.Pieces.{source, content_in, text_upto, run_at, size};
-ghost use Rattle.first_pass_tokens.specs.LineTokens.{spot, line_end_len, text_end, break_of, line_break, content_ends_at, EndsLine, EndsCell, IsCell};
+ghost use Rattle.first_pass_tokens.specs.LineTokens.{spot, line_end_len, text_end, break_of, line_break, content_ends_at, EndsAtFirstMark, EndsLine, EndsCell, IsCell};
 ghost use Rattle.first_pass_tokens.specs.TreeTokens.{with_tokens, AppendsLine, AppendsCell};
 ghost use Rattle.first_pass_tokens.specs.Chains.{run_tokens, add_text};
 ghost use Rattle.first_pass_tokens.specs.HeldText.{held_after, tree_after, IsHeldTo};
@@ -88,11 +88,11 @@ pub fn append_cell(
     Ok(end)
 }
 
-/// Where a cell ends that has at most one token, a text: the end of the text, and that of the content.
+/// The end of a cell that has at most one token, a text, and the end of that token.
 #[derive(Clone, Copy)]
 pub struct PlainCell {
-    /// The offset at which the text ends: before the white space at the end of the content.
-    pub text_end: usize,
+    /// The offset at which the token ends: before the white space at the end of the content.
+    pub token_end: usize,
     /// The end of the content: the offset of the pipe or the line ending.
     pub end: usize,
 }
@@ -105,8 +105,13 @@ pub fn scan_plain_cell(content: Content<'_>) -> Option<PlainCell>
     requires set { IfSome content.«end» (λ e. e ≤ length content.whole.now) }
     requires within { content.start ≤ length (text_upto content.whole.now content.«end») }
     requires marks { MarksSpecial content.special.now content.options }
-    ensures { IfSome result (λ plain. (texts : List CowStr) (b : MathBraces)
-        → IsCell texts (source content.entry b) (add_text content.entry.start plain.text_end false []) plain.«end» b) }
+    ensures cell { IfSome result (λ plain. (texts : List CowStr) (b : MathBraces)
+        → IsCell texts (source content.entry b) (add_text content.entry.start plain.token_end false [])
+        plain.«end» b) }
+    ensures some { IfSome result (λ plain. (b : MathBraces)
+        → EndsAtFirstMark content.entry.special.now (source content.entry b) plain.«end») }
+    ensures none { IfNone result ((at : ℕ) (b : MathBraces)
+        → EndsAtFirstMark content.entry.special.now (source content.entry b) at → ⊥) }
 {
     let text = text_upto(content.whole, content.end);
     plain_cell_in(text, content)
@@ -117,15 +122,19 @@ pub fn scan_plain_cell(content: Content<'_>) -> Option<PlainCell>
 fn plain_cell_in(text: &[u8], content: Content<'_>) -> Option<PlainCell>
     requires within { content.start ≤ length text.now }
     requires marks { MarksSpecial content.special.now content.options }
-    ensures { IfSome result (λ plain. (texts : List CowStr) (b : MathBraces)
-        → IsCell texts (content_in text.now content.entry b) (add_text content.entry.start plain.text_end false [])
+    ensures cell { IfSome result (λ plain. (texts : List CowStr) (b : MathBraces)
+        → IsCell texts (content_in text.now content.entry b) (add_text content.entry.start plain.token_end false [])
         plain.«end» b) }
+    ensures some { IfSome result (λ plain. (b : MathBraces)
+        → EndsAtFirstMark content.entry.special.now (content_in text.now content.entry b) plain.«end») }
+    ensures none { IfNone result ((at : ℕ) (b : MathBraces)
+        → EndsAtFirstMark content.entry.special.now (content_in text.now content.entry b) at → ⊥) }
 {
     let at = next_special_in_words(content.special, text, content.start)?;
     if content_ends_at(text, content, at) {
         let blanks = blanks_at_end(text, content.start, at);
         return Some(PlainCell {
-            text_end: at - blanks,
+            token_end: at - blanks,
             end: at,
         });
     }

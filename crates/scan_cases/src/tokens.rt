@@ -5,7 +5,7 @@ use crate::containers::{open_node, options_of};
 use first_pass_cases::answer::Answer;
 use first_pass_items::item::{Item, ItemBody};
 use first_pass_tokens::braces::BraceContexts;
-use first_pass_tokens::line::{append_cell, append_line};
+use first_pass_tokens::line::{append_cell, append_line, scan_plain_cell};
 use first_pass_tokens::pieces::Content;
 use first_pass_tree::forest::Tree;
 use first_pass_walk::walk::special_bytes;
@@ -16,6 +16,7 @@ pub fn answer_tokens(call: &Call<'_>, answer: &mut Answer) -> Result<bool, Alloc
     match call.name {
         "append_line" => append_tokens(&tokens_of(call, false)?, answer)?,
         "append_cell" => append_tokens(&tokens_of(call, true)?, answer)?,
+        "scan_plain_cell" => append_plain_cell(call, answer)?,
         _ => return Ok(false),
     }
     Ok(true)
@@ -59,6 +60,27 @@ fn tokens_of(call: &Call<'_>, row: bool) -> Result<Tree<Item>, AllocError> {
         }
     }
     Ok(tree)
+}
+
+/// The ends of the token and of the content of the cell whose content is at the start of the text.
+fn append_plain_cell(call: &Call<'_>, answer: &mut Answer) -> Result<(), AllocError> {
+    let options = options_of(call.given.number(0));
+    let special = special_bytes(&options);
+    let content = Content {
+        options,
+        whole: call.text,
+        special: &special,
+        start: 0,
+        end: None,
+        row: true,
+    };
+    match scan_plain_cell(content) {
+        Some(plain) => {
+            answer.number(plain.token_end)?;
+            answer.number(plain.end)
+        }
+        None => answer.none(),
+    }
 }
 
 /// The node that marks the end of a cell.

@@ -11,11 +11,11 @@ use Rattle.first_pass_tables.proofs.cells.append_table_cell.Goals as goal
 pub returns-in-Some-clause-cell : goal.returns-in-Some-clause-cell
 returns-in-Some-clause-cell c =
     let from = c.args.cell.content in
-    let to = c.in-Some.plain.text_end in
+    let to = c.in-Some.plain.token_end in
     let item : Item = record { start = c.args.cell.at; «end» = c.in-Some.plain.«end»; body = TableCell } in
     record {
       tokens = add_text from to false [];
-      cell = c.in-Some.ensures (names_of c.args.allocs.now).texts c.args.braces.now;
+      cell = c.in-Some.ensures.cell (names_of c.args.allocs.now).texts c.args.braces.now;
       tree_is = c.in_ok-append_with_text.ensures.ok ∙ ap (λ (kids : List (ℕ × Item)). added c.args.tree.now (block_of item kids)) (sym (leaves_text from to));
     }
 

@@ -1,7 +1,9 @@
-use Rattle.std.proofs.Common.{◌-◌, [], false, inl, sym, subst, ◌∙◌, arith}
+use Rattle.std.proofs.Common.{◌≡◌, ◌-◌, ℕ, List, Bool, [], false, inl, inr, sym, ap, subst, ◌∙◌, arith}
+use Rattle.std.proofs.lemmas.Bool.{cases_lt, true≢false}
+use Rattle.first_pass_walk.specs.Walk.{IsNextMarked}
 use Rattle.first_pass_tokens.specs.Chains.{add_text}
 use Rattle.first_pass_tokens.specs.Pieces.{content_in}
-use Rattle.first_pass_tokens.specs.LineTokens.{blanks_at_end, IsCell}
+use Rattle.first_pass_tokens.specs.LineTokens.{blanks_at_end, content_ends_at, IsCell}
 use Rattle.first_pass_tokens.proofs.SoFar.{cell_plain}
 use Rattle.first_pass_walk.proofs.WalkFacts.{spares_words}
 use Rattle.first_pass_tokens.proofs.line.plain_cell_in.Goals as goal
@@ -9,9 +11,9 @@ use Rattle.first_pass_tokens.proofs.line.plain_cell_in.Goals as goal
 pub next_special_in_words-requires : goal.next_special_in_words-requires
 next_special_in_words-requires c = spares_words c.args.content.options c.args.content.special.now c.requires.marks
 
-pub returns-then-content_ends_at : goal.returns-then-content_ends_at
+pub returns-then-content_ends_at-clause-cell : goal.returns-then-content_ends_at-clause-cell
 unfolding blanks_at_end
-returns-then-content_ends_at c texts b =
+returns-then-content_ends_at-clause-cell c texts b =
     let text = c.args.text.now in
     let at = c.in_ok-at.at in
     let found = c.in_ok-at.ensures.found in
@@ -20,3 +22,24 @@ returns-then-content_ends_at c texts b =
     (cell_plain z at found.from (omega (arith, found.within))
     (λ k low high. inl (sym (c.requires.marks _ (omega (arith, c.type_inv.text k))) ∙ found.least k low high))
     (sym (c.content_ends_at.ensures b) ∙ c.if-content_ends_at.true))
+
+pub returns-then-content_ends_at-clause-some : goal.returns-then-content_ends_at-clause-some
+returns-then-content_ends_at-clause-some c b = record {
+  first = c.in_ok-at.ensures.found;
+  ended = sym (c.content_ends_at.ensures b) ∙ c.if-content_ends_at.true;
+}
+
+-- there is only one first marked byte
+first_once : {lut : List Bool} {bytes : List ℕ} {ix i j : ℕ} → IsNextMarked lut bytes ix i → IsNextMarked lut bytes ix j → i ≡ j
+first_once {lut} {bytes} {ix} {i} {j} h k = elim (cases_lt i j) [
+  | inl less ↦ absurd (true≢false (sym h.marked ∙ k.least i h.from less))
+  | inr most ↦ elim (cases_lt j i) [
+    | inl less ↦ absurd (true≢false (sym k.marked ∙ h.least j k.from less))
+    | inr same ↦ omega arith
+  ]
+]
+
+pub returns-clause-none : goal.returns-clause-none
+returns-clause-none c at b ends =
+    true≢false (sym ends.ended ∙ ap (content_ends_at (content_in c.args.text.now c.args.content b)) (first_once ends.first c.in_ok-at.ensures.found)
+    ∙ sym (c.content_ends_at.ensures b) ∙ c.if-content_ends_at.false)
