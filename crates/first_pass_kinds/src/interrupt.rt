@@ -256,12 +256,10 @@ pub fn scan_next_line(
     tree: &Tree<Item>,
 ) -> Result<NextLine, AllocError>
     requires { IsCharBoundary source.now.text.now start }
-    ensures value { IfOk result (λ next. next
-        ≡ next_line_of (context_of source.now.options tree.now) start
+    ensures value { IfOk result (λ next. next ≡ next_line_of (context_of source.now.options tree.now) start
         (line_rest (drop start source.now.text.now))) }
-    ensures place { OnOk result (IsPlaceOf source.now.text.now
-        (unindented (place_at start (front (path_of source.now.options tree.now)
-        (line_rest (drop start source.now.text.now)))))) }
+    ensures place { OnOk result (IsPlaceOf source.now.text.now (unindented (place_at start
+        (front (path_of source.now.options tree.now) (line_rest (drop start source.now.text.now)))))) }
     ensures utf8 { IsUtf8 source.now.text.now }
     ensures err { OnErr result (line_may_head_table (context_of source.now.options tree.now)
         (line_rest (drop start source.now.text.now)) ≡ true) }
@@ -287,13 +285,20 @@ pub fn scan_next_line(
     if scan_paragraph_end(source, tree, &text.rest, text.columns, text.continued)? {
         return Ok(NextLine::NotText);
     }
-    if begins_definition(text.rest.left(), source.options)
-        && text.continues_all
-        && text.columns < 4
-    {
+    if ends_by_colon(&text, source.options) {
         return Ok(NextLine::NotText);
     }
     Ok(NextLine::More(start + text.rest.bytes_scanned()))
+}
+
+// Whether, with definition lists, a line with this front ends paragraph text before it: the `:` of a definition begins
+// its rest (this project).
+#[inline(always)]
+fn ends_by_colon(front: &UnindentedFront<'_>, options: Options) -> bool
+    ensures { result ≡ (has options definition_list
+        && (front.now.continues_all && (nat_lt front.now.columns 4 && begins colon front.now.rest.left))) }
+{
+    begins_definition(front.rest.left(), options) && front.continues_all && front.columns < 4
 }
 
 /// Returns the rest of the first line of `bytes` after its container prefixes and its indentation. The line follows a
