@@ -68,7 +68,7 @@ struct TextEnd {
 
 // The end of paragraph text before the line at `next`, with the break after its last line.
 #[inline(always)]
-fn text_end(next: usize, held: Option<LineBreak>, underline: Option<HeadingLevel>) -> TextEnd
+fn end_before(next: usize, held: Option<LineBreak>, underline: Option<HeadingLevel>) -> TextEnd
     ensures { result ≡ record { next = next; line_break = break_item held; underline = underline } }
 {
     TextEnd {
@@ -155,8 +155,8 @@ fn append_text_lines<'a>(
                 append_item(tree, break_item(held))?;
                 ix = at;
             }
-            NextLine::Underline(level) => return Ok(text_end(next, held, Some(level))),
-            NextLine::NotText => return Ok(text_end(next, held, None)),
+            NextLine::Underline(level) => return Ok(end_before(next, held, Some(level))),
+            NextLine::NotText => return Ok(end_before(next, held, None)),
         }
     }
 }

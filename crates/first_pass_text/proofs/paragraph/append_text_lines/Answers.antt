@@ -82,13 +82,13 @@ lines-preserved c = record {
 
 pub returns-in-Underline-clause-lines : goal.returns-in-Underline-clause-lines
 returns-in-Underline-clause-lines c =
-    ended_by c.held_break-held.ensures c.text_end.ensures
+    ended_by c.held_break-held.ensures c.end_before.ensures
     (so_far_stop (line_read (goal.at.returns-in-Underline-clause-lines c).In_ok-at) _ (omega (arith, c.recall_length.ensures))
     (underlined_by _ _ _ _ _ c.in_ok-at.ensures.value c.in-Underline.is))
 
 pub returns-in-NotText-clause-lines : goal.returns-in-NotText-clause-lines
 returns-in-NotText-clause-lines c =
-    ended_by c.held_break-held.ensures c.text_end-in-NotText.ensures
+    ended_by c.held_break-held.ensures c.end_before-in-NotText.ensures
     (so_far_stop (line_read (goal.at.returns-in-NotText-clause-lines c).In_ok-at) _ (omega (arith, c.recall_length.ensures))
     (stops_by _ _ _ _ c.in_ok-at.ensures.value c.in-NotText.is))
 
