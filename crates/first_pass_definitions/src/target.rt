@@ -47,14 +47,10 @@ pub fn scan_refdef<'a>(
 ) -> Result<Option<(usize, LinkDef<'a>)>, AllocError>
     requires { IsCharBoundary source.now.text.now start }
     ensures value { IfOk result (λ answer. MatchOption
-        (target_at (context_of source.now.options tree.now) (drop start source.now.text.now))
-        (answer ≡ None)
-        (λ target. IsSomeAnd answer
-        (IsTarget (in_table tree.now.nodes tree.now.spine) span_start start target))) }
-    ensures fits { IfOk result (λ answer. IfSome answer (λ found.
-        IsCharBoundary source.now.text.now (start + found.0))) }
-    ensures places { IfOk result (λ answer. IfSome answer (λ found.
-        AreInOrder source.now.text.now start found.1)) }
+        (target_at (context_of source.now.options tree.now) (drop start source.now.text.now)) (answer ≡ None)
+        (λ target. IsSomeAnd answer (IsTarget (in_table tree.now.nodes tree.now.spine) span_start start target))) }
+    ensures fits { IfOk result (λ answer. IfSome answer (λ part. IsCharBoundary source.now.text.now (start + part.0))) }
+    ensures places { IfOk result (λ answer. IfSome answer (λ found. AreInOrder source.now.text.now start found.1)) }
     ensures err { OnErr result (TargetAsks (in_table tree.now.nodes tree.now.spine)
         (context_of source.now.options tree.now) (drop start source.now.text.now)) }
 {
