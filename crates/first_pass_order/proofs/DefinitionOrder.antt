@@ -102,98 +102,112 @@ kept_some f {i} there current =
     subst (λ o. IsSomeAnd (option_and_then (λ ix. body_at f.nodes ix.0) o) (λ b. is_task_marker b ≡ false)) (sym current)
     (subst (λ o. IsSomeAnd o (λ b. is_task_marker b ≡ false)) (sym there) refl)
 
--- A block was added to a definition list, right after a definition that ends at an offset up to which the tree was in
--- order.
-module _ (text : List ℕ) (old : Forest Item) (ix : TreeIndex) (rest : List TreeIndex) (spine : old.spine ≡ ix ∷ rest) (low : ix.0 < length old.nodes)
-    (items : List (ℕ × Item)) (e next : ℕ) (o : IsOrderedTo text old e) (boundary : IsCharBoundary text e) (fits : FitsBetween text Elsewhere e next items)
-    (within : next ≤ length text) where
+-- A block was added to an innermost definition list, right after a definition. The tree was in order up to the end of
+-- that definition, and the block is read up to another offset.
+record BlockAdded (text : List ℕ) (old : Forest Item) : Type 0 where
+  list : TreeIndex
+  outer : List TreeIndex
+  spine : old.spine ≡ list ∷ outer
+  low : list.0 < length old.nodes
+  items : List (ℕ × Item)
+  «end» : ℕ
+  next : ℕ
+  ordered : IsOrderedTo text old «end»
+  boundary : IsCharBoundary text «end»
+  fits : FitsBetween text Elsewhere «end» next items
+  within : next ≤ length text
+
+module _ (text : List ℕ) (old : Forest Item) (b : BlockAdded text old) where
   -- the place of the block
   abbrev place : TreeIndex
   place = record { 0 = length old.nodes }
 
   -- the nodes before it, after the list has that end
   abbrev ended : List (ℕ × Item)
-  ended = modify old.nodes ix.0 (λ x. record x { «end» = e })
+  ended = modify old.nodes b.list.0 (λ x. record x { «end» = b.«end» })
 
-  block_extents : extents (at_depth (length old.spine + 1) items) ≡ laid (suc (suc (length rest))) fits.0
+  block_extents : extents (at_depth (length old.spine + 1) b.items) ≡ laid (suc (suc (length b.outer))) b.fits.0
   block_extents =
-      let n : length old.spine ≡ suc (length rest) = ap length spine in
-      let deep : length old.spine + 1 + 0 ≡ suc (suc (length rest)) = omega arith in
-      extents-at_depth (length old.spine + 1) items ∙ ap (at_depth (length old.spine + 1)) fits.1 ∙ laid-at_depth (length old.spine + 1) 0 fits.0
-      ∙ ap (λ (k : ℕ). laid k fits.0) deep
+      let n : length old.spine ≡ suc (length b.outer) = ap length b.spine in
+      let deep : length old.spine + 1 + 0 ≡ suc (suc (length b.outer)) = omega arith in
+      extents-at_depth (length old.spine + 1) b.items ∙ ap (at_depth (length old.spine + 1)) b.fits.1 ∙ laid-at_depth (length old.spine + 1) 0 b.fits.0
+      ∙ ap (λ (k : ℕ). laid k b.fits.0) deep
 
-  added_extents : extents (modify (added old items).nodes ix.0 (λ x. record x { «end» = e })) ≡ extents ended ++ laid (suc (suc (length rest))) fits.0
+  added_extents : extents (modify (added old b.items).nodes b.list.0 (λ x. record x { «end» = b.«end» }))
+      ≡ extents ended ++ laid (suc (suc (length b.outer))) b.fits.0
   added_extents =
-      ap extents (modify-front old.nodes (at_depth (length old.spine + 1) items) ix.0 (λ x. record x { «end» = e }) low)
-      ∙ extents-append ended (at_depth (length old.spine + 1) items) ∙ ap (λ (z : List (ℕ × Ranged)). extents ended ++ z) block_extents
+      ap extents (modify-front old.nodes (at_depth (length old.spine + 1) b.items) b.list.0 (λ x. record x { «end» = b.«end» }) b.low)
+      ∙ extents-append ended (at_depth (length old.spine + 1) b.items) ∙ ap (λ (z : List (ℕ × Ranged)). extents ended ++ z) block_extents
 
   -- the closed list, with the block after it
-  block_left : (q : PassState) → q.tree ≡ added old items → IsOrderedTo text (definitions_closed e q).tree next
+  block_left : (q : PassState) → q.tree ≡ added old b.items → IsOrderedTo text (definitions_closed b.«end» q).tree b.next
   block_left q is =
-      let f : Forest Item = added old items in
-      let block : List (ℕ × Item) = at_depth (length old.spine + 1) items in
+      let f : Forest Item = added old b.items in
+      let block : List (ℕ × Item) = at_depth (length old.spine + 1) b.items in
       let sum = length-append old.nodes block in
       let front : take (length old.nodes) f.nodes ≡ old.nodes = take-append_seam old.nodes block in
-      let left : IsLeft f (definitions_closed e q).tree e place =
-      is_left f q e place ix rest (subst (λ g. LooksAlike f g) (sym is) (like_itself f)) spine refl (omega arith)
+      let left : IsLeft f (definitions_closed b.«end» q).tree b.«end» place =
+      is_left f q b.«end» place b.list b.outer (subst (λ g. LooksAlike f g) (sym is) (like_itself f)) b.spine refl (omega arith)
       (λ h. subst (λ (g : Forest Item). IsForest g) (sym is) h) in
-      left_ordered text f (definitions_closed e q).tree next e place left (record {
-        before = ordered_same text old (record f { nodes = take (length old.nodes) f.nodes }) e (ap (λ (z : List (ℕ × Item)). extents z) front) refl o;
-        ends = boundary;
-        row = fits.0;
+      left_ordered text f (definitions_closed b.«end» q).tree b.next b.«end» place left (record {
+        before = ordered_same text old (record f { nodes = take (length old.nodes) f.nodes }) b.«end» (ap (λ (z : List (ℕ × Item)). extents z) front) refl
+            b.ordered;
+        ends = b.boundary;
+        row = b.fits.0;
         last = ap (λ (z : List (ℕ × Item)). extents z) (drop-append_seam old.nodes block) ∙ block_extents
-            ∙ ap (λ (s : List TreeIndex). laid (suc (length s)) fits.0) (sym spine);
-        fits = fits.2;
-      }) within
+            ∙ ap (λ (s : List TreeIndex). laid (suc (length s)) b.fits.0) (sym b.spine);
+        fits = b.fits.2;
+      }) b.within
 
   -- a possible title is kept: the block is one, and the recorded end of the list is the offset
   kept_tree : Forest Item
-  kept_tree = with_end_at (with_body_at (added old items) place MaybeDefinitionListTitle) ix e
+  kept_tree = with_end_at (with_body_at (added old b.items) place MaybeDefinitionListTitle) b.list b.«end»
 
-  module _ (paragraph : body_at (added old items).nodes (length old.nodes) ≡ Some Paragraph) where
-    as_possible_title : extents (with_body_at (added old items) place MaybeDefinitionListTitle).nodes ≡ extents (added old items).nodes
-    as_possible_title = extents-body (added old items).nodes (length old.nodes) Paragraph MaybeDefinitionListTitle paragraph refl
+  module _ (paragraph : body_at (added old b.items).nodes (length old.nodes) ≡ Some Paragraph) where
+    as_possible_title : extents (with_body_at (added old b.items) place MaybeDefinitionListTitle).nodes ≡ extents (added old b.items).nodes
+    as_possible_title = extents-body (added old b.items).nodes (length old.nodes) Paragraph MaybeDefinitionListTitle paragraph refl
 
     possible_there : body_at kept_tree.nodes (length old.nodes) ≡ Some MaybeDefinitionListTitle
     unfolding kept_tree
     possible_there =
-        body-kept (modify (added old items).nodes (length old.nodes) (λ x. record x { body = MaybeDefinitionListTitle })) ix.0 (length old.nodes)
-        (λ x. record x { «end» = e }) (λ x. refl)
-        ∙ body-changed (added old items).nodes (length old.nodes) (λ x. record x { body = MaybeDefinitionListTitle }) Paragraph
+        body-kept (modify (added old b.items).nodes (length old.nodes) (λ x. record x { body = MaybeDefinitionListTitle })) b.list.0 (length old.nodes)
+        (λ x. record x { «end» = b.«end» }) (λ x. refl)
+        ∙ body-changed (added old b.items).nodes (length old.nodes) (λ x. record x { body = MaybeDefinitionListTitle }) Paragraph
         MaybeDefinitionListTitle paragraph
         (λ x is. refl)
 
-    kept_extents : extents kept_tree.nodes ≡ extents ended ++ laid (suc (suc (length rest))) fits.0
+    kept_extents : extents kept_tree.nodes ≡ extents ended ++ laid (suc (suc (length b.outer))) b.fits.0
     unfolding kept_tree
     kept_extents =
-        let a : List (ℕ × Item) = (added old items).nodes in
+        let a : List (ℕ × Item) = (added old b.items).nodes in
         let m : List (ℕ × Item) = modify a (length old.nodes) (λ x. record x { body = MaybeDefinitionListTitle }) in
-        extents-end m ix.0 e ∙ ap (λ xs. modify xs ix.0 (λ x. ended_at x e)) as_possible_title ∙ sym (extents-end a ix.0 e) ∙ added_extents
+        extents-end m b.list.0 b.«end» ∙ ap (λ xs. modify xs b.list.0 (λ x. ended_at x b.«end»)) as_possible_title
+        ∙ sym (extents-end a b.list.0 b.«end») ∙ added_extents
 
     place_is : length old.nodes ≡ length (extents ended)
-    place_is = sym (length-extents ended ∙ length-modify old.nodes ix.0 (λ x. record x { «end» = e }))
+    place_is = sym (length-extents ended ∙ length-modify old.nodes b.list.0 (λ x. record x { «end» = b.«end» }))
 
     extents_before : extents (take (length old.nodes) kept_tree.nodes) ≡ extents ended
     extents_before =
         sym (take-map (λ n. (n.0, extent_of n.1)) (length old.nodes) kept_tree.nodes) ∙ ap (take (length old.nodes)) kept_extents
-        ∙ ap (λ k. take k (extents ended ++ laid (suc (suc (length rest))) fits.0)) place_is
-        ∙ take-append_seam (extents ended) (laid (suc (suc (length rest))) fits.0)
+        ∙ ap (λ k. take k (extents ended ++ laid (suc (suc (length b.outer))) b.fits.0)) place_is
+        ∙ take-append_seam (extents ended) (laid (suc (suc (length b.outer))) b.fits.0)
 
-    extents_last : extents (drop (length old.nodes) kept_tree.nodes) ≡ laid (suc (suc (length rest))) fits.0
+    extents_last : extents (drop (length old.nodes) kept_tree.nodes) ≡ laid (suc (suc (length b.outer))) b.fits.0
     extents_last =
         sym (drop-map (λ n. (n.0, extent_of n.1)) (length old.nodes) kept_tree.nodes) ∙ ap (drop (length old.nodes)) kept_extents
-        ∙ ap (λ k. drop k (extents ended ++ laid (suc (suc (length rest))) fits.0)) place_is
-        ∙ drop-append_seam (extents ended) (laid (suc (suc (length rest))) fits.0)
+        ∙ ap (λ k. drop k (extents ended ++ laid (suc (suc (length b.outer))) b.fits.0)) place_is
+        ∙ drop-append_seam (extents ended) (laid (suc (suc (length b.outer))) b.fits.0)
 
-    kept_end : top_end kept_tree ≡ e
+    kept_end : top_end kept_tree ≡ b.«end»
     unfolding kept_tree
     kept_end =
-        let m : List (ℕ × Item) = modify (added old items).nodes (length old.nodes) (λ x. record x { body = MaybeDefinitionListTitle }) in
-        let n = length-modify (added old items).nodes (length old.nodes) (λ x. record x { body = MaybeDefinitionListTitle }) in
-        let k = length-append old.nodes (at_depth (length old.spine + 1) items) in
-        let within_m : ix.0 < length m = omega arith in
-        ap (λ (s : List TreeIndex). option_map_or (λ x. x.«end») (option_and_then (λ ix. item_at kept_tree ix) (slice_get s 0)) 0) spine
-        ∙ end_there m ix.0 e within_m
+        let m : List (ℕ × Item) = modify (added old b.items).nodes (length old.nodes) (λ x. record x { body = MaybeDefinitionListTitle }) in
+        let n = length-modify (added old b.items).nodes (length old.nodes) (λ x. record x { body = MaybeDefinitionListTitle }) in
+        let k = length-append old.nodes (at_depth (length old.spine + 1) b.items) in
+        let within_m : b.list.0 < length m = omega (arith, b.low) in
+        ap (λ (s : List TreeIndex). option_map_or (λ x. x.«end») (option_and_then (λ ix. item_at kept_tree ix) (slice_get s 0)) 0) b.spine
+        ∙ end_there m b.list.0 b.«end» within_m
 
     the_current : kept_tree.current ≡ Some place
     unfolding kept_tree
@@ -203,33 +217,34 @@ module _ (text : List ℕ) (old : Forest Item) (ix : TreeIndex) (rest : List Tre
     unfolding kept_tree
     kept_current title is = cc
 
-    kept_spine : kept_tree.spine ≡ ix ∷ rest
+    kept_spine : kept_tree.spine ≡ b.list ∷ b.outer
     unfolding kept_tree
-    kept_spine = spine
+    kept_spine = b.spine
 
-    kept_before : IsOrderedTo text (record kept_tree { nodes = take (length old.nodes) kept_tree.nodes }) e
+    kept_before : IsOrderedTo text (record kept_tree { nodes = take (length old.nodes) kept_tree.nodes }) b.«end»
     kept_before =
-        ordered_same text (with_end_at old ix e) (record kept_tree { nodes = take (length old.nodes) kept_tree.nodes }) e extents_before
-        (kept_spine ∙ sym spine) (ordered_reended text old e e ix rest spine o)
+        ordered_same text (with_end_at old b.list b.«end») (record kept_tree { nodes = take (length old.nodes) kept_tree.nodes }) b.«end» extents_before
+        (kept_spine ∙ sym b.spine) (ordered_reended text old b.«end» b.«end» b.list b.outer b.spine b.ordered)
 
-    kept_title : EndsBeforeTitle text kept_tree next
+    kept_title : EndsBeforeTitle text kept_tree b.next
     kept_title title is =
-        subst (λ (z : TreeIndex). EndsBeforeLast text kept_tree next z.0) (sym (kept_current title (title_there kept_tree title is).current))
+        subst (λ (z : TreeIndex). EndsBeforeLast text kept_tree b.next z.0) (sym (kept_current title (title_there kept_tree title is).current))
         (record {
           before = subst (IsOrderedTo text (record kept_tree { nodes = take (length old.nodes) kept_tree.nodes })) (sym kept_end) kept_before;
-          ends = subst (IsCharBoundary text) (sym kept_end) boundary;
-          row = fits.0;
-          last = extents_last ∙ ap (λ (s : List TreeIndex). laid (suc (length s)) fits.0) (sym kept_spine);
-          fits = subst (λ k. Fits text Elsewhere k next fits.0) (sym kept_end) fits.2;
+          ends = subst (IsCharBoundary text) (sym kept_end) b.boundary;
+          row = b.fits.0;
+          last = extents_last ∙ ap (λ (s : List TreeIndex). laid (suc (length s)) b.fits.0) (sym kept_spine);
+          fits = subst (λ k. Fits text Elsewhere k b.next b.fits.0) (sym kept_end) b.fits.2;
         })
 
-    kept_ordered : IsOrderedTo text kept_tree next
+    kept_ordered : IsOrderedTo text kept_tree b.next
     unfolding kept_tree
     kept_ordered =
-        let a : Forest Item = added old items in
+        let a : Forest Item = added old b.items in
         let m : Forest Item = with_body_at a place MaybeDefinitionListTitle in
-        ordered_reended text m next e ix rest spine
-        (ordered_same text a m next as_possible_title refl (ordered_added text old e next items (between-any text (within_top old) e next items fits) within o))
+        ordered_reended text m b.next b.«end» b.list b.outer b.spine
+        (ordered_same text a m b.next as_possible_title refl
+        (ordered_added text old b.«end» b.next b.items (between-any text (within_top old) b.«end» b.next b.items b.fits) b.within b.ordered))
 
     kept_last : HasDefinition kept_tree
     kept_last list = kept_some kept_tree possible_there the_current
@@ -237,13 +252,13 @@ module _ (text : List ℕ) (old : Forest Item) (ix : TreeIndex) (rest : List Tre
     kept_nested : AreNested old.nodes old.spine → AreNested kept_tree.nodes kept_tree.spine
     unfolding kept_tree
     kept_nested h =
-        let a : List (ℕ × Item) = (added old items).nodes in
+        let a : List (ℕ × Item) = (added old b.items).nodes in
         let m : List (ℕ × Item) = modify a (length old.nodes) (λ x. record x { body = MaybeDefinitionListTitle }) in
         nested_same a kept_tree.nodes old.spine
-        (classes_ended m ix.0 e ∙ classes_body a (length old.nodes) Paragraph MaybeDefinitionListTitle paragraph refl)
-        (nested_front old.nodes (at_depth (length old.spine + 1) items) old.spine h)
+        (classes_ended m b.list.0 b.«end» ∙ classes_body a (length old.nodes) Paragraph MaybeDefinitionListTitle paragraph refl)
+        (nested_front old.nodes (at_depth (length old.spine + 1) b.items) old.spine h)
 
-    kept_closes : AreNested old.nodes old.spine → CanClose text kept_tree next
+    kept_closes : AreNested old.nodes old.spine → CanClose text kept_tree b.next
     kept_closes h = record { nested = kept_nested h; last = kept_last; title = kept_title }
 
 -- If a definition is last in a definition list: both, and the end of the definition.
@@ -279,31 +294,55 @@ no_item_top None h = cc
 no_item_top (Some (DefinitionList flags)) h = refl
 no_item_top (Some b) h = cc
 
--- A paragraph, heading or table was added right after a definition, which ends at an offset.
-module _ (text : List ℕ) (r : PassState) (read : Forest Item) (at start next : ℕ) (forest : IsForest r.tree) (after : is_after_definition r.tree ≡ true)
-    (none : r.begin_list_item ≡ None) (o : IsOrderedTo text r.tree at) (closes : CanClose text r.tree at) (later : at ≤ start)
-    (adds : (from : ℕ) → from ≤ start → AddsBetween text from next r.tree read) (within : next ≤ length text) where
+-- A paragraph, heading or table is read right after a definition. The tree before it is in order up to an offset, and
+-- the block starts at another.
+pub record ReadAfterDefinition (text : List ℕ) (r : PassState) (read : Forest Item) (next : ℕ) : Type 0 where
+  pub at : ℕ
+  pub start : ℕ
+  pub forest : IsForest r.tree
+  pub after : is_after_definition r.tree ≡ true
+  pub none : r.begin_list_item ≡ None
+  pub ordered : IsOrderedTo text r.tree at
+  pub closes : CanClose text r.tree at
+  pub later : at ≤ start
+  pub adds : (from : ℕ) → from ≤ start → AddsBetween text from next r.tree read
+  pub within : next ≤ length text
+
+module _ (text : List ℕ) (r : PassState) (read : Forest Item) (next : ℕ) (h : ReadAfterDefinition text r read next) where
   list_top : is_definitions (top_body r.tree) ≡ true
-  list_top = (and_parts (is_definitions (top_body r.tree)) (not (is_some (possible_title r.tree))) after).0
+  list_top = (and_parts (is_definitions (top_body r.tree)) (not (is_some (possible_title r.tree))) h.after).0
 
   the_definition : AfterDefinition r.tree
-  the_definition = after_definition r.tree list_top closes.last
+  the_definition = after_definition r.tree list_top h.closes.last
 
-  ordered_before : IsOrderedTo text r.tree the_definition.definition.«end» × (the_definition.definition.«end» ≤ at)
+  ordered_before : IsOrderedTo text r.tree the_definition.definition.«end» × (the_definition.definition.«end» ≤ h.at)
       × IsCharBoundary text the_definition.definition.«end»
   ordered_before =
-      ordered_to_last text r.tree at the_definition.last the_definition.definition forest the_definition.current the_definition.here the_definition.plain o
+      ordered_to_last text r.tree h.at the_definition.last the_definition.definition h.forest the_definition.current the_definition.here
+      the_definition.plain h.ordered
 
   the_block : AddsBetween text the_definition.definition.«end» next r.tree read
-  the_block = adds the_definition.definition.«end» (let a = ordered_before.1 in omega arith)
+  the_block = h.adds the_definition.definition.«end» (let a = ordered_before.1 in omega (arith, h.later))
 
   block_fits : FitsBetween text Elsewhere the_definition.definition.«end» next the_block.items
   block_fits =
       subst (λ w. FitsBetween text w the_definition.definition.«end» next the_block.items)
       (ap (λ (t : Bool). if t then InItem else Elsewhere) (no_item_top (top_body r.tree) list_top)) the_block.fits
 
-  place_within : the_definition.place.0 < length r.tree.nodes
-  place_within = (subst (AreNested r.tree.nodes) the_definition.spine closes.nested).0
+  abbrev block : BlockAdded text r.tree
+  block = record {
+    list = the_definition.place;
+    outer = the_definition.outer;
+    spine = the_definition.spine;
+    low = (subst (AreNested r.tree.nodes) the_definition.spine h.closes.nested).0;
+    items = the_block.items;
+    «end» = the_definition.definition.«end»;
+    next = next;
+    ordered = ordered_before.0;
+    boundary = ordered_before.2;
+    fits = block_fits;
+    within = h.within;
+  }
 
   -- the end of the last child
   last_end : option_map_or (λ x. x.«end») (option_and_then (item_at r.tree) r.tree.current) 0 ≡ the_definition.definition.«end»
@@ -318,14 +357,12 @@ module _ (text : List ℕ) (r : PassState) (read : Forest Item) (at start next :
       let items : List (ℕ × Item) = the_block.items in
       let a : PassState = with_tree r (added r.tree items) in
       let shut : PassState = definitions_closed e a in
-      let closed : IsOrderedTo text shut.tree next =
-      block_left text r.tree the_definition.place the_definition.outer the_definition.spine place_within items e next ordered_before.0
-      ordered_before.2 block_fits within a refl in
-      let more = nested_front r.tree.nodes (at_depth (length r.tree.spine + 1) items) r.tree.spine closes.nested in
-      let top = ap is_definitions (top_front r.tree.nodes (at_depth (length r.tree.spine + 1) items) r.tree.spine closes.nested) ∙ list_top in
+      let closed : IsOrderedTo text shut.tree next = block_left text r.tree block a refl in
+      let more = nested_front r.tree.nodes (at_depth (length r.tree.spine + 1) items) r.tree.spine h.closes.nested in
+      let top = ap is_definitions (top_front r.tree.nodes (at_depth (length r.tree.spine + 1) items) r.tree.spine h.closes.nested) ∙ list_top in
       let outside = noted_outside shut (definitions_closed_outside e a more top) in
       subst (λ (z : Forest Item). IsReadTo text (definitions_left e (with_tree r z)) next) (sym the_block.tree_is) (
-        ordered_none text (gap_marked shut) next (noted_empty shut ∙ closed_none e a none) within (ordered_gap_marked text shut next closed),
+        ordered_none text (gap_marked shut) next (noted_empty shut ∙ closed_none e a h.none) h.within (ordered_gap_marked text shut next closed),
         outside_closes text (gap_marked shut) next outside,
       )
 
@@ -334,22 +371,18 @@ module _ (text : List ℕ) (r : PassState) (read : Forest Item) (at start next :
   title_begun_read paragraph =
       let e : ℕ = the_definition.definition.«end» in
       let items : List (ℕ × Item) = the_block.items in
-      let ix : TreeIndex = the_definition.place in
-      let rest : List TreeIndex = the_definition.outer in
       let there : body_at (added r.tree items).nodes (length r.tree.nodes) ≡ Some Paragraph =
       sym (ap (λ (f : Forest Item). current_body f) the_block.tree_is) ∙ paragraph in
-      let kept : Forest Item =
-      kept_tree text r.tree ix rest the_definition.spine place_within items e next ordered_before.0 ordered_before.2 block_fits within in
+      let kept : Forest Item = kept_tree text r.tree block in
       let same : (title_begun e (with_tree r (added r.tree items))).tree ≡ kept =
       ap (λ (s : List TreeIndex). with_end (with_body_at (added r.tree items) (record { 0 = length r.tree.nodes }) MaybeDefinitionListTitle) e (slice_get s 0))
       the_definition.spine in
       subst (λ (z : Forest Item). IsReadTo text (title_begun e (with_tree r z)) next) (sym the_block.tree_is) (
-        ordered_none text (title_begun e (with_tree r (added r.tree items))) next none within
+        ordered_none text (title_begun e (with_tree r (added r.tree items))) next h.none h.within
             (subst (λ (z : Forest Item). IsOrderedTo text z next) (sym same)
-            (kept_ordered text r.tree ix rest the_definition.spine place_within items e next ordered_before.0 ordered_before.2 block_fits within there)),
+            (kept_ordered text r.tree block there)),
         subst (λ (z : Forest Item). CanClose text z next) (sym same)
-            (kept_closes text r.tree ix rest the_definition.spine place_within items e next ordered_before.0 ordered_before.2 block_fits within there
-            closes.nested),
+            (kept_closes text r.tree block there h.closes.nested),
       )
 
   -- a heading or a table: the list ends before it

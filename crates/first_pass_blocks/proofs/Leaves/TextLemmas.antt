@@ -347,8 +347,18 @@ module _ (old new : BlockPass) (p : Place) (at next : ℕ) (is_at : IsAt (source
             (subst (λ (f : Forest Item). Ready d (with_definitions defined xs) (title_begun last (with_tree r f)) (lines_from text next)) (sym block.tree_is)
             (ready_kept d defined r p q at next xs block.items is_at.forest kind stands at_is run (block.is_text more extends) after is_at.none begins ready));
         order = λ q stands at_is o. subst (λ z. IsReadTo text z next) (sym is)
-            (read_title_begun text r read (line_or r.tree q.line (offset q)) at next is_at.forest after is_at.none o.0 o.1 (in_order q at_is) fits
-            block.boundary.0 last refl current);
+            (read_title_begun text r read next (record {
+              at = line_or r.tree q.line (offset q);
+              start = at;
+              forest = is_at.forest;
+              after = after;
+              none = is_at.none;
+              ordered = o.0;
+              closes = o.1;
+              later = in_order q at_is;
+              adds = fits;
+              within = block.boundary.0;
+            }) last refl current);
         node_bound = λ from low apart. let g = grown from low apart in
             let same = ap count is ∙ title_begun_count last q' current in
             omega arith;
@@ -385,8 +395,18 @@ module _ (old new : BlockPass) (p : Place) (at next : ℕ) (is_at : IsAt (source
       (ap (λ (z : PassState). z.blank) now ∙ list_finished_blank last r) over
       (λ q xs at_is. away_left r q xs block.items (lines_from text next) after other)
       (λ q stands at_is o. subst (λ z. IsReadTo text z next) (sym is)
-      (read_definitions_left text r read (line_or r.tree q.line (offset q)) at next is_at.forest after is_at.none o.0 o.1 (in_order q at_is) fits
-      block.boundary.0 last refl))
+      (read_definitions_left text r read next (record {
+        at = line_or r.tree q.line (offset q);
+        start = at;
+        forest = is_at.forest;
+        after = after;
+        none = is_at.none;
+        ordered = o.0;
+        closes = o.1;
+        later = in_order q at_is;
+        adds = fits;
+        within = block.boundary.0;
+      }) last refl))
       (λ from low apart. let g = grown from low apart in
       let same = ap count is in
       let node_bound = definitions_left_count last (with_tree r read) in
