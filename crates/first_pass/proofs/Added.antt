@@ -8,7 +8,7 @@ use Rattle.first_pass_open.specs.Between.{line_end_at, AddsBetween}
 use Rattle.first_pass_lists.specs.Closing.{state_with}
 use Rattle.first_pass_lists.specs.declared.state.PassState.{PassState}
 use Rattle.first_pass_order.proofs.NamedLemmas.{block_added}
-use Rattle.first_pass_blocks.proofs.Order.OrderSteps.{block_ordered}
+use Rattle.first_pass_containers.proofs.Order.OrderSteps.{block_ordered}
 use Rattle.first_pass.specs.declared.state.FirstPass.{FirstPass}
 use Rattle.first_pass.specs.Calls.{AddsLeafBlock, AddsLineBlock}
 use Rattle.first_pass.specs.Kept.{StayNamed, KeepsNames}

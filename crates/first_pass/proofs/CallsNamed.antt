@@ -40,8 +40,8 @@ use Rattle.first_pass_raw.specs.declared.raw_line.RawKind.TheVariants.{Code, Htm
 use Rattle.first_pass_tables.specs.Appends.{with_below, OpenTable, ReadsRow, ReadsRowLine, AppendsRows}
 use Rattle.first_pass_text.specs.Appends.{AddsHeading}
 use Rattle.first_pass_text.specs.CutTexts.{BecomesHeading, CutsChildren}
-use Rattle.first_pass_blocks.specs.FootnoteHeads.{StaysSame, OpenedFootnote, ReadsFootnote}
-use Rattle.first_pass_blocks.specs.TextsAdded.{AddsText}
+use Rattle.first_pass_blocks.specs.OpenedFootnotes.{StaysSame, OpenedFootnote, ReadsFootnote}
+use Rattle.first_pass_containers.specs.TextsAdded.{AddsText}
 use Rattle.first_pass_blocks.specs.declared.state.BlockPass.{BlockPass}
 use Rattle.first_pass_blocks.specs.Views as Block
 use Rattle.first_pass_order.proofs.NamedLemmas.{block_added, note_named}

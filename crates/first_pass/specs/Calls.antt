@@ -29,10 +29,10 @@ use Rattle.first_pass_raw.specs.declared.raw_line.RawKind.{RawKind}
 use Rattle.first_pass_tables.specs.Appends.{open_table, ReadsRow, ReadsRowLine, AppendsRows, AddsWholeRows}
 use Rattle.first_pass_tables.specs.declared.row.CellsWanted.{CellsWanted}
 use Rattle.first_pass_text.specs.Appends.{AddsHeading}
-use Rattle.first_pass_blocks.specs.TextsAdded.{AddsText}
-use Rattle.first_pass_blocks.specs.FootnoteHeads.{ReadsFootnote}
+use Rattle.first_pass_containers.specs.TextsAdded.{AddsText}
+use Rattle.first_pass_blocks.specs.OpenedFootnotes.{ReadsFootnote}
 use Rattle.first_pass_order.specs.Ordered.{IsOrderedAt, IsOrderedFrom, IsReadTo}
-use Rattle.first_pass_blocks.specs.Positions.{LineAt}
+use Rattle.first_pass_containers.specs.Positions.{LineAt}
 use Rattle.first_pass_blocks.specs.Progress.{ReadsBlock}
 use Rattle.first_pass_ready.specs.State.{Ready}
 use Rattle.first_pass.specs.declared.state.FirstPass.{FirstPass}

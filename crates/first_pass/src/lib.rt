@@ -20,8 +20,8 @@ pub use crate::laws::lines_are_tokens;
 pub use first_pass_attributes::attrs;
 pub use first_pass_below::below::{Item, ItemBody, Options, Tree};
 pub use first_pass_below::{below, flank, walk};
-pub use first_pass_blocks::laws::{ready_is_completed, ready_is_whole};
 pub use first_pass_blocks::pass::run_first_pass;
+pub use first_pass_containers::laws::{ready_is_completed, ready_is_whole};
 pub use first_pass_names::items;
 
 /// The open containers, and how far a line continues them (CommonMark 5).

@@ -1,4 +1,3 @@
 -- How lines and blocks follow each other.
-pub mod BlankLines
+pub mod BlankStops
 pub mod BlockRead
-pub mod HandedOn

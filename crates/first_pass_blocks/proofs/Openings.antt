@@ -1,11 +1,3 @@
--- How containers begin and are opened, definitions of definition lists too.
-pub mod EmptyItems
+-- How footnote definitions are opened. Other containers are in `first_pass_containers`.
 pub mod FootnoteFound
 pub mod FootnoteSteps
-pub mod HeadLemmas
-pub mod Indented
-pub mod NoContainer
-pub mod OpenerLemmas
-pub mod StartFound
-pub mod StartLemmas
-pub mod TagLemmas

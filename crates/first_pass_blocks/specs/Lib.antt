@@ -1,12 +1,7 @@
 pub mod Adding
-pub mod Completed
-pub mod Entering
-pub mod FootnoteHeads
-pub mod Positions
+pub mod OpenedFootnotes
 pub mod Progress
 pub mod Runs
-pub mod Starts
-pub mod TextsAdded
 pub mod Titles
 pub mod Views
 pub mod Written

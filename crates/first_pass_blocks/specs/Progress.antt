@@ -13,7 +13,7 @@ use Rattle.first_pass_blocks.specs.declared.state.BlockPass.{BlockPass}
 use Rattle.first_pass_blocks.specs.Views.{allocs_of, state_of, source_of, tree_of}
 use Rattle.first_pass_ready.specs.State.{Ready}
 use Rattle.first_pass_order.specs.Ordered.{IsReadFrom}
-use Rattle.first_pass_blocks.specs.Positions.{Position, LeafAt, ReadyOn, OrderedOn, GrowsTo, GrowsFrom}
+use Rattle.first_pass_containers.specs.Positions.{Position, LeafAt, ReadyOn, OrderedOn, GrowsTo, GrowsFrom}
 
 -- A pass over a source came from one position to another, in a line that begins at an offset or after that line. It
 -- reads the same text, and names are kept. Under all names that extend the new ones: if the state began a derivation

@@ -1,112 +1,18 @@
-//! The open containers, and how far a line continues them (CommonMark 5).
+//! The containers that begin in a line (CommonMark 5).
 
-ghost use Rattle.std.specs.Prelude.{◌≡◌, ◌<◌, ◌≤◌, length, None, IfOk, OnOk, IsUtf8, IsCharBoundary, true};
+ghost use Rattle.std.specs.Prelude.{◌≡◌, None, IfOk, OnOk, IsUtf8};
 ghost use Rattle.first_pass_lines.specs.Places.{line_end, IsPlaceOf};
-ghost use Rattle.first_pass_open.specs.Path.{outer};
-ghost use Rattle.first_pass_blocks.specs.Entering.{ClosesAt, EntersLine};
-ghost use Rattle.first_pass_lists.specs.Closing.{footnote_ended};
-ghost use Rattle.first_pass_blocks.specs.Positions.{InLine, IsNotBefore, LineAt, ReadsTo, may_define};
+ghost use Rattle.first_pass_containers.specs.Positions.{InLine, IsNotBefore, may_define};
 ghost use Rattle.first_pass_blocks.specs.Progress.{PassesTo};
-ghost use Rattle.first_pass_blocks.specs.Starts.{start_opened, last_at, IsAfterMarker, BeginsNoContainer};
+ghost use Rattle.first_pass_containers.specs.Starts.{last_at, IsAfterMarker};
 ghost use Rattle.first_pass_blocks.specs.Views.{state_of, source_of, source_text};
 
-use crate::openers::{Opener, Start, start_at};
 use crate::state::BlockPass;
-use bitflags::Flags;
+use first_pass_containers::containers::{begins_no_container, may_define, open_start};
+use first_pass_containers::openers::start_at;
 use first_pass_grammar::AfterMarker;
-use first_pass_items::option_set::Options;
-use first_pass_lines::lines::{begins, scan_blank_line};
-use first_pass_lines::places::next_line;
-use first_pass_lists::state::PassState;
-use first_pass_open::containers::nodes_to_quote;
-use first_pass_open::front::{scan_continued_past, scan_front};
-use first_pass_open::open_block::append_item;
 use first_pass_open::place::Place;
-use first_pass_open::source::Source;
-use first_pass_scan::line_start::LineStart;
 use std::alloc::AllocError;
-
-/// Closes the open nodes at the offset `ix`, except the outermost `kept`.
-pub(crate) fn close_containers(state: &mut PassState, kept: usize, ix: usize)
-    requires { kept ≤ length state.old.tree.spine }
-    ensures spine { state.new.tree.spine ≡ outer kept state.old.tree.spine }
-    ensures kept { ClosesAt state.old state.new kept ix }
-{
-    while kept < state.tree.spine_len() {
-        state.tree.recall_forest();
-        state.pop(ix);
-    }
-}
-
-/// Closes the containers that the line at `start_ix` does not continue. Then, if a counting blank line is directly
-/// before, closes an innermost footnote definition in the old form. Returns the place after the prefixes of the open
-/// containers. If the line is blank, reads it and returns `None`.
-pub(crate) fn enter_line<'a>(
-    state: &mut PassState,
-    source: &Source<'a>,
-    start_ix: usize,
-) -> Option<Place<'a>>
-    requires within { start_ix < length source.now.text.now }
-    requires boundary { IsCharBoundary source.now.text.now start_ix }
-    ensures utf8 { IsUtf8 source.now.text.now }
-    ensures entered { EntersLine source.now state.old state.new start_ix result }
-{
-    let front = scan_front(source, &state.tree, start_ix);
-    close_containers(state, front.continued, start_ix);
-    end_old_footnote(state, source, start_ix);
-    if scan_blank_line(front.rest.left()).is_some() {
-        state.read_blank_line();
-        return None;
-    }
-    state.finish_empty_list_item();
-    Some(Place {
-        line: start_ix,
-        rest: front.rest,
-    })
-}
-
-/// Skips blank lines from the offset `start` as long as they leave the state unchanged: a counting blank line came
-/// before, they continue every open node, and no node ends at them. Returns the start of the next unread line, or the
-/// end of the text. It skips lines only if many containers are open, to save the walk over these.
-pub(crate) fn read_blank_lines<'a>(state: &PassState, source: &Source<'a>, start: usize) -> usize
-    requires { IsCharBoundary source.now.text.now start }
-    ensures later { start ≤ result }
-    ensures boundary { IsCharBoundary source.now.text.now result }
-    ensures read { ReadsTo source.now start state.now state.now (LineAt start) (LineAt result) }
-{
-    if !state.is_unchanged_by_blank_line() {
-        return start;
-    }
-    if state.is_in_footnote() && !source.options.has_gfm_footnotes() {
-        return start;
-    }
-    let nodes_to_quote = nodes_to_quote(&state.tree);
-    if nodes_to_quote == state.tree.spine_len() {
-        return start;
-    }
-    let mut next = start;
-    while next < source.text.len() {
-        let Some(rest) = scan_continued_past(source, &state.tree, next, nodes_to_quote) else {
-            return next;
-        };
-        if scan_blank_line(rest.left()).is_none() {
-            return next;
-        }
-        next = next_line(source.text.as_bytes(), next);
-    }
-    next
-}
-
-// Closes an innermost footnote definition in the old form at the line at `start_ix`, if a counting blank line is
-// directly before.
-fn end_old_footnote<'a>(state: &mut PassState, source: &Source<'a>, start_ix: usize)
-    ensures { state.new ≡ footnote_ended source.now.options start_ix state.old }
-{
-    // `finish_old_footnote` also checks for a blank line; the check here spares most lines the call.
-    if state.blank && !source.options.has_gfm_footnotes() {
-        state.finish_old_footnote(start_ix);
-    }
-}
 
 impl<'a> BlockPass<'a> {
     /// Opens the containers that begin at a place, each in the one before, and moves the place past their markers.
@@ -162,53 +68,4 @@ impl<'a> BlockPass<'a> {
             }
         }
     }
-}
-
-// Whether no column is owed, and the next byte is no space or tab and begins no container: no list item, block quote,
-// definition or footnote definition.
-#[inline(always)]
-fn begins_no_container<'a>(rest: &LineStart<'a>) -> bool
-    ensures { result ≡ true → BeginsNoContainer rest.now }
-{
-    rest.is_at_inert() && !begins(b':', rest.left()) && !begins(b'[', rest.left())
-}
-
-// Whether a `:` may begin a definition after the last block.
-fn may_define(source: &Source<'_>, state: &PassState) -> bool
-    ensures { result ≡ may_define source.now.options state.now.tree }
-{
-    source.options.contains(Options::ENABLE_DEFINITION_LIST) && state.may_begin_definition()
-}
-
-// Opens a container that begins in the line of a place, which is after its marker. Also opens the list that it needs,
-// and appends the marker of a task without text.
-#[inline(always)]
-fn open_start<'a>(
-    state: &mut PassState,
-    source: &Source<'a>,
-    place: &Place<'a>,
-    start: Start,
-) -> Result<(), AllocError>
-    requires { IsPlaceOf source.now.text.now place.now }
-    ensures { OnOk result (state.new ≡ start_opened place.now.line start (line_end place.now) state.old) }
-{
-    match start.opener {
-        Opener::Item(marker) => state.open_item(start.start, marker)?,
-        Opener::Quote(kind) => state.open_quote(place.line, start.start, kind)?,
-        Opener::Definition(indent) => state.open_definition(start.start, indent)?,
-    }
-    if let AfterMarker::LineEnds(marker) = start.after {
-        append_item(&mut state.tree, marker)?;
-        state.begin_list_item = Some(next_line_start(source, place));
-    }
-    Ok(())
-}
-
-/// Returns the end of the line of a place: the start of the next line.
-pub(crate) fn next_line_start<'a>(source: &Source<'a>, place: &Place<'a>) -> usize
-    requires { IsPlaceOf source.now.text.now place.now }
-    ensures { result ≡ line_end place.now }
-{
-    source.recall_length();
-    next_line(source.text.as_bytes(), place.offset())
 }

@@ -4,9 +4,7 @@
 mod containers;
 pub mod definition;
 pub mod footnote;
-pub mod laws;
 mod leaf;
-mod openers;
 pub mod parser;
 pub mod pass;
 pub mod state;

@@ -16,17 +16,19 @@ ghost use Rattle.first_pass_kinds.specs.BlockStart.{IsFoundAt};
 ghost use Rattle.first_pass_grammar.specs.declared.kind.AfterMarker.TheVariants.{TaskText};
 ghost use Rattle.first_pass_ready.specs.State.{Ready};
 ghost use Rattle.first_pass_order.specs.Ordered.{IsReadTo};
-ghost use Rattle.first_pass_blocks.specs.Positions.{LineAt, TaskAt, TaggedAt};
+ghost use Rattle.first_pass_containers.specs.Positions.{LineAt, TaskAt, TaggedAt};
 ghost use Rattle.first_pass_blocks.specs.Progress.{ReadsBlock, ReadsLeaf};
 ghost use Rattle.first_pass_order.specs.Settled.{AreSettled};
-ghost use Rattle.first_pass_blocks.specs.Starts.{IsAfterMarker};
+ghost use Rattle.first_pass_containers.specs.Starts.{IsAfterMarker};
 ghost use Rattle.first_pass_blocks.specs.Written.{AreFootnotesWritten};
 ghost use Rattle.first_pass_blocks.specs.Views.{allocs_of, state_of, source_options, source_text, tree_of};
 
-use crate::containers::{close_containers, enter_line, next_line_start, read_blank_lines};
 use crate::definition::RunEnd;
 use crate::state::BlockPass;
 use crate::text::parse_text;
+use first_pass_containers::containers::{
+    close_containers, enter_line, next_line_start, read_blank_lines,
+};
 use first_pass_grammar::AfterMarker;
 use first_pass_items::item::Item;
 use first_pass_items::option_set::Options;

@@ -10,7 +10,7 @@ ghost use Rattle.first_pass_grammar.specs.TableHeads.{headed_table};
 ghost use Rattle.first_pass_kinds.specs.TableHeads.{table_head_len};
 ghost use Rattle.first_pass_open.specs.Path.{context_of};
 ghost use Rattle.first_pass_open.specs.Between.{AddsBetween, MarkerIsInItem, MarkerBetween};
-ghost use Rattle.first_pass_blocks.specs.TextsAdded.{AddsText};
+ghost use Rattle.first_pass_containers.specs.TextsAdded.{AddsText};
 
 use first_pass_items::item::{Item, ItemBody};
 use first_pass_kinds::table_start::{HeadedTable, scan_headed_table};

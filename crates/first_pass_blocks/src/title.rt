@@ -2,7 +2,8 @@
 
 ghost use Rattle.std.specs.Prelude.{◌≡◌, true, IfOk, IsCharBoundary};
 ghost use Rattle.first_pass_lists.specs.Closing.{is_after_definition};
-ghost use Rattle.first_pass_blocks.specs.Titles.{current_end, is_paragraph_last, ReadsTitle};
+ghost use Rattle.first_pass_containers.specs.Titles.{current_end, is_paragraph_last};
+ghost use Rattle.first_pass_blocks.specs.Titles.{ReadsTitle};
 ghost use Rattle.first_pass_blocks.specs.Views.{source_text, tree_of};
 
 use crate::state::BlockPass;

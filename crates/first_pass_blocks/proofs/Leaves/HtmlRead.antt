@@ -20,19 +20,20 @@ use Rattle.first_pass_blocks.specs.Progress.{ReadsLeaf}
 use Rattle.first_pass_ready.specs.State.{Ready}
 use Rattle.first_pass_order.proofs.CountLemmas.{list_finished_count, leaf_left, left_before}
 use Rattle.first_pass_order.specs.Ordered.{AreNested}
-use Rattle.first_pass_blocks.proofs.Leaves.FirstItems.{kind_silent}
-use Rattle.first_pass_blocks.proofs.LineByLine.HandedOn.{path_added, html_stops, read_stopped, list_finished_blank, ordered_stopped}
+use Rattle.first_pass_containers.proofs.Leaves.FirstItems.{kind_silent}
+use Rattle.first_pass_blocks.proofs.LineByLine.BlankStops.{html_stops, read_stopped, ordered_stopped}
+use Rattle.first_pass_containers.proofs.LineByLine.HandedOn.{path_added, list_finished_blank}
 use Rattle.first_pass_blocks.proofs.Leaves.KindBlocks.{AddsHtml, columns_are, html_blank_added, ready_kind}
 use Rattle.first_pass_blocks.proofs.Leaves.LeafAdded.{found_boundary}
-use Rattle.first_pass_blocks.proofs.Leaves.LeafLemmas.{line_end_of}
+use Rattle.first_pass_containers.proofs.Leaves.LeafLemmas.{line_end_of}
 use Rattle.first_pass_lists.proofs.NoEmptyItem.{list_finished_none}
 use Rattle.first_pass_order.proofs.NamedLemmas.{block_added, list_finished_named, kind_named}
 use Rattle.first_pass_order.proofs.Nests.{list_finished_outside, added_outside}
-use Rattle.first_pass_blocks.proofs.Order.OrderSteps.{block_ordered, ordered_finished, unindented_later}
+use Rattle.first_pass_containers.proofs.Order.OrderSteps.{block_ordered, ordered_finished, unindented_later}
 use Rattle.first_pass_blocks.proofs.Leaves.RawFits.{to_blank_between, to_blank_ends, to_blank_few}
 use Rattle.first_pass_order.proofs.WholeKept.{kept_of, list_finished_whole, block_whole, kind_whole}
 use Rattle.first_pass_blocks.proofs.LinkDefinitions.WrittenLemmas.{written_stay}
-use Rattle.first_pass_blocks.proofs.StateAt.{IsAt}
+use Rattle.first_pass_containers.proofs.StateAt.{IsAt}
 use Rattle.first_pass_order.specs.LeafBlocks.{AddsKind}
 use Rattle.first_pass_kinds.specs.BlockStart.{IsFoundAt}
 use Rattle.first_pass_kinds.specs.declared.kinds.BlockStart.TheVariants.{HtmlToBlank as FoundHtml}

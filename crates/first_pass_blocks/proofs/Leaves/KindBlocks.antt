@@ -37,11 +37,11 @@ use Rattle.first_pass_text.specs.Appends.{AddsHeading}
 use Rattle.first_pass_completion.proofs.Closings.{leaf_closes}
 use Rattle.first_pass_lists.specs.Closing.{top_body, list_finished}
 use Rattle.first_pass_lists.specs.declared.state.PassState.{PassState}
-use Rattle.first_pass_blocks.specs.Positions.{ReadyLeaf}
+use Rattle.first_pass_containers.specs.Positions.{ReadyLeaf}
 use Rattle.first_pass_ready.specs.State.{closed_in, Ready}
 use Rattle.first_pass_ready.proofs.FinishLemmas.{path_finished}
-use Rattle.first_pass_blocks.proofs.Leaves.LeafLemmas.{told_none, kind_in_other, kind_away, line_end_of, opens_rule, ready_added, LeafBegins}
-use Rattle.first_pass_blocks.proofs.StateAt.{IsAt}
+use Rattle.first_pass_containers.proofs.Leaves.LeafLemmas.{told_none, kind_in_other, kind_away, line_end_of, opens_rule, ready_added, LeafBegins}
+use Rattle.first_pass_containers.proofs.StateAt.{IsAt}
 use Rattle.first_pass_blocks.specs.declared.state.BlockPass.{BlockPass}
 use Rattle.first_pass_blocks.specs.Views.{allocs_of, state_of, source_options, source_text, tree_of}
 use Rattle.first_pass_names.specs.TableEntries.{tables_of, names_of}

@@ -20,8 +20,8 @@ use Rattle.first_pass_blocks.specs.declared.state.BlockPass.{BlockPass}
 use Rattle.first_pass_blocks.specs.Views.{allocs_of, state_of, source_of, source_options, source_text, tree_of}
 use Rattle.first_pass_blocks.specs.Adding.{AddsLeaf, IsFoundIn}
 use Rattle.first_pass_order.specs.LeafBlocks.{AddsKind}
-use Rattle.first_pass_blocks.proofs.Order.OrderSteps.{unindented_later}
-use Rattle.first_pass_blocks.proofs.Leaves.LeafLemmas.{line_end_of}
+use Rattle.first_pass_containers.proofs.Order.OrderSteps.{unindented_later}
+use Rattle.first_pass_containers.proofs.Leaves.LeafLemmas.{line_end_of}
 
 -- the bytes at which a marked leaf block was found
 pub found_says : (options : Options) (p : Place) (leaf : MarkedLeaf) (columns at : ℕ) → IsFoundAt options p (Marked leaf) columns at

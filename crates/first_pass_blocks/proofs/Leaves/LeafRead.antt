@@ -12,14 +12,14 @@ use Rattle.first_pass_blocks.specs.declared.state.BlockPass.{BlockPass}
 use Rattle.first_pass_blocks.specs.Views.{allocs_of, state_of, source_options, source_text, tree_of}
 use Rattle.first_pass_blocks.specs.Adding.{AddsLeaf}
 use Rattle.first_pass_blocks.specs.Progress.{ReadsLeaf}
-use Rattle.first_pass_blocks.proofs.Order.OrderSteps.{ordered_leaf}
+use Rattle.first_pass_containers.proofs.Order.OrderSteps.{ordered_leaf}
 use Rattle.first_pass_blocks.proofs.Leaves.KindBlocks.{ready_kind, IsOtherLeaf}
 use Rattle.first_pass_blocks.proofs.LinkDefinitions.WrittenLemmas.{written_stay}
 use Rattle.first_pass_order.proofs.NamedLemmas.{block_added, list_finished_named, kind_named}
 use Rattle.first_pass_order.proofs.WholeKept.{kept_of, list_finished_whole, block_whole, kind_whole}
-use Rattle.first_pass_blocks.proofs.Leaves.FirstItems.{kind_silent}
+use Rattle.first_pass_containers.proofs.Leaves.FirstItems.{kind_silent}
 use Rattle.first_pass_order.proofs.CountLemmas.{list_finished_count, block_count, leaf_left, left_before}
-use Rattle.first_pass_blocks.proofs.StateAt.{IsAt}
+use Rattle.first_pass_containers.proofs.StateAt.{IsAt}
 
 -- a block that ends what is to end at the start of the line
 pub leaf_read : (old new : BlockPass) (p : Place) (kind : Kind) (next : ℕ) → IsAt (source_text old) (state_of old) p

@@ -7,10 +7,12 @@ use Rattle.std.specs.Option.{option_map}
 use Rattle.std.specs.List.{prefix_len}
 use Rattle.first_pass_lines.specs.Lines.{is_content, eol_len, line_len}
 use Rattle.first_pass_scan.specs.LeafLines.{is_rule_byte, in_rule, rule_len, hrule_len}
-use Rattle.first_pass_lines.specs.Places.{line_place}
-use Rattle.first_pass_lines.proofs.PlaceFacts.{bytes_line_end}
+use Rattle.first_pass_lines.specs.Places.{Place, offset, line_place, line_end}
+use Rattle.first_pass_lines.proofs.PlaceFacts.{bytes_line_end, columns_line_end}
 use Rattle.first_pass_text.proofs.HeadingLemmas.{prefix_in}
 use Rattle.first_pass_lines.proofs.LineFacts.{line_len-eol}
+use Rattle.first_pass_lines.specs.Rest.{indent}
+use Rattle.first_pass_grammar.specs.Kinds.{unindented}
 
 rule_content : (c b : ℕ) → is_rule_byte c ≡ true → in_rule c b ≡ true → is_content b ≡ true
 rule_content c b h e = grind (arith, nat_tests, h, e)
@@ -38,3 +40,10 @@ pub rule_line : (bs : List ℕ) (size : ℕ) → hrule_len bs ≡ Some size → 
 unfolding hrule_len
 rule_line [] size h = absurd (none-some size h)
 rule_line (b ∷ bs) size h = byte_by (is_rule_byte b) b bs size refl h
+
+-- a thematic break ends where its line ends
+pub rule_end : (p : Place) (at size : ℕ) → hrule_len (unindented p).rest.left ≡ Some size → at ≡ offset (unindented p) → at + size ≡ line_end p
+rule_end p at size kind at_is =
+    let n = rule_line (unindented p).rest.left size kind in
+    let e = columns_line_end (indent p.rest) p in
+    omega arith

@@ -38,29 +38,30 @@ use Rattle.first_pass_blocks.specs.declared.definition.RunEnd.TheVariants.{NextL
 use Rattle.first_pass_blocks.specs.Views.{allocs_of, context_in, state_of, source_of, source_options, source_text, tree_of}
 use Rattle.first_pass_ready.specs.State.{closed_in, Ready}
 use Rattle.first_pass_order.specs.Ordered.{IsReadTo}
-use Rattle.first_pass_blocks.specs.Positions.{ReadyLeaf, OrderedUpTo, line_or}
+use Rattle.first_pass_containers.specs.Positions.{ReadyLeaf, OrderedUpTo, line_or}
 use Rattle.first_pass_blocks.specs.Progress.{ReadsLeaf}
 use Rattle.first_pass_blocks.specs.Runs.{IsLater, ReadsRun, PutsDefinitions}
-use Rattle.first_pass_blocks.specs.TextsAdded.{AddsText, IsTextAt}
-use Rattle.first_pass_blocks.specs.Titles.{current_end, is_paragraph_last, title_read, ReadsTitle}
+use Rattle.first_pass_containers.specs.TextsAdded.{AddsText, IsTextAt}
+use Rattle.first_pass_containers.specs.Titles.{current_end, is_paragraph_last, title_read}
+use Rattle.first_pass_blocks.specs.Titles.{ReadsTitle}
 use Rattle.first_pass_ready.proofs.AddedLemmas.{body_after}
 use Rattle.first_pass_ready.proofs.BegunLemmas.{no_table}
 use Rattle.first_pass_order.proofs.CountLemmas.{count, list_finished_count, title_begun_count, definitions_left_count, block_count, leaf_left, left_before}
 use Rattle.first_pass_order.proofs.DefinitionOrder.{read_definitions_left, read_title_begun}
 use Rattle.first_pass_ready.proofs.FinishLemmas.{EndsListAt, path_finished}
-use Rattle.first_pass_blocks.proofs.Leaves.FirstItems.{text_silent_first}
-use Rattle.first_pass_blocks.proofs.LineByLine.HandedOn.{list_finished_blank}
-use Rattle.first_pass_blocks.proofs.Leaves.LeafLemmas.{ready_ended, text_away, LeafBegins, opens_flow, ready_added, text_opens}
+use Rattle.first_pass_containers.proofs.Leaves.FirstItems.{text_silent_first}
+use Rattle.first_pass_containers.proofs.LineByLine.HandedOn.{list_finished_blank}
+use Rattle.first_pass_containers.proofs.Leaves.LeafLemmas.{ready_ended, text_away, LeafBegins, opens_flow, ready_added, text_opens}
 use Rattle.first_pass_ready.proofs.LeftBlocks.{left_is}
 use Rattle.first_pass_lists.proofs.NoEmptyItem.{list_finished_none}
 use Rattle.first_pass_order.proofs.NamedLemmas.{block_added, list_finished_named, title_begun_named}
-use Rattle.first_pass_blocks.proofs.Order.OrderSteps.{line_or-below, ordered_finished, ordered_leaf, upto_later, place_before_end, unindented_later}
-use Rattle.first_pass_blocks.proofs.Leaves.TextsFlat.{text_flat}
-use Rattle.first_pass_blocks.proofs.Leaves.TitleLemmas.{ready_kept, away_left}
+use Rattle.first_pass_containers.proofs.Order.OrderSteps.{line_or-below, ordered_finished, ordered_leaf, upto_later, place_before_end, unindented_later}
+use Rattle.first_pass_containers.proofs.Leaves.TextsFlat.{text_flat}
+use Rattle.first_pass_containers.proofs.Leaves.TitleLemmas.{ready_kept, away_left}
 use Rattle.first_pass_order.proofs.DefinitionsWhole.{title_begun_whole}
 use Rattle.first_pass_order.proofs.WholeKept.{IsReadWhole, list_finished_whole, kept_of, block_whole, added_text_whole}
 use Rattle.first_pass_blocks.proofs.LinkDefinitions.WrittenLemmas.{written_stay}
-use Rattle.first_pass_blocks.proofs.StateAt.{IsAt}
+use Rattle.first_pass_containers.proofs.StateAt.{IsAt}
 use Rattle.first_pass_blocks.specs.declared.definition.RunEnd.{RunEnd}
 
 pub leaf_plain : (d : Document) (defined : Tables) (r : PassState) (p : Place) (lines : List Place)

@@ -37,7 +37,7 @@ use Rattle.first_pass_open.specs.Between.{line_end_at}
 use Rattle.first_pass_text.specs.Appends.{AddsPlainText}
 use Rattle.first_pass_open.specs.Between.{AddsBetween}
 use Rattle.first_pass_tables.specs.Appends.{with_below, AppendsRows}
-use Rattle.first_pass_blocks.specs.TextsAdded.{AddsText}
+use Rattle.first_pass_containers.specs.TextsAdded.{AddsText}
 use Rattle.first_pass_tables.proofs.TableFits.{table_fits}
 
 -- a text whose first line heads a table, or none

@@ -15,11 +15,11 @@ use Rattle.first_pass_blocks.specs.Written.{TablesAreWritten}
 use Rattle.first_pass_open.specs.declared.source.Source.{Source}
 use Rattle.first_pass_grammar.specs.declared.kind.AfterMarker.{AfterMarker}
 use Rattle.first_pass_blocks.specs.declared.state.BlockPass.{BlockPass}
-use Rattle.first_pass_blocks.specs.Positions.{Position, LineAt, InLine, LeafAt, TaskAt, TaggedAt, IsNotBefore, ReadyOn, GrowsTo, GrowsFrom, ReadsTo, IsInLine}
+use Rattle.first_pass_containers.specs.Positions.{Position, LineAt, InLine, LeafAt, TaskAt, TaggedAt, IsNotBefore, ReadyOn, GrowsTo, GrowsFrom, ReadsTo, IsInLine}
 use Rattle.first_pass_blocks.specs.Progress.{PassesTo, ReadsBlockOf, ReadsBlock}
-use Rattle.first_pass_blocks.specs.Starts.{last_at, IsAfterMarker}
+use Rattle.first_pass_containers.specs.Starts.{last_at, IsAfterMarker}
 use Rattle.first_pass_blocks.specs.Views.{allocs_of, state_of, source_of, source_text, tree_of}
-use Rattle.first_pass_blocks.proofs.Order.OrderSteps.{line_later, place_before_end}
+use Rattle.first_pass_containers.proofs.Order.OrderSteps.{line_later, place_before_end}
 
 -- a step of the state is a step of the pass
 pub passes_state : (over : Source) (line : ℕ) (old new : BlockPass) (p q : Position) → source_of new ≡ source_of old → allocs_of new ≡ allocs_of old

@@ -27,7 +27,7 @@ use Rattle.first_pass_open.specs.declared.source.Source.{Source}
 use Rattle.first_pass_lists.specs.declared.state.PassState.{PassState}
 use Rattle.first_pass_blocks.specs.declared.state.BlockPass.{BlockPass}
 use Rattle.first_pass_blocks.specs.Views.{state_of, source_of, source_text, tree_of, context_in}
-use Rattle.first_pass_blocks.proofs.Openings.TagLemmas.{tag_end}
+use Rattle.first_pass_containers.proofs.Openings.TagLemmas.{tag_end}
 use Rattle.first_pass_blocks.proofs.LinkDefinitions.RunLemmas.{defined_here, IsOneMore}
 
 -- what was found is there, and nothing is there if nothing was found

@@ -1,67 +1,26 @@
 -- Whether a footnote definition begins at a place, from the results of the calls, and what is open then.
-use Rattle.std.proofs.Common.{◌≡◌, inl, inr, ℕ, ◌+◌, ◌-◌, ◌<◌, ◌≤◌, nat_lt, ◌&&◌, Bool, true, false, List, drop, Option, Some, None, MatchOption}
-use Rattle.std.proofs.Common.{IsSomeAnd, refl, sym, ap, subst, ◌∙◌, arith, drop-drop, if◌then◌else◌}
-use Rattle.std.proofs.lemmas.Bool.{cases_lt}
-use Rattle.std.specs.Option.{option_and_then}
-use Rattle.first_pass_items.specs.OptionWords.{has, footnotes, gfm_footnotes}
+use Rattle.std.proofs.Common.{◌≡◌, ℕ, ◌+◌, ◌<◌, Bool, true, List, drop, Option, Some, None, MatchOption}
+use Rattle.std.proofs.Common.{IsSomeAnd, refl, sym, ap, subst, ◌∙◌, arith}
+use Rattle.first_pass_items.specs.OptionWords.{gfm_footnotes}
 use Rattle.first_pass_tree.specs.Forest.{in_table}
 use Rattle.first_pass_lines.specs.Lines.{line_len}
-use Rattle.first_pass_lines.specs.Rest.{indent}
 use Rattle.first_pass_lines.specs.Places.{Place, offset, line_end, IsPlaceOf}
-use Rattle.first_pass_lines.proofs.LineFacts.{line_len-inside}
 use Rattle.first_pass_lines.proofs.PlaceFacts.{place_length}
-use Rattle.first_pass_links.specs.Labels.{label_at}
-use Rattle.first_pass_links.specs.Footnotes.{begins_footnote_mark, head_after, footnote_head}
+use Rattle.first_pass_links.specs.Footnotes.{footnote_head}
 use Rattle.first_pass_grammar.specs.Containers.{Context}
 use Rattle.first_pass_grammar.specs.Kinds.{unindented}
 use Rattle.first_pass_grammar.specs.Leaves.{document}
-use Rattle.first_pass_grammar.specs.Footnotes.{footnote_prefix, footnote_at, footnote_head_at}
+use Rattle.first_pass_grammar.specs.Footnotes.{footnote_prefix, footnote_at}
 use Rattle.first_pass_open.proofs.PlaceLemmas.{all_keep, line_start_end}
 use Rattle.first_pass_blocks.specs.declared.state.BlockPass.{BlockPass}
-use Rattle.first_pass_blocks.specs.FootnoteHeads.{footnote_mark_at, head_read, OpenedFootnote, after_head, IsAfterHead, TriesFootnote}
+use Rattle.first_pass_containers.specs.FootnoteHeads.{footnote_mark_at, head_read, after_head, IsAfterHead}
+use Rattle.first_pass_blocks.specs.OpenedFootnotes.{OpenedFootnote, TriesFootnote}
 use Rattle.first_pass_blocks.specs.Views.{context_in, state_of, source_of, source_text, tree_of}
-use Rattle.first_pass_blocks.proofs.Openings.HeadLemmas.{head_after_is}
+use Rattle.first_pass_containers.proofs.Openings.HeadLemmas.{head_after_is, head_at_mark, line_after}
 use Rattle.first_pass_lists.proofs.NoEmptyItem.{footnote_begun_none}
 use Rattle.first_pass_blocks.proofs.Openings.FootnoteSteps.{passes_note}
-use Rattle.first_pass_blocks.proofs.Order.OrderSteps.{unindented_later}
-use Rattle.first_pass_blocks.proofs.StateAt.{IsAt}
-
-no_mark_by : (t u v : Bool) (n : ℕ) (o : Option (ℕ × List ℕ)) → (if t && (u && v) then Some n else None) ≡ None
-    → (if t && u then (if v then o else None) else None) ≡ None
-no_mark_by true true true n o h = cc
-no_mark_by true true false n o h = refl
-no_mark_by true false v n o h = refl
-no_mark_by false u v n o h = refl
-
--- without a `[^` none begins
-pub no_mark : (around : Context) (p : Place) → footnote_mark_at around.options p ≡ None → footnote_head_at around p ≡ None
-unfolding footnote_head_at footnote_head
-no_mark around p h =
-    no_mark_by (has around.options footnotes) (nat_lt (indent p.rest) 4) (begins_footnote_mark (unindented p).rest.left) (offset (unindented p))
-    (option_and_then (head_after (drop 2 (unindented p).rest.left)) (label_at (footnote_prefix around) false (drop 2 (unindented p).rest.left))) h
-
-marked_by : (t u v : Bool) (at n : ℕ) → (if t && (u && v) then Some at else None) ≡ Some n → (at ≡ n) × ((t && u) ≡ true)
-marked_by true true true at n h = let same : at ≡ n = cc in (same, refl)
-marked_by true true false at n h = cc
-marked_by true false v at n h = cc
-marked_by false u v at n h = cc
-
-if_true : (t : Bool) (o : Option (ℕ × List ℕ)) → t ≡ true → (if t then o else None) ≡ o
-if_true true o h = refl
-if_true false o h = cc
-
--- with a `[^`, the bytes there decide whether one begins
-pub head_at_mark : (text : List ℕ) (around : Context) (p : Place) (n : ℕ) → IsPlaceOf text (unindented p) → footnote_mark_at around.options p ≡ Some n
-    → (offset (unindented p) ≡ n) × (footnote_head_at around p ≡ footnote_at false around (drop n text)) × ((unindented p).rest.left ≡ drop n text)
-unfolding footnote_head_at
-head_at_mark text around p n i h =
-    let m = marked_by (has around.options footnotes) (nat_lt (indent p.rest) 4) (begins_footnote_mark (unindented p).rest.left) (offset (unindented p)) n h in
-    let left : (unindented p).rest.left ≡ drop n text = i.left ∙ ap (λ (k : ℕ). drop k text) m.0 in (
-      m.0,
-      if_true (has around.options footnotes && nat_lt (indent p.rest) 4) (footnote_at false around (unindented p).rest.left) m.1
-          ∙ ap (footnote_at false around) left,
-      left,
-    )
+use Rattle.first_pass_containers.proofs.Order.OrderSteps.{unindented_later}
+use Rattle.first_pass_containers.proofs.StateAt.{IsAt}
 
 -- a footnote definition is open at an offset, with the length of its head as read
 abbrev pub IsRead : BlockPass → BlockPass → ℕ → ℕ × List ℕ → ℕ → Type 0
@@ -78,18 +37,6 @@ pub some_found : (N : Type 0) (P : ℕ × List ℕ → ℕ → Type 0) (o : Opti
     → MatchOption o ((size ≡ None) × N) (λ head. IsSomeAnd size (P head)) → (head : ℕ × List ℕ) × (o ≡ Some head) × P head n
 some_found N P None size n is says = let z : None ≡ Some n = sym says.0 ∙ is in cc
 some_found N P (Some head) size n is says = (head, refl, subst (λ (z : Option ℕ). IsSomeAnd z (P head)) is says)
-
--- a later offset is not in an earlier line
-line_after : (text : List ℕ) (s e : ℕ) → s ≤ e → s + line_len (drop s text) ≤ e + line_len (drop e text)
-line_after text s e low =
-    let k : ℕ = e - s in
-    let at : s + k ≡ e = omega arith in
-    let same : drop k (drop s text) ≡ drop e text = drop-drop k s text ∙ ap (λ (n : ℕ). drop n text) at in
-    let size = ap line_len same in
-    elim (cases_lt k (line_len (drop s text))) [
-      | inl less ↦ (let inside = line_len-inside (drop s text) k less in omega arith)
-      | inr more ↦ omega arith
-    ]
 
 -- The head of a footnote definition is at an offset, after the indentation of a place. More than three bytes of it are read.
 pub record HeadFound (pass : BlockPass) (p : Place) (start n : ℕ) (head : ℕ × List ℕ) : Type 0 where

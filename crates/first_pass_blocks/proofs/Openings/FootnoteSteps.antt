@@ -24,18 +24,18 @@ use Rattle.first_pass_lists.specs.Closing.{top_body, is_list, empty_item_closed,
 use Rattle.first_pass_lists.specs.declared.state.PassState.{PassState}
 use Rattle.first_pass_blocks.specs.declared.state.BlockPass.{BlockPass}
 use Rattle.first_pass_ready.specs.State.{ReadyAt}
-use Rattle.first_pass_blocks.specs.Positions.{line_or, OrderedUpTo, OrderedIn, InLine}
+use Rattle.first_pass_containers.specs.Positions.{line_or, OrderedUpTo, OrderedIn, InLine}
 use Rattle.first_pass_blocks.specs.Progress.{PassesTo}
-use Rattle.first_pass_blocks.specs.FootnoteHeads.{OpenedFootnote}
+use Rattle.first_pass_blocks.specs.OpenedFootnotes.{OpenedFootnote}
 use Rattle.first_pass_blocks.specs.Views.{allocs_of, state_of, source_of, source_text, tree_of}
 use Rattle.first_pass_blocks.proofs.LinkDefinitions.WrittenLemmas.{footnote_written, HeadAt}
 use Rattle.first_pass_ready.proofs.FootnoteLemmas.{after_note, note_is_open}
-use Rattle.first_pass_blocks.proofs.Order.OrderSteps.{line_or-below, ordered_on, ordered_note_in, top_begun, unindented_later}
+use Rattle.first_pass_containers.proofs.Order.OrderSteps.{line_or-below, ordered_on, ordered_note_in, top_begun, unindented_later}
 use Rattle.first_pass_order.proofs.CountLemmas.{note_count}
 use Rattle.first_pass_order.proofs.NamedLemmas.{note_named}
 use Rattle.first_pass_order.proofs.WholeKept.{note_whole, more_whole}
 use Rattle.first_pass_ready.proofs.BegunLemmas.{no_table}
-use Rattle.first_pass_blocks.proofs.StateAt.{IsAt}
+use Rattle.first_pass_containers.proofs.StateAt.{IsAt}
 
 module _ (old new : BlockPass) (p q : Place) (head : ℕ × List ℕ) (is_at : IsAt (source_text old) (state_of old) p) (same : source_of new ≡ source_of old)
     (opened : OpenedFootnote (offset (unindented p)) head old new)

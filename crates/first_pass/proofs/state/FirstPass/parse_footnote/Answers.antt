@@ -1,6 +1,6 @@
 use Rattle.std.proofs.Common.{◌≤◌, ℕ, Option, Some, None, IfSome, IsCharBoundary, refl}
 use Rattle.first_pass_blocks.specs.declared.state.BlockPass.{BlockPass}
-use Rattle.first_pass_blocks.specs.FootnoteHeads.{StaysSame, ReadsFootnote}
+use Rattle.first_pass_blocks.specs.OpenedFootnotes.{StaysSame, ReadsFootnote}
 use Rattle.first_pass_order.specs.Ordered.{IsReadTo}
 use Rattle.first_pass_blocks.specs.Views.{state_of, source_text}
 use Rattle.first_pass_lists.proofs.NoEmptyItem.{footnote_begun_none}

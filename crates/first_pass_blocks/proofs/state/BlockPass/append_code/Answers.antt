@@ -6,7 +6,7 @@ use Rattle.first_pass_lines.proofs.PlaceFacts.{columns_keep, columns_line_end, c
 use Rattle.first_pass_raw.specs.RawBlocks.{after_line_at}
 use Rattle.first_pass_open.proofs.PlaceLemmas.{read_to}
 use Rattle.first_pass_ready.proofs.EnterLemmas.{blank_columns}
-use Rattle.first_pass_blocks.proofs.Order.OrderSteps.{offset_later}
+use Rattle.first_pass_containers.proofs.Order.OrderSteps.{offset_later}
 use Rattle.first_pass_names.specs.TableEntries.{names_of}
 use Rattle.first_pass_kinds.specs.declared.kinds.MarkedLeaf.TheVariants.{IndentedCode}
 use Rattle.first_pass_blocks.proofs.Leaves.LeafAdded.{found_says}

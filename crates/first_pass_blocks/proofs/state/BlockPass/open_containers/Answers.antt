@@ -1,10 +1,10 @@
 use Rattle.std.proofs.Common.{refl, subst}
 use Rattle.first_pass_lines.specs.Places.{Place}
 use Rattle.first_pass_blocks.specs.declared.state.BlockPass.{BlockPass}
-use Rattle.first_pass_blocks.specs.Positions.{InLine, LeafAt}
-use Rattle.first_pass_blocks.specs.Starts.{BeginsNoContainer}
+use Rattle.first_pass_containers.specs.Positions.{InLine, LeafAt}
+use Rattle.first_pass_containers.specs.Starts.{BeginsNoContainer}
 use Rattle.first_pass_blocks.proofs.LineByLine.BlockRead.{passes_state}
-use Rattle.first_pass_blocks.proofs.Openings.NoContainer.{only_leaf}
+use Rattle.first_pass_containers.proofs.Openings.NoContainer.{only_leaf}
 use Rattle.first_pass_blocks.proofs.state.BlockPass.open_containers.Goals as goal
 
 -- the next byte begins no container

@@ -3,9 +3,11 @@ use Rattle.first_pass_grammar.specs.Footnotes.{footnote_at}
 use Rattle.first_pass_open.specs.declared.source.Source.{Source}
 use Rattle.first_pass_open.proofs.PlaceLemmas.{all_keep}
 use Rattle.first_pass_blocks.specs.declared.state.BlockPass.{BlockPass}
-use Rattle.first_pass_blocks.specs.FootnoteHeads.{StaysSame, IsAfterHead}
+use Rattle.first_pass_containers.specs.FootnoteHeads.{IsAfterHead}
+use Rattle.first_pass_blocks.specs.OpenedFootnotes.{StaysSame}
 use Rattle.first_pass_blocks.specs.Views.{context_in}
-use Rattle.first_pass_blocks.proofs.Openings.FootnoteFound.{IsRead, no_mark, head_at_mark, none_found, some_found, footnote_opened}
+use Rattle.first_pass_containers.proofs.Openings.HeadLemmas.{no_mark, head_at_mark}
+use Rattle.first_pass_blocks.proofs.Openings.FootnoteFound.{IsRead, none_found, some_found, footnote_opened}
 use Rattle.first_pass_blocks.proofs.state.BlockPass.open_footnote.Goals as goal
 use Rattle.first_pass_blocks.proofs.state.BlockPass.open_footnote.Goals.{In-Some-2}
 

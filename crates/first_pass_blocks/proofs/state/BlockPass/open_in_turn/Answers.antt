@@ -11,17 +11,17 @@ use Rattle.first_pass_open.specs.declared.source.Source.{Source}
 use Rattle.first_pass_lists.specs.declared.state.PassState.{PassState}
 use Rattle.first_pass_grammar.specs.declared.kind.AfterMarker.{AfterMarker}
 use Rattle.first_pass_grammar.specs.declared.kind.AfterMarker.TheVariants.{OnLine, TaskText, LineEnds, OnlyTag}
-use Rattle.first_pass_blocks.specs.declared.openers.Start.{Start}
+use Rattle.first_pass_containers.specs.declared.openers.Start.{Start}
 use Rattle.first_pass_blocks.specs.declared.state.BlockPass.{BlockPass}
-use Rattle.first_pass_blocks.specs.FootnoteHeads.{StaysSame, TriesFootnote}
-use Rattle.first_pass_blocks.specs.Positions.{Position, InLine, LeafAt, IsNotBefore, ReadsTo, may_define}
+use Rattle.first_pass_blocks.specs.OpenedFootnotes.{StaysSame, TriesFootnote}
+use Rattle.first_pass_containers.specs.Positions.{Position, InLine, LeafAt, IsNotBefore, ReadsTo, may_define}
 use Rattle.first_pass_blocks.specs.Progress.{PassesTo}
-use Rattle.first_pass_blocks.specs.Starts.{StartMatches, start_opened, after_at, last_at, IsAfterMarker, BeginsNoContainer}
+use Rattle.first_pass_containers.specs.Starts.{StartMatches, start_opened, after_at, last_at, IsAfterMarker, BeginsNoContainer}
 use Rattle.first_pass_blocks.specs.Views.{state_of, source_of, tree_of, source_options, source_text}
 use Rattle.first_pass_blocks.proofs.LineByLine.BlockRead.{passes_state, passes_both}
-use Rattle.first_pass_blocks.proofs.Openings.NoContainer.{only_leaf}
-use Rattle.first_pass_blocks.proofs.Openings.StartLemmas.{start_opens, no_start, opened_start, reads_none}
-use Rattle.first_pass_blocks.proofs.Openings.StartFound.{start_found, start_missing}
+use Rattle.first_pass_containers.proofs.Openings.NoContainer.{only_leaf}
+use Rattle.first_pass_containers.proofs.Openings.StartLemmas.{start_opens, no_start, opened_start, reads_none}
+use Rattle.first_pass_containers.proofs.Openings.StartFound.{start_found, start_missing}
 use Rattle.first_pass_blocks.proofs.state.BlockPass.open_in_turn.Goals as goal
 use Rattle.first_pass_blocks.proofs.state.BlockPass.open_in_turn.Goals.{Then-not-branch, Joined-not-branch}
 use Rattle.first_pass_blocks.proofs.state.BlockPass.open_in_turn.Goals.{then-not-branch+in-Some+in_ok-open_start+in-OnLine, else-not-branch}

@@ -1,5 +1,5 @@
 use Rattle.std.proofs.Common.{◌≡◌, length, None}
-use Rattle.first_pass_blocks.specs.Positions.{InLine, IsNotBefore}
+use Rattle.first_pass_containers.specs.Positions.{InLine, IsNotBefore}
 use Rattle.first_pass_blocks.specs.Progress.{PassesTo}
 use Rattle.first_pass_blocks.proofs.state.BlockPass.open_in_turn.Given as goal
 

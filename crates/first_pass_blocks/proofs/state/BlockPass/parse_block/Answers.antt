@@ -7,12 +7,12 @@ use Rattle.first_pass_lists.specs.declared.state.PassState.{PassState}
 use Rattle.first_pass_grammar.specs.declared.kind.AfterMarker.{AfterMarker}
 use Rattle.first_pass_grammar.specs.declared.kind.AfterMarker.TheVariants.{OnLine, TaskText, OnlyTag}
 use Rattle.first_pass_blocks.specs.declared.state.BlockPass.{BlockPass}
-use Rattle.first_pass_blocks.specs.Entering.{EntersLine}
-use Rattle.first_pass_blocks.specs.Positions.{LineAt, InLine, LeafAt, TaskAt, TaggedAt}
+use Rattle.first_pass_containers.specs.Entering.{EntersLine}
+use Rattle.first_pass_containers.specs.Positions.{LineAt, InLine, LeafAt, TaskAt, TaggedAt}
 use Rattle.first_pass_blocks.specs.Progress.{PassesTo, ReadsBlockOf}
-use Rattle.first_pass_blocks.specs.Starts.{last_at, IsAfterMarker}
+use Rattle.first_pass_containers.specs.Starts.{last_at, IsAfterMarker}
 use Rattle.first_pass_blocks.proofs.LineByLine.BlockRead.{IsOpenedFrom, opened_line, place_between, block_read, line_passed, line_ended, passes_state}
-use Rattle.first_pass_blocks.proofs.Order.OrderSteps.{line_later}
+use Rattle.first_pass_containers.proofs.Order.OrderSteps.{line_later}
 use Rattle.first_pass_blocks.proofs.state.BlockPass.parse_block.Goals as goal
 use Rattle.first_pass_blocks.proofs.state.BlockPass.parse_block.Goals.{In_ok-open_containers}
 

@@ -5,19 +5,19 @@ use Rattle.first_pass_grammar.specs.Kinds.{unindented}
 use Rattle.first_pass_names.specs.TableEntries.{tables_of, names_of}
 use Rattle.first_pass_lists.specs.Closing.{is_after_definition, list_finished}
 use Rattle.first_pass_lists.proofs.NoEmptyItem.{list_finished_none}
-use Rattle.first_pass_blocks.proofs.LineByLine.HandedOn.{list_finished_blank}
+use Rattle.first_pass_containers.proofs.LineByLine.HandedOn.{list_finished_blank}
 use Rattle.first_pass_lists.specs.declared.state.PassState.{PassState}
 use Rattle.first_pass_blocks.specs.Views.{context_in}
 use Rattle.first_pass_open.specs.declared.source.Source.{Source}
 use Rattle.first_pass_open.proofs.PlaceLemmas.{all_keep}
 use Rattle.first_pass_tree.specs.Forest.{in_table}
-use Rattle.first_pass_blocks.specs.TextsAdded.{AddsText}
+use Rattle.first_pass_containers.specs.TextsAdded.{AddsText}
 use Rattle.first_pass_open.specs.Between.{AddsBetween}
 use Rattle.first_pass_blocks.specs.Runs.{ReadsRun}
 use Rattle.first_pass_blocks.proofs.Leaves.LeafAdded.{found_boundary}
 use Rattle.first_pass_blocks.proofs.Leaves.TextLemmas.{run_line, run_text, run_title, plain_text}
 use Rattle.first_pass_blocks.proofs.state.BlockPass.parse_definitions_or_text.Goals as goal
-use Rattle.first_pass_blocks.proofs.StateAt.{IsAt}
+use Rattle.first_pass_containers.proofs.StateAt.{IsAt}
 
 pub parse_definitions-requires-clause-boundary : goal.parse_definitions-requires-clause-boundary
 parse_definitions-requires-clause-boundary c = found_boundary _ _ _ c.requires.utf8 c.requires.place c.requires.at

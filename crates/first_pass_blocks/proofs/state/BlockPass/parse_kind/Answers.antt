@@ -15,20 +15,20 @@ use Rattle.first_pass_kinds.specs.declared.kinds.MarkedLeaf.{MarkedLeaf}
 use Rattle.first_pass_kinds.proofs.KindLemmas.{Says, kind_says}
 use Rattle.first_pass_blocks.specs.Adding.{AddsLeaf}
 use Rattle.first_pass_order.specs.Ordered.{IsReadTo}
-use Rattle.first_pass_blocks.specs.Positions.{line_or}
+use Rattle.first_pass_containers.specs.Positions.{line_or}
 use Rattle.first_pass_ready.specs.State.{Ready}
 use Rattle.first_pass_order.proofs.CountLemmas.{count, blank_count}
-use Rattle.first_pass_blocks.proofs.LineByLine.HandedOn.{list_finished_blank}
+use Rattle.first_pass_containers.proofs.LineByLine.HandedOn.{list_finished_blank}
 use Rattle.first_pass_blocks.proofs.Leaves.HtmlRead.{html_stands, html_read}
 use Rattle.first_pass_blocks.proofs.Leaves.KindBlocks.{marked_some, marked_other, marked_no_run, columns_are, AddsHtml}
 use Rattle.first_pass_blocks.proofs.Leaves.LeafAdded.{found_boundary}
-use Rattle.first_pass_blocks.proofs.Leaves.LeafLemmas.{ready_blank_leaf, line_end_of}
+use Rattle.first_pass_containers.proofs.Leaves.LeafLemmas.{ready_blank_leaf, line_end_of}
 use Rattle.first_pass_blocks.proofs.Leaves.LeafRead.{leaf_read}
 use Rattle.first_pass_lists.proofs.NoEmptyItem.{list_finished_none}
 use Rattle.first_pass_order.proofs.NamedLemmas.{AreReadNamed, blank_named}
 use Rattle.first_pass_order.proofs.OrderLemmas.{ordered_none}
 use Rattle.first_pass_order.proofs.PopOrder.{read_blank_read}
-use Rattle.first_pass_blocks.proofs.Order.OrderSteps.{line_or-below, place_before_end}
+use Rattle.first_pass_containers.proofs.Order.OrderSteps.{line_or-below, place_before_end}
 use Rattle.first_pass_order.proofs.WholeKept.{IsReadWhole, blank_whole}
 use Rattle.first_pass_blocks.proofs.state.BlockPass.parse_kind.Goals as goal
 

@@ -11,13 +11,13 @@ use Rattle.first_pass_grammar.specs.Leaves.{document}
 use Rattle.first_pass_grammar.specs.Completion.{lines_from}
 use Rattle.first_pass_lists.specs.declared.state.PassState.{PassState}
 use Rattle.first_pass_open.specs.Path.{path_of}
-use Rattle.first_pass_blocks.specs.Positions.{ReadyLazy}
+use Rattle.first_pass_containers.specs.Positions.{ReadyLazy}
 use Rattle.first_pass_open.proofs.PlaceLemmas.{text_place}
 use Rattle.first_pass_order.proofs.OrderLemmas.{ordered_none}
-use Rattle.first_pass_blocks.proofs.Order.OrderSteps.{ordered_at_place, place_before_end}
+use Rattle.first_pass_containers.proofs.Order.OrderSteps.{ordered_at_place, place_before_end}
 use Rattle.first_pass_names.specs.TableEntries.{tables_of}
 use Rattle.first_pass_names.proofs.NameLemmas.{extends_none}
-use Rattle.first_pass_blocks.proofs.Openings.TagLemmas.{ready_any_line, ready_its_line}
+use Rattle.first_pass_containers.proofs.Openings.TagLemmas.{ready_any_line, ready_its_line}
 use Rattle.first_pass_blocks.proofs.state.BlockPass.parse_tagged.Goals as goal
 
 -- the property of the first line of some bytes, in terms of the text

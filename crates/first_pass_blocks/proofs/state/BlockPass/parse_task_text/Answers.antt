@@ -7,7 +7,7 @@ use Rattle.first_pass_lists.specs.declared.state.PassState.{PassState}
 use Rattle.first_pass_ready.specs.State.{Ready}
 use Rattle.first_pass_open.proofs.PlaceLemmas.{all_keep, read_to}
 use Rattle.first_pass_order.proofs.CountLemmas.{block_count}
-use Rattle.first_pass_blocks.proofs.Order.OrderSteps.{ordered_text, unindented_later}
+use Rattle.first_pass_containers.proofs.Order.OrderSteps.{ordered_text, unindented_later}
 use Rattle.first_pass_lines.specs.Places.{offset}
 use Rattle.first_pass_open.specs.Between.{AddsBetween, MarkerBetween}
 use Rattle.first_pass_names.specs.TableEntries.{tables_of, tables_in, names_of}
@@ -16,8 +16,8 @@ use Rattle.first_pass_names.proofs.NameLemmas.{extends_none}
 use Rattle.first_pass_grammar.proofs.Names.TextsNamed.{text_named}
 use Rattle.first_pass_order.proofs.NamedLemmas.{block_added, task_is_no_text, task_has_none}
 use Rattle.first_pass_order.proofs.WholeKept.{task_shows, kept_of, block_whole, added_text_whole}
-use Rattle.first_pass_blocks.proofs.Leaves.FirstItems.{text_silent_first}
-use Rattle.first_pass_blocks.proofs.Leaves.LeafLemmas.{line_end_of, ready_text}
+use Rattle.first_pass_containers.proofs.Leaves.FirstItems.{text_silent_first}
+use Rattle.first_pass_containers.proofs.Leaves.LeafLemmas.{line_end_of, ready_text}
 use Rattle.first_pass_blocks.proofs.state.BlockPass.parse_task_text.Goals as goal
 
 pub offset-requires : goal.offset-requires

@@ -1,5 +1,0 @@
-use Rattle.first_pass_blocks.proofs.ReadyStates.ReadyCompleted.{ready_completed}
-use Rattle.first_pass_blocks.proofs.laws.ready_is_completed.Goals as goal
-
-pub returns : goal.returns
-returns c = ready_completed

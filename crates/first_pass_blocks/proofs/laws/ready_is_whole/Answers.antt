@@ -1,5 +1,0 @@
-use Rattle.first_pass_blocks.proofs.ReadyStates.ReadyWhole.{ready_whole}
-use Rattle.first_pass_blocks.proofs.laws.ready_is_whole.Goals as goal
-
-pub returns : goal.returns
-returns c = ready_whole

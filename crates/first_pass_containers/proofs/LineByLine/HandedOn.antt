@@ -1,0 +1,93 @@
+-- A line that is entered. At a blank line a block may have ended after the prefixes of the containers; such a line
+-- closes no container.
+use Rattle.std.proofs.Common.{◌≡◌, inl, inr, ℕ, ◌+◌, ◌<◌, ◌≤◌, Bool, true, false, List, length, drop, Some, None, IsUtf8}
+use Rattle.std.proofs.Common.{IsCharBoundary}
+use Rattle.std.proofs.Common.{refl, sym, ap, subst, ◌∙◌, arith}
+use Rattle.std.proofs.lemmas.Bool.{cases_lt}
+use Rattle.first_pass_items.specs.declared.item.Item.{Item}
+use Rattle.first_pass_tree.specs.Forest.{Forest, IsForest, added, at_depth}
+use Rattle.first_pass_lines.specs.Lines.{line_len}
+use Rattle.first_pass_lines.specs.Rest.{Rest}
+use Rattle.first_pass_lines.specs.Places.{place_at, line_rest, offset, line_end}
+use Rattle.first_pass_lines.proofs.LineFacts.{line_len-within}
+use Rattle.first_pass_lines.proofs.PlaceFacts.{line_is_place}
+use Rattle.first_pass_grammar.specs.Containers.{after, in_old_footnote}
+use Rattle.first_pass_grammar.specs.Kinds.{is_blank_rest}
+use Rattle.first_pass_open.specs.Path.{path_in, path_of, outer}
+use Rattle.first_pass_open.proofs.FrontLemmas.{outer-all}
+use Rattle.first_pass_open.proofs.PathLemmas.{open_are_in, path_in-append}
+use Rattle.first_pass_open.proofs.PlaceLemmas.{after_keeps, line_start_end}
+use Rattle.first_pass_lists.specs.Closing.{top_body, is_list, list_closed, empty_item_closed, gap_marked, list_finished, blank_read}
+use Rattle.first_pass_lists.specs.declared.state.PassState.{PassState}
+use Rattle.first_pass_order.specs.Ordered.{IsHandedOn, AreNested, IsReadTo, IsReadFrom}
+use Rattle.first_pass_containers.specs.Positions.{OrderedUpTo}
+use Rattle.first_pass_order.proofs.Nests.{tree_closes}
+use Rattle.first_pass_order.proofs.OrderLemmas.{ordered_none}
+use Rattle.first_pass_order.proofs.PopOrder.{read_blank_read, read_empty_item_closed}
+use Rattle.first_pass_containers.proofs.Order.OrderSteps.{ordered_tree, place_before_end}
+use Rattle.first_pass_lists.proofs.NoEmptyItem.{finished_none}
+use Rattle.first_pass_items.specs.declared.option_set.Options.{Options}
+
+-- an added block changes no path
+pub path_added : (options : Options) (f : Forest Item) (items : List (ℕ × Item)) → IsForest f → path_of options (added f items) ≡ path_of options f
+path_added options f items forest = path_in-append options f.nodes (at_depth (length f.spine + 1) items) f.spine (open_are_in f.nodes f.spine forest.opened)
+
+-- a new block leaves no counting blank line
+noted_blank : (r : PassState) (t : Bool) → r.blank ≡ t → (gap_marked r).blank ≡ false
+noted_blank r true is = rw is refl
+noted_blank r false is = rw is refl
+
+pub list_finished_blank : (at : ℕ) (r : PassState) → (list_finished at r).blank ≡ false
+unfolding list_finished
+list_finished_blank at r = noted_blank (list_closed at (empty_item_closed r)) (list_closed at (empty_item_closed r)).blank refl
+
+-- Such a line continues all open containers, and its rest is blank.
+pub handed_whole : (options : Options) (text : List ℕ) (r : PassState) (at kept : ℕ) (line left : Rest)
+    → line ≡ line_rest (drop at text) → kept ≤ length r.tree.spine → after (path_in options r.tree.nodes (outer kept r.tree.spine)) line ≡ Some left
+    → ((m : ℕ) → kept < m → m ≤ length r.tree.spine → after (path_in options r.tree.nodes (outer m r.tree.spine)) line ≡ None) → IsHandedOn options text r at
+    → (kept ≡ length r.tree.spine) × (is_blank_rest left ≡ true)
+handed_whole options text r at kept line left is within took stops h =
+    let ns = r.tree.nodes in
+    let spine = r.tree.spine in
+    let all : after (path_in options ns (outer (length spine) spine)) line ≡ Some h.rest =
+    ap (λ z. after (path_in options ns z) line) (outer-all spine) ∙ ap (after (path_of options r.tree)) is ∙ h.taken in
+    elim (cases_lt kept (length spine)) [
+      | inl less ↦ (let none = stops (length spine) less (omega arith) in cc)
+      | inr more ↦
+          (let same : kept ≡ length spine = omega arith in
+          let here : after (path_in options ns (outer (length spine) spine)) line ≡ Some left =
+          subst (λ k. after (path_in options ns (outer k spine)) line ≡ Some left) same took in
+          let rest_is : h.rest ≡ left = cc in
+          (same, ap is_blank_rest (sym rest_is) ∙ h.blank))
+    ]
+
+-- After such a blank line is read, the state is in order up to its end.
+handed_read : (options : Options) (text : List ℕ) (r : PassState) (at : ℕ)
+    → IsUtf8 text → IsCharBoundary text at → IsHandedOn options text r at → AreNested r.tree.nodes r.tree.spine → is_list (top_body r.tree) ≡ false
+    → IsReadTo text (blank_read r) (at + line_len (drop at text))
+handed_read options text r at u b h nested plain =
+    let k = after_keeps text at (path_of options r.tree) (line_rest (drop at text)) h.rest u h.taken (line_is_place text at b) in
+    let ends : line_end (place_at at h.rest) ≡ at + line_len (drop at text) = k.1 ∙ line_start_end text at in
+    let before = place_before_end (place_at at h.rest) in
+    let within = (line_len-within text at h.within).1 in
+    read_blank_read text r (offset (place_at at h.rest)) (at + line_len (drop at text)) (omega arith) within
+    (ordered_none text r (offset (place_at at h.rest)) h.none (omega arith) h.ordered, tree_closes text r.tree (offset (place_at at h.rest)) nested plain)
+
+-- A line is entered after the containers that it does not continue were closed: a blank line is read,
+pub ordered_blank_line : (options : Options) (text : List ℕ) (old closed : PassState) (at : ℕ) → IsUtf8 text → at < length text → IsCharBoundary text at
+    → (IsReadTo text old at → IsReadTo text closed at)
+    → (IsHandedOn options text old at → (in_old_footnote (path_of options old.tree) ≡ true → old.blank ≡ false) → closed ≡ old)
+    → IsReadFrom options text old at → IsReadTo text (blank_read closed) (at + line_len (drop at text))
+ordered_blank_line options text old closed at u w b closes same (inl o) =
+    let n = line_len-within text at w in
+    read_blank_read text closed at (at + line_len (drop at text)) (omega arith) n.1 (closes o)
+ordered_blank_line options text old closed at u w b closes same (inr (h, nested, plain, uncounted)) =
+    subst (λ r. IsReadTo text (blank_read r) (at + line_len (drop at text))) (sym (same h uncounted)) (handed_read options text old at u b h nested plain)
+
+-- and before any other line, at which no block has ended in this way, an empty item that blank lines ended is closed.
+pub ordered_other_line : (options : Options) (text : List ℕ) (old closed : PassState) (at : ℕ) → (IsReadTo text old at → IsReadTo text closed at)
+    → (IsHandedOn options text old at → ⊥) → IsReadFrom options text old at → OrderedUpTo text (empty_item_closed closed).tree at
+ordered_other_line options text old closed at closes none (inl o) =
+    let read = read_empty_item_closed text closed at (closes o) in
+    (ordered_tree text (empty_item_closed closed) at (finished_none closed) read.0, read.1)
+ordered_other_line options text old closed at closes none (inr h) = absurd (none h.0)

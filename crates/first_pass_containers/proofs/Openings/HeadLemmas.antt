@@ -1,0 +1,226 @@
+-- The place where blocks continue after the head of a footnote definition, and the contents of a head that is read.
+use Rattle.std.proofs.Common.{◌≡◌, ℕ, ◌+◌, ◌-◌, ◌<◌, ◌≤◌, nat_lt, Bool, true, false, List, [], ◌∷◌, length, drop, Option, Some, None, is_some, IsUtf8}
+use Rattle.std.proofs.Common.{IsCharBoundary, slice_index, refl, sym, ap, subst, ◌∙◌, arith, length-drop, if◌then◌else◌, inl, inr, ◌&&◌}
+use Rattle.std.proofs.lemmas.Bool.{eqb-true, cases_lt}
+use Rattle.std.proofs.lemmas.List.{drop-drop, get_or-drop}
+use Rattle.std.specs.List.{prefix_len}
+use Rattle.first_pass_items.specs.Bytes.{colon}
+use Rattle.first_pass_items.specs.OptionWords.{gfm_footnotes, has, footnotes}
+use Rattle.first_pass_lines.specs.Rest.{indent}
+use Rattle.first_pass_links.specs.Labels.{label_at}
+use Rattle.first_pass_links.specs.Footnotes.{begins_footnote_mark, head_after, footnote_head}
+use Rattle.first_pass_grammar.specs.Leaves.{Document}
+use Rattle.first_pass_grammar.specs.LinkRuns.{lines_beyond}
+use Rattle.first_pass_containers.proofs.LinesBeyond.{lines_after_it}
+use Rattle.first_pass_ready.proofs.FootnoteLemmas.{after_note}
+use Rattle.std.proofs.lemmas.Bool.Decides.{nat_tests}
+use Rattle.std.specs.Option.{unwrap_or, option_and_then}
+use Rattle.first_pass_lines.specs.Lines.{begins, is_line_end, is_white, blank_len, line_len}
+use Rattle.first_pass_lines.specs.Places.{Place, offset, line_place, line_end, IsPlaceOf}
+use Rattle.first_pass_lines.proofs.LineFacts.{line_len-blank, lines_at-line, lines_at-end, line_len-inside}
+use Rattle.first_pass_lines.proofs.PlaceFacts.{place_length, columns_line_end, bytes_line_end, line_end_boundary}
+use Rattle.first_pass_open.proofs.PlaceLemmas.{all_keep, line_start_end}
+use Rattle.first_pass_grammar.specs.Kinds.{unindented, is_blank_rest}
+use Rattle.first_pass_grammar.specs.Completion.{lines_from}
+use Rattle.first_pass_grammar.specs.Footnotes.{place_past, past_head, footnote_prefix, footnote_at, footnote_head_at}
+use Rattle.first_pass_containers.specs.FootnoteHeads.{head_read, blank_before_more, head_end, after_head, footnote_mark_at}
+use Rattle.first_pass_grammar.proofs.Order.RowEnds.{white_content}
+use Rattle.first_pass_grammar.specs.Containers.{Context}
+
+after_last : (q : Place) (lines : List Place) → lines ≡ [] → past_head false q lines ≡ (q, lines)
+after_last q [] h = refl
+after_last q (line ∷ lines) h = cc
+
+after_some : (q : Place) (lines : List Place) → is_blank_rest q.rest ≡ false → past_head false q lines ≡ (q, lines)
+after_some q [] h = refl
+after_some q (line ∷ lines) h = rw h refl
+
+past_blank : (q line : Place) (rest : List Place) → is_blank_rest q.rest ≡ true → past_head false q (line ∷ rest) ≡ (line, rest)
+past_blank q line rest h = rw h refl
+
+-- blocks continue at an offset after a head that ends at another
+abbrev pub ContinuesAt : Bool → List ℕ → ℕ → ℕ → Type 0
+ContinuesAt gfm text e at =
+    (after_head gfm text e ≡ (head_end text at, lines_from text (line_end (head_end text at))))
+    × (line_end (head_end text e) ≤ line_end (head_end text at)) × IsCharBoundary text at
+
+continues_here : (gfm : Bool) (text : List ℕ) (e skip : ℕ) → IsCharBoundary text e → skip ≡ 0
+    → after_head gfm text e ≡ (head_end text e, lines_from text (line_end (head_end text e))) → ContinuesAt gfm text e (e + skip)
+continues_here gfm text e skip b none h =
+    let same : e ≡ e + skip = omega arith in
+    subst (ContinuesAt gfm text e) same (h, omega arith, b)
+
+continues_next : (text : List ℕ) (e n : ℕ) → IsUtf8 text → IsCharBoundary text e → blank_len (drop e text) ≡ Some n → e + n < length text
+    → ContinuesAt false text e (e + n)
+continues_next text e n u b blank more =
+    let here : Place = head_end text e in
+    let there : Place = head_end text (e + n) in
+    let size : line_len (drop e text) ≡ n = line_len-blank (drop e text) n blank in
+    let stop : line_end here ≡ e + n = line_start_end text e ∙ ap (λ k. e + k) size in
+    let next : line_end there ≡ e + n + line_len (drop (e + n) text) = line_start_end text (e + n) in
+    let lines : lines_from text (line_end here) ≡ there ∷ lines_from text (line_end there) =
+    ap (lines_from text) stop ∙ lines_at-line text (e + n) more ∙ ap (λ k. there ∷ lines_from text k) (sym next) in (
+      ap (past_head false here) lines ∙ past_blank here there (lines_from text (line_end there)) (ap is_some blank),
+      omega arith,
+      subst (λ k. IsCharBoundary text (e + k)) size (line_end_boundary text e u b (omega arith)),
+    )
+
+continues_by : (text : List ℕ) (e skip : ℕ) (o : Option ℕ) (t : Bool) → IsUtf8 text → IsCharBoundary text e → blank_len (drop e text) ≡ o
+    → nat_lt (unwrap_or o 0) (length (drop e text)) ≡ t → skip ≡ (if t then unwrap_or o 0 else 0) → ContinuesAt false text e (e + skip)
+continues_by text e skip None true u b blank less is =
+    continues_here false text e skip b is (after_some (head_end text e) _ (ap is_some blank))
+continues_by text e skip None false u b blank less is =
+    continues_here false text e skip b is (after_some (head_end text e) _ (ap is_some blank))
+continues_by text e skip (Some n) true u b blank less is =
+    let size : length (drop e text) ≡ length text - e = length-drop e text in
+    let low : n < length (drop e text) = grind (arith, nat_tests, less) in
+    subst (λ k. ContinuesAt false text e (e + k)) (sym is) (continues_next text e n u b blank (omega arith))
+continues_by text e skip (Some n) false u b blank less is =
+    let size : length (drop e text) ≡ length text - e = length-drop e text in
+    let high : length (drop e text) ≤ n = grind (arith, nat_tests, less) in
+    let all : line_len (drop e text) ≡ n = line_len-blank (drop e text) n blank in
+    let past : length text ≤ line_end (head_end text e) = (let stop = line_start_end text e in let w = b.0 in omega arith) in
+    continues_here false text e skip b is
+    (after_last (head_end text e) (lines_from text (line_end (head_end text e))) (lines_at-end text (line_end (head_end text e)) past))
+
+pub continues : (gfm : Bool) (text : List ℕ) (e skip : ℕ) → IsUtf8 text → IsCharBoundary text e
+    → skip ≡ (if gfm then 0 else blank_before_more (drop e text)) → ContinuesAt gfm text e (e + skip)
+continues true text e skip u b is = continues_here true text e skip b is refl
+continues false text e skip u b is =
+    continues_by text e skip (blank_len (drop e text)) (nat_lt (unwrap_or (blank_len (drop e text)) 0) (length (drop e text))) u b refl refl is
+
+-- a head ends with its colon, which is no line ending
+first_byte : (c : ℕ) (bs : List ℕ) → begins c bs ≡ true → (slice_index bs 0 ≡ c) × (0 < length bs)
+first_byte c [] h = cc
+first_byte c (b ∷ bs) h = (eqb-true b c h, omega arith)
+
+colon_by : (bs : List ℕ) (n : ℕ) (text : List ℕ) (head : ℕ × List ℕ) (t : Bool) → begins colon (drop n (drop 2 bs)) ≡ t
+    → (if t then Some (n + 3, text) else None) ≡ Some head → (3 ≤ head.0) × (head.0 ≤ length bs) × (slice_index bs (head.0 - 1) ≡ colon)
+colon_by bs n text head false h is = cc
+colon_by bs n text head true h is =
+    let same : (n + 3, text) ≡ head = cc in
+    let size : n + 3 ≡ head.0 = ap (λ (z : ℕ × List ℕ). z.0) same in
+    let rest : drop n (drop 2 bs) ≡ drop (2 + n) bs = drop-drop n 2 bs in
+    let f = first_byte colon (drop (2 + n) bs) (ap (begins colon) (sym rest) ∙ h) in
+    let long : length (drop (2 + n) bs) ≡ length bs - (2 + n) = length-drop (2 + n) bs in
+    let there : (2 + n) + 0 ≡ head.0 - 1 = omega arith in
+    (omega arith, omega arith, ap (slice_index bs) (sym there) ∙ sym (get_or-drop (2 + n) bs 0 0) ∙ f.0)
+
+head_by : (bs : List ℕ) (label : Option (ℕ × List ℕ)) (head : ℕ × List ℕ) (t : Bool)
+    → (if t then option_and_then (head_after (drop 2 bs)) label else None) ≡ Some head
+    → (3 ≤ head.0) × (head.0 ≤ length bs) × (slice_index bs (head.0 - 1) ≡ colon)
+head_by bs label head false is = cc
+head_by bs None head true is = cc
+head_by bs (Some label) head true is = colon_by bs label.0 label.1 head (begins colon (drop label.0 (drop 2 bs))) refl is
+
+head_ends : (prefix : List ℕ → Option ℕ) (nested : Bool) (bs : List ℕ) (head : ℕ × List ℕ) → footnote_head prefix nested bs ≡ Some head
+    → (3 ≤ head.0) × (head.0 ≤ length bs) × (slice_index bs (head.0 - 1) ≡ colon)
+unfolding footnote_head
+head_ends prefix nested bs head is = head_by bs (label_at prefix nested (drop 2 bs)) head (begins_footnote_mark bs) is
+
+-- the offset after the white space that is read with a head
+white_after : (text : List ℕ) (e : ℕ) → (let w : ℕ = prefix_len is_white (drop e text) in
+    (place_past w (head_end text e), lines_from text (line_end (head_end text e))) ≡ after_head true text (e + w))
+white_after text e =
+    let w : ℕ = prefix_len is_white (drop e text) in
+    let q : Place = head_end text e in
+    let z : e + 0 ≡ e = omega arith in
+    let rest : drop w (drop e text) ≡ drop (e + w) text = drop-drop w e text in
+    let place : place_past w q ≡ head_end text (e + w) =
+    ap (λ (n : ℕ). line_place (n + w) (drop w (drop e text))) z ∙ ap (line_place (e + w)) rest in
+    let away = bytes_line_end w q (white_content (drop e text)) in
+    let size = ap line_len rest in
+    let next = line_start_end text (e + w) in
+    let stop : line_end q ≡ line_end (head_end text (e + w)) = omega arith in
+    ap (λ (p : Place). (p, lines_from text (line_end q))) place ∙ ap (λ (n : ℕ). (head_end text (e + w), lines_from text n)) stop
+
+after_by : (gfm : Bool) (text : List ℕ) (e : ℕ) → past_head gfm (head_end text e) (lines_from text (line_end (head_end text e)))
+    ≡ after_head gfm text (head_read gfm e (drop e text))
+after_by true text e = white_after text e
+after_by false text e = refl
+
+read_later : (gfm : Bool) (a n : ℕ) (bs : List ℕ) → head_read gfm (a + n) bs ≡ a + head_read gfm n bs
+read_later true a n bs = omega arith
+read_later false a n bs = refl
+
+-- the place where blocks continue after the head of the footnote definition at a place, as it is read
+pub head_after_is : (d : Document) (p : Place) (prefix : List ℕ → Option ℕ) (nested : Bool) (head : ℕ × List ℕ) (n : ℕ) → IsUtf8 d.text
+    → IsPlaceOf d.text p → footnote_head prefix nested (unindented p).rest.left ≡ Some head
+    → n ≡ head_read (gfm_footnotes d.options) head.0 (drop (offset (unindented p) + head.0) d.text)
+    → after_note d p (lines_from d.text (line_end p)) head.0 ≡ after_head (gfm_footnotes d.options) d.text (offset (unindented p) + n)
+head_after_is d p prefix nested head n u at is n_is =
+    let text : List ℕ = d.text in
+    let gfm : Bool = gfm_footnotes d.options in
+    let h : Place = unindented p in
+    let i : IsPlaceOf text h = all_keep text p.line p.rest u at in
+    let e : ℕ = offset h + head.0 in
+    let ends = head_ends prefix nested h.rest.left head is in
+    let long = place_length text h i in
+    let some = ends.0 in
+    let fits = ends.1 in
+    let within : e ≤ length text = omega arith in
+    let last : offset h + (head.0 - 1) ≡ e - 1 = omega arith in
+    let is_colon : slice_index text (e - 1) ≡ colon =
+    ap (slice_index text) (sym last) ∙ sym (get_or-drop (offset h) text (head.0 - 1) 0) ∙ ap (λ bs. slice_index bs (head.0 - 1)) (sym i.left) ∙ ends.2 in
+    let no_end : is_line_end (slice_index text (e - 1)) ≡ false = ap is_line_end is_colon in
+    let lines = (lines_after_it text h e i (omega arith) within no_end).0 in
+    let same : line_end h ≡ line_end p = columns_line_end (indent p.rest) p in
+    let q : Place = place_past head.0 h in
+    let q_is : q ≡ head_end text e = ap (λ bs. line_place e (drop head.0 bs)) i.left ∙ ap (line_place e) (drop-drop head.0 (offset h) text) in
+    let z : offset (head_end text e) ≡ e = omega arith in
+    let left : lines_beyond (offset q) (lines_from text (line_end p)) ≡ lines_from text (line_end (head_end text e)) =
+    ap (λ (r : Place). lines_beyond (offset r) (lines_from text (line_end p))) q_is
+    ∙ ap (λ (k : ℕ). lines_beyond k (lines_from text (line_end p))) z ∙ ap (λ (k : ℕ). lines_beyond e (lines_from text k)) (sym same)
+    ∙ lines ∙ ap (lines_from text) (sym (line_start_end text e)) in
+    ap (λ (r : Place). past_head gfm r (lines_beyond (offset q) (lines_from text (line_end p)))) q_is
+    ∙ ap (past_head gfm (head_end text e)) left ∙ after_by gfm text e
+    ∙ ap (after_head gfm text) (read_later gfm (offset h) head.0 (drop e text) ∙ ap (λ (k : ℕ). offset h + k) (sym n_is))
+
+no_mark_by : (t u v : Bool) (n : ℕ) (o : Option (ℕ × List ℕ)) → (if t && (u && v) then Some n else None) ≡ None
+    → (if t && u then (if v then o else None) else None) ≡ None
+no_mark_by true true true n o h = cc
+no_mark_by true true false n o h = refl
+no_mark_by true false v n o h = refl
+no_mark_by false u v n o h = refl
+
+-- without a `[^` none begins
+pub no_mark : (around : Context) (p : Place) → footnote_mark_at around.options p ≡ None → footnote_head_at around p ≡ None
+unfolding footnote_head_at footnote_head
+no_mark around p h =
+    no_mark_by (has around.options footnotes) (nat_lt (indent p.rest) 4) (begins_footnote_mark (unindented p).rest.left) (offset (unindented p))
+    (option_and_then (head_after (drop 2 (unindented p).rest.left)) (label_at (footnote_prefix around) false (drop 2 (unindented p).rest.left))) h
+
+marked_by : (t u v : Bool) (at n : ℕ) → (if t && (u && v) then Some at else None) ≡ Some n → (at ≡ n) × ((t && u) ≡ true)
+marked_by true true true at n h = let same : at ≡ n = cc in (same, refl)
+marked_by true true false at n h = cc
+marked_by true false v at n h = cc
+marked_by false u v at n h = cc
+
+if_true : (t : Bool) (o : Option (ℕ × List ℕ)) → t ≡ true → (if t then o else None) ≡ o
+if_true true o h = refl
+if_true false o h = cc
+
+-- with a `[^`, the bytes there decide whether one begins
+pub head_at_mark : (text : List ℕ) (around : Context) (p : Place) (n : ℕ) → IsPlaceOf text (unindented p) → footnote_mark_at around.options p ≡ Some n
+    → (offset (unindented p) ≡ n) × (footnote_head_at around p ≡ footnote_at false around (drop n text)) × ((unindented p).rest.left ≡ drop n text)
+unfolding footnote_head_at
+head_at_mark text around p n i h =
+    let m = marked_by (has around.options footnotes) (nat_lt (indent p.rest) 4) (begins_footnote_mark (unindented p).rest.left) (offset (unindented p)) n h in
+    let left : (unindented p).rest.left ≡ drop n text = i.left ∙ ap (λ (k : ℕ). drop k text) m.0 in (
+      m.0,
+      if_true (has around.options footnotes && nat_lt (indent p.rest) 4) (footnote_at false around (unindented p).rest.left) m.1
+          ∙ ap (footnote_at false around) left,
+      left,
+    )
+
+-- a later offset is not in an earlier line
+pub line_after : (text : List ℕ) (s e : ℕ) → s ≤ e → s + line_len (drop s text) ≤ e + line_len (drop e text)
+line_after text s e low =
+    let k : ℕ = e - s in
+    let at : s + k ≡ e = omega arith in
+    let same : drop k (drop s text) ≡ drop e text = drop-drop k s text ∙ ap (λ (n : ℕ). drop n text) at in
+    let size = ap line_len same in
+    elim (cases_lt k (line_len (drop s text))) [
+      | inl less ↦ (let inside = line_len-inside (drop s text) k less in omega arith)
+      | inr more ↦ omega arith
+    ]

@@ -1,0 +1,424 @@
+-- A container that begins at a place is opened: the properties that this keeps.
+use Rattle.std.proofs.Common.{◌≡◌, inl, ℕ, ◌<◌, ◌≤◌, length, Bool, true, false, ◌&&◌, List, Option}
+use Rattle.std.proofs.Common.{Some, None, refl, sym, ap, subst, ◌∙◌, arith, IsUtf8, IsCharBoundary, if◌then◌else◌}
+use Rattle.std.proofs.lemmas.Bool.{and_parts}
+use Rattle.first_pass_items.specs.declared.item.Item.{Item}
+use Rattle.first_pass_items.specs.declared.item.BlockQuoteKind.{BlockQuoteKind}
+use Rattle.first_pass_items.specs.declared.item.ItemBody.{ItemBody}
+use Rattle.first_pass_items.specs.declared.item.ItemBody.TheVariants.{BlockQuote as BlockQuoteBody, ListItem as ListItemBody, Paragraph as ParagraphBody}
+use Rattle.first_pass_items.specs.declared.item.ItemBody.TheVariants.{DefinitionListDefinition}
+use Rattle.first_pass_grammar.specs.Before.{is_paragraph_body}
+use Rattle.first_pass_tree.specs.Forest.{IsForest, in_table}
+use Rattle.first_pass_grammar.specs.Footnotes.{footnote_head_at}
+use Rattle.first_pass_grammar.specs.Derivation.{Tables}
+use Rattle.first_pass_open.specs.Path.{path_of, context_of}
+use Rattle.first_pass_ready.proofs.BegunLemmas.{no_table}
+use Rattle.first_pass_lines.specs.Rest.{Rest}
+use Rattle.first_pass_lines.specs.Places.{Place, place_at, offset, line_end, IsPlaceOf}
+use Rattle.first_pass_lines.proofs.PlaceFacts.{start_of-lines}
+use Rattle.first_pass_grammar.specs.declared.kind.Container.TheVariants.{BlockQuote}
+use Rattle.first_pass_grammar.specs.Containers.{prefix, at_rest}
+use Rattle.first_pass_grammar.specs.Kinds.{item_at, definition_marker_at, is_blank_rest, quote_start}
+use Rattle.first_pass_grammar.specs.Leaves.{Document, document, around}
+use Rattle.first_pass_items.specs.OptionWords.{has, definition_list}
+use Rattle.first_pass_grammar.specs.declared.kind.AfterMarker.TheVariants.{OnLine, LineEnds}
+use Rattle.first_pass_grammar.specs.Openers.{Start, item_start, item_head, task_after, after_task, tag_after, quote_begun, definition_head}
+use Rattle.first_pass_grammar.specs.Openers.{definition_start, start_at}
+use Rattle.first_pass_grammar.specs.Completion.{lines_from}
+use Rattle.first_pass_grammar.specs.Names.{Names}
+use Rattle.first_pass_grammar.specs.Order.{is_task_marker}
+use Rattle.first_pass_grammar.specs.OpenOrder.{item_on_top}
+use Rattle.first_pass_grammar.proofs.Sequences.OpenerFacts.{start_cases}
+use Rattle.first_pass_open.specs.declared.source.Source.{Source}
+use Rattle.first_pass_open.proofs.PlaceLemmas.{item_keeps, item_shorter, definition_keeps, definition_shorter, markers_keep, mark_is_task}
+use Rattle.first_pass_open.proofs.PlaceLemmas.{prefix_keeps, quote_prefix_shorter}
+use Rattle.first_pass_open.proofs.PlaceLemmas.{place_end}
+use Rattle.first_pass_lists.specs.Closing.{top_body, may_begin_definition, with_tree, is_list, list_kept, loosened_top, begun, list_finished, list_continued}
+use Rattle.first_pass_lists.specs.Closing.{definitions_opened}
+use Rattle.first_pass_lists.specs.Closing.{definition_begun}
+use Rattle.first_pass_lists.specs.declared.state.PassState.{PassState}
+use Rattle.first_pass_containers.specs.Positions.{Position, InLine, LeafAt, IsInLine, OrderedUpTo, ReadsTo, may_define, OrderedIn}
+use Rattle.first_pass_order.specs.Ordered.{IsReadTo}
+use Rattle.first_pass_containers.specs.Starts.{StartMatches, start_opened, after_at, IsAfterMarker, marker_of}
+use Rattle.first_pass_containers.proofs.Openings.StartFound.{start_told, start_is}
+use Rattle.first_pass_ready.specs.State.{ReadyAt}
+use Rattle.first_pass_lists.proofs.NoEmptyItem.{list_finished_none, list_continued_none}
+use Rattle.first_pass_order.proofs.NamedLemmas.{item_named, definition_named, quote_named, child_named}
+use Rattle.first_pass_order.proofs.WholeKept.{item_whole, quote_whole, child_whole}
+use Rattle.first_pass_order.proofs.DefinitionsWhole.{definition_whole}
+use Rattle.first_pass_order.proofs.CountLemmas.{item_count, definition_count, quote_count, child_count, left_before, offset_before, mark_shorter}
+use Rattle.first_pass_containers.proofs.Order.CountSteps.{container_count}
+use Rattle.first_pass_containers.proofs.Order.OrderSteps.{offset_later, upto_later, ordered_on, top_begun, ordered_item, ordered_definition_in, ordered_quote}
+use Rattle.first_pass_containers.proofs.Order.OrderSteps.{mark_stands}
+use Rattle.first_pass_containers.proofs.Order.OrderSteps.{ordered_container}
+use Rattle.first_pass_containers.proofs.Order.OrderSteps.{ordered_empty_item, quote_stands, place_before_end, NewBlock, stands_later}
+use Rattle.first_pass_ready.proofs.ClosedIn.{takes_same}
+use Rattle.first_pass_containers.proofs.Openings.OpenerLemmas.{ready_item, ready_definition, ready_quote, ready_tagged, after_opened, ready_after, ContainerBegins}
+use Rattle.first_pass_lists.proofs.NoEmptyItem.{item_opened}
+use Rattle.first_pass_containers.proofs.Openings.EmptyItems.{IsNoParagraph, empty_item_read, ready_empty_item, ready_empty_definition}
+use Rattle.first_pass_containers.proofs.Openings.StartFound.{may_if}
+use Rattle.first_pass_grammar.specs.Skeleton.{Inside}
+use Rattle.first_pass_containers.specs.declared.openers.Start.{Start as FoundStart}
+use Rattle.first_pass_open.specs.Between.{MarkerBetween}
+
+-- the marker of a task is no paragraph
+pub mark_by : (b : ItemBody) → is_task_marker b ≡ true → is_paragraph_body b ≡ false
+mark_by ParagraphBody h = cc
+mark_by b h = refl
+
+no_paragraph : (marker : Option Item) → ((x : Item) → marker ≡ Some x → is_task_marker x.body ≡ true) → IsNoParagraph marker
+no_paragraph marker task x some = mark_by x.body (task x some)
+
+-- no item is empty after a definition is opened
+kept_none : (t : Bool) (q : PassState) → q.begin_list_item ≡ None
+    → (if t then record q { tree = loosened_top q.tree q.tree.spine; blank = false } else q).begin_list_item ≡ None
+kept_none true q none = none
+kept_none false q none = none
+
+definition_none : (start columns : ℕ) (r : PassState) → r.begin_list_item ≡ None → (definition_begun start columns r).begin_list_item ≡ None
+unfolding definition_begun
+definition_none start columns r none = kept_none r.blank (with_tree r (definitions_opened r.tree r.tree.current)) none
+
+definition_top : (start columns : ℕ) (r : PassState) → top_body (definition_begun start columns r).tree ≡ Some (DefinitionListDefinition columns)
+unfolding definition_begun
+definition_top start columns r = top_begun start (DefinitionListDefinition columns) (list_kept (with_tree r (definitions_opened r.tree r.tree.current)))
+
+ordered_empty_definition : (text : List ℕ) (start e columns : ℕ) (r : PassState) → start ≤ e → IsCharBoundary text e
+    → OrderedUpTo text (definition_begun start columns r).tree start → IsReadTo text (empty_item_read (definition_begun start columns r) None e) e
+unfolding definition_begun
+ordered_empty_definition text start e columns r low boundary o =
+    let list : PassState = list_kept (with_tree r (definitions_opened r.tree r.tree.current)) in
+    ordered_empty_item text start e (DefinitionListDefinition columns) list None list.blank refl boundary o low
+
+-- The state after a container that begins at a place is opened, and the position of reading: less of the line is
+-- left.
+abbrev IsOpened : Source → ℕ → PassState → Place → Start → Type 0
+IsOpened source line r p s =
+    IsAfterMarker s.after (start_opened p.line (start_told s) (line_end p) r) × (length s.rest.left < length p.rest.left)
+    × IsInLine source.text.now p.line (line_end p) (at_rest p s.rest)
+    × ReadsTo source line r (start_opened p.line (start_told s) (line_end p) r) (InLine p) (after_at (at_rest p s.rest) (line_end p) s.after)
+
+module _ (source : Source) (r : PassState) (p : Place) (utf8 : IsUtf8 source.text.now) (at : IsPlaceOf source.text.now p) (forest : IsForest r.tree)
+    (none : r.begin_list_item ≡ None) (line : ℕ) (below : line ≤ p.line)
+    (bare : in_table r.tree.nodes r.tree.spine ≡ false → footnote_head_at (context_of source.options r.tree) p ≡ None) where
+  abbrev text : List ℕ
+  text = source.text.now
+
+  abbrev doc : Names → Document
+  doc names = document source.text.now source.options names
+
+  -- if the state begins a derivation, no table is open, and so no footnote definition begins
+  no_head : (names : Names) (defined : Tables) → ReadyAt (doc names) defined r.tree r.blank (Inside p) (lines_from text (line_end p))
+      → footnote_head_at (around (doc names) (path_of source.options r.tree)) p ≡ None
+  no_head names defined ready = bare (no_table source.options r.tree.nodes r.tree.spine ready.frames ready.are_open)
+
+  ends : IsCharBoundary text (line_end p)
+  ends = place_end text p utf8 at
+
+  abbrev may : Bool
+  may = may_define source.options r.tree
+
+  -- the container that begins if one may, in terms of the grammar
+  begins_as : (names : Names) (defined : Tables) (s : Start) → start_at source.options may p ≡ Some s
+      → ReadyAt (doc names) defined r.tree r.blank (Inside p) (lines_from text (line_end p))
+      → ContainerBegins (doc names) defined r p (lines_from text (line_end p)) s
+  begins_as names defined s is ready = record {
+    may = record { forest = forest; none = none; ready = ready };
+    bare = no_head names defined ready;
+    begins = ap (λ (t : Bool). start_at source.options (has source.options definition_list && t) p) (takes_same r.tree) ∙ is;
+  }
+
+  -- a list item
+  module _ (byte number columns : ℕ) (following : Rest) (is : item_at p.rest ≡ Some ((byte, number, columns), following))
+      (begins : start_at source.options may p ≡ Some (item_start p (byte, number, columns) (task_after source.options p.line following))) where
+    abbrev rest : Rest
+    rest = (task_after source.options p.line following).1
+
+    abbrev opened_item : PassState
+    opened_item = item_opened (offset p) byte number columns r
+
+    task : (marker : Option Item) → marker ≡ (task_after source.options p.line following).0 → task_after source.options p.line following ≡ (marker, rest)
+    task marker same = ap (λ (o : Option Item). (o, rest)) (sym same)
+
+    begins_with : (names : Names) (defined : Tables) (marker : Option Item) → marker ≡ (task_after source.options p.line following).0
+        → ReadyAt (doc names) defined r.tree r.blank (Inside p) (lines_from text (line_end p))
+        → ContainerBegins (doc names) defined r p (lines_from text (line_end p)) (item_start p (byte, number, columns) (marker, rest))
+    begins_with names defined marker same =
+        begins_as names defined (item_start p (byte, number, columns) (marker, rest))
+        (begins ∙ ap (λ t. Some (item_start p (byte, number, columns) t)) (task marker same))
+
+    is_task : (marker : Option Item) → marker ≡ (task_after source.options p.line following).0 → (x : Item) → marker ≡ Some x → is_task_marker x.body ≡ true
+    is_task marker same x some = mark_is_task source.options p.line following x (sym same ∙ some)
+
+    -- the marker of a task, if there is one, is after the marker of the item
+    task_stands : (from : ℕ) (marker : Option Item) → marker ≡ (task_after source.options p.line following).0 → from ≤ offset (place_at p.line following)
+        → MarkerBetween text from (offset (at_rest p rest)) marker
+    task_stands from marker same low =
+        subst (MarkerBetween text from (offset (at_rest p rest))) (sym same)
+        (mark_stands text source.options p.line following from utf8
+        (item_keeps text p.line p.rest ((byte, number, columns), following) utf8 is at).0 low)
+
+    -- more of its line is left
+    item_line : (marker : Option Item) → marker ≡ (task_after source.options p.line following).0 → is_blank_rest rest ≡ false
+        → IsAfterMarker (after_task marker) opened_item × (length rest.left < length p.rest.left)
+        × IsInLine text p.line (line_end p) (at_rest p rest)
+        × ReadsTo source line r opened_item (InLine p) (after_at (at_rest p rest) (line_end p) (after_task marker))
+    item_line marker same some =
+        let under = below in
+        let j = markers_keep text source.options p.line p.rest ((byte, number, columns), following) rest utf8 is refl at in
+        let k = item_keeps text p.line p.rest ((byte, number, columns), following) utf8 is at in
+        let shorter = item_shorter p.rest ((byte, number, columns), following) is in
+        let top = top_begun (offset p) (ListItemBody columns) (list_continued (offset p) byte number r) in
+        let mark = offset_later text p.line p.rest following at k.0 (omega arith) in
+        let first_marker = offset_before text p.line p.rest following at k.0 shorter in (
+          after_opened marker opened_item (is_task marker same) (list_continued_none (offset p) byte number r) (ap item_on_top top),
+          j.2,
+          (j.0, refl, j.1),
+          record {
+            ready = λ names defined ready.
+                ready_after (doc names) defined opened_item (at_rest p rest) (line_end p) marker j.1
+                (ready_item (doc names) defined r p (lines_from text (line_end p)) byte number columns marker rest
+                (begins_with names defined marker same ready) some);
+            order = λ ordered.
+                ordered_container source.options text opened_item (offset p) (line_end p) (at_rest p rest) marker (ap is_list top) j.0.within ordered.0
+                (ordered_item text r p.line (offset p) byte number columns (omega arith) at.within at.boundary none ordered.1)
+                (task_stands (offset p) marker same mark);
+            node_bound = λ first grows.
+                let two = item_count (offset p) byte number columns r in
+                container_count text line (offset (place_at p.line following)) (line_end p) (at_rest p rest) first opened_item.tree.nodes marker
+                (omega arith) (omega arith) (task_stands (offset (place_at p.line following)) marker same (omega arith))
+                (λ x is_mark. offset_before text p.line following rest k.0 j.0
+                (mark_shorter source.options p.line following rest marker x same refl is_mark));
+            named = λ names h. item_named names (offset p) byte number columns r h;
+            tables = λ names h. item_whole names (offset p) byte number columns r forest h;
+          },
+        )
+
+    -- its line ends
+    item_over : (marker : Option Item) → marker ≡ (task_after source.options p.line following).0 → is_blank_rest rest ≡ true
+        → IsOpened source line r p (record { head = item_head p byte number columns; after = LineEnds marker; rest = rest })
+    item_over marker same over =
+        let e : ℕ = line_end p in
+        let under = below in
+        let j = markers_keep text source.options p.line p.rest ((byte, number, columns), following) rest utf8 is refl at in
+        let k = item_keeps text p.line p.rest ((byte, number, columns), following) utf8 is at in
+        let shorter = item_shorter p.rest ((byte, number, columns), following) is in
+        let here = place_before_end p in
+        let there = place_before_end (at_rest p rest) in
+        let mark = offset_later text p.line p.rest following at k.0 (omega arith) in
+        let some = left_before p (omega arith) in (
+          tt,
+          j.2,
+          (j.0, refl, j.1),
+          record {
+            ready = λ names defined ready.
+                ready_empty_item (doc names) defined r p (lines_from text e) (marker_of (byte, number, columns)) marker rest e
+                (begins_with names defined marker same ready) (no_paragraph marker (is_task marker same))
+                (record { blank = over; next = start_of-lines text e ends.0 });
+            order = λ ordered.
+                inl (ordered_empty_item text (offset p) e (ListItemBody columns) (list_continued (offset p) byte number r) marker opened_item.blank refl ends
+                (ordered_item text r p.line (offset p) byte number columns (omega arith) at.within at.boundary none ordered.1)
+                (stands_later text (offset p) (offset (at_rest p rest)) e marker (omega (arith, there, j.1)) (task_stands (offset p) marker same mark)));
+            node_bound = λ first grows.
+                let two = item_count (offset p) byte number columns r in
+                let one = child_count opened_item.tree marker in
+                omega arith;
+            named = λ names h. child_named names opened_item.tree marker (is_task marker same) (item_named names (offset p) byte number columns r h);
+            tables = λ names h. child_whole names opened_item.tree marker (is_task marker same) (item_whole names (offset p) byte number columns r forest h);
+          },
+        )
+
+    item_on : (marker : Option Item) → marker ≡ (task_after source.options p.line following).0 → is_blank_rest rest ≡ false
+        → IsOpened source line r p (record { head = item_head p byte number columns; after = after_task marker; rest = rest })
+    item_on None same some = item_line None same some
+    item_on (Some x) same some = item_line (Some x) same some
+
+    item_by : (t : Bool) → is_blank_rest rest ≡ t
+        → IsOpened source line r p (record {
+          head = item_head p byte number columns;
+          after = if t then LineEnds (task_after source.options p.line following).0 else after_task (task_after source.options p.line following).0;
+          rest = rest;
+        })
+    item_by true over = item_over (task_after source.options p.line following).0 refl over
+    item_by false some = item_on (task_after source.options p.line following).0 refl some
+
+  -- a block quote
+  module _ (inside : Rest) (is : prefix (BlockQuote None) p.rest ≡ Some inside)
+      (begins : start_at source.options may p ≡ Some (quote_begun p (tag_after source.options inside) inside)) where
+    abbrev opened_quote : Option BlockQuoteKind → PassState
+    opened_quote kind = begun (quote_start p) (BlockQuoteBody kind) (list_finished p.line r)
+
+    begins_kind : (names : Names) (defined : Tables) (kind : Option BlockQuoteKind) → tag_after source.options inside ≡ kind
+        → ReadyAt (doc names) defined r.tree r.blank (Inside p) (lines_from text (line_end p))
+        → ContainerBegins (doc names) defined r p (lines_from text (line_end p)) (quote_begun p kind inside)
+    begins_kind names defined kind tag = begins_as names defined (quote_begun p kind inside) (begins ∙ ap (λ k. Some (quote_begun p k inside)) tag)
+
+    new_quote : offset p ≤ quote_start p → IsCharBoundary text (quote_start p) → OrderedIn text r.tree p
+        → NewBlock text r p.line (offset p) p.line (quote_start p)
+    new_quote later boundary ordered =
+        record { low = omega arith; later = later; ends = inl (refl, ordered.0); boundary = boundary; none = none; order = ordered.1 }
+
+    quote_by : (kind : Option BlockQuoteKind) → tag_after source.options inside ≡ kind → IsOpened source line r p (quote_begun p kind inside)
+    quote_by None tag =
+        let under = below in
+        let j = prefix_keeps text p.line (BlockQuote None) p.rest inside utf8 is at in
+        let s = quote_stands text p.line _ p.rest inside utf8 is at j.0 refl in
+        let later = offset_before text p.line p.rest inside at j.0 (quote_prefix_shorter p.rest inside is) in
+        let one = quote_count p.line (quote_start p) (BlockQuoteBody None) r in (
+          list_finished_none p.line r,
+          quote_prefix_shorter p.rest inside is,
+          (j.0, refl, j.1),
+          record {
+            ready = λ names defined ready.
+                subst (λ (n : ℕ). ReadyAt (doc names) defined (opened_quote None).tree
+                (opened_quote None).blank (Inside (at_rest p inside)) (lines_from text n))
+                (sym j.1) (ready_quote (doc names) defined r p (lines_from text (line_end p)) inside (begins_kind names defined None tag ready));
+            order = λ ordered. (
+              ordered.0,
+              ordered_on text (opened_quote None).tree p.line (quote_start p) (offset (at_rest p inside))
+                  (ap is_list (top_begun (quote_start p) (BlockQuoteBody None) (list_finished p.line r))) s.1 j.0.within
+                  (ordered_quote text r p.line (offset p) (quote_start p) None (new_quote s.0 s.2 ordered)),
+            );
+            node_bound = λ first grows. omega arith;
+            named = λ names h. quote_named names p.line (quote_start p) (BlockQuoteBody None) r tt h;
+            tables = λ names h. quote_whole names p.line (quote_start p) (BlockQuoteBody None) r (λ names depth start end. refl) refl forest h;
+          },
+        )
+    quote_by (Some kind) tag =
+        let e : ℕ = line_end p in
+        let under = below in
+        let j = prefix_keeps text p.line (BlockQuote None) p.rest inside utf8 is at in
+        let s = quote_stands text p.line _ p.rest inside utf8 is at j.0 refl in
+        let there = place_before_end (at_rest p inside) in
+        let shorter = quote_prefix_shorter p.rest inside is in
+        let some = left_before p (omega arith) in
+        let one = quote_count p.line (quote_start p) (BlockQuoteBody (Some kind)) r in (
+          list_finished_none p.line r,
+          shorter,
+          (j.0, refl, j.1),
+          record {
+            ready = λ names defined ready.
+                ready_tagged (doc names) defined r p (lines_from text e) inside kind (begins_kind names defined (Some kind) tag ready);
+            order = λ ordered.
+                upto_later text (opened_quote (Some kind)).tree (quote_start p) e (omega (arith, s.1, there, j.1)) ends.0
+                (ordered_quote text r p.line (offset p) (quote_start p) (Some kind) (new_quote s.0 s.2 ordered));
+            node_bound = λ first grows. omega arith;
+            named = λ names h. quote_named names p.line (quote_start p) (BlockQuoteBody (Some kind)) r tt h;
+            tables = λ names h. quote_whole names p.line (quote_start p) (BlockQuoteBody (Some kind)) r (λ names depth start end. refl) refl forest h;
+          },
+        )
+
+  -- a definition
+  module _ (columns : ℕ) (rest : Rest) (is : definition_marker_at p.rest ≡ Some (columns, rest)) (takes : may_begin_definition r.tree ≡ true)
+      (begins : start_at source.options may p ≡ Some (definition_start p (columns, rest))) where
+    abbrev opened_definition : PassState
+    opened_definition = definition_begun (offset p) columns r
+
+    definition_line : is_blank_rest rest ≡ false
+        → IsOpened source line r p (record { head = definition_head p columns; after = OnLine; rest = rest })
+    definition_line some =
+        let under = below in
+        let j = definition_keeps text p.line p.rest (columns, rest) utf8 is at in
+        let shorter = definition_shorter p.rest (columns, rest) is in
+        let later = offset_before text p.line p.rest rest at j.0 shorter in
+        let two = definition_count (offset p) columns r in (
+          definition_none (offset p) columns r none,
+          shorter,
+          (j.0, refl, j.1),
+          record {
+            ready = λ names defined ready.
+                subst (λ (n : ℕ). ReadyAt (doc names) defined opened_definition.tree opened_definition.blank (Inside (at_rest p rest)) (lines_from text n))
+                (sym j.1) (ready_definition (doc names) defined r p (lines_from text (line_end p)) columns rest
+                (begins_as names defined (definition_start p (columns, rest)) begins ready) takes some);
+            order = λ ordered.
+                ordered_container source.options text opened_definition (offset p) (line_end p) (at_rest p rest) None
+                (ap is_list (definition_top (offset p) columns r)) j.0.within ordered.0
+                (ordered_definition_in text r p.line (offset p) columns forest takes (omega arith) at.within at.boundary ordered.1)
+                (let low : offset p ≤ offset (at_rest p rest) = omega arith in low);
+            node_bound = λ first grows. omega arith;
+            named = λ names h. definition_named names (offset p) columns r h;
+            tables = λ names h. definition_whole names (offset p) columns r forest h;
+          },
+        )
+
+    definition_over : is_blank_rest rest ≡ true
+        → IsOpened source line r p (record { head = definition_head p columns; after = LineEnds None; rest = rest })
+    definition_over over =
+        let e : ℕ = line_end p in
+        let under = below in
+        let j = definition_keeps text p.line p.rest (columns, rest) utf8 is at in
+        let shorter = definition_shorter p.rest (columns, rest) is in
+        let some = left_before p (omega arith) in
+        let two = definition_count (offset p) columns r in (
+          tt,
+          shorter,
+          (j.0, refl, j.1),
+          record {
+            ready = λ names defined ready.
+                ready_empty_definition (doc names) defined r p (lines_from text e) columns rest e
+                (begins_as names defined (definition_start p (columns, rest)) begins ready) takes
+                (record { blank = over; next = start_of-lines text e ends.0 });
+            order = λ ordered. inl (ordered_empty_definition text (offset p) e columns r (place_before_end p) ends
+                (ordered_definition_in text r p.line (offset p) columns forest takes (omega arith) at.within at.boundary ordered.1));
+            node_bound = λ first grows. omega arith;
+            named = λ names h. definition_named names (offset p) columns r h;
+            tables = λ names h. definition_whole names (offset p) columns r forest h;
+          },
+        )
+
+    definition_by : (t : Bool) → is_blank_rest rest ≡ t
+        → IsOpened source line r p (record { head = definition_head p columns; after = if t then LineEnds None else OnLine; rest = rest })
+    definition_by true over = definition_over over
+    definition_by false some = definition_line some
+
+  -- the properties of a start that is found there
+  abbrev OpensIt : Start → Type 0
+  OpensIt s = start_at source.options may p ≡ Some s → IsOpened source line r p s
+
+  definition_may : (marker : ℕ × Rest) → item_at p.rest ≡ None → start_at source.options may p ≡ Some (definition_start p marker)
+      → may_begin_definition r.tree ≡ true
+  definition_may marker no_item begins =
+      (and_parts (has source.options definition_list) (may_begin_definition r.tree) (may_if source.options may p marker no_item begins)).1
+
+  pub start_opens : (s : Start) → start_at source.options may p ≡ Some s → IsOpened source line r p s
+  start_opens s begins_it =
+      start_cases source.options may p OpensIt
+      (λ item is begins.
+      item_by item.0.0 item.0.1 item.0.2 item.1 is begins (is_blank_rest (task_after source.options p.line item.1).1) refl)
+      (λ marker no_item is begins.
+      definition_by marker.0 marker.1 is (definition_may marker no_item begins) begins (is_blank_rest marker.1) refl)
+      (λ inside no_item is begins. quote_by inside is begins (tag_after source.options inside) refl) s begins_it begins_it
+
+  -- no container begins there
+  pub no_start : start_at source.options may p ≡ None → ReadsTo source line r r (InLine p) (LeafAt p)
+  no_start is = record {
+    ready = λ names defined ready. inl (no_head names defined ready, is, ready);
+    order = λ ordered. ordered;
+    node_bound = λ first grows. grows;
+    named = λ names h. h;
+    tables = λ names h. h;
+  }
+
+  -- the same in terms of the calls that open it
+  pub opened_start : (s : Start) (new : Place) (t : FoundStart) (q : PassState) → start_at source.options may p ≡ Some s
+      → StartMatches s t
+      → new ≡ at_rest p s.rest → q ≡ start_opened new.line t (line_end new) r
+      → IsAfterMarker t.after q × (length new.rest.left < length p.rest.left) × IsInLine text p.line (line_end p) new
+      × ReadsTo source line r q (InLine p) (after_at new (line_end p) t.after)
+  opened_start s new t q is told new_is q_is =
+      let opens = start_opens s is in
+      let here : ℕ → Type 0 = λ n.
+      IsAfterMarker s.after (start_opened p.line (start_told s) n r) × (length s.rest.left < length p.rest.left)
+      × IsInLine text p.line (line_end p) (at_rest p s.rest)
+      × ReadsTo source line r (start_opened p.line (start_told s) n r) (InLine p) (after_at (at_rest p s.rest) (line_end p) s.after) in
+      rw (q_is, new_is, start_is s t told) (subst here (sym opens.2.2) opens)
+
+-- no step
+pub reads_none : (source : Source) (line : ℕ) (r : PassState) (p : Position) → ReadsTo source line r r p p
+reads_none source line r p = record {
+  ready = λ names defined h. h;
+  order = λ h. h;
+  node_bound = λ first h. h;
+  named = λ names h. h;
+  tables = λ names h. h;
+}

@@ -1,0 +1,335 @@
+-- Order at each step of reading a line: open containers, and what follows them.
+use Rattle.std.proofs.Common.{◌≡◌, ◌⊎◌, inl, inr, ℕ, ◌+◌, ◌<◌, ◌≤◌, Bool, true, false, List, [], ◌∷◌, length, drop, Option, Some, None, IsUtf8}
+use Rattle.std.proofs.Common.{IsCharBoundary}
+use Rattle.std.proofs.Common.{refl, sym, ap, subst, ◌∙◌, arith, length-append, if◌then◌else◌}
+use Rattle.std.specs.Option.{option_map}
+use Rattle.first_pass_items.specs.declared.item.Item.{Item}
+use Rattle.first_pass_items.specs.declared.item.BlockQuoteKind.{BlockQuoteKind}
+use Rattle.first_pass_items.specs.declared.item.ItemBody.{ItemBody}
+use Rattle.first_pass_items.specs.declared.item.ItemBody.TheVariants.{BlockQuote as BlockQuoteBody, ListItem as ListItemBody}
+use Rattle.first_pass_items.specs.declared.item.ItemBody.TheVariants.{DefinitionListDefinition}
+use Rattle.first_pass_items.specs.declared.item.CowIndex.{CowIndex}
+use Rattle.first_pass_items.specs.declared.option_set.Options.{Options}
+use Rattle.first_pass_items.specs.OptionWords.{has}
+use Rattle.first_pass_tree.specs.Forest.{Forest, IsForest, added}
+use Rattle.first_pass_scan.specs.Markers.{task_of}
+use Rattle.first_pass_lines.specs.Rest.{Rest, indent, after_columns, past_quote}
+use Rattle.first_pass_lines.specs.Lines.{line_len}
+use Rattle.first_pass_lines.proofs.LineFacts.{line_len-within}
+use Rattle.first_pass_lines.specs.Places.{Place, place_at, offset, line_end, IsPlaceOf}
+use Rattle.first_pass_lines.proofs.PlaceFacts.{place_length, columns_keep, columns_shorter}
+use Rattle.first_pass_grammar.specs.declared.kind.Container.TheVariants.{BlockQuote}
+use Rattle.first_pass_grammar.specs.Containers.{prefix}
+use Rattle.first_pass_grammar.specs.Kinds.{all_taken, unindented}
+use Rattle.first_pass_grammar.specs.Openers.{task_by, task_after}
+use Rattle.first_pass_grammar.specs.Derivation.{node_of}
+use Rattle.first_pass_grammar.specs.OpenOrder.{IsOrderedTo}
+use Rattle.first_pass_open.specs.OpenBlock.{with_child}
+use Rattle.first_pass_lists.specs.Closing.{state_with, top_body, is_list, is_item, may_begin_definition, empty_item_closed_by, empty_item_closed, list_finished, begun}
+use Rattle.first_pass_lists.specs.Closing.{list_continued, definition_begun, footnote_begun}
+use Rattle.first_pass_lists.specs.declared.state.PassState.{PassState}
+use Rattle.first_pass_grammar.specs.Openers.{after_task}
+use Rattle.first_pass_containers.specs.Positions.{line_or, OrderedUpTo, OrderedIn, OrderedText, OrderedOn}
+use Rattle.first_pass_containers.specs.Starts.{after_at}
+use Rattle.first_pass_order.specs.Ordered.{reached, AreNested, CanClose, IsOrderedAt, IsReadTo}
+use Rattle.first_pass_open.specs.Between.{AddsBetween, MarkerBetween}
+use Rattle.first_pass_open.proofs.PathLemmas.{get_front}
+use Rattle.first_pass_ready.proofs.OpenLemmas.{get_end}
+use Rattle.first_pass_open.proofs.PlaceLemmas.{all_keep, task_keeps, option_on, quote_less}
+use Rattle.first_pass_lists.proofs.NoEmptyItem.{list_finished_none, list_continued_none}
+use Rattle.first_pass_lists.proofs.NoEmptyItem.{item_opened}
+use Rattle.first_pass_order.proofs.OrderLemmas.{ordered_later, ordered_appended, ordered_added, ordered_begun, ordered_none}
+use Rattle.first_pass_order.proofs.LeftOrder.{title_later}
+use Rattle.first_pass_order.proofs.PopOrder.{ordered_list_finished, ordered_list_continued, ordered_note}
+use Rattle.first_pass_order.proofs.Nests.{list_continued_settled, list_finished_outside, footnote_begun_settled, begun_settled, begun_outside, child_outside}
+use Rattle.first_pass_order.proofs.Nests.{added_outside, settled_closes, outside_closes, tree_closes}
+use Rattle.first_pass_order.proofs.DefinitionBegun.{ordered_definition}
+
+-- the shorter the rest, the later the place
+pub offset_later : (text : List ℕ) (line : ℕ) (r s : Rest)
+    → IsPlaceOf text (place_at line r) → IsPlaceOf text (place_at line s) → length s.left ≤ length r.left → offset (place_at line r) ≤ offset (place_at line s)
+offset_later text line r s i j less =
+    let a = place_length text (place_at line r) i in
+    let b = place_length text (place_at line s) j in
+    omega arith
+
+-- order and closing in order up to an offset hold up to a later one
+pub upto_later : (text : List ℕ) (f : Forest Item) (a b : ℕ) → a ≤ b → b ≤ length text → OrderedUpTo text f a → OrderedUpTo text f b
+upto_later text f a b low high (o, c) =
+    (ordered_later text f a b low high o, record { nested = c.nested; last = c.last; title = title_later text f a b low c.title })
+
+by_list : (t : Bool) (text : List ℕ) (f : Forest Item) (line at : ℕ)
+    → line ≤ at → at ≤ length text → OrderedUpTo text f line → OrderedUpTo text f (if t then line else at)
+by_list true text f line at low high o = o
+by_list false text f line at low high o = upto_later text f line at low high o
+
+-- order up to the start of a line is order up to a place in it
+pub ordered_in_line : (text : List ℕ) (f : Forest Item) (line at : ℕ)
+    → line ≤ at → at ≤ length text → OrderedUpTo text f line → OrderedUpTo text f (line_or f line at)
+ordered_in_line text f line at low high o = by_list (is_list (top_body f)) text f line at low high o
+
+-- the same at a place in the line, which begins at a character boundary
+pub ordered_at_place : (text : List ℕ) (f : Forest Item) (start : ℕ) (p : Place) → p.line ≡ start → IsCharBoundary text start → IsPlaceOf text p
+    → OrderedUpTo text f start → OrderedIn text f p
+ordered_at_place text f start p line boundary i o =
+    let within = i.within in
+    (subst (IsCharBoundary text) (sym line) boundary, ordered_in_line text f p.line (offset p) (omega arith) within (subst (OrderedUpTo text f) (sym line) o))
+
+-- an offset after the start of a line that is before the end of the text
+pub line_later : (text : List ℕ) (start far next : ℕ)
+    → start < length text → far ≡ start + line_len (drop start text) → far ≤ next → IsCharBoundary text next → (start < next) × (next ≤ length text)
+line_later text start far next within ends later boundary =
+    let line = line_len-within text start within in
+    let some = line.0 in
+    let high = boundary.0 in
+    (omega arith, omega arith)
+
+or_below : (t : Bool) (line at : ℕ) → line ≤ at → (if t then line else at) ≤ at
+or_below true line at h = h
+or_below false line at h = omega arith
+
+-- not after the place
+pub line_or-below : (f : Forest Item) (line at : ℕ) → line ≤ at → line_or f line at ≤ at
+line_or-below f line at h = or_below (is_list (top_body f)) line at h
+
+line_or-list : (f : Forest Item) (line at : ℕ) → is_list (top_body f) ≡ true → line_or f line at ≤ line
+line_or-list f line at h = (let e : line_or f line at ≡ line = rw h refl in omega arith)
+
+-- order further on if no list is innermost
+pub ordered_on : (text : List ℕ) (f : Forest Item) (line a at : ℕ)
+    → is_list (top_body f) ≡ false → a ≤ at → at ≤ length text → OrderedUpTo text f a → OrderedUpTo text f (line_or f line at)
+ordered_on text f line a at none low high o =
+    subst (OrderedUpTo text f) (let e : at ≡ line_or f line at = rw none refl in e) (upto_later text f a at low high o)
+
+none_reached : (o : Option ℕ) (at : ℕ) → o ≡ None → reached o at ≡ at
+none_reached o at none = ap (λ z. reached z at) none
+
+-- the state is in order if no item is empty
+pub ordered_tree : (text : List ℕ) (r : PassState) (at : ℕ) → r.begin_list_item ≡ None → IsOrderedAt text r at → IsOrderedTo text r.tree at
+ordered_tree text r at none o = subst (IsOrderedTo text r.tree) (none_reached r.begin_list_item at none) o.ordered
+
+-- the innermost open node after one is opened
+pub top_begun : (start : ℕ) (body : ItemBody) (r : PassState) → top_body (begun start body r).tree ≡ Some body
+top_begun start body r = get_end r.tree.nodes (length r.tree.spine + 1, node_of start 0 body) [] (length r.tree.nodes) refl
+
+-- the same with a task list item marker in that node
+pub top_marked : (start : ℕ) (body : ItemBody) (r : PassState) (marker : Option Item) → top_body (with_child (begun start body r).tree marker) ≡ Some body
+top_marked start body r None = top_begun start body r
+top_marked start body r (Some x) =
+    let f : Forest Item = (begun start body r).tree in
+    let more : length f.nodes ≡ length r.tree.nodes + 1 = length-append r.tree.nodes ((length r.tree.spine + 1, node_of start 0 body) ∷ []) in
+    let within : length r.tree.nodes < length f.nodes = omega arith in
+    ap (option_map (λ (n : ℕ × Item). n.1.body)) (get_front f.nodes ((length f.spine + 1, x) ∷ []) (length r.tree.nodes) within) ∙ top_begun start body r
+
+-- an item is opened at a place in a line
+pub ordered_item : (text : List ℕ) (r : PassState) (line start byte number columns : ℕ)
+    → line ≤ start → start ≤ length text → IsCharBoundary text start → r.begin_list_item ≡ None
+    → OrderedUpTo text r.tree (line_or r.tree line start) → OrderedUpTo text (item_opened start byte number columns r).tree start
+ordered_item text r line start byte number columns low high boundary none (o, c) =
+    let at : ℕ = line_or r.tree line start in
+    let below : at ≤ start = line_or-below r.tree line start low in
+    let before = ordered_none text r at none (omega arith) o in
+    let list : PassState = list_continued start byte number r in
+    let on = ordered_list_continued text r at start byte number c.title below high boundary before in (
+      ordered_begun text list start start (ListItemBody columns) (omega arith) high boundary
+          (ordered_tree text list start (list_continued_none start byte number r) on),
+      settled_closes text (begun start (ListItemBody columns) list) start
+          (begun_settled start (ListItemBody columns) list refl (λ list. refl) (list_continued_settled start byte number r c.nested).nested),
+    )
+
+-- a definition is opened at a place in a line
+pub ordered_definition_in : (text : List ℕ) (r : PassState) (line start columns : ℕ) → IsForest r.tree → may_begin_definition r.tree ≡ true
+    → line ≤ start → start ≤ length text → IsCharBoundary text start
+    → OrderedUpTo text r.tree (line_or r.tree line start) → OrderedUpTo text (definition_begun start columns r).tree start
+ordered_definition_in text r line start columns forest takes low high boundary (o, c) =
+    let d = ordered_definition text r (line_or r.tree line start) start columns forest takes (line_or-below r.tree line start low) high boundary o c.nested in
+    (d.0, settled_closes text (definition_begun start columns r) start d.1)
+
+-- A new block starts at an offset, after a place in its line up to which a state is in order. An innermost list ends at
+-- the start of the line or at the block's first byte. No item is empty.
+pub record NewBlock (text : List ℕ) (r : PassState) (line at e start : ℕ) : Type 0 where
+  pub low : line ≤ at
+  pub later : at ≤ start
+  pub ends : (e ≡ line) × IsCharBoundary text line ⊎ (e ≡ start)
+  pub boundary : IsCharBoundary text start
+  pub none : r.begin_list_item ≡ None
+  pub order : OrderedUpTo text r.tree (line_or r.tree line at)
+
+-- the start of a new block is in order, after what it ends
+pub ordered_finished : (text : List ℕ) (r : PassState) (line at e start : ℕ) → NewBlock text r line at e start → IsReadTo text (list_finished e r) start
+unfolding empty_item_closed
+ordered_finished text r line at e start b =
+    let low = b.low in
+    let mid = b.later in
+    let high = b.boundary.0 in
+    let c = b.order.1 in
+    let a : ℕ = line_or r.tree line at in
+    let below : a ≤ at = line_or-below r.tree line at low in
+    let before = ordered_none text r a b.none (omega arith) b.order.0 in
+    let same : empty_item_closed_by r r.begin_list_item ≡ r = ap (empty_item_closed_by r) b.none in
+    let on : IsOrderedAt text (list_finished e r) start = elim b.ends [
+      | inl (is, first) ↦
+          subst (λ z. IsOrderedAt text (list_finished z r) start) (sym is)
+          (ordered_list_finished text r a line start c.title (omega arith) (omega arith) high first
+          (λ h. line_or-list r.tree line at (sym (ap (λ (q : PassState). is_list (top_body q.tree)) same) ∙ h)) before)
+      | inr is ↦ subst (λ z. IsOrderedAt text (list_finished z r) start) (sym is)
+          (ordered_list_finished text r a start start c.title (omega arith) (omega arith) high b.boundary (λ h. omega arith) before)
+    ] in
+    (on, outside_closes text (list_finished e r) start (list_finished_outside e r c.nested))
+
+-- a block quote is opened at a place in a line
+pub ordered_quote : (text : List ℕ) (r : PassState) (line at start : ℕ) (kind : Option BlockQuoteKind) → NewBlock text r line at line start
+    → OrderedUpTo text (begun start (BlockQuoteBody kind) (list_finished line r)).tree start
+ordered_quote text r line at start kind b =
+    let q : PassState = list_finished line r in (
+      ordered_begun text q start start (BlockQuoteBody kind) (omega arith) b.boundary.0 b.boundary
+          (ordered_tree text q start (list_finished_none line r) (ordered_finished text r line at line start b).0),
+      settled_closes text (begun start (BlockQuoteBody kind) q) start
+          (begun_outside start (BlockQuoteBody kind) q refl (list_finished_outside line r b.order.1.nested)),
+    )
+
+-- a footnote definition is opened at a place in a line
+pub ordered_note_in : (text : List ℕ) (r : PassState) (at start : ℕ) (index : CowIndex) → at ≤ start → start ≤ length text
+    → IsCharBoundary text start → r.begin_list_item ≡ None → OrderedUpTo text r.tree at → OrderedUpTo text (footnote_begun start index r).tree start
+ordered_note_in text r at start index low high boundary none (o, c) = (
+  ordered_note text r at start index c.title low high boundary (ordered_none text r at none (omega arith) o),
+  settled_closes text (footnote_begun start index r) start (footnote_begun_settled start index r c.nested),
+)
+
+-- a task list item marker, if there is one, is after an item's own
+mark_by : (text : List ℕ) (line : ℕ) (r : Rest) (o : Option (Bool × Rest)) (from : ℕ) → IsUtf8 text
+    → ((task : Bool × Rest) → o ≡ Some task → task_of r ≡ Some task) → IsPlaceOf text (place_at line r) → from ≤ offset (place_at line r)
+    → MarkerBetween text from (offset (place_at line (task_by line r o).1)) (task_by line r o).0
+mark_by text line r None from u h i low = low
+mark_by text line r (Some task) from u h i low =
+    let k = task_keeps text line r task u (h task refl) i in
+    let order = offset_later text line r task.1 i k.0 k.2 in
+    (refl, record { following = low; order = order; before = omega arith; starts = i.boundary; ends = k.0.boundary })
+
+pub mark_stands : (text : List ℕ) (options : Options) (line : ℕ) (r : Rest) (from : ℕ) → IsUtf8 text → IsPlaceOf text (place_at line r)
+    → from ≤ offset (place_at line r) → MarkerBetween text from (offset (place_at line (task_after options line r).1)) (task_after options line r).0
+mark_stands text options line r from u i low =
+    mark_by text line r (if has options 16 then task_of r else None) from u (λ task h. option_on (has options 16) (task_of r) task h) i low
+
+-- a marker that is before an offset is before a later one
+pub stands_later : (text : List ℕ) (from a b : ℕ) (marker : Option Item) → a ≤ b → MarkerBetween text from a marker → MarkerBetween text from b marker
+stands_later text from a b None low h = (let t : from ≤ a = h in let later : from ≤ b = omega arith in later)
+stands_later text from a b (Some x) low h =
+    (let m : x.«end» ≤ a = h.1.before in
+    (h.0, record { following = h.1.following; order = h.1.order; before = omega arith; starts = h.1.starts; ends = h.1.ends }))
+
+-- an item with something after its markers
+pub ordered_container : (options : Options) (text : List ℕ) (q : PassState) (start e : ℕ) (p : Place) (marker : Option Item)
+    → is_list (top_body q.tree) ≡ false → offset p ≤ length text → IsCharBoundary text p.line → OrderedUpTo text q.tree start
+    → MarkerBetween text start (offset p) marker → OrderedOn options text q (after_at p e (after_task marker))
+ordered_container options text q start e p None none high boundary o stands =
+    (boundary, ordered_on text q.tree p.line start (offset p) none stands high o)
+ordered_container options text q start e p (Some x) none high boundary (o, c) stands =
+    record { from = start; ordered = o; nested = c.nested; plain = none; stands = stands }
+
+marked_by : (text : List ℕ) (f : Forest Item) (start next : ℕ) (marker : Option Item) → next ≤ length text → IsOrderedTo text f start
+    → MarkerBetween text start next marker → IsOrderedTo text (with_child f marker) next
+marked_by text f start next None high o stands = ordered_later text f start next stands high o
+marked_by text f start next (Some x) high o stands = ordered_appended text f start next x stands.1 high o
+
+item_no_list : (body : ItemBody) → is_item (Some body) ≡ true → is_list (Some body) ≡ false
+item_no_list (ListItemBody columns) item = refl
+item_no_list (DefinitionListDefinition columns) item = refl
+item_no_list body item = cc
+
+-- an item or a definition with nothing after its markers
+pub ordered_empty_item : (text : List ℕ) (start next : ℕ) (body : ItemBody) (r : PassState) (marker : Option Item) (blank : Bool)
+    → is_item (Some body) ≡ true → IsCharBoundary text next → OrderedUpTo text (begun start body r).tree start → MarkerBetween text start next marker
+    → IsReadTo text (state_with (with_child (begun start body r).tree marker) (Some next) blank) next
+ordered_empty_item text start next body r marker blank item boundary (o, c) stands =
+    let f : Forest Item = (begun start body r).tree in
+    let outside = child_outside f marker c.nested (ap is_list (top_begun start body r) ∙ item_no_list body item) in (
+      record {
+        ordered = marked_by text f start next marker boundary.0 o stands;
+        later = omega arith;
+        within = boundary.0;
+        innermost = λ e is. (ap is_item (top_marked start body r marker) ∙ item, let same : next ≡ e = cc in subst (IsCharBoundary text) same boundary);
+      },
+      tree_closes text (with_child f marker) next outside.0 outside.1,
+    )
+
+-- a block is added
+pub ordered_block : (text : List ℕ) (old : Forest Item) (r : PassState) (from next : ℕ)
+    → AddsBetween text from next old r.tree → next ≤ length text → r.begin_list_item ≡ None → IsOrderedTo text old from → IsOrderedAt text r next
+ordered_block text old r from next a high none o =
+    ordered_none text r next none high (subst (λ f. IsOrderedTo text f next) (sym a.tree_is) (ordered_added text old from next a.items a.fits high o))
+
+-- the same if the innermost open node is no list
+pub read_block : (text : List ℕ) (old : Forest Item) (r : PassState) (from next : ℕ) → AreNested old.nodes old.spine → is_list (top_body old) ≡ false
+    → AddsBetween text from next old r.tree → next ≤ length text → r.begin_list_item ≡ None → IsOrderedTo text old from → IsReadTo text r next
+read_block text old r from next nested plain a high none o =
+    let outside = added_outside old a.items nested plain in (
+      ordered_block text old r from next a high none o,
+      subst (λ f. CanClose text f next) (sym a.tree_is) (tree_closes text (added old a.items) next outside.0 outside.1),
+    )
+
+-- the paragraph of a task
+pub ordered_text : (text : List ℕ) (f : Forest Item) (new : PassState) (marker : Item) (at next : ℕ)
+    → ((from : ℕ) → MarkerBetween text from at (Some marker) → AddsBetween text from next f new.tree) → next ≤ length text → new.begin_list_item ≡ None
+    → OrderedText text f marker at → IsReadTo text new next
+ordered_text text f new marker at next fits within none o =
+    read_block text f new o.from next o.nested o.plain (fits o.from o.stands) within none o.ordered
+
+-- a block is added to a state in order: an item that it is added to is not empty after that
+pub block_ordered : (text : List ℕ) (old new : PassState) (at start next : ℕ) → IsOrderedAt text old at → at ≤ start
+    → ((from : ℕ) → from ≤ start → AddsBetween text from next old.tree new.tree) → next ≤ length text → new.begin_list_item ≡ None → IsOrderedAt text new next
+block_ordered text old new at start next o low fits within none =
+    let before = o.later in
+    let e : ℕ = reached old.begin_list_item at in
+    let low' : e ≤ at = before in
+    ordered_block text old.tree new e next (fits e (omega arith)) within none o.ordered
+
+-- a marker that may be after an offset may be after an earlier one
+stands_earlier : (text : List ℕ) (a b to : ℕ) (marker : Option Item) → a ≤ b → MarkerBetween text b to marker → MarkerBetween text a to marker
+stands_earlier text a b to None low h = (let t : b ≤ to = h in omega arith)
+stands_earlier text a b to (Some x) low h =
+    (let m : b ≤ x.start = h.1.following in
+    (h.0, record { following = omega arith; order = h.1.order; before = h.1.before; starts = h.1.starts; ends = h.1.ends }))
+
+-- the same for a paragraph, after a task list item marker or not
+pub text_ordered : (text : List ℕ) (old new : PassState) (at start next : ℕ) (marker : Option Item) → IsOrderedAt text old at
+    → MarkerBetween text at start marker
+    → ((from : ℕ) → MarkerBetween text from start marker → AddsBetween text from next old.tree new.tree) → next ≤ length text → new.begin_list_item ≡ None
+    → IsOrderedAt text new next
+text_ordered text old new at start next marker o stands fits within none =
+    let e : ℕ = reached old.begin_list_item at in
+    ordered_block text old.tree new e next (fits e (stands_earlier text e at start marker o.later stands)) within none o.ordered
+
+quote_start_before : (r s : Rest) → prefix (BlockQuote None) r ≡ Some s → length s.left < length (after_columns 3 r).left
+unfolding prefix
+quote_start_before r s is = quote_less (after_columns 3 r) s (past_quote (after_columns 3 r)) refl is
+
+-- the start of a block quote is between the place where it begins and the place inside it
+pub quote_stands : (text : List ℕ) (line at : ℕ) (r s : Rest)
+    → IsUtf8 text → prefix (BlockQuote None) r ≡ Some s → IsPlaceOf text (place_at line r) → IsPlaceOf text (place_at line s) → at ≡ (after_columns 3 r).taken
+    → (offset (place_at line r) ≤ line + at) × (line + at ≤ offset (place_at line s)) × IsCharBoundary text (line + at)
+quote_stands text line at r s u is i j at_is =
+    let q : Rest = after_columns 3 r in
+    let k = columns_keep text 3 (place_at line r) u i in
+    let a = offset_later text line r q i k (columns_shorter 3 r) in
+    let less = quote_start_before r s is in
+    let b = offset_later text line q s k j (omega arith) in
+    (omega arith, omega arith, subst (λ n. IsCharBoundary text (line + n)) (sym at_is) k.boundary)
+
+-- a place is not after the end of its line
+pub place_before_end : (p : Place) → offset p ≤ line_end p
+place_before_end p = omega arith
+
+-- a leaf block is added at its place
+pub ordered_leaf : (text : List ℕ) (r new : PassState) (line at e start next : ℕ) → NewBlock text r line at e start
+    → AddsBetween text start next (list_finished e r).tree new.tree → next ≤ length text → new.begin_list_item ≡ None → IsReadTo text new next
+ordered_leaf text r new line at e start next b adds fits none =
+    let q : PassState = list_finished e r in
+    let outside = list_finished_outside e r b.order.1.nested in
+    read_block text q.tree new start next outside.0 outside.1 adds fits none
+    (ordered_tree text q start (list_finished_none e r) (ordered_finished text r line at e start b).0)
+
+-- the place after the indentation at another
+pub unindented_later : (text : List ℕ) (line : ℕ) (r : Rest)
+    → IsUtf8 text → IsPlaceOf text (place_at line r) → offset (place_at line r) ≤ offset (unindented (place_at line r))
+unindented_later text line r u i = offset_later text line r (all_taken r) i (all_keep text line r u i) (columns_shorter (indent r) r)

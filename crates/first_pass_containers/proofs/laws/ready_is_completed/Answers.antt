@@ -1,0 +1,5 @@
+use Rattle.first_pass_containers.proofs.ReadyStates.ReadyCompleted.{ready_completed}
+use Rattle.first_pass_containers.proofs.laws.ready_is_completed.Goals as goal
+
+pub returns : goal.returns
+returns c = ready_completed

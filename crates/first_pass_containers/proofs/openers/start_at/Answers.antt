@@ -1,0 +1,158 @@
+use Rattle.std.proofs.Common.{◌≡◌, ℕ, ◌+◌, Bool, List, Option, Some, None, IsSomeAnd, is_some, refl, sym, ap, subst, ◌∙◌, if◌then◌else◌}
+use Rattle.first_pass_items.specs.declared.item.Item.{Item}
+use Rattle.first_pass_items.specs.declared.item.BlockQuoteKind.{BlockQuoteKind}
+use Rattle.first_pass_lines.specs.Lines.{blank_len}
+use Rattle.first_pass_lines.specs.Rest.{Rest}
+use Rattle.first_pass_lines.specs.Places.{Place, place_at, offset}
+use Rattle.first_pass_grammar.specs.Containers.{prefix}
+use Rattle.first_pass_grammar.specs.Kinds.{item_at, definition_marker_at, is_blank_rest, quote_start}
+use Rattle.first_pass_grammar.specs.Openers.{Start as ContainerStart, item_start, definition_start, quote_begun, task_after, tag_after, after_quote}
+use Rattle.first_pass_grammar.specs.declared.kind.Container.TheVariants.{BlockQuote}
+use Rattle.first_pass_grammar.proofs.Sequences.OpenerFacts.{marker_where, start_item, start_definition, start_quote, start_none}
+use Rattle.first_pass_open.proofs.PlaceLemmas.{item_keeps, quote_absent}
+use Rattle.first_pass_containers.specs.declared.openers.Opener.TheVariants.{Quote, Item as ItemOpener, Definition as DefinitionOpener}
+use Rattle.first_pass_grammar.specs.declared.kind.AfterMarker.{AfterMarker}
+use Rattle.first_pass_containers.specs.declared.openers.Start.{Start}
+use Rattle.first_pass_containers.specs.Starts.{item_after, StartMatches}
+use Rattle.first_pass_containers.proofs.Openings.Indented.{no_item, no_definition, no_quote_prefix, is_far, is_indented}
+use Rattle.first_pass_containers.proofs.Openings.OpenerLemmas.{item_found, item_absent}
+use Rattle.first_pass_containers.proofs.Openings.StartFound.{definition_found, definition_absent, same_place, matches, matches_none, quote_here}
+use Rattle.first_pass_containers.proofs.openers.start_at.Goals as goal
+use Rattle.first_pass_containers.proofs.openers.start_at.Goals.{In-Some}
+
+-- a start in terms of the pass
+tells : (s : ContainerStart) (r : Option Start) (t : Start) → r ≡ Some t → StartMatches s t → IsSomeAnd r (StartMatches s)
+tells s r t is h = subst (λ (f : Option Start). IsSomeAnd f (StartMatches s)) (sym is) h
+
+-- no container begins after four columns or more
+pub returns-then-columns-ge4 : goal.returns-then-columns-ge4
+returns-then-columns-ge4 c =
+    let p : Place = place_at c.place.inside.line c.place.inside.rest in
+    let options = c.args.source.now.options in
+    let may = c.args.may_define in
+    let far = is_far p.rest c.copy-mark.result _ c.copy-mark.ensures c.scan_indentation-columns.ensures.columns c.if-columns-ge4.true in
+    rw (← c.place.view_is) (matches_none _ _ _
+    (start_none options may p (no_item p.rest far) (no_definition may p far) (no_quote_prefix p.rest far)) (refl, refl))
+
+-- what each call reads begins with the indentation
+pub scan_item-requires : goal.scan_item-requires
+scan_item-requires c =
+    is_indented c.place.inside.rest c.copy-mark.result _ _ c.copy-mark.ensures c.scan_indentation-columns.ensures.columns
+    c.scan_indentation-columns.ensures.rest c.if-columns-ge4.false
+
+pub scan_definition-requires : goal.scan_definition-requires
+scan_definition-requires c =
+    let r : Rest = c.place.inside.rest in
+    let item = item_absent (item_at r) c.scan_item.result r c.scan_item.new.line_start c.in_default.is c.scan_item.ensures in
+    is_indented c.scan_item.new.line_start c.copy-mark.result _ _ (c.copy-mark.ensures ∙ sym item.1) c.scan_indentation-columns.ensures.columns
+    c.scan_indentation-columns.ensures.rest c.if-columns-ge4.false
+
+pub scan_quote_mark-requires : goal.scan_quote_mark-requires
+scan_quote_mark-requires c =
+    let r : Rest = c.place.inside.rest in
+    let first : Rest = c.scan_item.new.line_start in
+    let here : Rest = c.scan_definition.new.line_start in
+    let item = item_absent (item_at r) c.scan_item.result r first c.in_default.is c.scan_item.ensures in
+    let none =
+    definition_absent (if c.args.may_define then definition_marker_at first else None) c.scan_definition.result first here
+    c.in_default-scan_definition.is c.scan_definition.ensures in (
+      c.scan_indentation-columns.result,
+      is_indented here c.copy-mark.result _ _ (c.copy-mark.ensures ∙ sym (none.1 ∙ item.1)) c.scan_indentation-columns.ensures.columns
+          c.scan_indentation-columns.ensures.rest c.if-columns-ge4.false,
+    )
+
+-- the item that begins there
+taken : (c : In-Some)
+    → item_at c.place.inside.rest ≡ Some ((c.in-Some.marker.byte, c.in-Some.marker.number, c.in-Some.marker.indent), c.scan_item.new.line_start)
+taken c = item_found _ c.scan_item.result c.in-Some.marker c.place.inside.rest c.scan_item.new.line_start c.in-Some.is c.scan_item.ensures
+
+pub scan_task-task-requires-clause-place : goal.scan_task-task-requires-clause-place
+scan_task-task-requires-clause-place c =
+    (item_keeps c.args.source.now.text.now c.place.inside.line c.place.inside.rest _ c.requires.utf8
+    (taken (goal.at.scan_task-task-requires-clause-place c).In-Some) (same_place _ _ _ c.place.view_is c.requires.place)).0
+
+pub returns-in-Some : goal.returns-in-Some
+returns-in-Some c =
+    let p : Place = place_at c.place.inside.line c.place.inside.rest in
+    let options = c.args.source.now.options in
+    let marker = c.in-Some.marker in
+    let task : Option Item × Rest = task_after options c.place.inside.line c.scan_item.new.line_start in
+    let start : ℕ → AfterMarker → Option Start = λ n after. Some (record { opener = ItemOpener marker; start = n; after = after }) in
+    let over : c.is_some-is_over.result ≡ is_blank_rest task.1 =
+    c.is_some-is_over.ensures ∙ ap is_some c.scan_blank_line.ensures.value
+    ∙ ap (λ (bs : List ℕ). is_some (blank_len bs)) (c.left.ensures ∙ ap (λ (q : Place). q.rest.left) c.scan_task-task.ensures.place) in
+    let after : c.item_after.result ≡ item_after task.0 (is_blank_rest task.1) =
+    c.item_after.ensures ∙ ap (λ (m : Option Item). item_after m c.is_some-is_over.result) c.scan_task-task.ensures.marker ∙ ap (item_after task.0) over in
+    rw (← c.place.view_is) (matches _ _ _ _
+    (start_item options c.args.may_define p ((marker.byte, marker.number, marker.indent), c.scan_item.new.line_start)
+    (taken (goal.at.returns-in-Some c).In-Some)) (
+      tells (item_start p (marker.byte, marker.number, marker.indent) task) _ _
+          (ap (λ (n : ℕ). start n c.item_after.result) (c.offset-before.ensures ∙ ap offset (sym c.place.view_is)) ∙ ap (start (offset p)) after)
+          (record { opener = refl; start = refl; after = refl }),
+      c.scan_task-task.ensures.place,
+    ))
+
+pub returns-in-Some-scan_definition : goal.returns-in-Some-scan_definition
+returns-in-Some-scan_definition c =
+    let p : Place = place_at c.place.inside.line c.place.inside.rest in
+    let options = c.args.source.now.options in
+    let indent = c.in-Some-scan_definition.indent in
+    let following : Rest = c.scan_definition.new.line_start in
+    let item =
+    item_absent (item_at c.place.inside.rest) c.scan_item.result c.place.inside.rest c.scan_item.new.line_start c.in_default.is c.scan_item.ensures in
+    let marker : marker_where c.args.may_define p ≡ Some (indent, following) =
+    ap (λ (r : Rest). if c.args.may_define then definition_marker_at r else None) (sym item.1)
+    ∙ definition_found _ c.scan_definition.result indent c.scan_item.new.line_start following c.in-Some-scan_definition.is c.scan_definition.ensures in
+    let start : ℕ → AfterMarker → Option Start = λ n after. Some (record { opener = DefinitionOpener indent; start = n; after = after }) in
+    let over = c.is_some-is_over-in-Some-scan_definition.ensures ∙ ap is_some c.scan_blank_line-in-Some-scan_definition.ensures.value
+    ∙ ap (λ (bs : List ℕ). is_some (blank_len bs)) c.left-in-Some-scan_definition.ensures in
+    let after = c.item_after-in-Some-scan_definition.ensures ∙ ap (item_after None) over in
+    rw (← c.place.view_is) (matches _ _ _ _ (start_definition options c.args.may_define p (indent, following) item.0 marker) (
+      tells (definition_start p (indent, following)) _ _
+          (ap (λ (n : ℕ). start n c.item_after-in-Some-scan_definition.result) (c.offset-before.ensures ∙ ap offset (sym c.place.view_is))
+          ∙ ap (start (offset p)) after)
+          (record { opener = refl; start = refl; after = refl }),
+      refl,
+    ))
+
+-- no definition was read before the search for a block quote
+pub returns-in_err-quote : goal.returns-in_err-quote
+returns-in_err-quote c =
+    let p : Place = place_at c.place.inside.line c.place.inside.rest in
+    let may : Bool = c.args.may_define in
+    let first : Rest = c.scan_item.new.line_start in
+    let here : Rest = c.scan_definition.new.line_start in
+    let item = item_absent (item_at p.rest) c.scan_item.result p.rest first c.in_default.is c.scan_item.ensures in
+    let none =
+    definition_absent (if may then definition_marker_at first else None) c.scan_definition.result first here c.in_default-scan_definition.is
+    c.scan_definition.ensures in
+    let marker : marker_where may p ≡ None = ap (λ (r : Rest). if may then definition_marker_at r else None) (sym item.1) ∙ none.0 in
+    let same : here ≡ p.rest = none.1 ∙ item.1 in
+    let quote = quote_absent _ c.scan_quote_mark.result _ here c.scan_quote_mark.new.line_start c.in_err-quote.was c.scan_quote_mark.ensures in
+    rw (← c.place.view_is) (matches_none _ _ _
+    (start_none c.args.source.now.options may p item.0 marker (ap (prefix (BlockQuote None)) (sym same) ∙ quote.0))
+    (c.from_residual.ensures, ap (place_at p.line) (quote.1 ∙ same)))
+
+pub returns : goal.returns
+returns c =
+    let p : Place = place_at c.place.inside.line c.place.inside.rest in
+    let options = c.args.source.now.options in
+    let may : Bool = c.args.may_define in
+    let first : Rest = c.scan_item.new.line_start in
+    let here : Rest = c.scan_definition.new.line_start in
+    let inside : Rest = c.scan_quote_mark.new.line_start in
+    let item = item_absent (item_at p.rest) c.scan_item.result p.rest first c.in_default.is c.scan_item.ensures in
+    let none =
+    definition_absent (if may then definition_marker_at first else None) c.scan_definition.result first here c.in_default-scan_definition.is
+    c.scan_definition.ensures in
+    let marker : marker_where may p ≡ None = ap (λ (r : Rest). if may then definition_marker_at r else None) (sym item.1) ∙ none.0 in
+    let quote = quote_here p.rest here inside c.scan_quote_mark.result c.in_ok-quote.quote (none.1 ∙ item.1) c.in_ok-quote.was c.scan_quote_mark.ensures in
+    let start : Option BlockQuoteKind → ℕ → AfterMarker → Option Start = λ kind n after. Some (record { opener = Quote kind; start = n; after = after }) in
+    rw (← c.place.view_is) (matches _ _ _ _ (start_quote options may p inside item.0 marker quote.0) (
+      tells (quote_begun p (tag_after options inside) inside) _ _ (
+          ap (start c.scan_tag-tag.result (p.line + c.in_ok-quote.quote)) c.after_quote.ensures
+          ∙ ap (λ (n : ℕ). start c.scan_tag-tag.result (p.line + n) (after_quote c.scan_tag-tag.result)) quote.1
+          ∙ ap (λ (kind : Option BlockQuoteKind). start kind (quote_start p) (after_quote kind)) c.scan_tag-tag.ensures)
+          (record { opener = refl; start = refl; after = refl }),
+      refl,
+    ))

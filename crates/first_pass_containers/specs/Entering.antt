@@ -1,0 +1,38 @@
+-- The open nodes that a line closes, and a line that is entered (only calls of this crate cite this).
+use Rattle.std.specs.Prelude.{◌≡◌, ℕ, ◌+◌, ◌≤◌, List, length, drop, Option, Some, None, IsCharBoundary}
+use Rattle.first_pass_items.specs.declared.option_set.Options.{Options}
+use Rattle.first_pass_tree.specs.declared.tree_index.TreeIndex.{TreeIndex}
+use Rattle.first_pass_lines.specs.Lines.{line_len}
+use Rattle.first_pass_lines.specs.Places.{Place, start_of}
+use Rattle.first_pass_grammar.specs.Counting.{counted_nodes}
+use Rattle.first_pass_grammar.specs.Derivation.{Tables}
+use Rattle.first_pass_grammar.specs.Leaves.{Document}
+use Rattle.first_pass_grammar.specs.Names.{Names, AreNamed}
+use Rattle.first_pass_grammar.specs.WholeTables.{HasWholeTables}
+use Rattle.first_pass_open.specs.Path.{path_in}
+use Rattle.first_pass_open.specs.declared.source.Source.{Source}
+use Rattle.first_pass_lists.specs.declared.state.PassState.{PassState}
+use Rattle.first_pass_ready.specs.State.{NoMore, Ready}
+use Rattle.first_pass_order.specs.Ordered.{IsReadTo}
+use Rattle.first_pass_containers.specs.Positions.{LineAt, InLine, IsInLine, ReadsTo}
+
+-- The open nodes except the outermost `kept` are closed at an offset. No path of containers changes. If the lines
+-- from there on continue none of the closed nodes, the state still begins a derivation. If it was in order, it is in
+-- order up to the offset. No node is added, every index that named an entry still does, and whole tables stay whole.
+pub record ClosesAt (old new : PassState) (kept ix : ℕ) : Type 0 where
+  pub paths : (options : Options) (s : List TreeIndex) → path_in options new.tree.nodes s ≡ path_in options old.tree.nodes s
+  pub ready : (d : Document) (defined : Tables) (lines : List Place) → start_of (length d.text) lines ≡ ix → NoMore d.options old.tree kept lines
+      → Ready d defined old lines → Ready d defined new lines
+  pub order : (text : List ℕ) → ix ≤ length text → IsCharBoundary text ix → IsReadTo text old ix → IsReadTo text new ix
+  pub count : counted_nodes new.tree.nodes ≤ counted_nodes old.tree.nodes
+  pub named : (names : Names) → AreNamed names old.tree.nodes → AreNamed names new.tree.nodes
+  pub tables : (names : Names) → HasWholeTables names old.tree → HasWholeTables names new.tree
+  pub all_kept : kept ≡ length old.tree.spine → new ≡ old
+
+-- The line at an offset is entered: reading is at a place in it, and no item is empty. Without a place, reading has
+-- passed the line.
+abbrev pub EntersLine : Source → PassState → PassState → ℕ → Option Place → Type 0
+EntersLine source old new start None = ReadsTo source start old new (LineAt start) (LineAt (start + line_len (drop start source.text.now)))
+EntersLine source old new start (Some p) =
+    IsInLine source.text.now start (start + line_len (drop start source.text.now)) p × (new.begin_list_item ≡ None)
+    × ReadsTo source start old new (LineAt start) (InLine p)
