@@ -1,5 +1,5 @@
 -- The open nodes that a line closes, and a line that is entered (only calls of this crate cite this).
-use Rattle.std.specs.Prelude.{◌≡◌, ℕ, ◌+◌, ◌≤◌, List, length, drop, Option, Some, None, IsCharBoundary}
+use Rattle.std.specs.Prelude.{◌≡◌, ℕ, zero, suc, ◌+◌, ◌≤◌, List, length, drop, Option, Some, None, IsCharBoundary}
 use Rattle.first_pass_items.specs.declared.option_set.Options.{Options}
 use Rattle.first_pass_tree.specs.declared.tree_index.TreeIndex.{TreeIndex}
 use Rattle.first_pass_lines.specs.Lines.{line_len}
@@ -11,10 +11,16 @@ use Rattle.first_pass_grammar.specs.Names.{Names, AreNamed}
 use Rattle.first_pass_grammar.specs.WholeTables.{HasWholeTables}
 use Rattle.first_pass_open.specs.Path.{path_in}
 use Rattle.first_pass_open.specs.declared.source.Source.{Source}
+use Rattle.first_pass_lists.specs.Closing.{popped}
 use Rattle.first_pass_lists.specs.declared.state.PassState.{PassState}
 use Rattle.first_pass_ready.specs.State.{NoMore, Ready}
 use Rattle.first_pass_order.specs.Ordered.{IsReadTo}
 use Rattle.first_pass_containers.specs.Positions.{LineAt, InLine, IsInLine, ReadsTo}
+
+-- the state after this many open nodes are closed at an offset, the innermost first
+unfoldable pub all_popped : ℕ → ℕ → PassState → PassState
+all_popped zero at r = r
+all_popped (suc n) at r = all_popped n at (popped at r)
 
 -- The open nodes except the outermost `kept` are closed at an offset. No path of containers changes. If the lines
 -- from there on continue none of the closed nodes, the state still begins a derivation. If it was in order, it is in

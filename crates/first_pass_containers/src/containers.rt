@@ -1,9 +1,9 @@
 //! The open containers: how far a line continues them, and how they are closed and opened (CommonMark 5).
 
-ghost use Rattle.std.specs.Prelude.{◌≡◌, ◌<◌, ◌≤◌, length, None, OnOk, IsUtf8, IsCharBoundary, true};
+ghost use Rattle.std.specs.Prelude.{◌≡◌, ◌<◌, ◌≤◌, ◌-◌, length, None, OnOk, IsUtf8, IsCharBoundary, true};
 ghost use Rattle.first_pass_lines.specs.Places.{line_end, IsPlaceOf};
 ghost use Rattle.first_pass_open.specs.Path.{outer};
-ghost use Rattle.first_pass_containers.specs.Entering.{ClosesAt, EntersLine};
+ghost use Rattle.first_pass_containers.specs.Entering.{all_popped, ClosesAt, EntersLine};
 ghost use Rattle.first_pass_lists.specs.Closing.{footnote_ended};
 ghost use Rattle.first_pass_containers.specs.Positions.{LineAt, ReadsTo, may_define};
 ghost use Rattle.first_pass_containers.specs.Starts.{start_opened, BeginsNoContainer};
@@ -27,6 +27,7 @@ use std::alloc::AllocError;
 /// changes (CommonMark 5).
 pub fn close_containers(state: &mut PassState, kept: usize, ix: usize)
     requires { kept ≤ length state.old.tree.spine }
+    ensures value { state.new ≡ all_popped (length state.old.tree.spine - kept) ix state.old }
     ensures spine { state.new.tree.spine ≡ outer kept state.old.tree.spine }
     ensures kept { ClosesAt state.old state.new kept ix }
 {

@@ -1,15 +1,37 @@
-use Rattle.std.proofs.Common.{◌≤◌, length, refl, sym, ap, subst, arith}
+use Rattle.std.proofs.Common.{◌≡◌, ℕ, suc, ◌-◌, ◌<◌, ◌≤◌, List, [], ◌∷◌, length, refl, sym, ap, subst, ◌∙◌, arith}
+use Rattle.first_pass_tree.specs.declared.tree_index.TreeIndex.{TreeIndex}
+use Rattle.first_pass_lists.specs.Closing.{popped}
 use Rattle.first_pass_lists.specs.declared.state.PassState.{PassState}
 use Rattle.first_pass_order.specs.Ordered.{IsReadTo}
 use Rattle.first_pass_order.proofs.NamedLemmas.{AreReadNamed, popped_named}
 use Rattle.first_pass_order.proofs.CountLemmas.{count, popped_count}
 use Rattle.first_pass_order.proofs.PopOrder.{read_popped}
-use Rattle.first_pass_ready.proofs.StateLemmas.{closed_none, closed_one}
+use Rattle.first_pass_ready.proofs.StateLemmas.{closed_none, closed_one, popped_spine}
 use Rattle.first_pass_order.proofs.WholeKept.{IsReadWhole, popped_whole}
+use Rattle.first_pass_containers.specs.Entering.{all_popped}
 use Rattle.first_pass_containers.proofs.containers.close_containers.Goals as goal
+
+one_less : (at n : ℕ) (r : PassState) (spine : List TreeIndex) → r.tree.spine ≡ spine → length spine ≡ suc n → length (popped at r).tree.spine ≡ n
+one_less at n r [] is size = absurd (omega arith)
+one_less at n r (ix ∷ rest) is size = let left = ap length (popped_spine at r ix rest is) in omega arith
+
+-- one of the open nodes that are to be closed is closed, and one less is left
+one_popped : (kept at : ℕ) (r : PassState) → kept < length r.tree.spine
+    → all_popped (length (popped at r).tree.spine - kept) at (popped at r) ≡ all_popped (length r.tree.spine - kept) at r
+unfolding all_popped
+one_popped kept at r more =
+    let n : ℕ = length r.tree.spine - 1 in
+    let less : length (popped at r).tree.spine ≡ n = one_less at n r r.tree.spine refl (omega arith) in
+    let size : length r.tree.spine - kept ≡ suc (n - kept) = omega arith in
+    ap (λ k. all_popped (k - kept) at (popped at r)) less ∙ sym (ap (λ k. all_popped k at r) size)
+
+none_popped : (n at : ℕ) (r : PassState) → n ≡ 0 → all_popped n at r ≡ r
+unfolding all_popped
+none_popped n at r none = ap (λ k. all_popped k at r) none
 
 pub loop-state-init : goal.loop-state-init
 loop-state-init c = record {
+  value = refl;
   closed = closed_none c.args.state.now c.args.kept c.args.ix c.requires;
   order = λ text within boundary ordered. ordered;
   none_added = omega arith;
@@ -25,6 +47,8 @@ loop-state-preserved c =
     let more = c.loop-state-test.true in
     let one = closed_one _ _ _ c.args.kept c.args.ix c.recall_forest.ensures c.pop.ensures (omega arith) i.closed in
     record {
+      value = ap (λ (q : PassState). all_popped (length q.tree.spine - c.args.kept) c.args.ix q) c.pop.ensures
+          ∙ one_popped c.args.kept c.args.ix _ (omega arith) ∙ i.value;
       closed = one.0;
       order = λ text within boundary ordered. subst (λ (q : PassState). IsReadTo text q c.args.ix) (sym c.pop.ensures)
           (read_popped text _ c.args.ix c.args.ix (omega arith) within boundary (i.order text within boundary ordered));
@@ -39,6 +63,13 @@ loop-state-smaller c =
     let n = c.spine_len.ensures in
     let more = c.loop-state-test.true in
     (closed_one _ _ _ c.args.kept c.args.ix c.recall_forest.ensures c.pop.ensures (omega arith) c.loop-state.invariant.closed).1
+
+pub returns-clause-value : goal.returns-clause-value
+returns-clause-value c =
+    let i = c.loop-state.invariant in
+    let n = c.spine_len.ensures in
+    let done = c.loop-state-test.false in
+    sym (none_popped _ c.args.ix _ (omega arith)) ∙ i.value
 
 pub returns-clause-kept : goal.returns-clause-kept
 returns-clause-kept c =
