@@ -1,4 +1,5 @@
 pub mod AttributeFacts
 pub mod BlockFacts
 pub mod BreakFacts
+pub mod MemoryFacts
 pub mod WordFacts

@@ -11,10 +11,10 @@ use Rattle.std.proofs.lemmas.Str.{IsCharBoundary-end, IsCharBoundary-before_asci
 use Rattle.first_pass_attributes.specs.Attributes.{is_between_words, is_attribute_word, words}
 
 -- a byte of a word
-abbrev in_word : ℕ → Bool
+abbrev pub in_word : ℕ → Bool
 in_word b = not (is_between_words b)
 
-separator_is_ascii : (b : ℕ) → is_between_words b ≡ true → b < 128
+pub separator_is_ascii : (b : ℕ) → is_between_words b ≡ true → b < 128
 separator_is_ascii b h = grind (arith, nat_tests, h)
 
 kept : (b : ℕ) (bs : List ℕ) (parts : List (List ℕ))
@@ -36,27 +36,37 @@ plain bs n e k d l =
     let low : k < n = omega (arith, length-take n bs) in
     ap is_between_words (get_or-take n bs k d low) ∙ not-true _ (prefix_len_passes in_word bs k d (omega (arith, e, low)))
 
-stops : (bs : List ℕ) (n : ℕ) → n ≡ prefix_len in_word bs → n < length bs → is_between_words (get_or bs n 0) ≡ true
+-- the byte after a word is between words
+pub stops : (bs : List ℕ) (n : ℕ) → n ≡ prefix_len in_word bs → n < length bs → is_between_words (get_or bs n 0) ≡ true
 stops bs n e less = not-false _ (ap (λ k. in_word (get_or bs k 0)) e ∙ prefix_len_stops in_word bs 0 (omega (arith, e, less)))
+
+-- the first part of bytes, and those after it
+pub split-next : (bs : List ℕ) (n : ℕ) → n ≡ prefix_len in_word bs → n < length bs
+    → slice_split is_between_words bs ≡ take n bs ∷ slice_split is_between_words (drop (n + 1) bs)
+split-next bs n e less =
+    let b : ℕ = get_or bs n 0 in
+    let later : List ℕ = drop (n + 1) bs in
+    let parts : bs ≡ take n bs ++ b ∷ later = sym (take-append-drop n bs) ∙ ap (λ l. take n bs ++ l) (drop_more bs n 0 less) in
+    ap (slice_split is_between_words) parts ∙ slice_split_at is_between_words (take n bs) b later (plain bs n e) (stops bs n e less)
+
+pub split-last : (bs : List ℕ) (n : ℕ) → n ≡ prefix_len in_word bs → n ≡ length bs → slice_split is_between_words bs ≡ take n bs ∷ []
+split-last bs n e all =
+    let same : take n bs ≡ bs = take_all n bs (omega (arith, all)) in
+    ap (slice_split is_between_words) (sym same) ∙ slice_split_none is_between_words (take n bs) (plain bs n e)
 
 -- the words with attributes are the first part, if it is one, and those after it
 pub words-next : (bs : List ℕ) (n : ℕ) → n ≡ prefix_len in_word bs → n < length bs
     → filter is_attribute_word (words bs) ≡ filter is_attribute_word (take n bs ∷ words (drop (n + 1) bs))
 unfolding words
 words-next bs n e less =
-    let b : ℕ = get_or bs n 0 in
-    let later : List ℕ = drop (n + 1) bs in
-    let parts : bs ≡ take n bs ++ b ∷ later = sym (take-append-drop n bs) ∙ ap (λ l. take n bs ++ l) (drop_more bs n 0 less) in
-    let split = ap (slice_split is_between_words) parts ∙ slice_split_at is_between_words (take n bs) b later (plain bs n e) (stops bs n e less) in
-    ap (λ l. filter is_attribute_word (filter (λ part. nat_lt 0 (length part)) l)) split ∙ told (take n bs) (slice_split is_between_words later)
+    ap (λ l. filter is_attribute_word (filter (λ part. nat_lt 0 (length part)) l)) (split-next bs n e less)
+    ∙ told (take n bs) (slice_split is_between_words (drop (n + 1) bs))
 
 pub words-last : (bs : List ℕ) (n : ℕ) → n ≡ prefix_len in_word bs → n ≡ length bs
     → filter is_attribute_word (words bs) ≡ filter is_attribute_word (take n bs ∷ [])
 unfolding words
 words-last bs n e all =
-    let same : take n bs ≡ bs = take_all n bs (omega (arith, all)) in
-    let split = ap (slice_split is_between_words) (sym same) ∙ slice_split_none is_between_words (take n bs) (plain bs n e) in
-    ap (λ l. filter is_attribute_word (filter (λ part. nat_lt 0 (length part)) l)) split ∙ told (take n bs) []
+    ap (λ l. filter is_attribute_word (filter (λ part. nat_lt 0 (length part)) l)) (split-last bs n e all) ∙ told (take n bs) []
 
 -- a word ends on a character boundary, and the next one begins on one
 pub word-end : (bs : List ℕ) (n : ℕ) → n ≡ prefix_len in_word bs → IsCharBoundary bs n

@@ -1,6 +1,6 @@
 -- The attributes in an attribute block: `#install` is an id, `.wide` a class, and `lang=en` and `draft` are keys
 -- (this project).
-use Rattle.std.specs.Prelude.{ℕ, ◌+◌, ◌==◌, ◌||◌, not, Bool, List, [], ◌∷◌, ◌++◌, length, map, filter, take, drop, Option, Some, None, nat_lt}
+use Rattle.std.specs.Prelude.{◌⊎◌, ℕ, ◌+◌, ◌<◌, ◌==◌, ◌||◌, not, Bool, List, [], ◌∷◌, ◌++◌, length, map, filter, take, drop, Option, Some, None, nat_lt}
 use Rattle.std.specs.Option.{option_map, option_map_or}
 use Rattle.std.specs.List.{slice_split, position}
 use Rattle.std.specs.Borrow.{Bor}
@@ -53,6 +53,10 @@ with_words before ws = record {
   classes = before.classes ++ marked full_stop ws;
   attrs = before.attrs ++ map key_and_value (filter gives_key ws);
 }
+
+-- attributes with more than one class, or more than one key (this project)
+abbrev pub HasSeveral : Attributes → Type 0
+HasSeveral a = (1 < length a.classes) ⊎ (1 < length a.attrs)
 
 -- no attributes (this project)
 abbrev pub no_attributes : Attributes

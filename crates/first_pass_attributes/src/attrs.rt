@@ -1,15 +1,16 @@
 //! The attribute block at the end of a heading, and its attributes (this project).
 
 ghost use Rattle.std.specs.Int.{bit_at};
-ghost use Rattle.std.specs.List.{position, prefix_len, suffix_len};
+ghost use Rattle.std.specs.List.{suffix_len};
 ghost use Rattle.std.specs.Option.{option_map};
-ghost use Rattle.std.specs.Prelude.{◌≡◌, ◌==◌, ◌^◌, ℕ, ◌≤◌, ◌<◌, ◌+◌, ◌-◌, not, length, true, take, drop, slice_index, IfSome, IfOk, OnOk, IsSomeAnd, Some, None, IsUtf8, IsCharBoundary, filter, [], ◌∷◌};
-ghost use Rattle.first_pass_items.specs.Bytes.{left_brace, right_brace, equals_sign};
+ghost use Rattle.std.specs.Prelude.{◌≡◌, ◌==◌, ◌^◌, ℕ, ◌≤◌, ◌<◌, ◌+◌, ◌-◌, length, true, take, drop, slice_index, IfSome, IfOk, OnOk, OnErr, IsSomeAnd, Some, None, IsUtf8, IsCharBoundary, filter, [], ◌∷◌};
+ghost use Rattle.first_pass_items.specs.Bytes.{left_brace, right_brace};
 ghost use Rattle.first_pass_lines.specs.Lines.{ends as ends_with};
 ghost use Rattle.first_pass_attributes.specs.AttributeBlocks.{is_after_block, is_inside_block, opening_brace as opening_of, length_before_block, inside_block};
-ghost use Rattle.first_pass_attributes.specs.Attributes.{is_between_words, is_attribute_word, key_and_value as key_and_value_of, with_words, attributes_of, pair_in, attributes_in};
+ghost use Rattle.first_pass_attributes.specs.Attributes.{is_attribute_word, key_and_value as key_and_value_of, with_words, attributes_of, pair_in, attributes_in, HasSeveral};
 
 pub use crate::short_list::ShortList;
+use crate::words::{scan_key, scan_word};
 use first_pass_lines::lanes::LANES;
 use first_pass_lines::lines::{is_line_end, is_space_or_tab};
 use std::alloc::{AllocError, Global};
@@ -161,13 +162,15 @@ pub struct HeadingAttributes<'a> {
 /// line endings separate its words, and words of one byte are ignored. `#install` is an id, and the last id counts.
 /// `.wide` is a class. Any other word is a key; its value, if any, is the part after its first `=`. The key and the
 /// value may be empty. Fails only if an allocation fails. With at most one class and at most one key, it allocates
-/// nothing (this project).
+/// nothing, and doesn't fail (this project).
 #[inline(always)]
 pub fn parse_inside_attribute_block<'a>(
     alloc: Global,
     inside_attr_block: &'a str,
 ) -> Result<Option<HeadingAttributes<'a>>, AllocError>
-    ensures { IfOk result (λ answer. IsSomeAnd answer (λ h. attributes_in h ≡ attributes_of inside_attr_block.now)) }
+    ensures value { IfOk result (λ answer.
+        IsSomeAnd answer (λ h. attributes_in h ≡ attributes_of inside_attr_block.now)) }
+    ensures err { OnErr result (HasSeveral (attributes_of inside_attr_block.now)) }
 {
     let mut attributes = HeadingAttributes {
         id: None,
@@ -185,25 +188,6 @@ pub fn parse_inside_attribute_block<'a>(
     }
 }
 
-// The number of bytes before the first one that separates words.
-#[inline(always)]
-fn scan_word(bytes: &[u8]) -> usize
-    ensures value { result ≡ prefix_len (λ b. not (is_between_words b)) bytes.now }
-    ensures within { result ≤ length bytes.now }
-{
-    bytes.iter().take_while(|b| !is_between_words(**b)).count()
-}
-
-// Whether a byte separates words. Most bytes are above a space.
-fn is_between_words(byte: u8) -> bool
-    ensures { result ≡ is_between_words byte }
-{
-    if byte > b' ' {
-        return false;
-    }
-    matches!(byte, b'\t' | b'\x0c' | b' ' | b'\n' | b'\r')
-}
-
 // Adds the attribute of a word, if it has one.
 #[inline(always)]
 fn add_word<'a>(
@@ -211,8 +195,10 @@ fn add_word<'a>(
     attributes: &mut HeadingAttributes<'a>,
     word: &'a str,
 ) -> Result<(), AllocError>
-    ensures { OnOk result (attributes_in attributes.new
+    ensures value { OnOk result (attributes_in attributes.new
         ≡ with_words (attributes_in attributes.old) (filter is_attribute_word (word.now ∷ []))) }
+    ensures err { OnErr result (HasSeveral
+        (with_words (attributes_in attributes.old) (filter is_attribute_word (word.now ∷ [])))) }
 {
     if !is_attribute_word(word) {
         return Ok(());
@@ -258,14 +244,4 @@ fn key_and_value(word: &str) -> (&str, Option<&str>)
         None => (word, None),
         Some(at) => (&word[..at], Some(&word[at + 1..])),
     }
-}
-
-// The number of bytes before the first `=`, if there is one.
-#[inline(always)]
-fn scan_key(bytes: &[u8]) -> Option<usize>
-    ensures value { result ≡ position (λ b. b == equals_sign) bytes.now }
-    ensures within { IfSome result (λ at. at < length bytes.now) }
-    ensures sign { IfSome result (λ at. slice_index bytes.now at ≡ equals_sign) }
-{
-    bytes.iter().position(|b| *b == b'=')
 }

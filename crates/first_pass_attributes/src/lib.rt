@@ -4,3 +4,4 @@
 pub mod attrs;
 pub mod laws;
 pub mod short_list;
+pub mod words;

@@ -1,12 +1,12 @@
 //! A list that takes no memory of its own for at most one item.
 
-ghost use Rattle.std.specs.Prelude.{◌≡◌, ◌==◌, ◌∷◌, ◌++◌, [], length, IfOk, OnOk};
+ghost use Rattle.std.specs.Prelude.{◌≡◌, ◌==◌, ◌<◌, ◌∷◌, ◌++◌, [], length, IfOk, OnOk, OnErr};
 
 use std::alloc::{AllocError, Global};
 use std::marker::Model;
 use std::ops::DerefSlice;
 
-/// A list of items. It allocates nothing for at most one item.
+/// A list of items, which is read as a slice. It allocates nothing for at most one item (this project).
 #[derive(Drop)]
 pub struct ShortList<T> {
     items: Items<T>,
@@ -21,12 +21,14 @@ pub enum Items<T> {
 }
 
 impl<T> Model for ShortList<T> {
-    ghost use Rattle.std.specs.Prelude.{List};
-    ghost use Rattle.first_pass_attributes.specs.ShortLists.{items_of};
+    ghost use Rattle.std.specs.Prelude.{◌≡◌, ◌<◌, List, length, true};
+    ghost use Rattle.first_pass_attributes.specs.ShortLists.{listed, takes_memory};
 
     ghost Value = { List T };
 
-    ghost view = { λ l. items_of l.items };
+    ghost view = { λ l. listed l.items };
+
+    ghost invariant = { λ l. takes_memory l.items ≡ true → 1 < length (listed l.items) };
 }
 
 impl<T> ShortList<T> {
@@ -73,10 +75,12 @@ impl<T> DerefSlice for ShortList<T> {
 }
 
 impl<T: Copy> ShortList<T> {
-    /// Appends an item. Fails only if an allocation fails.
+    /// Appends an item. The first item needs no allocation. Fails only if an allocation fails; then nothing changes.
     #[inline(always)]
     pub fn push(&mut self, alloc: Global, item: T) -> Result<(), AllocError>
-        ensures { OnOk result (self.new ≡ self.old ++ item ∷ []) }
+        ensures value { OnOk result (self.new ≡ self.old ++ item ∷ []) }
+        ensures refused { OnErr result (self.new ≡ self.old) }
+        ensures err { OnErr result (0 < length self.old) }
     {
         match &mut self.items {
             Items::None => {
@@ -84,7 +88,8 @@ impl<T: Copy> ShortList<T> {
                 Ok(())
             }
             Items::One(first) => {
-                let list = with_one_more(alloc, first, item)?;
+                let first = *first;
+                let list = with_one_more(alloc, &first, item)?;
                 self.items = Items::Many(list);
                 Ok(())
             }

@@ -1,7 +1,8 @@
-use Rattle.std.proofs.Common.{◌≡◌, ℕ, ◌+◌, ◌-◌, ◌<◌, ◌∷◌, [], List, filter, length, take, drop, not, refl, sym, ap, ◌∙◌, arith}
+use Rattle.std.proofs.Common.{◌≡◌, ℕ, ◌+◌, ◌-◌, ◌<◌, ◌∷◌, [], List, filter, length, take, drop, not, refl, sym, ap, subst, ◌∙◌, arith}
 use Rattle.std.specs.List.{prefix_len}
-use Rattle.first_pass_attributes.specs.Attributes.{Attributes, is_between_words, is_attribute_word, words, with_words, attributes_of, attributes_in}
+use Rattle.first_pass_attributes.specs.Attributes.{Attributes, HasSeveral, is_between_words, is_attribute_word, words, with_words, attributes_of, attributes_in}
 use Rattle.first_pass_attributes.proofs.AttributeFacts.{with-next}
+use Rattle.first_pass_attributes.proofs.MemoryFacts.{on_err, several-left}
 use Rattle.first_pass_attributes.proofs.WordFacts.{words-next, words-last, word-end, word-start}
 use Rattle.first_pass_attributes.proofs.attrs.parse_inside_attribute_block.Goals as goal
 
@@ -24,17 +25,29 @@ range_from-rest-requires c some =
     word-start text c.scan_word-end.result (c.scan_word-end.ensures.value ∙ ap (prefix_len (λ b. not (is_between_words b))) c.as_bytes.ensures.value)
     c.loop-attributes.invariant.utf8 less
 
-pub returns-then-end-rest : goal.returns-then-end-rest
-returns-then-end-rest c =
+pub returns-then-end-rest-clause-value : goal.returns-then-end-rest-clause-value
+returns-then-end-rest-clause-value c =
     let before : Attributes = attributes_in c.loop-attributes.attributes in
     let text : List ℕ = c.loop-attributes.rest.now in
     let last = words-last text c.scan_word-end.result
     (c.scan_word-end.ensures.value ∙ ap (prefix_len (λ b. not (is_between_words b))) c.as_bytes.ensures.value) c.if-end-rest.true in
     let whole : c.scan_word-end.result - 0 ≡ c.scan_word-end.result = omega arith in
-    c.in_ok-add_word.ensures
+    c.in_ok-add_word.ensures.value
     ∙ ap (λ x. with_words before (filter is_attribute_word (x ∷ []))) (c.range.ensures.value ∙ ap (λ n. take n text) whole)
     ∙ ap (with_words before) (sym last)
     ∙ c.loop-attributes.invariant.left
+
+pub returns-in_err-add_word-clause-err : goal.returns-in_err-add_word-clause-err
+returns-in_err-add_word-clause-err c =
+    let before : Attributes = attributes_in c.loop-attributes.attributes in
+    let text : List ℕ = c.loop-attributes.rest.now in
+    let end : ℕ = c.scan_word-end.result in
+    let whole : end - 0 ≡ end = omega arith in
+    let word = c.range.ensures.value ∙ ap (λ n. take n text) whole in
+    let value = c.scan_word-end.ensures.value ∙ ap (prefix_len (λ b. not (is_between_words b))) c.as_bytes.ensures.value in
+    on_err _ (subst HasSeveral c.loop-attributes.invariant.left
+    (several-left before text end value
+    (subst (λ (x : List ℕ). HasSeveral (with_words before (filter is_attribute_word (x ∷ [])))) word c.in_err-add_word.ensures.err)))
 
 pub loop-attributes-preserved : goal.loop-attributes-preserved
 loop-attributes-preserved c =
@@ -49,7 +62,7 @@ loop-attributes-preserved c =
     (c.scan_word-end.ensures.value ∙ ap (prefix_len (λ b. not (is_between_words b))) c.as_bytes.ensures.value) less in
     let whole : end - 0 ≡ end = omega arith in
     let added : attributes_in c.add_word.new.attributes ≡ with_words before (filter is_attribute_word (word ∷ [])) =
-    c.in_ok-add_word.ensures ∙ ap (λ x. with_words before (filter is_attribute_word (x ∷ []))) (c.range.ensures.value ∙ ap (λ n. take n text) whole) in
+    c.in_ok-add_word.ensures.value ∙ ap (λ x. with_words before (filter is_attribute_word (x ∷ []))) (c.range.ensures.value ∙ ap (λ n. take n text) whole) in
     record {
       utf8 = c.range_from-rest.utf8;
       left = ap (λ a. with_words a (filter is_attribute_word (words rest))) added

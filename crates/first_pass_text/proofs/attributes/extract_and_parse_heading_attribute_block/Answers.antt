@@ -86,4 +86,4 @@ returns-in_ok-attributes-in-Some-clause-attributes c =
     given_some options text c.args.header_start c.args.header_end c.range-block.result.now
     (c.in-Some.inside.start, c.in-Some.inside.«end») c.in_ok-attributes-in-Some.attributes on c.requires.to
     (found ∙ ap (λ (xs : List ℕ). inside_block (slice_range xs c.args.header_start c.args.header_end)) c.as_bytes.ensures.value)
-    c.range-block.ensures.value c.in_ok-attributes-in-Some.ensures
+    c.range-block.ensures.value c.in_ok-attributes-in-Some.ensures.value

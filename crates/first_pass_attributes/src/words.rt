@@ -1,0 +1,37 @@
+//! The words in an attribute block (this project).
+
+ghost use Rattle.std.specs.List.{position, prefix_len};
+ghost use Rattle.std.specs.Prelude.{◌≡◌, ◌==◌, ◌≤◌, ◌<◌, not, length, slice_index, IfSome};
+ghost use Rattle.first_pass_items.specs.Bytes.{equals_sign};
+ghost use Rattle.first_pass_attributes.specs.Attributes.{is_between_words};
+
+/// Returns the number of bytes before the first byte between words, or the length of `bytes` if there is none. Tabs,
+/// 0x0C, spaces and line endings are between words (this project).
+#[inline(always)]
+pub fn scan_word(bytes: &[u8]) -> usize
+    ensures value { result ≡ prefix_len (λ b. not (is_between_words b)) bytes.now }
+    ensures within { result ≤ length bytes.now }
+{
+    bytes.iter().take_while(|b| !is_between_words(**b)).count()
+}
+
+// Whether a byte separates words. Most bytes are above a space.
+fn is_between_words(byte: u8) -> bool
+    ensures { result ≡ is_between_words byte }
+{
+    if byte > b' ' {
+        return false;
+    }
+    matches!(byte, b'\t' | b'\x0c' | b' ' | b'\n' | b'\r')
+}
+
+/// Returns the length of the key of a word: the number of bytes before the first `=`. Returns `None` if there is no `=`
+/// (this project).
+#[inline(always)]
+pub fn scan_key(word: &[u8]) -> Option<usize>
+    ensures value { result ≡ position (λ b. b == equals_sign) word.now }
+    ensures within { IfSome result (λ at. at < length word.now) }
+    ensures sign { IfSome result (λ at. slice_index word.now at ≡ equals_sign) }
+{
+    word.iter().position(|b| *b == b'=')
+}
