@@ -16,8 +16,7 @@ pub struct Source<'a> {
     pub text: &'a str,
     /// The options.
     pub options: Options,
-    /// Whether each byte is special under the options. A token other than plain text may begin at a special byte, or it
-    /// may end a cell (`|`), or open or close a brace context (`{` and `}`).
+    /// Whether each byte is special under the options (`special_bytes` of `first_pass_walk`).
     pub special: [bool; 256],
     ghost marks: { MarksSpecial special options },
 }
