@@ -5,16 +5,16 @@ use Rattle.std.proofs.Common.{if◌then◌else◌}
 use Rattle.std.specs.List.{prefix_len, slice_range}
 use Rattle.std.specs.Option.{option_map_or}
 use Rattle.std.specs.declared.ops.Range.{Range}
-use Rattle.std.proofs.lemmas.Bool.{cases_lt, eqb-true, not-false}
-use Rattle.std.proofs.lemmas.Bool.Decides.{nat_tests}
+use Rattle.std.proofs.lemmas.Bool.{cases_lt, eqb-true}
 use Rattle.std.proofs.lemmas.List.{length-drop, length-take}
 use Rattle.std.proofs.lemmas.List.Elements.{All-append, All-cons, All-filter, All-map, All-nil, All-same}
 use Rattle.std.proofs.lemmas.List.Quantifiers.{position-Some}
-use Rattle.std.proofs.lemmas.List.Sums.{prefix_len_stops, prefix_len-le-length}
+use Rattle.std.proofs.lemmas.List.Sums.{prefix_len-le-length}
 use Rattle.std.proofs.lemmas.Str.{IsCharBoundary-after_ascii, IsCharBoundary-before_ascii}
 use Rattle.first_pass_items.specs.Bytes.{number_sign, full_stop, equals_sign, ascii_end}
 use Rattle.first_pass_items.specs.declared.item.Item.{Item}
 use Rattle.first_pass_attributes.specs.Attributes.{is_between_words}
+use Rattle.first_pass_attributes.proofs.WordFacts.{in_word, separator_is_ascii, stops}
 use Rattle.first_pass_places.specs.declared.attributes.AttributeKind.TheVariants.{Id, Class, Key}
 use Rattle.first_pass_places.specs.AttributeBlockPlaces.{attribute_block_range}
 use Rattle.first_pass_places.specs.AttributePlaces.{range_of, is_word_range, word_range, word_ranges, place_of, key_with, key_place}
@@ -25,28 +25,22 @@ use Rattle.first_pass_places.proofs.BlockPlaces.{is_in, part_at, part_short}
 use Rattle.first_pass_places.proofs.RangeBoundaries.{attributes_between}
 use Rattle.first_pass_places.proofs.WordPlaces.{next_word, no_words}
 
-separator_is_ascii : (b : ℕ) → is_between_words b ≡ true → b < ascii_end
-separator_is_ascii b h = grind (arith, nat_tests, h)
-
 -- a word ends on a character boundary, and the next word begins on one
 word_end : (text : List ℕ) (from end n : ℕ) → IsUtf8 text → IsCharBoundary text end → from < end
     → n ≡ prefix_len (λ b. not (is_between_words b)) (slice_range text from end)
     → IsCharBoundary text (from + n) × (from + n + 1 ≤ end → IsCharBoundary text (from + n + 1))
 word_end text from end n u stop order size =
-    let inside : ℕ → Bool = λ b. not (is_between_words b) in
     let bs : List ℕ = slice_range text from end in
     let within = stop.0 in
-    let fits = prefix_len-le-length inside bs in
+    let fits = prefix_len-le-length in_word bs in
     let rest = length-drop from text in
     let whole : length bs ≡ end - from = (let cut = length-take (end - from) (drop from text) in omega (arith, cut, rest, within)) in
     elim (cases_lt n (length bs)) as (λ _. IsCharBoundary text (from + n) × (from + n + 1 ≤ end → IsCharBoundary text (from + n + 1))) [
       | inl less ↦ (
           let low : n < end - from = omega (arith, less, whole) in
           let read : slice_index bs n ≡ slice_index text (from + n) = part_at text from (end - from) n low in
-          let stops : inside (slice_index bs n) ≡ false =
-          ap (λ k. inside (slice_index bs k)) size ∙ prefix_len_stops inside bs 0 (omega (arith, size, less)) in
           let small : slice_index text (from + n) < ascii_end =
-          separator_is_ascii (slice_index text (from + n)) (ap is_between_words (sym read) ∙ not-false (is_between_words (slice_index bs n)) stops) in
+          separator_is_ascii (slice_index text (from + n)) (ap is_between_words (sym read) ∙ stops bs n size less) in
           let there : from + n < length text = omega (arith, low, within) in
           (IsCharBoundary-before_ascii text (from + n) there small, λ more. IsCharBoundary-after_ascii text (from + n) u there small))
       | inr past ↦ (

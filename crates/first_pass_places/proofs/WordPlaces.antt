@@ -1,17 +1,17 @@
 -- The ranges of words, one after the other.
-use Rattle.std.proofs.Common.{◌≡◌, ℕ, ◌+◌, ◌-◌, ◌<◌, ◌≤◌, not, Bool, true, false, List, [], ◌∷◌, ◌++◌, length, filter, take, drop, get_or, refl, sym}
+use Rattle.std.proofs.Common.{◌≡◌, ℕ, ◌+◌, ◌-◌, ◌<◌, ◌≤◌, not, List, [], ◌∷◌, ◌++◌, length, filter, take, drop, refl, sym}
 use Rattle.std.proofs.Common.{map, Option, Some, ap, ◌∙◌, arith, inl, inr}
-use Rattle.std.specs.List.{All, slice_range, slice_split, prefix_len}
+use Rattle.std.specs.List.{slice_range, slice_split, prefix_len}
 use Rattle.std.specs.Option.{option_map_or}
 use Rattle.std.specs.declared.ops.Range.{Range}
 use Rattle.std.proofs.lemmas.Bool.{cases_lt}
 use Rattle.std.proofs.lemmas.Bool.Decides.{nat_tests}
-use Rattle.std.proofs.lemmas.List.{append-nil, get_or-take, drop-drop, drop-take, drop_more, take-append-drop, take_all, length-take, length-drop, length-map}
+use Rattle.std.proofs.lemmas.List.{append-nil, drop-drop, drop-take, length-take, length-drop, length-map}
 use Rattle.std.proofs.lemmas.List.Elements.{filter-append}
-use Rattle.std.proofs.lemmas.List.Splits.{slice_split_none, slice_split_at}
-use Rattle.std.proofs.lemmas.List.Sums.{prefix_len_passes, prefix_len_stops, prefix_len-le-length}
+use Rattle.std.proofs.lemmas.List.Sums.{prefix_len-le-length}
 use Rattle.first_pass_items.specs.declared.item.Item.{Item}
 use Rattle.first_pass_attributes.specs.Attributes.{is_between_words}
+use Rattle.first_pass_attributes.proofs.WordFacts.{in_word, split-next, split-last}
 use Rattle.first_pass_places.specs.AttributeBlockPlaces.{attribute_block_range}
 use Rattle.first_pass_places.specs.AttributePlaces.{range_of, is_word_range, word_range, ranges_from, word_ranges, attribute_place, places_in, attribute_ranges}
 
@@ -25,14 +25,6 @@ no_words text from end h =
     let zero_is : end - from ≡ 0 = omega arith in
     ap (λ n. filter is_word_range (ranges_from from (slice_split is_between_words (take n (drop from text))))) zero_is ∙ no_word_range from
 
-opposite : (t : Bool) → not t ≡ true → t ≡ false
-opposite true e = sym e
-opposite false e = refl
-
-opposite_no : (t : Bool) → not t ≡ false → t ≡ true
-opposite_no true e = refl
-opposite_no false e = sym e
-
 filter_first : (x : Range ℕ) (xs : List (Range ℕ)) → filter is_word_range (x ∷ xs) ≡ filter is_word_range (x ∷ []) ++ filter is_word_range xs
 filter_first x xs = filter-append is_word_range (x ∷ []) xs
 
@@ -43,37 +35,26 @@ pub next_word : (text : List ℕ) (from end : ℕ) → from < end → end ≤ le
 unfolding word_ranges
 next_word text from end order within =
     let bs : List ℕ = slice_range text from end in
-    let inside : ℕ → Bool = λ b. not (is_between_words b) in
-    let n : ℕ = prefix_len inside bs in
-    let fits = prefix_len-le-length inside bs in
-    let word : List ℕ = take n bs in
+    let n : ℕ = prefix_len in_word bs in
+    let fits = prefix_len-le-length in_word bs in
     let rest = length-drop from text in
     let whole : length bs ≡ end - from = (let cut = length-take (end - from) (drop from text) in omega (arith, cut, rest)) in
-    let size : length word ≡ n = (let cut = length-take n bs in omega (arith, cut, fits)) in
-    let plain : All (λ b. is_between_words b ≡ false) word =
-    (λ k d l.
-    let low : k < n = omega (arith, size) in
-    opposite (is_between_words (get_or word k d)) (ap inside (get_or-take n bs k d low) ∙ prefix_len_passes inside bs k d low)) in
+    let size : length (take n bs) ≡ n = (let cut = length-take n bs in omega (arith, cut, fits)) in
     elim (cases_lt n (length bs)) [
       | inl less ↦ (
-          let b : ℕ = get_or bs n 0 in
           let later : List ℕ = drop (n + 1) bs in
-          let parts : bs ≡ word ++ b ∷ later = sym (take-append-drop n bs) ∙ ap (λ l. word ++ l) (drop_more bs n 0 less) in
-          let stops : is_between_words b ≡ true = opposite_no (is_between_words b) (prefix_len_stops inside bs 0 less) in
-          let split = ap (slice_split is_between_words) parts ∙ slice_split_at is_between_words word b later plain stops in
           let ahead : n + 1 + (end - (from + n + 1)) ≡ end - from = omega (arith, whole) in
           let on : from + (n + 1) ≡ from + n + 1 = omega arith in
           let following : later ≡ slice_range text (from + n + 1) end =
           ap (λ m. drop (n + 1) (take m (drop from text))) (sym ahead) ∙ drop-take (n + 1) (end - (from + n + 1)) (drop from text)
           ∙ ap (take (end - (from + n + 1))) (drop-drop (n + 1) from text ∙ ap (λ m. drop m text) on) in
-          ap (λ l. filter is_word_range (ranges_from from l)) split
+          ap (λ l. filter is_word_range (ranges_from from l)) (split-next bs n refl less)
           ∙ ap (λ m. filter is_word_range (range_of from (from + m) ∷ ranges_from (from + m + 1) (slice_split is_between_words later))) size
           ∙ filter_first (range_of from (from + n)) (ranges_from (from + n + 1) (slice_split is_between_words later))
           ∙ ap (λ l. word_range from (from + n) ++ filter is_word_range (ranges_from (from + n + 1) (slice_split is_between_words l))) following)
-      | inr all ↦ (
-          let same : word ≡ bs = take_all n bs all in
-          let split = ap (slice_split is_between_words) (sym same) ∙ slice_split_none is_between_words word plain in
-          ap (λ l. filter is_word_range (ranges_from from l)) split
+      | inr past ↦ (
+          let all : n ≡ length bs = omega (arith, past, fits) in
+          ap (λ l. filter is_word_range (ranges_from from l)) (split-last bs n refl all)
           ∙ ap (λ m. filter is_word_range (range_of from (from + m) ∷ [])) size
           ∙ sym (append-nil (word_range from (from + n)))
           ∙ ap (λ l. word_range from (from + n) ++ l) (sym (no_words text (from + n + 1) end (omega (arith, whole)))))

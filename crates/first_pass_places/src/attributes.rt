@@ -1,13 +1,11 @@
 //! Where the attributes in the attribute block of a heading are written (this project).
 
-ghost use Rattle.std.specs.Prelude.{◌≡◌, ◌<◌, ◌≤◌, ◌++◌, ◌==◌, ◌+◌, not, length, map, IfOk, IfSome, OnOk, OnErr, All, IsCharBoundary};
-ghost use Rattle.std.specs.List.{position, prefix_len};
-ghost use Rattle.first_pass_items.specs.Bytes.{equals_sign};
-ghost use Rattle.first_pass_attributes.specs.Attributes.{is_between_words};
+ghost use Rattle.std.specs.Prelude.{◌≡◌, ◌<◌, ◌≤◌, ◌++◌, ◌+◌, length, map, IfOk, OnOk, OnErr, All, IsCharBoundary};
 ghost use Rattle.first_pass_places.specs.AttributePlaces.{attribute_place, attribute_ranges, key_place, range_of, word_range, word_ranges};
 ghost use Rattle.first_pass_places.specs.RangeEnds.{HasWholeCharacters};
 
 use crate::attribute_block::attribute_block_range_in;
+use first_pass_attributes::words::{scan_key, scan_word};
 use first_pass_items::item::Item;
 use std::alloc::{AllocError, Global};
 use std::ops::Range;
@@ -111,20 +109,6 @@ fn add_word(
     Ok(())
 }
 
-// The number of bytes before the first one that separates words.
-fn scan_word(bytes: &[u8]) -> usize
-    ensures value { result ≡ prefix_len (λ b. not (is_between_words b)) bytes.now }
-    ensures within { result ≤ length bytes.now }
-{
-    bytes.iter().take_while(|b| !is_between_words(**b)).count()
-}
-
-fn is_between_words(byte: u8) -> bool
-    ensures { result ≡ is_between_words byte }
-{
-    matches!(byte, b'\t' | b'\x0c' | b' ' | b'\n' | b'\r')
-}
-
 // Where the attribute of a word is written.
 fn attribute_place(text: &[u8], start: usize, end: usize) -> AttributeRanges
     requires order { start < end }
@@ -164,12 +148,4 @@ fn key_place(text: &[u8], start: usize, end: usize) -> AttributeRanges
             value: Some(start + at + 1..end),
         },
     }
-}
-
-// The number of bytes before the first `=`, if there is one.
-fn scan_key(bytes: &[u8]) -> Option<usize>
-    ensures value { result ≡ position (λ b. b == equals_sign) bytes.now }
-    ensures within { IfSome result (λ at. at < length bytes.now) }
-{
-    bytes.iter().position(|b| *b == b'=')
 }
