@@ -12,7 +12,7 @@ pub struct ShortList<T> {
     items: Items<T>,
 }
 
-// The items of a list: none, one, or any number on the heap.
+// The items of a list: none, one, or more on the heap.
 #[derive(Drop)]
 pub enum Items<T> {
     None,

@@ -3,12 +3,12 @@ use Rattle.std.proofs.Common.{◌≡◌, ℕ, ◌+◌, ◌-◌, ◌%◌, ◌^◌
 use Rattle.std.proofs.Common.{[], zero, suc, drop}
 use Rattle.std.proofs.Common.{ap, ap₂, ◌∙◌, subst, arith, inl, inr}
 use Rattle.std.proofs.lemmas.Bool.{agree_below, agree_below_at, not-true, not-false, cases_eq, eq-eqb, ne_eqb, cond-true, cond-false}
-use Rattle.std.proofs.lemmas.Simd.{map-map, mask_l-mod, length-chunk, get_or-chunk, leading_from_mask_l, trailing_mask_l}
-use Rattle.std.proofs.lemmas.List.{length-map}
+use Rattle.std.proofs.lemmas.Simd.{length-chunk, get_or-chunk, leading_from_mask_l, trailing_mask_l}
 use Rattle.std.proofs.lemmas.List.Sums.{prefix_len-le-length, prefix_len_passes, prefix_len_stops}
 use Rattle.std.specs.List.{prefix_len}
 use lib.Lanes.{chunk, zip2, mask_l, top}
 use Rattle.first_pass_lines.specs.Lanes.{first_set, IsRunIn}
+use Rattle.first_pass_lines.proofs.MaskLemmas.{mask_is}
 
 zip2-map : (h : ℕ → ℕ → ℕ) (f g : ℕ → ℕ) (xs : List ℕ) → zip2 h (map f xs) (map g xs) ≡ map (λ x. h (f x) (g x)) xs
 zip2-map h f g [] = refl
@@ -39,11 +39,7 @@ module _ (q : ℕ → Bool) (d : List ℕ) (i n r : ℕ) (z : List ℕ) (room : 
   long = length-chunk i n d room
 
   counted : r ≡ prefix_len (λ x. not (stops x)) (chunk i n d)
-  counted =
-      let v = chunk i n d in
-      let mask =
-      ap (λ l. mask_l l % 2 ^ 64) (ap (map (top 7)) lanes ∙ map-map (top 7) f v) ∙ mask_l-mod (map stops v) 64 (omega (arith, length-map v stops, long)) in
-      found ∙ ap (λ m. first_set m n) mask ∙ run_is stops v n long bound
+  counted = found ∙ ap (λ m. first_set m n) (mask_is d i n z room bound f lanes) ∙ run_is stops (chunk i n d) n long bound
 
   continues : (k : ℕ) → i ≤ k → k < i + r → stops (get_or d k 0) ≡ false
   continues k from to =

@@ -2,5 +2,6 @@ pub mod Columns
 pub mod HeadingFacts
 pub mod LaneLemmas
 pub mod LineFacts
+pub mod MaskLemmas
 pub mod PlaceFacts
 pub mod SpaceFacts

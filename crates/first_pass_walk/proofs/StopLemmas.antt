@@ -1,44 +1,8 @@
--- From the mask of one load to the bytes that fail a test, and from one set bit of a mask to the next.
-use Rattle.std.proofs.Common.{◌≡◌, ◌⊎◌, inl, inr, ℕ, zero, suc, ◌+◌, ◌-◌, ◌/◌, ◌%◌, ◌^◌, ◌<◌, ◌≤◌, ◌==◌, Bool, true, false, not, cond, List, map, length}
-use Rattle.std.proofs.Common.{get_or, Fits, w8, w64, bit_and, refl, sym, ap, ◌∙◌, subst, arith}
-use Rattle.std.proofs.lemmas.Bool.{agree_below, agree_below_at, cases_lt, cases_eq}
-use Rattle.std.proofs.lemmas.List.{get_or-map, length-map}
+-- From one set bit of a mask to the next.
+use Rattle.std.proofs.Common.{◌≡◌, ◌⊎◌, inl, inr, ℕ, zero, suc, ◌-◌, ◌/◌, ◌%◌, ◌^◌, ◌<◌, ◌≤◌, w64, bit_and, refl, sym, ap, ◌∙◌, arith}
+use Rattle.std.proofs.lemmas.Bool.{cases_lt, cases_eq}
 use Rattle.std.proofs.lemmas.Nat.Bits.{bit_at_lowest, bit_at-suc, bit_at-lt, bit_at_and, bit_at_above, bit_at-trailing_zeros}
-use Rattle.std.proofs.lemmas.Simd.{map-map, mask_l-mod, mask_l-lt, bit_mask_l, length-chunk, get_or-chunk}
 use Rattle.std.specs.Int.{bit_at, trailing_zeros}
-use lib.Lanes.{chunk, mask_l, top}
-
-clear_is : (test stop : Bool) → stop ≡ not test → test ≡ (cond stop 1 0 == 0)
-clear_is true stop e = rw e refl
-clear_is false stop e = rw e refl
-
-module _ (q : ℕ → Bool) (d : List ℕ) (i n : ℕ) (z : List ℕ) (room : i + n ≤ length d) (bound : n ≤ 64)
-    (fits : (k : ℕ) → Fits w8 (get_or d k 0)) (f : ℕ → ℕ) (lanes : z ≡ map f (chunk i n d)) where
-  abbrev stops : ℕ → Bool
-  stops x = top 7 (f x)
-
-  long : length (chunk i n d) ≡ n
-  long = length-chunk i n d room
-
-  mask_is : mask_l (map (top 7) z) % 2 ^ 64 ≡ mask_l (map stops (chunk i n d))
-  mask_is =
-      let v = chunk i n d in
-      ap (λ l. mask_l l % 2 ^ 64) (ap (map (top 7)) lanes ∙ map-map (top 7) f v) ∙ mask_l-mod (map stops v) 64 (omega (arith, length-map v stops, long))
-
-  -- only the bits of these lanes can be set
-  pub mask_within : mask_l (map (top 7) z) % 2 ^ 64 < 2 ^ n
-  mask_within =
-      let v = chunk i n d in
-      subst (λ m. m < 2 ^ n) (sym mask_is) (subst (λ m. mask_l (map stops v) < 2 ^ m) (length-map v stops ∙ long) (mask_l-lt (map stops v)))
-
-  -- the bit of a lane is clear exactly if its byte passes q
-  pub mask_stops : agree_below stops (λ x. not (q x)) 256 ≡ true
-      → (k : ℕ) → k < n → q (get_or d (i + k) 0) ≡ (bit_at (mask_l (map (top 7) z) % 2 ^ 64) k == 0)
-  mask_stops all k within =
-      let v = chunk i n d in
-      let at = get_or-map stops v k 0 false (omega (arith, long)) ∙ ap stops (get_or-chunk i n d k 0 within) in
-      clear_is _ _ (agree_below_at stops (λ x. not (q x)) 256 (get_or d (i + k) 0) all (fits (i + k)).fits)
-      ∙ ap (λ b. cond b 1 0 == 0) (sym at) ∙ ap (λ b. b == 0) (sym (ap (λ m. bit_at m k) mask_is ∙ bit_mask_l (map stops v) k))
 
 -- Subtracting one from a number leaves all its set bits except the lowest.
 abbrev IsKeptOrLowest : ℕ → ℕ → Type 0

@@ -3,7 +3,7 @@ use Rattle.std.proofs.lemmas.Simd.{zip2_splat, length-chunk}
 use lib.Lanes.{chunk}
 use Rattle.first_pass_attributes.specs.AttributeBlocks.{is_inside_block}
 use Rattle.first_pass_lines.proofs.LaneLemmas.{joined}
-use Rattle.first_pass_walk.proofs.StopLemmas.{mask_within, mask_stops}
+use Rattle.first_pass_lines.proofs.MaskLemmas.{mask_within, mask_stops}
 use Rattle.first_pass_attributes.proofs.attrs.block_breaks.Goals as goal
 
 pub returns : goal.returns
