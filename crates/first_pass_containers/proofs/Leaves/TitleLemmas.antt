@@ -19,7 +19,7 @@ use Rattle.first_pass_grammar.specs.Kinds.{Paragraph, unindented, IsKind}
 use Rattle.first_pass_grammar.specs.LinkRuns.{FlowsOn, IsRun, kind_in}
 use Rattle.first_pass_grammar.specs.LinkTables.{LinkEntry}
 use Rattle.first_pass_grammar.specs.Leaves.{Document}
-use Rattle.first_pass_grammar.specs.Skeleton.{Line, Inside, Opening, OpensLeaf, OpensAs, Opens}
+use Rattle.first_pass_grammar.specs.Skeleton.{Level, Line, Inside, Opening, OpensLeaf, OpensAs, Opens}
 use Rattle.first_pass_grammar.specs.Completion.{lines_from, ended, DefinitionClosed, TitleAt, Frame, InDefinitions, AreBelow}
 use Rattle.first_pass_grammar.specs.WholeTables.{AreEachNode, ShowsNothing, SilentFrom, SilentClosed}
 use Rattle.first_pass_items.specs.declared.option_set.Options.{Options}
@@ -51,6 +51,13 @@ use Rattle.first_pass_ready.proofs.OpenLemmas.{open_below, frame-append, frame-e
 use Rattle.first_pass_ready.proofs.StateLemmas.{ready_plain}
 use Rattle.first_pass_containers.proofs.Leaves.TextsFlat.{text_flat}
 use Rattle.first_pass_ready.proofs.TitlePops.{in_definitions}
+
+-- The rest of a line opens a leaf block that begins like a paragraph and has these nodes.
+record OpensParagraph (d : Document) (l : Level) (p : Place) (lines left : List Place) (items : List (ℕ × Item)) : Type 0 where
+  block : LeafBlock
+  is : block.items ≡ items
+  begins : begins_paragraph block.items ≡ true
+  opens : Opens d l p lines (OpensLeaf (Block block) Line left)
 
 -- right after a definition, the last child is one and ends where the current node does
 last_by : (e place : ℕ) (x : Item) (ix : TreeIndex) (flags : ListFlags) (b : ItemBody) → title_by (Some (DefinitionList flags)) ix (Some b) ≡ None
@@ -166,31 +173,31 @@ module _ (f : Forest Item) (x : ℕ × Item) (items : List (ℕ × Item)) (e : �
       (λ i h. frame-append options (ended f.nodes ix.0 e) title_nodes i (inside i h) ∙ frame-ended options f.nodes ix.0 e i) below o
 
   -- the nodes that can still become a derivation then
-  kept_completes : (d : Document) (defined : Tables) (blanks run loose : Bool) (frames : List Frame) (p : Place) (lines left : List Place) (block : LeafBlock)
-      → block.items ≡ x ∷ items → begins_paragraph block.items ≡ true
-      → Opens d (lvl (InDefinitions loose ∷ frames) (tail (DefinitionClosed e blanks) run)) p lines (OpensLeaf (Block block) Line left)
+  kept_completes : (d : Document) (defined : Tables) (blanks run loose : Bool) (frames : List Frame) (p : Place) (lines left : List Place)
+      → (o : OpensParagraph d (lvl (InDefinitions loose ∷ frames) (tail (DefinitionClosed e blanks) run)) p lines left (x ∷ items))
       → CompletesAt d defined (tail (DefinitionClosed e blanks) run) (InDefinitions loose ∷ frames) f.nodes (map (λ (i : TreeIndex). i.0) f.spine)
       (Inside p) lines
-      → CompletesAt d (with_definitions defined block.definitions) (tail (TitleAt e (length f.nodes)) block.gap) (InDefinitions loose ∷ frames) kept.nodes
+      → CompletesAt d (with_definitions defined o.block.definitions) (tail (TitleAt e (length f.nodes)) o.block.gap) (InDefinitions loose ∷ frames) kept.nodes
       (map (λ (i : TreeIndex). i.0) f.spine) Line left
-  kept_completes d defined blanks run loose frames p lines left block is begins opens k =
+  kept_completes d defined blanks run loose frames p lines left o k =
       let os : List ℕ = map (λ (i : TreeIndex). i.0) rest in
       let here : List Frame = InDefinitions loose ∷ frames in
       let t = tail (DefinitionClosed e blanks) run in
-      let now : Tables = with_definitions defined block.definitions in
+      let now : Tables = with_definitions defined o.block.definitions in
       let k' = completes-reended d (open_nodes defined frames f.nodes os) t loose ix.0 e (Inside p) lines tt
       (subst (λ (s : List TreeIndex). CompletesAt d defined t here f.nodes (map (λ (i : TreeIndex). i.0) s) (Inside p) lines) spine k) in
       let done = completes-possible_title d (open_nodes defined frames (ended f.nodes ix.0 e) os) (record { place = ix.0; «end» = e; loose = loose }) blanks run
-      p lines left block begins opens k' in
+      p lines left o.block o.begins o.opens k' in
       let deep : suc (suc (length os)) ≡ length f.spine + 1 =
       (let n = length-map rest (λ (i : TreeIndex). i.0) in let m = ap (λ (s : List TreeIndex). length s) spine in omega arith) in
-      subst (λ (s : List TreeIndex). CompletesAt d now (tail (TitleAt e (length f.nodes)) block.gap) here kept.nodes (map (λ (i : TreeIndex). i.0) s) Line left)
+      subst
+      (λ (s : List TreeIndex). CompletesAt d now (tail (TitleAt e (length f.nodes)) o.block.gap) here kept.nodes (map (λ (i : TreeIndex). i.0) s) Line left)
       (sym spine)
-      (subst (λ n. CompletesAt d now (tail (TitleAt e n) block.gap) here kept.nodes (ix.0 ∷ os) Line left) (length-ended f.nodes ix.0 e)
-      (subst (λ n. CompletesAt d now (tail (TitleAt e (length (ended f.nodes ix.0 e))) block.gap) here
+      (subst (λ n. CompletesAt d now (tail (TitleAt e n) o.block.gap) here kept.nodes (ix.0 ∷ os) Line left) (length-ended f.nodes ix.0 e)
+      (subst (λ n. CompletesAt d now (tail (TitleAt e (length (ended f.nodes ix.0 e))) o.block.gap) here
       (ended f.nodes ix.0 e ++ (n + x.0, title_item) ∷ at_depth n items) (ix.0 ∷ os) Line left) deep
-      (subst (λ z. CompletesAt d now (tail (TitleAt e (length (ended f.nodes ix.0 e))) block.gap) here
-      (ended f.nodes ix.0 e ++ at_depth (suc (suc (length os))) (as_possible z)) (ix.0 ∷ os) Line left) is done)))
+      (subst (λ z. CompletesAt d now (tail (TitleAt e (length (ended f.nodes ix.0 e))) o.block.gap) here
+      (ended f.nodes ix.0 e ++ at_depth (suc (suc (length os))) (as_possible z)) (ix.0 ∷ os) Line left) o.is done)))
 
 -- a ready state with a possible title
 module _ (d : Document) (defined : Tables) (r : PassState) (p : Place) (lines left : List Place) (block : LeafBlock) (x : ℕ × Item) (items : List (ℕ × Item))
@@ -217,7 +224,8 @@ module _ (d : Document) (defined : Tables) (r : PassState) (p : Place) (lines le
       subst (λ z. Opens d (lvl here (tail z r.blank)) p lines (OpensLeaf (Block block) Line left)) last.1
       (subst (λ z. Opens d (lvl z (tail (closed_in f) r.blank)) p lines (OpensLeaf (Block block) Line left)) def.is
       (subst (λ l. Opens d l p lines (OpensLeaf (Block block) Line left)) (open_level d.options f ready.frames r.blank ready.are_open) opens)) in
-      let done = kept_completes f x items e ix rest b.spine low d defined last.0 r.blank def.loose def.outer p lines left block is begins opens' k in
+      let done = kept_completes f x items e ix rest b.spine low d defined last.0 r.blank def.loose def.outer p lines left
+      (record { block = block; is = is; begins = begins; opens = opens' }) k in
       let g : Forest Item = kept f x items e ix rest b.spine low in
       let closed : closed_in g ≡ TitleAt e (length f.nodes) = kept_closed f x items e ix rest b.spine low b.flags b.body in
       let now : ReadyAt d (with_definitions defined block.definitions) g false Line left = record {
