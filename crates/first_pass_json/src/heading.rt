@@ -3,9 +3,10 @@
 ghost use Rattle.std.specs.Option.{option_map};
 ghost use Rattle.std.specs.Prelude.{◌≡◌, ◌++◌, OnOk, map, unwrap_or};
 ghost use Rattle.first_pass_attributes.specs.Attributes.{attributes_in, no_attributes, pair_in};
-ghost use Rattle.first_pass_json.specs.JsonValues.{after_commas, array, json_string, with_commas};
+ghost use Rattle.first_pass_json.specs.JsonValues.{array, json_string};
 ghost use Rattle.first_pass_json.specs.Members.{attribute_members, heading_members, pair};
 
+use crate::array::{ArrayValue, append_array};
 use crate::values::{append_number_after, append_string, append_string_or_null};
 use first_pass_attributes::attrs::HeadingAttributes;
 use first_pass_items::item::HeadingLevel;
@@ -55,82 +56,34 @@ fn append_classes(line: &mut Vec<u8>, classes: &[&str]) -> Result<(), AllocError
     ensures { OnOk result (line.new.items
         ≡ line.old.items ++ array json_string (map (λ class. class.now) classes.now)) }
 {
-    line.push(b'[')?;
-    append_strings(line, classes)?;
-    line.push(b']')?;
-    Ok(())
-}
-
-/// Appends classes, separated by commas.
-fn append_strings(line: &mut Vec<u8>, classes: &[&str]) -> Result<(), AllocError>
-    ensures { OnOk result (line.new.items
-        ≡ line.old.items ++ with_commas json_string (map (λ class. class.now) classes.now)) }
-{
-    match classes.split_first() {
-        None => Ok(()),
-        Some((first, others)) => {
-            append_string(line, *first)?;
-            append_further_strings(line, others)
-        }
-    }
-}
-
-/// Appends classes, each after a comma.
-#[tactic(auto, unfolding(crate::specs::JsonValues::after_commas))]
-fn append_further_strings(line: &mut Vec<u8>, classes: &[&str]) -> Result<(), AllocError>
-    ensures { OnOk result (line.new.items
-        ≡ line.old.items ++ after_commas json_string (map (λ class. class.now) classes.now)) }
-{
-    for class in classes {
-        line.push(b',')?;
-        append_string(line, *class)?;
-    }
-    Ok(())
+    append_array(line, classes)
 }
 
 /// Appends keys with their values as an array.
 fn append_pairs(line: &mut Vec<u8>, pairs: &[(&str, Option<&str>)]) -> Result<(), AllocError>
     ensures { OnOk result (line.new.items ≡ line.old.items ++ array pair (map pair_in pairs.now)) }
 {
-    line.push(b'[')?;
-    append_keys(line, pairs)?;
-    line.push(b']')?;
-    Ok(())
+    append_array(line, pairs)
 }
 
-/// Appends keys with their values, separated by commas.
-fn append_keys(line: &mut Vec<u8>, pairs: &[(&str, Option<&str>)]) -> Result<(), AllocError>
-    ensures { OnOk result (line.new.items ≡ line.old.items ++ with_commas pair (map pair_in pairs.now)) }
-{
-    match pairs.split_first() {
-        None => Ok(()),
-        Some((first, others)) => {
-            append_pair(line, *first)?;
-            append_further_keys(line, others)
-        }
+impl ArrayValue for &str {
+    ghost form = { λ text. json_string text.now };
+
+    fn append_to(&self, line: &mut Vec<u8>) -> Result<(), AllocError> {
+        append_string(line, *self)
     }
 }
 
-/// Appends keys with their values, each after a comma.
-#[tactic(auto, unfolding(crate::specs::JsonValues::after_commas))]
-fn append_further_keys(line: &mut Vec<u8>, pairs: &[(&str, Option<&str>)]) -> Result<(), AllocError>
-    ensures { OnOk result (line.new.items ≡ line.old.items ++ after_commas pair (map pair_in pairs.now)) }
-{
-    for pair in pairs {
+// A key and its value: an array of two, where `null` means that there is no value.
+impl ArrayValue for (&str, Option<&str>) {
+    ghost form = { λ attribute. pair (pair_in attribute) };
+
+    fn append_to(&self, line: &mut Vec<u8>) -> Result<(), AllocError> {
+        line.push(b'[')?;
+        append_string(line, self.0)?;
         line.push(b',')?;
-        append_pair(line, *pair)?;
+        append_string_or_null(line, self.1)?;
+        line.push(b']')?;
+        Ok(())
     }
-    Ok(())
-}
-
-/// Appends a key and its value as an array; the value is `null` if there is none.
-fn append_pair(line: &mut Vec<u8>, attribute: (&str, Option<&str>)) -> Result<(), AllocError>
-    ensures { OnOk result (line.new.items ≡ line.old.items ++ pair (pair_in attribute.entry)) }
-{
-    line.push(b'[')?;
-    append_string(line, attribute.0)?;
-    line.push(b',')?;
-    append_string_or_null(line, attribute.1)?;
-    line.push(b']')?;
-    Ok(())
 }
