@@ -1,4 +1,3 @@
 pub mod JsonLines
 pub mod JsonValues
 pub mod Members
-pub mod Told

@@ -9,4 +9,3 @@ pub mod run;
 pub mod table;
 pub mod token;
 pub mod values;
-pub mod written;

@@ -1,31 +1,65 @@
-//! The report of the program `tree`.
+//! The lines of the program `tree`.
 
-ghost use Rattle.first_pass_json.specs.Told.{IsOutput};
+ghost use Rattle.first_pass_host.specs.Streams.{WritesText, stream_between};
+ghost use Rattle.first_pass_json.specs.JsonLines.{json_lines, tables_lines};
+ghost use Rattle.first_pass_names.specs.TableEntries.{tables_of};
 
-use crate::written::write_json;
+use crate::definition::{append_definition, append_footnote};
+use crate::node::append_node;
 use first_pass_host::fault::RunFault;
-use first_pass_items::option_set::Options;
-use first_pass_names::parse::Parse;
-use first_pass_run::report::Report;
+use first_pass_host::output::write_each;
+use first_pass_items::item::Item;
+use first_pass_names::items::Allocations;
+use first_pass_run::tree_report::TreeLines;
+use first_pass_tree::forest::Tree;
 use std::alloc::Global;
 use std::io::Write;
 
-/// The report of the program `tree`, over any parser: a line of JSON for each node of the tree of a text's blocks, in
-/// reading order. Then it has one for each link definition, and one for each footnote's label, both in the byte order
-/// of their folded labels.
-pub struct JsonTree<P>(pub P);
+/// The lines of the program `tree`: one of JSON for each node of the tree of a text's blocks, in reading order. Then
+/// it has one for each link definition, and one for each footnote's label, both in the byte order of their folded
+/// labels.
+pub struct JsonTree;
 
-impl<P: Parse> Report for JsonTree<P> {
-    ghost says = { λ _ options text output. IsOutput options text output };
+impl TreeLines for JsonTree {
+    ghost lines = { λ _ _ names nodes tables. json_lines names nodes tables };
 
-    fn write_report<W: Write>(
+    fn write_lines<W: Write>(
         &self,
         alloc: Global,
-        text: &str,
-        options: Options,
+        _text: &str,
+        parsed: &(Tree<Item>, Allocations<'_>),
         output: &mut W,
     ) -> Result<(), RunFault> {
-        let (tree, allocs) = self.0.parse(alloc, text, options)?;
-        write_json(alloc, tree.nodes(), &allocs, output)
+        let (tree, allocs) = parsed;
+        write_each(
+            alloc,
+            tree.nodes().iter(),
+            |line, (depth, item)| append_node(line, *depth, *item, allocs),
+            output,
+        )?;
+        write_tables(alloc, allocs, output)
     }
+}
+
+// Writes the lines of the link definitions and of the footnotes' labels.
+fn write_tables<W: Write>(
+    alloc: Global,
+    allocs: &Allocations<'_>,
+    output: &mut W,
+) -> Result<(), RunFault>
+    ensures { WritesText (tables_lines (tables_of allocs.now))
+        (stream_between (W.contents output.old) (W.contents output.new)) result }
+{
+    write_each(
+        alloc,
+        allocs.refdefs().iter(),
+        |line, (label, link)| append_definition(line, label, link),
+        output,
+    )?;
+    write_each(
+        alloc,
+        allocs.footdefs().iter(),
+        |line, (label, _)| append_footnote(line, label),
+        output,
+    )
 }

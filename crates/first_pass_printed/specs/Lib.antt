@@ -1,4 +1,3 @@
 pub mod HeadingValues
 pub mod Printed
-pub mod Runs
 pub mod Visible

@@ -6,4 +6,3 @@ pub mod links;
 pub mod node;
 pub mod run;
 pub mod table;
-pub mod written;

@@ -1,30 +1,44 @@
-//! The report of the program `blocks`.
+//! The lines of the program `blocks`.
 
-ghost use Rattle.first_pass_printed.specs.Runs.{IsPrinted};
+ghost use Rattle.first_pass_printed.specs.Printed.{printed_lines};
 
-use crate::written::write_tree;
+use crate::links::append_link;
+use crate::node::append_node;
 use first_pass_host::fault::RunFault;
-use first_pass_items::option_set::Options;
-use first_pass_names::parse::Parse;
-use first_pass_run::report::Report;
+use first_pass_host::output::write_each;
+use first_pass_items::item::Item;
+use first_pass_names::items::Allocations;
+use first_pass_run::tree_report::TreeLines;
+use first_pass_tree::forest::Tree;
 use std::alloc::Global;
 use std::io::Write;
 
-/// The report of the program `blocks`, over any parser: a line for each node of a text's tree of blocks, in reading
-/// order, then one for each link definition, in the byte order of their folded labels.
-pub struct PrintedBlocks<P>(pub P);
+/// The lines of the program `blocks`: one for each node of a text's tree of blocks, in reading order, then one for each
+/// link definition, in the byte order of their folded labels.
+pub struct PrintedBlocks;
 
-impl<P: Parse> Report for PrintedBlocks<P> {
-    ghost says = { λ _ options text output. IsPrinted options text output };
+impl TreeLines for PrintedBlocks {
+    ghost lines = { λ _ _ names nodes tables. printed_lines names nodes tables };
 
-    fn write_report<W: Write>(
+    fn write_lines<W: Write>(
         &self,
         alloc: Global,
-        text: &str,
-        options: Options,
+        _text: &str,
+        parsed: &(Tree<Item>, Allocations<'_>),
         output: &mut W,
     ) -> Result<(), RunFault> {
-        let (tree, allocs) = self.0.parse(alloc, text, options)?;
-        write_tree(alloc, tree, allocs, output)
+        let (tree, allocs) = parsed;
+        write_each(
+            alloc,
+            tree.nodes().iter(),
+            |line, (depth, item)| append_node(line, *depth, *item, allocs),
+            output,
+        )?;
+        write_each(
+            alloc,
+            allocs.refdefs().iter(),
+            |line, (label, link)| append_link(line, label, link),
+            output,
+        )
     }
 }

@@ -7,10 +7,11 @@
 //! contract can describe their final state.
 
 ghost use Rattle.first_pass_host.specs.Streams.{stream_between};
-ghost use Rattle.first_pass_json.specs.Told.{IsOutput};
-ghost use Rattle.first_pass_printed.specs.Runs.{IsPrinted};
-ghost use Rattle.first_pass_references.specs.Runs.{AreListed};
+ghost use Rattle.first_pass_json.specs.JsonLines.{json_lines};
+ghost use Rattle.first_pass_printed.specs.Printed.{printed_lines};
+ghost use Rattle.first_pass_references.specs.Lines.{links_lines};
 ghost use Rattle.first_pass_run.specs.Runs.{Runs};
+ghost use Rattle.first_pass_run.specs.TreeReports.{AreTreeLines};
 
 use first_pass_blocks::parser::BlockParser;
 use first_pass_host::fault::RunFault;
@@ -18,44 +19,66 @@ use first_pass_json::run::JsonTree;
 use first_pass_printed::run::PrintedBlocks;
 use first_pass_references::run::ListedLinks;
 use first_pass_run::report::run_report;
+use first_pass_run::tree_report::TreeReport;
 use std::alloc::Global;
 use std::io::{Read, Write};
 
-/// Runs the program `blocks`: writes the report `PrintedBlocks`.
+/// Runs the program `blocks`, which writes the lines of `PrintedBlocks`.
 pub fn blocks_run<R: Read, W: Write>(
     alloc: Global,
     words: &[String],
     input: &mut R,
     output: &mut W,
 ) -> Result<(), RunFault>
-    ensures { Runs IsPrinted words.now (stream_between (R.remaining input.old) (R.remaining input.new))
+    ensures { Runs (AreTreeLines (λ _. printed_lines)) words.now
+        (stream_between (R.remaining input.old) (R.remaining input.new))
         (stream_between (W.contents output.old) (W.contents output.new)) result }
 {
-    run_report(&PrintedBlocks(BlockParser), alloc, words, input, output)
+    run_report(
+        &TreeReport(BlockParser, PrintedBlocks),
+        alloc,
+        words,
+        input,
+        output,
+    )
 }
 
-/// Runs the program `links`: writes the report `ListedLinks`.
+/// Runs the program `links`, which writes the lines of `ListedLinks`.
 pub fn links_run<R: Read, W: Write>(
     alloc: Global,
     words: &[String],
     input: &mut R,
     output: &mut W,
 ) -> Result<(), RunFault>
-    ensures { Runs AreListed words.now (stream_between (R.remaining input.old) (R.remaining input.new))
+    ensures { Runs (AreTreeLines links_lines) words.now
+        (stream_between (R.remaining input.old) (R.remaining input.new))
         (stream_between (W.contents output.old) (W.contents output.new)) result }
 {
-    run_report(&ListedLinks(BlockParser), alloc, words, input, output)
+    run_report(
+        &TreeReport(BlockParser, ListedLinks),
+        alloc,
+        words,
+        input,
+        output,
+    )
 }
 
-/// Runs the program `tree`: writes the report `JsonTree`.
+/// Runs the program `tree`, which writes the lines of `JsonTree`.
 pub fn tree_run<R: Read, W: Write>(
     alloc: Global,
     words: &[String],
     input: &mut R,
     output: &mut W,
 ) -> Result<(), RunFault>
-    ensures { Runs IsOutput words.now (stream_between (R.remaining input.old) (R.remaining input.new))
+    ensures { Runs (AreTreeLines (λ _. json_lines)) words.now
+        (stream_between (R.remaining input.old) (R.remaining input.new))
         (stream_between (W.contents output.old) (W.contents output.new)) result }
 {
-    run_report(&JsonTree(BlockParser), alloc, words, input, output)
+    run_report(
+        &TreeReport(BlockParser, JsonTree),
+        alloc,
+        words,
+        input,
+        output,
+    )
 }

@@ -1,4 +1,3 @@
 pub mod Lines
 pub mod Pairs
 pub mod References
-pub mod Runs

@@ -6,4 +6,3 @@ pub mod label;
 pub mod lines;
 pub mod reference;
 pub mod run;
-pub mod written;

@@ -5,8 +5,9 @@
 use first_pass_blocks::parser::BlockParser;
 use first_pass_references::run::ListedLinks;
 use first_pass_run::program::run_program;
+use first_pass_run::tree_report::TreeReport;
 use std::process::ExitCode;
 
 fn main(rt: HostRuntime) -> ExitCode {
-    run_program(&rt, &ListedLinks(BlockParser))
+    run_program(&rt, &TreeReport(BlockParser, ListedLinks))
 }

@@ -4,7 +4,7 @@ use Rattle.first_pass_host.proofs.HeldLines.{written_as, first_failed, then_writ
 use Rattle.first_pass_host.proofs.ItemLines.{entry_lines}
 use Rattle.first_pass_names.specs.TableEntries.{link_entry, footnote_label}
 use Rattle.first_pass_json.specs.JsonLines.{definition_line, footnote_line}
-use Rattle.first_pass_json.proofs.written.write_tables.Goals as goal
+use Rattle.first_pass_json.proofs.run.write_tables.Goals as goal
 
 pub returns-in_err-write_each : goal.returns-in_err-write_each
 returns-in_err-write_each g c =

@@ -3,9 +3,9 @@ use Rattle.std.specs.List.{flat_map}
 use Rattle.first_pass_host.proofs.HeldLines.{written_as, first_failed, then_written}
 use Rattle.first_pass_host.proofs.ItemLines.{entry_lines}
 use Rattle.first_pass_names.specs.TableEntries.{names_of, tables_of, link_entry}
-use Rattle.first_pass_references.specs.Lines.{definition_line}
+use Rattle.first_pass_references.specs.Lines.{definition_line, node_lines}
 use Rattle.first_pass_references.proofs.NodeLines.{lines_from, line_from, number_lines, rest_lines}
-use Rattle.first_pass_references.proofs.written.write_links.Goals as goal
+use Rattle.first_pass_references.proofs.run.ListedLinksTreeLines.write_lines.Goals as goal
 
 pub returns-in_err-write_each : goal.returns-in_err-write_each
 returns-in_err-write_each g c =
@@ -17,10 +17,12 @@ pub returns : goal.returns
 returns g c =
     let links = c.in_ok-write_each.ensures _ _ (entry_lines _ definition_line link_entry (λ old new x call. search of_calls)) in
     let links_are = ap (λ l. flat_map definition_line (map link_entry l)) (c.iter.ensures.entries ∙ c.refdefs.ensures) in
-    let tables = tables_of c.args.allocs.now in
-    let line = line_from c.args.text.now (names_of c.args.allocs.now) tables.links c.args.nodes.now in
+    let tables = tables_of c.args.parsed.now.1 in
+    let names = names_of c.args.parsed.now.1 in
+    let all = c.nodes-nodes.result.now in
+    let line = line_from c.args.text.now names tables.links all in
     let nodes = c.write_each-2.ensures _ _ (number_lines _ line (λ old new x call. search of_calls)) in
-    let count : length c.args.nodes.now - 0 ≡ length c.args.nodes.now = omega arith in
-    let nodes_are = ap (lines_from line 0) count
-    ∙ rest_lines c.args.text.now (names_of c.args.allocs.now) tables.links c.args.nodes.now c.args.nodes.now 0 refl in
+    let count : length all - 0 ≡ length all = omega arith in
+    let nodes_are = ap (lines_from line 0) count ∙ rest_lines c.args.text.now names tables.links all all 0 refl
+    ∙ ap (node_lines c.args.text.now names tables.links) c.nodes-nodes.ensures in
     then_written _ _ _ _ _ _ (written_as _ _ _ _ links_are links) (written_as _ _ _ _ nodes_are nodes)
