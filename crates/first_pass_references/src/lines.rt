@@ -3,14 +3,14 @@
 ghost use Rattle.std.specs.Prelude.{◌≡◌, ◌++◌, OnOk};
 ghost use Rattle.first_pass_names.specs.TableEntries.{link_entry, names_of};
 ghost use Rattle.first_pass_references.specs.Lines.{definition_line, footnote_line, reference_line};
-ghost use Rattle.first_pass_references.specs.References.{reference_at, reference_of};
+ghost use Rattle.first_pass_references.specs.References.{reference_of};
 
-use crate::reference::{LinkReference, reference_at};
+use crate::reference::LinkReference;
 use first_pass_items::item::{Item, ItemBody};
 use first_pass_names::items::{Allocations, LabelKey, LinkDef};
 use first_pass_printed::links::append_link;
 use first_pass_printed::node::{append_range, append_visible};
-use std::alloc::{AllocError, Global};
+use std::alloc::AllocError;
 
 /// Appends the line of a link definition: its label, its destination, its title if it has one, and its range.
 pub fn append_definition(

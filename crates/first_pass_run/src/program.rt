@@ -4,7 +4,6 @@ use crate::report::{Report, run_report};
 use first_pass_host::exit::exit_code;
 use first_pass_host::fault::RunFault;
 use first_pass_host::words::words_of;
-use std::alloc::Global;
 use std::process::ExitCode;
 
 /// Runs a report with the words after the program's name, over standard input and standard output. Returns the exit
