@@ -39,7 +39,7 @@ pub record IsLeft (f g : Forest Item) (e : ℕ) (c : TreeIndex) : Type 0 where
   pub last : IsForest f → g.current ≡ Some c
 
 -- A property that trees keep as nodes are opened and closed. It holds of a tree up to an offset, after a number of
--- nodes were opened. Reading goes on (`Goes`) from one offset to another, and a node starts or ends at an offset
+-- nodes were opened. Reading moves from one offset to another (`Goes`), and a node starts or ends at an offset
 -- (`Bounds`). A last child is moved out of a closed node (`MovesOut`), and a body is opened (`Opens`).
 pub record Property : Type 1 where
   pub Holds : ℕ → ℕ → Forest Item → Type 0
@@ -219,19 +219,19 @@ module _ (p : Property) where
   left_by a e b k r true may ends short goes h = p.later e b k (popped e r).tree short (popped_keeps a e k r (may refl).0 (may refl).1 ends h)
   left_by a e b k r false may ends short goes h = p.later a b k r.tree goes h
 
-  -- Reading goes on from one offset to another, past the end of an innermost list.
+  -- Reading moves from one offset to another, past the end of an innermost list.
   pub record PassesList (a e b : ℕ) (r : PassState) : Type 0 where
     pub closes : is_list (top_body (empty_item_closed r).tree) ≡ true → p.Goes a e
     pub ends : p.Bounds e
     pub short : p.Goes e b
     pub later : p.Goes a b
 
-  -- Reading goes on from an offset to the start of a node.
+  -- Reading moves from an offset to the start of a node.
   pub record GoesToStart (a start : ℕ) : Type 0 where
     pub goes : p.Goes a start
     pub starts : p.Bounds start
 
-  -- The same, where a list may end at the start.
+  -- The same if a list may end at that start.
   pub record GoesToItem (a start : ℕ) : Type 0 where
     pub here : p.Goes a a
     pub goes : p.Goes a start

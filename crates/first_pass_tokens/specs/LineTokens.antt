@@ -90,7 +90,7 @@ unfoldable pub text_end : Inline → ℕ → ℕ
 text_end s end = if breaks_by_backslash s end then end - 1 else end - blanks_at_end s end
 
 -- The break from the end of a content up to an offset: hard by the last backslash of the content (CommonMark 6.7);
--- hard by two or more bytes of white space at its end, also tabs (this project; CommonMark 6.7 asks for two or more
+-- hard by two or more bytes of white space at its end, also tabs (this project; CommonMark 6.7 requires two or more
 -- spaces); otherwise soft (CommonMark 6.8).
 abbrev pub break_of : ℕ → ℕ → Bool → ℕ → Item
 break_of end next by_backslash blanks =
