@@ -1,15 +1,19 @@
 -- The open nodes that a line closes, and a line that is entered (only calls of this crate cite this).
-use Rattle.std.specs.Prelude.{◌≡◌, ℕ, zero, suc, ◌+◌, ◌≤◌, List, length, drop, Option, Some, None, IsCharBoundary}
+use Rattle.std.specs.Prelude.{◌≡◌, ℕ, zero, suc, ◌+◌, ◌≤◌, List, length, drop, Option, Some, None, if◌then◌else◌, IsCharBoundary}
 use Rattle.first_pass_items.specs.declared.option_set.Options.{Options}
+use Rattle.first_pass_items.specs.declared.item.Item.{Item}
+use Rattle.first_pass_tree.specs.Forest.{Forest}
 use Rattle.first_pass_tree.specs.declared.tree_index.TreeIndex.{TreeIndex}
 use Rattle.first_pass_lines.specs.Lines.{line_len}
-use Rattle.first_pass_lines.specs.Places.{Place, start_of}
+use Rattle.first_pass_lines.specs.Places.{Place, line_rest, place_at, start_of}
+use Rattle.first_pass_grammar.specs.Containers.{front}
 use Rattle.first_pass_grammar.specs.Counting.{counted_nodes}
 use Rattle.first_pass_grammar.specs.Derivation.{Tables}
+use Rattle.first_pass_grammar.specs.Kinds.{is_blank_rest}
 use Rattle.first_pass_grammar.specs.Leaves.{Document}
 use Rattle.first_pass_grammar.specs.Names.{Names, AreNamed}
 use Rattle.first_pass_grammar.specs.WholeTables.{HasWholeTables}
-use Rattle.first_pass_open.specs.Path.{path_in}
+use Rattle.first_pass_open.specs.Path.{path_in, path_of}
 use Rattle.first_pass_open.specs.declared.source.Source.{Source}
 use Rattle.first_pass_lists.specs.Closing.{popped}
 use Rattle.first_pass_lists.specs.declared.state.PassState.{PassState}
@@ -34,6 +38,12 @@ pub record ClosesAt (old new : PassState) (kept ix : ℕ) : Type 0 where
   pub named : (names : Names) → AreNamed names old.tree.nodes → AreNamed names new.tree.nodes
   pub tables : (names : Names) → HasWholeTables names old.tree → HasWholeTables names new.tree
   pub all_kept : kept ≡ length old.tree.spine → new ≡ old
+
+-- the place after the prefixes of the containers that the line at an offset continues, unless its rest is blank
+abbrev pub place_entered : Source → Forest Item → ℕ → Option Place
+place_entered source f start =
+    let r = front (path_of source.options f) (line_rest (drop start source.text.now)) in
+    if is_blank_rest r then None else Some (place_at start r)
 
 -- The line at an offset is entered: reading is at a place in it, and no item is empty. Without a place, reading has
 -- passed the line.

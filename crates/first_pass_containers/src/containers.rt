@@ -3,7 +3,7 @@
 ghost use Rattle.std.specs.Prelude.{◌≡◌, ◌<◌, ◌≤◌, ◌-◌, length, None, OnOk, IsUtf8, IsCharBoundary, true};
 ghost use Rattle.first_pass_lines.specs.Places.{line_end, IsPlaceOf};
 ghost use Rattle.first_pass_open.specs.Path.{outer};
-ghost use Rattle.first_pass_containers.specs.Entering.{all_popped, ClosesAt, EntersLine};
+ghost use Rattle.first_pass_containers.specs.Entering.{all_popped, place_entered, ClosesAt, EntersLine};
 ghost use Rattle.first_pass_lists.specs.Closing.{footnote_ended};
 ghost use Rattle.first_pass_containers.specs.Positions.{LineAt, ReadsTo, may_define};
 ghost use Rattle.first_pass_containers.specs.Starts.{start_opened, BeginsNoContainer};
@@ -49,6 +49,7 @@ pub fn enter_line<'a>(
     requires within { start_ix < length source.now.text.now }
     requires boundary { IsCharBoundary source.now.text.now start_ix }
     ensures utf8 { IsUtf8 source.now.text.now }
+    ensures value { result ≡ place_entered source.now state.old.tree start_ix }
     ensures entered { EntersLine source.now state.old state.new start_ix result }
 {
     let front = scan_front(source, &state.tree, start_ix);

@@ -1,4 +1,4 @@
-use Rattle.std.proofs.Common.{◌≡◌, inl, ◌+◌, drop, is_some, refl, sym, ap, subst, ◌∙◌, arith}
+use Rattle.std.proofs.Common.{◌≡◌, inl, ℕ, ◌+◌, Bool, true, false, drop, Option, Some, None, if◌then◌else◌, is_some, refl, sym, ap, subst, ◌∙◌, arith}
 use Rattle.first_pass_lines.specs.Lines.{blank_len, line_len}
 use Rattle.first_pass_lines.specs.Rest.{Rest}
 use Rattle.first_pass_lines.specs.Places.{Place, place_at, line_end}
@@ -10,6 +10,7 @@ use Rattle.first_pass_grammar.specs.Completion.{lines_from}
 use Rattle.first_pass_lists.specs.Closing.{empty_item_closed}
 use Rattle.first_pass_lists.specs.declared.state.PassState.{PassState}
 use Rattle.first_pass_order.specs.Ordered.{IsReadTo}
+use Rattle.first_pass_containers.specs.Entering.{place_entered}
 use Rattle.first_pass_containers.specs.Positions.{OrderedUpTo}
 use Rattle.first_pass_ready.specs.State.{Ready, ReadyAt}
 use Rattle.first_pass_order.proofs.NamedLemmas.{AreReadNamed, blank_named, empty_item_closed_named}
@@ -41,6 +42,23 @@ settled_line c names defined =
     (at_line d defined c.args.state.now c.close_containers.new.state c.args.start_ix c.scan_front-front.result.continued (left c) c.requires.within
     (record { spine = c.close_containers.ensures.spine; paths = c.close_containers.ensures.kept.paths; ready = c.close_containers.ensures.kept.ready })
     c.scan_front-front.ensures.taken c.scan_front-front.ensures.stops))
+
+-- the place after the prefixes, for a rest that is blank or not
+abbrev entered_by : ℕ → Rest → Bool → Option Place
+entered_by start r t = if t then None else Some (place_at start r)
+
+-- that rest is the front of the line
+entered_is : (c : After-is_some) (t : Bool) → c.is_some.result ≡ t
+    → entered_by c.args.start_ix (left c) t ≡ place_entered c.args.source.now c.args.state.now.tree c.args.start_ix
+entered_is c t is =
+    ap (entered_by c.args.start_ix (left c)) (sym (blank c ∙ is))
+    ∙ ap (λ (r : Rest). entered_by c.args.start_ix r (is_some (blank_len r.left))) c.scan_front-front.ensures.front
+
+pub returns-then-is_some-clause-value : goal.returns-then-is_some-clause-value
+returns-then-is_some-clause-value c = entered_is (goal.at.returns-then-is_some-clause-value c).After-is_some true c.if-is_some.true
+
+pub returns-clause-value : goal.returns-clause-value
+returns-clause-value c = entered_is (goal.at.returns-clause-value c).After-is_some false c.if-is_some.false
 
 pub returns-then-is_some-clause-entered : goal.returns-then-is_some-clause-entered
 returns-then-is_some-clause-entered c =
