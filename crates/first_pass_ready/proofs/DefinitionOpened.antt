@@ -151,23 +151,33 @@ or_true : (a : Bool) → (a || true) ≡ true
 or_true true = refl
 or_true false = refl
 
-module _ (d : Document) (defined : Tables) (f : Forest Item) (run : Bool) (p : Place) (lines following : List Place) (columns : ℕ) (from : Continues)
-    (forest : IsForest f) (opens : Opens d (level_of d.options f run) p lines (OpensNode (definition_head p columns) from following))
-    (ready : ReadyAt d defined f run (Inside p) lines) where
+-- A definition opens at a place, and the nodes are ready there.
+record DefinitionOpens (d : Document) (defined : Tables) (f : Forest Item) (run : Bool) : Type 0 where
+  place : Place
+  lines : List Place
+  columns : ℕ
+  inside : Continues
+  following : List Place
+  forest : IsForest f
+  opens : Opens d (level_of d.options f run) place lines (OpensNode (definition_head place columns) inside following)
+  ready : ReadyAt d defined f run (Inside place) lines
+
+module _ (d : Document) (defined : Tables) (f : Forest Item) (run : Bool) (w : DefinitionOpens d defined f run) where
   abbrev Opened : Forest Item → Type 0
-  Opened g = ListIsOpen d defined run (path_of d.options f) g columns (offset p) from following
+  Opened g = ListIsOpen d defined run (path_of d.options f) g w.columns (offset w.place) w.inside w.following
 
   -- the opening there that completes the nodes, given the last child
   opens_at : (closed : Closed) → closed_in f ≡ closed
-      → Opens d (lvl ready.frames (tail closed run)) p lines (OpensNode (definition_head p columns) from following)
+      → Opens d (lvl w.ready.frames (tail closed run)) w.place w.lines (OpensNode (definition_head w.place w.columns) w.inside w.following)
   opens_at closed is =
-      subst (λ z. Opens d z p lines (OpensNode (definition_head p columns) from following))
-      (open_level d.options f ready.frames run ready.are_open ∙ ap (λ z. lvl ready.frames (tail z run)) is) opens
+      subst (λ z. Opens d z w.place w.lines (OpensNode (definition_head w.place w.columns) w.inside w.following))
+      (open_level d.options f w.ready.frames run w.ready.are_open ∙ ap (λ z. lvl w.ready.frames (tail z run)) is) w.opens
 
   completes_at : (closed : Closed) → closed_in f ≡ closed
-      → CompletesAt d defined (tail closed run) ready.frames f.nodes (map (λ (i : TreeIndex). i.0) f.spine) (Inside p) lines
+      → CompletesAt d defined (tail closed run) w.ready.frames f.nodes (map (λ (i : TreeIndex). i.0) f.spine) (Inside w.place) w.lines
   completes_at closed is =
-      subst (λ z. CompletesAt d defined (tail z run) ready.frames f.nodes (map (λ (i : TreeIndex). i.0) f.spine) (Inside p) lines) is ready.completes
+      subst (λ z. CompletesAt d defined (tail z run) w.ready.frames f.nodes (map (λ (i : TreeIndex). i.0) f.spine) (Inside w.place) w.lines) is
+      w.ready.completes
 
   -- after a paragraph
   after_paragraph : (c : TreeIndex) (x : Item) → f.current ≡ Some c → item_at f c ≡ Some x → x.body ≡ ParagraphBody → is_list (top_body f) ≡ false
@@ -176,54 +186,57 @@ module _ (d : Document) (defined : Tables) (f : Forest Item) (run : Bool) (p : P
       let b : body_at f.nodes c.0 ≡ Some ParagraphBody = body_of f c x here ∙ ap (λ z. Some z) body in
       let closed : closed_in f ≡ ParagraphAt c.0 = closed_at_body f c ParagraphBody (list_class (top_body f) outside) current b in
       let within : c.0 < length f.nodes = title_length f.nodes c.0 x here in
-      let below = current_after f c forest current ready.completes.below in
+      let below = current_after f c w.forest current w.ready.completes.below in
       let os : List ℕ = map (λ (i : TreeIndex). i.0) f.spine in
       let g : Forest Item = definitions_by f c x.start x.«end» ParagraphBody in
       let last : IsLastAt (depths f.nodes) (length f.spine + 1) c.0 =
-      subst (λ z. IfSome z (λ (c : TreeIndex). IsLastAt (depths f.nodes) (length f.spine + 1) c.0)) current forest.at_current in
+      subst (λ z. IfSome z (λ (c : TreeIndex). IsLastAt (depths f.nodes) (length f.spine + 1) c.0)) current w.forest.at_current in
       let deep : slice_index (depths f.nodes) c.0 + 1 ≡ length f.spine + 2 = (let e = last.depth in omega arith) in
       let nodes : g.nodes ≡ with_title f.nodes c.0 = titled_nodes f.nodes c.0 (c.0 + 1) (length f.spine + 2) x here (omega arith) deep in
       let longer : length (with_title f.nodes c.0) ≡ suc (length f.nodes) = length-with_title f.nodes c.0 within in
-      let k = completes-first_definition d (open_nodes defined ready.frames f.nodes os) run c.0 (record { columns = columns; start = offset p; line = p.line })
-      (record { place = p; lines = lines; inside = from; following = following; opens = opens_at (ParagraphAt c.0) closed })
-      (plain_open d.options f ready.frames ready.are_open outside) within below (completes_at (ParagraphAt c.0) closed) in
+      let k = completes-first_definition d (open_nodes defined w.ready.frames f.nodes os) run c.0
+      (record { columns = w.columns; start = offset w.place; line = w.place.line })
+      (record { place = w.place; lines = w.lines; inside = w.inside; following = w.following; opens = opens_at (ParagraphAt c.0) closed })
+      (plain_open d.options f w.ready.frames w.ready.are_open outside) within below (completes_at (ParagraphAt c.0) closed) in
       record {
         ix = c;
         rest = f.spine;
-        frames = ready.frames;
+        frames = w.ready.frames;
         loose = false;
         spine = refl;
-        are_open = subst (λ ns. AreOpen d.options ns (c ∷ f.spine) (InDefinitions false ∷ ready.frames)) (sym nodes) (
+        are_open = subst (λ ns. AreOpen d.options ns (c ∷ f.spine) (InDefinitions false ∷ w.ready.frames)) (sym nodes) (
           ap (option_and_then (frame_of d.options)) (title_body f.nodes c.0 within),
-          open_below d.options f.nodes (with_title f.nodes c.0) c.0 f.spine ready.frames
-              (λ i h. ap (option_and_then (frame_of d.options)) (title_front f.nodes c.0 i h)) below ready.are_open,
+          open_below d.options f.nodes (with_title f.nodes c.0) c.0 f.spine w.ready.frames
+              (λ i h. ap (option_and_then (frame_of d.options)) (title_front f.nodes c.0 i h)) below w.ready.are_open,
           refl,
         );
         below = subst (λ ns. AreBelow (length ns) (c.0 ∷ os)) (sym nodes) (omega arith, below);
-        same = sym (open_path d.options f.nodes f.spine ready.frames ready.are_open);
-        completes = subst (λ ns. CompletesAt d defined fresh (InContainer (Definition columns) ∷ InDefinitions run ∷ ready.frames)
-            (ns ++ (suc (suc (length os)), definition_node (offset p) 0 columns) ∷ []) (length ns ∷ c.0 ∷ os) from following) (sym nodes) k;
+        same = sym (open_path d.options f.nodes f.spine w.ready.frames w.ready.are_open);
+        completes = subst (λ ns. CompletesAt d defined fresh (InContainer (Definition w.columns) ∷ InDefinitions run ∷ w.ready.frames)
+            (ns ++ (suc (suc (length os)), definition_node (offset w.place) 0 w.columns) ∷ []) (length ns ∷ c.0 ∷ os) w.inside w.following) (sym nodes) k;
       }
 
   -- the facts about an open definition list
-  list_opens : (l : IsInnermost f ready.frames) (closed : Closed) → closed_in f ≡ closed
-      → Opens d (lvl (InDefinitions l.loose ∷ l.outer) (tail closed run)) p lines (OpensNode (definition_head p columns) from following)
+  list_opens : (l : IsInnermost f w.ready.frames) (closed : Closed) → closed_in f ≡ closed
+      → Opens d (lvl (InDefinitions l.loose ∷ l.outer) (tail closed run)) w.place w.lines (OpensNode (definition_head w.place w.columns) w.inside w.following)
   list_opens l closed is =
-      subst (λ z. Opens d (lvl z (tail closed run)) p lines (OpensNode (definition_head p columns) from following)) l.frames_are (opens_at closed is)
+      subst (λ z. Opens d (lvl z (tail closed run)) w.place w.lines (OpensNode (definition_head w.place w.columns) w.inside w.following)) l.frames_are
+      (opens_at closed is)
 
-  list_completes : (l : IsInnermost f ready.frames) (closed : Closed) → closed_in f ≡ closed
-      → CompletesAt d defined (tail closed run) (InDefinitions l.loose ∷ l.outer) f.nodes (l.ix.0 ∷ map (λ (i : TreeIndex). i.0) l.rest) (Inside p) lines
+  list_completes : (l : IsInnermost f w.ready.frames) (closed : Closed) → closed_in f ≡ closed
+      → CompletesAt d defined (tail closed run) (InDefinitions l.loose ∷ l.outer) f.nodes (l.ix.0 ∷ map (λ (i : TreeIndex). i.0) l.rest) (Inside w.place)
+      w.lines
   list_completes l closed is =
-      subst (λ z. CompletesAt d defined (tail closed run) z f.nodes (l.ix.0 ∷ map (λ (i : TreeIndex). i.0) l.rest) (Inside p) lines) l.frames_are
-      (subst (λ (s : List TreeIndex). CompletesAt d defined (tail closed run) ready.frames f.nodes (map (λ (i : TreeIndex). i.0) s) (Inside p) lines) l.spine
-      (completes_at closed is))
+      subst (λ z. CompletesAt d defined (tail closed run) z f.nodes (l.ix.0 ∷ map (λ (i : TreeIndex). i.0) l.rest) (Inside w.place) w.lines) l.frames_are
+      (subst (λ (s : List TreeIndex). CompletesAt d defined (tail closed run) w.ready.frames f.nodes (map (λ (i : TreeIndex). i.0) s) (Inside w.place) w.lines)
+      l.spine (completes_at closed is))
 
-  list_open : (l : IsInnermost f ready.frames) → AreOpen d.options f.nodes (l.ix ∷ l.rest) (InDefinitions l.loose ∷ l.outer)
+  list_open : (l : IsInnermost f w.ready.frames) → AreOpen d.options f.nodes (l.ix ∷ l.rest) (InDefinitions l.loose ∷ l.outer)
   list_open l =
-      subst (AreOpen d.options f.nodes (l.ix ∷ l.rest)) l.frames_are (subst (λ s. AreOpen d.options f.nodes s ready.frames) l.spine ready.are_open)
+      subst (AreOpen d.options f.nodes (l.ix ∷ l.rest)) l.frames_are (subst (λ s. AreOpen d.options f.nodes s w.ready.frames) l.spine w.ready.are_open)
 
-  list_path : (l : IsInnermost f ready.frames) → containers_of l.outer ≡ path_of d.options f
-  list_path l = ap containers_of (sym l.frames_are) ∙ sym (open_path d.options f.nodes f.spine ready.frames ready.are_open)
+  list_path : (l : IsInnermost f w.ready.frames) → containers_of l.outer ≡ path_of d.options f
+  list_path l = ap containers_of (sym l.frames_are) ∙ sym (open_path d.options f.nodes f.spine w.ready.frames w.ready.are_open)
 
   -- after a possible title
   after_title : (c : TreeIndex) (x : Item) → f.current ≡ Some c → item_at f c ≡ Some x → x.body ≡ MaybeDefinitionListTitle
@@ -235,14 +248,14 @@ module _ (d : Document) (defined : Tables) (f : Forest Item) (run : Bool) (p : P
       ap (λ o. option_and_then (λ (ix : TreeIndex). title_by (top_body f) ix (body_at f.nodes ix.0)) o) current ∙ ap (title_by (top_body f) c) b
       ∙ ap (λ (t : Bool). if t then Some c else None) inside in
       let closed = (title_is f c title).closed in
-      let l = innermost_by d.options f f.spine ready.frames refl ready.are_open inside in
+      let l = innermost_by d.options f f.spine w.ready.frames refl w.ready.are_open inside in
       let os : List ℕ = map (λ (i : TreeIndex). i.0) l.rest in
       let now : List (ℕ × Item) = title_taken f.nodes c.0 in
       let size : length now ≡ length f.nodes = length-modify f.nodes c.0 (λ y. record y { body = DefinitionListTitle }) in
       let e : ℕ = top_end f in
       let k = list_completes l (TitleAt e c.0) closed in
       let below : AreBelow c.0 (l.ix.0 ∷ os) =
-      subst (λ (s : List TreeIndex). AreBelow c.0 (map (λ (i : TreeIndex). i.0) s)) l.spine (current_after f c forest current ready.completes.below) in
+      subst (λ (s : List TreeIndex). AreBelow c.0 (map (λ (i : TreeIndex). i.0) s)) l.spine (current_after f c w.forest current w.ready.completes.below) in
       record {
         ix = l.ix;
         rest = l.rest;
@@ -254,8 +267,8 @@ module _ (d : Document) (defined : Tables) (f : Forest Item) (run : Bool) (p : P
         below = subst (λ n. AreBelow n (l.ix.0 ∷ os)) (sym size) k.below;
         same = list_path l;
         completes = completes-title_definition d (open_nodes defined l.outer f.nodes os) (record { place = l.ix.0; «end» = e; loose = l.loose }) c.0 run
-            (record { columns = columns; start = offset p; line = p.line })
-            (record { place = p; lines = lines; inside = from; following = following; opens = list_opens l (TitleAt e c.0) closed }) k;
+            (record { columns = w.columns; start = offset w.place; line = w.place.line })
+            (record { place = w.place; lines = w.lines; inside = w.inside; following = w.following; opens = list_opens l (TitleAt e c.0) closed }) k;
       }
 
   -- after a definition
@@ -265,7 +278,7 @@ module _ (d : Document) (defined : Tables) (f : Forest Item) (run : Bool) (p : P
       let b : body_at f.nodes c.0 ≡ Some (DefinitionListDefinition n) = body_of f c x here ∙ ap (λ z. Some z) body in
       let none : possible_title f ≡ None =
       ap (λ o. option_and_then (λ (ix : TreeIndex). title_by (top_body f) ix (body_at f.nodes ix.0)) o) current ∙ ap (title_by (top_body f) c) b in
-      let l = innermost_by d.options f f.spine ready.frames refl ready.are_open inside in
+      let l = innermost_by d.options f f.spine w.ready.frames refl w.ready.are_open inside in
       let closed = closed_definition f l.flags l.top none in
       let k = list_completes l (DefinitionClosed closed.0 closed.1) closed.2 in
       record {
@@ -279,11 +292,11 @@ module _ (d : Document) (defined : Tables) (f : Forest Item) (run : Bool) (p : P
         same = list_path l;
         completes = completes-definition d (open_nodes defined l.outer f.nodes (map (λ (i : TreeIndex). i.0) l.rest))
             (record { place = l.ix.0; «end» = closed.0; loose = l.loose }) closed.1 run
-            (record { columns = columns; start = offset p; line = p.line }) (record {
-              place = p;
-              lines = lines;
-              inside = from;
-              following = following;
+            (record { columns = w.columns; start = offset w.place; line = w.place.line }) (record {
+              place = w.place;
+              lines = w.lines;
+              inside = w.inside;
+              following = w.following;
               opens = list_opens l (DefinitionClosed closed.0 closed.1) closed.2;
             }) k;
       }
@@ -385,7 +398,16 @@ definition_is_open d defined r p lines following columns from may takes opens =
     let g : Forest Item = definitions_opened r.tree r.tree.current in
     let path : List Container = path_of d.options r.tree in
     let kept = kept_as r g r.blank refl may.none in
-    let l = opened_with d defined r.tree r.blank p lines following columns from may.forest opens may.ready r.tree.current refl takes in
+    let l = opened_with d defined r.tree r.blank (record {
+      place = p;
+      lines = lines;
+      columns = columns;
+      inside = from;
+      following = following;
+      forest = may.forest;
+      opens = opens;
+      ready = may.ready;
+    }) r.tree.current refl takes in
     let done = loosened d defined r.blank path g columns (offset p) from following l in
     record {
       is_begun = subst (λ (h : Forest Item). IsBegun d defined (with_open h (definition_node (offset p) 0 columns)) (Definition columns) from following path)

@@ -22,7 +22,7 @@ use Rattle.first_pass_grammar.specs.WholeTables.{ShowsNothing, SilentClosed}
 use Rattle.first_pass_grammar.proofs.Sequences.Finishes.{CompletesAt}
 use Rattle.first_pass_completion.proofs.Extending.{tail, StaysAt, loosened_in}
 use Rattle.first_pass_completion.proofs.EarlierNodes.{IsBefore}
-use Rattle.first_pass_completion.proofs.Moved.{OpensBlock, opens_definition}
+use Rattle.first_pass_completion.proofs.Moved.{opens_definition}
 use Rattle.first_pass_completion.proofs.Notes.{completes-note}
 use Rattle.first_pass_completion.proofs.States.{open_nodes}
 use Rattle.first_pass_completion.proofs.TitleNodes.{reflagged}
@@ -40,7 +40,8 @@ use Rattle.first_pass_ready.proofs.ClosedIn.{items_no_container, definitions_no_
 use Rattle.first_pass_ready.proofs.ClosedIn.{definitions_at, list_at, last_below, last_in, level_of, open_level}
 use Rattle.first_pass_ready.proofs.ClosedIn.{closed_same, closed_renamed, top_in, top_no_definitions, IsTitle, title_is}
 use Rattle.first_pass_ready.proofs.PopLemmas.{list_popped, list_spine, ready_as, PlainAfter, EndsItAt, leave_list}
-use Rattle.first_pass_ready.proofs.TitlePops.{title_popped, leave_title}
+use Rattle.first_pass_ready.proofs.TitlePops.{TitledList, title_closed, leave_title}
+pub use Rattle.first_pass_ready.proofs.PopLemmas.{OpensOther}
 use Rattle.first_pass_ready.proofs.StateLemmas.{no_title_at, has_definition, popped_list, popped_title, popped_paths, popped_spine, popped_keeps, same_path}
 use Rattle.first_pass_ready.proofs.StateLemmas.{unnamed}
 use Rattle.first_pass_ready.proofs.Levels.{opens_as, opens_none, plain_last_in, open_before, outer_before}
@@ -115,8 +116,7 @@ pub record LeftPlain (d : Document) (defined : Tables) (f : Forest Item) (run : 
   pub before : (ix jx : TreeIndex) (s : List TreeIndex) → f.spine ≡ ix ∷ jx ∷ s → IsBefore jx.0 (closed_in f)
 
 module _ (d : Document) (defined : Tables) (r : PassState) (p : Place) (lines : List Place) (at : ℕ) (opening : Opening) (forest : IsForest r.tree)
-    (stays : StaysAt d (path_of d.options r.tree) p) (opens : Opens d (level_of d.options r.tree r.blank) p lines opening)
-    (block : OpensBlock opening) (other : opens_definition opening ≡ false) where
+    (begins : OpensOther d (path_of d.options r.tree) p opening) (opens : Opens d (level_of d.options r.tree r.blank) p lines opening) where
   abbrev LeftAs : Forest Item → Type 0
   LeftAs f = LeftPlain d defined f r.blank p lines opening
 
@@ -126,14 +126,14 @@ module _ (d : Document) (defined : Tables) (r : PassState) (p : Place) (lines : 
       → ReadyAt d defined r.tree r.blank (Inside p) lines → LeftAs (popped at r).tree
   left_list ix rest b flags no_path spine is listed none away ready =
       let q = leave_list d defined r.tree r.blank lines at ix rest b flags forest spine is listed p opening
-      (has_definition r.tree ix rest b spine is none) stays opens away ready in
+      (has_definition r.tree ix rest b spine is none) begins.stays opens away ready in
       let now = popped_list at r ix rest b flags spine is listed none in
       let last : takes_after (last_in (list_popped r.tree at ix rest flags)) ≡ false =
       ap takes_after (plain_last_in d.options (list_popped r.tree at ix rest flags) q.ready.frames OtherClosed q.ready.are_open q.plain q.last) in
       let path = ap (λ (z : PassState). path_of d.options z.tree) (sym now) ∙ left_path d.options r at ix rest b no_path spine is in
       subst (λ (z : PassState). LeftAs z.tree) (sym now) (record {
         ready = (q.ready, q.plain);
-        opens = opens_none d r.tree (list_popped r.tree at ix rest flags) r.blank r.blank p lines opening path other last opens;
+        opens = opens_none d r.tree (list_popped r.tree at ix rest flags) r.blank r.blank p lines opening path begins.other last opens;
         before = λ a b s e. subst (IsBefore b.0) (sym q.last) tt;
       })
 
@@ -143,9 +143,10 @@ module _ (d : Document) (defined : Tables) (r : PassState) (p : Place) (lines : 
       → ReadyAt d defined r.tree r.blank (Inside p) lines → LeftAs (popped at r).tree
   left_title ix rest flags title spine is titled ready =
       let t = title_is r.tree title titled in
-      let q = leave_title d defined r.tree r.blank lines ix rest title forest spine t p opening stays opens block other ready in
+      let l : TitledList r.tree = record { list = ix; outer = rest; title = title; forest = forest; spine = spine; titled = t } in
+      let q = leave_title d defined r.tree r.blank lines l p opening begins opens ready in
       let now = popped_title at r ix rest title t spine titled in
-      let g : Forest Item = title_popped r.tree (top_end r.tree) ix rest t.flags title in
+      let g : Forest Item = title_closed r.tree l in
       let last : takes_after (last_in g) ≡ true =
       ap takes_after (plain_last_in d.options g q.ready.frames (ParagraphAt title.0) q.ready.are_open q.plain q.last) in
       let before : takes_after (last_in r.tree) ≡ true = takes_title r.tree title t in
@@ -345,12 +346,6 @@ record InsideList (options : Options) (f : Forest Item) : Type 0 where
   is : body_at f.nodes list.0 ≡ Some body
   listed : list_flags_of body ≡ Some flags
   are_open : AreOpen options f.nodes (inner ∷ list ∷ rest) (InContainer container ∷ frame ∷ frames)
-
--- the opening at a place in these containers opens a block, no definition, and ends no footnote definition
-pub record OpensOther (d : Document) (path : List Container) (p : Place) (opening : Opening) : Type 0 where
-  pub stays : StaysAt d path p
-  pub block : OpensBlock opening
-  pub other : opens_definition opening ≡ false
 
 -- a block opens after blank lines
 module _ (d : Document) (defined : Tables) (f : Forest Item) (p : Place) (lines : List Place) (opening : Opening)
@@ -559,7 +554,7 @@ ready_finished d defined r p lines at opening may begins opens away =
     let kept = kept_left r at r.tree.spine (top_body r.tree) refl refl in
     let path : path_of d.options l.tree ≡ path_of d.options r.tree = path_left d.options r at r.tree.spine (top_body r.tree) refl refl in
     let left : LeftPlain d defined l.tree r.blank p lines opening =
-    ready_left d defined r p lines at opening may.forest begins.stays opens begins.block begins.other away may.ready in
+    ready_left d defined r p lines at opening may.forest begins opens away may.ready in
     let left' : LeftPlain d defined l.tree l.blank p lines opening = subst (λ t. LeftPlain d defined l.tree t p lines opening) (sym kept.0) left in
     let done = noted_as d defined l p lines opening l.blank refl (kept.1 may.none) (subst (λ z. OpensOther d z p opening) (sym path) begins) left' in
     let same : empty_item_closed_by r r.begin_list_item ≡ r = ap (empty_item_closed_by r) may.none in

@@ -46,7 +46,7 @@ use Rattle.first_pass_ready.proofs.Levels.{open_before, outer_before}
 use Rattle.first_pass_ready.proofs.ListLemmas.{list_flags_of}
 use Rattle.first_pass_ready.proofs.OpenLemmas.{open_path}
 use Rattle.first_pass_ready.proofs.PopLemmas.{list_spine, end_list, end_note}
-use Rattle.first_pass_ready.proofs.TitlePops.{end_title}
+use Rattle.first_pass_ready.proofs.TitlePops.{TitledList, end_title}
 use Rattle.first_pass_ready.proofs.StateLemmas.{popped_as, popped_list, popped_title, popped_paths, popped_spine, no_title_at, has_definition}
 use Rattle.first_pass_ready.proofs.OldFootnotes.{footnote_top}
 use Rattle.first_pass_ready.proofs.FinishLemmas.{ReadyPlain, EndsListAt, LeftPlain, plain_by, path_left, kept_left, ready_left, OpensOther, noted_as}
@@ -120,7 +120,8 @@ module _ (d : Document) (defined : Tables) (r : PassState) (p : Place) (lines : 
       → ends_footnote (around d (path_of d.options r.tree)) p ≡ true → ReadyAt d defined r.tree r.blank (Inside p) lines → Left (popped at r).tree
   titled_ended ix rest title spine titled ends ready =
       let t = title_is r.tree title titled in
-      let q = end_title d defined r.tree r.blank lines ix rest title forest spine t p ends ready in
+      let l : TitledList r.tree = record { list = ix; outer = rest; title = title; forest = forest; spine = spine; titled = t } in
+      let q = end_title d defined r.tree r.blank lines l p ends ready in
       subst (λ (z : PassState). Left z.tree) (sym (popped_title at r ix rest title t spine titled)) (
         (q.ready, q.plain),
         λ a o s e. subst (IsBefore o.0) (sym q.last)
@@ -162,8 +163,10 @@ module _ (d : Document) (defined : Tables) (r : PassState) (p : Place) (lines : 
   list_ended true index named inside ready = ended_by r.tree.spine (top_body r.tree) inside refl refl ready
   list_ended false index named out ready =
       let opening : Opening = footnote_opening d p lines head.0 (FootnoteMarker (footnote_columns d.options) index head.1) in
-      let left = ready_left d defined r p lines at opening forest (stays_outside d (path_of d.options r.tree) p out)
-      (opens_note d (level_of d.options r.tree r.blank) p lines head opening is_head (index, named, refl)) tt refl
+      let begins : OpensOther d (path_of d.options r.tree) p opening =
+      record { stays = stays_outside d (path_of d.options r.tree) p out; block = tt; other = refl } in
+      let left = ready_left d defined r p lines at opening forest begins
+      (opens_note d (level_of d.options r.tree r.blank) p lines head opening is_head (index, named, refl))
       (note_away (top_body r.tree) (closed_in r.tree) d p lines head.0 index head.1) ready in
       (left.ready, left.before)
 

@@ -27,6 +27,7 @@ use Rattle.first_pass_grammar.specs.Completion.{flagged, ended, list_closed, Clo
 use Rattle.first_pass_grammar.specs.Completion.{closed_as, containers_of, AreBelow, IsPlain, StandsIn, last_plain}
 use Rattle.first_pass_grammar.proofs.Sequences.Finishes.{CompletesAt}
 use Rattle.first_pass_completion.proofs.Extending.{tail, lvl, StaysAt}
+use Rattle.first_pass_completion.proofs.Moved.{OpensBlock, opens_definition}
 use Rattle.first_pass_completion.proofs.Completions.{completes-pop, completes-pop_in_line}
 use Rattle.first_pass_completion.proofs.PoppedLists.{end_before_line, end_in_line, completes-pop_list, completes-pop_definitions}
 use Rattle.first_pass_completion.proofs.States.{open_nodes}
@@ -64,6 +65,12 @@ pub record PlainAfter (d : Document) (defined : Tables) (f : Forest Item) (run :
   pub ready : ReadyAt d defined f run from lines
   pub plain : IsPlain ready.frames
   pub last : closed_in f ≡ closed
+
+-- the opening at a place in these containers opens a block, no definition, and ends no footnote definition
+pub record OpensOther (d : Document) (path : List Container) (p : Place) (opening : Opening) : Type 0 where
+  pub stays : StaysAt d path p
+  pub block : OpensBlock opening
+  pub other : opens_definition opening ≡ false
 
 -- a sequence in these containers ends before these lines, after its last block and a run of blank lines that counts
 -- or not

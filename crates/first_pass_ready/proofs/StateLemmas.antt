@@ -263,7 +263,8 @@ module _ (d : Document) (defined : Tables) (r : PassState) (lines : List Place) 
   pop_by (Some title) is ends ready =
       let t = title_is r.tree title is in
       subst (λ (q : PassState). ReadyAt d defined q.tree r.blank Line lines) (sym (popped_title e r ix rest title t spine is))
-      (pop_title d defined r.tree r.blank lines ix rest title forest spine t ends ready)
+      (pop_title d defined r.tree r.blank lines
+      (record { list = ix; outer = rest; title = title; forest = forest; spine = spine; titled = t }) ends ready)
 
   pop_plain : next_goes_on (path_of d.options r.tree) lines ≡ false → ReadyAt d defined r.tree r.blank Line lines
       → ReadyAt d defined (popped e r).tree r.blank Line lines
