@@ -213,27 +213,36 @@ pub has_definition : (f : Forest Item) (ix : TreeIndex) (rest : List TreeIndex) 
 has_definition f ix rest (DefinitionList flags) spine is none = closed_definition f flags (ap (top_in f.nodes) spine ∙ is) none
 has_definition f ix rest b spine is none = tt
 
-module _ (d : Document) (defined : Tables) (r : PassState) (lines : List Place) (e : ℕ) (ix : TreeIndex) (rest : List TreeIndex) (forest : IsForest r.tree)
-    (spine : r.tree.spine ≡ ix ∷ rest) (e_is : start_of (length d.text) lines ≡ e) where
+-- The innermost open node, and the offset where the next line starts.
+record InnermostNode (d : Document) (f : Forest Item) (lines : List Place) : Type 0 where
+  node : TreeIndex
+  outer : List TreeIndex
+  forest : IsForest f
+  spine : f.spine ≡ node ∷ outer
+  next : ℕ
+  starts : start_of (length d.text) lines ≡ next
+
+module _ (d : Document) (defined : Tables) (r : PassState) (lines : List Place) (w : InnermostNode d r.tree lines) where
   -- what precedes the next block, after a run of blank lines that counts or not
   abbrev after_run : Bool → Before
   after_run run = record { last = last_plain (closed_in r.tree); counted = run }
 
   abbrev path : List Container
-  path = path_in d.options r.tree.nodes rest
+  path = path_in d.options r.tree.nodes w.outer
 
   -- the innermost open node, a container, is closed before the next line
-  pop_container : (run : Bool) (c : Container) → frame_at d.options r.tree.nodes ix.0 ≡ Some (InContainer c) → next_goes_on (c ∷ path) lines ≡ false
-      → ReadyAt d defined r.tree run Line lines → ReadyAt d defined (closed_by r.tree e (ix ∷ rest)) run Line lines
+  pop_container : (run : Bool) (c : Container) → frame_at d.options r.tree.nodes w.node.0 ≡ Some (InContainer c) → next_goes_on (c ∷ path) lines ≡ false
+      → ReadyAt d defined r.tree run Line lines → ReadyAt d defined (closed_by r.tree w.next (w.node ∷ w.outer)) run Line lines
   pop_container run c frame ends ready =
-      (leave_container d defined r.tree run Line lines e ix rest c
-      (record { spine = spine; frame = frame; ends = stops d.options (level (c ∷ path) (after_run run)) lines ends; at_end = sym e_is }) ready).ready
+      (leave_container d defined r.tree run Line lines w.next w.node w.outer c
+      (record { spine = w.spine; frame = frame; ends = stops d.options (level (c ∷ path) (after_run run)) lines ends; at_end = sym w.starts }) ready).ready
 
   -- any innermost open node, and no item is empty
-  pop_as : (b : Option ItemBody) (frame : Frame) → possible_title r.tree ≡ None → body_at r.tree.nodes ix.0 ≡ b
+  pop_as : (b : Option ItemBody) (frame : Frame) → possible_title r.tree ≡ None → body_at r.tree.nodes w.node.0 ≡ b
       → option_and_then (frame_of d.options) b ≡ Some frame
       → next_goes_on (with_container (option_and_then (container_of d.options) b) path) lines ≡ false
-      → ReadyAt d defined r.tree r.blank Line lines → ReadyAt d defined (popped_by r (closed_by r.tree e (ix ∷ rest)) ix b).tree r.blank Line lines
+      → ReadyAt d defined r.tree r.blank Line lines
+      → ReadyAt d defined (popped_by r (closed_by r.tree w.next (w.node ∷ w.outer)) w.node b).tree r.blank Line lines
   pop_as None frame none is framed ends ready = cc
   pop_as (Some (BlockQuoteBody kind)) frame none is framed ends ready =
       pop_container r.blank (BlockQuote kind) (ap (option_and_then (frame_of d.options)) is) ends ready
@@ -244,61 +253,67 @@ module _ (d : Document) (defined : Tables) (r : PassState) (lines : List Place) 
   pop_as (Some (FootnoteDefinitionBody label)) frame none is framed ends ready =
       pop_container r.blank (FootnoteDefinition (footnote_columns d.options)) (ap (option_and_then (frame_of d.options)) is) ends ready
   pop_as (Some (ListBody flags list number)) frame none is framed ends ready =
-      pop_list d defined r.tree r.blank lines e ix rest (ListBody flags list number) flags forest spine is refl tt e_is ends ready
+      pop_list d defined r.tree r.blank lines w.next w.node w.outer (ListBody flags list number) flags w.forest w.spine is refl tt w.starts ends ready
   pop_as (Some (DefinitionList flags)) frame none is framed ends ready =
-      pop_list d defined r.tree r.blank lines e ix rest (DefinitionList flags) flags forest spine is refl
-      (has_definition r.tree ix rest (DefinitionList flags) spine is none) e_is ends ready
+      pop_list d defined r.tree r.blank lines w.next w.node w.outer (DefinitionList flags) flags w.forest w.spine is refl
+      (has_definition r.tree w.node w.outer (DefinitionList flags) w.spine is none) w.starts ends ready
   pop_as (Some b) frame none is framed ends ready = cc
 
-  ends_at : next_goes_on (path_of d.options r.tree) lines ≡ false → next_goes_on (path_in d.options r.tree.nodes (ix ∷ rest)) lines ≡ false
-  ends_at ends = subst (λ s. next_goes_on (path_in d.options r.tree.nodes s) lines ≡ false) spine ends
+  ends_at : next_goes_on (path_of d.options r.tree) lines ≡ false → next_goes_on (path_in d.options r.tree.nodes (w.node ∷ w.outer)) lines ≡ false
+  ends_at ends = subst (λ s. next_goes_on (path_in d.options r.tree.nodes s) lines ≡ false) w.spine ends
 
   pop_by : (o : Option TreeIndex) → possible_title r.tree ≡ o → next_goes_on (path_of d.options r.tree) lines ≡ false
-      → ReadyAt d defined r.tree r.blank Line lines → ReadyAt d defined (popped e r).tree r.blank Line lines
+      → ReadyAt d defined r.tree r.blank Line lines → ReadyAt d defined (popped w.next r).tree r.blank Line lines
   pop_by None none ends ready =
-      let o : AreOpen d.options r.tree.nodes (ix ∷ rest) ready.frames = subst (λ s. AreOpen d.options r.tree.nodes s ready.frames) spine ready.are_open in
-      let frame = framed_open d.options r.tree.nodes ix rest ready.frames o in
-      subst (λ (q : PassState). ReadyAt d defined q.tree r.blank Line lines) (sym (popped_is e r ix rest spine none))
-      (pop_as (body_at r.tree.nodes ix.0) frame.0 none refl frame.1 (ends_at ends) ready)
+      let o : AreOpen d.options r.tree.nodes (w.node ∷ w.outer) ready.frames =
+      subst (λ s. AreOpen d.options r.tree.nodes s ready.frames) w.spine ready.are_open in
+      let frame = framed_open d.options r.tree.nodes w.node w.outer ready.frames o in
+      subst (λ (q : PassState). ReadyAt d defined q.tree r.blank Line lines) (sym (popped_is w.next r w.node w.outer w.spine none))
+      (pop_as (body_at r.tree.nodes w.node.0) frame.0 none refl frame.1 (ends_at ends) ready)
   pop_by (Some title) is ends ready =
       let t = title_is r.tree title is in
-      subst (λ (q : PassState). ReadyAt d defined q.tree r.blank Line lines) (sym (popped_title e r ix rest title t spine is))
+      subst (λ (q : PassState). ReadyAt d defined q.tree r.blank Line lines) (sym (popped_title w.next r w.node w.outer title t w.spine is))
       (pop_title d defined r.tree r.blank lines
-      (record { list = ix; outer = rest; title = title; forest = forest; spine = spine; titled = t }) ends ready)
+      (record { list = w.node; outer = w.outer; title = title; forest = w.forest; spine = w.spine; titled = t }) ends ready)
 
   pop_plain : next_goes_on (path_of d.options r.tree) lines ≡ false → ReadyAt d defined r.tree r.blank Line lines
-      → ReadyAt d defined (popped e r).tree r.blank Line lines
+      → ReadyAt d defined (popped w.next r).tree r.blank Line lines
   pop_plain ends ready = pop_by (possible_title r.tree) refl ends ready
 
   pop_none : r.begin_list_item ≡ None → next_goes_on (path_of d.options r.tree) lines ≡ false → ReadyAt d defined r.tree r.blank Line lines
-      → Ready d defined (popped e r) lines
+      → Ready d defined (popped w.next r) lines
   pop_none none ends ready =
-      let kept = popped_keeps e r ix rest spine in
-      ready_plain d defined (popped e r) lines (kept.1 none)
-      (subst (λ b. ReadyAt d defined (popped e r).tree b Line lines) (sym kept.0) (pop_plain ends ready))
+      let kept = popped_keeps w.next r w.node w.outer w.spine in
+      ready_plain d defined (popped w.next r) lines (kept.1 none)
+      (subst (λ b. ReadyAt d defined (popped w.next r).tree b Line lines) (sym kept.0) (pop_plain ends ready))
 
-  -- an item or a definition that may be empty is closed
-  module _ (b : ItemBody) (columns : ℕ) (item : body_at r.tree.nodes ix.0 ≡ Some (item_body b columns))
-      (ends : next_goes_on (path_of d.options r.tree) lines ≡ false) where
-    item_ends : next_goes_on (item_container b columns ∷ path) lines ≡ false
+  -- The innermost open node is an item or a definition, which may be empty.
+  record ItemNode : Type 0 where
+    body : ItemBody
+    columns : ℕ
+    item : body_at r.tree.nodes w.node.0 ≡ Some (item_body body columns)
+
+  -- it is closed
+  module _ (m : ItemNode) (ends : next_goes_on (path_of d.options r.tree) lines ≡ false) where
+    item_ends : next_goes_on (item_container m.body m.columns ∷ path) lines ≡ false
     item_ends =
-        let c : container_at d.options r.tree.nodes ix ≡ Some (item_container b columns) =
-        ap (option_and_then (container_of d.options)) item ∙ item_path d.options b columns in
+        let c : container_at d.options r.tree.nodes w.node ≡ Some (item_container m.body m.columns) =
+        ap (option_and_then (container_of d.options)) m.item ∙ item_path d.options m.body m.columns in
         subst (λ o. next_goes_on (with_container o path) lines ≡ false) c (ends_at ends)
 
-    framed_item : frame_at d.options r.tree.nodes ix.0 ≡ Some (InContainer (item_container b columns))
-    framed_item = ap (option_and_then (frame_of d.options)) item ∙ item_frame d.options b columns
+    framed_item : frame_at d.options r.tree.nodes w.node.0 ≡ Some (InContainer (item_container m.body m.columns))
+    framed_item = ap (option_and_then (frame_of d.options)) m.item ∙ item_frame d.options m.body m.columns
 
-    closed_item : (x : ℕ) (blank : Bool) → r.blank ≡ blank → (blank ≡ true → columns ≡ 0) → ReadyInItem d defined r.tree x lines blank
-        → ReadyAt d defined (closed_by r.tree e (ix ∷ rest)) blank Line lines
+    closed_item : (x : ℕ) (blank : Bool) → r.blank ≡ blank → (blank ≡ true → m.columns ≡ 0) → ReadyInItem d defined r.tree x lines blank
+        → ReadyAt d defined (closed_by r.tree w.next (w.node ∷ w.outer)) blank Line lines
     closed_item x true is none ready =
-        let ends0 : next_goes_on (item_container b 0 ∷ path) lines ≡ false =
-        subst (λ n. next_goes_on (item_container b n ∷ path) lines ≡ false) (none refl) item_ends in
-        let last : e ≡ end_before (length d.text) path (Blanks x) (Lines lines) =
-        sym (ap (λ t. if t then x else start_of (length d.text) lines) (not_on b path lines ends0) ∙ e_is) in
-        let c : Container = item_container b columns in
-        (leave_container d defined r.tree true (Blanks x) lines e ix rest c (record {
-          spine = spine;
+        let ends0 : next_goes_on (item_container m.body 0 ∷ path) lines ≡ false =
+        subst (λ n. next_goes_on (item_container m.body n ∷ path) lines ≡ false) (none refl) item_ends in
+        let last : w.next ≡ end_before (length d.text) path (Blanks x) (Lines lines) =
+        sym (ap (λ t. if t then x else start_of (length d.text) lines) (not_on m.body path lines ends0) ∙ w.starts) in
+        let c : Container = item_container m.body m.columns in
+        (leave_container d defined r.tree true (Blanks x) lines w.next w.node w.outer c (record {
+          spine = w.spine;
           frame = framed_item;
           ends = stops_blank d.options (level (c ∷ path) (after_run true)) x lines (not_blank (c ∷ path) lines item_ends);
           at_end = last;
@@ -306,36 +321,38 @@ module _ (d : Document) (defined : Tables) (r : PassState) (lines : List Place) 
     closed_item x false is none ready =
         let now : ReadyAt d defined r.tree false Line lines =
         subst (ReadyBeforeLine d defined r.tree x lines) (not_blank (path_of d.options r.tree) lines ends) ready in
-        pop_container false (item_container b columns) framed_item item_ends now
+        pop_container false (item_container m.body m.columns) framed_item item_ends now
 
-    item_by : (a : ItemBody) → popped_by r (closed_by r.tree e (ix ∷ rest)) ix (Some (item_body a columns))
-        ≡ record r { tree = closed_by r.tree e (ix ∷ rest); begin_list_item = None }
+    item_by : (a : ItemBody) → popped_by r (closed_by r.tree w.next (w.node ∷ w.outer)) w.node (Some (item_body a m.columns))
+        ≡ record r { tree = closed_by r.tree w.next (w.node ∷ w.outer); begin_list_item = None }
     item_by (DefinitionListDefinition n) = refl
     item_by a = refl
 
-    popped_item : popped e r ≡ record r { tree = closed_by r.tree e (ix ∷ rest); begin_list_item = None }
-    popped_item = popped_as e r ix rest (item_body b columns) spine item (item_no_list b columns) ∙ item_by b
+    popped_item : popped w.next r ≡ record r { tree = closed_by r.tree w.next (w.node ∷ w.outer); begin_list_item = None }
+    popped_item = popped_as w.next r w.node w.outer (item_body m.body m.columns) w.spine m.item (item_no_list m.body m.columns) ∙ item_by m.body
 
   pop_with : (o : Option ℕ) → r.begin_list_item ≡ o → next_goes_on (path_of d.options r.tree) lines ≡ false → ReadyWith d defined r lines o
-      → Ready d defined (popped e r) lines
+      → Ready d defined (popped w.next r) lines
   pop_with None none ends ready = pop_none none ends ready
   pop_with (Some x) some ends ready =
-      let same : ready.place ∷ ready.outer ≡ ix ∷ rest = sym ready.spine ∙ spine in
-      let at : ready.place ≡ ix = cc in
+      let same : ready.place ∷ ready.outer ≡ w.node ∷ w.outer = sym ready.spine ∙ w.spine in
+      let at : ready.place ≡ w.node = cc in
       let b = columns_are (body_at r.tree.nodes ready.place.0) ready.columns ready.item in
-      let item : body_at r.tree.nodes ix.0 ≡ Some (item_body b.0 ready.columns) =
+      let item : body_at r.tree.nodes w.node.0 ≡ Some (item_body b.0 ready.columns) =
       subst (λ (i : TreeIndex). body_at r.tree.nodes i.0 ≡ Some (item_body b.0 ready.columns)) at
       (b.1 ∙ ap (λ z. Some z) (sym (item_is b.0 ready.columns b.2))) in
-      subst (λ q. Ready d defined q lines) (sym (popped_item b.0 ready.columns item ends))
-      (ready_plain d defined (record r { tree = closed_by r.tree e (ix ∷ rest); begin_list_item = None }) lines refl
-      (closed_item b.0 ready.columns item ends x r.blank refl ready.none ready.ready))
+      let m : ItemNode = record { body = b.0; columns = ready.columns; item = item } in
+      subst (λ q. Ready d defined q lines) (sym (popped_item m ends))
+      (ready_plain d defined (record r { tree = closed_by r.tree w.next (w.node ∷ w.outer); begin_list_item = None }) lines refl
+      (closed_item m ends x r.blank refl ready.none ready.ready))
 
 -- the innermost open node is closed before the next line
 pub ready_pop : (d : Document) (defined : Tables) (r : PassState) (lines : List Place) (e : ℕ) (ix : TreeIndex) (rest : List TreeIndex)
     → IsForest r.tree → r.tree.spine ≡ ix ∷ rest → start_of (length d.text) lines ≡ e → next_goes_on (path_of d.options r.tree) lines ≡ false
     → Ready d defined r lines → Ready d defined (popped e r) lines
 unfolding Ready
-ready_pop d defined r lines e ix rest forest spine e_is ends ready = pop_with d defined r lines e ix rest forest spine e_is r.begin_list_item refl ends ready
+ready_pop d defined r lines e ix rest forest spine e_is ends ready =
+    pop_with d defined r lines (record { node = ix; outer = rest; forest = forest; spine = spine; next = e; starts = e_is }) r.begin_list_item refl ends ready
 
 -- closing changes no container
 pub same_path : (options : Options) (nodes other : List (ℕ × Item))
