@@ -119,9 +119,17 @@ end_by false e y h =
 abbrev CutFits : List ℕ → Within → ℕ → ℕ → ℕ → ℕ → List (ℕ × Item) → Type 0
 CutFits text w from to e d nodes = (row : Siblings) × (extents nodes ≡ laid d row) × Fits text w (min from e) to row
 
-module _ (text : List ℕ) (w : Within) (from to e d low : ℕ) (n : ℕ × Item) (nodes : List (ℕ × Item)) (next : Siblings)
-    (b : IsCharBoundary text e) (later : from ≤ low) (depth : n.0 ≡ d) (fits : Fits text w from to (Node (extent_of n.1) Empty next))
-    (rest : (v : Within) (f : ℕ) → f ≤ max low n.1.«end» → Fits text v f to next → CutFits text v f to e d (cut_tokens e d nodes)) where
+-- A token is the first of a row, after an offset. The tokens after it stay a row when they are cut.
+record FirstToken (text : List ℕ) (w : Within) (from to e d : ℕ) (n : ℕ × Item) (nodes : List (ℕ × Item)) : Type 0 where
+  low : ℕ
+  next : Siblings
+  boundary : IsCharBoundary text e
+  later : from ≤ low
+  depth : n.0 ≡ d
+  fits : Fits text w from to (Node (extent_of n.1) Empty next)
+  cut : (v : Within) (f : ℕ) → f ≤ max low n.1.«end» → Fits text v f to next → CutFits text v f to e d (cut_tokens e d nodes)
+
+module _ (text : List ℕ) (w : Within) (from to e d : ℕ) (n : ℕ × Item) (nodes : List (ℕ × Item)) (t : FirstToken text w from to e d n nodes) where
   abbrev z : Ranged
   z = ended_at (extent_of n.1) (min n.1.«end» e)
 
@@ -129,17 +137,17 @@ module _ (text : List ℕ) (w : Within) (from to e d low : ℕ) (n : ℕ × Item
       → extents ((n.0, cut_item e n.1) ∷ cut_tokens e d nodes) ≡ laid d (Node z Empty row)
   unfolding laid
   laid_as row is =
-      ap (λ k. (k, extent_of (cut_item e n.1)) ∷ extents (cut_tokens e d nodes)) depth
+      ap (λ k. (k, extent_of (cut_item e n.1)) ∷ extents (cut_tokens e d nodes)) t.depth
       ∙ ap (λ (y : Ranged). (d, y) ∷ extents (cut_tokens e d nodes)) (end_by (nat_lt e n.1.«end») e n.1 refl)
       ∙ ap (λ (r : List (ℕ × Ranged)). (d, z) ∷ r) is
 
   stays_by : n.1.start < e
-      → (IsBetween text from to (extent_of n.1) × Fits text (below w from (extent_of n.1)) n.1.start n.1.«end» Empty × Fits text (beyond w) n.1.«end» to next)
-      ⊎ (IsLead text w from (extent_of n.1) × Fits text Elsewhere n.1.start n.1.«end» Empty × Fits text Elsewhere from to next)
+      → (IsBetween text from to (extent_of n.1) × Fits text (below w from (extent_of n.1)) n.1.start n.1.«end» Empty × Fits text (beyond w) n.1.«end» to t.next)
+      ⊎ (IsLead text w from (extent_of n.1) × Fits text Elsewhere n.1.start n.1.«end» Empty × Fits text Elsewhere from to t.next)
       → CutFits text w from to e d ((n.0, cut_item e n.1) ∷ cut_tokens e d nodes)
   unfolding Fits
   stays_by less (inl (between, inside, more)) =
-      let (row, is, f) = rest (beyond w) n.1.«end» (omega arith) more in
+      let (row, is, f) = t.cut (beyond w) n.1.«end» (omega arith) more in
       let starts = between.following in
       let order = between.order in
       let inner : z.start ≤ z.«end» = omega arith in (
@@ -151,45 +159,45 @@ module _ (text : List ℕ) (w : Within) (from to e d low : ℕ) (n : ℕ × Item
             order = inner;
             before = fits-order text (beyond w) z.«end» to row f;
             starts = between.starts;
-            ends = min_boundary text n.1.«end» e between.ends b;
+            ends = min_boundary text n.1.«end» e between.ends t.boundary;
           },
           inner,
           f,
         ),
       )
   stays_by less (inr (lead, inside, more)) =
-      let (row, is, f) = rest Elsewhere from (omega arith) more in
+      let (row, is, f) = t.cut Elsewhere from (omega (arith, t.later)) more in
       let whole : n.1.start ≤ n.1.«end» = inside in
       let inner : z.start ≤ z.«end» = omega arith in
-      (Node z Empty row, laid_as row is, inr (lead_cut text w from e (extent_of n.1) less b lead, inner, f))
+      (Node z Empty row, laid_as row is, inr (lead_cut text w from e (extent_of n.1) less t.boundary lead, inner, f))
 
-  pub stays : n.1.start < e → CutFits text w from to e d ((n.0, cut_item e n.1) ∷ cut_tokens e d nodes)
+  stays : n.1.start < e → CutFits text w from to e d ((n.0, cut_item e n.1) ∷ cut_tokens e d nodes)
   unfolding Fits
-  stays less = stays_by less fits
+  stays less = stays_by less t.fits
 
   -- no token
   none_left : CutFits text w from to e d []
   unfolding Fits laid
-  none_left = (let all = fits-order text w from to (Node (extent_of n.1) Empty next) fits in (Empty, refl, omega arith))
+  none_left = (let all = fits-order text w from to (Node (extent_of n.1) Empty t.next) t.fits in (Empty, refl, omega arith))
 
   -- a token that starts within the row's end
   starts_by :
-      (IsBetween text from to (extent_of n.1) × Fits text (below w from (extent_of n.1)) n.1.start n.1.«end» Empty × Fits text (beyond w) n.1.«end» to next)
-      ⊎ (IsLead text w from (extent_of n.1) × Fits text Elsewhere n.1.start n.1.«end» Empty × Fits text Elsewhere from to next)
-      → low < n.1.start → n.1.start ≤ to
+      (IsBetween text from to (extent_of n.1) × Fits text (below w from (extent_of n.1)) n.1.start n.1.«end» Empty × Fits text (beyond w) n.1.«end» to t.next)
+      ⊎ (IsLead text w from (extent_of n.1) × Fits text Elsewhere n.1.start n.1.«end» Empty × Fits text Elsewhere from to t.next)
+      → t.low < n.1.start → n.1.start ≤ to
   unfolding Fits
   starts_by (inl (between, inside, more)) past = (let o = between.order in let k = between.before in omega arith)
   starts_by (inr (lead, inside, more)) past =
       let whole : n.1.start ≤ n.1.«end» = inside in
       let first = lead_before text w from (extent_of n.1) lead in
-      absurd (omega arith)
+      absurd (omega (arith, t.later))
 
-  starts_within : low < n.1.start → n.1.start ≤ to
+  starts_within : t.low < n.1.start → n.1.start ≤ to
   unfolding Fits
-  starts_within past = starts_by fits past
+  starts_within past = starts_by t.fits past
 
   -- the backslash of the first token that is cut, or nothing
-  pub goes : (v : Bool) → (is_escaped n.1.body && (n.1.start == e)) ≡ v → StandsAfterBackslash text low n.1
+  goes : (v : Bool) → (is_escaped n.1.body && (n.1.start == e)) ≡ v → StandsAfterBackslash text t.low n.1
       → CutFits text w from to e d (if v then (n.0, record { start = e - 1; «end» = e; body = Text false }) ∷ [] else [])
   goes false is stands = none_left
   goes true is stands =
@@ -197,29 +205,30 @@ module _ (text : List ℕ) (w : Within) (from to e d low : ℕ) (n : ℕ × Item
       let at : n.1.start ≡ e = eqb-true n.1.start e parts.1 in
       let (past, byte) = stands parts.0 in
       let within = starts_within past in
-      let high = b.0 in
+      let later = t.later in
+      let high = t.boundary.0 in
       let y : Item = record { start = e - 1; «end» = e; body = Text false } in
       let here : slice_index text (e - 1) ≡ backslash = ap (λ k. slice_index text (k - 1)) (sym at) ∙ byte in (
         Node (extent_of y) Empty Empty,
-        ap (λ k. (k, extent_of y) ∷ []) depth ∙ sym (laid-one d (extent_of y)),
+        ap (λ k. (k, extent_of y) ∷ []) t.depth ∙ sym (laid-one d (extent_of y)),
         fits-one text w (min from e) to (extent_of y)
             (record {
               following = omega arith;
               order = omega arith;
               before = omega arith;
               starts = IsCharBoundary-before_ascii text (e - 1) (omega arith) (omega arith);
-              ends = b;
+              ends = t.boundary;
             }),
       )
 
   -- the case of a token that starts before the cut, and of one that does not
-  pub cut_by : (t : Bool) → StandsAfterBackslash text low n.1 → nat_lt n.1.start e ≡ t → CutFits text w from to e d (cut_tokens e d (n ∷ nodes))
+  cut_by : (v : Bool) → StandsAfterBackslash text t.low n.1 → nat_lt n.1.start e ≡ v → CutFits text w from to e d (cut_tokens e d (n ∷ nodes))
   cut_by true stands is =
-      let plain : nat_lt d n.0 ≡ false = le-ltb d n.0 (omega arith) in
+      let plain : nat_lt d n.0 ≡ false = le-ltb d n.0 (omega (arith, t.depth)) in
       let same : cut_tokens e d (n ∷ nodes) ≡ (n.0, cut_item e n.1) ∷ cut_tokens e d nodes = cond-false _ _ _ plain ∙ cond-true _ _ _ is in
       subst (CutFits text w from to e d) (sym same) (stays (ltb-true n.1.start e is))
   cut_by false stands is =
-      let plain : nat_lt d n.0 ≡ false = le-ltb d n.0 (omega arith) in
+      let plain : nat_lt d n.0 ≡ false = le-ltb d n.0 (omega (arith, t.depth)) in
       let v : Bool = is_escaped n.1.body && (n.1.start == e) in
       let same : cut_tokens e d (n ∷ nodes) ≡ (if v then (n.0, record { start = e - 1; «end» = e; body = Text false }) ∷ [] else []) =
       cond-false _ _ _ plain ∙ cond-false _ _ _ is in
@@ -248,9 +257,17 @@ cut_row text w from to e d low (n ∷ nodes) (Node x kids next) b t =
     let own : Fits text w from to (Node (extent_of n.1) Empty next) =
     subst (λ (k : Siblings). Fits text w from to (Node (extent_of n.1) k next)) none
     (subst (λ (y : Ranged). Fits text w from to (Node y kids next)) (sym x_is) t.fits) in
-    cut_by text w from to e d low n nodes next b t.later h.0 own
-    (λ v f low' k. cut_row text v f to e d (max low n.1.«end») nodes next b
-    (record { later = low'; extents_are = next_is; tokens = h.2; fits = k })) (nat_lt n.1.start e) h.1 refl
+    let token : FirstToken text w from to e d n nodes = record {
+      low = low;
+      next = next;
+      boundary = b;
+      later = t.later;
+      depth = h.0;
+      fits = own;
+      cut = λ v f low' k. cut_row text v f to e d (max low n.1.«end») nodes next b
+          (record { later = low'; extents_are = next_is; tokens = h.2; fits = k });
+    } in
+    cut_by text w from to e d n nodes token (nat_lt n.1.start e) h.1 refl
 
 -- the children of the innermost open node
 open_as : (s : List TreeIndex) (block : TreeIndex) → slice_get s 0 ≡ Some block → (rest : List TreeIndex) × (s ≡ block ∷ rest)
