@@ -1,8 +1,12 @@
--- From one set bit of a mask to the next.
-use Rattle.std.proofs.Common.{◌≡◌, ◌⊎◌, inl, inr, ℕ, zero, suc, ◌-◌, ◌/◌, ◌%◌, ◌^◌, ◌<◌, ◌≤◌, w64, bit_and, refl, sym, ap, ◌∙◌, arith}
+-- The set bits of a mask, and the bytes that they stand for.
+use Rattle.std.proofs.Common.{◌≡◌, ◌⊎◌, inl, inr, ℕ, zero, suc, ◌+◌, ◌-◌, ◌/◌, ◌%◌, ◌^◌, ◌<◌, ◌≤◌, ◌==◌, ◌*◌, Bool, false, List, slice_index, subst, w64, bit_and, refl, sym, ap, ◌∙◌, arith}
 use Rattle.std.proofs.lemmas.Bool.{cases_lt, cases_eq}
 use Rattle.std.proofs.lemmas.Nat.Bits.{bit_at_lowest, bit_at-suc, bit_at-lt, bit_at_and, bit_at_above, bit_at-trailing_zeros}
+use Rattle.std.proofs.lemmas.Nat.{div_below, pow-add}
+use Rattle.std.proofs.Common.{pow_pos}
+use Rattle.std.proofs.Math.Nat.{div-div-eq-div-mul}
 use Rattle.std.specs.Int.{bit_at, trailing_zeros}
+use Rattle.first_pass_walk.specs.Walk.{is_marked, is_word_byte, AreWordStops, IsFirstStop, IsNextMarked, SparesWords}
 
 -- Subtracting one from a number leaves all its set bits except the lowest.
 abbrev IsKeptOrLowest : ℕ → ℕ → Type 0
@@ -50,9 +54,71 @@ module _ (n : ℕ) (some : 0 < n) (fits : n < 2 ^ 64) where
             ]
       ]
 
-  pub lowest_within : (w : ℕ) → n < 2 ^ w → trailing_zeros w64 n < w
-  lowest_within w below =
-      elim (cases_lt (trailing_zeros w64 n) w) [
-        | inl h ↦ h
-        | inr h ↦ absurd (omega (arith, (bit_at-trailing_zeros w64 n some fits).1, bit_at_above n w (trailing_zeros w64 n) below h))
+-- a set bit of a number below 2 ^ n is one of n
+pub bit_below : (mask n k : ℕ) → mask < 2 ^ n → bit_at mask k ≡ 1 → k < n
+bit_below mask n k small set =
+    elim (cases_lt k n) [
+      | inl h ↦ h
+      | inr h ↦ absurd (omega (arith, bit_at_above mask n k small h, set))
+    ]
+
+-- the same bit after a shift
+pub shifted_bit : (mask s k : ℕ) → bit_at (mask / 2 ^ s) k ≡ bit_at mask (s + k)
+shifted_bit mask s k = ap (λ n. n % 2) (div-div-eq-div-mul mask (2 ^ s) (2 ^ k) ∙ ap (λ n. mask / n) (sym (pow-add 2 s k)))
+
+-- the mask of the bytes after the first s
+pub shifted : (bytes : List ℕ) (at s n mask : ℕ) → AreWordStops bytes at (s + n) mask → AreWordStops bytes (at + s) n (mask / 2 ^ s)
+shifted bytes at s n mask h =
+    let turned : s + n ≡ n + s = omega arith in
+    let fits : mask < 2 ^ n * 2 ^ s = subst (λ m. mask < m) (ap (λ m. 2 ^ m) turned ∙ pow-add 2 n s) h.within in
+    record {
+      within = div_below mask (2 ^ s) (2 ^ n) (pow_pos s) fits;
+      stops = λ k less.
+          let on : at + s + k ≡ at + (s + k) = omega arith in
+          ap (λ i. is_word_byte (slice_index bytes i)) on ∙ h.stops (s + k) (omega (arith, less)) ∙ ap (λ b. b == 0) (sym (shifted_bit mask s k));
+    }
+
+-- the mask of what is left, fewer than 16 bytes, from that of the last 16
+pub tail_stops : (bytes : List ℕ) (next last mask : ℕ) → last ≤ next → next ≤ last + 16 → AreWordStops bytes last 16 mask
+    → AreWordStops bytes next (last + 16 - next) (mask / 2 ^ (next - last))
+tail_stops bytes next last mask from to h =
+    let s : ℕ = next - last in
+    let n : ℕ = last + 16 - next in
+    let whole : 16 ≡ s + n = omega (arith, from, to) in
+    let there : last + s ≡ next = omega (arith, from) in
+    subst (λ at. AreWordStops bytes at n (mask / 2 ^ s)) there (shifted bytes last s n mask (subst (λ m. AreWordStops bytes last m mask) whole h))
+
+-- the places before an offset, and n places from there on
+pub unmarked : (lut : List Bool) (bytes : List ℕ) (ix next n : ℕ) → ((k : ℕ) → ix ≤ k → k < next → is_marked lut bytes k ≡ false)
+    → ((k : ℕ) → k < n → is_marked lut bytes (next + k) ≡ false) → (k : ℕ) → ix ≤ k → k < next + n → is_marked lut bytes k ≡ false
+unmarked lut bytes ix next n before after k from to =
+    elim (cases_lt k next) [
+      | inl h ↦ before k from h
+      | inr h ↦ let back : next + (k - next) ≡ k = omega arith in subst (λ j. is_marked lut bytes j ≡ false) back (after (k - next) (omega arith))
+    ]
+
+module _ (lut : List Bool) (bytes : List ℕ) (at n mask : ℕ) (spares : SparesWords lut) (stops : AreWordStops bytes at n mask) where
+  -- no byte without a set bit is marked
+  spared : (k : ℕ) → k < n → (bit_at mask k ≡ 1 → is_marked lut bytes (at + k) ≡ false) → is_marked lut bytes (at + k) ≡ false
+  spared k less unless =
+      elim (cases_eq (bit_at mask k) 0) [
+        | inl clear ↦ spares (slice_index bytes (at + k)) (stops.stops k less ∙ ap (λ b. b == 0) clear)
+        | inr set ↦ unless (omega (arith, set, bit_at-lt mask k))
       ]
+
+  pub none_marked : (ix : ℕ) → ((k : ℕ) → ix ≤ k → k < at → is_marked lut bytes k ≡ false)
+      → ((k : ℕ) → bit_at mask k ≡ 1 → is_marked lut bytes (at + k) ≡ false) → (k : ℕ) → ix ≤ k → k < at + n → is_marked lut bytes k ≡ false
+  none_marked ix before none = unmarked lut bytes ix at n before (λ k less. spared k less (none k))
+
+  pub first_is_next : (ix j : ℕ) → ix ≤ at → ((k : ℕ) → ix ≤ k → k < at → is_marked lut bytes k ≡ false)
+      → IsFirstStop lut bytes at mask j → IsNextMarked lut bytes ix j
+  first_is_next ix j from before first =
+      let near : j - at < n = bit_below mask n (j - at) stops.within first.set in
+      record {
+        from = omega (arith, from, first.from);
+        within = first.within;
+        marked = first.marked;
+        least = λ k after less. unmarked lut bytes ix at (j - at) before
+            (λ i low. spared i (omega (arith, low, near)) (first.least i (omega (arith, low))))
+            k after (omega (arith, less, first.from));
+      }

@@ -1,6 +1,6 @@
 -- The special bytes, the next of them, and the walk over them. A special byte may begin a token other than plain text,
 -- end a cell, or open or close a brace context.
-use Rattle.std.specs.Prelude.{◌≡◌, ℕ, ◌+◌, ◌^◌, ◌<◌, ◌≤◌, ◌==◌, ◌&&◌, ◌||◌, ◌⊎◌, Bool, true, false, nat_lt, List, [], ◌∷◌, length, slice_index, Option, None}
+use Rattle.std.specs.Prelude.{◌≡◌, ℕ, ◌+◌, ◌-◌, ◌^◌, ◌<◌, ◌≤◌, ◌==◌, ◌&&◌, ◌||◌, ◌⊎◌, Bool, true, false, nat_lt, List, [], ◌∷◌, length, slice_index, Option, None}
 use Rattle.std.specs.List.{slice_index_or, list_any}
 use Rattle.std.specs.Char.{is_ascii_alphabetic}
 use Rattle.std.specs.Int.{bit_at}
@@ -66,11 +66,20 @@ NoneMarkedFrom lut bytes ix = (k : ℕ) → ix ≤ k → k < length bytes → is
 abbrev pub is_word_byte : ℕ → Bool
 is_word_byte b = (is_ascii_alphabetic b || (b == nul || b == space)) || (nat_lt 127 b && nat_lt b 256)
 
--- The mask of the 16 bytes from an offset on. Bit k is 1 exactly if byte k of them is not a word byte, and no bit from
--- 16 on is set (this project).
-pub record AreWordStops (bytes : List ℕ) (at mask : ℕ) : Type 0 where
-  pub within : mask < 2 ^ 16
-  pub stops : (k : ℕ) → k < 16 → is_word_byte (slice_index bytes (at + k)) ≡ (bit_at mask k == 0)
+-- The mask of n bytes from an offset on. Bit k is 1 exactly if byte k of them is not a word byte, and no bit from n on
+-- is set (this project).
+pub record AreWordStops (bytes : List ℕ) (at n mask : ℕ) : Type 0 where
+  pub within : mask < 2 ^ n
+  pub stops : (k : ℕ) → k < n → is_word_byte (slice_index bytes (at + k)) ≡ (bit_at mask k == 0)
+
+-- j is the offset of the first marked byte whose bit is set; bit k is that of the byte k places after an offset
+-- (this project)
+pub record IsFirstStop (lut : List Bool) (bytes : List ℕ) (at mask j : ℕ) : Type 0 where
+  pub from : at ≤ j
+  pub within : j < length bytes
+  pub set : bit_at mask (j - at) ≡ 1
+  pub marked : is_marked lut bytes j ≡ true
+  pub least : (k : ℕ) → at + k < j → bit_at mask k ≡ 1 → is_marked lut bytes (at + k) ≡ false
 
 -- the table marks no NUL, no letter, no space and no byte of a character beyond ASCII (this project)
 abbrev pub SparesWords : List Bool → Type 0

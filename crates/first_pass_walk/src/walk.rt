@@ -1,8 +1,9 @@
 //! The special bytes, and the walk over them. At a special byte, a token other than plain text may begin, a cell may
 //! end (`|`), or a brace context may open or close (`{` and `}`).
 
-ghost use Rattle.std.specs.Prelude.{◌≡◌, ℕ, ◌+◌, ◌≤◌, ◌<◌, false, length, IfSome, IfNone};
-ghost use Rattle.first_pass_walk.specs.Walk.{is_special as is_special_byte, MarksSpecial, is_marked, IsNextMarked, NoneMarkedFrom, IsWalk, SparesWords, AreWordStops};
+ghost use Rattle.std.specs.Prelude.{◌≡◌, ℕ, ◌+◌, ◌^◌, ◌≤◌, ◌<◌, false, length, IfSome, IfNone};
+ghost use Rattle.first_pass_walk.specs.Walk.{is_special as is_special_byte, MarksSpecial, is_marked, IsNextMarked, NoneMarkedFrom, IsWalk, SparesWords, AreWordStops, IsFirstStop};
+ghost use Rattle.std.specs.Int.{bit_at};
 
 use bitflags::Flags;
 use first_pass_items::option_set::Options;
@@ -61,7 +62,7 @@ pub fn next_special_in_words(lut: &[bool; 256], bytes: &[u8], ix: usize) -> Opti
     }
     let last = bytes.len() - LANES;
     while next <= last {
-        let mut stops = word_stops(bytes, next);
+        let stops = word_stops(bytes, next);
         if stops == 0 {
             next += LANES;
             continue;
@@ -73,16 +74,37 @@ pub fn next_special_in_words(lut: &[bool; 256], bytes: &[u8], ix: usize) -> Opti
             }
             continue;
         }
-        while stops != 0 {
-            let at = next + stops.trailing_zeros() as usize;
-            if lut[bytes[at] as usize] {
-                return Some(at);
-            }
-            stops &= stops - 1;
+        match first_at_stops(lut, bytes, next, stops) {
+            Some(at) => return Some(at),
+            None => next += LANES,
         }
-        next += LANES;
     }
-    next_special(lut, bytes, next)
+    if bytes.len() <= next {
+        return None;
+    }
+    // Fewer than 16 bytes are left: one load has them and some bytes before them.
+    let stops = word_stops(bytes, last) >> (next - last);
+    first_at_stops(lut, bytes, next, stops)
+}
+
+// The offset of the first byte that is marked in the table, among those whose bits are set. The lowest bit is that of
+// the byte at `from`.
+#[inline(always)]
+fn first_at_stops(lut: &[bool; 256], bytes: &[u8], from: usize, stops: u64) -> Option<usize>
+    requires room { from + 64 < 2 ^ 64 }
+    requires within { (k : ℕ) → bit_at stops k ≡ 1 → from + k < length bytes.now }
+    ensures found { IfSome result (λ j. IsFirstStop lut.now bytes.now from stops j) }
+    ensures none { IfNone result ((k : ℕ) → bit_at stops k ≡ 1 → is_marked lut.now bytes.now (from + k) ≡ false) }
+{
+    let mut left = stops;
+    while left != 0 {
+        let at = from + left.trailing_zeros() as usize;
+        if lut[bytes[at] as usize] {
+            return Some(at);
+        }
+        left &= left - 1;
+    }
+    None
 }
 
 // The offset of the first byte that is marked in the table, among the 16 from the offset `at` on.
@@ -105,7 +127,7 @@ fn first_in_lanes(lut: &[bool; 256], bytes: &[u8], at: usize) -> Option<usize>
 #[inline(always)]
 fn word_stops(bytes: &[u8], at: usize) -> u64
     requires { at + 16 ≤ length bytes.now }
-    ensures { AreWordStops bytes.now at result }
+    ensures { AreWordStops bytes.now at 16 result }
 {
     let lanes = u8x16::from_slice(&bytes[at..]);
     // A letter becomes a small one. A space stays a space, and a byte beyond ASCII stays beyond it.

@@ -1,57 +1,63 @@
-use Rattle.std.proofs.Common.{◌≡◌, ◌==◌, ◌+◌, ◌-◌, ◌<◌, ◌≤◌, Bool, false, ℕ, List, w64, inl, inr, subst, ap, ◌∙◌, arith}
-use Rattle.std.proofs.lemmas.Bool.{cases_lt}
-use Rattle.std.proofs.lemmas.Nat.{and_le_r}
-use Rattle.std.proofs.lemmas.Nat.Bits.{bit_at-zero, bit_at-trailing_zeros}
+use Rattle.std.proofs.Common.{ℕ, ◌+◌, ◌-◌, ◌/◌, ◌^◌, length, Option, Some, None, IfSome, IfNone, sym, ap, ◌∙◌, arith}
+use Rattle.std.proofs.lemmas.Nat.Bits.{bit_at-zero}
 use Rattle.std.specs.Int.{bit_at}
-use Rattle.first_pass_walk.specs.Walk.{is_marked}
-use Rattle.first_pass_walk.proofs.StopLemmas.{cleared, lowest_within}
+use Rattle.first_pass_walk.proofs.StopLemmas.{bit_below, shifted_bit, tail_stops, none_marked, first_is_next}
 use Rattle.first_pass_walk.proofs.walk.next_special_in_words.Goals as goal
 
--- the places before a load, and the tested places of the load
-unmarked : (lut : List Bool) (bytes : List ℕ) (ix next n : ℕ) → ((k : ℕ) → ix ≤ k → k < next → is_marked lut bytes k ≡ false)
-    → ((k : ℕ) → k < n → is_marked lut bytes (next + k) ≡ false) → (k : ℕ) → ix ≤ k → k < next + n → is_marked lut bytes k ≡ false
-unmarked lut bytes ix next n before after k from to =
-    elim (cases_lt k next) [
-      | inl h ↦ before k from h
-      | inr h ↦ let back : next + (k - next) ≡ k = omega arith in subst (λ j. is_marked lut bytes j ≡ false) back (after (k - next) (omega arith))
-    ]
+if_some : {X : Type 0} {P Q : X → Type 0} (o : Option X) → ((x : X) → P x → Q x) → IfSome o P → IfSome o Q
+if_some None f h = tt
+if_some (Some x) f h = f x h
 
-pub bounds-bytes-at : goal.bounds-bytes-at
-bounds-bytes-at c = omega (arith, lowest_within c.loop-stops.stops (omega arith) (omega arith) 16 c.loop-stops.invariant.within)
+if_none : {X P Q : Type 0} (o : Option X) → (P → Q) → IfNone o P → IfNone o Q
+if_none None f h = f h
+if_none (Some x) f h = tt
 
-pub returns-then-lut-bytes-clause-found : goal.returns-then-lut-bytes-clause-found
-returns-then-lut-bytes-clause-found c =
-    let within = lowest_within c.loop-stops.stops (omega arith) (omega arith) 16 c.loop-stops.invariant.within in
-    let low = bit_at-trailing_zeros w64 c.loop-stops.stops (omega arith) (omega arith) in
-    record {
-      from = omega arith;
-      within = omega arith;
-      marked = c.if-lut-bytes.true;
-      least =
-          unmarked c.args.lut.now c.args.bytes.now c.args.ix c.loop-next.next _ c.loop-next.invariant.none
-          (λ k lower. c.loop-stops.invariant.asked k (omega arith) (low.2 k lower));
-    }
+-- a load of 16 bytes
+pub first_at_stops-requires-clause-within : goal.first_at_stops-requires-clause-within
+first_at_stops-requires-clause-within c k set = omega (arith, bit_below c.word_stops-stops.result 16 k c.word_stops-stops.ensures.within set)
 
-pub loop-stops-preserved : goal.loop-stops-preserved
-loop-stops-preserved c = record {
-  within = omega (arith, and_le_r c.loop-stops.stops (c.loop-stops.stops - 1));
-  asked = λ k bound clear. elim (cleared c.loop-stops.stops (omega arith) (omega arith) k clear) [
-    | inl already ↦ c.loop-stops.invariant.asked k bound already
-    | inr lowest ↦ rw lowest c.if-lut-bytes.false
-  ];
-}
+pub returns-in-Some-first_at_stops-clause-found : goal.returns-in-Some-first_at_stops-clause-found
+returns-in-Some-first_at_stops-clause-found c =
+    first_is_next c.args.lut.now c.args.bytes.now c.loop-next.next 16 c.word_stops-stops.result c.requires c.word_stops-stops.ensures
+    c.args.ix c.in-Some-first_at_stops.at c.loop-next.invariant.from c.loop-next.invariant.none c.in-Some-first_at_stops.ensures.found
 
 -- no byte of a load without stops is marked
 pub loop-next-preserved-then-stops-eq0 : goal.loop-next-preserved-then-stops-eq0
 loop-next-preserved-then-stops-eq0 c = record {
   from = omega arith;
-  none = unmarked c.args.lut.now c.args.bytes.now c.args.ix c.loop-next.next 16 c.loop-next.invariant.none
-      (λ k bound. c.requires _ (c.word_stops-stops.ensures.stops k bound ∙ ap (λ n. bit_at n k == 0) c.if-stops-eq0.true ∙ ap (λ b. b == 0) (bit_at-zero k)));
+  none = none_marked c.args.lut.now c.args.bytes.now c.loop-next.next 16 c.word_stops-stops.result c.requires c.word_stops-stops.ensures c.args.ix
+      c.loop-next.invariant.none (λ k set. absurd (omega (arith, set, ap (λ n. bit_at n k) c.if-stops-eq0.true, bit_at-zero k)));
 }
 
 pub loop-next-preserved : goal.loop-next-preserved
 loop-next-preserved c = record {
   from = omega arith;
-  none = unmarked c.args.lut.now c.args.bytes.now c.args.ix c.loop-next.next 16 c.loop-next.invariant.none
-      (λ k bound. c.loop-stops.invariant.asked k bound (ap (λ n. bit_at n k) c.loop-stops-test.false ∙ bit_at-zero k));
+  none = none_marked c.args.lut.now c.args.bytes.now c.loop-next.next 16 c.word_stops-stops.result c.requires c.word_stops-stops.ensures c.args.ix
+      c.loop-next.invariant.none c.in-None-first_at_stops.ensures.none;
 }
+
+-- the last load
+pub first_at_stops-requires-2-clause-within : goal.first_at_stops-requires-2-clause-within
+first_at_stops-requires-2-clause-within c k set =
+    let before : ℕ = c.loop-next.next - (length c.args.bytes.now - 16) in
+    omega (arith, bit_below c.word_stops.result 16 (before + k) c.word_stops.ensures.within (sym (shifted_bit c.word_stops.result before k) ∙ set))
+
+pub returns-clause-found : goal.returns-clause-found
+returns-clause-found c =
+    let next : ℕ = c.loop-next.next in
+    let last : ℕ = length c.args.bytes.now - 16 in
+    let stops = tail_stops c.args.bytes.now next last c.word_stops.result (omega arith) (omega arith) c.word_stops.ensures in
+    if_some c.first_at_stops-2.result
+    (λ j. first_is_next c.args.lut.now c.args.bytes.now next (last + 16 - next) (c.word_stops.result / 2 ^ (next - last)) c.requires stops
+    c.args.ix j c.loop-next.invariant.from c.loop-next.invariant.none)
+    c.first_at_stops-2.ensures.found
+
+pub returns-clause-none : goal.returns-clause-none
+returns-clause-none c =
+    let next : ℕ = c.loop-next.next in
+    let last : ℕ = length c.args.bytes.now - 16 in
+    let stops = tail_stops c.args.bytes.now next last c.word_stops.result (omega arith) (omega arith) c.word_stops.ensures in
+    if_none c.first_at_stops-2.result
+    (λ none k from less. none_marked c.args.lut.now c.args.bytes.now next (last + 16 - next) (c.word_stops.result / 2 ^ (next - last)) c.requires stops
+    c.args.ix c.loop-next.invariant.none none k from (omega (arith, less)))
+    c.first_at_stops-2.ensures.none
