@@ -1,9 +1,9 @@
 -- The set bits of a mask, and the bytes that they stand for.
-use Rattle.std.proofs.Common.{◌≡◌, ◌⊎◌, inl, inr, ℕ, zero, suc, ◌+◌, ◌-◌, ◌/◌, ◌%◌, ◌^◌, ◌<◌, ◌≤◌, ◌==◌, ◌*◌, Bool, false, List, slice_index, subst, w64, bit_and, refl, sym, ap, ◌∙◌, arith}
+use Rattle.std.proofs.Common.{◌≡◌, ◌⊎◌, inl, inr, ℕ, zero, suc, ◌+◌, ◌-◌, ◌/◌, ◌%◌, ◌^◌, ◌<◌, ◌≤◌, ◌==◌, ◌*◌, Bool, false, List, slice_index, subst}
+use Rattle.std.proofs.Common.{w64, bit_and, refl, sym, ap, ◌∙◌, arith, pow_pos}
 use Rattle.std.proofs.lemmas.Bool.{cases_lt, cases_eq}
 use Rattle.std.proofs.lemmas.Nat.Bits.{bit_at_lowest, bit_at-suc, bit_at-lt, bit_at_and, bit_at_above, bit_at-trailing_zeros}
 use Rattle.std.proofs.lemmas.Nat.{div_below, pow-add}
-use Rattle.std.proofs.Common.{pow_pos}
 use Rattle.std.proofs.Math.Nat.{div-div-eq-div-mul}
 use Rattle.std.specs.Int.{bit_at, trailing_zeros}
 use Rattle.first_pass_walk.specs.Walk.{is_marked, is_word_byte, AreWordStops, IsFirstStop, IsNextMarked, SparesWords}

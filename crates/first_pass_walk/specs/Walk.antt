@@ -1,6 +1,7 @@
 -- The special bytes, the next of them, and the walk over them. A special byte may begin a token other than plain text,
 -- end a cell, or open or close a brace context.
-use Rattle.std.specs.Prelude.{◌≡◌, ℕ, ◌+◌, ◌-◌, ◌^◌, ◌<◌, ◌≤◌, ◌==◌, ◌&&◌, ◌||◌, ◌⊎◌, Bool, true, false, nat_lt, List, [], ◌∷◌, length, slice_index, Option, None}
+use Rattle.std.specs.Prelude.{◌≡◌, ℕ, ◌+◌, ◌-◌, ◌^◌, ◌<◌, ◌≤◌, ◌==◌, ◌&&◌, ◌||◌, ◌⊎◌, Bool, true, false, nat_lt, List, [], ◌∷◌, length}
+use Rattle.std.specs.Prelude.{slice_index, Option, None}
 use Rattle.std.specs.List.{slice_index_or, list_any}
 use Rattle.std.specs.Char.{is_ascii_alphabetic}
 use Rattle.std.specs.Int.{bit_at}
