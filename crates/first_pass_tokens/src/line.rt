@@ -234,8 +234,8 @@ fn content_ends_at(text: &[u8], content: Content<'_>, at: usize) -> bool
     ensures { (b : MathBraces) → result ≡ content_ends_at (content_in text.now content.entry b) at }
 {
     let byte = text[at];
-    is_line_end(byte)
-        || (content.row && content.options.contains(Options::ENABLE_TABLES) && byte == b'|')
+    (byte == b'|' && content.row && content.options.contains(Options::ENABLE_TABLES))
+        || is_line_end(byte)
 }
 
 // Appends the pending text if the piece at `at` begins another one, and the token of the piece.
