@@ -54,9 +54,8 @@ place_found d bytes at cell text same begins content order within = record {
   within = omega (arith, within, ap length same);
 }
 
-pub end_found : (text bytes rest : List ℕ) (at : ℕ) (found : Option ℕ)
-    → bytes ≡ text → rest ≡ drop at bytes → found ≡ eol_len rest → eol_len (drop at text) ≡ found
-end_found text bytes rest at found same rest_is found_is = ap eol_len (ap (drop at) (sym same) ∙ sym rest_is) ∙ sym found_is
+pub end_found : (text bytes : List ℕ) (at : ℕ) (found : Option ℕ) → bytes ≡ text → found ≡ eol_len (drop at bytes) → eol_len (drop at text) ≡ found
+end_found text bytes at found same found_is = ap eol_len (ap (drop at) (sym same)) ∙ sym found_is
 
 -- no cell is read yet
 pub none_read : (d : Document) (start : Spot) (f : Forest Item) → start.at ≤ length d.text → AreAppended d start f f start 0

@@ -1,6 +1,7 @@
 //! The cells of a row, one by one (GFM 4.10).
 
-ghost use Rattle.std.specs.Prelude.{◌≡◌, ◌≤◌, true, None, length, replicate, IfOk, OnOk, IfSome};
+ghost use Rattle.std.specs.Prelude.{◌≡◌, ◌+◌, ◌≤◌, true, None, length, drop, replicate, IfOk, OnOk, IfSome};
+ghost use Rattle.first_pass_lines.specs.Lines.{eol_len};
 ghost use Rattle.first_pass_tree.specs.Forest.{IsChild};
 ghost use Rattle.first_pass_walk.specs.Walk.{MarksSpecial};
 ghost use Rattle.first_pass_tokens.specs.LineTokens.{spot};
@@ -11,7 +12,7 @@ ghost use Rattle.first_pass_grammar.specs.Tables.{cell_start, cell_text};
 ghost use Rattle.first_pass_tables.specs.Appends.{AddsCell, empty_cell, without_after};
 
 use first_pass_items::item::{Item, ItemBody};
-use first_pass_lines::lines::{begins, scan_whitespace_no_nl};
+use first_pass_lines::lines::{begins, scan_eol, scan_whitespace_no_nl};
 use first_pass_lines::places::rest_of;
 use first_pass_names::items::Allocations;
 use first_pass_open::open_block::{close_block, open_block};
@@ -42,6 +43,9 @@ pub fn cell_start(bytes: &[u8], at: usize) -> usize
 pub struct CellStart {
     pub at: usize,
     pub content: usize,
+    /// The length of the line ending at the start of the content, if there is one: the row then ends, and has no cell
+    /// here.
+    pub eol: Option<usize>,
 }
 
 /// Returns the start of the cell at the offset `at` into `bytes`, and the start of its content after the white space
@@ -51,13 +55,36 @@ pub fn cell_at(bytes: &[u8], at: usize) -> CellStart
     requires { at ≤ length bytes.now }
     ensures begins { result.at ≡ cell_start bytes.now at }
     ensures content { result.content ≡ cell_text bytes.now at }
+    ensures eol { result.eol ≡ eol_len (drop result.content bytes.now) }
+    ensures fits { IfSome result.eol (λ n. result.content + n ≤ length bytes.now) }
     ensures within { result.content ≤ length bytes.now }
     ensures order { (at ≤ result.at) × (result.at ≤ result.content) }
 {
     let cell = cell_start(bytes, at);
+    // Most often a space and a visible byte follow the pipe.
+    match rest_of(bytes, cell) {
+        [b' ', next, ..] if *next > b' ' => start_in_row(cell, cell + 1),
+        [first, ..] if *first > b' ' => start_in_row(cell, cell),
+        left => {
+            let content = cell + scan_whitespace_no_nl(left);
+            CellStart {
+                at: cell,
+                content,
+                eol: scan_eol(rest_of(bytes, content)),
+            }
+        }
+    }
+}
+
+// The start of a cell and that of its content, at which the row does not end.
+#[inline(always)]
+fn start_in_row(at: usize, content: usize) -> CellStart
+    ensures { result ≡ record { at = at; content = content; eol = None } }
+{
     CellStart {
-        at: cell,
-        content: cell + scan_whitespace_no_nl(rest_of(bytes, cell)),
+        at,
+        content,
+        eol: None,
     }
 }
 

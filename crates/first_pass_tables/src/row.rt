@@ -12,8 +12,6 @@ ghost use Rattle.first_pass_tables.specs.Reading.{AppendsSome};
 
 use crate::cells::{append_table_cell, cell_at, drop_beyond, fill_row};
 use first_pass_items::item::{Item, ItemBody};
-use first_pass_lines::lines::scan_eol;
-use first_pass_lines::places::rest_of;
 use first_pass_names::items::Allocations;
 use first_pass_open::open_block::{close_block, open_block};
 use first_pass_open::source::Source;
@@ -74,7 +72,7 @@ fn append_some_cells(
     let mut count = 0;
     'cells: loop {
         let start = cell_at(bytes, at);
-        if let Some(eol) = scan_eol(rest_of(bytes, start.content)) {
+        if let Some(eol) = start.eol {
             return Ok(CellsRead {
                 at: start.content + eol,
                 count,

@@ -26,15 +26,14 @@ returns-in-Some-clause-cells c =
     let start = c.cell_at-start.result in
     let place = c.cell_at-start.ensures in
     let same = c.as_bytes-bytes.ensures.value in
-    let eol = c.in-Some.ensures.within in
-    let whole = c.rest_of.ensures.whole in
     let size : length bytes ≡ length text = ap length same in
+    let fits = rw c.in-Some.is at place.fits in
     record {
       node_bound = c.cells.invariant.node_bound;
       all = λ ended. all_read d (spot c.args.wanted.start c.args.braces.now) (spot at c.cells.braces) c.cells.count
           (place_found d bytes at start.at start.content same place.begins place.content place.order place.within)
-          c.in-Some.eol c.args.tree.now c.cells.tree c.cells.invariant.read (omega arith)
-          (end_found text bytes c.rest_of.result.now start.content c.scan_eol.result same c.rest_of.ensures.value c.scan_eol.ensures.value ∙ c.in-Some.is);
+          c.in-Some.eol c.args.tree.now c.cells.tree c.cells.invariant.read (omega (arith, fits))
+          (end_found text bytes start.content start.eol same place.eol ∙ c.in-Some.is);
       first = λ ended. cc;
     }
 
@@ -58,7 +57,7 @@ one_read c =
     (place_found d bytes at start.at start.content same place.begins place.content place.order place.within)
     (spot c.in_ok-at.at c.append_table_cell.new.braces) c.args.tree.now c.cells.tree c.append_table_cell.new.tree
     (record { before = names_of c.cells.allocs; grown = c.in_ok-at.ensures.more.names; far = c.cells.invariant.read })
-    (end_found text bytes c.rest_of.result.now start.content c.scan_eol.result same c.rest_of.ensures.value c.scan_eol.ensures.value ∙ c.in_default.is)
+    (end_found text bytes start.content start.eol same place.eol ∙ c.in_default.is)
     c.in_ok-at.ensures.cell
 
 pub cells-smaller : goal.cells-smaller
