@@ -37,7 +37,6 @@ use first_pass_cases::fault::CasesFault;
 use first_pass_cases::table::{read_table, write_report};
 use first_pass_cases::tally::{Tally, end_with};
 use first_pass_host::words::words_of;
-use std::alloc::Global;
 use std::process::ExitCode;
 
 fn run(rt: &HostRuntime) -> Result<Tally, CasesFault> {

@@ -8,7 +8,6 @@ use crate::trees::call_tree;
 use first_pass_cases::fault::CasesFault;
 use first_pass_cases::table::compare_groups;
 use first_pass_cases::tally::{Tally, append_place};
-use std::alloc::{AllocError, Global};
 
 /// Makes the call of each case. Appends to the report the outcome that a case requests, and each case that differs.
 pub fn compare(rt: &HostRuntime, table: &str, report: &mut String) -> Result<Tally, CasesFault> {

@@ -26,11 +26,11 @@ const COLUMNS: [Alignment; 1] = [Alignment::Center];
 /// itself failed.
 pub fn call_tables(alloc: Global, call: &str) -> Option<Result<Outcome, AllocError>> {
     match call {
-        "allocate_cow" => Some(allocate_cow(alloc)),
-        "allocate_alignment" => Some(allocate_alignment(alloc)),
-        "allocate_heading" => Some(allocate_heading(alloc)),
-        "define_link" => Some(define_link(alloc)),
-        "define_footnote" => Some(define_footnote(alloc)),
+        "allocate_cow" => Some(add_each(alloc, Entry::Text, TIMES)),
+        "allocate_alignment" => Some(add_each(alloc, Entry::Alignments, TIMES)),
+        "allocate_heading" => Some(add_each(alloc, Entry::Heading, TIMES)),
+        "define_link" => Some(add_each(alloc, Entry::Link, WORDS.len())),
+        "define_footnote" => Some(add_each(alloc, Entry::Footnote, WORDS.len())),
         "get" => Some(get(alloc)),
         _ => None,
     }
@@ -124,48 +124,86 @@ fn has_footnotes(allocs: &Allocations<'_>, count: usize) -> bool {
     at == count
 }
 
-fn allocate_cow(alloc: Global) -> Result<Outcome, AllocError> {
-    let mut allocs = Allocations::new(alloc);
-    let mut outcome = Outcome::Usual;
-    for texts in 0..TIMES {
-        let mut answer = allocs.allocate_cow(CowStr::Borrowed(WORDS[texts]));
-        if answer.is_err() {
-            outcome = outcome.refused(has(&allocs, Counts { texts, ..NONE }));
-            if outcome != Outcome::Refused {
-                return Ok(outcome);
-            }
-            answer = allocs.allocate_cow(CowStr::Borrowed(WORDS[texts]));
-        }
-        let after = Counts {
-            texts: texts + 1,
-            ..NONE
-        };
-        if answer != Ok(CowIndex(texts)) || !has(&allocs, after) {
-            return Ok(Outcome::Differs);
-        }
-    }
-    Ok(outcome)
+// What is added to the tables.
+#[derive(Clone, Copy)]
+enum Entry {
+    Text,
+    Alignments,
+    Heading,
+    Link,
+    Footnote,
 }
 
-fn allocate_alignment(alloc: Global) -> Result<Outcome, AllocError> {
+impl Entry {
+    // The counts of tables that have only this number of such entries.
+    fn counts(self, count: usize) -> Counts {
+        match self {
+            Entry::Text => Counts {
+                texts: count,
+                ..NONE
+            },
+            Entry::Alignments => Counts {
+                alignments: count,
+                ..NONE
+            },
+            Entry::Heading => Counts {
+                headings: count,
+                ..NONE
+            },
+            Entry::Link => Counts {
+                links: count,
+                ..NONE
+            },
+            Entry::Footnote => Counts {
+                footnotes: count,
+                ..NONE
+            },
+        }
+    }
+
+    // Adds such an entry with this word, and returns what the call returned: whether its index, if it has one, is this.
+    // Fails if an allocation of the test itself fails.
+    fn add(
+        self,
+        alloc: Global,
+        allocs: &mut Allocations<'_>,
+        at: usize,
+        word: &'static str,
+    ) -> Result<Result<bool, AllocError>, AllocError> {
+        Ok(match self {
+            Entry::Text => allocs
+                .allocate_cow(CowStr::Borrowed(word))
+                .map(|ix| ix == CowIndex(at)),
+            Entry::Alignments => allocs
+                .allocate_alignment(vec![in alloc; Alignment::Center]?)
+                .map(|ix| ix == AlignmentIndex(at)),
+            Entry::Heading => allocs
+                .allocate_heading(with_id(word))
+                .map(|ix| ix == HeadingIndex(at)),
+            Entry::Link => define(alloc, allocs, word, word).map(|_| true),
+            Entry::Footnote => allocs
+                .define_footnote(alloc, &CowStr::Borrowed(word))
+                .map(|_| true),
+        })
+    }
+}
+
+// Adds this number of entries to empty tables. A call that is refused is made again.
+fn add_each(alloc: Global, entry: Entry, times: usize) -> Result<Outcome, AllocError> {
     let mut allocs = Allocations::new(alloc);
     let mut outcome = Outcome::Usual;
-    for alignments in 0..TIMES {
-        let column = vec![in alloc; Alignment::Center]?;
-        let mut answer = allocs.allocate_alignment(column);
-        if answer.is_err() {
-            outcome = outcome.refused(has(&allocs, Counts { alignments, ..NONE }));
+    for at in 0..times {
+        let word = WORDS.get(at).copied().unwrap_or("");
+        let mut added = entry.add(alloc, &mut allocs, at, word)?;
+        if added.is_err() {
+            outcome = outcome.refused(has(&allocs, entry.counts(at)));
             if outcome != Outcome::Refused {
                 return Ok(outcome);
             }
-            let column = vec![in alloc; Alignment::Center]?;
-            answer = allocs.allocate_alignment(column);
+            added = entry.add(alloc, &mut allocs, at, word)?;
         }
-        let after = Counts {
-            alignments: alignments + 1,
-            ..NONE
-        };
-        if answer != Ok(AlignmentIndex(alignments)) || !has(&allocs, after) {
+        let after = entry.counts(at.saturating_add(1));
+        if added != Ok(true) || !has(&allocs, after) {
             return Ok(Outcome::Differs);
         }
     }
@@ -178,29 +216,6 @@ fn with_id(id: &str) -> HeadingAttributes<'_> {
         classes: ShortList::new(),
         attrs: ShortList::new(),
     }
-}
-
-fn allocate_heading(alloc: Global) -> Result<Outcome, AllocError> {
-    let mut allocs = Allocations::new(alloc);
-    let mut outcome = Outcome::Usual;
-    for headings in 0..TIMES {
-        let mut answer = allocs.allocate_heading(with_id(WORDS[headings]));
-        if answer.is_err() {
-            outcome = outcome.refused(has(&allocs, Counts { headings, ..NONE }));
-            if outcome != Outcome::Refused {
-                return Ok(outcome);
-            }
-            answer = allocs.allocate_heading(with_id(WORDS[headings]));
-        }
-        let after = Counts {
-            headings: headings + 1,
-            ..NONE
-        };
-        if answer != Ok(HeadingIndex(headings)) || !has(&allocs, after) {
-            return Ok(Outcome::Differs);
-        }
-    }
-    Ok(outcome)
 }
 
 /// The places of a definition that no text contains.
@@ -226,54 +241,6 @@ fn define(
         places: NO_PLACES,
     };
     allocs.define_link(label, definition)
-}
-
-fn define_link(alloc: Global) -> Result<Outcome, AllocError> {
-    let mut allocs = Allocations::new(alloc);
-    let mut outcome = Outcome::Usual;
-    for links in 0..WORDS.len() {
-        let word = WORDS[links];
-        let mut answer = define(alloc, &mut allocs, word, word);
-        if answer.is_err() {
-            outcome = outcome.refused(has(&allocs, Counts { links, ..NONE }));
-            if outcome != Outcome::Refused {
-                return Ok(outcome);
-            }
-            answer = define(alloc, &mut allocs, word, word);
-        }
-        let after = Counts {
-            links: links + 1,
-            ..NONE
-        };
-        if answer.is_err() || !has(&allocs, after) {
-            return Ok(Outcome::Differs);
-        }
-    }
-    Ok(outcome)
-}
-
-fn define_footnote(alloc: Global) -> Result<Outcome, AllocError> {
-    let mut allocs = Allocations::new(alloc);
-    let mut outcome = Outcome::Usual;
-    for footnotes in 0..WORDS.len() {
-        let label = CowStr::Borrowed(WORDS[footnotes]);
-        let mut answer = allocs.define_footnote(alloc, &label);
-        if answer.is_err() {
-            outcome = outcome.refused(has(&allocs, Counts { footnotes, ..NONE }));
-            if outcome != Outcome::Refused {
-                return Ok(outcome);
-            }
-            answer = allocs.define_footnote(alloc, &label);
-        }
-        let after = Counts {
-            footnotes: footnotes + 1,
-            ..NONE
-        };
-        if answer.is_err() || !has(&allocs, after) {
-            return Ok(Outcome::Differs);
-        }
-    }
-    Ok(outcome)
 }
 
 // A label of more than 22 bytes is copied to the heap, and then folded.

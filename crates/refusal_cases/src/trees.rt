@@ -53,12 +53,12 @@ impl Seen {
             && tree.cur() == Some(TreeIndex(count))
     }
 
-    /// Whether a tree is unchanged except that its current node, this one, is now open.
-    fn has_pushed(&self, tree: &Tree<Item>, opened: TreeIndex) -> bool {
+    /// Whether a tree is unchanged except that its current node is now open.
+    fn has_pushed(&self, tree: &Tree<Item>) -> bool {
         tree.nodes() == self.nodes.as_slice()
             && tree.spine_len() == self.open.len().saturating_add(1)
             && tree.walk_spine().starts_with(self.open.as_slice())
-            && tree.peek_up() == Some(opened)
+            && tree.peek_up() == self.current
             && tree.cur().is_none()
     }
 
@@ -86,10 +86,10 @@ impl Seen {
 /// Makes a call of this name; returns `None` if no call has it. Fails if a request of the test was refused.
 pub fn call_tree(alloc: Global, call: &str) -> Option<Result<Outcome, AllocError>> {
     match call {
-        "append" => Some(append(alloc)),
-        "append_text" => Some(append_text(alloc)),
-        "push" => Some(push(alloc)),
-        "create_node" => Some(create_node(alloc)),
+        "append" => Some(make_each(alloc, Call::Append)),
+        "append_text" => Some(make_each(alloc, Call::AppendText)),
+        "push" => Some(make_each(alloc, Call::Push)),
+        "create_node" => Some(make_each(alloc, Call::CreateNode)),
         _ => None,
     }
 }
@@ -102,99 +102,94 @@ fn block(start: usize) -> Item {
     }
 }
 
-fn append(alloc: Global) -> Result<Outcome, AllocError> {
-    let mut tree = Tree::with_capacity(alloc, 1)?;
-    let mut seen = Seen::new(alloc)?;
-    let mut outcome = Outcome::Usual;
-    for start in 0..TIMES {
-        seen.look(&tree)?;
-        if tree.append(block(start)).is_err() {
-            outcome = outcome.refused(seen.is_kept(&tree));
-            if outcome != Outcome::Refused {
-                return Ok(outcome);
-            }
-            if tree.append(block(start)).is_err() {
-                return Ok(Outcome::Differs);
-            }
-        }
-        if !seen.has_appended(&tree, block(start)) {
-            return Ok(Outcome::Differs);
-        }
-    }
-    Ok(outcome)
-}
-
-// No text adjoins the one before it.
-fn append_text(alloc: Global) -> Result<Outcome, AllocError> {
-    let mut tree = Tree::with_capacity(alloc, 1)?;
-    let mut seen = Seen::new(alloc)?;
-    let mut outcome = Outcome::Usual;
-    for count in 0..TIMES {
-        let (start, end) = (3 * count, 3 * count + 2);
-        seen.look(&tree)?;
-        if tree.append_text(start, end, false).is_err() {
-            outcome = outcome.refused(seen.is_kept(&tree));
-            if outcome != Outcome::Refused {
-                return Ok(outcome);
-            }
-            if tree.append_text(start, end, false).is_err() {
-                return Ok(Outcome::Differs);
-            }
-        }
-        let body = ItemBody::Text {
+// Three bytes of text for each number. No text adjoins the one before it.
+fn text(count: usize) -> Item {
+    let start = count.saturating_mul(3);
+    Item {
+        start,
+        end: start.saturating_add(2),
+        body: ItemBody::Text {
             backslash_escaped: false,
-        };
-        if !seen.has_appended(&tree, Item { start, end, body }) {
-            return Ok(Outcome::Differs);
-        }
+        },
     }
-    Ok(outcome)
 }
 
-fn push(alloc: Global) -> Result<Outcome, AllocError> {
-    let mut tree = Tree::with_capacity(alloc, TIMES + 1)?;
+// A call that is made many times on one tree.
+#[derive(Clone, Copy, PartialEq, Eq)]
+enum Call {
+    Append,
+    AppendText,
+    // Opens a new node.
+    Push,
+    // Puts a new node around the earlier ones, below the first.
+    CreateNode,
+}
+
+impl Call {
+    // The tree on which the first call is made.
+    fn first_tree(self, alloc: Global) -> Result<Tree<Item>, AllocError> {
+        let room = if self == Call::Push { TIMES + 1 } else { 1 };
+        let mut tree = Tree::with_capacity(alloc, room)?;
+        if self == Call::CreateNode {
+            tree.append(block(0))?;
+        }
+        Ok(tree)
+    }
+
+    // Makes the call with this number. `Push` and `CreateNode` need a current node, which is there.
+    fn make(self, tree: &mut Tree<Item>, count: usize) -> Result<(), AllocError> {
+        let is_current = tree.cur().is_some();
+        match self {
+            Call::Append => {
+                tree.append(block(count))?;
+            }
+            Call::AppendText => {
+                let Item { start, end, .. } = text(count);
+                tree.append_text(start, end, false)?;
+            }
+            Call::Push if is_current => {
+                tree.push()?;
+            }
+            Call::CreateNode if is_current => {
+                tree.create_node(block(count))?;
+            }
+            _ => return Err(AllocError),
+        }
+        Ok(())
+    }
+
+    // Whether the tree is as it has to be after that call.
+    fn has_made(self, seen: &Seen, tree: &Tree<Item>, count: usize) -> bool {
+        match self {
+            Call::Append => seen.has_appended(tree, block(count)),
+            Call::AppendText => seen.has_appended(tree, text(count)),
+            Call::Push => seen.has_pushed(tree),
+            Call::CreateNode => seen.has_created(tree, block(count)),
+        }
+    }
+}
+
+// Makes a call many times on one tree. One that is refused is made again.
+fn make_each(alloc: Global, call: Call) -> Result<Outcome, AllocError> {
+    let mut tree = call.first_tree(alloc)?;
     let mut seen = Seen::new(alloc)?;
     let mut outcome = Outcome::Usual;
-    for start in 0..TIMES {
-        let last = tree.append(block(start))?;
+    let first = usize::from(call == Call::CreateNode);
+    for count in first..TIMES {
+        if call == Call::Push {
+            tree.append(block(count))?;
+        }
         seen.look(&tree)?;
-        if tree.push().is_err() {
+        if call.make(&mut tree, count).is_err() {
             outcome = outcome.refused(seen.is_kept(&tree));
             if outcome != Outcome::Refused {
                 return Ok(outcome);
             }
-            if tree.push().is_err() {
+            if call.make(&mut tree, count).is_err() {
                 return Ok(Outcome::Differs);
             }
         }
-        if !seen.has_pushed(&tree, last) {
-            return Ok(Outcome::Differs);
-        }
-    }
-    Ok(outcome)
-}
-
-// Each new node is put around the earlier ones, below the first.
-fn create_node(alloc: Global) -> Result<Outcome, AllocError> {
-    let mut tree = Tree::with_capacity(alloc, 1)?;
-    tree.append(block(0))?;
-    let mut seen = Seen::new(alloc)?;
-    let mut outcome = Outcome::Usual;
-    for start in 1..TIMES {
-        if tree.cur().is_none() {
-            return Ok(Outcome::Differs);
-        }
-        seen.look(&tree)?;
-        if tree.create_node(block(start)).is_err() {
-            outcome = outcome.refused(seen.is_kept(&tree));
-            if outcome != Outcome::Refused {
-                return Ok(outcome);
-            }
-            if tree.create_node(block(start)).is_err() {
-                return Ok(Outcome::Differs);
-            }
-        }
-        if !seen.has_created(&tree, block(start)) {
+        if !call.has_made(&seen, &tree, count) {
             return Ok(Outcome::Differs);
         }
     }
