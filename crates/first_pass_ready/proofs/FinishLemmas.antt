@@ -22,7 +22,6 @@ use Rattle.first_pass_grammar.specs.WholeTables.{ShowsNothing, SilentClosed}
 use Rattle.first_pass_grammar.proofs.Sequences.Finishes.{CompletesAt}
 use Rattle.first_pass_completion.proofs.Extending.{tail, StaysAt, loosened_in}
 use Rattle.first_pass_completion.proofs.EarlierNodes.{IsBefore}
-use Rattle.first_pass_completion.proofs.Moved.{opens_definition}
 use Rattle.first_pass_completion.proofs.Notes.{completes-note}
 use Rattle.first_pass_completion.proofs.States.{open_nodes}
 use Rattle.first_pass_completion.proofs.TitleNodes.{reflagged}
