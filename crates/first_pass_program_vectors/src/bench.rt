@@ -2,12 +2,41 @@
 
 use crate::fakes::{BAD_OPTIONS, FailingReader, FailingWriter, Odd, Told, time};
 use first_pass_host::fault::RunFault;
-use std::alloc::Global;
 use std::process::Abort;
 use std::test::Fail;
 
 /// A text of eight bytes, whose tree has seven nodes.
 const TEXT: &[u8] = b"# a\nb\\\nc";
+
+// A run over a text: its result, and the clock, the reader and the writer after it.
+#[derive(Drop)]
+struct BenchRun<'a> {
+    answer: Result<(), RunFault>,
+    clock: Told<'a>,
+    input: FailingReader<'a>,
+    output: FailingWriter,
+}
+
+// Times runs over a text, with a clock that has these readings, and a writer that takes 20 bytes at a time. The read
+// with the number `fails_at` fails.
+fn timed<'a>(
+    rt: &impl AllocGlobal,
+    words: &[&str],
+    told: &'a [u128],
+    text: &'a [u8],
+    fails_at: usize,
+) -> Result<BenchRun<'a>, Fail> {
+    let mut clock = Told { left: told };
+    let mut input = FailingReader::new(text, 3, fails_at);
+    let mut output = FailingWriter::new(rt.alloc(), 20, 0);
+    let answer = time(rt.alloc(), words, &mut clock, &mut input, &mut output)?;
+    Ok(BenchRun {
+        answer,
+        clock,
+        input,
+        output,
+    })
+}
 
 /// Asserts the output for a text, with a clock that has these readings.
 fn assert_printed(
@@ -17,13 +46,10 @@ fn assert_printed(
     text: &[u8],
     want: &str,
 ) -> Result<(), Fail> {
-    let mut clock = Told { left: told };
-    let mut input = FailingReader::new(text, 3, 0);
-    let mut output = FailingWriter::new(rt.alloc(), 20, 0);
-    let answer = time(rt.alloc(), words, &mut clock, &mut input, &mut output)?;
-    let line = String::from_utf8_lossy(rt.alloc(), output.bytes.as_slice())?;
+    let run = timed(rt, words, told, text, 0)?;
+    let line = String::from_utf8_lossy(rt.alloc(), run.output.bytes.as_slice())?;
     assert!(rt;
-        answer == Ok(()) && line.as_str() == want,
+        run.answer == Ok(()) && line.as_str() == want,
         "{words:?}: {line}"
     );
     Ok(())
@@ -31,13 +57,10 @@ fn assert_printed(
 
 // Asserts that these words are refused before the clock is read, and before anything is read or written.
 fn assert_refused(rt: &(impl Abort + AllocGlobal), words: &[&str]) -> Result<(), Fail> {
-    let mut clock = Told { left: &[0, 1] };
-    let mut input = FailingReader::new(b"\xff", 3, 1);
-    let mut output = FailingWriter::new(rt.alloc(), 20, 1);
-    let answer = time(rt.alloc(), words, &mut clock, &mut input, &mut output)?;
-    assert!(rt; answer == Err(RunFault::BadOptions), "{words:?}");
-    assert!(rt; input.reads == 0 && output.writes == 0, "{words:?}");
-    assert!(rt; clock.left.len() == 2, "{words:?}");
+    let run = timed(rt, words, &[0, 1], b"\xff", 1)?;
+    assert!(rt; run.answer == Err(RunFault::BadOptions), "{words:?}");
+    assert!(rt; run.input.reads == 0 && run.output.writes == 0, "{words:?}");
+    assert!(rt; run.clock.left.len() == 2, "{words:?}");
     Ok(())
 }
 
@@ -148,12 +171,12 @@ fn options_make_a_difference(rt: HostRuntime) -> Result<(), Fail> {
 #[test]
 fn input_is_utf8(rt: HostRuntime) -> Result<(), Fail> {
     for bytes in [b"\xff".as_slice(), b"a\n\n# b\xc3".as_slice()] {
-        let mut clock = Told { left: &[0, 1] };
-        let mut input = FailingReader::new(bytes, 3, 0);
-        let mut output = FailingWriter::new(rt.alloc(), 20, 1);
-        let answer = time(rt.alloc(), &[], &mut clock, &mut input, &mut output)?;
-        assert!(rt; answer == Err(RunFault::NotUtf8), "{bytes:?}");
-        assert!(rt; clock.left.len() == 2 && output.writes == 0, "{bytes:?}");
+        let run = timed(&rt, &[], &[0, 1], bytes, 0)?;
+        assert!(rt; run.answer == Err(RunFault::NotUtf8), "{bytes:?}");
+        assert!(rt;
+            run.clock.left.len() == 2 && run.output.writes == 0,
+            "{bytes:?}"
+        );
     }
     Ok(())
 }
@@ -161,21 +184,16 @@ fn input_is_utf8(rt: HostRuntime) -> Result<(), Fail> {
 // The four reads of a text of eight bytes; the last one finds its end.
 #[test]
 fn each_read_fails_in_turn(rt: HostRuntime) -> Result<(), Fail> {
-    for fails_at in 1..6 {
-        let mut clock = Told { left: &[0, 1] };
-        let mut input = FailingReader::new(TEXT, 3, fails_at);
-        let mut output = FailingWriter::new(rt.alloc(), 20, 0);
-        let answer = time(rt.alloc(), &["0", "1"], &mut clock, &mut input, &mut output)?;
-        if fails_at == 5 {
-            assert!(rt; answer == Ok(()));
-            break;
-        }
-        assert!(rt; answer == Err(RunFault::ReadFailed), "read {fails_at}");
+    for fails_at in 1..5 {
+        let run = timed(&rt, &["0", "1"], &[0, 1], TEXT, fails_at)?;
+        assert!(rt; run.answer == Err(RunFault::ReadFailed), "read {fails_at}");
         assert!(rt;
-            clock.left.len() == 2 && output.writes == 0,
+            run.clock.left.len() == 2 && run.output.writes == 0,
             "read {fails_at}"
         );
     }
+    let run = timed(&rt, &["0", "1"], &[0, 1], TEXT, 5)?;
+    assert!(rt; run.answer == Ok(()));
     Ok(())
 }
 
@@ -183,20 +201,13 @@ fn each_read_fails_in_turn(rt: HostRuntime) -> Result<(), Fail> {
 #[test]
 fn each_reading_of_the_clock_fails_in_turn(rt: HostRuntime) -> Result<(), Fail> {
     let told = [0, 1, 2, 3];
-    for count in 0..5 {
-        let mut clock = Told {
-            left: &told[..count],
-        };
-        let mut input = FailingReader::new(TEXT, 3, 0);
-        let mut output = FailingWriter::new(rt.alloc(), 20, 0);
-        let answer = time(rt.alloc(), &["0", "2"], &mut clock, &mut input, &mut output)?;
-        if count == 4 {
-            assert!(rt; answer == Ok(()));
-            break;
-        }
-        assert!(rt; answer == Err(RunFault::ReadFailed), "{count} readings");
-        assert!(rt; output.writes == 0, "{count} readings");
+    for count in 0..4 {
+        let run = timed(&rt, &["0", "2"], &told[..count], TEXT, 0)?;
+        assert!(rt; run.answer == Err(RunFault::ReadFailed), "{count} readings");
+        assert!(rt; run.output.writes == 0, "{count} readings");
     }
+    let run = timed(&rt, &["0", "2"], &told, TEXT, 0)?;
+    assert!(rt; run.answer == Ok(()));
     Ok(())
 }
 

@@ -44,6 +44,18 @@ pub enum Odd {
     TakesNothing,
 }
 
+impl Odd {
+    // The greatest number of bytes that a read or write moves: `step`, unless it is the odd one.
+    fn most(self, is_odd: bool, step: usize) -> io::Result<usize> {
+        match self {
+            _ if !is_odd => Ok(step),
+            Odd::Fails => Err(io::Error::from(ErrorKind::Other)),
+            Odd::IsShort => Ok(1),
+            Odd::TakesNothing => Ok(0),
+        }
+    }
+}
+
 /// A reader that returns at most `step` bytes at a time, and is odd at the read with the number `odd_at`.
 #[derive(Drop)]
 pub struct FailingReader<'a> {
@@ -70,12 +82,7 @@ impl FailingReader<'_> {
 impl Read for FailingReader<'_> {
     fn read(&mut self, buf: &mut [u8]) -> io::Result<usize> {
         self.reads = self.reads.saturating_add(1);
-        let most = match self.odd {
-            _ if self.reads != self.odd_at => self.step,
-            Odd::Fails => return Err(io::Error::from(ErrorKind::Other)),
-            Odd::IsShort => 1,
-            Odd::TakesNothing => 0,
-        };
+        let most = self.odd.most(self.reads == self.odd_at, self.step)?;
         let count = self.rest.len().min(most).min(buf.len());
         let all: &[u8] = self.rest;
         buf[..count].copy_from_slice(&all[..count]);
@@ -110,12 +117,7 @@ impl FailingWriter {
 impl Write for FailingWriter {
     fn write(&mut self, buf: &[u8]) -> io::Result<usize> {
         self.writes = self.writes.saturating_add(1);
-        let most = match self.odd {
-            _ if self.writes != self.odd_at => self.step,
-            Odd::Fails => return Err(io::Error::from(ErrorKind::Other)),
-            Odd::IsShort => 1,
-            Odd::TakesNothing => 0,
-        };
+        let most = self.odd.most(self.writes == self.odd_at, self.step)?;
         let count = buf.len().min(most);
         self.bytes.extend_from_slice(&buf[..count])?;
         Ok(count)
@@ -175,6 +177,44 @@ pub fn run(
     })
 }
 
+/// Asserts the lines that a program writes for a text, which is read three bytes at a time.
+pub fn assert_lines(
+    rt: &(impl Abort + AllocGlobal),
+    program: Program,
+    words: &[&str],
+    text: &[u8],
+    want: &str,
+) -> Result<(), Fail> {
+    let mut input = FailingReader::new(text, 3, 0);
+    let mut sink = FailingWriter::new(rt.alloc(), 20, 0);
+    let answer = run(rt.alloc(), program, words, &mut input, &mut sink)?;
+    let lines = String::from_utf8_lossy(rt.alloc(), sink.bytes.as_slice())?;
+    assert!(rt;
+        answer == Ok(()) && lines.as_str() == want,
+        "{text:?}: {lines}"
+    );
+    Ok(())
+}
+
+/// Asserts that a run ends with a fault before any byte is written. The first write would fail.
+pub fn assert_fault(
+    rt: &(impl Abort + AllocGlobal),
+    program: Program,
+    words: &[&str],
+    input: &mut FailingReader<'_>,
+    fault: RunFault,
+) -> Result<(), Fail> {
+    let mut sink = FailingWriter::new(rt.alloc(), usize::MAX, 1);
+    let answer = run(rt.alloc(), program, words, input, &mut sink)?;
+    assert!(rt; answer == Err(fault), "{words:?}: {fault:?}");
+    let writes = usize::from(fault == RunFault::WriteFailed);
+    assert!(rt;
+        sink.writes == writes && sink.bytes.is_empty(),
+        "{words:?}: {fault:?}"
+    );
+    Ok(())
+}
+
 /// Asserts that a program refuses bad options before it reads or writes.
 pub fn assert_bad_options_come_first(
     rt: &(impl Abort + AllocGlobal),
@@ -182,12 +222,69 @@ pub fn assert_bad_options_come_first(
 ) -> Result<(), Fail> {
     for words in BAD_OPTIONS {
         let mut input = FailingReader::new(b"\xff", usize::MAX, 1);
-        let mut sink = FailingWriter::new(rt.alloc(), usize::MAX, 1);
-        let answer = run(rt.alloc(), program, words, &mut input, &mut sink)?;
-        assert!(rt; answer == Err(RunFault::BadOptions), "{words:?}");
-        assert!(rt; input.reads == 0 && sink.writes == 0, "{words:?}");
+        assert_fault(rt, program, words, &mut input, RunFault::BadOptions)?;
+        assert!(rt; input.reads == 0, "{words:?}");
     }
     Ok(())
+}
+
+/// Asserts that a program refuses bytes that are not UTF-8 before it writes.
+pub fn assert_not_utf8(
+    rt: &(impl Abort + AllocGlobal),
+    program: Program,
+    bad: &[&[u8]],
+) -> Result<(), Fail> {
+    for bytes in bad {
+        let mut input = FailingReader::new(bytes, 1, 0);
+        assert_fault(rt, program, &[], &mut input, RunFault::NotUtf8)?;
+    }
+    Ok(())
+}
+
+// Makes each write in turn odd in a run without options, until no write is. Writes have at most `step` bytes. Returns
+// the number of writes.
+fn odd_at_each_write(
+    rt: &(impl Abort + AllocGlobal),
+    program: Program,
+    text: &[u8],
+    step: usize,
+    odd: Odd,
+) -> Result<usize, Fail> {
+    let mut whole = FailingWriter::new(rt.alloc(), step, 0);
+    let mut input = FailingReader::new(text, usize::MAX, 0);
+    let answer = run(rt.alloc(), program, &[], &mut input, &mut whole)?;
+    assert!(rt; answer == Ok(()));
+    for odd_at in 1..100 {
+        let mut sink = FailingWriter::new(rt.alloc(), step, odd_at);
+        sink.odd = odd;
+        let mut input = FailingReader::new(text, usize::MAX, 0);
+        let answer = run(rt.alloc(), program, &[], &mut input, &mut sink)?;
+        if sink.writes < odd_at || odd == Odd::IsShort {
+            assert!(rt; answer == Ok(()), "write {odd_at}");
+            assert!(rt; sink.bytes.as_slice() == whole.bytes.as_slice());
+        } else {
+            assert!(rt; answer == Err(RunFault::WriteFailed), "write {odd_at}");
+            assert!(rt; sink.writes == odd_at && sink.bytes.len() < whole.bytes.len());
+            assert!(rt; whole.bytes.as_slice().starts_with(sink.bytes.as_slice()));
+        }
+        if sink.writes < odd_at {
+            break;
+        }
+    }
+    Ok(whole.writes)
+}
+
+/// Makes each write in turn odd, in each way, in a run without options. Writes have at most `step` bytes. Nothing
+/// flushes the writer, which would fail. Returns the number of writes.
+pub fn fail_each_write(
+    rt: &(impl Abort + AllocGlobal),
+    program: Program,
+    text: &[u8],
+    step: usize,
+) -> Result<usize, Fail> {
+    odd_at_each_write(rt, program, text, step, Odd::IsShort)?;
+    odd_at_each_write(rt, program, text, step, Odd::TakesNothing)?;
+    odd_at_each_write(rt, program, text, step, Odd::Fails)
 }
 
 /// Runs the work of `bench` with these words. Fails if the allocation of the words fails.

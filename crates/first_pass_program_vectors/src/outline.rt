@@ -1,11 +1,10 @@
 //! The lines that `outline` writes, and each fault of its run.
 
 use crate::fakes::{
-    FailingReader, FailingWriter, Odd, Program, assert_bad_options_come_first, run,
+    FailingReader, Program, assert_bad_options_come_first, assert_fault, assert_lines,
+    assert_not_utf8, fail_each_write,
 };
 use first_pass_host::fault::RunFault;
-use std::alloc::Global;
-use std::process::Abort;
 use std::test::Fail;
 
 const WHOLE: usize = usize::MAX;
@@ -30,14 +29,7 @@ fn headings_are_listed(rt: HostRuntime) -> Result<(), Fail> {
         ),
     ];
     for (words, text, want) in cases {
-        let mut sink = FailingWriter::new(rt.alloc(), WHOLE, 0);
-        let mut input = FailingReader::new(text, WHOLE, 0);
-        let answer = run(rt.alloc(), Program::Outline, words, &mut input, &mut sink)?;
-        let lines = String::from_utf8_lossy(rt.alloc(), sink.bytes.as_slice())?;
-        assert!(rt;
-            answer == Ok(()) && lines.as_str() == *want,
-            "{text:?}: {lines}"
-        );
+        assert_lines(&rt, Program::Outline, words, text, want)?;
     }
     Ok(())
 }
@@ -50,72 +42,38 @@ fn bad_options_come_first(rt: HostRuntime) -> Result<(), Fail> {
 #[test]
 fn input_is_utf8(rt: HostRuntime) -> Result<(), Fail> {
     let bad: &[&[u8]] = &[b"\xff# a", b"# a\n\xc3\n# b", b"# a\xc3"];
-    for bytes in bad {
-        let mut input = FailingReader::new(bytes, 1, 0);
-        let mut sink = FailingWriter::new(rt.alloc(), WHOLE, 1);
-        let answer = run(rt.alloc(), Program::Outline, &[], &mut input, &mut sink)?;
-        assert!(rt; answer == Err(RunFault::NotUtf8), "{bytes:?}");
-        assert!(rt; sink.writes == 0, "{bytes:?}");
-    }
-    Ok(())
+    assert_not_utf8(&rt, Program::Outline, bad)
 }
 
 // Three reads return the text, five bytes at a time, and a fourth finds its end.
 #[test]
 fn each_read_fails_in_turn(rt: HostRuntime) -> Result<(), Fail> {
-    for fails_at in 1..6 {
+    for fails_at in 1..5 {
         let mut input = FailingReader::new(TEXT, 5, fails_at);
-        let mut sink = FailingWriter::new(rt.alloc(), WHOLE, 0);
-        let answer = run(rt.alloc(), Program::Outline, &[], &mut input, &mut sink)?;
-        if fails_at == 5 {
-            assert!(rt; answer == Ok(()));
-        } else {
-            assert!(rt; answer == Err(RunFault::ReadFailed), "read {fails_at}");
-            assert!(rt; sink.writes == 0, "read {fails_at}");
-        }
+        assert_fault(&rt, Program::Outline, &[], &mut input, RunFault::ReadFailed)?;
+        assert!(rt; input.reads == fails_at);
     }
-    Ok(())
+    // No read fails, so the lines are written.
+    let mut input = FailingReader::new(TEXT, 5, 5);
+    assert_fault(
+        &rt,
+        Program::Outline,
+        &[],
+        &mut input,
+        RunFault::WriteFailed,
+    )
 }
 
-// The lines of 2,000 headings are written in four pieces. Nothing flushes the writer, which would fail.
-fn odd_at_each_write(rt: &impl Abort, alloc: Global, odd: Odd) -> Result<(), Fail> {
-    let mut text = Vec::new(alloc);
+// The lines of 2,000 headings are written in four pieces.
+#[test]
+fn each_write_is_odd_in_turn(rt: HostRuntime) -> Result<(), Fail> {
+    let mut text = Vec::new(rt.alloc());
     for _ in 0..2000 {
         text.extend_from_slice(b"# a\n")?;
     }
-    let mut whole = FailingWriter::new(alloc, WHOLE, 0);
-    let answer = run(
-        alloc,
-        Program::Outline,
-        &[],
-        &mut FailingReader::new(text.as_slice(), WHOLE, 0),
-        &mut whole,
-    )?;
-    assert!(rt; answer == Ok(()) && whole.writes == 4);
-    for odd_at in 1..6 {
-        let mut sink = FailingWriter::new(alloc, WHOLE, odd_at);
-        sink.odd = odd;
-        let answer = run(
-            alloc,
-            Program::Outline,
-            &[],
-            &mut FailingReader::new(text.as_slice(), WHOLE, 0),
-            &mut sink,
-        )?;
-        if odd_at == 5 || odd == Odd::IsShort {
-            assert!(rt; answer == Ok(()) && sink.bytes.as_slice() == whole.bytes.as_slice());
-        } else {
-            assert!(rt; answer == Err(RunFault::WriteFailed), "write {odd_at}");
-            assert!(rt; sink.writes == odd_at && sink.bytes.len() < whole.bytes.len());
-            assert!(rt; whole.bytes.as_slice().starts_with(sink.bytes.as_slice()));
-        }
-    }
+    assert_eq!(rt;
+        fail_each_write(&rt, Program::Outline, text.as_slice(), WHOLE)?,
+        4
+    );
     Ok(())
-}
-
-#[test]
-fn each_write_is_odd_in_turn(rt: HostRuntime) -> Result<(), Fail> {
-    odd_at_each_write(&rt, rt.alloc(), Odd::IsShort)?;
-    odd_at_each_write(&rt, rt.alloc(), Odd::TakesNothing)?;
-    odd_at_each_write(&rt, rt.alloc(), Odd::Fails)
 }

@@ -1,9 +1,8 @@
 //! The printed form of a table's node with the entry of its index, and of nodes that no text has.
 
 use bitflags::Flags;
-use first_pass::below::{Alignment, AlignmentIndex, Item, ItemBody};
-use first_pass::items::Allocations;
-use first_pass_items::item::ListFlags;
+use first_pass_items::item::{Alignment, AlignmentIndex, Item, ItemBody, ListFlags};
+use first_pass_names::items::Allocations;
 use first_pass_printed::node::append_node;
 use std::alloc::Global;
 use std::process::Abort;

@@ -1,28 +1,8 @@
 //! The output of `tree` for texts, and each fault of its run.
 
-use crate::fakes::{FailingReader, FailingWriter, Program, run};
+use crate::fakes::{FailingReader, Program, assert_fault, assert_lines};
 use first_pass_host::fault::RunFault;
-use std::alloc::Global;
-use std::process::Abort;
 use std::test::Fail;
-
-const WHOLE: usize = usize::MAX;
-
-/// Asserts the lines that are written for a text.
-fn assert_lines(
-    rt: &impl Abort,
-    alloc: Global,
-    words: &[&str],
-    text: &str,
-    want: &str,
-) -> Result<(), Fail> {
-    let mut input = FailingReader::new(text.as_bytes(), WHOLE, 0);
-    let mut output = FailingWriter::new(alloc, WHOLE, 0);
-    let answer = run(alloc, Program::Tree, words, &mut input, &mut output)?;
-    let came = String::from_utf8_lossy(alloc, output.bytes.as_slice())?;
-    assert!(rt; answer == Ok(()) && came.as_str() == want, "{text}: {came}");
-    Ok(())
-}
 
 // An info string with a quotation mark, a backslash, a control character and a character that is not ASCII.
 #[test]
@@ -31,7 +11,8 @@ fn texts_are_escaped(rt: HostRuntime) -> Result<(), Fail> {
         {\"kind\":\"BlockQuote\",\"depth\":1,\"start\":0,\"end\":16,\"quote\":null}\n\
         {\"kind\":\"FencedCodeBlock\",\"depth\":2,\"start\":2,\"end\":16,\"info\":\"\\\"\\\\\\u0001é\"}\n\
         {\"kind\":\"Text\",\"depth\":3,\"start\":15,\"end\":16,\"escaped\":false}\n";
-    assert_lines(&rt, rt.alloc(), &[], "> ~~~ \"\\\\\u{1}é\n> a", want)
+    let text = "> ~~~ \"\\\\\u{1}é\n> a";
+    assert_lines(&rt, Program::Tree, &[], text.as_bytes(), want)
 }
 
 #[test]
@@ -43,19 +24,14 @@ fn a_heading_without_attributes_has_their_members(rt: HostRuntime) -> Result<(),
         {\"kind\":\"Heading\",\"depth\":1,\"start\":4,\"end\":28,\"level\":2,\
         \"id\":\"x\",\"classes\":[\"c\",\"d\"],\"attributes\":[[\"k\",\"v\\\"\"],[\"nn\",null]]}\n\
         {\"kind\":\"Text\",\"depth\":2,\"start\":7,\"end\":8,\"escaped\":false}\n";
-    assert_lines(
-        &rt,
-        rt.alloc(),
-        &["64"],
-        "# a\n## b {#x .c .d k=v\" nn}\n   ",
-        want,
-    )
+    let text = b"# a\n## b {#x .c .d k=v\" nn}\n   ";
+    assert_lines(&rt, Program::Tree, &["64"], text, want)
 }
 
 // Two definitions that `blocks` prints in the same way, and a footnote after them.
 #[test]
 fn definitions_and_footnotes_come_last(rt: HostRuntime) -> Result<(), Fail> {
-    let text = "[a]: </b \"x\">\n[b]: /b \"x\"\n\n[^F]: - c\n";
+    let text = b"[a]: </b \"x\">\n[b]: /b \"x\"\n\n[^F]: - c\n";
     let want = "{\"kind\":\"Root\",\"depth\":0,\"start\":0,\"end\":37}\n\
         {\"kind\":\"FootnoteDefinition\",\"depth\":1,\"start\":27,\"end\":37,\"label\":\"F\"}\n\
         {\"kind\":\"List\",\"depth\":2,\"start\":33,\"end\":37,\"tight\":true,\"byte\":\"-\",\"number\":0}\n\
@@ -65,7 +41,7 @@ fn definitions_and_footnotes_come_last(rt: HostRuntime) -> Result<(), Fail> {
         {\"definition\":\"a\",\"destination\":\"/b \\\"x\\\"\",\"title\":null,\"start\":0,\"end\":13}\n\
         {\"definition\":\"b\",\"destination\":\"/b\",\"title\":\"x\",\"start\":14,\"end\":25}\n\
         {\"footnote\":\"F\"}\n";
-    assert_lines(&rt, rt.alloc(), &["4"], text, want)
+    assert_lines(&rt, Program::Tree, &["4"], text, want)
 }
 
 #[test]
@@ -77,13 +53,8 @@ fn each_fault_of_a_run(rt: HostRuntime) -> Result<(), Fail> {
         (&["0"], b"a", 0, RunFault::WriteFailed),
     ];
     for (words, text, fails_at, fault) in faults {
-        let mut input = FailingReader::new(text, WHOLE, *fails_at);
-        let mut output = FailingWriter::new(rt.alloc(), WHOLE, 1);
-        let answer = run(rt.alloc(), Program::Tree, words, &mut input, &mut output)?;
-        assert!(rt;
-            answer == Err(*fault) && output.bytes.is_empty(),
-            "{words:?}"
-        );
+        let mut input = FailingReader::new(text, usize::MAX, *fails_at);
+        assert_fault(&rt, Program::Tree, words, &mut input, *fault)?;
     }
     Ok(())
 }
