@@ -6,7 +6,6 @@ use first_pass_host::exit::exit_code;
 use first_pass_host::fault::RunFault;
 use first_pass_host::words::words_of;
 use first_pass_timing::clock::HostClock;
-use std::alloc::Global;
 use std::process::ExitCode;
 
 fn bench(rt: &HostRuntime) -> Result<(), RunFault> {

@@ -33,7 +33,6 @@ mod table;
 use first_pass_cases::fault::CasesFault;
 use first_pass_cases::table::{read_table, write_report};
 use first_pass_cases::tally::{Tally, end_with};
-use std::alloc::Global;
 use std::process::ExitCode;
 
 fn run(rt: &HostRuntime) -> Result<Tally, CasesFault> {

@@ -10,7 +10,6 @@ ghost use Rattle.first_pass.specs.Views.{source_text};
 
 use crate::state::FirstPass;
 use first_pass_html::ends::HtmlEnd;
-use first_pass_open::place::Place;
 use first_pass_raw::fenced_code::Fence;
 use first_pass_raw::html_block::HtmlStart;
 use first_pass_raw::raw_line::{RawKind, RawLine, append_raw_line};

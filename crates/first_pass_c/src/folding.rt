@@ -1,6 +1,6 @@
 //! The folding of a label, in memory of the caller.
 
-ghost use Rattle.std.specs.Prelude.{◌≡◌, OnOk, IfErr};
+ghost use Rattle.std.specs.Prelude.{OnOk, IfErr};
 ghost use Rattle.first_pass_c.specs.Folding.{FoldLeaves, IsFolded};
 
 use crate::copying::copy_into;

@@ -1,7 +1,6 @@
 //! The words after a program's name.
 
 use crate::fault::RunFault;
-use std::alloc::Global;
 use std::env;
 use std::io::ErrorKind;
 

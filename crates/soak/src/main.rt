@@ -20,7 +20,6 @@ use first_pass_host::fault::RunFault;
 use first_pass_host::output::write_whole;
 use first_pass_host::words::words_of;
 use first_pass_timing::clock::HostClock;
-use std::alloc::Global;
 use std::process::ExitCode;
 
 fn run(rt: &HostRuntime) -> Result<u8, RunFault> {
