@@ -1,3 +1,3 @@
 -- How a line is entered, and how blank lines follow each other.
 pub mod BlankLines
-pub mod HandedOn
+pub mod EnteredLines

@@ -22,7 +22,7 @@ use Rattle.first_pass_order.proofs.CountLemmas.{list_finished_count, leaf_left, 
 use Rattle.first_pass_order.specs.Ordered.{AreNested}
 use Rattle.first_pass_containers.proofs.Leaves.FirstItems.{kind_silent}
 use Rattle.first_pass_blocks.proofs.LineByLine.BlankStops.{html_stops, read_stopped, ordered_stopped}
-use Rattle.first_pass_containers.proofs.LineByLine.HandedOn.{path_added, list_finished_blank}
+use Rattle.first_pass_containers.proofs.LineByLine.EnteredLines.{path_added, list_finished_blank}
 use Rattle.first_pass_blocks.proofs.Leaves.KindBlocks.{AddsHtml, columns_are, html_blank_added, ready_kind}
 use Rattle.first_pass_blocks.proofs.Leaves.LeafAdded.{found_boundary}
 use Rattle.first_pass_containers.proofs.Leaves.LeafLemmas.{line_end_of}

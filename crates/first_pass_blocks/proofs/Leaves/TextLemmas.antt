@@ -50,7 +50,7 @@ use Rattle.first_pass_order.proofs.CountLemmas.{count, list_finished_count, titl
 use Rattle.first_pass_order.proofs.DefinitionOrder.{read_definitions_left, read_title_begun}
 use Rattle.first_pass_ready.proofs.FinishLemmas.{EndsListAt, path_finished}
 use Rattle.first_pass_containers.proofs.Leaves.FirstItems.{text_silent_first}
-use Rattle.first_pass_containers.proofs.LineByLine.HandedOn.{list_finished_blank}
+use Rattle.first_pass_containers.proofs.LineByLine.EnteredLines.{list_finished_blank}
 use Rattle.first_pass_containers.proofs.Leaves.LeafLemmas.{ready_ended, text_away, LeafBegins, opens_flow, ready_added, text_opens}
 use Rattle.first_pass_ready.proofs.LeftBlocks.{left_is}
 use Rattle.first_pass_lists.proofs.NoEmptyItem.{list_finished_none}

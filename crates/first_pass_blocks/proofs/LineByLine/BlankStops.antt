@@ -84,4 +84,4 @@ pub read_stopped : (options : Options) (text : List ℕ) (r : PassState) (next :
     → (in_old_footnote (path_of options r.tree) ≡ true → r.blank ≡ false) → AreNested r.tree.nodes r.tree.spine → is_list (top_body r.tree) ≡ false
     → IsReadFrom options text r next
 read_stopped options text r next (inl o) uncounted nested plain = inl (o, tree_closes text r.tree next nested plain)
-read_stopped options text r next (inr handed) uncounted nested plain = inr (handed, nested, plain, uncounted)
+read_stopped options text r next (inr blank) uncounted nested plain = inr (blank, nested, plain, uncounted)

@@ -52,7 +52,7 @@ use Rattle.first_pass_ready.proofs.AddedLemmas.{begun_at, closed_added, silent_b
 use Rattle.first_pass_ready.proofs.BegunLemmas.{depth_of, opens_bare}
 use Rattle.first_pass_ready.proofs.ClosedIn.{level_of, open_level, takes_same, title_is}
 use Rattle.first_pass_lists.proofs.NoEmptyItem.{list_finished_none}
-use Rattle.first_pass_containers.proofs.LineByLine.HandedOn.{list_finished_blank}
+use Rattle.first_pass_containers.proofs.LineByLine.EnteredLines.{list_finished_blank}
 use Rattle.first_pass_ready.proofs.OpenLemmas.{open_path}
 use Rattle.first_pass_kinds.proofs.KindLemmas.{kind_says}
 use Rattle.first_pass_ready.proofs.StateLemmas.{ready_plain}

@@ -15,7 +15,7 @@ use Rattle.first_pass_order.specs.Ordered.{IsReadTo}
 use Rattle.first_pass_containers.specs.Positions.{LineAt, ReadsTo}
 use Rattle.first_pass_ready.specs.State.{Ready}
 use Rattle.first_pass_ready.proofs.EnterLemmas.{ready_blank_line}
-use Rattle.first_pass_containers.proofs.LineByLine.HandedOn.{ordered_blank_line}
+use Rattle.first_pass_containers.proofs.LineByLine.EnteredLines.{ordered_blank_line}
 use Rattle.first_pass_ready.proofs.OldFootnotes.{ends_here}
 use Rattle.first_pass_grammar.specs.declared.kind.Container.{Container}
 

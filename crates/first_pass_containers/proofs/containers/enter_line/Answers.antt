@@ -16,7 +16,7 @@ use Rattle.first_pass_ready.specs.State.{Ready, ReadyAt}
 use Rattle.first_pass_order.proofs.NamedLemmas.{AreReadNamed, blank_named, empty_item_closed_named}
 use Rattle.first_pass_order.proofs.WholeKept.{IsReadWhole, blank_whole, empty_item_closed_whole}
 use Rattle.first_pass_order.proofs.CountLemmas.{count, empty_item_closed_count, blank_count}
-use Rattle.first_pass_containers.proofs.LineByLine.HandedOn.{handed_whole, ordered_blank_line, ordered_other_line}
+use Rattle.first_pass_containers.proofs.LineByLine.EnteredLines.{entered_whole, ordered_blank_line, ordered_other_line}
 use Rattle.first_pass_containers.proofs.Order.OrderSteps.{ordered_at_place}
 use Rattle.first_pass_ready.proofs.LineLemmas.{IsSettled, settled, at_line, blank_line_read, line_entered, line_kept}
 use Rattle.first_pass_lists.proofs.NoEmptyItem.{finished_none}
@@ -88,7 +88,7 @@ returns-then-is_some-clause-entered c =
           (λ o. subst (λ (q : PassState). IsReadTo text q start) (sym is)
           (ended_ordered options text start closed (omega arith) c.requires.boundary (kept.order text (omega arith) c.requires.boundary o)))
           (λ h uncounted. is ∙ ended_unblank options start c.args.state.now closed uncounted
-          (kept.all_kept (handed_whole options text c.args.state.now start c.scan_front-front.result.continued
+          (kept.all_kept (entered_whole options text c.args.state.now start c.scan_front-front.result.continued
           _ (left a) refl c.scan_front-front.ensures.within c.scan_front-front.ensures.taken
           c.scan_front-front.ensures.stops h).0)) ordered));
       node_bound = λ first grows. omega arith;
@@ -131,7 +131,7 @@ returns-clause-entered c =
             (ordered_other_line options text c.args.state.now now start
             (λ o. subst (λ (q : PassState). IsReadTo text q start) (sym is)
             (ended_ordered options text start closed (omega arith) c.requires.boundary (kept.order text (omega arith) c.requires.boundary o)))
-            (λ h. let some = (handed_whole source.options text c.args.state.now start c.scan_front-front.result.continued _ (left a)
+            (λ h. let some = (entered_whole source.options text c.args.state.now start c.scan_front-front.result.continued _ (left a)
             refl c.scan_front-front.ensures.within c.scan_front-front.ensures.taken c.scan_front-front.ensures.stops h).1 in
             let none = blank a ∙ c.if-is_some.false in cc) ordered));
         node_bound = λ first grows. omega arith;

@@ -12,7 +12,7 @@ use Rattle.first_pass_names.specs.TableEntries.{names_of}
 use Rattle.first_pass_names.proofs.NameLemmas.{extends_none}
 use Rattle.first_pass_raw.proofs.IndentedLemmas.{first_at, first_is}
 use Rattle.first_pass_blocks.proofs.LineByLine.BlankStops.{html_stops, ordered_stopped}
-use Rattle.first_pass_containers.proofs.LineByLine.HandedOn.{path_added}
+use Rattle.first_pass_containers.proofs.LineByLine.EnteredLines.{path_added}
 use Rattle.first_pass_containers.proofs.Order.OrderSteps.{block_ordered}
 use Rattle.first_pass_blocks.proofs.Leaves.RawFits.{to_blank_between, to_blank_ends, to_blank_few}
 use Rattle.first_pass.proofs.Added.{adds_kept}

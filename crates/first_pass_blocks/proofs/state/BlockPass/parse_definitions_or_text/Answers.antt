@@ -5,7 +5,7 @@ use Rattle.first_pass_grammar.specs.Kinds.{unindented}
 use Rattle.first_pass_names.specs.TableEntries.{tables_of, names_of}
 use Rattle.first_pass_lists.specs.Closing.{is_after_definition, list_finished}
 use Rattle.first_pass_lists.proofs.NoEmptyItem.{list_finished_none}
-use Rattle.first_pass_containers.proofs.LineByLine.HandedOn.{list_finished_blank}
+use Rattle.first_pass_containers.proofs.LineByLine.EnteredLines.{list_finished_blank}
 use Rattle.first_pass_lists.specs.declared.state.PassState.{PassState}
 use Rattle.first_pass_blocks.specs.Views.{context_in}
 use Rattle.first_pass_open.specs.declared.source.Source.{Source}

@@ -18,7 +18,7 @@ use Rattle.first_pass_order.specs.Ordered.{IsReadTo}
 use Rattle.first_pass_containers.specs.Positions.{line_or}
 use Rattle.first_pass_ready.specs.State.{Ready}
 use Rattle.first_pass_order.proofs.CountLemmas.{count, blank_count}
-use Rattle.first_pass_containers.proofs.LineByLine.HandedOn.{list_finished_blank}
+use Rattle.first_pass_containers.proofs.LineByLine.EnteredLines.{list_finished_blank}
 use Rattle.first_pass_blocks.proofs.Leaves.HtmlRead.{html_stands, html_read}
 use Rattle.first_pass_blocks.proofs.Leaves.KindBlocks.{marked_some, marked_other, marked_no_run, columns_are, AddsHtml}
 use Rattle.first_pass_blocks.proofs.Leaves.LeafAdded.{found_boundary}

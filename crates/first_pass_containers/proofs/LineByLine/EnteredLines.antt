@@ -19,7 +19,7 @@ use Rattle.first_pass_open.proofs.PathLemmas.{open_are_in, path_in-append}
 use Rattle.first_pass_open.proofs.PlaceLemmas.{after_keeps, line_start_end}
 use Rattle.first_pass_lists.specs.Closing.{top_body, is_list, list_closed, empty_item_closed, gap_marked, list_finished, blank_read}
 use Rattle.first_pass_lists.specs.declared.state.PassState.{PassState}
-use Rattle.first_pass_order.specs.Ordered.{IsHandedOn, AreNested, IsReadTo, IsReadFrom}
+use Rattle.first_pass_order.specs.Ordered.{IsOrderedAtBlankLine, AreNested, IsReadTo, IsReadFrom}
 use Rattle.first_pass_containers.specs.Positions.{OrderedUpTo}
 use Rattle.first_pass_order.proofs.Nests.{tree_closes}
 use Rattle.first_pass_order.proofs.OrderLemmas.{ordered_none}
@@ -42,11 +42,12 @@ unfolding list_finished
 list_finished_blank at r = noted_blank (list_closed at (empty_item_closed r)) (list_closed at (empty_item_closed r)).blank refl
 
 -- Such a line continues all open containers, and its rest is blank.
-pub handed_whole : (options : Options) (text : List ℕ) (r : PassState) (at kept : ℕ) (line left : Rest)
+pub entered_whole : (options : Options) (text : List ℕ) (r : PassState) (at kept : ℕ) (line left : Rest)
     → line ≡ line_rest (drop at text) → kept ≤ length r.tree.spine → after (path_in options r.tree.nodes (outer kept r.tree.spine)) line ≡ Some left
-    → ((m : ℕ) → kept < m → m ≤ length r.tree.spine → after (path_in options r.tree.nodes (outer m r.tree.spine)) line ≡ None) → IsHandedOn options text r at
+    → ((m : ℕ) → kept < m → m ≤ length r.tree.spine → after (path_in options r.tree.nodes (outer m r.tree.spine)) line ≡ None)
+    → IsOrderedAtBlankLine options text r at
     → (kept ≡ length r.tree.spine) × (is_blank_rest left ≡ true)
-handed_whole options text r at kept line left is within took stops h =
+entered_whole options text r at kept line left is within took stops h =
     let ns = r.tree.nodes in
     let spine = r.tree.spine in
     let all : after (path_in options ns (outer (length spine) spine)) line ≡ Some h.rest =
@@ -62,10 +63,10 @@ handed_whole options text r at kept line left is within took stops h =
     ]
 
 -- After such a blank line is read, the state is in order up to its end.
-handed_read : (options : Options) (text : List ℕ) (r : PassState) (at : ℕ)
-    → IsUtf8 text → IsCharBoundary text at → IsHandedOn options text r at → AreNested r.tree.nodes r.tree.spine → is_list (top_body r.tree) ≡ false
+blank_line_read : (options : Options) (text : List ℕ) (r : PassState) (at : ℕ)
+    → IsUtf8 text → IsCharBoundary text at → IsOrderedAtBlankLine options text r at → AreNested r.tree.nodes r.tree.spine → is_list (top_body r.tree) ≡ false
     → IsReadTo text (blank_read r) (at + line_len (drop at text))
-handed_read options text r at u b h nested plain =
+blank_line_read options text r at u b h nested plain =
     let k = after_keeps text at (path_of options r.tree) (line_rest (drop at text)) h.rest u h.taken (line_is_place text at b) in
     let ends : line_end (place_at at h.rest) ≡ at + line_len (drop at text) = k.1 ∙ line_start_end text at in
     let before = place_before_end (place_at at h.rest) in
@@ -76,17 +77,17 @@ handed_read options text r at u b h nested plain =
 -- A line is entered after the containers that it does not continue were closed: a blank line is read,
 pub ordered_blank_line : (options : Options) (text : List ℕ) (old closed : PassState) (at : ℕ) → IsUtf8 text → at < length text → IsCharBoundary text at
     → (IsReadTo text old at → IsReadTo text closed at)
-    → (IsHandedOn options text old at → (in_old_footnote (path_of options old.tree) ≡ true → old.blank ≡ false) → closed ≡ old)
+    → (IsOrderedAtBlankLine options text old at → (in_old_footnote (path_of options old.tree) ≡ true → old.blank ≡ false) → closed ≡ old)
     → IsReadFrom options text old at → IsReadTo text (blank_read closed) (at + line_len (drop at text))
 ordered_blank_line options text old closed at u w b closes same (inl o) =
     let n = line_len-within text at w in
     read_blank_read text closed at (at + line_len (drop at text)) (omega arith) n.1 (closes o)
 ordered_blank_line options text old closed at u w b closes same (inr (h, nested, plain, uncounted)) =
-    subst (λ r. IsReadTo text (blank_read r) (at + line_len (drop at text))) (sym (same h uncounted)) (handed_read options text old at u b h nested plain)
+    subst (λ r. IsReadTo text (blank_read r) (at + line_len (drop at text))) (sym (same h uncounted)) (blank_line_read options text old at u b h nested plain)
 
 -- and before any other line, at which no block has ended in this way, an empty item that blank lines ended is closed.
 pub ordered_other_line : (options : Options) (text : List ℕ) (old closed : PassState) (at : ℕ) → (IsReadTo text old at → IsReadTo text closed at)
-    → (IsHandedOn options text old at → ⊥) → IsReadFrom options text old at → OrderedUpTo text (empty_item_closed closed).tree at
+    → (IsOrderedAtBlankLine options text old at → ⊥) → IsReadFrom options text old at → OrderedUpTo text (empty_item_closed closed).tree at
 ordered_other_line options text old closed at closes none (inl o) =
     let read = read_empty_item_closed text closed at (closes o) in
     (ordered_tree text (empty_item_closed closed) at (finished_none closed) read.0, read.1)
