@@ -41,15 +41,4 @@ appended-block f x =
     let z : length f.spine + 1 ≡ length f.spine + 1 + 0 = omega arith in
     ap (λ k. record f { nodes = f.nodes ++ (k, x) ∷ []; current = Some (last_place f) }) z
 
--- adding an item and then one below it is adding a block that has only both
-pub below-block : {T : Type 0} (f : Forest T) (x y : T)
-    → record (appended f x) { nodes = (appended f x).nodes ++ (length f.spine + 2, y) ∷ [] } ≡ added f (block_of x ((0, y) ∷ []))
-below-block {T = T} f x y =
-    let d = length f.spine + 1 in
-    let z : d ≡ d + 0 = omega arith in
-    let n : length f.spine + 2 ≡ d + (1 + 0) = omega arith in
-    ap (λ (ns : List (ℕ × T)). record f { nodes = ns; current = Some (last_place f) })
-    (append_assoc f.nodes ((d, x) ∷ []) ((length f.spine + 2, y) ∷ []) ∙ ap (λ k. f.nodes ++ (k, x) ∷ (length f.spine + 2, y) ∷ []) z
-    ∙ ap (λ k. f.nodes ++ (d + 0, x) ∷ (k, y) ∷ []) n)
-
 -- a text after a text that ends at its start is joined to it

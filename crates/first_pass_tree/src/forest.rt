@@ -143,8 +143,7 @@ impl Tree<Item> {
     }
 
     /// Adds a last child to the innermost open node, and makes it current. Its only child is the text of the bytes
-    /// `start..end`; it has none if that range is empty. Fails only if an allocation fails; the tree is then unchanged,
-    /// or has the new node without its text.
+    /// `start..end`; it has none if that range is empty. Fails only if an allocation fails; the tree is then unchanged.
     #[inline(always)]
     pub fn append_with_text(
         &mut self,
@@ -153,20 +152,23 @@ impl Tree<Item> {
         end: usize,
     ) -> Result<(), AllocError>
         ensures ok { OnOk result (self.new ≡ added self.old (block_of item (text_between start end))) }
-        ensures err { OnErr result ((self.new ≡ self.old) ⊎ (self.new ≡ appended self.old item)) }
+        ensures err { OnErr result (self.new ≡ self.old) }
     {
-        self.append(item)?;
+        let index = TreeIndex(self.nodes.len());
+        let depth = self.spine.len() + 1;
+        self.nodes.push((depth, item))?;
         if end <= start {
+            self.cur = Some(index);
             return Ok(());
         }
-        let text = Item {
-            start,
-            end,
-            body: ItemBody::Text {
-                backslash_escaped: false,
-            },
+        let body = ItemBody::Text {
+            backslash_escaped: false,
         };
-        self.nodes.push((self.spine.len() + 2, text))?;
+        if let Err(error) = self.nodes.push((depth + 1, Item { start, end, body })) {
+            self.nodes.pop();
+            return Err(error.into());
+        }
+        self.cur = Some(index);
         Ok(())
     }
 

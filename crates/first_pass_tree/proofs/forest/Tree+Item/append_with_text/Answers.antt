@@ -1,42 +1,40 @@
-use Rattle.std.proofs.Common.{◌≡◌, ◌+◌, ◌∷◌, ◌++◌, [], false, ℕ, List, length, reverse, take, arith, ap, sym, subst, ◌∙◌}
+use Rattle.std.proofs.Common.{◌≡◌, ◌+◌, ◌∷◌, ◌++◌, [], false, ℕ, List, Some, length, reverse, take, arith, ap, refl, sym, subst, ◌∙◌}
 use Rattle.std.proofs.lemmas.List.{length-reverse, take-append-le}
-use Rattle.std.proofs.lemmas.Bool.{lt-ltb, le-ltb, cond-true, cond-false}
 use Rattle.first_pass_items.specs.declared.item.Item.{Item}
 use Rattle.first_pass_items.specs.declared.item.ItemBody.TheVariants.{Text}
-use Rattle.first_pass_tree.specs.Forest.{Forest, IsForest, added, block_of}
-use Rattle.first_pass_tree.proofs.Keeps.{below-is}
-use Rattle.first_pass_tree.proofs.Callers.{appended-block, below-block}
+use Rattle.first_pass_tree.specs.Forest.{Forest, IsForest}
+use Rattle.first_pass_tree.proofs.Keeps.{appended-is, appended-by, below-is}
 use Rattle.first_pass_tree.proofs.SubtreeLemmas.{subtrees-front}
 use Rattle.first_pass_tree.proofs.forest.Tree+Item.append_with_text.Goals as goal
 
-pub invariant_of-self-2 : goal.invariant_of-self-2
-invariant_of-self-2 c =
+-- a last child, from the results of the calls on the fields
+appended_by_is : (f : Forest Item) (x : Item) (ns : List (ℕ × Item)) (d n : ℕ) → IsForest f → ns ≡ f.nodes ++ (d, x) ∷ [] → d ≡ length f.spine + 1
+    → n ≡ length f.nodes → IsForest (record f { nodes = ns; current = Some (record { 0 = n }) })
+appended_by_is f x ns d n h e p q = subst IsForest (sym (appended-by f x ns d n h e p q)) (appended-is f x h)
+
+pub invariant_of-self-then-end-start : goal.invariant_of-self-then-end-start
+invariant_of-self-then-end-start c =
     let ns = c.self.inside.nodes.items in
-    let f : Forest Item = record { nodes = ns; spine = reverse c.self.inside.spine.items; current = c.self.inside.cur } in
-    let text : Item = record { start = c.args.start; «end» = c.args.end; body = Text false } in
-    let d : c.len.result + 2 ≡ length (reverse c.self.inside.spine.items) + 2 = omega (arith, length-reverse c.self.inside.spine.items) in
-    let current = ap (λ (v : Forest Item). v.current) (c.self.view_is ∙ c.in_ok-append.ensures.ok) in
     record {
-      forest = subst (λ (v : List (ℕ × Item)). IsForest (record f { nodes = v }))
-          (sym (c.in_ok-push.ensures.items ∙ ap (λ (e : ℕ). ns ++ (e, text) ∷ []) d)) (below-is f _ text current c.self.invariant.forest);
+      forest = appended_by_is _ c.args.item _ _ _ c.self.invariant.forest c.in_ok-push.ensures.items (omega (arith, length-reverse c.self.inside.spine.items))
+          (omega arith);
       known = subtrees-front ns c.push.new.self.items (length ns) _ (omega arith) (omega (arith, c.in_ok-push.ensures.len))
           (ap (take (length ns)) c.in_ok-push.ensures.items ∙ take-append-le (length ns) ns _ (omega arith)) c.self.invariant.known;
     }
 
-pub returns-then-end-start-clause-ok : goal.returns-then-end-start-clause-ok
-returns-then-end-start-clause-ok c =
-    c.in_ok-append.ensures.ok ∙ appended-block c.args.self.now c.args.item
-    ∙ ap (λ (kids : List (ℕ × Item)). added c.args.self.now (block_of c.args.item kids))
-    (sym (cond-false _ _ _ (le-ltb c.args.start c.args.end c.if-end-start.true)))
-
-pub returns-clause-ok : goal.returns-clause-ok
-returns-clause-ok c =
+pub invariant_of-self-2 : goal.invariant_of-self-2
+invariant_of-self-2 c =
     let ns = c.self.inside.nodes.items in
-    let f : Forest Item = record { nodes = ns; spine = reverse c.self.inside.spine.items; current = c.self.inside.cur } in
+    let spine = reverse c.self.inside.spine.items in
+    let f : Forest Item = record { nodes = c.push.new.self.items; spine = spine; current = Some (record { 0 = c.len.result }) } in
     let text : Item = record { start = c.args.start; «end» = c.args.end; body = Text false } in
-    let d : c.len.result + 2 ≡ length (reverse c.self.inside.spine.items) + 2 = omega (arith, length-reverse c.self.inside.spine.items) in
-    ap (λ (v : List (ℕ × Item)). record f { nodes = v }) (c.in_ok-push.ensures.items ∙ ap (λ (e : ℕ). ns ++ (e, text) ∷ []) d)
-    ∙ ap (λ (v : Forest Item). record v { nodes = v.nodes ++ (length v.spine + 2, text) ∷ [] }) (c.self.view_is ∙ c.in_ok-append.ensures.ok)
-    ∙ below-block c.args.self.now c.args.item text
-    ∙ ap (λ (kids : List (ℕ × Item)). added c.args.self.now (block_of c.args.item kids))
-    (sym (cond-true _ _ _ (lt-ltb c.args.start c.args.end (omega (arith, c.if-end-start.false)))))
+    let long = length-reverse c.self.inside.spine.items in
+    let first : IsForest f = appended_by_is _ c.args.item _ _ _ c.self.invariant.forest c.in_ok-push.ensures.items (omega (arith, long)) (omega arith) in
+    let d : c.len-depth.result + 1 + 1 ≡ length spine + 2 = omega (arith, long) in
+    record {
+      forest = subst (λ (v : List (ℕ × Item)). IsForest (record f { nodes = v }))
+          (sym (c.in_default.ensures.items ∙ ap (λ (e : ℕ). c.push.new.self.items ++ (e, text) ∷ []) d)) (below-is f _ text refl first);
+      known = subtrees-front ns c.push-2.new.self.items (length ns) _ (omega arith) (omega (arith, c.in_ok-push.ensures.len, c.in_default.ensures.len))
+          (ap (take (length ns)) c.in_default.ensures.items ∙ take-append-le (length ns) c.push.new.self.items _ (omega (arith, c.in_ok-push.ensures.len))
+          ∙ ap (take (length ns)) c.in_ok-push.ensures.items ∙ take-append-le (length ns) ns _ (omega arith)) c.self.invariant.known;
+    }
