@@ -1,12 +1,12 @@
 -- The set bits of a mask, and the bytes that they stand for.
-use Rattle.std.proofs.Common.{◌≡◌, ◌⊎◌, inl, inr, ℕ, zero, suc, ◌+◌, ◌-◌, ◌/◌, ◌%◌, ◌^◌, ◌<◌, ◌≤◌, ◌==◌, ◌*◌, Bool, false, List, slice_index, subst}
-use Rattle.std.proofs.Common.{w64, bit_and, refl, sym, ap, ◌∙◌, arith, pow_pos}
-use Rattle.std.proofs.lemmas.Bool.{cases_lt, cases_eq}
+use Rattle.std.proofs.Common.{◌≡◌, ◌⊎◌, inl, inr, ℕ, zero, suc, ◌+◌, ◌-◌, ◌/◌, ◌%◌, ◌^◌, ◌<◌, ◌≤◌, ◌==◌, ◌*◌, ◌||◌, Bool, true, false, List, slice_index, slice_index_or}
+use Rattle.std.proofs.Common.{subst, w64, bit_and, refl, sym, ap, ◌∙◌, arith, pow_pos}
+use Rattle.std.proofs.lemmas.Bool.{cases_lt, cases_eq, ne_eqb}
 use Rattle.std.proofs.lemmas.Nat.Bits.{bit_at_lowest, bit_at-suc, bit_at-lt, bit_at_and, bit_at_above, bit_at-trailing_zeros}
 use Rattle.std.proofs.lemmas.Nat.{div_below, pow-add}
 use Rattle.std.proofs.Math.Nat.{div-div-eq-div-mul}
 use Rattle.std.specs.Int.{bit_at, trailing_zeros}
-use Rattle.first_pass_walk.specs.Walk.{is_marked, is_word_byte, AreWordStops, IsFirstStop, IsNextMarked, SparesWords}
+use Rattle.first_pass_walk.specs.Walk.{is_marked, is_passed, is_word_byte, AreWordStops, IsFirstStop, IsNextMarked, SparesWords}
 
 -- Subtracting one from a number leaves all its set bits except the lowest.
 abbrev IsKeptOrLowest : ℕ → ℕ → Type 0
@@ -75,7 +75,7 @@ shifted bytes at s n mask h =
       within = div_below mask (2 ^ s) (2 ^ n) (pow_pos s) fits;
       stops = λ k less.
           let on : at + s + k ≡ at + (s + k) = omega arith in
-          ap (λ i. is_word_byte (slice_index bytes i)) on ∙ h.stops (s + k) (omega (arith, less)) ∙ ap (λ b. b == 0) (sym (shifted_bit mask s k));
+          ap (λ i. is_passed (slice_index bytes i)) on ∙ h.stops (s + k) (omega (arith, less)) ∙ ap (λ b. b == 0) (sym (shifted_bit mask s k));
     }
 
 -- the mask of what is left, fewer than 16 bytes, from that of the last 16
@@ -97,7 +97,17 @@ unmarked lut bytes ix next n before after k from to =
       | inr h ↦ let back : next + (k - next) ≡ k = omega arith in subst (λ j. is_marked lut bytes j ≡ false) back (after (k - next) (omega arith))
     ]
 
-module _ (lut : List Bool) (bytes : List ℕ) (at n mask : ℕ) (spares : SparesWords lut) (stops : AreWordStops bytes at n mask) where
+-- a table that marks no NUL and no word byte
+pub spares_passed : (lut : List Bool) → slice_index_or lut 0 false ≡ false → SparesWords lut
+    → (b : ℕ) → is_passed b ≡ true → slice_index_or lut b false ≡ false
+spares_passed lut clear spares b h =
+    elim (cases_eq b 0) [
+      | inl same ↦ rw same clear
+      | inr other ↦ spares b (sym (ap (λ t. t || is_word_byte b) (ne_eqb b 0 other)) ∙ h)
+    ]
+
+module _ (lut : List Bool) (bytes : List ℕ) (at n mask : ℕ)
+    (spares : (b : ℕ) → is_passed b ≡ true → slice_index_or lut b false ≡ false) (stops : AreWordStops bytes at n mask) where
   -- no byte without a set bit is marked
   spared : (k : ℕ) → k < n → (bit_at mask k ≡ 1 → is_marked lut bytes (at + k) ≡ false) → is_marked lut bytes (at + k) ≡ false
   spared k less unless =

@@ -63,15 +63,19 @@ pub record IsNextMarked (lut : List Bool) (bytes : List ℕ) (ix j : ℕ) : Type
 abbrev pub NoneMarkedFrom : List Bool → List ℕ → ℕ → Type 0
 NoneMarkedFrom lut bytes ix = (k : ℕ) → ix ≤ k → k < length bytes → is_marked lut bytes k ≡ false
 
--- NUL, a letter, a space or a byte of a character beyond ASCII (this project)
+-- a letter, a space or a byte of a character beyond ASCII (this project)
 abbrev pub is_word_byte : ℕ → Bool
-is_word_byte b = (is_ascii_alphabetic b || (b == nul || b == space)) || (nat_lt 127 b && nat_lt b 256)
+is_word_byte b = (is_ascii_alphabetic b || b == space) || (nat_lt 127 b && nat_lt b 256)
 
--- The mask of n bytes from an offset on. Bit k is 1 exactly if byte k of them is not a word byte, and no bit from n on
--- is set (this project).
+-- NUL or a word byte (this project)
+abbrev pub is_passed : ℕ → Bool
+is_passed b = b == nul || is_word_byte b
+
+-- The mask of n bytes from an offset on. Bit k is 1 exactly if byte k of them is neither NUL nor a word byte, and no bit
+-- from n on is set (this project).
 pub record AreWordStops (bytes : List ℕ) (at n mask : ℕ) : Type 0 where
   pub within : mask < 2 ^ n
-  pub stops : (k : ℕ) → k < n → is_word_byte (slice_index bytes (at + k)) ≡ (bit_at mask k == 0)
+  pub stops : (k : ℕ) → k < n → is_passed (slice_index bytes (at + k)) ≡ (bit_at mask k == 0)
 
 -- j is the offset of the first marked byte whose bit is set; bit k is that of the byte k places after an offset
 -- (this project)
@@ -82,7 +86,7 @@ pub record IsFirstStop (lut : List Bool) (bytes : List ℕ) (at mask j : ℕ) : 
   pub marked : is_marked lut bytes j ≡ true
   pub least : (k : ℕ) → at + k < j → bit_at mask k ≡ 1 → is_marked lut bytes (at + k) ≡ false
 
--- the table marks no NUL, no letter, no space and no byte of a character beyond ASCII (this project)
+-- the table marks no letter, no space and no byte of a character beyond ASCII (this project)
 abbrev pub SparesWords : List Bool → Type 0
 SparesWords lut = (b : ℕ) → is_word_byte b ≡ true → slice_index_or lut b false ≡ false
 

@@ -48,8 +48,8 @@ pub fn next_special(lut: &[bool; 256], bytes: &[u8], ix: usize) -> Option<usize>
 // The mask of 16 bytes each of which is a stop: a run of digits or of punctuation.
 const ALL_STOPS: u64 = 0xFFFF;
 
-/// Returns the same as `next_special`, but reads 16 bytes at a time. The table must not mark NUL, a letter, a space or
-/// a byte of a character beyond ASCII.
+/// Returns the same as `next_special`, but reads 16 bytes at a time. The table must not mark a letter, a space or a
+/// byte of a character beyond ASCII.
 #[inline(always)]
 pub fn next_special_in_words(lut: &[bool; 256], bytes: &[u8], ix: usize) -> Option<usize>
     requires { SparesWords lut.now }
@@ -57,7 +57,8 @@ pub fn next_special_in_words(lut: &[bool; 256], bytes: &[u8], ix: usize) -> Opti
     ensures none { IfNone result (NoneMarkedFrom lut.now bytes.now ix) }
 {
     let mut next = ix;
-    if bytes.len() < LANES {
+    // A load of 16 bytes doesn't tell NUL from a space.
+    if lut[0] || bytes.len() < LANES {
         return next_special(lut, bytes, next);
     }
     let last = bytes.len() - LANES;

@@ -1,7 +1,7 @@
 use Rattle.std.proofs.Common.{ℕ, ◌+◌, ◌-◌, ◌/◌, ◌^◌, length, Option, Some, None, IfSome, IfNone, sym, ap, ◌∙◌, arith}
 use Rattle.std.proofs.lemmas.Nat.Bits.{bit_at-zero}
 use Rattle.std.specs.Int.{bit_at}
-use Rattle.first_pass_walk.proofs.StopLemmas.{bit_below, shifted_bit, tail_stops, none_marked, first_is_next}
+use Rattle.first_pass_walk.proofs.StopLemmas.{bit_below, shifted_bit, tail_stops, spares_passed, none_marked, first_is_next}
 use Rattle.first_pass_walk.proofs.walk.next_special_in_words.Goals as goal
 
 if_some : {X : Type 0} {P Q : X → Type 0} (o : Option X) → ((x : X) → P x → Q x) → IfSome o P → IfSome o Q
@@ -18,21 +18,21 @@ first_at_stops-requires-clause-within c k set = omega (arith, bit_below c.word_s
 
 pub returns-in-Some-first_at_stops-clause-found : goal.returns-in-Some-first_at_stops-clause-found
 returns-in-Some-first_at_stops-clause-found c =
-    first_is_next c.args.lut.now c.args.bytes.now c.loop-next.next 16 c.word_stops-stops.result c.requires c.word_stops-stops.ensures
+    first_is_next c.args.lut.now c.args.bytes.now c.loop-next.next 16 c.word_stops-stops.result (spares_passed c.args.lut.now c.if-lut-offset0.false c.requires) c.word_stops-stops.ensures
     c.args.ix c.in-Some-first_at_stops.at c.loop-next.invariant.from c.loop-next.invariant.none c.in-Some-first_at_stops.ensures.found
 
 -- no byte of a load without stops is marked
 pub loop-next-preserved-then-stops-eq0 : goal.loop-next-preserved-then-stops-eq0
 loop-next-preserved-then-stops-eq0 c = record {
   from = omega arith;
-  none = none_marked c.args.lut.now c.args.bytes.now c.loop-next.next 16 c.word_stops-stops.result c.requires c.word_stops-stops.ensures c.args.ix
+  none = none_marked c.args.lut.now c.args.bytes.now c.loop-next.next 16 c.word_stops-stops.result (spares_passed c.args.lut.now c.if-lut-offset0.false c.requires) c.word_stops-stops.ensures c.args.ix
       c.loop-next.invariant.none (λ k set. absurd (omega (arith, set, ap (λ n. bit_at n k) c.if-stops-eq0.true, bit_at-zero k)));
 }
 
 pub loop-next-preserved : goal.loop-next-preserved
 loop-next-preserved c = record {
   from = omega arith;
-  none = none_marked c.args.lut.now c.args.bytes.now c.loop-next.next 16 c.word_stops-stops.result c.requires c.word_stops-stops.ensures c.args.ix
+  none = none_marked c.args.lut.now c.args.bytes.now c.loop-next.next 16 c.word_stops-stops.result (spares_passed c.args.lut.now c.if-lut-offset0.false c.requires) c.word_stops-stops.ensures c.args.ix
       c.loop-next.invariant.none c.in-None-first_at_stops.ensures.none;
 }
 
@@ -48,7 +48,7 @@ returns-clause-found c =
     let last : ℕ = length c.args.bytes.now - 16 in
     let stops = tail_stops c.args.bytes.now next last c.word_stops.result (omega arith) (omega arith) c.word_stops.ensures in
     if_some c.first_at_stops-2.result
-    (λ j. first_is_next c.args.lut.now c.args.bytes.now next (last + 16 - next) (c.word_stops.result / 2 ^ (next - last)) c.requires stops
+    (λ j. first_is_next c.args.lut.now c.args.bytes.now next (last + 16 - next) (c.word_stops.result / 2 ^ (next - last)) (spares_passed c.args.lut.now c.if-lut-offset0.false c.requires) stops
     c.args.ix j c.loop-next.invariant.from c.loop-next.invariant.none)
     c.first_at_stops-2.ensures.found
 
@@ -58,6 +58,6 @@ returns-clause-none c =
     let last : ℕ = length c.args.bytes.now - 16 in
     let stops = tail_stops c.args.bytes.now next last c.word_stops.result (omega arith) (omega arith) c.word_stops.ensures in
     if_none c.first_at_stops-2.result
-    (λ none k from less. none_marked c.args.lut.now c.args.bytes.now next (last + 16 - next) (c.word_stops.result / 2 ^ (next - last)) c.requires stops
+    (λ none k from less. none_marked c.args.lut.now c.args.bytes.now next (last + 16 - next) (c.word_stops.result / 2 ^ (next - last)) (spares_passed c.args.lut.now c.if-lut-offset0.false c.requires) stops
     c.args.ix c.loop-next.invariant.none none k from (omega (arith, less)))
     c.first_at_stops-2.ensures.none

@@ -1,7 +1,7 @@
 use Rattle.std.proofs.Common.{ℕ, leb, cond, bit_and, refl, arith}
 use Rattle.std.proofs.lemmas.Simd.{zip2_splat, length-chunk}
 use lib.Lanes.{chunk}
-use Rattle.first_pass_walk.specs.Walk.{is_word_byte}
+use Rattle.first_pass_walk.specs.Walk.{is_passed}
 use Rattle.first_pass_lines.proofs.LaneLemmas.{joined, splat_is}
 use Rattle.first_pass_lines.proofs.MaskLemmas.{mask_within, mask_stops}
 use Rattle.first_pass_walk.proofs.walk.word_stops.Goals as goal
@@ -15,6 +15,6 @@ returns c =
     let no_letter = joined (λ a b. cond (leb a b) 255 0) _ _ v (splat_is v 16 26 long) (joined _ _ _ v small (splat_is v 16 97 long)) in
     let lanes = joined bit_and _ _ v after_space no_letter in
     record {
-      within = mask_within is_word_byte c.args.bytes.now c.args.at 16 _ c.requires (omega arith) c.type_inv.bytes _ lanes;
-      stops = mask_stops is_word_byte c.args.bytes.now c.args.at 16 _ c.requires (omega arith) c.type_inv.bytes _ lanes refl;
+      within = mask_within is_passed c.args.bytes.now c.args.at 16 _ c.requires (omega arith) c.type_inv.bytes _ lanes;
+      stops = mask_stops is_passed c.args.bytes.now c.args.at 16 _ c.requires (omega arith) c.type_inv.bytes _ lanes refl;
     }
