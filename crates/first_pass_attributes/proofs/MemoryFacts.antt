@@ -1,4 +1,4 @@
--- A word that needs memory is a second class or a second key.
+-- A word needs memory only if it is a class after another or a key after another.
 use Rattle.std.proofs.Common.{◌≡◌, inl, inr, ℕ, ◌+◌, ◌<◌, true, false, List, [], ◌∷◌, length, map, filter, take, drop, Result, Ok, Err, OnErr}
 use Rattle.std.proofs.Common.{sym, ap, subst, ◌∙◌, arith, length-append}
 use Rattle.std.specs.List.{prefix_len}

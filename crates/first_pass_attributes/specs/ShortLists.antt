@@ -10,7 +10,7 @@ listed (One item) = item
 listed (Many list) = list.items
 
 -- the items are on the heap (this project)
-abbrev pub takes_memory : {T : Type 0} → Items T → Bool
-takes_memory None = false
-takes_memory (One item) = false
-takes_memory (Many list) = true
+abbrev pub is_on_heap : {T : Type 0} → Items T → Bool
+is_on_heap None = false
+is_on_heap (One item) = false
+is_on_heap (Many list) = true

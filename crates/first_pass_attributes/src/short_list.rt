@@ -22,13 +22,13 @@ pub enum Items<T> {
 
 impl<T> Model for ShortList<T> {
     ghost use Rattle.std.specs.Prelude.{◌≡◌, ◌<◌, List, length, true};
-    ghost use Rattle.first_pass_attributes.specs.ShortLists.{listed, takes_memory};
+    ghost use Rattle.first_pass_attributes.specs.ShortLists.{listed, is_on_heap};
 
     ghost Value = { List T };
 
     ghost view = { λ l. listed l.items };
 
-    ghost invariant = { λ l. takes_memory l.items ≡ true → 1 < length (listed l.items) };
+    ghost invariant = { λ l. is_on_heap l.items ≡ true → 1 < length (listed l.items) };
 }
 
 impl<T> ShortList<T> {

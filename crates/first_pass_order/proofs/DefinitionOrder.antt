@@ -104,7 +104,7 @@ kept_some f {i} there current =
 
 -- A block was added to an innermost definition list, right after a definition. The tree was in order up to the end of
 -- that definition, and the block is read up to another offset.
-record BlockAdded (text : List ℕ) (old : Forest Item) : Type 0 where
+record AddedAfterDefinition (text : List ℕ) (old : Forest Item) : Type 0 where
   list : TreeIndex
   outer : List TreeIndex
   spine : old.spine ≡ list ∷ outer
@@ -117,7 +117,7 @@ record BlockAdded (text : List ℕ) (old : Forest Item) : Type 0 where
   fits : FitsBetween text Elsewhere «end» next items
   within : next ≤ length text
 
-module _ (text : List ℕ) (old : Forest Item) (b : BlockAdded text old) where
+module _ (text : List ℕ) (old : Forest Item) (b : AddedAfterDefinition text old) where
   -- the place of the block
   abbrev place : TreeIndex
   place = record { 0 = length old.nodes }
@@ -329,7 +329,7 @@ module _ (text : List ℕ) (r : PassState) (read : Forest Item) (next : ℕ) (h 
       subst (λ w. FitsBetween text w the_definition.definition.«end» next the_block.items)
       (ap (λ (t : Bool). if t then InItem else Elsewhere) (no_item_top (top_body r.tree) list_top)) the_block.fits
 
-  abbrev block : BlockAdded text r.tree
+  abbrev block : AddedAfterDefinition text r.tree
   block = record {
     list = the_definition.place;
     outer = the_definition.outer;

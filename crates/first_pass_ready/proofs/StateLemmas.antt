@@ -213,8 +213,8 @@ pub has_definition : (f : Forest Item) (ix : TreeIndex) (rest : List TreeIndex) 
 has_definition f ix rest (DefinitionList flags) spine is none = closed_definition f flags (ap (top_in f.nodes) spine ∙ is) none
 has_definition f ix rest b spine is none = tt
 
--- The innermost open node, and the offset where the next line starts.
-record InnermostNode (d : Document) (f : Forest Item) (lines : List Place) : Type 0 where
+-- The innermost open node, which is closed before the next line, and the offset at which that line starts.
+record ClosesBefore (d : Document) (f : Forest Item) (lines : List Place) : Type 0 where
   node : TreeIndex
   outer : List TreeIndex
   forest : IsForest f
@@ -222,7 +222,7 @@ record InnermostNode (d : Document) (f : Forest Item) (lines : List Place) : Typ
   next : ℕ
   starts : start_of (length d.text) lines ≡ next
 
-module _ (d : Document) (defined : Tables) (r : PassState) (lines : List Place) (w : InnermostNode d r.tree lines) where
+module _ (d : Document) (defined : Tables) (r : PassState) (lines : List Place) (w : ClosesBefore d r.tree lines) where
   -- what precedes the next block, after a run of blank lines that counts or not
   abbrev after_run : Bool → Before
   after_run run = record { last = last_plain (closed_in r.tree); counted = run }

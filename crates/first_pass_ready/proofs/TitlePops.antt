@@ -157,9 +157,9 @@ module _ (d : Document) (defined : Tables) (f : Forest Item) (run : Bool) (lines
         let here : IsLastAt (depths g.nodes) ((length l.outer + 1) + 1) l.title.0 =
         subst (λ n. IsLastAt (depths g.nodes) n l.title.0) next (subst (λ z. IsLastAt z (length l.outer + 2) l.title.0) (sym same) c.child) in
         let s : g.spine ≡ l.outer = list_spine (with_body_at f l.title ParagraphBody) e l.list l.outer l.titled.flags in
-        let place : ℕ → TreeIndex = λ n. record { 0 = n } in
-        ap (λ (z : List TreeIndex). Some (place (last_before (depths now.nodes) (length z + 1) (length now.nodes)))) s
-        ∙ ap (λ n. Some (place n)) (moved_current g.nodes (length l.outer + 1) l.title.0 here)
+        let tree_index : ℕ → TreeIndex = λ n. record { 0 = n } in
+        ap (λ (z : List TreeIndex). Some (tree_index (last_before (depths now.nodes) (length z + 1) (length now.nodes)))) s
+        ∙ ap (λ n. Some (tree_index n)) (moved_current g.nodes (length l.outer + 1) l.title.0 here)
 
     moved_spine : now.spine ≡ l.outer
     moved_spine = list_spine (with_body_at f l.title ParagraphBody) e l.list l.outer l.titled.flags

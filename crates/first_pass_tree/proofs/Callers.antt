@@ -3,7 +3,7 @@ use Rattle.std.proofs.Common.{◌≡◌, ℕ, ◌+◌, ◌<◌, List, ◌∷◌,
 use Rattle.std.proofs.Common.{arith, append_assoc}
 use Rattle.std.proofs.lemmas.List.{length-append, length-map, map-append, get_or_append_left}
 use Rattle.first_pass_tree.specs.declared.tree_index.TreeIndex.{TreeIndex}
-use Rattle.first_pass_tree.specs.Forest.{Forest, IsChild, depths, open_place, appended, added, at_depth, block_of}
+use Rattle.first_pass_tree.specs.Forest.{Forest, IsChild, depths, open_place, appended, added, at_depth}
 use Rattle.first_pass_tree.proofs.Blocks.{at_depth-append}
 
 abbrev last_place : {T : Type 0} → Forest T → TreeIndex

@@ -33,7 +33,7 @@ use Rattle.first_pass_containers.proofs.Order.OrderSteps.{block_ordered, ordered
 use Rattle.first_pass_blocks.proofs.Leaves.RawFits.{to_blank_between, to_blank_ends, to_blank_few}
 use Rattle.first_pass_order.proofs.WholeKept.{kept_of, list_finished_whole, block_whole, kind_whole}
 use Rattle.first_pass_blocks.proofs.LinkDefinitions.WrittenLemmas.{written_stay}
-use Rattle.first_pass_containers.proofs.StateAt.{IsAt}
+use Rattle.first_pass_containers.proofs.StateAt.{IsStateAtPlace}
 use Rattle.first_pass_order.specs.LeafBlocks.{AddsKind}
 use Rattle.first_pass_kinds.specs.BlockStart.{IsFoundAt}
 use Rattle.first_pass_kinds.specs.declared.kinds.BlockStart.TheVariants.{HtmlToBlank as FoundHtml}
@@ -53,7 +53,7 @@ pub record HtmlAdded (old new : BlockPass) (p : Place) (at columns next : ℕ) :
   pub block : AddsHtml (source_text old) (source_options old) (names_of (allocs_of new)) at columns (unindented p)
       (list_finished p.line (state_of old)).tree (tree_of new) next
 
-pub html_read : (old new : BlockPass) (p : Place) (at columns next : ℕ) → IsAt (source_text old) (state_of old) p
+pub html_read : (old new : BlockPass) (p : Place) (at columns next : ℕ) → IsStateAtPlace (source_text old) (state_of old) p
     → IsForest (list_finished p.line (state_of old)).tree → IsFoundAt (source_options old) p FoundHtml columns at → HtmlAdded old new p at columns next
     → ReadsLeaf old new p next
 html_read old new p at columns next is_at forest_after found h =

@@ -41,7 +41,7 @@ use Rattle.first_pass_containers.specs.Positions.{ReadyLeaf}
 use Rattle.first_pass_ready.specs.State.{closed_in, Ready}
 use Rattle.first_pass_ready.proofs.FinishLemmas.{path_finished}
 use Rattle.first_pass_containers.proofs.Leaves.LeafLemmas.{told_none, kind_in_other, kind_away, line_end_of, opens_rule, ready_added, LeafBegins}
-use Rattle.first_pass_containers.proofs.StateAt.{IsAt}
+use Rattle.first_pass_containers.proofs.StateAt.{IsStateAtPlace}
 use Rattle.first_pass_blocks.specs.declared.state.BlockPass.{BlockPass}
 use Rattle.first_pass_blocks.specs.Views.{allocs_of, state_of, source_options, source_text, tree_of}
 use Rattle.first_pass_names.specs.TableEntries.{tables_of, names_of}
@@ -213,7 +213,7 @@ pub record IsOtherLeaf (options : Options) (p : Place) (kind : Kind) : Type 0 wh
   pub no_run : is_run kind ≡ false
 
 -- after such a block
-pub ready_kind : (old new : BlockPass) (p : Place) (kind : Kind) (next : ℕ) (names : Names) → IsAt (source_text old) (state_of old) p
+pub ready_kind : (old new : BlockPass) (p : Place) (kind : Kind) (next : ℕ) (names : Names) → IsStateAtPlace (source_text old) (state_of old) p
     → IsOtherLeaf (source_options old) p kind → Extends names (names_of (allocs_of new))
     → AddsKind (document (source_text old) (source_options old) (names_of (allocs_of new))) p kind (state_of new).blank
     (list_finished p.line (state_of old)).tree (tree_of new) next

@@ -19,10 +19,10 @@ use Rattle.first_pass_order.proofs.NamedLemmas.{block_added, list_finished_named
 use Rattle.first_pass_order.proofs.WholeKept.{kept_of, list_finished_whole, block_whole, kind_whole}
 use Rattle.first_pass_containers.proofs.Leaves.FirstItems.{kind_silent}
 use Rattle.first_pass_order.proofs.CountLemmas.{list_finished_count, block_count, leaf_left, left_before}
-use Rattle.first_pass_containers.proofs.StateAt.{IsAt}
+use Rattle.first_pass_containers.proofs.StateAt.{IsStateAtPlace}
 
 -- a block that ends what is to end at the start of the line
-pub leaf_read : (old new : BlockPass) (p : Place) (kind : Kind) (next : ℕ) → IsAt (source_text old) (state_of old) p
+pub leaf_read : (old new : BlockPass) (p : Place) (kind : Kind) (next : ℕ) → IsStateAtPlace (source_text old) (state_of old) p
     → IsOtherLeaf (source_options old) p kind → AddsLeaf (record old { state = list_finished p.line (state_of old) }) new p kind next
     → ReadsLeaf old new p next
 leaf_read old new p kind next here leaf e =

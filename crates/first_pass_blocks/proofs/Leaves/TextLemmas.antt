@@ -61,7 +61,7 @@ use Rattle.first_pass_containers.proofs.Leaves.TitleLemmas.{ready_kept, away_lef
 use Rattle.first_pass_order.proofs.DefinitionsWhole.{title_begun_whole}
 use Rattle.first_pass_order.proofs.WholeKept.{IsReadWhole, list_finished_whole, kept_of, block_whole, added_text_whole}
 use Rattle.first_pass_blocks.proofs.LinkDefinitions.WrittenLemmas.{written_stay}
-use Rattle.first_pass_containers.proofs.StateAt.{IsAt}
+use Rattle.first_pass_containers.proofs.StateAt.{IsStateAtPlace}
 use Rattle.first_pass_blocks.specs.declared.definition.RunEnd.{RunEnd}
 
 pub leaf_plain : (d : Document) (defined : Tables) (r : PassState) (p : Place) (lines : List Place)
@@ -115,7 +115,7 @@ pub record RunRead (old mid : BlockPass) (p : Place) (following : RunEnd) : Type
       (tables_of (allocs_of mid)) following
 
 -- link reference definitions without a paragraph after them
-pub run_line : (old mid new : BlockPass) (p : Place) (line next : ℕ) → IsAt (source_text old) (state_of old) p
+pub run_line : (old mid new : BlockPass) (p : Place) (line next : ℕ) → IsStateAtPlace (source_text old) (state_of old) p
     → IsKind (source_options old) p.rest Paragraph → RunRead old mid p (NextLine line next) → source_of new ≡ source_of mid → allocs_of new ≡ allocs_of mid
     → state_of new ≡ list_finished line (state_of old) → ReadsLeaf old new p next
 run_line old mid new p line next is_at kind definitions source allocs state =
@@ -183,7 +183,7 @@ pub record ReadsText (old new : BlockPass) (p : Place) (at next : ℕ) : Type 0 
       → HasWholeTables (names_of (allocs_of new)) (tree_of new)
 
 -- the paragraph that follows them, or that begins there
-pub run_text : (old mid new : BlockPass) (p : Place) (at next : ℕ) → IsAt (source_text old) (state_of old) p
+pub run_text : (old mid new : BlockPass) (p : Place) (at next : ℕ) → IsStateAtPlace (source_text old) (state_of old) p
     → IsKind (source_options old) p.rest Paragraph → RunRead old mid p (TextAfter at) → source_of new ≡ source_of mid
     → NamesMore (allocs_of mid) (allocs_of new) → ReadsText old new p at next → ReadsLeaf old new p next
 run_text old mid new p at next is_at kind definitions source adds t =
@@ -220,7 +220,7 @@ run_text old mid new p at next is_at kind definitions source adds t =
     }
 
 -- a text that is added after a new block ended any list, at an offset
-module _ (old new : BlockPass) (p : Place) (ends at next : ℕ) (is_at : IsAt (source_text old) (state_of old) p)
+module _ (old new : BlockPass) (p : Place) (ends at next : ℕ) (is_at : IsStateAtPlace (source_text old) (state_of old) p)
     (kind : IsKind (source_options old) p.rest Paragraph) (none : (state_of new).begin_list_item ≡ None) (blank : (state_of new).blank ≡ false)
     (block : AddsText (document (source_text old) (source_options old) (names_of (allocs_of new))) at None (list_finished ends (state_of old)).tree
     (tree_of new) next)
@@ -272,7 +272,7 @@ module _ (old new : BlockPass) (p : Place) (ends at next : ℕ) (is_at : IsAt (s
       }
 
 -- a text that is not right after a definition
-pub plain_text : (old new : BlockPass) (p : Place) (at next : ℕ) → IsAt (source_text old) (state_of old) p
+pub plain_text : (old new : BlockPass) (p : Place) (at next : ℕ) → IsStateAtPlace (source_text old) (state_of old) p
     → IsKind (source_options old) p.rest Paragraph → is_after_definition (tree_of old) ≡ false
     → (state_of new).begin_list_item ≡ None → (state_of new).blank ≡ false
     → AddsText (document (source_text old) (source_options old) (names_of (allocs_of new))) at None (list_finished at (state_of old)).tree (tree_of new) next
@@ -310,7 +310,7 @@ is_paragraph_by (Some ParagraphBody) h = refl
 is_paragraph_by (Some b) h = cc
 
 -- a text right after a definition
-module _ (old new : BlockPass) (p : Place) (at next : ℕ) (is_at : IsAt (source_text old) (state_of old) p)
+module _ (old new : BlockPass) (p : Place) (at next : ℕ) (is_at : IsStateAtPlace (source_text old) (state_of old) p)
     (kind : IsKind (source_options old) p.rest Paragraph) (after : is_after_definition (tree_of old) ≡ true) (read : Forest Item) (is_forest : IsForest read)
     (block : AddsText (document (source_text old) (source_options old) (names_of (allocs_of new))) at None (tree_of old) read next)
     (fits : (from : ℕ) → from ≤ at → AddsBetween (source_text old) from next (tree_of old) read) where
@@ -423,7 +423,7 @@ module _ (old new : BlockPass) (p : Place) (at next : ℕ) (is_at : IsAt (source
   title_text q stands at_is is = title_by q stands at_is (is_paragraph_last read) refl is
 
 -- the text right after a definition, after link reference definitions or none
-pub run_title : (old mid new : BlockPass) (p : Place) (at next : ℕ) → IsAt (source_text old) (state_of old) p
+pub run_title : (old mid new : BlockPass) (p : Place) (at next : ℕ) → IsStateAtPlace (source_text old) (state_of old) p
     → IsKind (source_options old) p.rest Paragraph → RunRead old mid p (TextAfter at) → is_after_definition (tree_of mid) ≡ true
     → ReadsTitle mid new at next → ReadsLeaf old new p next
 run_title old mid new p at next is_at kind definitions after t =

@@ -20,7 +20,7 @@ use Rattle.first_pass_containers.proofs.Openings.HeadLemmas.{head_after_is, head
 use Rattle.first_pass_lists.proofs.NoEmptyItem.{footnote_begun_none}
 use Rattle.first_pass_blocks.proofs.Openings.FootnoteSteps.{passes_note}
 use Rattle.first_pass_containers.proofs.Order.OrderSteps.{unindented_later}
-use Rattle.first_pass_containers.proofs.StateAt.{IsAt}
+use Rattle.first_pass_containers.proofs.StateAt.{IsStateAtPlace}
 
 -- a footnote definition is open at an offset, with the length of its head as read
 abbrev pub IsRead : BlockPass → BlockPass → ℕ → ℕ × List ℕ → ℕ → Type 0
@@ -45,7 +45,7 @@ pub record HeadFound (pass : BlockPass) (p : Place) (start n : ℕ) (head : ℕ 
   pub some : 3 < n
 
 -- a footnote definition is open whose head was read
-pub footnote_opened : (old new : BlockPass) (p q : Place) (start n : ℕ) (head : ℕ × List ℕ) → IsAt (source_text old) (state_of old) p
+pub footnote_opened : (old new : BlockPass) (p q : Place) (start n : ℕ) (head : ℕ × List ℕ) → IsStateAtPlace (source_text old) (state_of old) p
     → source_of new ≡ source_of old → HeadFound old p start n head → IsRead old new start head n → IsAfterHead (source_of old) (start + n) q
     → TriesFootnote old new p q true
 footnote_opened old new p q start n head is_at same found read following =

@@ -35,9 +35,10 @@ use Rattle.first_pass_order.proofs.CountLemmas.{note_count}
 use Rattle.first_pass_order.proofs.NamedLemmas.{note_named}
 use Rattle.first_pass_order.proofs.WholeKept.{note_whole, more_whole}
 use Rattle.first_pass_ready.proofs.BegunLemmas.{no_table}
-use Rattle.first_pass_containers.proofs.StateAt.{IsAt}
+use Rattle.first_pass_containers.proofs.StateAt.{IsStateAtPlace}
 
-module _ (old new : BlockPass) (p q : Place) (head : ℕ × List ℕ) (is_at : IsAt (source_text old) (state_of old) p) (same : source_of new ≡ source_of old)
+module _ (old new : BlockPass) (p q : Place) (head : ℕ × List ℕ) (is_at : IsStateAtPlace (source_text old) (state_of old) p)
+    (same : source_of new ≡ source_of old)
     (opened : OpenedFootnote (offset (unindented p)) head old new)
     (begins : in_table (tree_of old).nodes (tree_of old).spine ≡ false → footnote_head_at (context_of (source_of old).options (tree_of old)) p ≡ Some head)
     (written : HeadAt (source_text old) (offset (unindented p)) head)

@@ -17,7 +17,7 @@ use Rattle.first_pass_blocks.specs.Runs.{ReadsRun}
 use Rattle.first_pass_blocks.proofs.Leaves.LeafAdded.{found_boundary}
 use Rattle.first_pass_blocks.proofs.Leaves.TextLemmas.{run_line, run_text, run_title, plain_text}
 use Rattle.first_pass_blocks.proofs.state.BlockPass.parse_definitions_or_text.Goals as goal
-use Rattle.first_pass_containers.proofs.StateAt.{IsAt}
+use Rattle.first_pass_containers.proofs.StateAt.{IsStateAtPlace}
 
 pub parse_definitions-requires-clause-boundary : goal.parse_definitions-requires-clause-boundary
 parse_definitions-requires-clause-boundary c = found_boundary _ _ _ c.requires.utf8 c.requires.place c.requires.at
@@ -34,7 +34,7 @@ returns-in-NextLine c =
     let nested = in_table r.tree.nodes r.tree.spine in
     let run = subst (ReadsRun text (context_in self) nested (unindented p) (tables_of self.allocs) (tables_of mid.allocs)) c.in-NextLine.is
     (e.run (unindented p) (ap (λ (q : Place). q.line) (sym c.place.view_is)) (sym c.requires.at) i) in
-    let here : IsAt text r p =
+    let here : IsStateAtPlace text r p =
     record { utf8 = c.requires.utf8; place = c.requires.place; forest = c.recall_forest.ensures; none = c.requires.no_empty } in
     run_line self mid _ p c.in-NextLine.line c.in-NextLine.next here c.requires.kind (record { kept = e.kept; run = run }) refl refl
     (c.finish_list.ensures ∙ ap (list_finished c.in-NextLine.line) e.kept.state)
@@ -63,7 +63,7 @@ returns-then-is_after_definition c =
     let nested = in_table r.tree.nodes r.tree.spine in
     let run = subst (ReadsRun text (context_in self) nested (unindented p) (tables_of self.allocs) (tables_of mid.allocs)) c.in-Paragraph.is
     (e.run (unindented p) (ap (λ (q : Place). q.line) (sym c.place.view_is)) (sym c.requires.at) i) in
-    let here : IsAt text r p =
+    let here : IsStateAtPlace text r p =
     record { utf8 = c.requires.utf8; place = c.requires.place; forest = c.recall_forest.ensures; none = c.requires.no_empty } in
     run_title self mid _ p c.in-Paragraph.text c.in_ok-next-in-Paragraph.next here c.requires.kind (record { kept = e.kept; run = run })
     (sym c.is_after_definition.ensures ∙ c.if-is_after_definition.true) c.in_ok-next-in-Paragraph.ensures
@@ -109,7 +109,7 @@ returns c =
     λ from before. subst (λ (z : PassState). AddsBetween text from next z.tree tree) done
     (subst (λ (z : Source). AddsBetween z.text.now from next ended.tree tree) e.kept.source (f.fits tt from before)) in
     let after = ap (λ (z : PassState). is_after_definition z.tree) (sym e.kept.state) ∙ sym c.is_after_definition.ensures ∙ c.if-is_after_definition.false in
-    let here : IsAt text r p =
+    let here : IsStateAtPlace text r p =
     record { utf8 = c.requires.utf8; place = c.requires.place; forest = c.recall_forest.ensures; none = c.requires.no_empty } in
     run_text self mid _ p at next here c.requires.kind (record { kept = e.kept; run = run }) refl f.more
     (plain_text self _ p at next here c.requires.kind after none blank block fits)
