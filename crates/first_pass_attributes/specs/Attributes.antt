@@ -54,7 +54,7 @@ with_words before ws = record {
   attrs = before.attrs ++ map key_and_value (filter gives_key ws);
 }
 
--- attributes with more than one class, or more than one key (this project)
+-- there is more than one class, or more than one key (this project)
 abbrev pub HasSeveral : Attributes → Type 0
 HasSeveral a = (1 < length a.classes) ⊎ (1 < length a.attrs)
 

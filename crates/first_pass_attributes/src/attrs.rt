@@ -162,7 +162,7 @@ pub struct HeadingAttributes<'a> {
 /// line endings separate its words, and words of one byte are ignored. `#install` is an id, and the last id counts.
 /// `.wide` is a class. Any other word is a key; its value, if any, is the part after its first `=`. The key and the
 /// value may be empty. Fails only if an allocation fails. With at most one class and at most one key, it allocates
-/// nothing, and doesn't fail (this project).
+/// nothing and does not fail (this project).
 #[inline(always)]
 pub fn parse_inside_attribute_block<'a>(
     alloc: Global,

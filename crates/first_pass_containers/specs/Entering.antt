@@ -21,7 +21,7 @@ use Rattle.first_pass_ready.specs.State.{NoMore, Ready}
 use Rattle.first_pass_order.specs.Ordered.{IsReadTo}
 use Rattle.first_pass_containers.specs.Positions.{LineAt, InLine, IsInLine, ReadsTo}
 
--- the state after this many open nodes are closed at an offset, the innermost first
+-- the state after this many open nodes are closed at an offset, the innermost first (CommonMark 5)
 unfoldable pub all_popped : ℕ → ℕ → PassState → PassState
 all_popped zero at r = r
 all_popped (suc n) at r = all_popped n at (popped at r)
@@ -39,7 +39,8 @@ pub record ClosesAt (old new : PassState) (kept ix : ℕ) : Type 0 where
   pub tables : (names : Names) → HasWholeTables names old.tree → HasWholeTables names new.tree
   pub all_kept : kept ≡ length old.tree.spine → new ≡ old
 
--- the place after the prefixes of the containers that the line at an offset continues, unless its rest is blank
+-- in the line at an offset, the place after the prefixes of the open containers that it continues, unless the rest of
+-- the line is blank (CommonMark 5)
 abbrev pub place_entered : Source → Forest Item → ℕ → Option Place
 place_entered source f start =
     let r = front (path_of source.options f) (line_rest (drop start source.text.now)) in

@@ -39,8 +39,8 @@ abbrev pub after_head : Bool → List ℕ → ℕ → Place × List Place
 after_head true text «end» = (head_end text «end», lines_from text (line_end (head_end text «end»)))
 after_head false text «end» = past_head false (head_end text «end») (lines_from text (line_end (head_end text «end»)))
 
--- Blocks continue at a place after such a head in a source; its line does not begin before the end of the head
--- (this project).
+-- Blocks continue at a place after a head that ends at an offset in a source. The line of that place does not begin
+-- before the end of the head (this project).
 pub record IsAfterHead (over : Source) («end» : ℕ) (q : Place) : Type 0 where
   pub place : IsPlaceOf over.text.now q
   pub boundary : IsCharBoundary over.text.now q.line

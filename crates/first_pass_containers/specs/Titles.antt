@@ -7,7 +7,7 @@ use Rattle.first_pass_grammar.specs.Before.{is_paragraph_body}
 use Rattle.first_pass_lists.specs.Closing.{current_body, title_begun, definitions_left}
 use Rattle.first_pass_lists.specs.declared.state.PassState.{PassState}
 
--- the end of the current node
+-- the end of the current node; 0 if there is none
 abbrev pub current_end : Forest Item → ℕ
 current_end f = option_map_or (λ x. x.«end») (option_and_then (item_at f) f.current) 0
 

@@ -66,10 +66,10 @@ pub fn enter_line<'a>(
     })
 }
 
-/// Skips blank lines from `start`, an offset into the text, as long as they leave the state unchanged: a counting blank
-/// line came before, they continue every open node, and no node ends at them. Returns the offset of the next unread
-/// line, or of the end of the text. It skips lines only if many containers are open, to save the walk over these; a
-/// caller may read the same lines by `enter_line`.
+/// Skips blank lines from `start`, an offset into the text, as long as they leave the state unchanged. Such a line
+/// follows a counting blank line and continues every open node, and no node ends at it. Returns the offset of the next
+/// unread line, or of the end of the text. It skips lines only if many containers are open, to save the walk over
+/// these; a caller may read the same lines by `enter_line`.
 pub fn read_blank_lines<'a>(state: &PassState, source: &Source<'a>, start: usize) -> usize
     requires { IsCharBoundary source.now.text.now start }
     ensures later { start ≤ result }
@@ -111,8 +111,7 @@ fn end_old_footnote<'a>(state: &mut PassState, source: &Source<'a>, start_ix: us
 }
 
 /// Returns `true` only if no column is owed, and the next byte is no space or tab and begins no container: no list
-/// item, block quote, definition or footnote definition. If a byte may begin one, returns `false` (CommonMark 5, and
-/// this project).
+/// item, block quote, definition or footnote definition. `false` promises nothing (CommonMark 5, and this project).
 #[inline(always)]
 pub fn begins_no_container<'a>(rest: &LineStart<'a>) -> bool
     ensures { result ≡ true → BeginsNoContainer rest.now }
@@ -128,10 +127,10 @@ pub fn may_define(source: &Source<'_>, state: &PassState) -> bool
     source.options.contains(Options::ENABLE_DEFINITION_LIST) && state.may_begin_definition()
 }
 
-/// Opens a container that begins in the line of a place, which is after its marker. Also opens the list that it needs.
-/// If the line ends after the marker of an item or a definition, it is empty up to the end of that line; then the
-/// marker of its task, if it has one, is its only child. Fails only if an allocation fails (CommonMark 5, GFM 5.3, and
-/// this project).
+/// Opens a container, and the list that it needs. `place` is after its marker, in the line in which it begins. If that
+/// line ends after the marker of an item or a definition, the container is recorded as empty so far; the marker of its
+/// task, if it has one, is then its only child. Fails only if an allocation fails (CommonMark 5, GFM 5.3, and this
+/// project).
 #[inline(always)]
 pub fn open_start<'a>(
     state: &mut PassState,

@@ -35,9 +35,9 @@ pub fn footnote_mark<'a>(source: &Source<'a>, place: &Place<'a>) -> Option<usize
     Some(next.offset())
 }
 
-/// Returns the place where blocks continue after the head of a footnote definition: at its end, the offset `end` into
-/// the text; in the old form, if the rest of that line is blank and another line follows, at the start of the next line
-/// (this project).
+/// Returns the place where blocks continue after the head of a footnote definition, which ends at `end`, an offset into
+/// the text. It is at `end`. In the old form, if the rest of that line is blank and another line follows, it is at the
+/// start of that other line (this project).
 pub fn place_after_head<'a>(source: &Source<'a>, end: usize) -> Place<'a>
     requires utf8 { IsUtf8 source.now.text.now }
     requires boundary { IsCharBoundary source.now.text.now end }
@@ -51,8 +51,8 @@ pub fn place_after_head<'a>(source: &Source<'a>, end: usize) -> Place<'a>
     }
 }
 
-// The number of bytes that are skipped after the head of a footnote definition, which ends at the offset `end`: in the
-// old form a blank rest of its line with the line ending, if a line follows.
+// The number of bytes that are skipped after the head of a footnote definition, which ends at the offset `end`. In the
+// old form it is that of a blank rest of the line, with its line ending, if another line follows. Otherwise it is 0.
 fn skipped_rest(source: &Source<'_>, end: usize) -> usize
     requires { end ≤ length source.now.text.now }
     ensures { result ≡ (if gfm_footnotes source.now.options

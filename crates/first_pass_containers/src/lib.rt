@@ -1,6 +1,6 @@
 //! The containers of the block pass: how far a line continues those that are open, and which begin in it
-//! (CommonMark 5). Its lemmas: a line that is entered, a container that opens and a leaf block that is added keep the
-//! state of the pass the beginning of a derivation.
+//! (CommonMark 5). Its lemmas: the state of the pass still begins a derivation after a line is entered, a container is
+//! opened or a leaf block is added.
 #![tactic(auto)]
 
 pub mod containers;

@@ -31,9 +31,9 @@ use std::boxed::BoxedStr;
 const DEEPEST_NESTING: usize = 32;
 
 /// Reads the part of a definition after its colon, from the offset `start` into the text on. The colon is directly
-/// before `start`. The part is white space, a destination, and optionally white space and a title. Each white space may
-/// have one line ending. Returns its number of bytes from `start` on, and the definition, whose destination and title
-/// are unescaped. Its span begins at `span_start`, and its label ends two bytes before `start`.
+/// before `start`. The part is white space, a destination, and optionally white space and a title. White space may
+/// include one line ending. Returns its number of bytes from `start` on, and the definition, whose destination and
+/// title are unescaped. Its span begins at `span_start`, and its label ends two bytes before `start`.
 ///
 /// Returns `None` if there is no destination. Also returns `None` if something other than white space or a line ending
 /// directly follows it, or if neither a title nor a blank rest of its line follows it. Fails only if an allocation
@@ -50,7 +50,7 @@ pub fn scan_refdef<'a>(
         (target_at (context_of source.now.options tree.now) (drop start source.now.text.now)) (answer ≡ None)
         (λ target. IsSomeAnd answer (IsTarget (in_table tree.now.nodes tree.now.spine) span_start start target))) }
     ensures fits { IfOk result (λ answer. IfSome answer (λ part. IsCharBoundary source.now.text.now (start + part.0))) }
-    ensures places { IfOk result (λ answer. IfSome answer (λ found. AreInOrder source.now.text.now start found.1)) }
+    ensures places { IfOk result (λ answer. IfSome answer (λ part. AreInOrder source.now.text.now start part.1)) }
     ensures err { OnErr result (TargetAsks (in_table tree.now.nodes tree.now.spine)
         (context_of source.now.options tree.now) (drop start source.now.text.now)) }
 {

@@ -209,7 +209,7 @@ module _ (text : List ℕ) (options : Options) where
     ends = λ top h. all_taken_at options l.before from lines left (subst (λ p. next_block options (level p l.before) from lines ≡ Ends left) top is) h;
   }
 
-  -- At most this is left where blocks are looked for, and there are blocks from each place on where less is left.
+  -- At most this much of the text is left. From each place with less left, blocks are found.
   record LessIsFound (from : Continues) (lines : List Place) : Type 0 where
     most_lines : ℕ
     most_reach : ℕ

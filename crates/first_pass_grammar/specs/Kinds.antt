@@ -162,7 +162,7 @@ interrupts_in around c bs =
     || (footnote_interrupts around.options false bs || (definition_interrupts around.options c.at_definition bs || table_interrupts around bs))
 
 -- A line at fewer than four columns ends the paragraph before it if its text interrupts. A line at four columns or more
--- does so only if all its bytes are spaces and tabs.
+-- does so only if it has only spaces and tabs, and perhaps a line ending.
 unfoldable pub interrupts : Context → Continued → Rest → Bool
 interrupts around c r = if nat_lt (indent r) 4 then interrupts_in around c (all_taken r).left else at_line_end (all_taken r).left
 

@@ -96,7 +96,7 @@ unfoldable pub first_name_len : List (List ℕ) → List ℕ → ℕ
 first_name_len [] bs = 0
 first_name_len (name ∷ names) bs = if begins_with_name name bs then length name else first_name_len names bs
 
--- n is the length of the longest name of a block, in any case, with which the bytes begin; 0 if there is none
+-- n is the length of the longest name of a block with which the bytes begin, whatever its case; 0 if there is none
 -- (CommonMark 4.6, start condition 6)
 pub record IsLongestName (bs : List ℕ) (n : ℕ) : Type 0 where
   pub within : n ≤ length bs

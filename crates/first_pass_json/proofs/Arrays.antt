@@ -1,4 +1,4 @@
--- Arrays of values that are seen as others.
+-- An array of values is the array of what contracts see of them.
 use Rattle.std.proofs.Common.{◌≡◌, ℕ, List, [], ◌∷◌, ◌++◌, map, codes, refl, ap}
 use Rattle.first_pass_json.specs.JsonValues.{after_commas, array}
 

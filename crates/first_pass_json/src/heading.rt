@@ -74,7 +74,7 @@ impl ArrayValue for &str {
     }
 }
 
-// A key and its value: an array of two, where `null` means that there is no value.
+// A key and its value: an array of two, whose second element is `null` if there is no value.
 impl ArrayValue for (&str, Option<&str>) {
     ghost form = { λ attribute. pair (pair_in attribute) };
 

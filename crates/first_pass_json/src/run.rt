@@ -15,9 +15,8 @@ use first_pass_tree::forest::Tree;
 use std::alloc::Global;
 use std::io::Write;
 
-/// The lines of the program `tree`: one of JSON for each node of the tree of a text's blocks, in reading order. Then
-/// it has one for each link definition, and one for each footnote's label, both in the byte order of their folded
-/// labels.
+/// The lines of the program `tree`, in JSON: one for each node of the tree of a text's blocks, in reading order, then
+/// one for each link definition, and one for each footnote's label, both in the byte order of their folded labels.
 pub struct JsonTree;
 
 impl TreeLines for JsonTree {

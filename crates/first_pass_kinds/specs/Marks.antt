@@ -1,4 +1,4 @@
--- First bytes with which a line interrupts a paragraph at most as a table, a footnote definition or a definition.
+-- First bytes with which a line can interrupt a paragraph only as a table, a footnote definition or a definition.
 use Rattle.std.specs.Prelude.{ℕ, ◌==◌, ◌||◌, not, Bool, false, List, [], ◌∷◌}
 use Rattle.std.specs.Char.{is_ascii_digit}
 use Rattle.first_pass_items.specs.Bytes.{number_sign, less_than, greater_than, backquote, tilde}

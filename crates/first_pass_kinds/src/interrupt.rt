@@ -78,8 +78,8 @@ pub fn interrupts_by_standard(bytes: &[u8], current_container: bool) -> bool
     interrupts_by_scanners(bytes, current_container)
 }
 
-// Whether there is a first byte with which a line interrupts a paragraph at most as a table, a footnote definition or a
-// definition.
+// Whether `bytes` begins with a byte with which a line can interrupt a paragraph only as a table, a footnote definition
+// or a definition.
 #[inline(always)]
 #[tactic(auto, unfolding(crate::specs::Marks::cannot_interrupt_by_standard))]
 fn begins_no_interruption_by_standard(bytes: &[u8]) -> bool
@@ -246,7 +246,7 @@ fn scan_unindented<'a>(source: &Source<'a>, tree: &Tree<Item>, start: usize) -> 
 
 /// Returns the role of a line that follows paragraph text. The line begins at the offset `start`. It is an underline
 /// only if it continues all open containers. It is no line of the paragraph text if it interrupts a paragraph. With
-/// definition lists, neither is a line that continues all open containers and begins with a `:` at fewer than four
+/// definition lists, it is also none if it continues all open containers and begins with a `:` at fewer than four
 /// columns. Otherwise it is one more line, no matter which open containers it continues (CommonMark 4.3, 4.8, 5.1).
 /// Fails only if an allocation fails, which can happen only if the line may head a table.
 #[tactic(auto, unfolding(first_pass_grammar::specs::Kinds::interrupts, first_pass_grammar::specs::Kinds::underline_of))]
@@ -291,8 +291,8 @@ pub fn scan_next_line(
     Ok(NextLine::More(start + text.rest.bytes_scanned()))
 }
 
-// Whether, with definition lists, a line with this front ends paragraph text before it: the `:` of a definition begins
-// its rest (this project).
+// Whether, with definition lists, a line with this front ends the paragraph text before it. It continues all open
+// containers, and a `:` begins its rest at fewer than four columns (this project).
 #[inline(always)]
 fn ends_by_colon(front: &UnindentedFront<'_>, options: Options) -> bool
     ensures { result ≡ (has options definition_list

@@ -1,4 +1,4 @@
--- From the mask of one load to the bytes that fail a test.
+-- The mask of one load has a bit for each byte that fails a test.
 use Rattle.std.proofs.Common.{◌≡◌, ℕ, ◌+◌, ◌%◌, ◌^◌, ◌<◌, ◌≤◌, ◌==◌, Bool, true, false, not, cond, List, map, length}
 use Rattle.std.proofs.Common.{get_or, Fits, w8, refl, sym, ap, ◌∙◌, subst, arith}
 use Rattle.std.proofs.lemmas.Bool.{agree_below, agree_below_at}

@@ -1,10 +1,10 @@
--- Bytes with which only a paragraph begins, unless later lines turn it into a table or a setext heading.
+-- Bytes with which only paragraph text or a header row begins, and bytes with which no list item or block quote does.
 use Rattle.std.specs.Prelude.{ℕ, ◌==◌, ◌||◌, not, nat_le, Bool, false, List, [], ◌∷◌}
 use Rattle.std.specs.Char.{is_ascii_alphabetic, is_ascii_digit}
 use Rattle.first_pass_items.specs.Bytes.{tab, space, asterisk, plus_sign, hyphen, greater_than, ascii_end}
 
--- an ASCII letter or a non-ASCII byte: it is no white space, and a block that begins with it is a paragraph, a table or
--- a setext heading (this project)
+-- an ASCII letter or a non-ASCII byte: it is no white space, and a block that begins with it is a paragraph, a table, a
+-- setext heading or the title of a definition list (this project)
 unfoldable pub is_plain : ℕ → Bool
 is_plain b = is_ascii_alphabetic b || nat_le ascii_end b
 

@@ -48,8 +48,8 @@ pub fn begins(byte: u8, bytes: &[u8]) -> bool
     }
 }
 
-/// Returns whether `bytes` begins with an ASCII letter or a non-ASCII byte. Only a paragraph begins with such a byte,
-/// unless later lines turn it into a table or a setext heading.
+/// Returns whether `bytes` begins with an ASCII letter or a non-ASCII byte. A block that begins with such a byte is a
+/// paragraph, unless later lines turn it into a table, a setext heading or the title of a definition list.
 #[inline(always)]
 #[tactic(auto, unfolding(crate::specs::Plain::is_plain))]
 pub fn is_plain_front(bytes: &[u8]) -> bool

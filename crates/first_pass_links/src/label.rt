@@ -175,8 +175,8 @@ where
     Ok(Some(kept_unit(at + 1, begun_characters(bytes[at]), true)))
 }
 
-// The run of white space and line endings at an offset, across the prefixes after these line endings: its end, and its
-// number of characters. `None` if the label may not continue.
+// The run of white space and line endings at an offset, across the prefixes of the lines in it: its end, and its number
+// of characters. `None` if the label may not continue.
 fn scan_white_run<F>(
     bytes: &[u8],
     at: usize,
@@ -306,8 +306,8 @@ fn dropped_unit(next: usize, characters: usize, dropped: usize) -> Unit
     }
 }
 
-// If a unit leaves bytes out, writes the bytes from `from` up to those, and then their replacement. Returns the offset
-// of the first byte that is not yet written.
+// If a unit leaves bytes out, writes the bytes from `from` up to the first of these, and then their replacement.
+// Returns the offset of the first byte that is not yet written.
 #[inline(always)]
 fn write_unit(
     written: &mut String,

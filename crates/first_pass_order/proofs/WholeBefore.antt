@@ -40,7 +40,7 @@ container_shows names depth place w f rows list silent whole =
     let still = silent_rendered depth f.«end» w.nodes w.list rows place list silent in
     (more, marks_ended names (rendered depth f.«end» w.nodes w.list rows) place f.«end» still ∙ shows)
 
--- Blocks are read on from lines of the text, after no part of a table.
+-- Reading continues at these lines of the text, and not after a part of a table.
 record PlainStart (text : List ℕ) : Type 0 where
   from : Continues
   lines : List Place

@@ -125,7 +125,7 @@ split_nodes (n ∷ nodes) (x ∷ xs) ys e =
     let (kids, next, is, a, b) = split_nodes nodes xs ys rest in
     (n ∷ kids, next, ap (λ z. n ∷ z) is, ap (λ z. z ∷ extents kids) first ∙ ap (λ z. x ∷ z) a, b)
 
--- A node is the first of a row, with this extent. After it are its descendants, all deeper, and then further nodes.
+-- The first node of a row has this extent. Its descendants follow it, all deeper, and then further nodes.
 record FirstOfRow (depth : ℕ) (x : Ranged) (n : ℕ × Item) (nodes : List (ℕ × Item)) : Type 0 where
   kids : List (ℕ × Item)
   next : List (ℕ × Item)

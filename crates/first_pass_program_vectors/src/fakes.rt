@@ -274,8 +274,8 @@ fn odd_at_each_write(
     Ok(whole.writes)
 }
 
-/// Makes each write in turn odd, in each way, in a run without options. Writes have at most `step` bytes. Nothing
-/// flushes the writer, which would fail. Returns the number of writes.
+/// Makes each write in turn odd, in each way, in a run without options. Writes have at most `step` bytes. To flush the
+/// writer would fail, and no program does. Returns the number of writes.
 pub fn fail_each_write(
     rt: &(impl Abort + AllocGlobal),
     program: Program,

@@ -20,7 +20,7 @@ fn long_text(alloc: Global) -> Result<Vec<u8>, AllocError> {
     Ok(text)
 }
 
-// The writer after a run without options, for a text that is read `step` bytes at a time. Writes have as many bytes.
+// The writer after a run without options, for a text that is read and written at most `step` bytes at a time.
 fn written(
     rt: &(impl Abort + AllocGlobal),
     text: &[u8],

@@ -15,9 +15,9 @@ use first_pass_tree::forest::Tree;
 use std::alloc::{AllocError, Global};
 use std::io::Write;
 
-/// The lines of the program `links`: one for each link definition of a text, in the byte order of their folded labels.
-/// Then it has one for each footnote definition and each reference, in reading order. A reference is a pair of brackets
-/// whose label has a link definition; it may be neither a link nor an image.
+/// The lines of the program `links`: one for each link definition of a text, in the byte order of their folded labels,
+/// then one for each footnote definition and each reference, in reading order. A reference is a pair of brackets whose
+/// label has a link definition; it may be neither a link nor an image.
 pub struct ListedLinks;
 
 impl TreeLines for ListedLinks {

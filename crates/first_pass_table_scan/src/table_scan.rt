@@ -176,8 +176,8 @@ pub fn scan_table_head(alloc: Global, bytes: &[u8]) -> Result<(usize, Vec<Alignm
     }
 }
 
-// The number of pipes of a header row, without the pipe that begins the row after white space, if there is one. `pipes`
-// is the number with it.
+// The number of pipes of a header row, except one that begins the row, perhaps after white space. `pipes` is the number
+// of all of them.
 fn without_first_pipe(row: &[u8], pipes: usize) -> usize
     requires { 1 ≤ pipes }
     ensures { result ≡ pipes - (if begins pipe (drop (prefix_len is_white row.now) row.now) then 1 else 0) }

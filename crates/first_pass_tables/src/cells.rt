@@ -43,13 +43,13 @@ pub fn cell_start(bytes: &[u8], at: usize) -> usize
 pub struct CellStart {
     pub at: usize,
     pub content: usize,
-    /// The length of the line ending at the start of the content, if there is one: the row then ends, and has no cell
-    /// here.
+    /// If the row ends at the start of the content, and has no cell here: the length of the line ending there, or 0 at
+    /// the end of the text.
     pub eol: Option<usize>,
 }
 
-/// Returns the start of the cell at the offset `at` into `bytes`, and the start of its content after the white space
-/// there (GFM 4.10).
+/// Returns the start of the cell at the offset `at` into `bytes`, the start of its content after the white space there,
+/// and whether the row ends there instead (GFM 4.10).
 #[inline(always)]
 pub fn cell_at(bytes: &[u8], at: usize) -> CellStart
     requires { at ≤ length bytes.now }
@@ -76,7 +76,7 @@ pub fn cell_at(bytes: &[u8], at: usize) -> CellStart
     }
 }
 
-// The start of a cell and that of its content, at which the row does not end.
+// The starts of a cell and of its content, if the row does not end there.
 #[inline(always)]
 fn start_in_row(at: usize, content: usize) -> CellStart
     ensures { result ≡ record { at = at; content = content; eol = None } }

@@ -103,8 +103,8 @@ fn trailing_white(bytes: &[u8]) -> usize
     bytes.iter().rev().take_while(|b| is_white(**b)).count()
 }
 
-// The number of bytes of white space that are cut off with the attribute block of a setext heading, which they precede.
-// It is 0 if a backslash breaks the last line of the heading's text.
+// The number of bytes of white space before the attribute block of a setext heading that are cut off with it; 0 if a
+// backslash breaks the last line of the heading's text.
 fn white_at_cut(content: &[u8], broken: bool) -> usize
     ensures value { result ≡ (if broken then 0 else suffix_len is_white content.now) }
     ensures within { result ≤ length content.now }

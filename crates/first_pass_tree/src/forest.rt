@@ -297,8 +297,8 @@ impl Tree<Item> {
         self.move_from(ix.0);
     }
 
-    // Moves the nodes from `index` on, which are all below the current node, one level up. The last node of
-    // the current node's depth becomes current.
+    // Moves the nodes from `index` on, which are all below the current node, one level up. The last node of the current
+    // node's depth becomes current.
     fn move_from(&mut self, index: usize)
         requires { CanMoveFrom self.old index }
         ensures { self.new ≡ moved_from self.old index }

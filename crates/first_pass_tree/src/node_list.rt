@@ -27,7 +27,7 @@ pub(crate) fn wrap(
     depth: usize,
     item: Item,
 ) -> Result<(), AllocError>
-    requires place_in { index ≤ length nodes.old.items }
+    requires within { index ≤ length nodes.old.items }
     requires small { IsShallow (depths nodes.old.items) }
     ensures ok { OnOk result
         (nodes.new.items ≡ take index nodes.old.items

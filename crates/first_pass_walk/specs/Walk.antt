@@ -77,8 +77,8 @@ pub record AreWordStops (bytes : List ℕ) (at n mask : ℕ) : Type 0 where
   pub within : mask < 2 ^ n
   pub stops : (k : ℕ) → k < n → is_passed (slice_index bytes (at + k)) ≡ (bit_at mask k == 0)
 
--- j is the offset of the first marked byte whose bit is set; bit k is that of the byte k places after an offset
--- (this project)
+-- j is the offset of the first marked byte among those whose bit is set; bit k is that of the byte at `at + k` (this
+-- project)
 pub record IsFirstStop (lut : List Bool) (bytes : List ℕ) (at mask j : ℕ) : Type 0 where
   pub from : at ≤ j
   pub within : j < length bytes

@@ -123,15 +123,15 @@ fn first_in_lanes(lut: &[bool; 256], bytes: &[u8], at: usize) -> Option<usize>
     None
 }
 
-// Which of the 16 bytes from the offset `at` on are not NUL, a letter, a space or a byte beyond ASCII: a bit for each
-// byte, the lowest for the first.
+// Which of the 16 bytes from the offset `at` on are ASCII, but no NUL, letter or space: a bit for each byte, the lowest
+// for the first.
 #[inline(always)]
 fn word_stops(bytes: &[u8], at: usize) -> u64
     requires { at + 16 ≤ length bytes.now }
     ensures { AreWordStops bytes.now at 16 result }
 {
     let lanes = u8x16::from_slice(&bytes[at..]);
-    // A letter becomes a small one. A space stays a space, and a byte beyond ASCII stays beyond it.
+    // A letter becomes a small letter. NUL and a space become a space. A byte beyond ASCII stays beyond ASCII.
     let small = lanes | u8x16::splat(0x20);
     let after_space = (small - u8x16::splat(b'!')).simd_lt(u8x16::splat(0x80 - b'!'));
     let no_letter = (small - u8x16::splat(b'a')).simd_ge(u8x16::splat(26));

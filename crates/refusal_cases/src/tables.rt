@@ -161,8 +161,8 @@ impl Entry {
         }
     }
 
-    // Adds such an entry with this word, and returns what the call returned: whether its index, if it has one, is this.
-    // Fails if an allocation of the test itself fails.
+    // Adds such an entry with this word. Returns the error of the call, or whether the index that it returned is `at`;
+    // true if it returns none. Fails if an allocation of the test itself fails.
     fn add(
         self,
         alloc: Global,

@@ -62,7 +62,7 @@ fn tokens_of(call: &Call<'_>, row: bool) -> Result<Tree<Item>, AllocError> {
     Ok(tree)
 }
 
-/// The ends of the token and of the content of the cell whose content is at the start of the text.
+/// Appends the end of the token of a plain cell and that of its content, which begins at the start of the text.
 fn append_plain_cell(call: &Call<'_>, answer: &mut Answer) -> Result<(), AllocError> {
     let options = options_of(call.given.number(0));
     let special = special_bytes(&options);

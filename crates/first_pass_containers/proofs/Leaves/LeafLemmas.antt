@@ -172,8 +172,8 @@ run_ready d defined f q xs left is =
           (append-nil f.nodes) is.completes;
     }
 
--- A leaf block begins at the place of a state: it is the one that a kind opens there. As a new block it ends an innermost
--- list at an offset. No item is empty.
+-- A leaf block begins at the place of a state: it is the one that a kind opens there. If a list is innermost, the block
+-- ends it at an offset. No item is empty.
 pub record LeafBegins (d : Document) (r : PassState) (p : Place) (left : List Place) (at : ℕ) (block : LeafBlock) : Type 0 where
   pub forest : IsForest r.tree
   pub none : r.begin_list_item ≡ None
@@ -184,8 +184,8 @@ pub record LeafBegins (d : Document) (r : PassState) (p : Place) (left : List Pl
   pub away : (is_paragraph block.kind ≡ false → begins_paragraph block.items ≡ false)
       → EndsListAt at (top_body r.tree) (closed_in r.tree) (OpensLeaf (Block block) Line left)
 
--- A block is added to a tree: a state has its items as last nodes, and whether a blank line at its end counts. No item is
--- empty.
+-- A block was added to a tree: its items are the last nodes of a state, which records whether a blank line at the end
+-- of the block counts. No item is empty.
 pub record BlockAdded (old : Forest Item) (new : PassState) (items : List (ℕ × Item)) (gap : Bool) : Type 0 where
   pub tree_is : new.tree ≡ added old items
   pub none : new.begin_list_item ≡ None

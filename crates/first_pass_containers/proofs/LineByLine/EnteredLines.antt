@@ -74,7 +74,7 @@ blank_line_read options text r at u b h nested plain =
     read_blank_read text r (offset (place_at at h.rest)) (at + line_len (drop at text)) (omega arith) within
     (ordered_none text r (offset (place_at at h.rest)) h.none (omega arith) h.ordered, tree_closes text r.tree (offset (place_at at h.rest)) nested plain)
 
--- A line is entered after the containers that it does not continue were closed: a blank line is read,
+-- A line is entered after the containers that it does not continue were closed. If it is blank, it is read.
 pub ordered_blank_line : (options : Options) (text : List ℕ) (old closed : PassState) (at : ℕ) → IsUtf8 text → at < length text → IsCharBoundary text at
     → (IsReadTo text old at → IsReadTo text closed at)
     → (IsOrderedAtBlankLine options text old at → (in_old_footnote (path_of options old.tree) ≡ true → old.blank ≡ false) → closed ≡ old)
@@ -85,7 +85,7 @@ ordered_blank_line options text old closed at u w b closes same (inl o) =
 ordered_blank_line options text old closed at u w b closes same (inr (h, nested, plain, uncounted)) =
     subst (λ r. IsReadTo text (blank_read r) (at + line_len (drop at text))) (sym (same h uncounted)) (blank_line_read options text old at u b h nested plain)
 
--- and before any other line, at which no block has ended in this way, an empty item that blank lines ended is closed.
+-- Before any other line, at which no block has ended in this way, an empty item that blank lines ended is closed.
 pub ordered_other_line : (options : Options) (text : List ℕ) (old closed : PassState) (at : ℕ) → (IsReadTo text old at → IsReadTo text closed at)
     → (IsOrderedAtBlankLine options text old at → ⊥) → IsReadFrom options text old at → OrderedUpTo text (empty_item_closed closed).tree at
 ordered_other_line options text old closed at closes none (inl o) =

@@ -18,23 +18,28 @@ first_at_stops-requires-clause-within c k set = omega (arith, bit_below c.word_s
 
 pub returns-in-Some-first_at_stops-clause-found : goal.returns-in-Some-first_at_stops-clause-found
 returns-in-Some-first_at_stops-clause-found c =
-    first_is_next c.args.lut.now c.args.bytes.now c.loop-next.next 16 c.word_stops-stops.result (spares_passed c.args.lut.now c.if-lut-offset0.false c.requires) c.word_stops-stops.ensures
+    let spares = spares_passed c.args.lut.now c.if-lut-offset0.false c.requires in
+    first_is_next c.args.lut.now c.args.bytes.now c.loop-next.next 16 c.word_stops-stops.result spares c.word_stops-stops.ensures
     c.args.ix c.in-Some-first_at_stops.at c.loop-next.invariant.from c.loop-next.invariant.none c.in-Some-first_at_stops.ensures.found
 
 -- no byte of a load without stops is marked
 pub loop-next-preserved-then-stops-eq0 : goal.loop-next-preserved-then-stops-eq0
-loop-next-preserved-then-stops-eq0 c = record {
-  from = omega arith;
-  none = none_marked c.args.lut.now c.args.bytes.now c.loop-next.next 16 c.word_stops-stops.result (spares_passed c.args.lut.now c.if-lut-offset0.false c.requires) c.word_stops-stops.ensures c.args.ix
-      c.loop-next.invariant.none (λ k set. absurd (omega (arith, set, ap (λ n. bit_at n k) c.if-stops-eq0.true, bit_at-zero k)));
-}
+loop-next-preserved-then-stops-eq0 c =
+    let spares = spares_passed c.args.lut.now c.if-lut-offset0.false c.requires in
+    record {
+      from = omega arith;
+      none = none_marked c.args.lut.now c.args.bytes.now c.loop-next.next 16 c.word_stops-stops.result spares c.word_stops-stops.ensures c.args.ix
+          c.loop-next.invariant.none (λ k set. absurd (omega (arith, set, ap (λ n. bit_at n k) c.if-stops-eq0.true, bit_at-zero k)));
+    }
 
 pub loop-next-preserved : goal.loop-next-preserved
-loop-next-preserved c = record {
-  from = omega arith;
-  none = none_marked c.args.lut.now c.args.bytes.now c.loop-next.next 16 c.word_stops-stops.result (spares_passed c.args.lut.now c.if-lut-offset0.false c.requires) c.word_stops-stops.ensures c.args.ix
-      c.loop-next.invariant.none c.in-None-first_at_stops.ensures.none;
-}
+loop-next-preserved c =
+    let spares = spares_passed c.args.lut.now c.if-lut-offset0.false c.requires in
+    record {
+      from = omega arith;
+      none = none_marked c.args.lut.now c.args.bytes.now c.loop-next.next 16 c.word_stops-stops.result spares c.word_stops-stops.ensures c.args.ix
+          c.loop-next.invariant.none c.in-None-first_at_stops.ensures.none;
+    }
 
 -- the last load
 pub first_at_stops-requires-2-clause-within : goal.first_at_stops-requires-2-clause-within
@@ -44,20 +49,22 @@ first_at_stops-requires-2-clause-within c k set =
 
 pub returns-clause-found : goal.returns-clause-found
 returns-clause-found c =
+    let spares = spares_passed c.args.lut.now c.if-lut-offset0.false c.requires in
     let next : ℕ = c.loop-next.next in
     let last : ℕ = length c.args.bytes.now - 16 in
     let stops = tail_stops c.args.bytes.now next last c.word_stops.result (omega arith) (omega arith) c.word_stops.ensures in
     if_some c.first_at_stops-2.result
-    (λ j. first_is_next c.args.lut.now c.args.bytes.now next (last + 16 - next) (c.word_stops.result / 2 ^ (next - last)) (spares_passed c.args.lut.now c.if-lut-offset0.false c.requires) stops
+    (λ j. first_is_next c.args.lut.now c.args.bytes.now next (last + 16 - next) (c.word_stops.result / 2 ^ (next - last)) spares stops
     c.args.ix j c.loop-next.invariant.from c.loop-next.invariant.none)
     c.first_at_stops-2.ensures.found
 
 pub returns-clause-none : goal.returns-clause-none
 returns-clause-none c =
+    let spares = spares_passed c.args.lut.now c.if-lut-offset0.false c.requires in
     let next : ℕ = c.loop-next.next in
     let last : ℕ = length c.args.bytes.now - 16 in
     let stops = tail_stops c.args.bytes.now next last c.word_stops.result (omega arith) (omega arith) c.word_stops.ensures in
     if_none c.first_at_stops-2.result
-    (λ none k from less. none_marked c.args.lut.now c.args.bytes.now next (last + 16 - next) (c.word_stops.result / 2 ^ (next - last)) (spares_passed c.args.lut.now c.if-lut-offset0.false c.requires) stops
+    (λ none k from less. none_marked c.args.lut.now c.args.bytes.now next (last + 16 - next) (c.word_stops.result / 2 ^ (next - last)) spares stops
     c.args.ix c.loop-next.invariant.none none k from (omega (arith, less)))
     c.first_at_stops-2.ensures.none
