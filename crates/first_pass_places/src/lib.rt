@@ -9,5 +9,3 @@ pub mod footnotes;
 pub mod info_string;
 pub mod laws;
 pub mod name;
-#[cfg(test)]
-mod tests;

@@ -1,11 +1,11 @@
 //! The ranges of the attributes of a heading, and the labels and the nodes of two footnotes.
 
-use crate::attributes::{AttributeKind, attribute_ranges};
-use crate::footnote_label::footnote_label_range;
-use crate::footnotes::footnote_nodes;
 use first_pass_items::cow_str::CowStr;
 use first_pass_items::item::{HeadingIndex, HeadingLevel, Item, ItemBody};
 use first_pass_names::items::Allocations;
+use first_pass_places::attributes::{AttributeKind, attribute_ranges};
+use first_pass_places::footnote_label::footnote_label_range;
+use first_pass_places::footnotes::footnote_nodes;
 use std::test::Fail;
 
 // An id, a class, and a key with a value.
