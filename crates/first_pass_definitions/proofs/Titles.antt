@@ -1,11 +1,11 @@
 -- Titles line by line.
 use Rattle.std.proofs.Common.{◌≡◌, ◌⊎◌, inl, inr, ℕ, suc, ◌+◌, ◌-◌, ◌<◌, ◌≤◌, ◌==◌, ◌&&◌, ◌||◌, Bool, true, false, List, [], ◌∷◌, ◌++◌, length, take, drop}
 use Rattle.std.proofs.Common.{slice_index, slice_get, IsUtf8, MatchOption, IsSomeAnd, length-drop, Option, Some, None, refl, sym, ap, subst, ◌∙◌, arith}
-use Rattle.std.proofs.Common.{append_assoc, IsCharBoundary, if◌then◌else◌}
+use Rattle.std.proofs.Common.{append_assoc, IsCharBoundary, zero, get_or, if◌then◌else◌}
 use Rattle.std.specs.Bool.{⊤}
 use Rattle.std.proofs.lemmas.Bool.{eqb-true}
 use Rattle.std.proofs.lemmas.Bool.Decides.{nat_tests}
-use Rattle.std.proofs.lemmas.List.{drop-drop, drop_more, append-nil}
+use Rattle.std.proofs.lemmas.List.{drop-drop, drop_more, append-nil, get_or-drop}
 use Rattle.std.specs.Option.{option_map, option_and_then}
 use Rattle.std.specs.List.{list_any}
 use Rattle.std.specs.Char.{is_ascii_punctuation}
@@ -17,11 +17,12 @@ use Rattle.first_pass_links.specs.Escapes.{begins_escape}
 use Rattle.first_pass_links.specs.Destinations.{unescaped_upto}
 use Rattle.first_pass_links.specs.Labels.{joined, bytes_of, offsets_of}
 use Rattle.first_pass_links.specs.Units.{part}
-use Rattle.first_pass_links.proofs.Destinations.{upto-nil, upto-stop, upto-byte, upto-escape}
+use Rattle.first_pass_links.proofs.Destinations.{upto-nil, upto-stop, upto-byte, upto-escape, upto_unit}
+use Rattle.first_pass_links.proofs.PlainRuns.{no_escape as no_escape_at}
 use Rattle.std.proofs.lemmas.Str.{IsCharBoundary-after_ascii}
 use Rattle.first_pass_grammar.specs.Containers.{Context}
 use Rattle.first_pass_grammar.specs.Definitions.{with_line_feeds, ends_title, title_end, title_text, title_prefix, title_at}
-use Rattle.first_pass_definitions.specs.Reading.{ClosesTitle, stops_title_line, goes_on_at}
+use Rattle.first_pass_definitions.specs.Reading.{ClosesTitle, stops_title_line, is_title_text, goes_on_at}
 use Rattle.first_pass_links.proofs.Labels.{joined_after}
 
 -- the bytes of a title from an offset on, each after its offset
@@ -103,6 +104,48 @@ pub stop-plain : (close b : ℕ) → ClosesTitle close → stops_title_line clos
 stop-plain close b (inl h) s = stop_apostrophe b (ap (λ c. stops_title_line c b) (sym h) ∙ s)
 stop-plain close b (inr (inl h)) s = stop_quotation_mark b (ap (λ c. stops_title_line c b) (sym h) ∙ s)
 stop-plain close b (inr (inr h)) s = stop_right_parenthesis b (ap (λ c. stops_title_line c b) (sym h) ∙ s)
+
+-- reading of a title's line goes on at these bytes, and they escape nothing
+text_backslash : (b : ℕ) → is_title_text b ≡ true → (b == backslash) ≡ false
+text_backslash b h = grind (arith, nat_tests, h)
+
+text_apostrophe : (b : ℕ) → is_title_text b ≡ true → stops_title_line apostrophe b ≡ false
+text_apostrophe b h = grind (arith, nat_tests, h)
+
+text_quotation_mark : (b : ℕ) → is_title_text b ≡ true → stops_title_line quotation_mark b ≡ false
+text_quotation_mark b h = grind (arith, nat_tests, h)
+
+text_right_parenthesis : (b : ℕ) → is_title_text b ≡ true → stops_title_line right_parenthesis b ≡ false
+text_right_parenthesis b h = grind (arith, nat_tests, h)
+
+text_goes_on : (close b : ℕ) → ClosesTitle close → is_title_text b ≡ true → stops_title_line close b ≡ false
+text_goes_on close b (inl h) t = ap (λ c. stops_title_line c b) h ∙ text_apostrophe b t
+text_goes_on close b (inr (inl h)) t = ap (λ c. stops_title_line c b) h ∙ text_quotation_mark b t
+text_goes_on close b (inr (inr h)) t = ap (λ c. stops_title_line c b) h ∙ text_right_parenthesis b t
+
+-- such are the first r bytes from an offset on
+abbrev pub AreText : List ℕ → ℕ → ℕ → Type 0
+AreText bs at r = (k : ℕ) → k < r → is_title_text (get_or bs (at + k) 0) ≡ true
+
+pub are_text : (bs rest : List ℕ) (at r : ℕ) → rest ≡ drop at bs → ((k : ℕ) → k < r → is_title_text (slice_index rest k) ≡ true) → AreText bs at r
+are_text bs rest at r e text k below =
+    ap is_title_text (sym (get_or-drop at bs k 0)) ∙ ap (λ xs. is_title_text (slice_index xs k)) (sym e) ∙ text k below
+
+-- reading goes on after them
+pub upto_text : (close : ℕ) (bs : List ℕ) (at r : ℕ) → ClosesTitle close → at + r ≤ length bs → AreText bs at r
+    → at + r + unescaped_upto (stops_title_line close) 0 (drop (at + r) bs) ≡ at + unescaped_upto (stops_title_line close) 0 (drop at bs)
+upto_text close bs at zero c within text =
+    let e : at + zero ≡ at = omega arith in
+    ap (λ j. j + unescaped_upto (stops_title_line close) 0 (drop j bs)) e
+upto_text close bs at (suc r) c within text =
+    let e : at + suc r ≡ at + r + 1 = omega arith in
+    let b = get_or bs (at + r) 0 in
+    let here = text r (omega arith) in
+    let inside : at + r < length bs = omega (arith, within) in
+    let unit : suc zero ≡ (if begins_escape (drop (at + r) bs) then 2 else 1) = rw (no_escape_at bs (at + r) inside (text_backslash b here)) refl in
+    ap (λ j. j + unescaped_upto (stops_title_line close) 0 (drop j bs)) e
+    ∙ upto_unit (stops_title_line close) bs (at + r) 1 inside unit (text_goes_on close b c here)
+    ∙ upto_text close bs at r c (omega (arith, within)) (λ k below. text k (omega (arith, below)))
 
 feed-plain : (close : ℕ) → ClosesTitle close → ends_title close line_feed ≡ false
 feed-plain close (inl h) = rw h refl

@@ -1,16 +1,17 @@
 //! The title of a link reference definition.
 
-ghost use Rattle.std.specs.Prelude.{◌≡◌, ◌+◌, ◌<◌, ◌≤◌, ◌++◌, ◌||◌, length, drop, None, Some, [], true, slice_get, IfOk, IfSome, OnErr, IsSomeAnd, MatchOption, IsCharBoundary, IsUtf8, false};
+ghost use Rattle.std.specs.Prelude.{◌≡◌, ℕ, ◌+◌, ◌<◌, ◌≤◌, ◌++◌, ◌||◌, length, slice_index, drop, None, Some, [], true, slice_get, IfOk, IfSome, OnErr, IsSomeAnd, MatchOption, IsCharBoundary, IsUtf8, false};
 ghost use Rattle.std.specs.List.{list_any};
 ghost use Rattle.std.specs.Option.{option_and_then, option_map_or};
 ghost use Rattle.std.specs.String.{string_bytes};
 ghost use Rattle.first_pass_items.specs.CowText.{text_of};
 ghost use Rattle.first_pass_lines.specs.Lines.{is_line_end, begins, blank_len, eol_len};
+ghost use Rattle.first_pass_lines.specs.Lanes.{IsRunIn};
 ghost use Rattle.first_pass_links.specs.Destinations.{unescaped_upto};
 ghost use Rattle.first_pass_entities.specs.Texts.{Borrows};
 ghost use Rattle.first_pass_links.specs.Units.{part};
 ghost use Rattle.first_pass_items.specs.Bytes.{line_feed};
-ghost use Rattle.first_pass_definitions.specs.Reading.{ClosesTitle, stops_title_line, goes_on_at};
+ghost use Rattle.first_pass_definitions.specs.Reading.{ClosesTitle, stops_title_line, is_title_text, goes_on_at};
 ghost use Rattle.first_pass_grammar.specs.Definitions.{title_at, title_end, title_text, title_prefix};
 ghost use Rattle.first_pass_open.specs.Path.{context_of};
 ghost use Rattle.first_pass_kinds.specs.Rests.{IsRestOf};
@@ -21,12 +22,14 @@ ghost use Rattle.first_pass_definitions.specs.Memory.{title_asks, text_asks};
 use first_pass_items::cow_str::CowStr;
 use first_pass_items::item::Item;
 use first_pass_kinds::interrupt::scan_line_crossed;
+use first_pass_lines::lanes::{LANES, first_set};
 use first_pass_lines::lines::{begins, is_line_end, scan_blank_line, scan_eol};
 use first_pass_lines::places::rest_of;
 use first_pass_links::destination::unit_len;
 use first_pass_open::source::Source;
 use first_pass_tree::forest::Tree;
 use std::alloc::AllocError;
+use std::simd::prelude::*;
 
 /// Reads the title at the start of `text`, which is the rest of the whole text from a place on. Returns its length in
 /// bytes, with its delimiters (`'..'`, `".."` or `(..)`), and the text between these, not yet unescaped. The title
@@ -119,8 +122,34 @@ fn scan_title_line(bytes: &[u8], close: u8) -> usize
     let mut at = 0;
     while at < bytes.len() && !stops_title_line(bytes[at], close) {
         at += unit_len(rest_of(bytes, at));
+        at += title_run(rest_of(bytes, at));
     }
     at
+}
+
+// The number of bytes at the start at which reading of a line never stops and which escape nothing: at most 16, or 0 if
+// there are fewer than 16 bytes.
+#[inline(always)]
+fn title_run(bytes: &[u8]) -> usize
+    ensures within { result ≤ length bytes.now }
+    ensures text { (k : ℕ) → k < result → is_title_text (slice_index bytes.now k) ≡ true }
+{
+    if bytes.len() < LANES {
+        return 0;
+    }
+    title_lanes(bytes)
+}
+
+// The same for at least 16 bytes.
+#[inline(always)]
+fn title_lanes(bytes: &[u8]) -> usize
+    requires { 16 ≤ length bytes.now }
+    ensures { IsRunIn is_title_text bytes.now 0 16 result }
+{
+    let lanes = u8x16::from_slice(bytes);
+    let marks = lanes.simd_lt(u8x16::splat(b'*')) & lanes.simd_ne(u8x16::splat(b' '));
+    let others = marks | lanes.simd_eq(u8x16::splat(b'\\'));
+    first_set(others.to_bitmask())
 }
 
 // Whether reading a line of a title stops at this byte if it is unescaped: a byte of a line ending, the closing byte,
