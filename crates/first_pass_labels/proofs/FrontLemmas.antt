@@ -1,5 +1,5 @@
 -- The first bytes of two texts, as numbers, decide their order if the numbers differ.
-use Rattle.std.proofs.Common.{◌≡◌, ◌≢◌, ℕ, zero, suc, ◌+◌, ◌*◌, ◌<◌, List, [], ◌∷◌, slice_index, inl, inr, refl, sym, ap, ap₂, subst, ◌∙◌, arith}
+use Rattle.std.proofs.Common.{◌≡◌, ◌≢◌, ℕ, zero, suc, ◌+◌, ◌*◌, ◌/◌, ◌^◌, ◌<◌, List, [], ◌∷◌, slice_index, inl, inr, refl, sym, ap, ap₂, subst, ◌∙◌, arith}
 use Rattle.std.proofs.Common.{suc-le-suc, zero-le, not-suc-le-zero}
 use Rattle.std.proofs.lemmas.Bool.{cases_lt}
 use Rattle.std.specs.Cmp.{nat_cmp_is}
@@ -87,3 +87,7 @@ front_above x y m n f g above = nat_cmp_is m n Greater above ∙ front_compared 
 
 pub front_below : (x y : CowStr) (m n : ℕ) → IsFront x m → IsFront y n → m < n → Less ≡ label_cmp x y
 front_below x y m n f g below = nat_cmp_is m n Less below ∙ front_compared x y m n f g (λ e. omega (arith, e, below))
+
+-- the larger number is the one with the larger upper half
+pub half_below : (m n a b : ℕ) → a ≡ m / 2 ^ 64 → b ≡ n / 2 ^ 64 → a < b → m < n
+half_below m n a b e f less = omega (arith, e, f, less)

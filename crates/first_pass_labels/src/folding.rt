@@ -1,14 +1,17 @@
 //! The stored folding of a label.
 
-ghost use Rattle.std.specs.Prelude.{◌≡◌, ◌≤◌, ◌<◌, ℕ, List, length, map, slice_index, string_bytes, IfOk, IsAscii};
+ghost use Rattle.std.specs.Prelude.{◌≡◌, ◌≤◌, ◌<◌, ℕ, List, length, map, slice_index, string_bytes, IfOk, IfSome, IsAscii, true};
 ghost use Rattle.std.specs.List.{list_all};
 ghost use Rattle.std.specs.Char.{to_ascii_lowercase};
+ghost use Rattle.first_pass_lines.specs.Lanes.{IsRunIn};
 ghost use Rattle.first_pass_labels.specs.Foldings.{folded, folds_to_itself, leading_number, kept_folding};
 
 use caseless::default_case_fold_str;
 use first_pass_items::cow_str::InlineStr;
+use first_pass_lines::lanes::{LANES, first_set};
 use std::alloc::{AllocError, Global};
 use std::boxed::BoxedStr;
+use std::simd::prelude::*;
 use std::str;
 
 // The most bytes of a folding that is stored in the value itself.
@@ -113,7 +116,38 @@ pub(crate) fn leading_number(bytes: &[u8]) -> u128
     u128::from_be_bytes(first_bytes(bytes))
 }
 
+/// Returns the leading number of a text of at most sixteen bytes that folds to itself byte by byte. Returns `None` for
+/// any other text.
+#[inline(always)]
+pub(crate) fn own_leading_number(bytes: &[u8]) -> Option<u128>
+    ensures value { IfSome result (λ front. front ≡ leading_number 16 bytes.now) }
+    ensures own { IfSome result (λ _. list_all folds_to_itself bytes.now ≡ true) }
+    ensures fit { (at : ℕ) → slice_index bytes.now at < 256 }
+{
+    if bytes.len() > LANES {
+        return None;
+    }
+    let first = first_bytes(bytes);
+    if own_run(&first) < LANES {
+        return None;
+    }
+    Some(u128::from_be_bytes(first))
+}
+
+// The number of bytes among the first sixteen that come before the first one that does not fold to itself, or 16.
+#[inline(always)]
+fn own_run(bytes: &[u8]) -> usize
+    requires { 16 ≤ length bytes.now }
+    ensures { IsRunIn folds_to_itself bytes.now 0 16 result }
+{
+    let lanes = u8x16::from_slice(bytes);
+    let capitals = (lanes - u8x16::splat(b'A')).simd_lt(u8x16::splat(26));
+    let others = lanes.simd_ge(u8x16::splat(0x80));
+    first_set((capitals | others).to_bitmask())
+}
+
 // The first sixteen bytes, with 0 for each missing byte.
+#[inline(always)]
 fn first_bytes(bytes: &[u8]) -> [u8; 16]
     ensures { (at : ℕ) → at < 16 → slice_index result at ≡ slice_index bytes.now at }
 {

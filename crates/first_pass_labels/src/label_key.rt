@@ -1,6 +1,6 @@
 //! A label as the key of a table.
 
-ghost use Rattle.std.specs.Prelude.{◌≡◌, Some, IfOk, refl};
+ghost use Rattle.std.specs.Prelude.{◌≡◌, ◌/◌, ◌^◌, Some, IfOk, refl};
 ghost use Rattle.std.proofs.Common.{rules};
 ghost use Rattle.std.specs.Hash as fed;
 ghost use Rattle.std.specs.Cmp.{on_equiv, on_total, on_po, on_per, partial_equiv_from_equiv};
@@ -9,7 +9,7 @@ ghost use Rattle.std.specs.Cmp.Rules.{hashing};
 ghost use Rattle.first_pass_items.specs.CowText.{text_of};
 ghost use Rattle.first_pass_labels.specs.Foldings.{folding_of, is_same_label, label_cmp};
 
-use crate::folding::{Folding, leading_number};
+use crate::folding::{Folding, leading_number, own_leading_number};
 use first_pass_items::cow_str::CowStr;
 use std::alloc::{AllocError, Global};
 use std::cmp::Ordering;
@@ -46,6 +46,13 @@ impl<'a> LabelKey<'a> {
     pub fn new(alloc: Global, label: CowStr<'a>) -> Result<LabelKey<'a>, AllocError>
         ensures { IfOk result (λ key. key ≡ label.entry) }
     {
+        if let Some(front) = own_leading_number(label.deref().as_bytes()) {
+            return Ok(LabelKey {
+                label,
+                folding: Folding::Itself,
+                front,
+            });
+        }
         let folding = Folding::of_text(alloc, label.deref())?;
         let front = leading_number(folding.text_of(label.deref()).as_bytes());
         Ok(LabelKey {
@@ -77,6 +84,14 @@ impl<'a> LabelKey<'a> {
     {
         self.folding().cmp(other.folding())
     }
+}
+
+// The upper half of a number.
+#[inline(always)]
+fn half(number: u128) -> u64
+    ensures { result ≡ number / 2 ^ 64 }
+{
+    (number >> 64) as u64
 }
 
 impl<'a> PartialEq for LabelKey<'a> {
@@ -117,7 +132,14 @@ impl<'a> Ord for LabelKey<'a> {
     /// Returns the byte order of the foldings.
     #[inline(always)]
     fn cmp(&self, other: &LabelKey<'a>) -> Ordering {
-        // A search in a table passes smaller keys most often.
+        // The first eight bytes often decide. A search in a table passes smaller keys most often.
+        let (first, compared) = (half(self.front), half(other.front));
+        if first > compared {
+            return Ordering::Greater;
+        }
+        if first < compared {
+            return Ordering::Less;
+        }
         if self.front > other.front {
             return Ordering::Greater;
         }
