@@ -1,19 +1,19 @@
 -- Facts on the first byte of a delimiter row, and on its number of alignments.
 use Rattle.std.proofs.Common.{◌≡◌, subst, ℕ, zero, suc, ◌+◌, ◌-◌, ◌<◌, ◌≤◌, ◌==◌, ◌&&◌, ◌||◌, ◌⊎◌, Bool, true, false, nat_le, nat_lt, List, ◌∷◌, length, []}
 use Rattle.std.proofs.Common.{map, take, drop, Option, Some, None, refl, sym, ap, ◌∙◌, arith, inl, inr, if◌then◌else◌}
-use Rattle.std.specs.Option.{option_map, option_map_or}
+use Rattle.std.specs.Option.{option_map}
 use Rattle.std.specs.List.{prefix_len, suffix_len, take_while, position_or_len, list_any, slice_split}
 use Rattle.std.proofs.lemmas.Bool.{cases_lt}
 use Rattle.std.proofs.lemmas.Bool.Decides.{nat_tests}
 use Rattle.std.proofs.lemmas.List.Sums.{prefix_len-le-length}
 use Rattle.first_pass_items.specs.Bytes.{tab, space, hyphen, colon, pipe}
 use Rattle.first_pass_items.specs.declared.item.Alignment.{Alignment}
-use Rattle.first_pass_lines.specs.Lines.{is_space_or_tab, is_content, begins, line_len, ends}
+use Rattle.first_pass_lines.specs.Lines.{is_space_or_tab, is_content, begins, ends}
 use Rattle.first_pass_scan.specs.LeafLines.{run_len}
 use Rattle.first_pass_lines.specs.Rest.{Rest, indent, after_columns, columns_of}
 use Rattle.first_pass_lines.proofs.PlaceFacts.{all_columns, all_columns_up_to}
 use Rattle.first_pass_table_scan.specs.TableHead.{is_pipe, stripped, without_first, without_last, is_hyphens, alignment_by, delimiter_cell, each_of}
-use Rattle.first_pass_table_scan.specs.TableHead.{delimiter_cells, delimiter_row, table_head, delimiter_row_of}
+use Rattle.first_pass_table_scan.specs.TableHead.{delimiter_cells, delimiter_row, delimiter_row_of}
 use Rattle.first_pass_table_scan.proofs.TableFacts.{cells-refused, cells-more, cells-last}
 
 -- the bytes are empty, or this byte is their first
@@ -170,7 +170,7 @@ if_some : (t : Bool) (o : Option (List Alignment)) (xs : List Alignment) → (if
 if_some true o xs h = h
 if_some false o xs h = absurd cc
 
-pub row-some : (bs : List ℕ) (xs : List Alignment) → delimiter_row bs ≡ Some xs → 0 < length xs
+row-some : (bs : List ℕ) (xs : List Alignment) → delimiter_row bs ≡ Some xs → 0 < length xs
 unfolding delimiter_row
 row-some bs xs h =
     let row : List ℕ = stripped (take_while is_content bs) in
@@ -182,25 +182,3 @@ unfolding delimiter_row_of
 row_of-some r xs h =
     let row : List ℕ = (after_columns (indent r) r).left in
     row-some row xs (if_some (nat_lt (indent r) 4) (delimiter_row row) xs h)
-
--- the alignments of a table head that was scanned
-head-cases : (n : ℕ) (o : Option (List Alignment)) (size : ℕ) (xs : List Alignment)
-    → ◌≡◌ {A = ℕ × List Alignment} (size, xs) (option_map_or (λ columns. (n, columns)) o (0, [])) → ((xs ≡ []) × (o ≡ None)) ⊎ (o ≡ Some xs)
-head-cases n None size xs h = inl (ap (λ q. q.1) h, refl)
-head-cases n (Some ys) size xs h = inr (ap (λ q. Some q.1) (sym h))
-
-pub head-empty : (bs : List ℕ) (size : ℕ) (xs : List Alignment) → (size, xs) ≡ table_head bs → length xs ≡ 0 → delimiter_row bs ≡ None
-unfolding table_head
-head-empty bs size xs h none =
-    elim (head-cases (line_len bs) (delimiter_row bs) size xs h) as (λ _. delimiter_row bs ≡ None) [
-      | inl none_there ↦ none_there.1
-      | inr some ↦ absurd (let long = row-some bs xs some in omega arith)
-    ]
-
-pub head-read : (bs : List ℕ) (size : ℕ) (xs : List Alignment) → (size, xs) ≡ table_head bs → ¬ (length xs ≡ 0) → delimiter_row bs ≡ Some xs
-unfolding table_head
-head-read bs size xs h long =
-    elim (head-cases (line_len bs) (delimiter_row bs) size xs h) as (λ _. delimiter_row bs ≡ Some xs) [
-      | inl none_there ↦ absurd (long (ap length none_there.0))
-      | inr some ↦ some
-    ]

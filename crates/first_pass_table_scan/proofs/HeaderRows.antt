@@ -2,7 +2,7 @@
 use Rattle.std.proofs.Common.{◌≡◌, ℕ, zero, suc, ◌+◌, ◌-◌, ◌<◌, ◌≤◌, ◌⊎◌, Bool, true, false, List, ◌∷◌, length, take, drop, Option, Some, None, refl, sym, ap, []}
 use Rattle.std.proofs.Common.{◌∙◌, arith, inl, inr, if◌then◌else◌, ◌==◌, ◌&&◌, ◌||◌, not, get_or, nat_lt, slice_index}
 use Rattle.std.specs.Option.{option_map_or}
-use Rattle.std.specs.List.{prefix_len, take_while, position_or_len, list_any}
+use Rattle.std.specs.List.{prefix_len, take_while, list_any}
 use Rattle.std.proofs.lemmas.Bool.Decides.{nat_tests}
 use Rattle.std.proofs.lemmas.List.{drop_more, drop_all, take-take}
 use Rattle.std.proofs.lemmas.List.Folds.{length-prefix_len}
@@ -92,11 +92,6 @@ pipes-to-last b (c ∷ cs) n h =
           let e : n + 1 ≡ suc (more.0 + 1) = omega arith in
           ap (λ k. pipes_after b (take k (c ∷ cs))) e ∙ ap (λ k. (if t then 1 else 0) + k) (pipes-to-last c cs more.0 more.1))
     ]
-
--- bytes without a pipe have no last pipe
-pub last-none : (b : ℕ) (bs : List ℕ) → length bs ≡ position_or_len is_pipe bs → last_pipe_after b bs ≡ None
-last-none b [] h = refl
-last-none b (c ∷ cs) h = grind (arith, last-none c cs)
 
 -- the byte before a place of a row; 0 at its start
 abbrev pub byte_before : List ℕ → ℕ → ℕ
@@ -242,9 +237,6 @@ pub head-without-pipes : (bs : List ℕ) → pipes_of (take_while is_content bs)
 head-without-pipes bs h = head-none bs (no_last (take_while is_content bs) (last_pipe_after 0 (take_while is_content bs)) refl h)
 
 -- a line whose pipes were counted
-pub head-unmarked : (bs row : List ℕ) (n : ℕ) → row ≡ take_while is_content bs → n ≡ position_or_len is_pipe row → n ≡ length row → 0 ≡ head_columns bs
-head-unmarked bs row n e at all = sym (head-none bs (ap (last_pipe_after 0) (sym e) ∙ last-none 0 row (sym all ∙ at)))
-
 pub head-escaped : (bs row : List ℕ) (end : ℕ)
     → row ≡ take_while is_content bs → end ≡ option_map_or (λ last. last + 1) (last_pipe_after 0 row) 0 → end ≡ 0 → 0 ≡ head_columns bs
 head-escaped bs row end e at none = sym (head-none bs (ap (last_pipe_after 0) (sym e) ∙ end-none (last_pipe_after 0 row) end at none))

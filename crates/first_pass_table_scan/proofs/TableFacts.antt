@@ -1,14 +1,16 @@
 -- Facts on the cells of a delimiter row, and on the pipes of a header row.
-use Rattle.std.proofs.Common.{◌≡◌, ℕ, ◌+◌, ◌<◌, ◌≤◌, Bool, List, [], ◌∷◌, ◌++◌, length, map, take, drop, Option, Some, None, refl, sym, ap, ◌∙◌, append_assoc}
+use Rattle.std.proofs.Common.{◌≡◌, ℕ, ◌+◌, ◌<◌, ◌≤◌, ◌||◌, Bool, true, false, true≢false, List, [], ◌∷◌, ◌++◌, length, map, take, drop, Option, Some, None, refl, sym, ap, ◌∙◌, append_assoc}
 use Rattle.std.proofs.Common.{arith, inl, inr}
 use Rattle.std.specs.Option.{option_map}
-use Rattle.std.specs.List.{position_or_len, slice_split}
+use Rattle.std.specs.List.{position_or_len, list_any, slice_split}
 use Rattle.std.proofs.lemmas.Bool.{cases_lt, false_from_ne_true}
 use Rattle.std.proofs.lemmas.List.{take_all}
 use Rattle.std.proofs.lemmas.List.Sums.{position_or_len_is, fails_before_first}
 use Rattle.std.proofs.lemmas.List.Splits.{slice_split_none, slice_split_first}
 use Rattle.memchr.specs.Find.{IsFirstByte}
+use Rattle.first_pass_items.specs.Bytes.{pipe}
 use Rattle.first_pass_items.specs.declared.item.Alignment.{Alignment}
+use Rattle.first_pass_lines.specs.Lines.{begins}
 use Rattle.first_pass_table_scan.specs.TableHead.{is_pipe, delimiter_cell, each_of, delimiter_cells, pipes_after}
 
 -- the results of a search for a byte
@@ -75,3 +77,8 @@ found-last bs n xs x e l h = sym (ap (found_before xs) (cells-last bs n (Some x)
 pub pipes-fit : (b : ℕ) (bs : List ℕ) → pipes_after b bs ≤ length bs
 pipes-fit b [] = omega arith
 pipes-fit b (c ∷ cs) = grind (arith, pipes-fit c cs)
+
+-- bytes that begin with a pipe contain one
+pub pipe_first : (bs : List ℕ) → begins pipe bs ≡ true → list_any is_pipe bs ≡ true
+pipe_first [] h = absurd (true≢false (sym h))
+pipe_first (b ∷ bs) h = ap (λ t. t || list_any is_pipe bs) h

@@ -1,6 +1,6 @@
 //! The delimiter row of a table, and the number of columns of its header row (GFM 4.10).
 
-ghost use Rattle.std.specs.List.{prefix_len, suffix_len, position_or_len};
+ghost use Rattle.std.specs.List.{prefix_len, suffix_len, position_or_len, list_any};
 ghost use Rattle.std.specs.Prelude.{◌≡◌, ◌≤◌, ◌<◌, ◌+◌, ◌-◌, ◌==◌, true, length, take, drop, IfOk, if◌then◌else◌};
 ghost use Rattle.std.specs.Option.{option_map};
 ghost use Rattle.first_pass_items.specs.Bytes.{pipe};
@@ -146,16 +146,29 @@ fn scan_delimiter_cells(alloc: Global, bytes: &[u8]) -> Result<Option<Vec<Alignm
     }
 }
 
+// Whether there is a pipe among the bytes. Most rows begin with one.
+fn contains_pipe(row: &[u8]) -> bool
+    ensures { result ≡ list_any is_pipe row.now }
+{
+    if begins(b'|', row) {
+        return true;
+    }
+    row.contains(&b'|')
+}
+
 // The alignments of the delimiter row at the start of `bytes`, if there is one.
 #[tactic(auto, unfolding(crate::specs::TableHead::delimiter_row))]
-fn scan_alignments(alloc: Global, bytes: &[u8]) -> Result<Option<Vec<Alignment>>, AllocError>
+pub(crate) fn scan_alignments(
+    alloc: Global,
+    bytes: &[u8],
+) -> Result<Option<Vec<Alignment>>, AllocError>
     ensures { IfOk result (λ columns. option_map (λ v. v.items) columns ≡ delimiter_row bytes.now) }
 {
     if LineStart::new(bytes).scan_space(4) {
         return Ok(None);
     }
     let row = stripped(&bytes[..content_len(bytes)]);
-    if !row.contains(&b'|') {
+    if !contains_pipe(row) {
         return Ok(None);
     }
     scan_delimiter_cells(alloc, without_last(without_first(row, b'|'), b'|'))

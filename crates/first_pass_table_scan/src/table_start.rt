@@ -8,7 +8,7 @@ ghost use Rattle.first_pass_items.specs.Bytes.{hyphen, colon, backslash, pipe};
 ghost use Rattle.first_pass_lines.specs.Lines.{begins, is_content};
 ghost use Rattle.first_pass_table_scan.specs.TableHead.{is_pipe, head_columns, columns_by_pipes, delimiter_row_of, last_pipe_after, pipes_of};
 
-use crate::table_scan::{cell_len, count_header_cols, scan_table_head};
+use crate::table_scan::{cell_len, count_header_cols, scan_alignments};
 use first_pass_items::item::Alignment;
 use first_pass_lines::lines::content_len;
 use first_pass_scan::line_start::LineStart;
@@ -21,10 +21,6 @@ pub fn scan_head_columns(bytes: &[u8]) -> usize
     ensures { result ≡ head_columns bytes.now }
 {
     let row = &bytes[..content_len(bytes)];
-    let first = cell_len(row);
-    if first == row.len() {
-        return 0;
-    }
     let (pipes, end) = count_pipes(row);
     if end == 0 {
         return 0;
@@ -87,11 +83,8 @@ pub fn scan_delimiter_row(
     if !can_begin_delimiters(row.left()) {
         return Ok(None);
     }
-    let (_, columns) = scan_table_head(alloc, row.left())?;
-    if columns.is_empty() {
-        return Ok(None);
-    }
-    Ok(Some(columns))
+    let columns = scan_alignments(alloc, row.left())?;
+    Ok(columns)
 }
 
 /// The number of columns of a header row follows from its pipes that are not directly after a backslash. It is 0 if

@@ -3,14 +3,8 @@ use Rattle.std.specs.List.{take_while}
 use Rattle.std.proofs.lemmas.List.Sums.{prefix_len-le-length}
 use Rattle.first_pass_lines.specs.Lines.{is_content}
 use Rattle.first_pass_table_scan.specs.TableHead.{last_pipe_after, header_columns}
-use Rattle.first_pass_table_scan.proofs.HeaderRows.{head-unmarked, head-escaped, head-some, last-found, last-in-line, counted-some, counted-to-last}
+use Rattle.first_pass_table_scan.proofs.HeaderRows.{head-escaped, head-some, last-found, last-in-line, counted-some, counted-to-last}
 use Rattle.first_pass_table_scan.proofs.table_start.scan_head_columns.Goals as goal
-
-pub returns-then-first-row : goal.returns-then-first-row
-returns-then-first-row c =
-    let bs : List ℕ = c.args.bytes.now in
-    head-unmarked bs (take c.content_len.result bs) c.cell_len-first.result
-    (ap (λ n. take n bs) c.content_len.ensures.value) c.cell_len-first.ensures.value c.if-first-row.true
 
 pub returns-then-end-eq0 : goal.returns-then-end-eq0
 returns-then-end-eq0 c =
