@@ -13,6 +13,7 @@ pub mod MarkupLemmas
 pub mod NamedTexts
 pub mod OrderLemmas
 pub mod PieceFacts
+pub mod PipeMarks
 pub mod ReferenceBytes
 pub mod RunPlaces
 pub mod SoFar

@@ -2,10 +2,10 @@
 
 ghost use Rattle.std.specs.Prelude.{◌≡◌, ℕ, ◌==◌, ◌&&◌, ◌%◌, nat_lt, ◌+◌, ◌-◌, ◌<◌, ◌≤◌, ◌^◌, not, true, false, IsTrue, IsUtf8, List, [], length, slice_index, OnOk, IfOk, IfSome, IfNone};
 ghost use Rattle.std.specs.List.{suffix_len, slice_range};
-ghost use Rattle.first_pass_items.specs.Bytes.{backslash, space};
+ghost use Rattle.first_pass_items.specs.Bytes.{backslash, pipe, space};
 ghost use Rattle.first_pass_items.specs.declared.cow_str.CowStr.{CowStr};
 ghost use Rattle.first_pass_lines.specs.Lines.{is_white as is_white_byte};
-ghost use Rattle.first_pass_walk.specs.Walk.{MarksSpecial};
+ghost use Rattle.first_pass_walk.specs.Walk.{MarksSpecial, is_marked};
 ghost use Rattle.first_pass_tree.specs.Forest.{with_text};
 ghost use Rattle.first_pass_tokens.specs.Braces.{MathBraces};
 ghost use Rattle.first_pass_tokens.specs.NamedTexts.{AreMore};
@@ -131,7 +131,7 @@ fn plain_cell_in(text: &[u8], content: Content<'_>) -> Option<PlainCell>
         → EndsAtFirstMark content.entry.special.now (content_in text.now content.entry b) at → ⊥) }
 {
     let at = next_special_in_words(content.special, text, content.start)?;
-    if content_ends_at(text, content, at) {
+    if special_ends_at(text, content, at) {
         let blanks = blanks_at_end(text, content.start, at);
         return Some(PlainCell {
             token_end: at - blanks,
@@ -236,6 +236,29 @@ fn content_ends_at(text: &[u8], content: Content<'_>, at: usize) -> bool
     let byte = text[at];
     (byte == b'|' && content.row && content.options.contains(Options::ENABLE_TABLES))
         || is_line_end(byte)
+}
+
+// The same, at a special byte: a pipe is special only with tables.
+#[inline(always)]
+fn special_ends_at(text: &[u8], content: Content<'_>, at: usize) -> bool
+    requires within { at < length text.now }
+    requires marks { MarksSpecial content.special.now content.options }
+    requires marked { is_marked content.special.now text.now at ≡ true }
+    ensures { (b : MathBraces) → result ≡ content_ends_at (content_in text.now content.entry b) at }
+{
+    let byte = text[at];
+    if is_pipe_in_row(byte, content.row) {
+        return true;
+    }
+    is_line_end(byte)
+}
+
+// Whether a byte of a content is a pipe, and the content is in a row.
+#[inline(always)]
+fn is_pipe_in_row(byte: u8, row: bool) -> bool
+    ensures { result ≡ (byte == pipe && row) }
+{
+    byte == b'|' && row
 }
 
 // Appends the pending text if the piece at `at` begins another one, and the token of the piece.
@@ -429,11 +452,11 @@ fn blanks_at_end(text: &[u8], start: usize, end: usize) -> usize
     ensures value { result ≡ suffix_len is_white_byte (slice_range text.now start end) }
     ensures fits { start + result ≤ end }
 {
-    // None and one space are the most frequent.
+    // One space and none are the most frequent.
     let bytes = &text[start..end];
     match bytes {
-        [.., last] if *last > b' ' => 0,
         [.., before, b' '] if *before > b' ' => 1,
+        [.., last] if *last > b' ' => 0,
         _ => bytes.iter().rev().take_while(|b| is_white(**b)).count(),
     }
 }

@@ -11,9 +11,12 @@ use Rattle.first_pass_tokens.proofs.line.plain_cell_in.Goals as goal
 pub next_special_in_words-requires : goal.next_special_in_words-requires
 next_special_in_words-requires c = spares_words c.args.content.options c.args.content.special.now c.requires.marks
 
-pub returns-then-content_ends_at-clause-cell : goal.returns-then-content_ends_at-clause-cell
+pub special_ends_at-requires-clause-marked : goal.special_ends_at-requires-clause-marked
+special_ends_at-requires-clause-marked c = c.in_ok-at.ensures.found.marked
+
+pub returns-then-special_ends_at-clause-cell : goal.returns-then-special_ends_at-clause-cell
 unfolding blanks_at_end
-returns-then-content_ends_at-clause-cell c texts b =
+returns-then-special_ends_at-clause-cell c texts b =
     let text = c.args.text.now in
     let at = c.in_ok-at.at in
     let found = c.in_ok-at.ensures.found in
@@ -21,12 +24,12 @@ returns-then-content_ends_at-clause-cell c texts b =
     subst (λ n. IsCell texts z (add_text c.args.content.start (at - n) false []) at b) (sym c.blanks_at_end-blanks.ensures.value)
     (cell_plain z at found.from (omega (arith, found.within))
     (λ k low high. inl (sym (c.requires.marks _ (omega (arith, c.type_inv.text k))) ∙ found.least k low high))
-    (sym (c.content_ends_at.ensures b) ∙ c.if-content_ends_at.true))
+    (sym (c.special_ends_at.ensures b) ∙ c.if-special_ends_at.true))
 
-pub returns-then-content_ends_at-clause-some : goal.returns-then-content_ends_at-clause-some
-returns-then-content_ends_at-clause-some c b = record {
+pub returns-then-special_ends_at-clause-some : goal.returns-then-special_ends_at-clause-some
+returns-then-special_ends_at-clause-some c b = record {
   first = c.in_ok-at.ensures.found;
-  ended = sym (c.content_ends_at.ensures b) ∙ c.if-content_ends_at.true;
+  ended = sym (c.special_ends_at.ensures b) ∙ c.if-special_ends_at.true;
 }
 
 -- there is only one first marked byte
@@ -42,4 +45,4 @@ first_once {lut} {bytes} {ix} {i} {j} h k = elim (cases_lt i j) [
 pub returns-clause-none : goal.returns-clause-none
 returns-clause-none c at b ends =
     true≢false (sym ends.ended ∙ ap (content_ends_at (content_in c.args.text.now c.args.content b)) (first_once ends.first c.in_ok-at.ensures.found)
-    ∙ sym (c.content_ends_at.ensures b) ∙ c.if-content_ends_at.false)
+    ∙ sym (c.special_ends_at.ensures b) ∙ c.if-special_ends_at.false)
