@@ -2,5 +2,5 @@ pub mod KindLemmas
 pub mod PlainKinds
 mod PlainLines
 mod FirstBytes
-mod MarkBytes
+pub mod MarkBytes
 mod NoHeads

@@ -11,3 +11,4 @@ pub mod RowCells
 pub mod RowClosed
 pub mod RowDrops
 pub mod WholeRows
+pub mod RowBytes

@@ -61,10 +61,16 @@ pub fn cell_at(bytes: &[u8], at: usize) -> CellStart
     ensures order { (at ≤ result.at) × (result.at ≤ result.content) }
 {
     let cell = cell_start(bytes, at);
-    // Most often a space and a visible byte follow the pipe.
+    // Most often a space and a visible byte follow the pipe, or the line ends there. Two bytes are left except at the
+    // end of the text.
     match rest_of(bytes, cell) {
         [b' ', next, ..] if *next > b' ' => start_in_row(cell, cell + 1),
-        [first, ..] if *first > b' ' => start_in_row(cell, cell),
+        [first, _, ..] if *first > b' ' => start_in_row(cell, cell),
+        [b'\n', _, ..] => CellStart {
+            at: cell,
+            content: cell,
+            eol: Some(1),
+        },
         left => {
             let content = cell + scan_whitespace_no_nl(left);
             CellStart {

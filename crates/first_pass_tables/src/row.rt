@@ -52,6 +52,7 @@ struct CellsRead {
 
 // Appends the wanted cells of a row to the innermost open node. Adds the texts that their tokens name to `allocs`.
 // `braces`, the brace contexts before those cells, become those after them.
+#[inline(always)]
 fn append_some_cells(
     source: &Source<'_>,
     tree: &mut Tree<Item>,
@@ -91,9 +92,31 @@ fn append_some_cells(
     }
 }
 
+// The same as `append_some_cells`, for the cells beyond the table's columns. Few rows have such cells.
+#[inline(never)]
+fn append_excess_cells(
+    source: &Source<'_>,
+    tree: &mut Tree<Item>,
+    allocs: &mut Allocations<'_>,
+    braces: &mut BraceContexts,
+    wanted: CellsWanted,
+) -> Result<CellsRead, AllocError>
+    requires within { wanted.start ≤ length source.now.text.now }
+    ensures cells { IfOk result (λ read.
+        AppendsSome (document source.now.text.now source.now.options (names_of allocs.new)) wanted.most
+        (spot wanted.start braces.old) tree.old tree.new (read, braces.new)) }
+    ensures more { OnOk result (NamesMore allocs.old allocs.new) }
+    ensures texts { OnOk result (AddsTexts (names_of allocs.new) (names_of allocs.old)) }
+    ensures utf8 { OnOk result (IsUtf8 source.now.text.now) }
+{
+    let read = append_some_cells(source, tree, allocs, braces, wanted)?;
+    Ok(read)
+}
+
 // Appends the wanted cells of a row to the innermost open node, which was just opened. Returns the end of the row and
 // the number of its cells. Adds the texts that the tokens of all its cells name to `allocs`. `braces`, the brace
 // contexts before the row, become those after all its cells.
+#[inline(never)]
 fn append_cells(
     source: &Source<'_>,
     tree: &mut Tree<Item>,
@@ -121,7 +144,7 @@ fn append_cells(
         start: kept.at,
         most: usize::MAX,
     };
-    let excess = append_some_cells(source, tree, allocs, braces, others)?;
+    let excess = append_excess_cells(source, tree, allocs, braces, others)?;
     if excess.count > 0 {
         drop_beyond(tree, last);
     }

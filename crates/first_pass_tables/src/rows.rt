@@ -18,6 +18,7 @@ use bitflags::Flags;
 use first_pass_items::item::Item;
 use first_pass_items::option_set::Options;
 use first_pass_kinds::interrupt::{interrupts_as_footnote, interrupts_by_standard};
+use first_pass_lines::lines::begins;
 use first_pass_names::items::Allocations;
 use first_pass_open::front::scan_continued;
 use first_pass_open::open_block::close_block;
@@ -33,6 +34,10 @@ use std::alloc::AllocError;
 fn interrupts_rows(options: Options, bytes: &[u8]) -> bool
     ensures { result ≡ interrupts_row options bytes.now }
 {
+    // Most rows begin with a pipe.
+    if begins(b'|', bytes) {
+        return false;
+    }
     interrupts_by_standard(bytes, false)
         || interrupts_as_footnote(bytes, options.contains(Options::ENABLE_FOOTNOTES))
 }
