@@ -18,6 +18,30 @@ use Rattle.first_pass_tokens.specs.LineTokens.{Spot, spot, ArePieces, AreLineTok
 use Rattle.first_pass_tokens.proofs.PieceFacts.{IsPieceAt, markup_plain, run_next}
 use Rattle.first_pass_tokens.proofs.LineLemmas.{piece_of}
 
+-- each piece of a text keeps a property of the tokens before it
+abbrev KeptByPieces : (List Item → Type 0) → List ℕ → Type 0
+KeptByPieces P text = (stop at : ℕ) (p : Piece) (chain : List Item) → IsPieceAt text at p → P chain → P (add_piece stop at p chain)
+
+-- pieces keep it, and the tokens of a cell and of a line have it
+pieces_keep : (P : List Item → Type 0) (texts : List CowStr) (s : Inline) (stop at : ℕ) (b : MathBraces) (ps : List Piece) (to : Spot) (chain : List Item)
+    → KeptByPieces P s.text → ArePieces texts s at b ps to → P chain → P (add_pieces stop at ps chain)
+pieces_keep P texts s stop at b [] to chain kept are h = h
+pieces_keep P texts s stop at b (p ∷ ps) to chain kept are h =
+    pieces_keep P texts s stop (at + size p) (braces_after (found_at s at) b) ps to (add_piece stop at p chain) kept are.2
+    (kept stop at p chain (piece_of texts b s at p are.0 are.1) h)
+
+cell_keeps : (P : List Item → Type 0) {texts : List CowStr} {s : Inline} {tokens : List Item} {end : ℕ} {after : MathBraces}
+    → KeptByPieces P s.text → P [] → IsCell texts s tokens end after → P tokens
+cell_keeps P {texts} {s} {tokens} {end} {after} kept none cell =
+    subst P (sym cell.tokens_are)
+    (pieces_keep P texts s (end - blanks_at_end s end) s.start s.braces cell.pieces (spot end after) [] kept cell.division.divided none)
+
+line_keeps : (P : List Item → Type 0) {texts : List CowStr} {s : Inline} {tokens : List Item} {answer : ℕ × Option Item} {after : MathBraces}
+    → KeptByPieces P s.text → P [] → AreLineTokens texts s tokens answer after → P tokens
+line_keeps P {texts} {s} {tokens} {answer} {after} kept none line =
+    subst P (sym line.tokens_are)
+    (pieces_keep P texts s (text_end s line.content_end) s.start s.braces line.pieces (spot line.content_end after) [] kept line.division.divided none)
+
 -- a text is no markup, whatever its range
 text_over : (text : List ℕ) (start end : ℕ) (body : ItemBody) → is_text body ≡ true → StandsOver text start end body
 text_over text start end (Text escaped) h = tt
@@ -64,27 +88,14 @@ over_piece text stop at (Token dropped n body) chain facts h = over_add text cha
 over_piece text stop at (Run n opens closes) chain facts h =
     over_adds text chain (run_tokens at n opens closes) h (run_over text at n opens closes (λ some. (facts.all, facts.delimiter)))
 
-over_pieces : (texts : List CowStr) (s : Inline) (stop at : ℕ) (b : MathBraces) (ps : List Piece) (to : Spot) (chain : List Item)
-    → ArePieces texts s at b ps to → StandOver s.text chain
-    → StandOver s.text (add_pieces stop at ps chain)
-over_pieces texts s stop at b [] to chain are h = h
-over_pieces texts s stop at b (p ∷ ps) to chain are h =
-    over_pieces texts s stop (at + size p) (braces_after (found_at s at) b) ps to (add_piece stop at p chain) are.2
-    (over_piece s.text stop at p chain (piece_of texts b s at p are.0 are.1) h)
-
--- the tokens of a cell
+-- the tokens of a cell and of a line
 pub cell_over : {texts : List CowStr} {s : Inline} {tokens : List Item} {end : ℕ} {after : MathBraces}
     → IsCell texts s tokens end after → StandOver s.text tokens
-cell_over {texts} {s} {tokens} {end} {after} cell =
-    subst (StandOver s.text) (sym cell.tokens_are)
-    (over_pieces texts s (end - blanks_at_end s end) s.start s.braces cell.pieces (spot end after) [] cell.division.divided tt)
+cell_over {texts} {s} cell = cell_keeps (StandOver s.text) (over_piece s.text) tt cell
 
--- the tokens of a line
 pub line_over : {texts : List CowStr} {s : Inline} {tokens : List Item} {answer : ℕ × Option Item} {after : MathBraces}
     → AreLineTokens texts s tokens answer after → StandOver s.text tokens
-line_over {texts} {s} {tokens} {answer} {after} line =
-    subst (StandOver s.text) (sym line.tokens_are)
-    (over_pieces texts s (text_end s line.content_end) s.start s.braces line.pieces (spot line.content_end after) [] line.division.divided tt)
+line_over {texts} {s} line = line_keeps (StandOver s.text) (over_piece s.text) tt line
 
 -- a token is appended; a text that is joined has the bytes of both
 spare_add : (text : List ℕ) (chain : List Item) (y : Item) → (is_text y.body ≡ true → HasNoBackquote text y.start y.«end»)
@@ -130,24 +141,11 @@ spare_piece text stop at (Begins dropped escaped) chain facts h =
 spare_piece text stop at (Token dropped n body) chain facts h =
     spare_add text chain (token (at + dropped) n body) (λ is. absurd (false≢true (sym (markup_plain body facts.kind) ∙ is))) h
 
-spare_pieces : (texts : List CowStr) (s : Inline) (stop at : ℕ) (b : MathBraces) (ps : List Piece) (to : Spot) (chain : List Item)
-    → ArePieces texts s at b ps to → TextsHaveNoBackquote s.text chain
-    → TextsHaveNoBackquote s.text (add_pieces stop at ps chain)
-spare_pieces texts s stop at b [] to chain are h = h
-spare_pieces texts s stop at b (p ∷ ps) to chain are h =
-    spare_pieces texts s stop (at + size p) (braces_after (found_at s at) b) ps to (add_piece stop at p chain) are.2
-    (spare_piece s.text stop at p chain (piece_of texts b s at p are.0 are.1) h)
-
--- the texts of a cell
+-- the texts of a cell and of a line
 pub cell_spares : {texts : List CowStr} {s : Inline} {tokens : List Item} {end : ℕ} {after : MathBraces}
     → IsCell texts s tokens end after → TextsHaveNoBackquote s.text tokens
-cell_spares {texts} {s} {tokens} {end} {after} cell =
-    subst (TextsHaveNoBackquote s.text) (sym cell.tokens_are)
-    (spare_pieces texts s (end - blanks_at_end s end) s.start s.braces cell.pieces (spot end after) [] cell.division.divided tt)
+cell_spares {texts} {s} cell = cell_keeps (TextsHaveNoBackquote s.text) (spare_piece s.text) tt cell
 
--- the texts of a line
 pub line_spares : {texts : List CowStr} {s : Inline} {tokens : List Item} {answer : ℕ × Option Item} {after : MathBraces}
     → AreLineTokens texts s tokens answer after → TextsHaveNoBackquote s.text tokens
-line_spares {texts} {s} {tokens} {answer} {after} line =
-    subst (TextsHaveNoBackquote s.text) (sym line.tokens_are)
-    (spare_pieces texts s (text_end s line.content_end) s.start s.braces line.pieces (spot line.content_end after) [] line.division.divided tt)
+line_spares {texts} {s} line = line_keeps (TextsHaveNoBackquote s.text) (spare_piece s.text) tt line
