@@ -7,8 +7,7 @@ use Rattle.first_pass_items.specs.declared.item.Alignment.{Alignment}
 use Rattle.first_pass_items.specs.declared.item.HeadingLevel.{HeadingLevel}
 use Rattle.first_pass_items.specs.declared.item.Item.{Item}
 use Rattle.first_pass_items.specs.declared.item.ItemBody.{ItemBody}
-use Rattle.first_pass_items.specs.declared.item.ItemBody.TheVariants.{MaybeEmphasis, MaybeMath, MaybeSmartQuote, SynthesizeChar, SynthesizeText, MaybeCode}
-use Rattle.first_pass_items.specs.declared.item.ItemBody.TheVariants.{MaybeHtml, MaybeLinkOpen, MaybeLinkClose, MaybeImage}
+use Rattle.first_pass_items.specs.declared.item.ItemBody.TheVariants.{Paragraph as ParagraphBody}
 use Rattle.first_pass_lines.specs.Places.{Place, offset}
 use Rattle.first_pass_tokens.specs.Braces.{no_braces}
 use Rattle.first_pass_tokens.specs.LineTokens.{spot}
@@ -81,19 +80,10 @@ OwnFrom from = HoldsOfMarker IsNoParagraph from
 
 -- no token of a line is a paragraph
 markup_flat : (texts : List CowStr) (body : ItemBody) → is_markup body ≡ true → NamesWithin texts body → IsNoParagraph body
-markup_flat texts (MaybeEmphasis left opens closes) h k = refl
-markup_flat texts (MaybeMath opens closes context) h k = refl
-markup_flat texts (MaybeSmartQuote quote opens closes) h k = refl
-markup_flat texts (SynthesizeChar c) h k = refl
-markup_flat texts (SynthesizeText ix) h k = refl
-markup_flat texts (MaybeCode n escaped) h k = refl
-markup_flat texts MaybeHtml h k = refl
-markup_flat texts MaybeLinkOpen h k = refl
-markup_flat texts (MaybeLinkClose b) h k = refl
-markup_flat texts MaybeImage h k = refl
-markup_flat texts _ h k = absurd (true≢false (sym h))
+markup_flat texts ParagraphBody h k = absurd (true≢false (sym h))
+markup_flat texts body h k = refl
 
-tokens_flat : (texts : List CowStr) → HoldsOfTokens texts IsNoParagraph
+pub tokens_flat : (texts : List CowStr) → HoldsOfTokens texts IsNoParagraph
 tokens_flat texts = record { text = λ escaped. refl; soft = refl; hard = λ by_backslash. refl; markup = markup_flat texts }
 
 begins_other : (x : ℕ × Item) (more items : List (ℕ × Item)) → items ≡ x ∷ more → IsNoParagraph x.1.body → begins_paragraph items ≡ true → ⊥

@@ -2,46 +2,24 @@
 use Rattle.std.proofs.Common.{◌≡◌, ℕ, ◌-◌, ◌++◌, true, false, List, [], ◌∷◌, length, drop, Option, Some, None, MatchOption, refl, sym}
 use Rattle.std.proofs.Common.{ap, subst, ◌∙◌}
 use Rattle.std.proofs.lemmas.Bool.{true≢false}
-use Rattle.first_pass_items.specs.declared.cow_str.CowStr.{CowStr}
 use Rattle.first_pass_items.specs.declared.item.Alignment.{Alignment}
 use Rattle.first_pass_items.specs.declared.item.HeadingLevel.{HeadingLevel}
 use Rattle.first_pass_items.specs.declared.item.Item.{Item}
 use Rattle.first_pass_items.specs.declared.item.ItemBody.{ItemBody}
-use Rattle.first_pass_items.specs.declared.item.ItemBody.TheVariants.{Heading as HeadingBody, Table, TableHead, MaybeEmphasis, MaybeMath}
-use Rattle.first_pass_items.specs.declared.item.ItemBody.TheVariants.{MaybeSmartQuote, SynthesizeChar, SynthesizeText, MaybeCode, MaybeHtml}
-use Rattle.first_pass_items.specs.declared.item.ItemBody.TheVariants.{MaybeLinkOpen, MaybeLinkClose, MaybeImage}
+use Rattle.first_pass_items.specs.declared.item.ItemBody.TheVariants.{Heading as HeadingBody, Table, TableHead}
 use Rattle.first_pass_lines.specs.Places.{Place, offset, start_of}
 use Rattle.first_pass_tokens.specs.Braces.{no_braces}
 use Rattle.first_pass_tokens.specs.LineTokens.{spot}
 use Rattle.first_pass_tokens.specs.TreeTokens.{leaves}
-use Rattle.first_pass_tokens.proofs.PieceFacts.{is_markup}
 use Rattle.first_pass_grammar.specs.declared.kind.Container.{Container}
 use Rattle.first_pass_grammar.specs.Before.{begins_paragraph}
 use Rattle.first_pass_grammar.specs.Leaves.{Document, around, TextLines}
 use Rattle.first_pass_grammar.specs.TableHeads.{headed_table}
 use Rattle.first_pass_grammar.specs.Tables.{Taken, taking, IsTable, TableSoFar, table_so_far, most_inserted, inserted, row_block}
 use Rattle.first_pass_grammar.specs.Texts.{IsPlainText, IsText, IsUnderlined, heading_children, plain_text, underline_first}
-use Rattle.first_pass_grammar.proofs.Each.EachToken.{AreEach, HoldsOfTokens, heading_children_each, lines_each}
-use Rattle.first_pass_completion.proofs.FlatBlocks.{IsNoParagraph, NoParagraph}
+use Rattle.first_pass_grammar.proofs.Each.EachToken.{AreEach, heading_children_each, lines_each}
+use Rattle.first_pass_completion.proofs.FlatBlocks.{IsNoParagraph, NoParagraph, tokens_flat}
 use Rattle.first_pass_grammar.proofs.Each.EachCell.{both_nodes, leaves_nodes, block_nodes, row_nodes, cells_nodes, rows_nodes}
-use Rattle.first_pass_grammar.proofs.Names.TokensNamed.{NamesWithin}
-
--- no token of a line is a paragraph
-markup_flat : (texts : List CowStr) (body : ItemBody) → is_markup body ≡ true → NamesWithin texts body → IsNoParagraph body
-markup_flat texts (MaybeEmphasis left opens closes) h k = refl
-markup_flat texts (MaybeMath opens closes context) h k = refl
-markup_flat texts (MaybeSmartQuote quote opens closes) h k = refl
-markup_flat texts (SynthesizeChar c) h k = refl
-markup_flat texts (SynthesizeText ix) h k = refl
-markup_flat texts (MaybeCode n escaped) h k = refl
-markup_flat texts MaybeHtml h k = refl
-markup_flat texts MaybeLinkOpen h k = refl
-markup_flat texts (MaybeLinkClose b) h k = refl
-markup_flat texts MaybeImage h k = refl
-markup_flat texts _ h k = absurd (true≢false (sym h))
-
-tokens_flat : (texts : List CowStr) → HoldsOfTokens texts IsNoParagraph
-tokens_flat texts = record { text = λ escaped. refl; soft = refl; hard = λ by_backslash. refl; markup = markup_flat texts }
 
 -- items with a first one; if that is no paragraph, none is one
 pub record IsFlatText (items : List (ℕ × Item)) : Type 0 where
