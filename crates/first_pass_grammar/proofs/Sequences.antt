@@ -5,4 +5,5 @@ pub mod Goings
 pub mod LinesLeft
 pub mod OpenerFacts
 pub mod PlacesKept
+pub mod PrefixBytes
 pub mod Tightening

@@ -1,20 +1,20 @@
 -- A line that heads a table has another line after it, the delimiter row.
-use Rattle.std.proofs.Common.{◌≡◌, inl, inr, ℕ, ◌+◌, ◌<◌, ◌≤◌, ◌&&◌, not, nat_lt, Bool, true, false, List, [], ◌∷◌, length, drop, Option, Some, None}
-use Rattle.std.proofs.Common.{if◌then◌else◌, refl, sym, ap, ◌∙◌, arith, length-drop}
-use Rattle.std.specs.Option.{option_map, option_and_then}
+use Rattle.std.proofs.Common.{◌≡◌, inl, inr, ℕ, ◌+◌, ◌<◌, ◌≤◌, ◌&&◌, not, nat_lt, Bool, true, false, List, [], length, drop, Option, Some, None}
+use Rattle.std.proofs.Common.{if◌then◌else◌, refl, sym, ap, ◌∙◌, arith, length-drop, length-append}
+use Rattle.std.specs.Option.{option_and_then}
 use Rattle.std.proofs.lemmas.Bool.{cases_lt}
 use Rattle.std.proofs.lemmas.List.{drop_all, nil_from_length}
-use Rattle.std.proofs.lemmas.Option.{none-some, same_Some, cond_some}
+use Rattle.std.proofs.lemmas.Option.{none-some}
 use Rattle.first_pass_items.specs.OptionWords.{has, tables}
 use Rattle.first_pass_items.specs.declared.item.Alignment.{Alignment}
 use Rattle.first_pass_lines.specs.Lines.{line_len}
-use Rattle.first_pass_lines.specs.Rest.{Rest, indent, after_columns, past_quote}
+use Rattle.first_pass_lines.specs.Rest.{Rest, indent, after_columns}
 use Rattle.first_pass_lines.specs.Places.{Place, line_rest, offset, IsPlaceOf}
-use Rattle.first_pass_lines.proofs.PlaceFacts.{columns_shorter, quote_shorter}
+use Rattle.first_pass_lines.proofs.PlaceFacts.{columns_shorter}
 use Rattle.first_pass_table_scan.specs.TableHead.{head_columns, stripped, delimiter_row, delimiter_row_of}
 use Rattle.first_pass_grammar.specs.declared.kind.Container.{Container}
-use Rattle.first_pass_grammar.specs.declared.kind.Container.TheVariants.{BlockQuote, ListItem, FootnoteDefinition, Definition}
-use Rattle.first_pass_grammar.specs.Containers.{Context, has_columns, prefix, after}
+use Rattle.first_pass_grammar.specs.Containers.{Context, after}
+use Rattle.first_pass_grammar.proofs.Sequences.PrefixBytes.{after_skips}
 use Rattle.first_pass_grammar.specs.TableHeads.{if_as_many, table_at, ends_in_backslash, headed_table}
 
 -- No bytes form no delimiter row.
@@ -34,45 +34,12 @@ no_row_of r none =
     row_by (nat_lt (indent r) 4) (after_columns (indent r) r).left (nil_from_length (after_columns (indent r) r).left (omega arith))
 
 -- The rest of a line after the prefixes of a path has no more bytes than the line.
-quote_less : (r s : Rest) (o : Option Rest) → past_quote r ≡ o → option_map (after_columns 1) o ≡ Some s → length s.left ≤ length r.left
-quote_less r s None q e = absurd (none-some s e)
-quote_less r s (Some t) q e =
-    let left = ap (λ (z : Rest). length z.left) (same_Some (after_columns 1 t) s e) in
-    let column = columns_shorter 1 t in
-    let quote = quote_shorter r t q in
-    omega arith
-
-prefix_less : (c : Container) (r s : Rest) → prefix c r ≡ Some s → length s.left ≤ length r.left
-unfolding prefix
-prefix_less (BlockQuote kind) r s e =
-    let quote = quote_less (after_columns 3 r) s (past_quote (after_columns 3 r)) refl e in
-    let columns = columns_shorter 3 r in
-    omega arith
-prefix_less (ListItem n) r s e =
-    let left = ap (λ (z : Rest). length z.left) (cond_some (has_columns n r) (after_columns n r) s e).1 in
-    let columns = columns_shorter n r in
-    omega arith
-prefix_less (FootnoteDefinition n) r s e =
-    let left = ap (λ (z : Rest). length z.left) (cond_some (has_columns n r) (after_columns n r) s e).1 in
-    let columns = columns_shorter n r in
-    omega arith
-prefix_less (Definition n) r s e =
-    let left = ap (λ (z : Rest). length z.left) (cond_some (has_columns n r) (after_columns n r) s e).1 in
-    let columns = columns_shorter n r in
-    omega arith
-
-after_by : (c : Container) (r s : Rest) (o : Option Rest) → option_and_then (prefix c) o ≡ Some s
-    → ((q : Rest) → o ≡ Some q → length q.left ≤ length r.left) → length s.left ≤ length r.left
-after_by c r s None e f = absurd (none-some s e)
-after_by c r s (Some q) e f =
-    let before = f q refl in
-    let less = prefix_less c q s e in
-    omega arith
-
 after_less : (path : List Container) (r s : Rest) → after path r ≡ Some s → length s.left ≤ length r.left
-unfolding after
-after_less [] r s e = (let left = ap (λ (z : Rest). length z.left) (same_Some r s e) in omega arith)
-after_less (c ∷ path) r s e = after_by c r s (after path r) e (λ q g. after_less path r q g)
+after_less path r s e =
+    let skips = after_skips path r s e in
+    let size = ap (λ (bs : List ℕ). length bs) skips.left in
+    let both = length-append skips.bytes s.left in
+    omega arith
 
 -- so it has none if the line has none
 empty_left : (path : List Container) (r : Rest) → after path (line_rest []) ≡ Some r → r.left ≡ []

@@ -18,7 +18,7 @@ use Rattle.first_pass_links.specs.Labels.{is_bracket, is_label, joined, bytes_of
 use Rattle.first_pass_links.proofs.Destinations.{second, upto-stop, upto-byte, upto-escape}
 use Rattle.first_pass_grammar.specs.Containers.{Context, front}
 use Rattle.first_pass_grammar.specs.Definitions.{crossed, prefix_crossed}
-use Rattle.first_pass_places.proofs.PrefixBytes.{is_prefix_byte, Skips, line_skips}
+use Rattle.first_pass_grammar.proofs.Sequences.PrefixBytes.{is_prefix_byte, Skips, line_skips}
 
 -- a prefix that is left out of a label has only prefix bytes
 abbrev pub IsPlainPrefix : (List ℕ → Option ℕ) → Type 0

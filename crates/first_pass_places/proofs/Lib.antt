@@ -10,7 +10,6 @@ pub mod MarkedBlocks
 pub mod MarkedNodes
 pub mod NamedHeads
 pub mod PlacedWords
-pub mod PrefixBytes
 pub mod RangeBoundaries
 pub mod SetextPlaces
 pub mod TokenBraces

@@ -38,7 +38,7 @@ use Rattle.first_pass_places.specs.InfoStrings.{bytes_in}
 use Rattle.first_pass_places.specs.NamePlaces.{FirstIsReadFromText}
 use Rattle.first_pass_places.proofs.BlockPlaces.{AreBraces, found_braces, found_between, is_in, part_short}
 use Rattle.first_pass_places.proofs.HeadingPlaces.{named_by}
-use Rattle.first_pass_places.proofs.PrefixBytes.{is_prefix_byte, Skips, line_skips}
+use Rattle.first_pass_grammar.proofs.Sequences.PrefixBytes.{is_prefix_byte, Skips, line_skips}
 use Rattle.first_pass_places.proofs.TokenBraces.{HasNoBrace, both_none, nothing_none, Reaches, reach_further, tokens_end, line_reaches, later_end}
 
 -- if a line begins with `n` bytes of content, its length is `n` plus the length of what is left of it

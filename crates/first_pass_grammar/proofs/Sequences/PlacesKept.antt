@@ -1,26 +1,26 @@
 -- The rest at a place is the text from its offset on. This holds for the lines of a text; after columns, markers and
 -- container prefixes; and for the places and lines after a leaf block.
-use Rattle.std.proofs.Common.{◌≡◌, ℕ, zero, suc, ◌+◌, ◌-◌, ◌%◌, ◌==◌, nat_lt, Bool, true, false, List, [], ◌∷◌, drop, Option, Some, None, refl, sym, ap}
-use Rattle.std.proofs.Common.{subst}
+use Rattle.std.proofs.Common.{◌≡◌, ℕ, ◌+◌, ◌-◌, nat_lt, Bool, true, false, List, [], ◌∷◌, drop, Option, Some, None, refl, sym, ap}
+use Rattle.std.proofs.Common.{subst, length}
 use Rattle.std.proofs.Common.{◌∙◌, arith, drop-drop, if◌then◌else◌}
-use Rattle.std.specs.Option.{option_map, option_and_then}
+use Rattle.std.specs.Option.{option_map}
 use Rattle.std.proofs.lemmas.Option.{none-some, same_Some}
-use Rattle.first_pass_items.specs.Bytes.{tab, space, greater_than}
+use Rattle.std.proofs.Math.Seq.{drop-append_seam}
 use Rattle.first_pass_items.specs.declared.option_set.Options.{Options}
 use Rattle.first_pass_items.specs.OptionWords.{has, tasklists}
-use Rattle.first_pass_lines.specs.Rest.{Rest, indent, past_byte, past_bytes, past_quote_byte, past_quote, column_of_byte, column_of, next_column}
+use Rattle.first_pass_lines.specs.Rest.{Rest, indent, past_bytes}
 use Rattle.first_pass_lines.specs.Rest.{after_columns}
 use Rattle.first_pass_lines.specs.Places.{Place, place_at, offset}
-use Rattle.first_pass_lines.proofs.Columns.{after-more, after-none}
 use Rattle.first_pass_scan.specs.Markers.{item_of, task_of, definition_of}
 use Rattle.first_pass_scan.proofs.MarkerPlaces.{IsMarked, item-marked, task-marked, definition-marked}
 use Rattle.first_pass_grammar.specs.declared.kind.Container.{Container}
-use Rattle.first_pass_grammar.specs.declared.kind.Container.TheVariants.{BlockQuote, ListItem, FootnoteDefinition, Definition}
-use Rattle.first_pass_grammar.specs.Containers.{at_rest, has_columns, prefix, after, or_shorter, front, taken}
+use Rattle.first_pass_grammar.specs.declared.kind.Container.TheVariants.{BlockQuote}
+use Rattle.first_pass_grammar.specs.Containers.{at_rest, prefix, after, front, taken}
 use Rattle.first_pass_grammar.specs.Kinds.{all_taken, unindented, item_at, definition_marker_at}
 use Rattle.first_pass_grammar.specs.CodeBlocks.{code_place, code_by, code_lines}
 use Rattle.first_pass_grammar.specs.Extents.{Extent, Verdict, GoesOn, IsLast, Closes, Stops, extent_by, extent}
 use Rattle.first_pass_grammar.specs.Openers.{task_by, task_after}
+use Rattle.first_pass_grammar.proofs.Sequences.PrefixBytes.{Skips, columns_skip, prefix_skips, after_skips, front_skips}
 
 -- the rest at a place is the text from its offset on; the next definition: at each of these places
 abbrev pub IsAt : List ℕ → Place → Type 0
@@ -45,85 +45,12 @@ at_after text line r s (n, e, f) i =
     let same : line + r.taken + n ≡ line + s.taken = omega arith in
     e ∙ ap (drop n) i ∙ drop-drop n (line + r.taken) text ∙ ap (λ (k : ℕ). drop k text) same
 
--- after a byte
-byte_follows : (r : Rest) (b : ℕ) (bs : List ℕ) → r.left ≡ b ∷ bs → bs ≡ drop 1 r.left
-byte_follows r b bs e = sym (ap (drop 1) e)
-
--- after columns
-column_by : (t u : Bool) (r s : Rest) (b : ℕ) (bs : List ℕ) → r.left ≡ b ∷ bs
-    → (if t then Some (past_byte r bs) else (if u then Some (record { left = bs; taken = r.taken + 1; owed = 3 - r.column % 4; column = 0 }) else None))
-    ≡ Some s
-    → Follows r s
-column_by true u r s b bs e h = subst (Follows r) (same_Some (past_byte r bs) s h) (1, byte_follows r b bs e, refl)
-column_by false true r s b bs e h =
-    subst (Follows r) (same_Some (record { left = bs; taken = r.taken + 1; owed = 3 - r.column % 4; column = 0 }) s h) (1, byte_follows r b bs e, refl)
-column_by false false r s b bs e h = absurd (none-some s h)
-
-column_byte : (r s : Rest) (bs : List ℕ) → r.left ≡ bs → column_of_byte r bs ≡ Some s → Follows r s
-column_byte r s [] e h = absurd (none-some s h)
-column_byte r s (b ∷ bs) e h = column_by (b == space) (b == tab) r s b bs e h
-
-column_follows : (owed : ℕ) (r s : Rest) → column_of owed r ≡ Some s → Follows r s
-column_follows zero r s h = column_byte r s r.left refl h
-column_follows (suc owed) r s h = subst (Follows r) (same_Some (record r { owed = owed }) s h) (0, refl, omega arith)
-
-columns_step : (k : ℕ) (r : Rest) (o : Option Rest) → next_column r ≡ o → ((s : Rest) → Follows s (after_columns k s)) → Follows r (after_columns (suc k) r)
-columns_step k r None e f = subst (Follows r) (sym (after-none (suc k) r e)) (follows_none r)
-columns_step k r (Some s) e f =
-    subst (Follows r) (sym (after-more (suc k) k r s refl e)) (follows_both r s (after_columns k s) (column_follows r.owed r s e) (f s))
+-- bytes of a prefix or of columns
+skips_follow : {r s : Rest} → Skips r s → Follows r s
+skips_follow {r} {s} h = (length h.bytes, sym (ap (drop (length h.bytes)) h.left ∙ drop-append_seam h.bytes s.left), h.taken)
 
 columns_follow : (k : ℕ) (r : Rest) → Follows r (after_columns k r)
-columns_follow zero r = follows_none r
-columns_follow (suc k) r = columns_step k r (next_column r) refl (columns_follow k)
-
--- after the marker of a block quote
-quote_by : (t : Bool) (r s : Rest) (b : ℕ) (bs : List ℕ) → r.left ≡ b ∷ bs → (if t then Some (past_byte r bs) else None) ≡ Some s → Follows r s
-quote_by true r s b bs e h = subst (Follows r) (same_Some (past_byte r bs) s h) (1, byte_follows r b bs e, refl)
-quote_by false r s b bs e h = absurd (none-some s h)
-
-quote_byte : (r s : Rest) (bs : List ℕ) → r.left ≡ bs → past_quote_byte r bs ≡ Some s → Follows r s
-quote_byte r s [] e h = absurd (none-some s h)
-quote_byte r s (b ∷ bs) e h = quote_by (b == greater_than) r s b bs e h
-
-quote_if : (t : Bool) (r s : Rest) → (if t then past_quote_byte r r.left else None) ≡ Some s → Follows r s
-quote_if true r s h = quote_byte r s r.left refl h
-quote_if false r s h = absurd (none-some s h)
-
--- after the prefix of a container, of a path, and of the part of a path that a line continues
-mapped_by : (o : Option Rest) (r s : Rest) → ((q : Rest) → o ≡ Some q → Follows r q) → option_map (after_columns 1) o ≡ Some s → Follows r s
-mapped_by None r s f h = absurd (none-some s h)
-mapped_by (Some q) r s f h = subst (Follows r) (same_Some (after_columns 1 q) s h) (follows_both r q (after_columns 1 q) (f q refl) (columns_follow 1 q))
-
-columns_if : (t : Bool) (n : ℕ) (r s : Rest) → (if t then Some (after_columns n r) else None) ≡ Some s → Follows r s
-columns_if true n r s h = subst (Follows r) (same_Some (after_columns n r) s h) (columns_follow n r)
-columns_if false n r s h = absurd (none-some s h)
-
-prefix_follows : (c : Container) (r s : Rest) → prefix c r ≡ Some s → Follows r s
-unfolding prefix
-prefix_follows (BlockQuote kind) r s h =
-    let three : Rest = after_columns 3 r in
-    mapped_by (past_quote three) r s (λ q e. follows_both r three q (columns_follow 3 r) (quote_if (three.owed == 0) three q e)) h
-prefix_follows (ListItem n) r s h = columns_if (has_columns n r) n r s h
-prefix_follows (FootnoteDefinition n) r s h = columns_if (has_columns n r) n r s h
-prefix_follows (Definition n) r s h = columns_if (has_columns n r) n r s h
-
-after_by : (c : Container) (o : Option Rest) (r s : Rest) → ((q : Rest) → o ≡ Some q → Follows r q) → option_and_then (prefix c) o ≡ Some s → Follows r s
-after_by c None r s f h = absurd (none-some s h)
-after_by c (Some q) r s f h = follows_both r q s (f q refl) (prefix_follows c q s h)
-
-after_follows : (path : List Container) (r s : Rest) → after path r ≡ Some s → Follows r s
-unfolding after
-after_follows [] r s h = subst (Follows r) (same_Some r s h) (follows_none r)
-after_follows (c ∷ path) r s h = after_by c (after path r) r s (after_follows path r) h
-
-front_by : (o : Option Rest) (r s : Rest) → ((q : Rest) → o ≡ Some q → Follows r q) → Follows r s → Follows r (or_shorter o s)
-front_by None r s f h = h
-front_by (Some q) r s f h = f q refl
-
-front_follows : (path : List Container) (r : Rest) → Follows r (front path r)
-unfolding front
-front_follows [] r = follows_none r
-front_follows (c ∷ path) r = front_by (after (c ∷ path) r) r (front path r) (after_follows (c ∷ path) r) (front_follows path r)
+columns_follow k r = skips_follow (columns_skip k r)
 
 -- after the indentation of a place, and at that place of a line
 pub at_unindented : (text : List ℕ) (p : Place) → IsAt text p → IsAt text (unindented p)
@@ -131,7 +58,8 @@ at_unindented text p i = at_after text p.line p.rest (all_taken p.rest) (columns
 
 pub at_front : (text : List ℕ) (path : List Container) (line : Place) → IsAt text line → IsAt text (unindented (at_rest line (front path line.rest)))
 at_front text path line i =
-    at_unindented text (at_rest line (front path line.rest)) (at_after text line.line line.rest (front path line.rest) (front_follows path line.rest) i)
+    at_unindented text (at_rest line (front path line.rest))
+    (at_after text line.line line.rest (front path line.rest) (skips_follow (front_skips path line.rest)) i)
 
 taken_by : (text : List ℕ) (line q : Place) (o : Option Rest) → ((s : Rest) → o ≡ Some s → Follows line.rest s) → option_map (at_rest line) o ≡ Some q
     → IsAt text line → IsAt text q
@@ -139,11 +67,11 @@ taken_by text line q None f h i = absurd (none-some q h)
 taken_by text line q (Some s) f h i = subst (IsAt text) (same_Some (at_rest line s) q h) (at_after text line.line line.rest s (f s refl) i)
 
 pub at_taken : (text : List ℕ) (path : List Container) (line q : Place) → taken path line ≡ Some q → IsAt text line → IsAt text q
-at_taken text path line q h i = taken_by text line q (after path line.rest) (after_follows path line.rest) h i
+at_taken text path line q h i = taken_by text line q (after path line.rest) (λ s e. skips_follow (after_skips path line.rest s e)) h i
 
 -- inside a block quote
 pub at_quote : (text : List ℕ) (p : Place) (inside : Rest) → prefix (BlockQuote None) p.rest ≡ Some inside → IsAt text p → IsAt text (at_rest p inside)
-at_quote text p inside h i = at_after text p.line p.rest inside (prefix_follows (BlockQuote None) p.rest inside h) i
+at_quote text p inside h i = at_after text p.line p.rest inside (skips_follow (prefix_skips (BlockQuote None) p.rest inside h)) i
 
 -- after the marker of an item, and of a task
 marked_follows : (r s : Rest) → IsMarked r s → Follows r s

@@ -94,7 +94,7 @@ columns_if : (t : Bool) (n : ℕ) (r s : Rest) → (if t then Some (after_column
 columns_if true n r s h = subst (Skips r) (same_Some (after_columns n r) s h) (columns_skip n r)
 columns_if false n r s h = absurd (none-some s h)
 
-prefix_skips : (c : Container) (r s : Rest) → prefix c r ≡ Some s → Skips r s
+pub prefix_skips : (c : Container) (r s : Rest) → prefix c r ≡ Some s → Skips r s
 unfolding prefix
 prefix_skips (BlockQuote kind) r s h =
     let three : Rest = after_columns 3 r in
@@ -107,7 +107,7 @@ after_by : (c : Container) (o : Option Rest) (r s : Rest) → ((q : Rest) → o 
 after_by c None r s f h = absurd (none-some s h)
 after_by c (Some q) r s f h = skips_both r q s (f q refl) (prefix_skips c q s h)
 
-after_skips : (path : List Container) (r s : Rest) → after path r ≡ Some s → Skips r s
+pub after_skips : (path : List Container) (r s : Rest) → after path r ≡ Some s → Skips r s
 unfolding after
 after_skips [] r s h = subst (Skips r) (same_Some r s h) (skips_none r)
 after_skips (c ∷ path) r s h = after_by c (after path r) r s (after_skips path r) h
@@ -116,7 +116,7 @@ front_by : (o : Option Rest) (r s : Rest) → ((q : Rest) → o ≡ Some q → S
 front_by None r s f h = h
 front_by (Some q) r s f h = f q refl
 
-front_skips : (path : List Container) (r : Rest) → Skips r (front path r)
+pub front_skips : (path : List Container) (r : Rest) → Skips r (front path r)
 unfolding front
 front_skips [] r = skips_none r
 front_skips (c ∷ path) r = front_by (after (c ∷ path) r) r (front path r) (after_skips (c ∷ path) r) (front_skips path r)
