@@ -1,4 +1,5 @@
 -- The lines and places of a sequence of blocks.
+pub mod AfterMarkers
 pub mod Finishes
 pub mod FootnoteHeads
 pub mod Goings

@@ -1,11 +1,10 @@
 -- In a derived sequence, the first byte of each fenced code block that starts on a character boundary is ASCII. So is
 -- the second byte of each footnote definition, the `^`.
-use Rattle.std.proofs.Common.{◌≡◌, ℕ, ◌+◌, nat_lt, Bool, true, false, List, [], ◌∷◌, length, Option, Some, None, MatchOption, IfSome}
+use Rattle.std.proofs.Common.{◌≡◌, ℕ, ◌+◌, nat_lt, Bool, true, false, List, [], ◌∷◌, length, Option, Some, None, MatchOption}
 use Rattle.std.proofs.Common.{IsCharBoundary, is_some, inl, inr, refl, sym, ap, subst, ◌∙◌, if◌then◌else◌}
 use Rattle.std.proofs.lemmas.Bool.{true≢false}
 use Rattle.first_pass_items.specs.OptionWords.{has, tasklists, gfm_footnotes}
 use Rattle.first_pass_items.specs.declared.item.Alignment.{Alignment}
-use Rattle.first_pass_items.specs.declared.item.BlockQuoteKind.{BlockQuoteKind}
 use Rattle.first_pass_items.specs.declared.item.HeadingLevel.{HeadingLevel}
 use Rattle.first_pass_items.specs.declared.item.Item.{Item}
 use Rattle.first_pass_items.specs.declared.item.ItemBody.{ItemBody}
@@ -29,8 +28,7 @@ use Rattle.first_pass_grammar.specs.Kinds.{LinkDefinitions, Paragraph, all_taken
 use Rattle.first_pass_grammar.specs.Kinds.{begins_html_to_end, begins_html_to_blank, metadata_at, first_kind, IsKindBy, IsKind}
 use Rattle.first_pass_grammar.specs.Leaves.{Document, around, TextLines}
 use Rattle.first_pass_grammar.specs.LinkRuns.{kind_in, link_definition_at, lines_beyond, Ended, FlowsOn}
-use Rattle.first_pass_grammar.specs.Openers.{Start, start_at, after_task, after_quote, task_by, task_after, tag_after}
-use Rattle.first_pass_grammar.specs.Order.{is_task_marker}
+use Rattle.first_pass_grammar.specs.Openers.{Start, start_at, task_after, tag_after}
 use Rattle.first_pass_grammar.specs.Skeleton.{Continues, Line, Blanks, AtPlace, Allowed, Anything, OnlyALeaf, TextOf, OnlyMark, after_marker, Opening}
 use Rattle.first_pass_grammar.specs.Skeleton.{OpensLeaf, OpensNode, OpensText, OpensRun, OpensAs, OpensBlockAt, next_is_blank, only_task, without_indent}
 use Rattle.first_pass_grammar.specs.Skeleton.{after_tag, opening_by, OpensBy, OpensFootnote, Opens, OpensIf, OpensAt, may_define, Level, level_in}
@@ -39,7 +37,8 @@ use Rattle.first_pass_grammar.specs.TableHeads.{headed_table}
 use Rattle.first_pass_grammar.specs.Tables.{Taken, IsTable}
 use Rattle.first_pass_grammar.specs.Texts.{IsPlainText, IsText, IsUnderlined, plain_text, underline_first}
 use Rattle.first_pass_grammar.specs.WholeTables.{ShowsNothing}
-use Rattle.first_pass_grammar.proofs.Each.EachLeaf.{HoldsOfLeaf}
+use Rattle.first_pass_grammar.proofs.Each.EachLeaf.{HoldsOfLeaf, IsTask, IsTaskItem, IsMark, task_mark}
+use Rattle.first_pass_grammar.proofs.Sequences.AfterMarkers.{HoldsAfter, after_task_holds, after_quote_holds}
 use Rattle.first_pass_grammar.proofs.Sequences.Goings.{BeginsAt, begins_at}
 use Rattle.first_pass_grammar.proofs.Sequences.LinesLeft.{text_left, beyond_at, place_after_at, head_at}
 use Rattle.first_pass_grammar.proofs.Sequences.OpenerFacts.{start_cases}
@@ -81,12 +80,6 @@ AreMarkedLeaves text (Node head e kids next) = AreMarkedLeaves text kids × AreM
 
 -- If blocks continue at a place, it is a place of the text; if a marker is given there, the marker is a task list item
 -- marker.
-abbrev IsTask : ItemBody → Type 0
-IsTask body = is_task_marker body ≡ true
-
-abbrev IsMark : Option Item → Type 0
-IsMark marker = IfSome marker (λ x. IsTask x.body)
-
 abbrev TaskMay : Allowed → Type 0
 TaskMay Anything = Unit {0}
 TaskMay OnlyALeaf = Unit {0}
@@ -97,12 +90,6 @@ abbrev PlacedFrom : List ℕ → Continues → Type 0
 PlacedFrom text Line = Unit {0}
 PlacedFrom text (Blanks e) = Unit {0}
 PlacedFrom text (AtPlace p may) = IsAt text p × TaskMay may
-
-abbrev TaskAfter : AfterMarker → Type 0
-TaskAfter OnLine = Unit {0}
-TaskAfter (TaskText marker) = IsTask marker.body
-TaskAfter (LineEnds marker) = IsMark marker
-TaskAfter OnlyTag = Unit {0}
 
 task_shows : (body : ItemBody) → IsTask body → ShowsNothing body
 task_shows (TaskListMarker checked) h = λ names depth start end. refl
@@ -126,19 +113,6 @@ plain_from text (AtPlace p may) h = (h.0, plain_may may h.1)
 onward_placed : (text : List ℕ) (left : Remaining) → PlainFrom text (onward left).0 → PlacedFrom text (onward left).0
 onward_placed text (Lines lines) h = tt
 onward_placed text (InLine p lines) h = (h.0, tt)
-
-task_mark : (line : ℕ) (r : Rest) (o : Option (Bool × Rest)) → IsMark (task_by line r o).0
-task_mark line r None = tt
-task_mark line r (Some task) = refl
-
-after_task_mark : (t : Bool) (marker : Option Item) → IsMark marker → TaskAfter (if t then LineEnds marker else after_task marker)
-after_task_mark true marker h = h
-after_task_mark false None h = tt
-after_task_mark false (Some marker) h = h
-
-after_quote_mark : (kind : Option BlockQuoteKind) → TaskAfter (after_quote kind)
-after_quote_mark None = tt
-after_quote_mark (Some kind) = tt
 
 marker_placed : (text : List ℕ) (blanks : Option ℕ) → PlacedFrom text (after_marker blanks)
 marker_placed text None = tt
@@ -292,7 +266,7 @@ module _ (d : Document) where
   without_marked start (DefinitionMarker columns) h = tt
 
   container_opened : (path : List Container) (head : Head) (inside : Place) (lines : List Place) (after : AfterMarker)
-      → OpenerMarked d.text head.start head.opener → TaskAfter after → IsAt d.text inside → AreAt d.text lines
+      → OpenerMarked d.text head.start head.opener → HoldsAfter IsTaskItem after → IsAt d.text inside → AreAt d.text lines
       → IsOpened (opening_by d path head inside lines after)
   container_opened path head inside lines OnLine m task i h = (m, (i, tt), h)
   container_opened path head inside lines (TaskText marker) m task i h = (m, (i, task), h)
@@ -306,19 +280,19 @@ module _ (d : Document) where
       let there = tag_opened (around d (opened head.opener ∷ path)) lines h in (m, there.0, there.1)
 
   abbrev IsStart : Place → Start → Type 0
-  IsStart p s = OpenerMarked d.text s.head.start s.head.opener × TaskAfter s.after × IsAt d.text (at_rest p s.rest)
+  IsStart p s = OpenerMarked d.text s.head.start s.head.opener × HoldsAfter IsTaskItem s.after × IsAt d.text (at_rest p s.rest)
 
   start_is : (may : Bool) (p : Place) → IsAt d.text p → (s : Start) → start_at d.options may p ≡ Some s → IsStart p s
   start_is may p i =
       start_cases d.options may p (IsStart p)
       (λ item is. (
         tt,
-        after_task_mark (is_blank_rest (task_after d.options p.line item.1).1) (task_after d.options p.line item.1).0
+        after_task_holds IsTaskItem (is_blank_rest (task_after d.options p.line item.1).1) (task_after d.options p.line item.1).0
             (task_mark p.line item.1 (if has d.options tasklists then task_of item.1 else None)),
         at_item d.text d.options p item is i,
       ))
-      (λ marker none is. (tt, after_task_mark (is_blank_rest marker.1) None tt, at_marker d.text p marker is i))
-      (λ r none is. (tt, after_quote_mark (tag_after d.options r), at_quote d.text p r is i))
+      (λ marker none is. (tt, after_task_holds IsTaskItem (is_blank_rest marker.1) None tt, at_marker d.text p marker is i))
+      (λ r none is. (tt, after_quote_holds IsTaskItem (tag_after d.options r), at_quote d.text p r is i))
 
   start_opened : (path : List Container) (p : Place) (lines : List Place) (q : Option Start) (o : Opening) → ((s : Start) → q ≡ Some s → IsStart p s)
       → IsAt d.text p → AreAt d.text lines → OpensBy d path p lines q o → IsOpened o

@@ -23,7 +23,7 @@ use Rattle.first_pass_grammar.specs.Rows.{container_row, row_of_leaf, Definition
 use Rattle.first_pass_grammar.specs.Rows.{titled, gap_before, rows_of}
 use Rattle.first_pass_grammar.specs.Skeleton.{Line, level, Lines}
 use Rattle.first_pass_grammar.specs.WholeTables.{AreEachNode}
-use Rattle.first_pass_grammar.proofs.Each.EachLeaf.{HoldsOfBlocks, HoldsInBlocks, IsBlockOf, HoldsOfEachLeaf, each_leaf}
+use Rattle.first_pass_grammar.proofs.Each.EachLeaf.{any_blocks, HoldsInBlocks, IsBlockOf, HoldsOfEachLeaf, each_leaf}
 use Rattle.first_pass_grammar.proofs.Each.EachRow.{HoldsOfRow, HoldsOfEachRow, each_row}
 use Rattle.first_pass_grammar.proofs.Each.EachToken.{HoldsOfTokens, HoldsOfRaw}
 use Rattle.first_pass_grammar.proofs.Names.TokensNamed.{NamesWithin}
@@ -36,27 +36,11 @@ use Rattle.first_pass_places.proofs.MarkedBlocks.{IsMarked, FirstMarked, OpenerM
 abbrev IsPlain : ItemBody → Type 0
 IsPlain body = (text : List ℕ) (start : ℕ) → IsCharBoundary text start → HasWholeStart body text start
 
-abbrev IsAny : ItemBody → Type 0
-IsAny body = Unit {0}
-
 -- No node inside a leaf block has a mark of its own; only the block's first node may.
 markup_plain : (texts : List CowStr) (body : ItemBody) → is_markup body ≡ true → NamesWithin texts body → IsPlain body
 markup_plain texts (FencedCodeBlock ix) h k = absurd (false≢true h)
 markup_plain texts (FootnoteDefinition ix) h k = absurd (false≢true h)
 markup_plain texts _ h k = λ text start b. b
-
-any_blocks : HoldsOfBlocks IsAny
-any_blocks = record {
-  paragraph = tt;
-  heading = λ level index. tt;
-  table = λ index. tt;
-  indented = tt;
-  fenced = λ info. tt;
-  metadata = λ kind. tt;
-  html = tt;
-  rule = tt;
-  task = λ checked. tt;
-}
 
 tokens_plain : (texts : List CowStr) → HoldsOfTokens texts IsPlain
 tokens_plain texts = record {
@@ -80,7 +64,7 @@ within_plain texts = record {
 }
 
 abbrev IsPlainBlock : List (ℕ × Item) → Type 0
-IsPlainBlock items = IsBlockOf IsAny IsPlain items
+IsPlainBlock items = IsBlockOf (λ body. Unit {0}) IsPlain items
 
 -- nodes with marks
 plain_marks : (text : List ℕ) (nodes : List (ℕ × Item)) → AreEachNode IsPlain nodes → HaveWholeStarts text nodes
@@ -247,7 +231,8 @@ derived_marks d nodes tables h =
     let s : Skeleton = h.skeleton in
     let rows : Rows = rows_of false nothing (length d.text) s in
     let marks = marked_blocks d s (level [] nothing) Line (lines_at 0 d.text) (Lines []) tt (lines_are_at d.text) h.sequence in
-    let plain = each_leaf IsAny IsPlain d any_blocks (within_plain d.names.texts) s (level [] nothing) Line (lines_at 0 d.text) (Lines []) tt h.sequence in
+    let plain = each_leaf (λ body. Unit {0}) IsPlain d any_blocks (within_plain d.names.texts) s (level [] nothing) Line (lines_at 0 d.text) (Lines []) tt
+    h.sequence in
     let all = rows_marks d.text 1 false rows (each_row (FirstMarked d.text) false nothing (length d.text) s (leaves_hold d.text s marks.0))
     (each_row IsPlainBlock false nothing (length d.text) s plain) (sequence_rows d.text false nothing (length d.text) s marks.1) in
     subst (HaveWholeStarts d.text) (sym h.forest_is) (both_marks d.text (root_of (length d.text) ∷ []) (items_of 1 false rows) ((λ b. b), tt) all)

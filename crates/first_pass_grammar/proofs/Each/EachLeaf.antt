@@ -7,7 +7,6 @@ use Rattle.first_pass_items.specs.OptionWords.{has, tasklists}
 use Rattle.first_pass_items.specs.declared.cow_str.CowStr.{CowStr}
 use Rattle.first_pass_items.specs.declared.item.Alignment.{Alignment}
 use Rattle.first_pass_items.specs.declared.item.AlignmentIndex.{AlignmentIndex}
-use Rattle.first_pass_items.specs.declared.item.BlockQuoteKind.{BlockQuoteKind}
 use Rattle.first_pass_items.specs.declared.item.CowIndex.{CowIndex}
 use Rattle.first_pass_items.specs.declared.item.HeadingIndex.{HeadingIndex}
 use Rattle.first_pass_items.specs.declared.item.HeadingLevel.{HeadingLevel}
@@ -36,7 +35,7 @@ use Rattle.first_pass_grammar.specs.Kinds.{LinkDefinitions}
 use Rattle.first_pass_grammar.specs.Kinds.{Paragraph, unindented, is_blank_rest, is_ordinary_after_tag}
 use Rattle.first_pass_grammar.specs.Leaves.{Document, around, block_with, heading_text_at, TextLines}
 use Rattle.first_pass_grammar.specs.LinkRuns.{kind_in, Ended, FlowsOn}
-use Rattle.first_pass_grammar.specs.Openers.{Start, start_at, after_task, after_quote, task_by, task_after, tag_after}
+use Rattle.first_pass_grammar.specs.Openers.{Start, start_at, task_by, task_after, tag_after}
 use Rattle.first_pass_grammar.specs.Order.{is_task_marker}
 use Rattle.first_pass_grammar.specs.RawLines.{range_text, range_html}
 use Rattle.first_pass_grammar.specs.Skeleton.{Continues, Line, Blanks, AtPlace, Anything, OnlyALeaf, TextOf, OnlyMark, after_marker, Opening, OpensLeaf, OpensNode}
@@ -47,6 +46,7 @@ use Rattle.first_pass_grammar.specs.TableHeads.{headed_table}
 use Rattle.first_pass_grammar.specs.Tables.{inserted, most_inserted, row_block, table_so_far, Taken, taking, IsTable}
 use Rattle.first_pass_grammar.specs.Texts.{IsPlainText, IsText, IsUnderlined, text_children, heading_children, plain_text, underline_first}
 use Rattle.first_pass_grammar.specs.WholeTables.{AreEachNode}
+use Rattle.first_pass_grammar.proofs.Sequences.AfterMarkers.{HoldsAfter, after_task_holds, after_quote_holds}
 use Rattle.first_pass_grammar.proofs.Each.EachToken.{AreEach, HoldsOfTokens, HoldsOfRaw, children_each, heading_children_each, lines_each, heading_each}
 use Rattle.first_pass_grammar.proofs.Each.EachToken.{range_text_each, range_html_each, raw_lines_each}
 use Rattle.first_pass_grammar.proofs.Sequences.OpenerFacts.{start_cases}
@@ -63,6 +63,19 @@ pub record HoldsOfBlocks (P : ItemBody → Type 0) : Type 0 where
   pub html : P HtmlBlock
   pub rule : P Rule
   pub task : (checked : Bool) → P (TaskListMarker checked)
+
+pub any_blocks : HoldsOfBlocks (λ body. Unit {0})
+any_blocks = record {
+  paragraph = tt;
+  heading = λ level index. tt;
+  table = λ index. tt;
+  indented = tt;
+  fenced = λ info. tt;
+  metadata = λ kind. tt;
+  html = tt;
+  rule = tt;
+  task = λ checked. tt;
+}
 
 -- a property of each later body in a leaf block: of tokens, whose texts are among these, of raw lines, rows and cells,
 -- and of a task list item marker
@@ -91,10 +104,10 @@ HoldsOfEachLeaf P (Then leaf next) = HoldsOfLeaf P leaf × HoldsOfEachLeaf P nex
 HoldsOfEachLeaf P (Node head e kids next) = HoldsOfEachLeaf P kids × HoldsOfEachLeaf P next
 
 -- the body of a task list item marker, if there is a marker
-abbrev IsTask : ItemBody → Type 0
+abbrev pub IsTask : ItemBody → Type 0
 IsTask body = is_task_marker body ≡ true
 
-abbrev IsMark : Option Item → Type 0
+abbrev pub IsMark : Option Item → Type 0
 IsMark marker = IfSome marker (λ x. IsTask x.body)
 
 -- where blocks continue, what precedes a text, or is the block without one, is a task list item marker
@@ -106,25 +119,12 @@ TaskBefore (AtPlace p OnlyALeaf) = Unit {0}
 TaskBefore (AtPlace p (TextOf marker)) = IsTask marker.body
 TaskBefore (AtPlace p (OnlyMark marker blanks)) = IsTask marker.body
 
--- the same after the marker of a container
-abbrev TaskAfter : AfterMarker → Type 0
-TaskAfter OnLine = Unit {0}
-TaskAfter (TaskText marker) = IsTask marker.body
-TaskAfter (LineEnds marker) = IsMark marker
-TaskAfter OnlyTag = Unit {0}
+abbrev pub IsTaskItem : Item → Type 0
+IsTaskItem x = IsTask x.body
 
-task_mark : (line : ℕ) (r : Rest) (o : Option (Bool × Rest)) → IsMark (task_by line r o).0
+pub task_mark : (line : ℕ) (r : Rest) (o : Option (Bool × Rest)) → IsMark (task_by line r o).0
 task_mark line r None = tt
 task_mark line r (Some task) = refl
-
-after_task_mark : (t : Bool) (marker : Option Item) → IsMark marker → TaskAfter (if t then LineEnds marker else after_task marker)
-after_task_mark true marker h = h
-after_task_mark false None h = tt
-after_task_mark false (Some marker) h = h
-
-after_quote_mark : (kind : Option BlockQuoteKind) → TaskAfter (after_quote kind)
-after_quote_mark None = tt
-after_quote_mark (Some kind) = tt
 
 marker_before : (blanks : Option ℕ) → TaskBefore (after_marker blanks)
 marker_before None = tt
@@ -256,19 +256,19 @@ module _ (Own Inner : ItemBody → Type 0) (d : Document) (own : HoldsOfBlocks O
   opens_block path p lines o (k, is, opens) = opens_as path p lines (kind_in (around d path) p k) o opens
 
   -- what a container opens
-  start_mark : (may : Bool) (p : Place) (s : Start) → start_at d.options may p ≡ Some s → TaskAfter s.after
+  start_mark : (may : Bool) (p : Place) (s : Start) → start_at d.options may p ≡ Some s → HoldsAfter IsTaskItem s.after
   start_mark may p =
-      start_cases d.options may p (λ (s : Start). TaskAfter s.after)
-      (λ item is. after_task_mark (is_blank_rest (task_after d.options p.line item.1).1) (task_after d.options p.line item.1).0
+      start_cases d.options may p (λ (s : Start). HoldsAfter IsTaskItem s.after)
+      (λ item is. after_task_holds IsTaskItem (is_blank_rest (task_after d.options p.line item.1).1) (task_after d.options p.line item.1).0
       (task_mark p.line item.1 (if has d.options tasklists then task_of item.1 else None)))
-      (λ marker none is. after_task_mark (is_blank_rest marker.1) None tt)
-      (λ r none is. after_quote_mark (tag_after d.options r))
+      (λ marker none is. after_task_holds IsTaskItem (is_blank_rest marker.1) None tt)
+      (λ r none is. after_quote_holds IsTaskItem (tag_after d.options r))
 
   unless_opens : (t : Bool) (o o' : Opening) → OpensBlocks o → OpensBlocks o' → OpensBlocks (if t then o else o')
   unless_opens true o o' h k = h
   unless_opens false o o' h k = k
 
-  opens_container : (path : List Container) (head : Head) (inside : Place) (lines : List Place) (after : AfterMarker) → TaskAfter after
+  opens_container : (path : List Container) (head : Head) (inside : Place) (lines : List Place) (after : AfterMarker) → HoldsAfter IsTaskItem after
       → OpensBlocks (opening_by d path head inside lines after)
   opens_container path head inside lines OnLine h = tt
   opens_container path head inside lines (TaskText marker) h = h
@@ -280,7 +280,8 @@ module _ (Own Inner : ItemBody → Type 0) (d : Document) (own : HoldsOfBlocks O
       (alone_before marker inside blanks h) (alone_before marker inside None h)
   opens_container path head inside lines OnlyTag h = tag_before (around d (opened head.opener ∷ path)) lines
 
-  opens_by : (path : List Container) (p : Place) (lines : List Place) (q : Option Start) (o : Opening) → ((s : Start) → q ≡ Some s → TaskAfter s.after)
+  opens_by : (path : List Container) (p : Place) (lines : List Place) (q : Option Start) (o : Opening)
+      → ((s : Start) → q ≡ Some s → HoldsAfter IsTaskItem s.after)
       → OpensBy d path p lines q o → OpensBlocks o
   unfolding OpensBy
   opens_by path p lines (Some s) o mark e = subst OpensBlocks (sym e) (opens_container path s.head (at_rest p s.rest) lines s.after (mark s refl))

@@ -3,7 +3,6 @@ use Rattle.std.proofs.Common.{◌≡◌, inl, inr, ℕ, ◌+◌, Bool, true, fal
 use Rattle.std.proofs.Common.{ap, ◌∙◌, subst}
 use Rattle.std.proofs.Common.{if◌then◌else◌}
 use Rattle.first_pass_items.specs.declared.item.Item.{Item}
-use Rattle.first_pass_items.specs.declared.item.BlockQuoteKind.{BlockQuoteKind}
 use Rattle.first_pass_items.specs.declared.item.ItemBody.TheVariants.{Root, Rule, Heading as HeadingBody, IndentCodeBlock, FencedCodeBlock, MetadataBlock}
 use Rattle.first_pass_items.specs.declared.item.ItemBody.TheVariants.{HtmlBlock}
 use Rattle.first_pass_items.specs.declared.option_set.Options.{Options}
@@ -42,6 +41,7 @@ use Rattle.first_pass_grammar.specs.Skeleton.{NextBlock}
 use Rattle.first_pass_grammar.specs.Skeleton.{Begins, Ends}
 use Rattle.first_pass_grammar.specs.Skeleton.{next_block, onward, after_first, end_before, IsFirst, IsSequence}
 use Rattle.first_pass_grammar.specs.Derivation.{Tables, no_tables, node_of, Derives, IsOnlyDerived}
+use Rattle.first_pass_grammar.proofs.Sequences.AfterMarkers.{HoldsAfter, after_task_holds, after_quote_holds}
 use Rattle.first_pass_grammar.proofs.Names.NoIndex.{HasNoIndex, only_read}
 use Rattle.first_pass_grammar.specs.RawLines.{range_text, range_html}
 use Rattle.first_pass_grammar.proofs.Uniqueness.Alike.{with_names, AlikeNodes, HoldsNoIndex, AlikeLeaf, AlikeOpening, Alike, label_node, opened_alike, label_named}
@@ -53,7 +53,7 @@ use Rattle.first_pass_grammar.specs.Before.{Before, nothing, after_container, be
 use Rattle.first_pass_grammar.specs.Containers.{is_quote}
 use Rattle.first_pass_grammar.proofs.Sequences.Goings.{same_left}
 use Rattle.first_pass_grammar.proofs.Uniqueness.RowsAlike.{end_alike, forest_alike, told_alike, after_alike}
-use Rattle.first_pass_grammar.specs.Openers.{AfterMarker, OnLine, TaskText, LineEnds, OnlyTag, Start, after_task, after_quote, start_at}
+use Rattle.first_pass_grammar.specs.Openers.{AfterMarker, OnLine, TaskText, LineEnds, OnlyTag, Start, start_at}
 use Rattle.first_pass_grammar.specs.Skeleton.{OpensBy, OpensFootnote, opening_by, without_indent}
 use Rattle.first_pass_grammar.specs.Footnotes.{footnote_head_at}
 use Rattle.first_pass_grammar.proofs.Sequences.OpenerFacts.{start_cases}
@@ -255,36 +255,20 @@ tag_free c [] = tt
 tag_free c (line ∷ lines) =
     first_free (is_ordinary_after_tag c line.rest) (Line, line ∷ lines) (AtPlace (unindented (at_rest line (front c.path line.rest))) OnlyALeaf, lines) tt tt
 
--- the task list item marker after a container's own marker, if there is one, has no index
-abbrev AfterFree : AfterMarker → Type 0
-AfterFree OnLine = Unit {0}
-AfterFree (TaskText marker) = HasNoIndex marker
-AfterFree (LineEnds marker) = IfSome marker HasNoIndex
-AfterFree OnlyTag = Unit {0}
-
-task_after_free : (t : Bool) (marker : Option Item) → IfSome marker HasNoIndex → AfterFree (if t then LineEnds marker else after_task marker)
-task_after_free true marker h = h
-task_after_free false None h = tt
-task_after_free false (Some marker) h = h
-
-quote_after_free : (kind : Option BlockQuoteKind) → AfterFree (after_quote kind)
-quote_after_free None = tt
-quote_after_free (Some kind) = tt
-
--- such a container has no label
+-- such a container has no label, and the task list item marker after its own, if there is one, has no index
 abbrev StartFree : Start → Type 0
-StartFree s = AfterFree s.after × (label_node s.head.opener ≡ [])
+StartFree s = HoldsAfter HasNoIndex s.after × (label_node s.head.opener ≡ [])
 
 start_free : (options : Options) (may : Bool) (p : Place) (s : Start) → start_at options may p ≡ Some s → StartFree s
 start_free options may p =
     start_cases options may p StartFree
     (λ item is. (
-      task_after_free (is_blank_rest (task_after options p.line item.1).1) (task_after options p.line item.1).0
+      after_task_holds HasNoIndex (is_blank_rest (task_after options p.line item.1).1) (task_after options p.line item.1).0
           (task_free p.line item.1 (if has options tasklists then task_of item.1 else None)),
       refl,
     ))
-    (λ marker none is. (task_after_free (is_blank_rest marker.1) None tt, refl))
-    (λ r none is. (quote_after_free (tag_after options r), refl))
+    (λ marker none is. (after_task_holds HasNoIndex (is_blank_rest marker.1) None tt, refl))
+    (λ r none is. (after_quote_holds HasNoIndex (tag_after options r), refl))
 
 label_without : (o : Opener) → label_node o ≡ [] → label_node (without_indent o) ≡ []
 label_without (QuoteMarker kind) h = h
@@ -292,7 +276,7 @@ label_without (ItemMarker byte number columns) h = h
 label_without (FootnoteMarker columns index label) h = h
 label_without (DefinitionMarker columns) h = h
 
-opening_free : (d : Document) (path : List Container) (head : Head) (inside : Place) (lines : List Place) (after : AfterMarker) → AfterFree after
+opening_free : (d : Document) (path : List Container) (head : Head) (inside : Place) (lines : List Place) (after : AfterMarker) → HoldsAfter HasNoIndex after
     → label_node head.opener ≡ [] → OpensFree (opening_by d path head inside lines after)
 opening_free d path head inside lines OnLine h none = (tt, none)
 opening_free d path head inside lines (TaskText marker) h none = (h, none)

@@ -2,7 +2,6 @@
 use Rattle.std.proofs.Common.{◌≡◌, ℕ, ◌≤◌, Bool, true, false, List, [], ◌∷◌, ◌++◌, length, Option, Some, None, MatchOption, IfSome, refl, sym, ap, subst, ◌∙◌}
 use Rattle.std.proofs.Common.{if◌then◌else◌, drop}
 use Rattle.first_pass_items.specs.declared.item.Alignment.{Alignment}
-use Rattle.first_pass_items.specs.declared.item.BlockQuoteKind.{BlockQuoteKind}
 use Rattle.first_pass_items.specs.declared.item.Item.{Item}
 use Rattle.first_pass_items.specs.declared.item.ItemBody.{ItemBody}
 use Rattle.first_pass_items.specs.declared.item.ItemBody.TheVariants.{Paragraph as ParagraphBody, Rule, Heading as HeadingBody, IndentCodeBlock}
@@ -40,6 +39,7 @@ use Rattle.first_pass_grammar.specs.Skeleton.{may_define, OpensAt, Level, Remain
 use Rattle.first_pass_grammar.specs.Skeleton.{after_first, IsFirst}
 use Rattle.first_pass_grammar.specs.Skeleton.{IsSequence}
 use Rattle.first_pass_grammar.specs.WholeTables.{Mark, marks, table_marks, AreFull, AreWholeTables}
+use Rattle.first_pass_grammar.proofs.Sequences.AfterMarkers.{HoldsAfter, after_task_holds, after_quote_holds}
 use Rattle.first_pass_grammar.proofs.Each.EachLeaf.{HoldsOfLeaf, HoldsOfEachLeaf}
 use Rattle.first_pass_grammar.proofs.Each.EachToken.{AreEach, heading_each, range_text_each, range_html_each, raw_lines_each, lines_each, children_each}
 use Rattle.first_pass_grammar.proofs.Each.EachToken.{heading_children_each}
@@ -51,7 +51,7 @@ use Rattle.first_pass_grammar.specs.Footnotes.{footnote_head_at, place_past}
 use Rattle.first_pass_grammar.specs.LinkRuns.{lines_beyond}
 use Rattle.first_pass_grammar.proofs.WholeTables.TableMarks.{text_shows, tokens_show, raw_shows, block_shows, table_shows}
 use Rattle.first_pass_items.specs.declared.item.HeadingLevel.{HeadingLevel}
-use Rattle.first_pass_grammar.specs.Openers.{AfterMarker, OnLine, TaskText, LineEnds, OnlyTag, Start, after_task, after_quote, start_at}
+use Rattle.first_pass_grammar.specs.Openers.{AfterMarker, OnLine, TaskText, LineEnds, OnlyTag, Start, start_at}
 use Rattle.first_pass_grammar.specs.Skeleton.{OpensBy, OpensFootnote, Opens, opening_by, without_indent}
 use Rattle.first_pass_grammar.specs.Blocks.{Head}
 use Rattle.first_pass_grammar.proofs.Sequences.OpenerFacts.{start_cases}
@@ -232,36 +232,24 @@ module _ (d : Document) (full : HeadsAreFull d) where
       ((at_front d.text c.path line h.0, tt), h.1)
 
   -- the task list item marker after a container's own marker, if there is one, is no part of a table
-  abbrev AfterPlain : AfterMarker → Type 0
-  AfterPlain OnLine = Unit {0}
-  AfterPlain (TaskText marker) = ShownBy (Some marker)
-  AfterPlain (LineEnds marker) = ShownBy marker
-  AfterPlain OnlyTag = Unit {0}
-
-  task_after_plain : (t : Bool) (marker : Option Item) → ShownBy marker → AfterPlain (if t then LineEnds marker else after_task marker)
-  task_after_plain true marker h = h
-  task_after_plain false None h = tt
-  task_after_plain false (Some marker) h = h
-
-  quote_after_plain : (kind : Option BlockQuoteKind) → AfterPlain (after_quote kind)
-  quote_after_plain None = tt
-  quote_after_plain (Some kind) = tt
+  abbrev IsPlainItem : Item → Type 0
+  IsPlainItem x = ShowsNothing x.body
 
   abbrev IsPlainStart : Place → Start → Type 0
-  IsPlainStart p s = AfterPlain s.after × IsAt d.text (at_rest p s.rest)
+  IsPlainStart p s = HoldsAfter IsPlainItem s.after × IsAt d.text (at_rest p s.rest)
 
   start_plain : (may : Bool) (p : Place) → IsAt d.text p → (s : Start) → start_at d.options may p ≡ Some s → IsPlainStart p s
   start_plain may p i =
       start_cases d.options may p (IsPlainStart p)
       (λ item is. (
-        task_after_plain (is_blank_rest (task_after d.options p.line item.1).1) (task_after d.options p.line item.1).0
+        after_task_holds IsPlainItem (is_blank_rest (task_after d.options p.line item.1).1) (task_after d.options p.line item.1).0
             (task_plain p.line item.1 (if has d.options tasklists then task_of item.1 else None)),
         at_item d.text d.options p item is i,
       ))
-      (λ marker none is. (task_after_plain (is_blank_rest marker.1) None tt, at_marker d.text p marker is i))
-      (λ r none is. (quote_after_plain (tag_after d.options r), at_quote d.text p r is i))
+      (λ marker none is. (after_task_holds IsPlainItem (is_blank_rest marker.1) None tt, at_marker d.text p marker is i))
+      (λ r none is. (after_quote_holds IsPlainItem (tag_after d.options r), at_quote d.text p r is i))
 
-  opening_whole : (path : List Container) (head : Head) (inside : Place) (lines : List Place) (after : AfterMarker) → AfterPlain after
+  opening_whole : (path : List Container) (head : Head) (inside : Place) (lines : List Place) (after : AfterMarker) → HoldsAfter IsPlainItem after
       → IsAt d.text inside → AreAt d.text lines → WholeOpening d (opening_by d path head inside lines after)
   opening_whole path head inside lines OnLine plain i h = ((i, tt), h)
   opening_whole path head inside lines (TaskText marker) plain i h = ((i, plain), h)
