@@ -35,7 +35,7 @@ pub fn read_case(alloc: Global, group: &str) -> Result<Result<Case<'_>, &'static
     }))
 }
 
-/// The word of the options, if the first line has one, and the lines after it.
+// The word of the options, if the first line has one, and the lines after it.
 fn read_options(group: &str) -> (Option<&str>, &str) {
     match group.strip_prefix("options ") {
         Some(following) => match following.split_once('\n') {
@@ -58,7 +58,7 @@ pub fn printed(alloc: Global, case: &Case<'_>) -> Result<Option<String>, RunFaul
     }
 }
 
-/// The words for `blocks`.
+// The words for `blocks`.
 fn words_of(alloc: Global, case: &Case<'_>) -> Result<Vec<String>, AllocError> {
     let mut words = Vec::new(alloc);
     if let Some(word) = case.options {

@@ -15,7 +15,7 @@ pub fn compare(alloc: Global, table: &str, report: &mut String) -> Result<Tally,
     )
 }
 
-/// Runs the case whose first line has this number, and returns whether it differs.
+// Runs the case whose first line has this number, and returns whether it differs.
 fn compare_case(
     alloc: Global,
     group: &str,

@@ -45,7 +45,7 @@ pub fn bench_run<T: TimeSource, R: Read, W: Write>(
     report_text(clock, alloc, bytes.as_slice(), task, output)
 }
 
-/// Writes the line for a text, after checking that the text is UTF-8.
+// Writes the line for a text, after checking that the text is UTF-8.
 fn report_text<T: TimeSource, W: Write>(
     clock: &mut T,
     alloc: Global,

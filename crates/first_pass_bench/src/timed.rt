@@ -47,7 +47,7 @@ pub fn time_runs<T: TimeSource>(
     Ok(timing)
 }
 
-/// Runs the pass on a text once. The tree and the tables are dropped after the second reading of the clock.
+// Runs the pass on a text once. The tree and the tables are dropped after the second reading of the clock.
 fn run_once<T: TimeSource>(
     clock: &mut T,
     alloc: Global,

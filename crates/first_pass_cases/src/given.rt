@@ -1,6 +1,6 @@
 //! The arguments of a call other than its text.
 
-/// The greatest number of arguments of a call.
+// The greatest number of arguments of a call.
 const MOST: usize = 5;
 
 /// The arguments of a call, and their number.
@@ -47,7 +47,7 @@ pub fn read_given(words: &str) -> Given {
     given
 }
 
-/// The value of a word: a number, a flag, or the first byte of a character.
+// The value of a word: a number, a flag, or the first byte of a character.
 fn value_of(word: &str) -> usize {
     match word {
         "true" => 1,

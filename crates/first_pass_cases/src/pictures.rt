@@ -15,7 +15,7 @@ pub fn read_shown(alloc: Global, shown: &str) -> Result<String, AllocError> {
     Ok(text)
 }
 
-/// The character of a picture; any other character is unchanged.
+// The character of a picture; any other character is unchanged.
 fn after_picture(character: char) -> char {
     match character {
         '\u{2400}'..='\u{2420}' => char::from_u32(character as u32 - 0x2400).unwrap_or(character),
@@ -31,7 +31,7 @@ pub fn append_shown(shown: &mut String, text: &str) -> Result<(), AllocError> {
     Ok(())
 }
 
-/// The picture of a control character; any other character is unchanged.
+// The picture of a control character; any other character is unchanged.
 fn picture_of(character: char) -> char {
     match character {
         '\0'..='\u{1f}' => char::from_u32(character as u32 + 0x2400).unwrap_or(character),

@@ -7,7 +7,7 @@ use crate::fault::RunFault;
 use std::alloc::Global;
 use std::io::Read;
 
-/// The greatest number of bytes of a read.
+// The greatest number of bytes of a read.
 const PIECE: usize = 8192;
 
 /// Returns all bytes of the input, up to the first read that returns none. Returns `ReadFailed` if a read fails, and

@@ -21,7 +21,7 @@ pub fn parse_options(words: &[String]) -> Option<Options>
     }
 }
 
-/// The options that a word denotes: those whose bits are its decimal value, in one or more ASCII digits.
+// The options that a word denotes: those whose bits are its decimal value, in one or more ASCII digits.
 fn options_of(word: &str) -> Option<Options>
     ensures some { IfSome result (λ options. WordMeans word.now options.0) }
     ensures none { IsNone result → (bits : ℕ) → ¬ WordMeans word.now bits }

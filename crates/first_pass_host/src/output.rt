@@ -11,7 +11,7 @@ use crate::fault::RunFault;
 use std::alloc::{AllocError, Global};
 use std::io::Write;
 
-/// Held bytes are written when there are at least this many.
+// Held bytes are written when there are at least this many.
 const PIECE: usize = 8192;
 
 /// Writes all of `bytes`, in as many writes as necessary. Returns `WriteFailed` if a write fails or writes no byte; a

@@ -31,7 +31,7 @@ pub fn append_definition(
     line.extend_from_slice(b"}\n")
 }
 
-/// Appends the label, the destination and the title of a link definition.
+// Appends the label, the destination and the title of a link definition.
 #[tactic(auto, unfolding(crate::specs::JsonLines::link_members))]
 fn append_link(
     line: &mut Vec<u8>,
@@ -44,7 +44,7 @@ fn append_link(
     append_target(line, definition)
 }
 
-/// Appends the destination and the title of a link definition.
+// Appends the destination and the title of a link definition.
 #[tactic(auto, unfolding(crate::specs::JsonLines::target_members))]
 fn append_target(line: &mut Vec<u8>, definition: &LinkDef<'_>) -> Result<(), AllocError>
     ensures { OnOk result (line.new.items ≡ line.old.items
@@ -54,7 +54,7 @@ fn append_target(line: &mut Vec<u8>, definition: &LinkDef<'_>) -> Result<(), All
     append_title(line, &definition.title)
 }
 
-/// Appends a title, or `null` if there is none.
+// Appends a title, or `null` if there is none.
 fn append_title(line: &mut Vec<u8>, title: &Option<CowStr<'_>>) -> Result<(), AllocError>
     ensures { OnOk result (line.new.items
         ≡ line.old.items ++ codes ",\"title\":" ++ text_or_null (option_map text_of title.now)) }

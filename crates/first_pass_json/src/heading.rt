@@ -30,7 +30,7 @@ pub fn append_heading(
     }
 }
 
-/// Appends the members of empty attributes.
+// Appends the members of empty attributes.
 #[tactic(auto, unfolding(crate::specs::Members::attribute_members))]
 fn append_no_attributes(line: &mut Vec<u8>) -> Result<(), AllocError>
     ensures { OnOk result (line.new.items ≡ line.old.items ++ attribute_members no_attributes) }
@@ -38,7 +38,7 @@ fn append_no_attributes(line: &mut Vec<u8>) -> Result<(), AllocError>
     line.extend_from_slice(b",\"id\":null,\"classes\":[],\"attributes\":[]")
 }
 
-/// Appends the members of attributes.
+// Appends the members of attributes.
 #[tactic(auto, unfolding(crate::specs::Members::attribute_members))]
 fn append_attributes(line: &mut Vec<u8>, given: &HeadingAttributes<'_>) -> Result<(), AllocError>
     ensures { OnOk result (line.new.items ≡ line.old.items ++ attribute_members (attributes_in given.now)) }
@@ -51,7 +51,7 @@ fn append_attributes(line: &mut Vec<u8>, given: &HeadingAttributes<'_>) -> Resul
     append_pairs(line, &given.attrs)
 }
 
-/// Appends classes as an array.
+// Appends classes as an array.
 fn append_classes(line: &mut Vec<u8>, classes: &[&str]) -> Result<(), AllocError>
     ensures { OnOk result (line.new.items
         ≡ line.old.items ++ array json_string (map (λ class. class.now) classes.now)) }
@@ -59,7 +59,7 @@ fn append_classes(line: &mut Vec<u8>, classes: &[&str]) -> Result<(), AllocError
     append_array(line, classes)
 }
 
-/// Appends keys with their values as an array.
+// Appends keys with their values as an array.
 fn append_pairs(line: &mut Vec<u8>, pairs: &[(&str, Option<&str>)]) -> Result<(), AllocError>
     ensures { OnOk result (line.new.items ≡ line.old.items ++ array pair (map pair_in pairs.now)) }
 {

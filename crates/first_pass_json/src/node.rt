@@ -35,7 +35,7 @@ pub fn append_node(
     line.extend_from_slice(b"}\n")
 }
 
-/// Appends the members that every node has: its kind, its depth and its range.
+// Appends the members that every node has: its kind, its depth and its range.
 fn append_common(line: &mut Vec<u8>, depth: usize, item: Item) -> Result<(), AllocError>
     ensures { OnOk result (line.new.items ≡ line.old.items ++ node_members (depth, item)) }
 {
@@ -54,7 +54,7 @@ pub fn append_range(line: &mut Vec<u8>, start: usize, end: usize) -> Result<(), 
     append_number_after(line, b",\"end\":", end)
 }
 
-/// Appends the members of a block, if it has any.
+// Appends the members of a block, if it has any.
 fn append_block(
     line: &mut Vec<u8>,
     body: ItemBody,
@@ -86,7 +86,7 @@ fn append_block(
     }
 }
 
-/// Appends the kind of a block quote, or `null` if it has no tag.
+// Appends the kind of a block quote, or `null` if it has no tag.
 fn append_quote_kind(line: &mut Vec<u8>, kind: Option<BlockQuoteKind>) -> Result<(), AllocError>
     ensures { OnOk result (line.new.items ≡ line.old.items ++ codes ",\"quote\":" ++ quote_or_null kind) }
 {
@@ -97,14 +97,14 @@ fn append_quote_kind(line: &mut Vec<u8>, kind: Option<BlockQuoteKind>) -> Result
     }
 }
 
-/// Appends the number of columns that a line needs to continue an item.
+// Appends the number of columns that a line needs to continue an item.
 fn append_columns(line: &mut Vec<u8>, columns: usize) -> Result<(), AllocError>
     ensures { OnOk result (line.new.items ≡ line.old.items ++ codes ",\"columns\":" ++ decimal columns) }
 {
     append_number_after(line, b",\"columns\":", columns)
 }
 
-/// Appends the kind of a metadata block.
+// Appends the kind of a metadata block.
 fn append_metadata(line: &mut Vec<u8>, kind: MetadataBlockKind) -> Result<(), AllocError>
     ensures { OnOk result (line.new.items ≡ line.old.items ++ codes ",\"metadata\":" ++ word (metadata_name kind)) }
 {
@@ -112,14 +112,14 @@ fn append_metadata(line: &mut Vec<u8>, kind: MetadataBlockKind) -> Result<(), Al
     append_word(line, metadata_name(kind))
 }
 
-/// Appends whether a list is tight (CommonMark 5.3).
+// Appends whether a list is tight (CommonMark 5.3).
 fn append_tight(line: &mut Vec<u8>, flags: ListFlags) -> Result<(), AllocError>
     ensures { OnOk result (line.new.items ≡ line.old.items ++ codes ",\"tight\":" ++ boolean (is_tight flags)) }
 {
     append_flag_after(line, b",\"tight\":", flags.contains(ListFlags::IS_TIGHT))
 }
 
-/// Appends the members of a list.
+// Appends the members of a list.
 fn append_list(
     line: &mut Vec<u8>,
     flags: ListFlags,

@@ -48,7 +48,7 @@ pub fn append_token(
     }
 }
 
-/// Appends whether a delimiter run can open and close.
+// Appends whether a delimiter run can open and close.
 fn append_sides(line: &mut Vec<u8>, can_open: bool, can_close: bool) -> Result<(), AllocError>
     ensures { OnOk result (line.new.items
         ≡ line.old.items ++ codes ",\"can_open\":" ++ boolean can_open
@@ -58,7 +58,7 @@ fn append_sides(line: &mut Vec<u8>, can_open: bool, can_close: bool) -> Result<(
     append_flag_after(line, b",\"can_close\":", can_close)
 }
 
-/// Appends the members of an emphasis delimiter.
+// Appends the members of an emphasis delimiter.
 fn append_emphasis(
     line: &mut Vec<u8>,
     remaining: usize,
@@ -73,7 +73,7 @@ fn append_emphasis(
     append_sides(line, can_open, can_close)
 }
 
-/// Appends the members of a math delimiter.
+// Appends the members of a math delimiter.
 fn append_math(
     line: &mut Vec<u8>,
     can_open: bool,
@@ -88,7 +88,7 @@ fn append_math(
     append_number_after(line, b",\"context\":", context)
 }
 
-/// Appends the members of a quotation mark.
+// Appends the members of a quotation mark.
 fn append_quote(
     line: &mut Vec<u8>,
     byte: u8,
@@ -104,7 +104,7 @@ fn append_quote(
     append_sides(line, can_open, can_close)
 }
 
-/// Appends the members of a run of backquotes.
+// Appends the members of a run of backquotes.
 fn append_code(line: &mut Vec<u8>, count: usize, escaped: bool) -> Result<(), AllocError>
     ensures { OnOk result (line.new.items
         ≡ line.old.items ++ codes ",\"count\":" ++ decimal count ++ codes ",\"escaped\":" ++ boolean escaped) }
@@ -113,7 +113,7 @@ fn append_code(line: &mut Vec<u8>, count: usize, escaped: bool) -> Result<(), Al
     append_flag_after(line, b",\"escaped\":", escaped)
 }
 
-/// Appends the text of one character.
+// Appends the text of one character.
 fn append_text_of(line: &mut Vec<u8>, character: char) -> Result<(), AllocError>
     ensures { OnOk result (line.new.items
         ≡ line.old.items ++ codes ",\"text\":" ++ json_string (encode_utf8 character)) }

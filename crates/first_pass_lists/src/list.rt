@@ -32,9 +32,9 @@ pub struct ListMarker {
     pub indent: usize,
 }
 
-/// The list, which is the current node, was just closed. If it is tight, the paragraphs directly in its items become
-/// tight (CommonMark 5.3). Then the tree records where the nodes of the list end. If `left` is given, it is the last
-/// child and is about to leave the list, so the nodes end before it.
+// The list, which is the current node, was just closed. If it is tight, the paragraphs directly in its items become
+// tight (CommonMark 5.3). Then the tree records where the nodes of the list end. If `left` is given, it is the last
+// child and is about to leave the list, so the nodes end before it.
 #[inline(never)]
 fn tighten_list(
     tree: &mut Tree<Item>,
@@ -54,7 +54,7 @@ fn tighten_list(
     }
 }
 
-/// Makes a list loose; any other node is unchanged.
+// Makes a list loose; any other node is unchanged.
 fn loosen(tree: &mut Tree<Item>, ix: TreeIndex)
     requires { ix.0 < length tree.old.nodes }
     ensures { tree.new ≡ loosened_at tree.old ix }

@@ -33,7 +33,7 @@ pub fn append_entry(line: &mut Vec<u8>, entry: &OutlineEntry<'_>) -> Result<(), 
     Ok(())
 }
 
-/// Appends a space, `#` and an id, if there is one.
+// Appends a space, `#` and an id, if there is one.
 fn append_id(line: &mut Vec<u8>, id: Option<&str>) -> Result<(), AllocError>
     ensures { OnOk result (line.new.items ≡ line.old.items ++ id_text (option_map (λ id. id.now) id.entry)) }
 {

@@ -28,7 +28,7 @@ pub fn append_heading(
     Ok(())
 }
 
-/// Appends the attributes of a heading, if it has any: its id, then its classes, then its keys.
+// Appends the attributes of a heading, if it has any: its id, then its classes, then its keys.
 fn append_attributes(
     line: &mut Vec<u8>,
     attributes: Option<&HeadingAttributes<'_>>,
@@ -46,7 +46,7 @@ fn append_attributes(
     }
 }
 
-/// Appends a comma and an id after `#`, if there is one.
+// Appends a comma and an id after `#`, if there is one.
 fn append_id(line: &mut Vec<u8>, id: Option<&str>) -> Result<(), AllocError>
     ensures { OnOk result (line.new.items ≡ line.old.items ++ id_value (option_map (λ text. text.now) id.entry)) }
 {
@@ -56,7 +56,7 @@ fn append_id(line: &mut Vec<u8>, id: Option<&str>) -> Result<(), AllocError>
     }
 }
 
-/// Appends classes, each after a comma and `.`.
+// Appends classes, each after a comma and `.`.
 #[tactic(auto, unfolding(crate::specs::HeadingValues::class_values))]
 fn append_classes(line: &mut Vec<u8>, classes: &[&str]) -> Result<(), AllocError>
     ensures { OnOk result (line.new.items
@@ -68,7 +68,7 @@ fn append_classes(line: &mut Vec<u8>, classes: &[&str]) -> Result<(), AllocError
     Ok(())
 }
 
-/// Appends keys, each after a comma, with its value if it has one.
+// Appends keys, each after a comma, with its value if it has one.
 #[tactic(auto, unfolding(crate::specs::HeadingValues::key_values))]
 fn append_keys(line: &mut Vec<u8>, pairs: &[(&str, Option<&str>)]) -> Result<(), AllocError>
     ensures { OnOk result (line.new.items ≡ line.old.items ++ key_values (map pair_in pairs.now)) }
@@ -79,7 +79,7 @@ fn append_keys(line: &mut Vec<u8>, pairs: &[(&str, Option<&str>)]) -> Result<(),
     Ok(())
 }
 
-/// Appends a comma, a key, and its value if it has one.
+// Appends a comma, a key, and its value if it has one.
 fn append_key(line: &mut Vec<u8>, pair: (&str, Option<&str>)) -> Result<(), AllocError>
     ensures { OnOk result (line.new.items ≡ line.old.items ++ key_value (pair_in pair.entry)) }
 {
@@ -87,7 +87,7 @@ fn append_key(line: &mut Vec<u8>, pair: (&str, Option<&str>)) -> Result<(), Allo
     append_value(line, pair.1)
 }
 
-/// Appends the value of a key after `=`, if it has one.
+// Appends the value of a key after `=`, if it has one.
 fn append_value(line: &mut Vec<u8>, value: Option<&str>) -> Result<(), AllocError>
     ensures { OnOk result (line.new.items
         ≡ line.old.items ++ value_after_key (option_map (λ text. text.now) value.entry)) }
@@ -98,7 +98,7 @@ fn append_value(line: &mut Vec<u8>, value: Option<&str>) -> Result<(), AllocErro
     }
 }
 
-/// Appends the bytes of a sign, then a text.
+// Appends the bytes of a sign, then a text.
 fn append_after(line: &mut Vec<u8>, sign: &[u8], text: &str) -> Result<(), AllocError>
     ensures { OnOk result (line.new.items ≡ line.old.items ++ sign.now ++ visible text.now) }
 {

@@ -30,7 +30,7 @@ pub fn append_link(
     append_range(line, definition.span.start, definition.span.end)
 }
 
-/// Appends a space and a title in quotation marks, if there is one.
+// Appends a space and a title in quotation marks, if there is one.
 fn append_title(line: &mut Vec<u8>, title: &Option<CowStr<'_>>) -> Result<(), AllocError>
     ensures { OnOk result (line.new.items ≡ line.old.items ++ quoted_title (option_map text_of title.now)) }
 {
@@ -40,7 +40,7 @@ fn append_title(line: &mut Vec<u8>, title: &Option<CowStr<'_>>) -> Result<(), Al
     }
 }
 
-/// Appends a space and a text in quotation marks.
+// Appends a space and a text in quotation marks.
 fn append_quoted(line: &mut Vec<u8>, text: &str) -> Result<(), AllocError>
     ensures { OnOk result (line.new.items ≡ line.old.items ++ codes " \"" ++ visible text.now ++ codes "\"") }
 {

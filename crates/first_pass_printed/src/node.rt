@@ -44,7 +44,7 @@ pub fn append_range(line: &mut Vec<u8>, start: usize, end: usize) -> Result<(), 
     Ok(())
 }
 
-/// Appends two spaces for each level of depth.
+// Appends two spaces for each level of depth.
 #[tactic(auto, unfolding(crate::specs::Printed::indentation))]
 fn append_indentation(line: &mut Vec<u8>, depth: usize) -> Result<(), AllocError>
     ensures { OnOk result (line.new.items ≡ line.old.items ++ indentation depth) }
@@ -63,7 +63,7 @@ pub fn append_number<I: Integer>(line: &mut Vec<u8>, number: I) -> Result<(), Al
     line.extend_from_slice(digits.format(number).as_bytes())
 }
 
-/// Appends the kind of a node: its name, its values and the entry of its index.
+// Appends the kind of a node: its name, its values and the entry of its index.
 fn append_body(
     line: &mut Vec<u8>,
     body: ItemBody,
@@ -77,7 +77,7 @@ fn append_body(
     append_named(line, body, allocs)
 }
 
-/// Appends the entry of a node's index in parentheses, if it has one.
+// Appends the entry of a node's index in parentheses, if it has one.
 fn append_named(
     line: &mut Vec<u8>,
     body: ItemBody,
@@ -109,7 +109,7 @@ pub fn attributes_at<'a, 'b>(
     }
 }
 
-/// Appends a text in parentheses, with a backslash, a newline and a carriage return escaped as `\\`, `\n` and `\r`.
+// Appends a text in parentheses, with a backslash, a newline and a carriage return escaped as `\\`, `\n` and `\r`.
 fn append_text(line: &mut Vec<u8>, text: &str) -> Result<(), AllocError>
     ensures { OnOk result (line.new.items ≡ line.old.items ++ in_parentheses (visible text.now)) }
 {
@@ -130,7 +130,7 @@ pub fn append_visible(line: &mut Vec<u8>, bytes: &[u8]) -> Result<(), AllocError
     Ok(())
 }
 
-/// Appends a byte in this form.
+// Appends a byte in this form.
 fn append_byte(line: &mut Vec<u8>, byte: u8) -> Result<(), AllocError>
     ensures { OnOk result (line.new.items ≡ line.old.items ++ visible_byte byte) }
 {
@@ -142,7 +142,7 @@ fn append_byte(line: &mut Vec<u8>, byte: u8) -> Result<(), AllocError>
     }
 }
 
-/// Appends the values of a block other than a heading in parentheses, if it has any.
+// Appends the values of a block other than a heading in parentheses, if it has any.
 fn append_block_values(line: &mut Vec<u8>, body: ItemBody) -> Result<(), AllocError>
     ensures { OnOk result (line.new.items ≡ line.old.items ++ block_values body) }
 {
@@ -157,7 +157,7 @@ fn append_block_values(line: &mut Vec<u8>, body: ItemBody) -> Result<(), AllocEr
     }
 }
 
-/// Appends the values of a token in parentheses, if it has any.
+// Appends the values of a token in parentheses, if it has any.
 fn append_token_values(line: &mut Vec<u8>, body: ItemBody) -> Result<(), AllocError>
     ensures { OnOk result (line.new.items ≡ line.old.items ++ token_values body) }
 {
@@ -183,7 +183,7 @@ fn append_token_values(line: &mut Vec<u8>, body: ItemBody) -> Result<(), AllocEr
     }
 }
 
-/// Appends a word in parentheses.
+// Appends a word in parentheses.
 fn append_word(line: &mut Vec<u8>, word: &str) -> Result<(), AllocError>
     ensures { OnOk result (line.new.items ≡ line.old.items ++ in_parentheses word.now) }
 {
@@ -193,7 +193,7 @@ fn append_word(line: &mut Vec<u8>, word: &str) -> Result<(), AllocError>
     Ok(())
 }
 
-/// Appends a number in parentheses.
+// Appends a number in parentheses.
 fn append_one(line: &mut Vec<u8>, number: usize) -> Result<(), AllocError>
     ensures { OnOk result (line.new.items ≡ line.old.items ++ in_parentheses (decimal number)) }
 {
@@ -203,7 +203,7 @@ fn append_one(line: &mut Vec<u8>, number: usize) -> Result<(), AllocError>
     Ok(())
 }
 
-/// Appends the values of a list.
+// Appends the values of a list.
 fn append_list(
     line: &mut Vec<u8>,
     flags: ListFlags,
@@ -222,7 +222,7 @@ fn append_list(
     Ok(())
 }
 
-/// Appends whether a delimiter run can open and close, after other values.
+// Appends whether a delimiter run can open and close, after other values.
 fn append_sides(line: &mut Vec<u8>, can_open: bool, can_close: bool) -> Result<(), AllocError>
     ensures { OnOk result (line.new.items
         ≡ line.old.items ++ codes "," ++ flag_name can_open ++ codes "," ++ flag_name can_close ++ codes ")") }
@@ -235,7 +235,7 @@ fn append_sides(line: &mut Vec<u8>, can_open: bool, can_close: bool) -> Result<(
     Ok(())
 }
 
-/// Appends the values of an emphasis delimiter.
+// Appends the values of an emphasis delimiter.
 fn append_emphasis(
     line: &mut Vec<u8>,
     left: usize,
@@ -249,7 +249,7 @@ fn append_emphasis(
     append_sides(line, can_open, can_close)
 }
 
-/// Appends the values of a math delimiter.
+// Appends the values of a math delimiter.
 fn append_math(
     line: &mut Vec<u8>,
     can_open: bool,
@@ -268,7 +268,7 @@ fn append_math(
     Ok(())
 }
 
-/// Appends the values of a quotation mark.
+// Appends the values of a quotation mark.
 fn append_quote(
     line: &mut Vec<u8>,
     byte: u8,
@@ -282,7 +282,7 @@ fn append_quote(
     append_sides(line, can_open, can_close)
 }
 
-/// Appends the values of a run of backquotes.
+// Appends the values of a run of backquotes.
 fn append_code(line: &mut Vec<u8>, count: usize, escaped: bool) -> Result<(), AllocError>
     ensures { OnOk result (line.new.items ≡ line.old.items ++ token_values (MaybeCode count escaped)) }
 {
@@ -294,7 +294,7 @@ fn append_code(line: &mut Vec<u8>, count: usize, escaped: bool) -> Result<(), Al
     Ok(())
 }
 
-/// Appends a character in parentheses.
+// Appends a character in parentheses.
 fn append_character(line: &mut Vec<u8>, character: char) -> Result<(), AllocError>
     ensures { OnOk result (line.new.items ≡ line.old.items ++ in_parentheses (encode_utf8 character)) }
 {
@@ -309,7 +309,7 @@ pub fn flag_name(flag: bool) -> &'static str
     if flag { "true" } else { "false" }
 }
 
-/// `tight` or `loose` (CommonMark 5.3).
+// `tight` or `loose` (CommonMark 5.3).
 fn list_name(flags: ListFlags) -> &'static str
     ensures { result.now ≡ list_name flags }
 {

@@ -16,7 +16,7 @@ pub fn append_alignments(line: &mut Vec<u8>, alignments: &[Alignment]) -> Result
     Ok(())
 }
 
-/// Appends the signs of columns, separated by commas.
+// Appends the signs of columns, separated by commas.
 fn append_signs(line: &mut Vec<u8>, alignments: &[Alignment]) -> Result<(), AllocError>
     ensures { OnOk result (line.new.items ≡ line.old.items ++ alignment_signs alignments.now) }
 {
@@ -29,7 +29,7 @@ fn append_signs(line: &mut Vec<u8>, alignments: &[Alignment]) -> Result<(), Allo
     }
 }
 
-/// Appends the signs of columns, each after a comma.
+// Appends the signs of columns, each after a comma.
 #[tactic(auto, unfolding(crate::specs::Printed::signs_after))]
 fn append_signs_after(line: &mut Vec<u8>, alignments: &[Alignment]) -> Result<(), AllocError>
     ensures { OnOk result (line.new.items ≡ line.old.items ++ signs_after alignments.now) }

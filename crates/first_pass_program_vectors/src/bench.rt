@@ -5,7 +5,7 @@ use first_pass_host::fault::RunFault;
 use std::process::Abort;
 use std::test::Fail;
 
-/// A text of eight bytes, whose tree has seven nodes.
+// A text of eight bytes, whose tree has seven nodes.
 const TEXT: &[u8] = b"# a\nb\\\nc";
 
 // A run over a text: its result, and the clock, the reader and the writer after it.
@@ -38,7 +38,7 @@ fn timed<'a>(
     })
 }
 
-/// Asserts the output for a text, with a clock that has these readings.
+// Asserts the output for a text, with a clock that has these readings.
 fn assert_printed(
     rt: &(impl Abort + AllocGlobal),
     words: &[&str],

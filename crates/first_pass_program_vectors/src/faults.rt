@@ -11,7 +11,7 @@ use std::test::Fail;
 
 const WHOLE: usize = usize::MAX;
 
-/// A text of 3,000 paragraphs, which takes several reads and writes.
+// A text of 3,000 paragraphs, which takes several reads and writes.
 fn long_text(alloc: Global) -> Result<Vec<u8>, AllocError> {
     let mut text = Vec::new(alloc);
     for _ in 0..3000 {
@@ -82,7 +82,7 @@ fn each_write_fails_in_turn(rt: HostRuntime) -> Result<(), Fail> {
     Ok(())
 }
 
-/// Three definitions, the second of which is longer than the output buffer.
+// Three definitions, the second of which is longer than the output buffer.
 fn long_definitions(alloc: Global) -> Result<Vec<u8>, AllocError> {
     let mut text = Vec::new(alloc);
     text.extend_from_slice(b"[a]: x\n[b]: ")?;

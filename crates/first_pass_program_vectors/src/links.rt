@@ -5,7 +5,7 @@ use first_pass_host::fault::RunFault;
 use std::process::Abort;
 use std::test::Fail;
 
-/// Asserts the output for texts under options.
+// Asserts the output for texts under options.
 fn assert_listed(
     rt: &(impl Abort + AllocGlobal),
     options: &str,

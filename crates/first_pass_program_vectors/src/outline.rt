@@ -9,7 +9,7 @@ use std::test::Fail;
 
 const WHOLE: usize = usize::MAX;
 
-/// Twelve bytes, with two headings.
+// Twelve bytes, with two headings.
 const TEXT: &[u8] = b"a\n=\n\n> ## b\n";
 
 #[test]

@@ -53,8 +53,8 @@ impl Open {
         Open::new(child, room)
     }
 
-    /// Whether a child is a task list item marker that is first in a paragraph, a heading or a title, and starts
-    /// before it.
+    // Whether a child is a task list item marker that is first in a paragraph, a heading or a title, and starts
+    // before it.
     fn is_marker_before(&self, child: Item) -> bool {
         matches!(child.body, ItemBody::TaskListMarker(_))
             && !self.has_child
@@ -62,9 +62,9 @@ impl Open {
             && child.start < self.item.start
     }
 
-    /// The least start of a task list item marker before the next child, if one is permitted. Before a paragraph, a
-    /// heading or a definition list directly in a list item, it is the end of the sibling before. Before the title
-    /// that is first in such a definition list, it is that before the list.
+    // The least start of a task list item marker before the next child, if one is permitted. Before a paragraph, a
+    // heading or a definition list directly in a list item, it is the end of the sibling before. Before the title
+    // that is first in such a definition list, it is that before the list.
     fn room_before(&self, child: ItemBody) -> Option<usize> {
         match (self.item.body, child) {
             (ItemBody::ListItem(_), ItemBody::DefinitionList(_)) => Some(self.from),
@@ -77,7 +77,7 @@ impl Open {
     }
 }
 
-/// Whether a node is a paragraph, a heading or a title.
+// Whether a node is a paragraph, a heading or a title.
 fn is_text_block(body: ItemBody) -> bool {
     matches!(
         body,

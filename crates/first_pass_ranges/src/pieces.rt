@@ -25,7 +25,7 @@ where
     Ok(())
 }
 
-/// Tries each piece once, the last one first; returns whether any was removed.
+// Tries each piece once, the last one first; returns whether any was removed.
 fn remove_some<F>(alloc: Global, pieces: &mut Vec<&str>, is_true: &F) -> Result<bool, AllocError>
 where
     F: Fn(&str) -> Result<bool, AllocError> + Drop,

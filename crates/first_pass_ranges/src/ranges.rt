@@ -37,12 +37,12 @@ pub fn find_breach(
     Ok(None)
 }
 
-/// A breach as a result.
+// A breach as a result.
 fn breach_at(place: usize, flaw: Flaw) -> Result<Option<Breach>, AllocError> {
     Ok(Some(Breach { place, flaw }))
 }
 
-/// Enters a node at a depth, or returns what is wrong with it. `around` has the nodes around it.
+// Enters a node at a depth, or returns what is wrong with it. `around` has the nodes around it.
 fn enter(
     around: &mut Vec<Open>,
     text: &str,
@@ -67,7 +67,7 @@ fn enter(
     Ok(flaw)
 }
 
-/// What is wrong with a node on its own.
+// What is wrong with a node on its own.
 fn own_flaw(text: &str, item: Item) -> Option<Flaw> {
     if item.end < item.start {
         Some(Flaw::Turned)
@@ -82,13 +82,13 @@ fn own_flaw(text: &str, item: Item) -> Option<Flaw> {
     }
 }
 
-/// Whether there are more nodes than the root, four for each byte of the text, and the inserted cells.
+// Whether there are more nodes than the root, four for each byte of the text, and the inserted cells.
 fn has_too_many(text: &str, nodes: &[(usize, Item)]) -> bool {
     let most = text.len().saturating_mul(4).saturating_add(1);
     most.saturating_add(count_inserted(nodes)) < nodes.len()
 }
 
-/// The number of inserted cells: the empty cells at the end of a row.
+// The number of inserted cells: the empty cells at the end of a row.
 fn count_inserted(nodes: &[(usize, Item)]) -> usize {
     let mut inserted: usize = 0;
     let mut row_end = None;

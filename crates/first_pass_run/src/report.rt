@@ -57,7 +57,7 @@ pub fn run_report<P: Report, R: Read, W: Write>(
     report_bytes(report, alloc, bytes.as_slice(), options, output)
 }
 
-/// Writes a report on bytes that may not be UTF-8.
+// Writes a report on bytes that may not be UTF-8.
 fn report_bytes<P: Report, W: Write>(
     report: &P,
     alloc: Global,

@@ -20,7 +20,7 @@ pub fn append_report(line: &mut Vec<u8>, bytes: usize, timing: Timing) -> Result
     Ok(())
 }
 
-/// Appends the number of bytes, of nodes and of runs.
+// Appends the number of bytes, of nodes and of runs.
 fn append_counts(line: &mut Vec<u8>, bytes: usize, timing: Timing) -> Result<(), AllocError>
     ensures { OnOk result (line.new.items ≡ line.old.items ++ counts_text bytes timing.nodes timing.runs) }
 {
@@ -33,7 +33,7 @@ fn append_counts(line: &mut Vec<u8>, bytes: usize, timing: Timing) -> Result<(),
     Ok(())
 }
 
-/// Appends a time in nanoseconds, in milliseconds and as a rate for so many bytes.
+// Appends a time in nanoseconds, in milliseconds and as a rate for so many bytes.
 fn append_time(line: &mut Vec<u8>, bytes: usize, nanos: u128) -> Result<(), AllocError>
     ensures { OnOk result (line.new.items ≡ line.old.items ++ time_text bytes nanos) }
 {
@@ -44,14 +44,14 @@ fn append_time(line: &mut Vec<u8>, bytes: usize, nanos: u128) -> Result<(), Allo
     Ok(())
 }
 
-/// The rate in tenths of a megabyte (10^6 bytes) a second, from bytes and nanoseconds. Zero nanoseconds count as one.
+// The rate in tenths of a megabyte (10^6 bytes) a second, from bytes and nanoseconds. Zero nanoseconds count as one.
 fn rate(bytes: usize, nanos: u128) -> u128
     ensures { result ≡ rate bytes nanos }
 {
     bytes as u128 * 10_000 / nanos.max(1)
 }
 
-/// Appends a number of thousandths as a decimal fraction.
+// Appends a number of thousandths as a decimal fraction.
 fn append_thousandths(line: &mut Vec<u8>, number: u128) -> Result<(), AllocError>
     ensures { OnOk result (line.new.items ≡ line.old.items ++ thousandths number) }
 {
@@ -62,7 +62,7 @@ fn append_thousandths(line: &mut Vec<u8>, number: u128) -> Result<(), AllocError
     append_number(line, number % 10)
 }
 
-/// Appends a number of tenths as a decimal fraction.
+// Appends a number of tenths as a decimal fraction.
 fn append_tenths(line: &mut Vec<u8>, number: u128) -> Result<(), AllocError>
     ensures { OnOk result (line.new.items ≡ line.old.items ++ tenths number) }
 {
@@ -71,7 +71,7 @@ fn append_tenths(line: &mut Vec<u8>, number: u128) -> Result<(), AllocError>
     append_number(line, number % 10)
 }
 
-/// Appends a number in decimal digits.
+// Appends a number in decimal digits.
 fn append_number<I: Integer>(line: &mut Vec<u8>, number: I) -> Result<(), AllocError>
     ensures { OnOk result (line.new.items ≡ line.old.items ++ I.text number) }
 {

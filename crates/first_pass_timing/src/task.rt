@@ -38,7 +38,7 @@ pub fn parse_task(words: &[String]) -> Option<Task>
     })
 }
 
-/// The number of runs that a word gives.
+// The number of runs that a word gives.
 fn runs_of(word: &str) -> Option<u32>
     ensures some { IfSome result (AsksFor word.now) }
     ensures none { IsNone result → (runs : ℕ) → ¬ AsksFor word.now runs }

@@ -8,10 +8,10 @@ ghost use Rattle.first_pass_timing.specs.Timing.{enough};
 use crate::clock::TimeSource;
 use first_pass_host::fault::RunFault;
 
-/// The least number of runs, if no number is given.
+// The least number of runs, if no number is given.
 const LEAST_RUNS: u32 = 5;
 
-/// The least time of all runs together in nanoseconds, if no number of runs is given.
+// The least time of all runs together in nanoseconds, if no number of runs is given.
 const LEAST_NANOS: u128 = 1_000_000_000;
 
 /// The result of runs over a text.

@@ -1,6 +1,6 @@
 //! The tree as a list of nodes in reading order, with the path of its open nodes.
 
-ghost use Rattle.std.specs.Prelude.{◌≡◌, ◌⊎◌, ◌+◌, ◌<◌, ◌≤◌, ◌∷◌, [], ◌-◌, length, reverse, Some, None, IfOk, IfSome, OnOk, OnErr, IsSome, MatchOption, slice_get};
+ghost use Rattle.std.specs.Prelude.{◌≡◌, ◌+◌, ◌<◌, ◌≤◌, ◌∷◌, [], ◌-◌, length, reverse, Some, None, IfOk, IfSome, OnOk, OnErr, IsSome, MatchOption, slice_get};
 ghost use Rattle.first_pass_tree.specs.Forest.{empty_forest, appended, pushed, popped, cut_to, with_text, with_item, with_end_at, with_body_at, item_at, depths, child_of, sibling_of, kept_after, childless, in_table, wrapped, IsChildOfCurrent, CanMoveFrom, moved_from, moved_out, IsChild, cut_siblings, IsForest, end_of, open_place, added, block_of, text_between};
 ghost use Rattle.first_pass_tree.specs.Subtrees.{IsSubtree};
 ghost use Rattle.std.specs.Borrow.{sem};

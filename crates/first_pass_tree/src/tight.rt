@@ -26,9 +26,9 @@ pub fn surgerize_tight_list(tree: &mut Tree<Item>, list_ix: TreeIndex)
     }
 }
 
-/// Returns the last recorded list between the indices `from` and `to`, with its descendants, if it is inside an item of
-/// a list of depth `list_depth`. None of its nodes is then a paragraph directly in an item of the outer list. If no
-/// such list is recorded, returns only the node at `from`.
+// Returns the last recorded list between the indices `from` and `to`, with its descendants, if it is inside an item of
+// a list of depth `list_depth`. None of its nodes is then a paragraph directly in an item of the outer list. If no
+// such list is recorded, returns only the node at `from`.
 fn inner_list(tree: &mut Tree<Item>, list_depth: usize, from: usize, to: usize) -> Subtree
     requires { (from < to) × (to ≤ length tree.old.nodes) }
     ensures tree { tree.new ≡ tree.old }
@@ -45,9 +45,9 @@ fn inner_list(tree: &mut Tree<Item>, list_depth: usize, from: usize, to: usize) 
     }
 }
 
-/// Makes the paragraphs directly in items of a list of depth `list_depth` tight. Only changes nodes between the indices
-/// `from` and `to`, which are all below the list. If the paragraphs from `to` on were tight before, all from `from` on
-/// are tight afterwards.
+// Makes the paragraphs directly in items of a list of depth `list_depth` tight. Only changes nodes between the indices
+// `from` and `to`, which are all below the list. If the paragraphs from `to` on were tight before, all from `from` on
+// are tight afterwards.
 fn tighten_between(tree: &mut Tree<Item>, list_depth: usize, from: usize, to: usize)
     requires within { (from ≤ to) × (to ≤ length tree.old.nodes) }
     requires deeper { (k : ℕ) → from ≤ k → k < to → list_depth < slice_index (depths tree.old.nodes) k }
@@ -60,8 +60,8 @@ fn tighten_between(tree: &mut Tree<Item>, list_depth: usize, from: usize, to: us
     }
 }
 
-/// Makes the node `ix` tight if it is a paragraph directly in an item of a list of depth `list_depth`. Otherwise
-/// changes nothing (CommonMark 5.3).
+// Makes the node `ix` tight if it is a paragraph directly in an item of a list of depth `list_depth`. Otherwise
+// changes nothing (CommonMark 5.3).
 fn tighten(tree: &mut Tree<Item>, list_depth: usize, ix: TreeIndex)
     requires within { ix.0 < length tree.old.nodes }
     requires deeper { list_depth < slice_index (depths tree.old.nodes) ix.0 }
@@ -75,7 +75,7 @@ fn tighten(tree: &mut Tree<Item>, list_depth: usize, ix: TreeIndex)
     }
 }
 
-/// Returns the depth of the node at the index `at`.
+// Returns the depth of the node at the index `at`.
 fn depth_at(tree: &Tree<Item>, at: usize) -> usize
     requires { at < length tree.now.nodes }
     ensures { result ≡ slice_index (depths tree.now.nodes) at }

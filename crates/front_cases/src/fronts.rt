@@ -28,14 +28,14 @@ pub fn check_fronts(
     Ok(())
 }
 
-/// What is wrong with the tree of a text under all options.
+// What is wrong with the tree of a text under all options.
 fn breach_of(alloc: Global, text: &str) -> Result<Option<Breach>, AllocError> {
     let (tree, _allocs) = run_first_pass(alloc, text, Options::all())?;
     find_breach(alloc, text, tree.nodes())
 }
 
-/// Appends what is wrong with the tree of a front; `text` is the number of the text and `length` that of the front's
-/// bytes.
+// Appends what is wrong with the tree of a front; `text` is the number of the text and `length` that of the front's
+// bytes.
 fn append_breach(
     report: &mut String,
     text: usize,

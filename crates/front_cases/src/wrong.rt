@@ -11,12 +11,12 @@ use first_pass_tree::forest::Tree;
 use first_pass_tree::tree_index::TreeIndex;
 use std::alloc::{AllocError, Global};
 
-/// The text whose tree is changed, of 13 bytes. Its nodes by index: 0 the root; 1 a list; 2 an item 0..4 with 3 a
-/// paragraph 2..4 that has 4 a text; 5 an item 4..13 with 6 a paragraph 10..13 that has 7 a task list item marker 6..9
-/// and 8 a text.
+// The text whose tree is changed, of 13 bytes. Its nodes by index: 0 the root; 1 a list; 2 an item 0..4 with 3 a
+// paragraph 2..4 that has 4 a text; 5 an item 4..13 with 6 a paragraph 10..13 that has 7 a task list item marker 6..9
+// and 8 a text.
 const TEXT: &str = "- b\n- [x] a\u{e9}";
 
-/// Another range for a node, and the fault that must be reported.
+// Another range for a node, and the fault that must be reported.
 #[derive(Clone, Copy)]
 struct Moved {
     place: usize,
@@ -40,7 +40,7 @@ pub fn check(alloc: Global, sums: &mut Sums, report: &mut String) -> Result<(), 
     check_bodies(alloc, sums, report)
 }
 
-/// Checks trees in which one node has another range.
+// Checks trees in which one node has another range.
 fn check_ranges(alloc: Global, sums: &mut Sums, report: &mut String) -> Result<(), AllocError> {
     for Moved {
         place,
@@ -74,7 +74,7 @@ fn check_ranges(alloc: Global, sums: &mut Sums, report: &mut String) -> Result<(
     Ok(())
 }
 
-/// Checks trees in which one node has another body.
+// Checks trees in which one node has another body.
 fn check_bodies(alloc: Global, sums: &mut Sums, report: &mut String) -> Result<(), AllocError> {
     for (place, body, told, flaw) in [
         // A title that is still only a possible one.
@@ -99,20 +99,20 @@ fn check_bodies(alloc: Global, sums: &mut Sums, report: &mut String) -> Result<(
     Ok(())
 }
 
-/// The tree of the text, under all options.
+// The tree of the text, under all options.
 fn read(alloc: Global) -> Result<Tree<Item>, AllocError> {
     let (tree, _allocs) = run_first_pass(alloc, TEXT, Options::all())?;
     Ok(tree)
 }
 
-/// Replaces the node at an index, if there is one.
+// Replaces the node at an index, if there is one.
 fn put(tree: &mut Tree<Item>, place: usize, item: Item) {
     if place < tree.node_count() {
         tree.set_item(TreeIndex(place), item);
     }
 }
 
-/// Counts a wrong tree, and appends it to the report if it is not reported as it must be.
+// Counts a wrong tree, and appends it to the report if it is not reported as it must be.
 fn count_told(
     alloc: Global,
     tree: &Tree<Item>,

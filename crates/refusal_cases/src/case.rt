@@ -2,7 +2,7 @@
 
 use std::alloc::{AllocError, Global};
 
-/// The greatest number of words.
+// The greatest number of words.
 const ROOM: usize = 4;
 
 /// A call, with its arguments and the expected result.
@@ -38,7 +38,7 @@ pub fn read_case(alloc: Global, group: &str) -> Result<Case<'_>, AllocError> {
     Ok(case)
 }
 
-/// The number in the first line, if it has one, and the lines after it.
+// The number in the first line, if it has one, and the lines after it.
 fn read_after(group: &str) -> (Option<usize>, &str) {
     match group.strip_prefix("after ") {
         Some(following) => match following.split_once('\n') {
@@ -49,7 +49,7 @@ fn read_after(group: &str) -> (Option<usize>, &str) {
     }
 }
 
-/// Reads the lines of the text, each after a bar, and then the expected lines.
+// Reads the lines of the text, each after a bar, and then the expected lines.
 fn read_lines(lines: &str, case: &mut Case<'_>) -> Result<(), AllocError> {
     let mut is_first = true;
     for line in lines.lines() {
@@ -70,7 +70,7 @@ fn read_lines(lines: &str, case: &mut Case<'_>) -> Result<(), AllocError> {
     Ok(())
 }
 
-/// Appends the text of a line, in which a tab is written as its picture.
+// Appends the text of a line, in which a tab is written as its picture.
 fn push_shown(text: &mut String, shown: &str) -> Result<(), AllocError> {
     for character in shown.chars() {
         text.push(if character == '␉' { '\t' } else { character })?;

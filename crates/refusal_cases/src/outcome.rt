@@ -2,8 +2,8 @@
 
 use std::alloc::{AllocError, Global};
 
-/// The number of requests made to find whether one is still to be refused; it is greater than the number of requests
-/// in a run before.
+// The number of requests made to find whether one is still to be refused; it is greater than the number of requests
+// in a run before.
 const MOST: usize = 100;
 
 /// The outcome of a call.

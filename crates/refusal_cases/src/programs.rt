@@ -15,10 +15,10 @@ use std::alloc::{AllocError, Global};
 use std::io;
 use std::io::Write;
 
-/// The greatest number of bytes written; writing them takes no memory request.
+// The greatest number of bytes written; writing them takes no memory request.
 const ROOM: usize = 8192;
 
-/// A writer that requests its memory before it is written to.
+// A writer that requests its memory before it is written to.
 #[derive(Drop)]
 struct Page {
     bytes: Vec<u8>,
@@ -36,7 +36,7 @@ impl Write for Page {
     }
 }
 
-/// A clock on which ten nanoseconds pass between two readings.
+// A clock on which ten nanoseconds pass between two readings.
 #[derive(Drop)]
 struct Ticks {
     nanos: u128,
@@ -69,7 +69,7 @@ fn call_once(rt: &HostRuntime, case: &Case<'_>) -> Option<Outcome> {
     }
 }
 
-/// The pass on the text: it returns a tree and tables, or neither.
+// The pass on the text: it returns a tree and tables, or neither.
 fn parse(alloc: Global, case: &Case<'_>) -> Result<Outcome, AllocError> {
     let mut lines = Vec::with_capacity(alloc, ROOM)?;
     let Some(options) = parse_options(case.words.as_slice()) else {
@@ -91,7 +91,7 @@ fn parse(alloc: Global, case: &Case<'_>) -> Result<Outcome, AllocError> {
     }
 }
 
-/// The words of this program.
+// The words of this program.
 fn take_words(rt: &HostRuntime, case: &Case<'_>) -> Outcome {
     match words_of(rt) {
         Ok(words) if words.is_empty() => Outcome::Usual,
@@ -100,7 +100,7 @@ fn take_words(rt: &HostRuntime, case: &Case<'_>) -> Outcome {
     }
 }
 
-/// The work of a program: if it is refused, a beginning of the whole output was written.
+// The work of a program: if it is refused, a beginning of the whole output was written.
 fn run(alloc: Global, case: &Case<'_>) -> Result<Outcome, AllocError> {
     let mut page = Page {
         bytes: Vec::with_capacity(alloc, ROOM)?,

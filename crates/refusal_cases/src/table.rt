@@ -18,7 +18,7 @@ pub fn compare(rt: &HostRuntime, table: &str, report: &mut String) -> Result<Tal
     )
 }
 
-/// Makes the call of the case whose first line has this number, and returns whether it differs.
+// Makes the call of the case whose first line has this number, and returns whether it differs.
 fn compare_case(
     rt: &HostRuntime,
     group: &str,
@@ -40,7 +40,7 @@ fn compare_case(
     Ok(outcome != Outcome::Usual)
 }
 
-/// The outcome of a case's call, or `None` if there is no such call.
+// The outcome of a case's call, or `None` if there is no such call.
 fn outcome_of(rt: &HostRuntime, case: &Case<'_>) -> Option<Outcome> {
     let Some(count) = case.after else {
         return call(rt, case);
@@ -52,7 +52,7 @@ fn outcome_of(rt: &HostRuntime, case: &Case<'_>) -> Option<Outcome> {
     Some(classified_outcome(rt.alloc(), returned))
 }
 
-/// Makes the call of a case.
+// Makes the call of a case.
 fn call(rt: &HostRuntime, case: &Case<'_>) -> Option<Outcome> {
     if let Some(outcome) = call_program(rt, case) {
         return Some(outcome);

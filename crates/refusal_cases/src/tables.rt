@@ -10,16 +10,16 @@ use first_pass_names::items::{Allocations, HeadingAttributes};
 use std::alloc::{AllocError, Global};
 use std::ops::DerefStr;
 
-/// The words that are added to the tables one after another, in the order of labels. A table of labels has no room for
-/// all of them after its first allocation, so that a later one can fail while it has entries.
+// The words that are added to the tables one after another, in the order of labels. A table of labels has no room for
+// all of them after its first allocation, so that a later one can fail while it has entries.
 const WORDS: [&str; 17] = [
     "a", "b", "c", "d", "e", "f", "g", "h", "i", "j", "k", "l", "m", "n", "o", "p", "q",
 ];
 
-/// The number of texts, of alignments and of attributes that are added.
+// The number of texts, of alignments and of attributes that are added.
 const TIMES: usize = 12;
 
-/// The alignments of a table of one column.
+// The alignments of a table of one column.
 const COLUMNS: [Alignment; 1] = [Alignment::Center];
 
 /// Makes the call with this name. Returns `None` if no call here has it, and an error if an allocation of the test
@@ -36,7 +36,7 @@ pub fn call_tables(alloc: Global, call: &str) -> Option<Result<Outcome, AllocErr
     }
 }
 
-/// The number of entries in tables, made of the first words.
+// The number of entries in tables, made of the first words.
 #[derive(Clone, Copy)]
 struct Counts {
     texts: usize,
@@ -46,7 +46,7 @@ struct Counts {
     footnotes: usize,
 }
 
-/// The counts of empty tables.
+// The counts of empty tables.
 const NONE: Counts = Counts {
     texts: 0,
     alignments: 0,
@@ -55,8 +55,8 @@ const NONE: Counts = Counts {
     footnotes: 0,
 };
 
-/// Whether tables have these numbers of entries, made of the first words: texts, alignments of one column, attributes
-/// with only an id, link definitions with that destination, and footnotes.
+// Whether tables have these numbers of entries, made of the first words: texts, alignments of one column, attributes
+// with only an id, link definitions with that destination, and footnotes.
 fn has(allocs: &Allocations<'_>, counts: Counts) -> bool {
     for at in 0..WORDS.len() {
         let text = if at < counts.texts { WORDS[at] } else { "" };
@@ -75,7 +75,7 @@ fn has(allocs: &Allocations<'_>, counts: Counts) -> bool {
     has_links(allocs, counts.links) && has_footnotes(allocs, counts.footnotes)
 }
 
-/// Whether the attributes at this index have this id, or there are none, as is expected.
+// Whether the attributes at this index have this id, or there are none, as is expected.
 fn has_heading(allocs: &Allocations<'_>, at: usize, is_wanted: bool) -> bool {
     match allocs.attributes_at(HeadingIndex(at)) {
         Some(given) => {
@@ -218,7 +218,7 @@ fn with_id(id: &str) -> HeadingAttributes<'_> {
     }
 }
 
-/// The places of a definition that no text contains.
+// The places of a definition that no text contains.
 const NO_PLACES: LinkPlaces = LinkPlaces {
     label_end: 0,
     dest_start: 0,

@@ -6,10 +6,10 @@ use first_pass_tree::forest::Tree;
 use first_pass_tree::tree_index::TreeIndex;
 use std::alloc::{AllocError, Global};
 
-/// The number of calls made on one tree.
+// The number of calls made on one tree.
 const TIMES: usize = 12;
 
-/// The observed state of a tree: its nodes, its open nodes, and its current node.
+// The observed state of a tree: its nodes, its open nodes, and its current node.
 #[derive(Drop)]
 struct Seen {
     nodes: Vec<(usize, Item)>,
@@ -18,7 +18,7 @@ struct Seen {
 }
 
 impl Seen {
-    /// Returns an empty state, with room for every state observed here.
+    // Returns an empty state, with room for every state observed here.
     fn new(alloc: Global) -> Result<Seen, AllocError> {
         Ok(Seen {
             nodes: Vec::with_capacity(alloc, 2 * TIMES + 2)?,
@@ -36,14 +36,14 @@ impl Seen {
         Ok(())
     }
 
-    /// Whether a tree is unchanged.
+    // Whether a tree is unchanged.
     fn is_kept(&self, tree: &Tree<Item>) -> bool {
         self.nodes.as_slice() == tree.nodes()
             && self.open.as_slice() == tree.walk_spine()
             && self.current == tree.cur()
     }
 
-    /// Whether a tree is unchanged except for a new last child of the root, which is current.
+    // Whether a tree is unchanged except for a new last child of the root, which is current.
     fn has_appended(&self, tree: &Tree<Item>, item: Item) -> bool {
         let count = self.nodes.len();
         tree.node_count() == count.saturating_add(1)
@@ -53,7 +53,7 @@ impl Seen {
             && tree.cur() == Some(TreeIndex(count))
     }
 
-    /// Whether a tree is unchanged except that its current node is now open.
+    // Whether a tree is unchanged except that its current node is now open.
     fn has_pushed(&self, tree: &Tree<Item>) -> bool {
         tree.nodes() == self.nodes.as_slice()
             && tree.spine_len() == self.open.len().saturating_add(1)
@@ -62,7 +62,7 @@ impl Seen {
             && tree.cur().is_none()
     }
 
-    /// Whether a tree is unchanged except for a new child of its first node, which contains the others.
+    // Whether a tree is unchanged except for a new child of its first node, which contains the others.
     fn has_created(&self, tree: &Tree<Item>, item: Item) -> bool {
         if tree.node_count() != self.nodes.len().saturating_add(1)
             || tree.nodes().get(2) != Some(&(2, item))

@@ -26,8 +26,8 @@ pub fn answer_attributes(call: &Call<'_>, answer: &mut Answer) -> Result<bool, A
     Ok(true)
 }
 
-/// The number of bytes before a heading's attribute block, and the offsets of the start and end of the content of its
-/// braces.
+// The number of bytes before a heading's attribute block, and the offsets of the start and end of the content of its
+// braces.
 fn append_block(heading: &[u8], answer: &mut Answer) -> Result<(), AllocError> {
     let (len, inside) = extract_attribute_block_content_from_header_text(heading);
     answer.number(len)?;
@@ -40,7 +40,7 @@ fn append_block(heading: &[u8], answer: &mut Answer) -> Result<(), AllocError> {
     }
 }
 
-/// The id, each class, and each key with its value.
+// The id, each class, and each key with its value.
 fn append_attributes(
     attributes: &HeadingAttributes<'_>,
     answer: &mut Answer,
@@ -58,7 +58,7 @@ fn append_attributes(
     Ok(())
 }
 
-/// A name, then a text or `none`.
+// A name, then a text or `none`.
 fn append_named(name: &str, text: Option<&str>, answer: &mut Answer) -> Result<(), AllocError> {
     answer.word(name)?;
     match text {

@@ -24,8 +24,8 @@ pub fn answer_containers(call: &Call<'_>, answer: &mut Answer) -> Result<bool, A
     Ok(true)
 }
 
-/// The number of open nodes that a line continues, and the number of bytes of their prefixes. The first argument is
-/// the path of the open containers (see `open_path`), the second one the options.
+// The number of open nodes that a line continues, and the number of bytes of their prefixes. The first argument is
+// the path of the open containers (see `open_path`), the second one the options.
 fn append_containers(call: &Call<'_>, answer: &mut Answer) -> Result<(), AllocError> {
     let tree = open_path(call.alloc, call.given.number(0))?;
     let mut line_start = LineStart::new(call.text.as_bytes());

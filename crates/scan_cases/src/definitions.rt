@@ -24,7 +24,7 @@ pub fn answer_definitions(call: &Call<'_>, answer: &mut Answer) -> Result<bool, 
     Ok(true)
 }
 
-/// The length in bytes of the definition that `definition_of` finds, with its label, destination and title.
+// The length in bytes of the definition that `definition_of` finds, with its label, destination and title.
 fn append_reference(call: &Call<'_>, answer: &mut Answer) -> Result<(), AllocError> {
     match definition_of(call)? {
         Some((size, label, definition)) => {
@@ -36,7 +36,7 @@ fn append_reference(call: &Call<'_>, answer: &mut Answer) -> Result<(), AllocErr
     }
 }
 
-/// The destination of a definition, its title, and its span.
+// The destination of a definition, its title, and its span.
 fn append_definition(definition: &LinkDef<'_>, answer: &mut Answer) -> Result<(), AllocError> {
     append_cow(&definition.dest, answer)?;
     match &definition.title {
@@ -47,8 +47,8 @@ fn append_definition(definition: &LinkDef<'_>, answer: &mut Answer) -> Result<()
     answer.number(definition.span.end)
 }
 
-/// The offsets of the end of the label, of both ends of the destination, and of the start of the title, of the
-/// definition that `definition_of` finds.
+// The offsets of the end of the label, of both ends of the destination, and of the start of the title, of the
+// definition that `definition_of` finds.
 fn append_places(call: &Call<'_>, answer: &mut Answer) -> Result<(), AllocError> {
     match definition_of(call)? {
         Some((_, _, definition)) => {
@@ -62,8 +62,8 @@ fn append_places(call: &Call<'_>, answer: &mut Answer) -> Result<(), AllocError>
     }
 }
 
-/// The definition at the place in the second value, with its length in bytes and its label. The first value is the
-/// path of the open containers (see `open_path`).
+// The definition at the place in the second value, with its length in bytes and its label. The first value is the
+// path of the open containers (see `open_path`).
 fn definition_of<'t>(
     call: &Call<'t>,
 ) -> Result<Option<(usize, LabelKey<'t>, LinkDef<'t>)>, AllocError> {
@@ -76,8 +76,8 @@ fn definition_of<'t>(
     parse_refdef_total(&source, &tree, start)
 }
 
-/// The length in bytes of the head of the footnote definition at the place in the third value, with its label. The
-/// second value is the options, and the first the path of the open containers (see `open_path`).
+// The length in bytes of the head of the footnote definition at the place in the third value, with its label. The
+// second value is the options, and the first the path of the open containers (see `open_path`).
 fn append_footnote(call: &Call<'_>, answer: &mut Answer) -> Result<(), AllocError> {
     let start = call.given.number(2);
     if !call.text.is_char_boundary(start) {

@@ -62,7 +62,7 @@ pub fn answer_metadata(call: &Call<'_>, answer: &mut Answer) -> Result<bool, All
     Ok(true)
 }
 
-/// The result of `metadata_at` at each of the offsets, in order.
+// The result of `metadata_at` at each of the offsets, in order.
 fn append_metadata(given: &Given, bytes: &[u8], answer: &mut Answer) -> Result<(), AllocError> {
     let mut ends = MetadataEnds::new();
     for place in 2..given.count() {

@@ -28,7 +28,7 @@ pub fn answer_links(call: &Call<'_>, answer: &mut Answer) -> Result<bool, AllocE
     Ok(true)
 }
 
-/// The number of bytes of a character reference, and the number of each of its characters.
+// The number of bytes of a character reference, and the number of each of its characters.
 fn append_reference(bytes: &[u8], answer: &mut Answer) -> Result<(), AllocError> {
     let (len, found) = scan_entity(bytes);
     answer.number(len)?;
@@ -52,8 +52,8 @@ pub fn append_cow(cow: &CowStr<'_>, answer: &mut Answer) -> Result<(), AllocErro
     answer.text(cow.deref())
 }
 
-/// The number of bytes of a destination, and its text. The arguments are its offset and the greatest nesting of its
-/// parentheses.
+// The number of bytes of a destination, and its text. The arguments are its offset and the greatest nesting of its
+// parentheses.
 fn append_destination(call: &Call<'_>, answer: &mut Answer) -> Result<(), AllocError> {
     let (text, start) = (call.text, call.given.number(0));
     if !text.is_char_boundary(start) {
@@ -68,8 +68,8 @@ fn append_destination(call: &Call<'_>, answer: &mut Answer) -> Result<(), AllocE
     }
 }
 
-/// The number of bytes of a label after its bracket, and its text. The label is in a cell if the first flag is set,
-/// and in a block quote if the second one is.
+// The number of bytes of a label after its bracket, and its text. The label is in a cell if the first flag is set,
+// and in a block quote if the second one is.
 fn append_label(call: &Call<'_>, answer: &mut Answer) -> Result<(), AllocError> {
     let (alloc, text, in_table) = (call.alloc, call.text, call.given.flag(0));
     let found = match call.given.flag(1) {
@@ -85,7 +85,7 @@ fn append_label(call: &Call<'_>, answer: &mut Answer) -> Result<(), AllocError> 
     }
 }
 
-/// A label in which each further line has the marker of a block quote.
+// A label in which each further line has the marker of a block quote.
 fn quoted_label<'t>(
     alloc: Global,
     text: &'t str,

@@ -29,7 +29,7 @@ pub fn answer_programs(call: &Call<'_>, answer: &mut Answer) -> Result<bool, All
     Ok(true)
 }
 
-/// The lines of a text, as the words of a program.
+// The lines of a text, as the words of a program.
 fn words_of(alloc: Global, text: &str) -> Result<Vec<String>, AllocError> {
     let mut words = Vec::new(alloc);
     for line in text.lines() {
@@ -38,7 +38,7 @@ fn words_of(alloc: Global, text: &str) -> Result<Vec<String>, AllocError> {
     Ok(words)
 }
 
-/// The line of `bench` for five numbers: bytes, nodes, runs, and the nanoseconds of the best and of the first run.
+// The line of `bench` for five numbers: bytes, nodes, runs, and the nanoseconds of the best and of the first run.
 fn append_timing(alloc: Global, text: &str, answer: &mut Answer) -> Result<(), AllocError> {
     let Some((bytes, timing)) = read_timing(text) else {
         return answer.none();

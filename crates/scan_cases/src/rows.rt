@@ -24,7 +24,7 @@ pub fn answer_rows(call: &Call<'_>, answer: &mut Answer) -> Result<bool, AllocEr
     Ok(true)
 }
 
-/// The alignments of a delimiter row's columns. In a block quote the row is after the marker of the quote.
+// The alignments of a delimiter row's columns. In a block quote the row is after the marker of the quote.
 fn append_delimiters(
     alloc: Global,
     bytes: &[u8],

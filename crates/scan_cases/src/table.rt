@@ -21,7 +21,7 @@ use first_pass_cases::pictures::read_shown;
 use first_pass_cases::tally::{Tally, append_place};
 use std::alloc::{AllocError, Global};
 
-/// A line of the table: a call with its arguments, its text, and the expected result.
+// A line of the table: a call with its arguments, its text, and the expected result.
 #[derive(Drop)]
 struct Case<'t> {
     call: &'t str,
@@ -44,7 +44,7 @@ pub fn compare(alloc: Global, table: &str, report: &mut String) -> Result<Tally,
     Ok(tally)
 }
 
-/// Makes the call of the line with this number, and returns whether its result differs.
+// Makes the call of the line with this number, and returns whether its result differs.
 fn compare_line(
     alloc: Global,
     line: &str,
@@ -66,7 +66,7 @@ fn compare_line(
     Ok(differs)
 }
 
-/// Reads a line.
+// Reads a line.
 fn read_case(line: &str) -> Option<Case<'_>> {
     let (front, following) = line.split_once(" ‹")?;
     let (shown, want) = following.split_once("› ")?;
@@ -79,7 +79,7 @@ fn read_case(line: &str) -> Option<Case<'_>> {
     })
 }
 
-/// Appends a line that differs and its actual result.
+// Appends a line that differs and its actual result.
 fn append_difference(report: &mut String, line: &str, came: &str) -> Result<(), AllocError> {
     report.push_str(line)?;
     report.push_str("\nbut this came: ")?;
@@ -87,7 +87,7 @@ fn append_difference(report: &mut String, line: &str, came: &str) -> Result<(), 
     report.push('\n')
 }
 
-/// Makes a call and appends its result. Returns `false` if no call has this name.
+// Makes a call and appends its result. Returns `false` if no call has this name.
 fn ask(alloc: Global, case: &Case<'_>, answer: &mut Answer) -> Result<bool, AllocError> {
     let read = read_shown(alloc, case.shown)?;
     let call = Call {

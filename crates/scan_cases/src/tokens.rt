@@ -22,9 +22,9 @@ pub fn answer_tokens(call: &Call<'_>, answer: &mut Answer) -> Result<bool, Alloc
     Ok(true)
 }
 
-/// The lines of a paragraph, each with its line break, or the cells of a row. In a row the text begins after the pipe
-/// before the first cell, each further cell begins after the pipe that ends the one before, and a node `end` marks the
-/// end of each.
+// The lines of a paragraph, each with its line break, or the cells of a row. In a row the text begins after the pipe
+// before the first cell, each further cell begins after the pipe that ends the one before, and a node `end` marks the
+// end of each.
 fn tokens_of(call: &Call<'_>, row: bool) -> Result<Tree<Item>, AllocError> {
     let (alloc, text) = (call.alloc, call.text);
     let options = options_of(call.given.number(0));
@@ -62,7 +62,7 @@ fn tokens_of(call: &Call<'_>, row: bool) -> Result<Tree<Item>, AllocError> {
     Ok(tree)
 }
 
-/// Appends the end of the token of a plain cell and that of its content, which begins at the start of the text.
+// Appends the end of the token of a plain cell and that of its content, which begins at the start of the text.
 fn append_plain_cell(call: &Call<'_>, answer: &mut Answer) -> Result<(), AllocError> {
     let options = options_of(call.given.number(0));
     let special = special_bytes(&options);
@@ -83,7 +83,7 @@ fn append_plain_cell(call: &Call<'_>, answer: &mut Answer) -> Result<(), AllocEr
     }
 }
 
-/// The node that marks the end of a cell.
+// The node that marks the end of a cell.
 fn end_of_cell(at: usize) -> Item {
     Item {
         start: at,
@@ -92,7 +92,7 @@ fn end_of_cell(at: usize) -> Item {
     }
 }
 
-/// Each node in the open block: its name, its start and its end.
+// Each node in the open block: its name, its start and its end.
 fn append_tokens(tree: &Tree<Item>, answer: &mut Answer) -> Result<(), AllocError> {
     for node in tree.nodes().iter().skip(2) {
         answer.word(name(&node.1.body))?;

@@ -26,8 +26,8 @@ pub fn answer_walks(call: &Call<'_>, answer: &mut Answer) -> Result<bool, AllocE
     Ok(true)
 }
 
-/// The offset and the byte of each call of a walk, and its end. The arguments are the bits of options, and the number
-/// of bytes that are skipped after each call.
+// The offset and the byte of each call of a walk, and its end. The arguments are the bits of options, and the number
+// of bytes that are skipped after each call.
 fn append_calls(bytes: &[u8], given: &Given, answer: &mut Answer) -> Result<(), AllocError> {
     let lut = special_bytes(&options_of(given.number(0)));
     let skip = given.number(1);
@@ -59,7 +59,7 @@ pub fn append_bits(found: Option<Options>, answer: &mut Answer) -> Result<(), Al
     }
 }
 
-/// The bytes that the options with these bits make special, in their order.
+// The bytes that the options with these bits make special, in their order.
 fn append_special(alloc: Global, bits: usize, answer: &mut Answer) -> Result<(), AllocError> {
     let lut = special_bytes(&options_of(bits));
     let mut special = String::new(alloc);

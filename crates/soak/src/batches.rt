@@ -14,10 +14,10 @@ use first_pass_timing::timing::read_clock;
 use rand_pcg::Pcg32;
 use std::alloc::{AllocError, Global};
 
-/// The number of texts that are read before the clock is read again.
+// The number of texts that are read before the clock is read again.
 const BATCH: u32 = 1000;
 
-/// One second in nanoseconds.
+// One second in nanoseconds.
 const SECOND: u128 = 1_000_000_000;
 
 /// Reads random texts as the words request, appends the result to the report, and returns the exit status.
@@ -47,7 +47,7 @@ pub fn soak<T: TimeSource>(
     Ok(0)
 }
 
-/// Reads a batch of texts. If the tree of one is not in order, appends that to the report and returns its number.
+// Reads a batch of texts. If the tree of one is not in order, appends that to the report and returns its number.
 fn read_batch(
     alloc: Global,
     rng: &mut Pcg32,
@@ -65,13 +65,13 @@ fn read_batch(
     Ok(None)
 }
 
-/// What is wrong with the tree of a text.
+// What is wrong with the tree of a text.
 fn breach_of(alloc: Global, text: &str, options: Options) -> Result<Option<Breach>, AllocError> {
     let (tree, _allocs) = run_first_pass(alloc, text, options)?;
     find_breach(alloc, text, tree.nodes())
 }
 
-/// Appends to the report the smallest text that is found of these pieces with a tree that is not in order.
+// Appends to the report the smallest text that is found of these pieces with a tree that is not in order.
 fn report_smallest(
     alloc: Global,
     pieces: &mut Vec<&str>,

@@ -7,7 +7,7 @@ use rand_core::Rng;
 use rand_pcg::Pcg32;
 use std::alloc::{AllocError, Global};
 
-/// The greatest number of snippets in a text.
+// The greatest number of snippets in a text.
 const MOST: u32 = 30;
 
 /// Returns one or more random snippets.

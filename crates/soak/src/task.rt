@@ -2,7 +2,7 @@
 
 use first_pass_host::option_word::begins_with_plus;
 
-/// The default number of seconds.
+// The default number of seconds.
 const SECONDS: u64 = 60;
 
 /// The number of seconds for which texts are read, and the seed, if one is given.
@@ -27,7 +27,7 @@ pub fn parse_task(words: &[String]) -> Option<Task> {
     Some(Task { seconds, seed })
 }
 
-/// The number that a word represents.
+// The number that a word represents.
 fn number_of(word: &str) -> Option<u64> {
     if begins_with_plus(word) {
         return None;
