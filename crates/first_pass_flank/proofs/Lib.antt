@@ -1,1 +1,2 @@
+mod AsciiFacts
 pub mod FlankFacts

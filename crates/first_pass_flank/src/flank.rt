@@ -68,8 +68,21 @@ impl DelimiterRun {
 }
 
 /// Returns whether a character is Unicode punctuation: of the general category P or S. CommonMark 2.1.
-#[tactic(auto, unfolding(crate::specs::Flank::is_punctuation))]
+#[inline(never)]
 pub fn is_punctuation(c: char) -> bool
+    ensures value { result ≡ flanks.is_punctuation c }
+{
+    if c.is_ascii() {
+        c.is_ascii_punctuation()
+    } else {
+        is_in_punctuation_groups(c)
+    }
+}
+
+// The same, by the general category.
+#[inline(never)]
+#[tactic(auto, unfolding(crate::specs::Flank::is_punctuation))]
+fn is_in_punctuation_groups(c: char) -> bool
     ensures value { result ≡ flanks.is_punctuation c }
 {
     let category = GeneralCategory::for_char(c);
