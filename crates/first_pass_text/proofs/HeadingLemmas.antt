@@ -35,11 +35,11 @@ use Rattle.first_pass_text.specs.Appends.{with_closed_break, AppendsHeading, att
 use Rattle.first_pass_open.specs.OpenBlock.{IsJustPushed}
 use Rattle.first_pass_text.proofs.ParagraphLemmas.{with_closed_break-chained}
 
-chain_none : (kept start : ℕ) (chain : List Item) → kept ≡ 0 → heading_chain kept start chain ≡ []
+pub chain_none : (kept start : ℕ) (chain : List Item) → kept ≡ 0 → heading_chain kept start chain ≡ []
 unfolding heading_chain
 chain_none kept start chain h = rw h refl
 
-chain_kept : (kept start : ℕ) (chain : List Item) → (kept ≡ 0 → ⊥) → heading_chain kept start chain ≡ cut (start + kept) chain
+pub chain_kept : (kept start : ℕ) (chain : List Item) → (kept ≡ 0 → ⊥) → heading_chain kept start chain ≡ cut (start + kept) chain
 unfolding heading_chain
 chain_kept kept start chain h = let t : (kept == 0) ≡ false = grind (arith, nat_tests, h) in rw t refl
 

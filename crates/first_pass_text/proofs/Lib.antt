@@ -5,6 +5,7 @@ pub mod OrderHeading
 pub mod OrderParagraph
 pub mod OrderPlain
 pub mod ParagraphLemmas
+pub mod PlainHeadings
 pub mod PlainTexts
 pub mod SoFar
 pub mod TextFronts

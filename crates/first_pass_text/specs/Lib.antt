@@ -1,3 +1,4 @@
 pub mod Appends
 pub mod CutTexts
 pub mod LineBreaks
+pub mod PlainHeadings

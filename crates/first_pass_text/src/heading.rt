@@ -2,7 +2,8 @@
 
 ghost use Rattle.std.specs.List.{slice_range, suffix_len};
 ghost use Rattle.std.specs.Option.{option_map, option_map_or, unwrap_or};
-ghost use Rattle.std.specs.Prelude.{◌≡◌, ℕ, ◌==◌, ◌+◌, take, drop, ◌≤◌, Some, length, IfOk, IfSome, OnOk, IsCharBoundary, false};
+ghost use Rattle.std.specs.Prelude.{◌≡◌, ℕ, ◌==◌, ◌&&◌, ◌+◌, ◌-◌, nat_lt, not, slice_index, take, drop, ◌≤◌, Some, length, None, IfOk, IfSome, OnOk, IsCharBoundary, false};
+ghost use Rattle.first_pass_items.specs.Bytes.{backslash};
 ghost use Rattle.first_pass_walk.specs.Walk.{MarksSpecial};
 ghost use Rattle.first_pass_lines.specs.Lines.{atx_level as atx_level_of, level_number as number_of};
 ghost use Rattle.first_pass_names.specs.TableEntries.{names_of, NamesMore};
@@ -11,9 +12,11 @@ ghost use Rattle.first_pass_grammar.specs.Names.{Names, Extends, NamesAttributes
 ghost use Rattle.first_pass_grammar.specs.Leaves.{document, is_space_or_line_end, kept_len as kept_len_of, heading_text_at};
 ghost use Rattle.first_pass_open.specs.Between.{AddsBetween, line_end_at};
 ghost use Rattle.first_pass_text.specs.Appends.{AppendsHeading, AddsHeading, line_from, attribute_place};
+ghost use Rattle.first_pass_text.specs.PlainHeadings.{IsPlainHeading};
 ghost use Rattle.first_pass_open.specs.OpenBlock.{IsJustPushed};
-ghost use Rattle.first_pass_tokens.specs.Braces.{no_braces};
-ghost use Rattle.first_pass_tokens.specs.Pieces.{source, text_upto};
+ghost use Rattle.first_pass_tokens.specs.Braces.{MathBraces, no_braces};
+ghost use Rattle.first_pass_tokens.specs.LineTokens.{line_end_len};
+ghost use Rattle.first_pass_tokens.specs.Pieces.{content_in, source, text_upto};
 
 use crate::attributes::{extract_and_parse_heading_attribute_block, name_attributes};
 use crate::paragraph::append_last_backslash;
@@ -26,6 +29,7 @@ use first_pass_names::items::Allocations;
 use first_pass_open::open_block::{close_block, open_block};
 use first_pass_open::source::Source;
 use first_pass_tokens::braces::BraceContexts;
+use first_pass_tokens::line::scan_plain_cell;
 use first_pass_tokens::pieces::Content;
 use first_pass_tree::forest::Tree;
 use first_pass_tree::tree_index::TreeIndex;
@@ -141,6 +145,73 @@ fn line_end_of(block: Option<AttributeBlock>, next: usize) -> usize
     }
 }
 
+// A heading with at most one token, a text: the end of that token, and the end of the line after its line ending.
+#[derive(Clone, Copy)]
+struct PlainHeading {
+    text_end: usize,
+    next: usize,
+}
+
+// The length of the line ending at a place: `\r\n` has two bytes.
+#[tactic(auto, unfolding(first_pass_tokens::specs::LineTokens::line_end_len))]
+fn line_end_len(text: &[u8], end: usize) -> usize
+    requires { end ≤ length text.now }
+    ensures value { (c : Content) (b : MathBraces) → result ≡ line_end_len (content_in text.now c b) end }
+    ensures fits { end + result ≤ length text.now }
+{
+    if end >= text.len() {
+        0
+    } else if text[end] == b'\r' && end + 1 < text.len() && text[end + 1] == b'\n' {
+        2
+    } else {
+        1
+    }
+}
+
+// Whether there are bytes between two offsets, and the last of them is no backslash.
+fn ends_in_text(text: &[u8], start: usize, end: usize) -> bool
+    requires { end ≤ length text.now }
+    ensures { result ≡ (nat_lt start end && not (slice_index text.now (end - 1) == backslash)) }
+{
+    start < end && text[end - 1] != b'\\'
+}
+
+// The length of a heading's text between two offsets without its closing sequence (CommonMark 4.2).
+fn kept_between(text: &[u8], start: usize, end: usize) -> usize
+    requires order { start ≤ end }
+    requires within { end ≤ length text.now }
+    ensures value { result ≡ kept_len_of (slice_range text.now start end) }
+    ensures within { start + result ≤ end }
+{
+    kept_len(&text[start..end])
+}
+
+// Returns the ends of a heading with at most one token, if it has no attribute block and the first special byte of its
+// content ends its line. Returns `None` for other headings, and if the content is empty or ends in a backslash.
+#[inline(always)]
+fn scan_plain_heading(content: Content<'_>) -> Option<PlainHeading>
+    requires set { IfSome content.«end» (λ e. e ≤ length content.whole.now) }
+    requires within { content.start ≤ length (text_upto content.whole.now content.«end») }
+    requires marks { MarksSpecial content.special.now content.options }
+    requires no_cell { content.row ≡ false }
+    ensures whole { IfSome result (λ plain. content.entry.«end» ≡ None) }
+    ensures plain { IfSome result (λ plain.
+        IsPlainHeading (source content.entry no_braces) plain.text_end plain.next) }
+{
+    if content.end.is_some() {
+        return None;
+    }
+    let found = scan_plain_cell(content)?;
+    let bytes = content.whole.as_bytes();
+    if !ends_in_text(bytes, content.start, found.end) {
+        return None;
+    }
+    let next = found.end + line_end_len(bytes, found.end);
+    let kept = kept_between(bytes, content.start, next);
+    let text_end = (content.start + kept).min(found.token_end);
+    Some(PlainHeading { text_end, next })
+}
+
 /// Appends an ATX heading of this level to the innermost open node. It begins at the offset `start` into the text, and
 /// its chain ends before its attribute block. Returns the offset at which its line ends, after the line ending
 /// (CommonMark 4.2). Adds the attributes, and the texts that tokens name, to `allocs`. Fails only if an allocation
@@ -163,7 +234,7 @@ pub fn parse_atx_heading<'a>(
 {
     let header_start = heading_text_start(source.text.as_bytes(), start, atx_level);
     let (place, index) = name_attribute_block(source, allocs, header_start)?;
-    let heading_ix = open_block(tree, start, ItemBody::Heading(atx_level, index))?;
+    let body = ItemBody::Heading(atx_level, index);
     let content = Content {
         options: source.options,
         whole: source.text,
@@ -172,6 +243,13 @@ pub fn parse_atx_heading<'a>(
         end: opening_of(place),
         row: false,
     };
+    // Most headings are plain text.
+    if let Some(plain) = scan_plain_heading(content) {
+        let end = plain.next;
+        tree.append_with_text(Item { start, end, body }, header_start, plain.text_end)?;
+        return Ok(end);
+    }
+    let heading_ix = open_block(tree, start, body)?;
     let next = heading_text(content, tree, allocs, heading_ix)?;
     let end = line_end_of(place, next);
     close_block(tree, end);

@@ -5,6 +5,7 @@ use Rattle.first_pass_tokens.specs.Pieces.{text_upto}
 use Rattle.first_pass_items.specs.declared.item.Item.{Item}
 use Rattle.first_pass_items.specs.declared.item.ItemBody.TheVariants.{Heading}
 use Rattle.first_pass_lines.specs.Lines.{level_number}
+use Rattle.first_pass_tree.specs.Forest.{added, block_of}
 use Rattle.first_pass_tokens.specs.Chains.{add_tokens, close_break}
 use Rattle.first_pass_tokens.specs.TreeTokens.{chained}
 use Rattle.first_pass_grammar.specs.Leaves.{document, kept_len, heading_chain, heading_text_at, IsHeading}
@@ -14,6 +15,7 @@ use Rattle.first_pass_open.specs.Between.{line_end_at}
 use Rattle.first_pass_text.proofs.OrderHeading.{heading_fits}
 use Rattle.first_pass_text.proofs.HeadingLemmas.{heading_read, heading_line_end, place_cut, place_end, place_fits}
 use Rattle.first_pass_open.proofs.BlockLemmas.{opened_is, just_pushed, still_open, block_closed}
+use Rattle.first_pass_text.proofs.PlainHeadings.{plain_read}
 use Rattle.first_pass_text.proofs.heading.parse_atx_heading.Goals as goal
 
 pub heading_text-requires-clause-opened : goal.heading_text-requires-clause-opened
@@ -96,3 +98,42 @@ returns-clause-more c =
           extends_both (names_of c.heading_text.new.allocs) (names_of c.name_attribute_block.new.allocs) (names_of c.args.allocs.now) text.names named.names;
       entries = text.entries ∙ named.entries;
     }
+
+pub returns-in-Some-clause-block : goal.returns-in-Some-clause-block
+returns-in-Some-clause-block c =
+    let g = c.args.tree.now in
+    let text : List ℕ = c.args.source.now.text.now in
+    let options = c.args.source.now.options in
+    let start : ℕ = c.heading_text_start-header_start.result in
+    let next = c.in-Some.plain.next in
+    let item : Item = record { start = c.args.start; «end» = next; body = Heading c.args.atx_level c.in_ok-place.index } in
+    let begins : start ≡ heading_text_at text c.args.start (level_number c.args.atx_level) =
+    c.heading_text_start-header_start.ensures.value ∙ ap (λ t. heading_text_at t c.args.start (level_number c.args.atx_level)) c.as_bytes.ensures.value in
+    let (chain, kids_are, ends, heads) = plain_read (document text options (names_of c.name_attribute_block.new.allocs)) start next c.in-Some.plain.text_end
+    c.opening_of.result c.in_ok-place.place c.in_ok-place.index c.in_ok-place.ensures.place c.opening_of.ensures c.in-Some.ensures.whole c.in-Some.ensures.plain
+    c.in_ok-place.ensures.named in
+    record {
+      index = c.in_ok-place.index;
+      chain = chain;
+      line = λ more e. subst (λ k. IsHeading (document text options more) k c.in_ok-place.index chain next) begins (heads more e);
+      tree_is = c.in_ok-append_with_text.ensures.ok ∙ ap (λ (kids : List (ℕ × Item)). added g (block_of item kids)) kids_are;
+      end_is = ends ∙ ap (line_end_at text) begins ∙ heading_line_end text c.args.start c.args.atx_level c.requires.within c.requires.heading;
+    }
+
+pub returns-in-Some-clause-fits : goal.returns-in-Some-clause-fits
+returns-in-Some-clause-fits c from following starts =
+    let u = subst IsUtf8 c.as_bytes.ensures.value c.as_bytes.ensures.utf8 in
+    heading_fits (document c.args.source.now.text.now c.args.source.now.options (names_of c.name_attribute_block.new.allocs)) c.args.start c.args.atx_level
+    c.args.tree.now c.append_with_text.new.self c.in-Some.plain.next u starts c.requires.heading (returns-in-Some-clause-block c) from following
+
+pub scan_plain_heading-requires-clause-set : goal.scan_plain_heading-requires-clause-set
+scan_plain_heading-requires-clause-set c =
+    (place_fits c.args.source.now.text.now c.args.source.now.options c.heading_text_start-header_start.result c.in_ok-place.place c.opening_of.result
+    c.in_ok-place.ensures.place c.opening_of.ensures
+    (subst (λ t. c.heading_text_start-header_start.result ≤ length t) c.as_bytes.ensures.value c.heading_text_start-header_start.ensures.within)).0
+
+pub scan_plain_heading-requires-clause-within : goal.scan_plain_heading-requires-clause-within
+scan_plain_heading-requires-clause-within c =
+    (place_fits c.args.source.now.text.now c.args.source.now.options c.heading_text_start-header_start.result c.in_ok-place.place c.opening_of.result
+    c.in_ok-place.ensures.place c.opening_of.ensures
+    (subst (λ t. c.heading_text_start-header_start.result ≤ length t) c.as_bytes.ensures.value c.heading_text_start-header_start.ensures.within)).1

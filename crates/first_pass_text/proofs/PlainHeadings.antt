@@ -1,0 +1,171 @@
+-- The headings that have at most one token.
+use Rattle.std.proofs.Common.{◌≡◌, ◌<◌, ◌≤◌, ℕ, ◌+◌, ◌-◌, ◌==◌, nat_le, nat_lt, min, true, false, List, [], ◌∷◌, length, take, slice_index}
+use Rattle.std.proofs.Common.{Option, None, Some, is_some, inl, inr, refl, sym, ap, subst, ◌∙◌, arith}
+use Rattle.std.specs.List.{slice_range, suffix_len}
+use Rattle.std.proofs.lemmas.Bool.{cases_lt, cond-true, cond-false, cond_both, le-ltb, lt-ltb, true≢false}
+use Rattle.first_pass_items.specs.Bytes.{backslash}
+use Rattle.first_pass_items.specs.declared.cow_str.CowStr.{CowStr}
+use Rattle.first_pass_items.specs.declared.item.Item.{Item}
+use Rattle.first_pass_tree.specs.Forest.{cut_item, text_between}
+use Rattle.first_pass_tokens.specs.Chains.{add_text, add_tokens, close_break, cut, text_token}
+use Rattle.first_pass_tokens.specs.LineTokens.{text_end, line_break, breaks_by_backslash, backslashes_at_end, blanks_at_end, line_end_len, break_of}
+use Rattle.first_pass_tokens.specs.LineTokens.{add_pieces, AreLineTokens, IsCell}
+use Rattle.first_pass_tokens.specs.Pieces.{Inline, text_upto}
+use Rattle.first_pass_tokens.specs.TreeTokens.{leaves}
+use Rattle.first_pass_tokens.proofs.ChainLemmas.{add_text-some, add_text-none}
+use Rattle.first_pass_tokens.proofs.LineLemmas.{end_bounded, ends_line}
+use Rattle.first_pass_grammar.specs.Leaves.{kept_len, heading_chain}
+use Rattle.first_pass_grammar.specs.Leaves.{Document, document, IsHeading}
+use Rattle.first_pass_grammar.specs.Headings.{heading_attribute_block, before_attributes, heading_attributes_of, text_before_attributes}
+use Rattle.first_pass_grammar.specs.Names.{Names, NamesAttributes, Extends}
+use Rattle.first_pass_items.specs.declared.item.HeadingIndex.{HeadingIndex}
+use Rattle.first_pass_attributes.specs.AttributeBlocks.{Braces}
+use Rattle.first_pass_tokens.specs.Braces.{no_braces}
+use Rattle.first_pass_open.specs.Between.{line_end_at}
+use Rattle.std.specs.Option.{option_map, option_map_or}
+use Rattle.first_pass_text.specs.declared.heading.AttributeBlock.{AttributeBlock}
+use Rattle.first_pass_text.specs.Appends.{line_from, attribute_place}
+use Rattle.first_pass_text.proofs.AttributeEnds.{before_none}
+use Rattle.first_pass_text.specs.PlainHeadings.{IsPlainHeading}
+use Rattle.first_pass_text.proofs.HeadingLemmas.{chain_none, chain_kept, line_between, place_cut}
+
+-- a single text is a chain by itself
+single : (start to : ℕ) → add_tokens [] (add_text start to false []) ≡ add_text start to false []
+single start to = elim (cases_lt start to) [
+  | inl some ↦ ap (add_tokens []) (add_text-some start to false [] some) ∙ sym (add_text-some start to false [] some)
+  | inr none ↦ ap (add_tokens []) (add_text-none start to false [] none) ∙ sym (add_text-none start to false [] none)
+]
+
+-- an empty chain stays empty
+none_cut : (kept start : ℕ) → heading_chain kept start [] ≡ []
+none_cut kept start = elim (cases_lt 0 kept) [ inl some ↦ chain_kept kept start [] (λ h. omega arith) | inr none ↦ chain_none kept start [] (omega arith) ]
+
+-- a chain of at most a text, cut after the kept bytes
+text_cut : (start to kept : ℕ) → leaves (heading_chain kept start (add_text start to false [])) ≡ text_between start (min (start + kept) to)
+text_cut start to kept = elim (cases_lt start to) [
+  | inl some ↦ elim (cases_lt 0 kept) [
+    | inl more ↦
+        let chain : heading_chain kept start (add_text start to false []) ≡ cut (start + kept) (text_token start to false ∷ []) =
+        chain_kept kept start (add_text start to false []) (λ h. omega arith) ∙ ap (cut (start + kept)) (add_text-some start to false [] some) in
+        let before : nat_lt start (start + kept) ≡ true = lt-ltb start (start + kept) (omega arith) in
+        let first : cut (start + kept) (text_token start to false ∷ []) ≡ cut_item (start + kept) (text_token start to false) ∷ [] =
+        cond-true _ _ _ before in
+        elim (cases_lt (start + kept) to) [
+          | inl within ↦
+              let least : min (start + kept) to ≡ start + kept = omega arith in
+              ap leaves (chain ∙ first ∙ ap (λ (x : Item). x ∷ []) (cond-true _ _ _ (lt-ltb (start + kept) to within)))
+              ∙ sym (ap (text_between start) least ∙ cond-true _ _ _ before)
+          | inr past ↦
+              let least : min (start + kept) to ≡ to = omega arith in
+              ap leaves (chain ∙ first ∙ ap (λ (x : Item). x ∷ []) (cond-false _ _ _ (le-ltb (start + kept) to past)))
+              ∙ sym (ap (text_between start) least ∙ cond-true _ _ _ (lt-ltb start to some))
+        ]
+    | inr none ↦
+        ap leaves (chain_none kept start (add_text start to false []) (omega arith))
+        ∙ sym (cond-false _ _ _ (le-ltb start (min (start + kept) to) (omega arith)))
+  ]
+  | inr none ↦
+      ap leaves (ap (heading_chain kept start) (add_text-none start to false [] none) ∙ none_cut kept start)
+      ∙ sym (cond-false _ _ _ (le-ltb start (min (start + kept) to) (omega arith)))
+]
+
+module _ (s : Inline) (end : ℕ) (some : s.start < end) (within : end ≤ length s.text) (last : (slice_index s.text (end - 1) == backslash) ≡ false) where
+  -- no backslash breaks the line
+  unbroken : breaks_by_backslash s end ≡ false
+  unfolding breaks_by_backslash backslashes_at_end
+  unbroken =
+      let bound = end_bounded (λ b. b == backslash) s.text s.start end end (omega arith) (omega arith) within (inr (omega arith, last)) in
+      let zero : suffix_len (λ b. b == backslash) (slice_range s.text s.start end) ≡ 0 = omega arith in
+      rw zero refl
+
+  -- so no backslash of a break is text
+  closed : (chain : List Item) → close_break (line_break s end) chain ≡ chain
+  unfolding line_break
+  closed chain =
+      cond_both (nat_le (length s.text) end) None _ (λ (o : Option Item). close_break o chain ≡ chain) (λ b. refl)
+      (λ b. subst (λ z. close_break (Some (break_of end (end + line_end_len s end) z (blanks_at_end s end))) chain ≡ chain) (sym unbroken)
+      (cond_both (nat_le 2 (blanks_at_end s end)) _ _ (λ (x : Item). close_break (Some x) chain ≡ chain) (λ hard. refl) (λ soft. refl)))
+
+  -- the tokens of the same cell are those of the line
+  line_of : {texts : List CowStr} {tokens : List Item} → s.row ≡ false
+      → IsCell texts s tokens end s.braces → AreLineTokens texts s tokens (end + line_end_len s end, line_break s end) s.braces
+  unfolding text_end
+  line_of {texts} {tokens} plain cell =
+      let stops : text_end s end ≡ end - blanks_at_end s end = cond-false _ _ _ unbroken in
+      record {
+        no_cell = plain;
+        pieces = cell.pieces;
+        content_end = end;
+        division = cell.division;
+        tokens_are = subst (λ n. tokens ≡ add_pieces n s.start cell.pieces []) (sym stops) cell.tokens_are;
+        answer_is = refl;
+      }
+
+  -- the heading is plain text
+  pub plain_heading : (to kept next text_end : ℕ) → s.row ≡ false
+      → ((texts : List CowStr) → IsCell texts s (add_text s.start to false []) end s.braces) → next ≡ end + line_end_len s end
+      → kept ≡ kept_len (slice_range s.text s.start next) → text_end ≡ min (s.start + kept) to → IsPlainHeading s text_end next
+  plain_heading to kept next text_end plain cell next_is kept_is end_is =
+      let tokens : List Item = add_text s.start to false [] in
+      let line : (texts : List CowStr) → AreLineTokens texts s tokens (end + line_end_len s end, line_break s end) s.braces =
+      λ texts. line_of plain (cell texts) in
+      let order : s.start ≤ length s.text = omega (arith, some, within) in
+      let whole : close_break (line_break s end) (add_tokens [] tokens) ≡ tokens = closed (add_tokens [] tokens) ∙ single s.start to in
+      record {
+        tokens = tokens;
+        answer = (end + line_end_len s end, line_break s end);
+        line = line;
+        next_is = next_is ∙ (ends_line order (line [])).place;
+        chain_is = ap (λ chain. leaves (heading_chain (kept_len (slice_range s.text s.start next)) s.start chain)) whole
+            ∙ ap (λ n. leaves (heading_chain n s.start tokens)) (sym kept_is) ∙ text_cut s.start to kept ∙ ap (text_between s.start) (sym end_is);
+      }
+
+-- what is not some is none
+none_from : (o : Option ℕ) → is_some o ≡ false → o ≡ None
+none_from None h = refl
+none_from (Some x) h = absurd (true≢false h)
+
+-- a content without an end of its own goes up to the end of the text
+pub upto_all : (text bytes : List ℕ) (cut : Option ℕ) → is_some cut ≡ false → bytes ≡ text → text_upto text cut ≡ bytes
+upto_all text bytes cut none same = ap (text_upto text) (none_from cut none) ∙ sym same
+
+pub upto_within : (text bytes : List ℕ) (at : ℕ) (cut : Option ℕ) → is_some cut ≡ false → bytes ≡ text → at < length (text_upto text cut) → at < length bytes
+upto_within text bytes at cut none same within = subst (λ t. at < length t) (upto_all text bytes cut none same) within
+
+-- a value that becomes none was none
+none_before : {A B : Type 0} (f : A → B) (o : Option A) → None ≡ option_map f o → o ≡ None
+none_before f None h = refl
+none_before f (Some x) h = absurd (let z : Some (f x) ≡ None = sym h in cc)
+
+-- The heading that has no attribute block is one of the grammar, and its chain is at most a text.
+pub plain_read : (d : Document) (start next text_end : ℕ) (cut : Option ℕ) (place : Option AttributeBlock) (index : Option HeadingIndex)
+    → place ≡ attribute_place d.options d.text start → cut ≡ option_map (λ (p : AttributeBlock). p.opening) place → cut ≡ None
+    → IsPlainHeading (record { options = d.options; whole = d.text; text = text_upto d.text cut; start = start; row = false; braces = no_braces }) text_end next
+    → ((more : Names) → Extends more d.names → NamesAttributes more index (heading_attributes_of d.options (line_from d.text start)))
+    → (chain : List Item) × (text_between start text_end ≡ leaves chain) × (next ≡ line_end_at d.text start)
+    × ((more : Names) → Extends more d.names → IsHeading (document d.text d.options more) start index chain next)
+plain_read d start next text_end cut place index place_is cut_is none plain named =
+    let text : List ℕ = d.text in
+    let line : List ℕ = line_from text start in
+    let s : List ℕ → Inline = λ t. record { options = d.options; whole = text; text = t; start = start; row = false; braces = no_braces } in
+    let block : heading_attribute_block d.options line ≡ None =
+    none_before (λ (b : Braces). start + b.opening) (heading_attribute_block d.options line)
+    (sym none ∙ cut_is ∙ place_cut text d.options start place place_is) in
+    let h : IsPlainHeading (s text) text_end next = subst (λ o. IsPlainHeading (s (text_upto text o)) text_end next) none plain in
+    let whole : text_before_attributes d.options text start line ≡ text =
+    ap (λ (o : Option Braces). option_map_or (λ b. take (start + b.opening) text) o text) block in
+    let content : slice_range text start next ≡ before_attributes d.options line =
+    line_between text start next h.next_is ∙ sym (before_none d.options line block) in (
+      heading_chain (kept_len (slice_range text start next)) start (close_break h.answer.1 (add_tokens [] h.tokens)),
+      sym h.chain_is,
+      h.next_is,
+      λ more e. record {
+        tokens = h.tokens;
+        answer = h.answer;
+        after = no_braces;
+        line = subst (λ t. AreLineTokens more.texts (s t) h.tokens h.answer no_braces) (sym whole) (h.line more.texts);
+        chain_is = ap (λ xs. heading_chain (kept_len xs) start (close_break h.answer.1 (add_tokens [] h.tokens))) content;
+        named = named more e;
+        end_is = h.next_is;
+      },
+    )
