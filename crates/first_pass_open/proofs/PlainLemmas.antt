@@ -4,8 +4,10 @@ use Rattle.std.proofs.Common.{◌≡◌, min, true, false, Bool, List, [], ◌�
 use Rattle.std.specs.Option.{option_and_then}
 use Rattle.std.proofs.lemmas.Option.{none-some}
 use Rattle.first_pass_items.specs.declared.item.BlockQuoteKind.{BlockQuoteKind}
-use Rattle.first_pass_lines.specs.Rest.{Rest, indent, after_columns}
+use Rattle.first_pass_lines.specs.Rest.{Rest, next_column, indent, after_columns}
+use Rattle.first_pass_lines.proofs.Columns.{all-none}
 use Rattle.first_pass_lines.specs.Plain.{begins_plain, begins_inert}
+use Rattle.first_pass_scan.proofs.ColumnFacts.{no_column}
 use Rattle.first_pass_scan.proofs.PlainFacts.{plain_indent, plain_after, inert_indent, inert_after, inert_quote, inert_item}
 use Rattle.first_pass_grammar.specs.declared.kind.Container.{Container}
 use Rattle.first_pass_grammar.specs.declared.kind.Container.TheVariants.{BlockQuote, ListItem, FootnoteDefinition, Definition}
@@ -23,6 +25,13 @@ inert_all r o h = inert_after (indent r) r o h
 
 pub inert_few : (r : Rest) → r.owed ≡ 0 → begins_inert r.left ≡ true → 0 ≡ min 4 (indent r)
 inert_few r o h = rw (inert_indent r o h) refl
+
+-- If no column is next, there is no indentation to take.
+pub none_all : (r : Rest) → next_column r ≡ None → all_taken r ≡ r
+none_all r h = all-none r h
+
+pub none_few : (r : Rest) → next_column r ≡ None → 0 ≡ min 4 (indent r)
+none_few r h = rw (no_column r h) refl
 
 pub inert_prefix : (kind : Option BlockQuoteKind) (r : Rest) → r.owed ≡ 0 → begins_inert r.left ≡ true → prefix (BlockQuote kind) r ≡ None
 unfolding prefix

@@ -3,4 +3,5 @@ pub mod LeafFacts
 pub mod MarkerFacts
 pub mod MarkerPlaces
 pub mod RuleFacts
+pub mod ColumnFacts
 pub mod PlainFacts

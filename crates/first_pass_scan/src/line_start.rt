@@ -1,6 +1,6 @@
 //! A place in a line, and the rest of the text from there on, in columns.
 
-ghost use Rattle.std.specs.Prelude.{◌≡◌, ◌≤◌, ◌+◌, ◌<◌, ◌^◌, ◌==◌, min, nat_le, length, drop, is_some, IfSome, MatchOption, if◌then◌else◌, true, false};
+ghost use Rattle.std.specs.Prelude.{◌≡◌, ◌≤◌, ◌+◌, ◌<◌, ◌^◌, ◌==◌, min, nat_le, length, drop, is_some, None, IfSome, MatchOption, if◌then◌else◌, true, false};
 ghost use Rattle.first_pass_lines.specs.Lines.{at_line_end, is_blank_line};
 ghost use Rattle.first_pass_scan.specs.Blanks.{without_owed, past_blank};
 ghost use Rattle.first_pass_scan.specs.LeafLines.{hrule_len};
@@ -134,6 +134,15 @@ impl<'a> LineStart<'a> {
         self.owed == 0 && is_inert_front(rest_of(self.bytes, self.at))
     }
 
+    /// Returns whether no column is next: none is owed, and no space or tab is here (CommonMark 2.2).
+    #[inline(always)]
+    pub fn has_no_column(&self) -> bool
+        ensures none { result ≡ true → next_column self.now ≡ None }
+        ensures some { result ≡ false → is_some (next_column self.now) ≡ true }
+    {
+        self.owed == 0 && !matches!(self.bytes.get(self.at), Some(b' ' | b'\t'))
+    }
+
     /// Takes as many columns of spaces and tabs as there are, up to `n`, and returns their number. CommonMark 2.2.
     #[inline(always)]
     pub fn scan_space_upto(&mut self, n: usize) -> usize
@@ -171,7 +180,7 @@ impl<'a> LineStart<'a> {
     {
         if self.owed == 0 && self.at < self.bytes.len() && self.bytes[self.at] == b'>' {
             self.at += 1;
-            let _ = self.scan_space(1);
+            let _ = self.take_column();
             true
         } else {
             false
@@ -355,8 +364,7 @@ impl<'a> LineStart<'a> {
         ensures { MatchOption (after_marker width self.old) (result ≡ None) (λ content. (result ≡ Some content.0)
             × (self.new ≡ content.1)) }
     {
-        let ends = self.is_at_eol();
-        if !self.scan_space(1) && !ends {
+        if !self.take_column() && !self.is_at_eol() {
             return None;
         }
         Some(self.scan_content_indent(width + 1))

@@ -1,7 +1,7 @@
 use Rattle.std.proofs.Common.{ap, sym, ◌∙◌}
 use Rattle.first_pass_lines.specs.Rest.{Rest, indent, after_columns}
+use Rattle.first_pass_open.proofs.PlainLemmas.{inert_all, inert_few, none_all, none_few}
 use Rattle.first_pass_open.proofs.PlaceLemmas.{all_after}
-use Rattle.first_pass_open.proofs.PlainLemmas.{inert_all, inert_few}
 use Rattle.first_pass_open.proofs.indentation.scan_indentation.Goals as goal
 
 pub returns-then-is_at_inert-clause-columns : goal.returns-then-is_at_inert-clause-columns
@@ -11,6 +11,12 @@ returns-then-is_at_inert-clause-columns c =
 pub returns-then-is_at_inert-clause-rest : goal.returns-then-is_at_inert-clause-rest
 returns-then-is_at_inert-clause-rest c =
     sym (inert_all c.args.line_start.now (c.is_at_inert.ensures.owed c.if-is_at_inert.true) (c.is_at_inert.ensures.inert c.if-is_at_inert.true))
+
+pub returns-then-has_no_column-clause-columns : goal.returns-then-has_no_column-clause-columns
+returns-then-has_no_column-clause-columns c = none_few c.args.line_start.now (c.has_no_column.ensures.none c.if-has_no_column.true)
+
+pub returns-then-has_no_column-clause-rest : goal.returns-then-has_no_column-clause-rest
+returns-then-has_no_column-clause-rest c = sym (none_all c.args.line_start.now (c.has_no_column.ensures.none c.if-has_no_column.true))
 
 pub returns-clause-rest : goal.returns-clause-rest
 returns-clause-rest c =
