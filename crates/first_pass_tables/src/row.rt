@@ -116,7 +116,7 @@ fn append_excess_cells(
 // Appends the wanted cells of a row to the innermost open node, which was just opened. Returns the end of the row and
 // the number of its cells. Adds the texts that the tokens of all its cells name to `allocs`. `braces`, the brace
 // contexts before the row, become those after all its cells.
-#[inline(never)]
+#[inline(always)]
 fn append_cells(
     source: &Source<'_>,
     tree: &mut Tree<Item>,
