@@ -15,7 +15,7 @@ use crate::state::BlockPass;
 use first_pass_definitions::reference::parse_refdef_total;
 use first_pass_items::item::Item;
 use first_pass_kinds::interrupt::scan_flowing_line;
-use first_pass_lines::lines::scan_blank_line;
+use first_pass_lines::lines::{begins, scan_blank_line};
 use first_pass_lines::places::{next_line, rest_of};
 use first_pass_open::source::Source;
 use first_pass_scan::line_start::LineStart;
@@ -62,7 +62,27 @@ pub fn scan_next_line_or_lazy_continuation<'input>(
 impl<'a> BlockPass<'a> {
     // Reads all link reference definitions from the offset `at` on, in the line at `line`, and puts them into the
     // table beside the tree.
+    #[inline(always)]
     pub(crate) fn parse_definitions(&mut self, line: usize, at: usize) -> Result<RunEnd, AllocError>
+        requires utf8 { IsUtf8 (source_text self.old) }
+        requires boundary { IsCharBoundary (source_text self.old) at }
+        ensures kept { OnOk result (PutsDefinitions self.old self.new) }
+        ensures run { IfOk result (λ following. (p : Place) → p.line ≡ line → offset p ≡ at
+            → IsPlaceOf (source_text self.old) p
+            → ReadsRun (source_text self.old) (context_in self.old)
+            (in_table (tree_of self.old).nodes (tree_of self.old).spine) p (tables_of (allocs_of self.old))
+            (tables_of (allocs_of self.new)) following) }
+    {
+        self.source.recall_length();
+        // No definition begins with another byte than `[`, so most paragraphs need no call.
+        if !begins(b'[', rest_of(self.source.text.as_bytes(), at)) {
+            return Ok(RunEnd::Paragraph(at));
+        }
+        self.parse_run(line, at)
+    }
+
+    // The same as `parse_definitions`, for any first byte.
+    fn parse_run(&mut self, line: usize, at: usize) -> Result<RunEnd, AllocError>
         requires utf8 { IsUtf8 (source_text self.old) }
         requires boundary { IsCharBoundary (source_text self.old) at }
         ensures kept { OnOk result (PutsDefinitions self.old self.new) }

@@ -5,7 +5,7 @@ use Rattle.first_pass_names.specs.TableEntries.{tables_of, names_of}
 use Rattle.first_pass_blocks.specs.Written.{TablesAreWritten}
 use Rattle.first_pass_blocks.specs.Views.{context_in}
 use Rattle.first_pass_blocks.proofs.LinkDefinitions.RunSoFar.{RunSoFar}
-use Rattle.first_pass_blocks.proofs.state.BlockPass.parse_definitions.Given as goal
+use Rattle.first_pass_blocks.proofs.state.BlockPass.parse_run.Given as goal
 
 -- the definitions are read up to here
 abbrev pub invariant-loop-size : goal.invariant-loop-size
