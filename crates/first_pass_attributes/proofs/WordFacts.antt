@@ -1,14 +1,15 @@
 -- The first word of bytes, and where it ends.
-use Rattle.std.proofs.Common.{◌≡◌, ℕ, ◌+◌, ◌<◌, not, Bool, true, false, cond, nat_lt, List, [], ◌∷◌, ◌++◌, length, filter, take, drop, get_or}
+use Rattle.std.proofs.Common.{◌≡◌, ℕ, ◌+◌, ◌-◌, ◌<◌, ◌≤◌, not, Bool, true, false, cond, nat_lt, List, [], ◌∷◌, ◌++◌, length, filter, take, drop, get_or}
 use Rattle.std.proofs.Common.{IsUtf8, IsCharBoundary, inl, inr, refl, sym, ap, subst, ◌∙◌, arith}
 use Rattle.std.specs.List.{All, slice_split, prefix_len}
 use Rattle.std.proofs.lemmas.Bool.{cases_lt, not-true, not-false}
 use Rattle.std.proofs.lemmas.Bool.Decides.{nat_tests}
-use Rattle.std.proofs.lemmas.List.{get_or-take, drop_more, take-append-drop, take_all, length-take}
+use Rattle.std.proofs.lemmas.List.{get_or-take, drop_more, drop-take, take-append-drop, take_all, length-take, length-take-le, length-drop}
 use Rattle.std.proofs.lemmas.List.Splits.{slice_split_none, slice_split_at}
-use Rattle.std.proofs.lemmas.List.Sums.{prefix_len_passes, prefix_len_stops, prefix_len-le-length}
+use Rattle.std.proofs.lemmas.List.Sums.{prefix_len_is, prefix_len_passes, prefix_len_stops, prefix_len-le-length}
 use Rattle.std.proofs.lemmas.Str.{IsCharBoundary-end, IsCharBoundary-before_ascii, IsCharBoundary-after_ascii}
-use Rattle.first_pass_attributes.specs.Attributes.{is_between_words, is_attribute_word, words}
+use Rattle.first_pass_lines.specs.Lanes.{IsRunIn}
+use Rattle.first_pass_attributes.specs.Attributes.{is_between_words, is_solid, is_attribute_word, words}
 
 -- a byte of a word
 abbrev pub in_word : ℕ → Bool
@@ -67,6 +68,43 @@ pub words-last : (bs : List ℕ) (n : ℕ) → n ≡ prefix_len in_word bs → n
 unfolding words
 words-last bs n e all =
     ap (λ l. filter is_attribute_word (filter (λ part. nat_lt 0 (length part)) l)) (split-last bs n e all) ∙ told (take n bs) []
+
+solid_in_word : (b : ℕ) → is_solid b ≡ true → in_word b ≡ true
+solid_in_word b h = grind (arith, nat_tests, h)
+
+between_is_out : (b : ℕ) → is_between_words b ≡ true → in_word b ≡ false
+between_is_out b h = ap not h
+
+-- of 16 bytes the first ones are above the space: these are all bytes of a word
+pub solid-to-limit : (bs : List ℕ) (limit run : ℕ) → limit ≤ length bs → IsRunIn is_solid bs 0 16 run → limit ≤ run
+    → limit ≡ prefix_len in_word (take limit bs)
+solid-to-limit bs limit run within is short =
+    let size : length (take limit bs) ≡ limit = length-take-le limit bs within in
+    sym (prefix_len_is in_word (take limit bs) limit 0 (omega (arith, size))
+    (λ k l. ap in_word (get_or-take limit bs k 0 l) ∙ solid_in_word (get_or bs k 0) (is.1 k (omega arith) (omega arith)))
+    (λ l. absurd (omega (arith, size, l))))
+
+-- the same, and the next byte is between words
+pub solid-to-gap : (bs : List ℕ) (limit run : ℕ) → limit ≤ length bs → IsRunIn is_solid bs 0 16 run → run < limit
+    → is_between_words (get_or bs run 0) ≡ true → run ≡ prefix_len in_word (take limit bs)
+solid-to-gap bs limit run within is long gap =
+    let size : length (take limit bs) ≡ limit = length-take-le limit bs within in
+    sym (prefix_len_is in_word (take limit bs) run 0 (omega (arith, size))
+    (λ k l. ap in_word (get_or-take limit bs k 0 (omega arith)) ∙ solid_in_word (get_or bs k 0) (is.1 k (omega arith) (omega arith)))
+    (λ l. ap in_word (get_or-take limit bs run 0 long) ∙ between_is_out (get_or bs run 0) gap))
+
+-- what begins the bytes ahead still does without a word and the byte after it
+pub ahead-next : (bs ahead : List ℕ) (n : ℕ) → bs ≡ take (length bs) ahead → length bs ≤ length ahead → n < length bs
+    → drop (n + 1) bs ≡ take (length (drop (n + 1) bs)) (drop (n + 1) ahead)
+ahead-next bs ahead n is long less =
+    let left : length (drop (n + 1) bs) ≡ length bs - (n + 1) = length-drop (n + 1) bs in
+    let parts : n + 1 + (length bs - (n + 1)) ≡ length bs = omega arith in
+    ap (drop (n + 1)) (is ∙ ap (λ k. take k ahead) (sym parts)) ∙ drop-take (n + 1) (length bs - (n + 1)) ahead
+    ∙ ap (λ k. take k (drop (n + 1) ahead)) (sym left)
+
+-- what begins the bytes ahead is not longer than they are
+pub ahead-long : (bs ahead : List ℕ) → bs ≡ take (length bs) ahead → length bs ≤ length ahead
+ahead-long bs ahead is = let size = ap length is ∙ length-take (length bs) ahead in omega (arith, size)
 
 -- a word ends on a character boundary, and the next one begins on one
 pub word-end : (bs : List ℕ) (n : ℕ) → n ≡ prefix_len in_word bs → IsCharBoundary bs n

@@ -12,6 +12,10 @@ use Rattle.first_pass_attributes.specs.declared.attrs.HeadingAttributes.{Heading
 abbrev pub is_between_words : ℕ → Bool
 is_between_words b = b == tab || b == form_feed || b == space || is_line_end b
 
+-- a byte above the space (this project)
+abbrev pub is_solid : ℕ → Bool
+is_solid b = nat_lt space b
+
 -- the words of bytes: the nonempty parts between tabs, 0x0C, spaces and line endings (this project)
 unfoldable pub words : List ℕ → List (List ℕ)
 words bs = filter (λ part. nat_lt 0 (length part)) (slice_split is_between_words bs)

@@ -10,7 +10,7 @@ ghost use Rattle.first_pass_attributes.specs.AttributeBlocks.{is_after_block, is
 ghost use Rattle.first_pass_attributes.specs.Attributes.{is_attribute_word, key_and_value as key_and_value_of, with_words, attributes_of, pair_in, attributes_in, HasSeveral};
 
 pub use crate::short_list::ShortList;
-use crate::words::{scan_key, scan_word};
+use crate::words::{scan_key, scan_word_within};
 use first_pass_lines::lanes::LANES;
 use first_pass_lines::lines::{is_line_end, is_space_or_tab};
 use std::alloc::{AllocError, Global};
@@ -172,19 +172,39 @@ pub fn parse_inside_attribute_block<'a>(
         IsSomeAnd answer (λ h. attributes_in h ≡ attributes_of inside_attr_block.now)) }
     ensures err { OnErr result (HasSeveral (attributes_of inside_attr_block.now)) }
 {
+    let ahead = inside_attr_block.as_bytes();
+    let attributes = parse_attribute_words(alloc, inside_attr_block, ahead)?;
+    Ok(attributes)
+}
+
+/// Returns the same as `parse_inside_attribute_block`. `ahead` begins with the bytes of the text between the braces.
+/// The more bytes follow these, the more words are found by reading 16 bytes at once.
+#[inline(always)]
+pub fn parse_attribute_words<'a>(
+    alloc: Global,
+    inside_attr_block: &'a str,
+    ahead: &[u8],
+) -> Result<Option<HeadingAttributes<'a>>, AllocError>
+    requires { inside_attr_block.now ≡ take (length inside_attr_block.now) ahead.now }
+    ensures value { IfOk result (λ answer.
+        IsSomeAnd answer (λ h. attributes_in h ≡ attributes_of inside_attr_block.now)) }
+    ensures err { OnErr result (HasSeveral (attributes_of inside_attr_block.now)) }
+{
     let mut attributes = HeadingAttributes {
         id: None,
         classes: ShortList::new(),
         attrs: ShortList::new(),
     };
     let mut rest = inside_attr_block;
+    let mut ahead = ahead;
     loop {
-        let end = scan_word(rest.as_bytes());
+        let end = scan_word_within(ahead, rest.len());
         add_word(alloc, &mut attributes, &rest[..end])?;
         if end == rest.len() {
             return Ok(Some(attributes));
         }
         rest = &rest[end + 1..];
+        ahead = &ahead[end + 1..];
     }
 }
 

@@ -1,5 +1,5 @@
 -- The attribute block at the end of a heading's text.
-use Rattle.std.proofs.Common.{◌≡◌, inl, inr, ℕ, ◌+◌, ◌-◌, ◌≤◌, ◌<◌, ◌==◌, ◌&&◌, nat_lt, Bool, true, false, List, ◌∷◌, ◌++◌, length, take, drop, get_or, []}
+use Rattle.std.proofs.Common.{◌≡◌, inl, inr, ℕ, suc, zero, ◌+◌, ◌-◌, ◌≤◌, ◌<◌, ◌==◌, ◌&&◌, nat_lt, Bool, true, false, List, ◌∷◌, ◌++◌, length, take, drop, get_or, []}
 use Rattle.std.proofs.Common.{slice_index, Option, Some, None, is_some, IsSomeAnd, min, IsUtf8, IsCharBoundary, refl, sym, ap, subst, ◌∙◌, arith}
 use Rattle.std.proofs.Common.{length-append}
 use Rattle.std.proofs.Common.{length-drop, length-take, length-take-le, get_or-drop, if◌then◌else◌}
@@ -140,6 +140,16 @@ given_some options text start to block r found h within e block_is is =
     is_given found (attributes_of block) is
     ∙ sym (ap (option_map (λ (b : Braces). attributes_of (slice_range bs (b.opening + 1) b.closing))) (these_braces options bs h ∙ found_is)
     ∙ ap (λ xs. Some (attributes_of xs)) same)
+
+-- the first n bytes are as many as their own length
+take_own : (n : ℕ) (xs : List ℕ) → take n xs ≡ take (length (take n xs)) xs
+take_own zero xs = refl
+take_own (suc n) [] = refl
+take_own (suc n) (x ∷ xs) = ap (λ (ys : List ℕ). x ∷ ys) (take_own n xs)
+
+-- bytes with which others begin are the first of those, as many as their own length
+pub own_length : (block xs : List ℕ) (n : ℕ) → block ≡ take n xs → block ≡ take (length block) xs
+own_length block xs n e = e ∙ take_own n xs ∙ ap (λ k. take k xs) (ap length (sym e))
 
 -- the offset after the opening brace is a character boundary
 pub brace_boundary : (text bs : List ℕ) (start to opening at : ℕ)

@@ -16,8 +16,7 @@ ghost use Rattle.first_pass_text.specs.CutTexts.{IsLastAndChildless, CutsBlock, 
 
 use bitflags::Flags;
 use first_pass_attributes::attrs::{
-    HeadingAttributes, extract_attribute_block_content_from_header_text,
-    parse_inside_attribute_block,
+    HeadingAttributes, extract_attribute_block_content_from_header_text, parse_attribute_words,
 };
 use first_pass_items::item::{HeadingIndex, HeadingLevel, Item, ItemBody};
 use first_pass_items::option_set::Options;
@@ -57,7 +56,8 @@ pub fn extract_and_parse_heading_attribute_block<'a>(
         None => Ok((header_start + length, None)),
         Some(inside) => {
             let block = &source.text[header_start + inside.start..header_start + inside.end];
-            let attributes = parse_inside_attribute_block(source.alloc, block)?;
+            let ahead = &source.text.as_bytes()[header_start + inside.start..];
+            let attributes = parse_attribute_words(source.alloc, block, ahead)?;
             Ok((header_start + length, attributes))
         }
     }

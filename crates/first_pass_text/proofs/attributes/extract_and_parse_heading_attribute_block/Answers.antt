@@ -1,13 +1,14 @@
-use Rattle.std.proofs.Common.{◌≡◌, ◌+◌, ◌<◌, ℕ, List, [], length, Option, IfSome, IsUtf8, slice_index, true, ◌≤◌, sym, ap, subst, ◌∙◌, arith}
+use Rattle.std.proofs.Common.{◌≡◌, ◌+◌, ◌-◌, ◌<◌, ℕ, List, [], length, take, drop, Option, IfSome, IsUtf8, slice_index, true, ◌≤◌, sym, ap, subst, ◌∙◌, arith}
 use Rattle.std.specs.List.{slice_range}
 use Rattle.std.specs.Option.{option_map}
 use Rattle.std.specs.declared.ops.Range.{Range}
+use Rattle.std.proofs.lemmas.List.{take_rest}
 use Rattle.first_pass_items.specs.Bytes.{left_brace}
 use Rattle.first_pass_items.specs.OptionWords.{has, heading_attributes}
 use Rattle.first_pass_attributes.specs.AttributeBlocks.{inside_block}
 use Rattle.first_pass_grammar.specs.Headings.{heading_attributes_of}
 use Rattle.first_pass_text.proofs.AttributeEnds.{none_between, length_between, no_braces, empty_braces, before_none, given_none, content_before, given_not}
-use Rattle.first_pass_text.proofs.AttributeEnds.{given_some, brace_boundary}
+use Rattle.first_pass_text.proofs.AttributeEnds.{given_some, brace_boundary, own_length}
 use Rattle.first_pass_text.proofs.attributes.extract_and_parse_heading_attribute_block.Goals as goal
 
 pub returns-then-header_end-header_start-clause-attributes :
@@ -46,6 +47,16 @@ range-block-requires-clause-start_boundary c some =
     brace_boundary text bs c.args.header_start c.args.header_end e.result.0 c.in-Some.inside.start
     (subst IsUtf8 c.as_bytes.ensures.value c.as_bytes.ensures.utf8) is c.requires.to
     (omega (arith, places.0, places.1, places.2)) opens places.0
+
+pub parse_attribute_words-requires : goal.parse_attribute_words-requires
+parse_attribute_words-requires c =
+    let from : ℕ = c.args.header_start + c.in-Some.inside.start in
+    let to : ℕ = c.args.header_start + c.in-Some.inside.«end» in
+    let block : List ℕ = c.range-block.result.now in
+    let bytes : List ℕ = c.as_bytes-in-Some.result.now in
+    subst (λ (xs : List ℕ). block ≡ take (length block) xs) (sym (take_rest bytes from))
+    (own_length block (drop from bytes) (to - from)
+    (c.range-block.ensures.value ∙ ap (λ (xs : List ℕ). slice_range xs from to) (sym c.as_bytes-in-Some.ensures.value)))
 
 pub returns-in-None-clause-content : goal.returns-in-None-clause-content
 returns-in-None-clause-content c =
