@@ -47,7 +47,7 @@ use Rattle.first_pass_blocks.specs.Titles.{ReadsTitle}
 use Rattle.first_pass_ready.proofs.AddedLemmas.{body_after}
 use Rattle.first_pass_ready.proofs.BegunLemmas.{no_table}
 use Rattle.first_pass_order.proofs.CountLemmas.{count, list_finished_count, title_begun_count, definitions_left_count, block_count, leaf_left, left_before}
-use Rattle.first_pass_order.proofs.DefinitionOrder.{read_definitions_left, read_title_begun}
+use Rattle.first_pass_order.proofs.DefinitionOrder.{ReadAfterDefinition, read_definitions_left, read_title_begun}
 use Rattle.first_pass_ready.proofs.FinishLemmas.{EndsListAt, path_finished}
 use Rattle.first_pass_containers.proofs.Leaves.FirstItems.{text_silent_first}
 use Rattle.first_pass_containers.proofs.LineByLine.EnteredLines.{list_finished_blank}
@@ -332,6 +332,20 @@ module _ (old new : BlockPass) (p : Place) (at next : ℕ) (is_at : IsStateAtPla
   grown : (from : ℕ) → from ≤ at → from < next → GrowsBy from next r.tree.nodes read.nodes
   grown from low apart = block_count text from next r.tree read (fits from low) apart
 
+  read_there : (q : Place) → at ≡ offset q → OrderedUpTo text r.tree (line_or r.tree q.line (offset q)) → ReadAfterDefinition text r read next
+  read_there q at_is o = record {
+    at = line_or r.tree q.line (offset q);
+    start = at;
+    forest = is_at.forest;
+    after = after;
+    none = is_at.none;
+    ordered = o.0;
+    closes = o.1;
+    later = in_order q at_is;
+    adds = fits;
+    within = block.boundary.0;
+  }
+
   -- a paragraph
   kept_text : is_paragraph_last read ≡ true → state_of new ≡ title_begun last (with_tree r read) → ReadsText old new p at next
   kept_text para is =
@@ -348,18 +362,7 @@ module _ (old new : BlockPass) (p : Place) (at next : ℕ) (is_at : IsStateAtPla
             (subst (λ (f : Forest Item). Ready d (with_definitions defined xs) (title_begun last (with_tree r f)) (lines_from text next)) (sym block.tree_is)
             (ready_kept d defined r p q at next xs block.items is_at.forest kind stands at_is run (block.is_text more extends) after is_at.none begins ready));
         order = λ q stands at_is o. subst (λ z. IsReadTo text z next) (sym is)
-            (read_title_begun text r read next (record {
-              at = line_or r.tree q.line (offset q);
-              start = at;
-              forest = is_at.forest;
-              after = after;
-              none = is_at.none;
-              ordered = o.0;
-              closes = o.1;
-              later = in_order q at_is;
-              adds = fits;
-              within = block.boundary.0;
-            }) last refl current);
+            (read_title_begun text r read next (read_there q at_is o) last refl current);
         node_bound = λ from low apart. let g = grown from low apart in
             let same = ap count is ∙ title_begun_count last q' current in
             omega arith;
@@ -396,18 +399,7 @@ module _ (old new : BlockPass) (p : Place) (at next : ℕ) (is_at : IsStateAtPla
       (ap (λ (z : PassState). z.blank) now ∙ list_finished_blank last r) over
       (λ q xs at_is. away_left r q xs block.items (lines_from text next) after other)
       (λ q stands at_is o. subst (λ z. IsReadTo text z next) (sym is)
-      (read_definitions_left text r read next (record {
-        at = line_or r.tree q.line (offset q);
-        start = at;
-        forest = is_at.forest;
-        after = after;
-        none = is_at.none;
-        ordered = o.0;
-        closes = o.1;
-        later = in_order q at_is;
-        adds = fits;
-        within = block.boundary.0;
-      }) last refl))
+      (read_definitions_left text r read next (read_there q at_is o) last refl))
       (λ from low apart. let g = grown from low apart in
       let same = ap count is in
       let node_bound = definitions_left_count last (with_tree r read) in

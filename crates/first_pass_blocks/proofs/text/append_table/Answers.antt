@@ -1,6 +1,8 @@
 use Rattle.std.proofs.Common.{◌+◌, IsCharBoundary, length, subst, sym, ◌∙◌}
 use Rattle.first_pass_items.specs.declared.item.Item.{Item}
+use Rattle.first_pass_items.specs.declared.item.ItemBody.TheVariants.{Table}
 use Rattle.first_pass_tree.specs.Forest.{Forest}
+use Rattle.first_pass_open.specs.OpenBlock.{opened_block}
 use Rattle.first_pass_grammar.specs.Names.{Names, Extends, NamesAlignments}
 use Rattle.first_pass_grammar.specs.Leaves.{document}
 use Rattle.first_pass_names.specs.TableEntries.{names_of}
@@ -34,6 +36,18 @@ named_yet c more e =
     c.in_ok-index.ensures.names
     (extends_both more (names_of c.parse_table.new.allocs) named e (grown_table c))
 
+-- the rows follow the table's node
+rows_read : (c : goal.In_ok-next) → AppendsRows (document c.args.source.now.text.now c.args.source.now.options (names_of c.parse_table.new.allocs))
+    (length c.args.table.alignments.items) c.args.start (c.args.start + c.args.table.table_head_len)
+    (opened_block c.args.tree.now c.args.start (Table c.in_ok-index.index)) c.parse_table.new.tree c.in_ok-next.next
+rows_read c =
+    let d = document c.args.source.now.text.now c.args.source.now.options (names_of c.parse_table.new.allocs) in
+    let body = c.args.start + c.args.table.table_head_len in
+    subst (λ (f : Forest Item). AppendsRows d (length c.args.table.alignments.items) c.args.start body f c.parse_table.new.tree c.in_ok-next.next)
+    c.in_ok-open_block.ensures.tree
+    (subst (λ n. AppendsRows d n c.args.start body c.open_block.new.tree c.parse_table.new.tree c.in_ok-next.next)
+    (c.len.ensures ∙ c.args.table.alignments.ok.0) c.in_ok-next.ensures.rows)
+
 pub returns-clause-more : goal.returns-clause-more
 returns-clause-more c =
     let named = names_of c.allocate_alignment.new.self in
@@ -51,16 +65,9 @@ returns-clause-block c = λ marker.
     let names = names_of c.parse_table.new.allocs in
     let ix = c.in_ok-index.index in
     let alignments = c.args.table.alignments.items in
-    let opened = c.in_ok-open_block.ensures.tree in
-    let rows = subst (λ (f : Forest Item). AppendsRows (document text c.args.source.now.options names) (length alignments) c.args.start
-    (c.args.start + c.args.table.table_head_len) f
-    c.parse_table.new.tree c.in_ok-next.next) opened
-    (subst (λ n. AppendsRows (document text c.args.source.now.options names) n c.args.start (c.args.start + c.args.table.table_head_len)
-    c.open_block.new.tree c.parse_table.new.tree
-    c.in_ok-next.next) (c.len.ensures ∙ c.args.table.alignments.ok.0) c.in_ok-next.ensures.rows) in
     let there = open_are_in old.nodes old.spine c.recall_forest.ensures.opened in
     table_text text c.args.source.now.options names c.args.start (c.args.start + c.args.table.table_head_len) c.in_ok-next.next ix alignments old
-    c.parse_table.new.tree rows there
+    c.parse_table.new.tree (rows_read c) there
     (named_yet c) body_is c.requires.headed marker
 
 pub returns-clause-fits : goal.returns-clause-fits
@@ -72,15 +79,7 @@ returns-clause-fits c = λ from low.
     let names = names_of c.parse_table.new.allocs in
     let ix = c.in_ok-index.index in
     let alignments = c.args.table.alignments.items in
-    let opened = c.in_ok-open_block.ensures.tree in
-    let rows = subst (λ (f : Forest Item). AppendsRows (document text c.args.source.now.options names) (length alignments) c.args.start
-    (c.args.start + c.args.table.table_head_len) f
-    c.parse_table.new.tree c.in_ok-next.next) opened
-    (subst (λ n. AppendsRows (document text c.args.source.now.options names) n c.args.start (c.args.start + c.args.table.table_head_len)
-    c.open_block.new.tree c.parse_table.new.tree
-    c.in_ok-next.next) (c.len.ensures ∙ c.args.table.alignments.ok.0) c.in_ok-next.ensures.rows) in
     let there = open_are_in old.nodes old.spine c.recall_forest.ensures.opened in
     table_between text c.args.source.now.options names c.args.start (c.args.start + c.args.table.table_head_len) c.in_ok-next.next ix alignments old
-    c.parse_table.new.tree rows
-    there
+    c.parse_table.new.tree (rows_read c) there
     (named_yet c) body_is c.requires.headed (extends_none names) utf8 c.requires.boundary from low

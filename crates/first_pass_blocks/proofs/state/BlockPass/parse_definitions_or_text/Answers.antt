@@ -16,7 +16,9 @@ use Rattle.first_pass_open.specs.Between.{AddsBetween}
 use Rattle.first_pass_blocks.specs.Runs.{ReadsRun}
 use Rattle.first_pass_blocks.proofs.Leaves.LeafAdded.{found_boundary}
 use Rattle.first_pass_blocks.proofs.Leaves.TextLemmas.{run_line, run_text, run_title, plain_text}
+use Rattle.first_pass_blocks.specs.declared.definition.RunEnd.TheVariants.{Paragraph}
 use Rattle.first_pass_blocks.proofs.state.BlockPass.parse_definitions_or_text.Goals as goal
+use Rattle.first_pass_blocks.proofs.state.BlockPass.parse_definitions_or_text.Goals.{In-Paragraph}
 use Rattle.first_pass_containers.proofs.StateAt.{IsStateAtPlace}
 
 pub parse_definitions-requires-clause-boundary : goal.parse_definitions-requires-clause-boundary
@@ -39,17 +41,27 @@ returns-in-NextLine c =
     run_line self mid _ p c.in-NextLine.line c.in-NextLine.next here c.requires.kind (record { kept = e.kept; run = run }) refl refl
     (c.finish_list.ensures ∙ ap (list_finished c.in-NextLine.line) e.kept.state)
 
-pub parse_possible_title-requires-clause-boundary : goal.parse_possible_title-requires-clause-boundary
-parse_possible_title-requires-clause-boundary c =
+-- the link reference definitions before a paragraph, which begins on a character boundary
+run_before : (c : In-Paragraph) → ReadsRun c.args.self.now.source.text.now (context_in c.args.self.now)
+    (in_table c.args.self.now.state.tree.nodes c.args.self.now.state.tree.spine) (unindented c.args.place) (tables_of c.args.self.now.allocs)
+    (tables_of c.parse_definitions.new.self.allocs) (Paragraph c.in-Paragraph.text)
+run_before c =
     let self = c.args.self.now in
     let text = self.source.text.now in
     let p = c.args.place in
-    let e = c.in_ok-line.ensures in
-    let i = all_keep text p.line p.rest c.requires.utf8 c.requires.place in
-    let run = subst (ReadsRun text (context_in self) (in_table self.state.tree.nodes self.state.tree.spine) (unindented p) (tables_of self.allocs)
+    subst (ReadsRun text (context_in self) (in_table self.state.tree.nodes self.state.tree.spine) (unindented p) (tables_of self.allocs)
     (tables_of c.parse_definitions.new.self.allocs)) c.in-Paragraph.is
-    (e.run (unindented p) (ap (λ (q : Place). q.line) (sym c.place.view_is)) (sym c.requires.at) i) in
-    subst (λ (z : Source). IsCharBoundary z.text.now c.in-Paragraph.text) (sym e.kept.source) (subst (IsCharBoundary text) (sym run.says) run.stands.boundary)
+    (c.in_ok-line.ensures.run (unindented p) (ap (λ (q : Place). q.line) (sym c.place.view_is)) (sym c.requires.at)
+    (all_keep text p.line p.rest c.requires.utf8 c.requires.place))
+
+paragraph_boundary : (c : In-Paragraph) → IsCharBoundary c.parse_definitions.new.self.source.text.now c.in-Paragraph.text
+paragraph_boundary c =
+    let run = run_before c in
+    subst (λ (z : Source). IsCharBoundary z.text.now c.in-Paragraph.text) (sym c.in_ok-line.ensures.kept.source)
+    (subst (IsCharBoundary c.args.self.now.source.text.now) (sym run.says) run.stands.boundary)
+
+pub parse_possible_title-requires-clause-boundary : goal.parse_possible_title-requires-clause-boundary
+parse_possible_title-requires-clause-boundary c = paragraph_boundary (goal.at.parse_possible_title-requires-clause-boundary c).In-Paragraph
 
 pub returns-then-is_after_definition : goal.returns-then-is_after_definition
 returns-then-is_after_definition c =
@@ -59,26 +71,14 @@ returns-then-is_after_definition c =
     let r : PassState = self.state in
     let mid = c.parse_definitions.new.self in
     let e = c.in_ok-line.ensures in
-    let i = all_keep text p.line p.rest c.requires.utf8 c.requires.place in
-    let nested = in_table r.tree.nodes r.tree.spine in
-    let run = subst (ReadsRun text (context_in self) nested (unindented p) (tables_of self.allocs) (tables_of mid.allocs)) c.in-Paragraph.is
-    (e.run (unindented p) (ap (λ (q : Place). q.line) (sym c.place.view_is)) (sym c.requires.at) i) in
+    let run = run_before (goal.at.returns-then-is_after_definition c).In-Paragraph in
     let here : IsStateAtPlace text r p =
     record { utf8 = c.requires.utf8; place = c.requires.place; forest = c.recall_forest.ensures; none = c.requires.no_empty } in
     run_title self mid _ p c.in-Paragraph.text c.in_ok-next-in-Paragraph.next here c.requires.kind (record { kept = e.kept; run = run })
     (sym c.is_after_definition.ensures ∙ c.if-is_after_definition.true) c.in_ok-next-in-Paragraph.ensures
 
 pub parse_text-requires-clause-boundary : goal.parse_text-requires-clause-boundary
-parse_text-requires-clause-boundary c =
-    let self = c.args.self.now in
-    let text = self.source.text.now in
-    let p = c.args.place in
-    let e = c.in_ok-line.ensures in
-    let i = all_keep text p.line p.rest c.requires.utf8 c.requires.place in
-    let run = subst (ReadsRun text (context_in self) (in_table self.state.tree.nodes self.state.tree.spine) (unindented p) (tables_of self.allocs)
-    (tables_of c.parse_definitions.new.self.allocs)) c.in-Paragraph.is
-    (e.run (unindented p) (ap (λ (q : Place). q.line) (sym c.place.view_is)) (sym c.requires.at) i) in
-    subst (λ (z : Source). IsCharBoundary z.text.now c.in-Paragraph.text) (sym e.kept.source) (subst (IsCharBoundary text) (sym run.says) run.stands.boundary)
+parse_text-requires-clause-boundary c = paragraph_boundary (goal.at.parse_text-requires-clause-boundary c).In-Paragraph
 
 pub returns : goal.returns
 returns c =
@@ -95,10 +95,7 @@ returns c =
     let ended : PassState = c.finish_list-in-Paragraph.new.self in
     let e = c.in_ok-line.ensures in
     let f = c.in_ok-next-in-Paragraph-2.ensures in
-    let i = all_keep text p.line p.rest c.requires.utf8 c.requires.place in
-    let nested = in_table r.tree.nodes r.tree.spine in
-    let run = subst (ReadsRun text (context_in self) nested (unindented p) (tables_of self.allocs) (tables_of mid.allocs)) c.in-Paragraph.is
-    (e.run (unindented p) (ap (λ (q : Place). q.line) (sym c.place.view_is)) (sym c.requires.at) i) in
+    let run = run_before (goal.at.returns c).In-Paragraph in
     let done : ended ≡ list_finished at r = c.finish_list-in-Paragraph.ensures ∙ ap (list_finished at) e.kept.state in
     let none = ap (λ (z : PassState). z.begin_list_item) done ∙ list_finished_none at r in
     let blank = ap (λ (z : PassState). z.blank) done ∙ list_finished_blank at r in
