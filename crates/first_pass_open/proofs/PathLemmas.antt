@@ -1,12 +1,10 @@
 -- The containers among the open nodes, while nodes are added and opened; and a path at the end of the text.
 use Rattle.std.proofs.Common.{◌≡◌, ◌⊎◌, inl, inr, ℕ, zero, suc, ◌+◌, ◌<◌, ◌≤◌, nat_le, ◌||◌, Bool, true, false, List, [], ◌∷◌, ◌++◌, length, slice_get}
-use Rattle.std.proofs.Common.{Option}
+use Rattle.std.proofs.Common.{Option, MatchOption, is_some}
 use Rattle.std.proofs.Common.{Some, None, refl, ap, subst, ◌∙◌, arith, length-append}
 use Rattle.std.proofs.lemmas.List.{length-map}
 use Rattle.std.specs.Option.{option_map, option_and_then}
 use Rattle.first_pass_items.specs.declared.item.Item.{Item}
-use Rattle.first_pass_items.specs.declared.item.ItemBody.{ItemBody}
-use Rattle.first_pass_items.specs.declared.item.ItemBody.TheVariants.{ListItem as ListItemBody, DefinitionListDefinition}
 use Rattle.first_pass_tree.specs.declared.tree_index.TreeIndex.{TreeIndex}
 use Rattle.first_pass_tree.specs.Forest.{Forest, IsOpenPath, depths, appended, pushed, at_depth}
 use Rattle.first_pass_lines.specs.Lines.{at_line_end}
@@ -18,7 +16,7 @@ use Rattle.first_pass_tokens.proofs.ChainLemmas.{chained-spine, chained-nodes}
 use Rattle.first_pass_grammar.specs.declared.kind.Container.{Container}
 use Rattle.first_pass_grammar.specs.declared.kind.Container.TheVariants.{BlockQuote, ListItem, FootnoteDefinition, Definition}
 use Rattle.first_pass_grammar.specs.Containers.{has_columns, prefix, after, or_shorter, front}
-use Rattle.first_pass_open.specs.Path.{container_of, container_at, prefix_of, with_container, path_in, path_of}
+use Rattle.first_pass_open.specs.Path.{container_of, container_at, prefix_of, columns_needed, is_quote_node, with_container, path_in, path_of}
 use Rattle.first_pass_items.specs.declared.option_set.Options.{Options}
 
 -- each of these open nodes is one of the first n nodes
@@ -76,11 +74,44 @@ item-end n =
     let h : has_columns n (line_rest []) ≡ true = ap (λ (r : Rest). nat_le n (indent (line_rest [])) || at_line_end r.left) e ∙ or_true (nat_le n 0) in
     item_prefix n (line_rest []) h ∙ ap (λ r. Some r) e
 
--- The prefix of a list item or a definition with n columns is that of a list item with n columns.
-pub columns_prefix : (options : Options) (body : ItemBody) (n : ℕ) (r : Rest) → (body ≡ ListItemBody n) ⊎ (body ≡ DefinitionListDefinition n)
-    → prefix_of (container_of options body) r ≡ prefix (ListItem n) r
-columns_prefix options body n r (inl e) = ap (λ b. prefix_of (container_of options b) r) e
-columns_prefix options body n r (inr e) = ap (λ b. prefix_of (container_of options b) r) e ∙ definition_prefix n r
+-- The prefix of a container that needs n columns is that of a list item with n columns.
+pub columns_prefix : (o : Option Container) (n : ℕ) (r : Rest) → columns_needed o ≡ Some n → prefix_of o r ≡ prefix (ListItem n) r
+unfolding prefix
+columns_prefix None n r e = absurd cc
+columns_prefix (Some (BlockQuote kind)) n r e = absurd cc
+columns_prefix (Some (ListItem k)) n r e = let same : k ≡ n = cc in rw same refl
+columns_prefix (Some (FootnoteDefinition k)) n r e = let same : k ≡ n = cc in rw same refl
+columns_prefix (Some (Definition k)) n r e = let same : k ≡ n = cc in rw same refl
+
+-- The prefix of a block quote is the same for all kinds.
+pub quote_prefix : (o : Option Container) (r : Rest) → is_quote_node o ≡ true → prefix_of o r ≡ prefix (BlockQuote None) r
+unfolding prefix
+quote_prefix None r e = absurd cc
+quote_prefix (Some (BlockQuote kind)) r e = refl
+quote_prefix (Some (ListItem k)) r e = absurd cc
+quote_prefix (Some (FootnoteDefinition k)) r e = absurd cc
+quote_prefix (Some (Definition k)) r e = absurd cc
+
+-- A node that needs no columns and is no block quote has an empty prefix.
+pub empty_prefix : (o : Option Container) (r : Rest) → columns_needed o ≡ None → is_quote_node o ≡ false → prefix_of o r ≡ Some r
+empty_prefix None r e q = refl
+empty_prefix (Some (BlockQuote kind)) r e q = absurd cc
+empty_prefix (Some (ListItem k)) r e q = absurd cc
+empty_prefix (Some (FootnoteDefinition k)) r e q = absurd cc
+empty_prefix (Some (Definition k)) r e q = absurd cc
+
+-- what a call that takes a prefix returns, for an equal prefix
+pub by_prefix : (o p : Option Rest) (b : Bool) (old new : Rest) → o ≡ p
+    → MatchOption p ((b ≡ false) × (new ≡ old)) (λ next. (b ≡ true) × (new ≡ next))
+    → MatchOption o ((b ≡ false) × (new ≡ old)) (λ next. (b ≡ true) × (new ≡ next))
+by_prefix o p b old new e m = rw e m
+
+-- the same for a call that returns an offset with the prefix
+pub by_quote : (o p : Option Rest) (b : Bool) (found : Option ℕ) (n : ℕ) (old new : Rest) → o ≡ p → b ≡ is_some found
+    → MatchOption p ((found ≡ None) × (new ≡ old)) (λ next. (found ≡ Some n) × (new ≡ next))
+    → MatchOption o ((b ≡ false) × (new ≡ old)) (λ next. (b ≡ true) × (new ≡ next))
+by_quote o None b found n old new e some m = rw e (some ∙ ap is_some m.0, m.1)
+by_quote o (Some next) b found n old new e some m = rw e (some ∙ ap is_some m.0, m.1)
 
 -- At the end of the text, a path is continued and nothing is taken, or it is not continued.
 pub after-end : (path : List Container) → (after path (line_rest []) ≡ None) ⊎ (after path (line_rest []) ≡ Some (line_rest []))

@@ -31,6 +31,14 @@ abbrev pub prefix_of : Option Container → Rest → Option Rest
 prefix_of None r = Some r
 prefix_of (Some c) r = prefix c r
 
+-- the columns that are the prefix of a container; `None` for a block quote, and if none is given
+abbrev pub columns_needed : Option Container → Option ℕ
+columns_needed None = None
+columns_needed (Some (BlockQuote kind)) = None
+columns_needed (Some (ListItem n)) = Some n
+columns_needed (Some (FootnoteDefinition n)) = Some n
+columns_needed (Some (Definition n)) = Some n
+
 -- the path with this container as its innermost one, if it is given
 abbrev pub with_container : Option Container → List Container → List Container
 with_container None path = path

@@ -6,7 +6,7 @@ ghost use Rattle.first_pass_grammar.specs.Containers.{prefix, after, front};
 ghost use Rattle.first_pass_lines.specs.Rest.{after_columns};
 ghost use Rattle.first_pass_lines.specs.Places.{line_rest};
 ghost use Rattle.first_pass_items.specs.declared.option_set.Options.{Options as OptionSet};
-ghost use Rattle.first_pass_open.specs.Path.{container_of, prefix_of, path_in, path_of, outer, is_quote_node, has_quote_after};
+ghost use Rattle.first_pass_open.specs.Path.{container_of, prefix_of, columns_needed, path_in, path_of, outer, is_quote_node, has_quote_after};
 
 use first_pass_items::item::{Item, ItemBody};
 use first_pass_items::option_set::Options;
@@ -29,27 +29,55 @@ fn takes_columns<'a>(columns: usize, line_start: &mut LineStart<'a>) -> bool
     true
 }
 
+// The columns that a line needs to continue a node with this body; `None` for a block quote and for a node that is no
+// container.
+#[inline(always)]
+fn columns_by_kind(body: &ItemBody, options: Options) -> Option<usize>
+    ensures { result ≡ columns_needed (container_of options body.now) }
+{
+    match body {
+        ItemBody::ListItem(columns) | ItemBody::DefinitionListDefinition(columns) => Some(*columns),
+        ItemBody::FootnoteDefinition(_) => Some(if options.has_gfm_footnotes() { 4 } else { 0 }),
+        _ => None,
+    }
+}
+
+// The same, with list items found by one test. The kinds of the second test are neighbours in `ItemBody`, so that it
+// becomes one comparison. Compilers make a jump table of a match on single kinds, and processors seldom predict its
+// jump.
+#[inline(always)]
+fn columns_needed(body: &ItemBody, options: Options) -> Option<usize>
+    ensures { result ≡ columns_needed (container_of options body.now) }
+{
+    if let ItemBody::ListItem(columns) = body {
+        return Some(*columns);
+    }
+    if matches!(
+        body,
+        ItemBody::FootnoteDefinition(_)
+            | ItemBody::MetadataBlock(_)
+            | ItemBody::DefinitionList(_)
+            | ItemBody::MaybeDefinitionListTitle
+            | ItemBody::DefinitionListTitle
+            | ItemBody::DefinitionListDefinition(_)
+    ) {
+        return columns_by_kind(body, options);
+    }
+    None
+}
+
 // Takes the prefix that a line needs to continue a node with this body. A node that is no container has an empty
 // prefix. Returns whether the prefix is there; takes nothing if it is not.
 #[inline(always)]
-#[tactic(auto, unfolding(first_pass_grammar::specs::Containers::prefix))]
-fn takes_prefix<'a>(body: ItemBody, line_start: &mut LineStart<'a>, options: Options) -> bool
-    ensures { MatchOption (prefix_of (container_of options body) line_start.old)
+fn takes_prefix<'a>(body: &ItemBody, line_start: &mut LineStart<'a>, options: Options) -> bool
+    ensures { MatchOption (prefix_of (container_of options body.now) line_start.old)
         ((result ≡ false) × (line_start.new ≡ line_start.old)) (λ next. (result ≡ true) × (line_start.new ≡ next)) }
 {
-    // A few tests in place of one match on all kinds of nodes: processors seldom predict the jump of such a match.
-    let columns = match body {
-        ItemBody::ListItem(columns) | ItemBody::DefinitionListDefinition(columns) => Some(columns),
-        _ => None,
-    };
-    if let Some(columns) = columns {
+    if let Some(columns) = columns_needed(body, options) {
         return takes_columns(columns, line_start);
     }
-    if matches!(body, ItemBody::BlockQuote(_)) {
+    if is_quote(*body) {
         return scan_quote(line_start).is_some();
-    }
-    if matches!(body, ItemBody::FootnoteDefinition(_)) && options.has_gfm_footnotes() {
-        return takes_columns(4, line_start);
     }
     true
 }
@@ -75,7 +103,7 @@ pub fn scan_containers<'a>(
     tree.recall_forest();
     let spine = tree.walk_spine();
     for (i, ix) in spine.iter().enumerate() {
-        if !takes_prefix(tree[*ix].body, line_start, options) {
+        if !takes_prefix(&tree[*ix].body, line_start, options) {
             return i;
         }
     }
@@ -133,7 +161,7 @@ pub fn continued_rest<'b>(
         if nodes_to_quote <= i && rest.remaining_space() == 0 && rest.is_at_eol() {
             return Some(rest);
         }
-        if !takes_prefix(tree[*ix].body, &mut rest, options) {
+        if !takes_prefix(&tree[*ix].body, &mut rest, options) {
             return None;
         }
     }

@@ -1,19 +1,23 @@
-use Rattle.std.proofs.Common.{true, false, MatchOption, ◌≡◌, ◌⊎◌, sym, subst}
-use Rattle.first_pass_items.specs.declared.item.ItemBody.TheVariants.{ListItem, DefinitionListDefinition}
-use Rattle.first_pass_open.proofs.PathLemmas.{columns_prefix}
+use Rattle.std.proofs.Common.{true, refl, sym, ◌∙◌}
+use Rattle.first_pass_open.specs.Path.{container_of}
+use Rattle.first_pass_open.proofs.PathLemmas.{columns_prefix, quote_prefix, empty_prefix, by_prefix, by_quote}
 use Rattle.first_pass_open.proofs.containers.takes_prefix.Goals as goal
-use Rattle.first_pass_open.proofs.containers.takes_prefix.Goals.{After-takes_columns, in_default, in-ListItem, in-ListItem-2}
-
--- The body is that of a list item or of a definition with these columns.
-body_is : (c : After-takes_columns) → (c.args.body ≡ ListItem c.in-Some.columns) ⊎ (c.args.body ≡ DefinitionListDefinition c.in-Some.columns)
-body_is c = elim c.match-body.branch [
-  | in_default w ↦ (let no = w.columns-is in cc)
-  | in-ListItem w ↦ subst (λ n. (c.args.body ≡ ListItem n) ⊎ (c.args.body ≡ DefinitionListDefinition n)) (cc) w.in-ListItem.is
-  | in-ListItem-2 w ↦ subst (λ n. (c.args.body ≡ ListItem n) ⊎ (c.args.body ≡ DefinitionListDefinition n)) (cc) w.in-ListItem.is
-]
 
 pub returns-in-Some : goal.returns-in-Some
 returns-in-Some c =
-    subst (λ o. MatchOption o ((c.takes_columns.result ≡ false) × (c.takes_columns.new.line_start ≡ c.args.line_start.now))
-    (λ next. (c.takes_columns.result ≡ true) × (c.takes_columns.new.line_start ≡ next)))
-    (sym (columns_prefix c.args.options c.args.body c.in-Some.columns c.args.line_start.now (body_is c))) c.takes_columns.ensures
+    by_prefix _ _ c.takes_columns.result c.args.line_start.now c.takes_columns.new.line_start
+    (columns_prefix (container_of c.args.options c.args.body.now) c.in-Some.columns c.args.line_start.now (sym c.columns_needed.ensures ∙ c.in-Some.is))
+    c.takes_columns.ensures
+
+pub returns-then-is_quote : goal.returns-then-is_quote
+returns-then-is_quote c =
+    by_quote _ _ c.is_some.result c.scan_quote.result _ c.args.line_start.now c.scan_quote.new.line_start
+    (quote_prefix (container_of c.args.options c.args.body.now) c.args.line_start.now (sym (c.is_quote.ensures c.args.options) ∙ c.if-is_quote.true))
+    c.is_some.ensures c.scan_quote.ensures
+
+pub returns : goal.returns
+returns c =
+    by_prefix _ _ true c.args.line_start.now c.args.line_start.now
+    (empty_prefix (container_of c.args.options c.args.body.now) c.args.line_start.now (sym c.columns_needed.ensures ∙ c.in_default.is)
+    (sym (c.is_quote.ensures c.args.options) ∙ c.if-is_quote.false))
+    (refl, refl)
