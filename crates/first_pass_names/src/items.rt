@@ -91,6 +91,7 @@ impl<'a> Allocations<'a> {
 
     /// Appends the attributes of a heading to their list, and returns the index of this entry. Fails only if an
     /// allocation fails; then nothing changes.
+    #[inline(always)]
     pub fn allocate_heading(
         &mut self,
         attrs: HeadingAttributes<'a>,

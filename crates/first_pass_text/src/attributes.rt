@@ -32,6 +32,7 @@ use std::alloc::AllocError;
 /// The content ends at the attribute block, and includes the white space before the block. Without a block, or without
 /// the option for heading attributes, returns the end of the heading's text and `None`. Fails only if an allocation
 /// fails (this project).
+#[inline(always)]
 pub fn extract_and_parse_heading_attribute_block<'a>(
     source: &Source<'a>,
     header_start: usize,
@@ -65,6 +66,7 @@ pub fn extract_and_parse_heading_attribute_block<'a>(
 
 /// Adds the attributes of a heading, if it has some, to `allocs`, and returns their index. Fails only if an allocation
 /// fails (this project).
+#[inline(always)]
 pub fn name_attributes<'a>(
     allocs: &mut Allocations<'a>,
     attributes: Option<HeadingAttributes<'a>>,
@@ -116,6 +118,7 @@ fn white_at_cut(content: &[u8], broken: bool) -> usize
 /// heading's text begins at the offset `start`. The white space before the block is removed too, unless a backslash
 /// breaks the last line of the text (`broken`). Adds the attributes to `allocs`, and returns their index; `None` if
 /// there is no block. Adds no node. Fails only if an allocation fails (CommonMark 4.3, and this project).
+#[inline(never)]
 pub fn cut_attributes<'a>(
     source: &Source<'a>,
     tree: &mut Tree<Item>,
