@@ -20,8 +20,7 @@ use Rattle.first_pass_tree.specs.Forest.{Forest, body_at, cut_item, cut_siblings
 use Rattle.first_pass_grammar.specs.Leaves.{Document}
 use Rattle.first_pass_grammar.specs.OpenOrder.{laid_open, AreAt, open_within, FitsOpen, IsOrderedTo}
 use Rattle.first_pass_grammar.specs.Order.{Ranged, extent_of, extents, is_text_block, Siblings, Empty, Node, laid, IsBetween, Within, Elsewhere, InItem}
-use Rattle.first_pass_grammar.specs.Order.{InText}
-use Rattle.first_pass_grammar.specs.Order.{InFirst, below, beyond, IsLead, Fits}
+use Rattle.first_pass_grammar.specs.Order.{InText, InFirst, below, beyond, IsLead, Fits}
 use Rattle.first_pass_grammar.proofs.Order.Orders.{ended_at, extents-append, fits-one, fits-order, laid-one, length-places}
 use Rattle.first_pass_open.proofs.PathLemmas.{get_front}
 use Rattle.first_pass_text.specs.CutTexts.{BecomesHeading, CutsChildren}

@@ -1,6 +1,5 @@
 -- The attribute block of a heading, by the parts of its bytes.
-use Rattle.std.proofs.Common.{◌≡◌, ℕ, suc, ◌+◌, ◌-◌, ◌<◌, Bool, true, false, List, [], ◌∷◌, ◌++◌, length, take, drop, slice_index_or, Option, Some, None}
-use Rattle.std.proofs.Common.{refl}
+use Rattle.std.proofs.Common.{◌≡◌, ℕ, suc, ◌+◌, ◌-◌, ◌<◌, Bool, true, false, List, [], ◌∷◌, ◌++◌, length, take, drop, slice_index_or, Option, Some, None, refl}
 use Rattle.std.proofs.Common.{sym, ap, ◌∙◌, append_assoc, arith, eq-eqb, length-append, if◌then◌else◌}
 use mathlib.Core.List.{reverse}
 use Rattle.std.specs.Option.{option_map}
@@ -12,8 +11,7 @@ use Rattle.std.proofs.lemmas.List.Sums.{prefix_len_passes, suffix_len_is, suffix
 use Rattle.std.proofs.Math.Seq.{take-append_seam, drop-length, get_or-append_seam}
 use Rattle.first_pass_items.specs.Bytes.{left_brace, right_brace}
 use Rattle.first_pass_lines.specs.Lines.{ends}
-use Rattle.first_pass_attributes.specs.AttributeBlocks.{is_after_block, is_inside_block, Braces, braces, opening_brace, attribute_block}
-use Rattle.first_pass_attributes.specs.AttributeBlocks.{IsAttributeBlock}
+use Rattle.first_pass_attributes.specs.AttributeBlocks.{is_after_block, is_inside_block, Braces, braces, opening_brace, attribute_block, IsAttributeBlock}
 
 -- bytes without the trailing ones that pass a test, and these trailing ones
 abbrev left : (ℕ → Bool) → List ℕ → List ℕ

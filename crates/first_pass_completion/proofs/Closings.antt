@@ -10,26 +10,22 @@ use Rattle.first_pass_grammar.specs.Containers.{in_quote}
 use Rattle.first_pass_grammar.specs.Leaves.{Document}
 use Rattle.first_pass_grammar.specs.Blocks.{LeafBlock, BlankLine, Block, Head, Opener, QuoteMarker, ItemMarker, FootnoteMarker, DefinitionMarker, Skeleton}
 use Rattle.first_pass_grammar.specs.Blocks.{Nil, Then, Node}
-use Rattle.first_pass_grammar.specs.Before.{LastOther, LastParagraph, LastDefinition, Before, begins_paragraph}
-use Rattle.first_pass_grammar.specs.Before.{after_block}
+use Rattle.first_pass_grammar.specs.Before.{LastOther, LastParagraph, LastDefinition, Before, begins_paragraph, after_block}
 use Rattle.first_pass_grammar.specs.Skeleton.{Continues, Inside, Opening, OpensLeaf, OpensNode, Opens, level}
 use Rattle.first_pass_grammar.specs.Kinds.{Kind}
 use Rattle.first_pass_grammar.specs.Rows.{ALeaf, Joins, ItemsOf, DefinitionsTo, Rows, End, OneOf, Definitions, any_gap, is_loose, is_paragraph}
 use Rattle.first_pass_grammar.specs.Rows.{closing_place, list_until, items_after, list_after, what_of, row_of, row_of_leaf, titled, gap_before}
 use Rattle.first_pass_grammar.specs.Rows.{container_row, rows_of, definitions_first}
 use Rattle.first_pass_grammar.specs.Derivation.{items_of}
-use Rattle.first_pass_grammar.specs.Completion.{list_closed, OtherClosed, ParagraphAt, DefinitionClosed, TitleAt, Pending, NoList, OneList}
-use Rattle.first_pass_grammar.specs.Completion.{OneTitle, rows_beyond, rendered, InList, InDefinitions, containers_of}
-use Rattle.first_pass_grammar.specs.Completion.{IsPlain}
+use Rattle.first_pass_grammar.specs.Completion.{list_closed, OtherClosed, ParagraphAt, DefinitionClosed, TitleAt, Pending, NoList, OneList, OneTitle}
+use Rattle.first_pass_grammar.specs.Completion.{rows_beyond, rendered, InList, InDefinitions, containers_of, IsPlain}
 use Rattle.first_pass_grammar.proofs.Uniqueness.Alike.{only_opener, only_head, AlikeOpening}
-use Rattle.first_pass_completion.proofs.Extending.{stepped, tail, lvl, stands_after, plain_before}
-use Rattle.first_pass_completion.proofs.Extending.{OpensAtPlace, extend_same}
+use Rattle.first_pass_completion.proofs.Extending.{stepped, tail, lvl, stands_after, plain_before, OpensAtPlace, extend_same}
 use Rattle.first_pass_grammar.proofs.Sequences.Finishes.{Finish, Tail}
 use Rattle.first_pass_completion.proofs.FlatBlocks.{OwnParagraph}
 use Rattle.first_pass_completion.proofs.Moved.{is_definition, opens_definition, OpensAlike, takes_alike, other_alike, SameAfter, seq_moved, SameFirst}
-use Rattle.first_pass_completion.proofs.Moved.{same_after}
-use Rattle.first_pass_completion.proofs.Moved.{same_back}
-use Rattle.first_pass_completion.proofs.Moved.{rows_moved, counts_moved, Known, FirstHas, known_first, OpensBlock, FirstIsOther, first_is_other}
+use Rattle.first_pass_completion.proofs.Moved.{same_after, same_back, rows_moved, counts_moved, Known, FirstHas, known_first, OpensBlock, FirstIsOther}
+use Rattle.first_pass_completion.proofs.Moved.{first_is_other}
 use Rattle.first_pass_completion.proofs.PoppedLists.{last_in, closed_below, title_below, list_popped, title_popped}
 use Rattle.first_pass_grammar.proofs.Uniqueness.RowsAlike.{begins_alike}
 use Rattle.first_pass_completion.proofs.Titles.{BeginsOther, title_stays, titled_by}

@@ -16,17 +16,13 @@ use Rattle.first_pass_grammar.specs.Before.{LastOther, LastParagraph, Before, la
 use Rattle.first_pass_grammar.specs.Before.{is_paragraph_body, begins_paragraph, is_run, last_after_run, last_block, before_end}
 use Rattle.first_pass_grammar.specs.Skeleton.{Continues, Line, Inside, Blanks, AtPlace, TextOf, OnlyMark, after_marker, Opening, OpensLeaf, OpensText, Opens}
 use Rattle.first_pass_grammar.specs.Skeleton.{level, Remaining, InLine, Ends, ends_old_footnote, next_block, onward, after_first, end_of_left, end_before}
-use Rattle.first_pass_grammar.specs.Skeleton.{IsFirst}
-use Rattle.first_pass_grammar.specs.Skeleton.{IsSequence}
+use Rattle.first_pass_grammar.specs.Skeleton.{IsFirst, IsSequence}
 use Rattle.first_pass_grammar.specs.Kinds.{Paragraph, unindented, is_blank_rest}
-use Rattle.first_pass_grammar.specs.Rows.{ItemsOf, Rows, any_gap, rows_of}
-use Rattle.first_pass_grammar.specs.Rows.{End, definitions_first}
+use Rattle.first_pass_grammar.specs.Rows.{ItemsOf, Rows, any_gap, rows_of, End, definitions_first}
 use Rattle.first_pass_grammar.specs.LinkTables.{with_links, with_labels}
-use Rattle.first_pass_grammar.specs.Derivation.{Tables, Derives, no_tables, with_definitions, definitions_of, footnotes_of, root_of}
-use Rattle.first_pass_grammar.specs.Derivation.{block_items, items_of}
-use Rattle.first_pass_grammar.specs.Completion.{ended, Closed, OtherClosed, ParagraphAt, DefinitionClosed, TitleAt, Pending, NoList, OneList}
-use Rattle.first_pass_grammar.specs.Completion.{rows_beyond, rendered, Frame, InContainer, InList, InDefinitions, closed_as, definitions_open, containers_of}
-use Rattle.first_pass_grammar.specs.Completion.{loosened}
+use Rattle.first_pass_grammar.specs.Derivation.{Tables, Derives, no_tables, with_definitions, definitions_of, footnotes_of, root_of, block_items, items_of}
+use Rattle.first_pass_grammar.specs.Completion.{ended, Closed, OtherClosed, ParagraphAt, DefinitionClosed, TitleAt, Pending, NoList, OneList, rows_beyond}
+use Rattle.first_pass_grammar.specs.Completion.{rendered, Frame, InContainer, InList, InDefinitions, closed_as, definitions_open, containers_of, loosened}
 use Rattle.first_pass_grammar.specs.Completion.{IsPlain, last_plain, StandsIn, last_of, IsShaped}
 use Rattle.first_pass_grammar.proofs.Sequences.Finishes.{Finish, Tail, before_of, CompletesAt, finish_derives, completes_by}
 use Rattle.first_pass_grammar.proofs.Sequences.Goings.{ends_inside, begins_blank}

@@ -13,25 +13,19 @@ use Rattle.first_pass_grammar.specs.declared.kind.Container.TheVariants.{BlockQu
 use Rattle.first_pass_grammar.specs.Containers.{in_quote}
 use Rattle.first_pass_grammar.specs.Leaves.{Document}
 use Rattle.first_pass_grammar.specs.Blocks.{Head, QuoteMarker, FootnoteMarker, Skeleton, Node}
-use Rattle.first_pass_grammar.specs.Before.{LastItem, Before, nothing}
-use Rattle.first_pass_grammar.specs.Before.{after_container, before_end}
-use Rattle.first_pass_grammar.specs.Skeleton.{Inside, OpensNode}
-use Rattle.first_pass_grammar.specs.Skeleton.{level, onward, end_before, IsSequence, Opening}
+use Rattle.first_pass_grammar.specs.Before.{LastItem, Before, nothing, after_container, before_end}
+use Rattle.first_pass_grammar.specs.Skeleton.{Inside, OpensNode, level, onward, end_before, IsSequence, Opening}
 use Rattle.first_pass_grammar.specs.Rows.{AList, ItemsOf, Rows, OneOf, any_gap, is_loose, list_until, items_after, list_after, row_of, rows_of}
 use Rattle.first_pass_grammar.specs.Rows.{definitions_first}
 use Rattle.first_pass_grammar.specs.LinkTables.{with_labels}
-use Rattle.first_pass_grammar.specs.Derivation.{with_footnote_label, definitions_of, footnotes_of, with_all_of, node_of, list_flags}
-use Rattle.first_pass_grammar.specs.Derivation.{items_of}
-use Rattle.first_pass_grammar.specs.Completion.{ended, Closed, OtherClosed, Pending, NoList, OneList}
-use Rattle.first_pass_grammar.specs.Completion.{rendered, InContainer, InList, containers_of}
-use Rattle.first_pass_grammar.specs.Completion.{IsPlain}
+use Rattle.first_pass_grammar.specs.Derivation.{with_footnote_label, definitions_of, footnotes_of, with_all_of, node_of, list_flags, items_of}
+use Rattle.first_pass_grammar.specs.Completion.{ended, Closed, OtherClosed, Pending, NoList, OneList, rendered, InContainer, InList, containers_of, IsPlain}
 use Rattle.first_pass_grammar.proofs.Sequences.Tightening.{eqb-same, list_closed-mid, closed_item}
 use Rattle.first_pass_grammar.proofs.Sequences.Finishes.{Finish, before_of}
 use Rattle.first_pass_completion.proofs.Completions.{fresh, beside_all}
 use Rattle.first_pass_completion.proofs.JoinedNodes.{joined}
-use Rattle.first_pass_completion.proofs.Extending.{tail, lvl, plain_loosened}
-use Rattle.first_pass_completion.proofs.Extending.{stepped, stands_after, told_kids, StaysAt, first_here}
-use Rattle.first_pass_completion.proofs.Extending.{alike_onward, OpensContainer, container_first, extend_same}
+use Rattle.first_pass_completion.proofs.Extending.{tail, lvl, plain_loosened, stepped, stands_after, told_kids, StaysAt, first_here, alike_onward}
+use Rattle.first_pass_completion.proofs.Extending.{OpensContainer, container_first, extend_same}
 use Rattle.first_pass_completion.proofs.States.{CompletesFrom, IsCompleted, IsStep, ItemHead, OpenNodes, Reading, item_head_of, reading, reading_at, with_inner}
 use Rattle.first_pass_completion.proofs.States.{with_new}
 

@@ -10,8 +10,7 @@ use Rattle.first_pass_grammar.specs.declared.kind.Container.TheVariants.{Definit
 use Rattle.first_pass_grammar.specs.Containers.{in_quote}
 use Rattle.first_pass_grammar.specs.Leaves.{Document}
 use Rattle.first_pass_grammar.specs.Blocks.{LeafBlock, Block, Skeleton, Then, Node}
-use Rattle.first_pass_grammar.specs.Before.{LastParagraph, LastDefinition, Before, nothing, begins_paragraph, after_block}
-use Rattle.first_pass_grammar.specs.Before.{before_end}
+use Rattle.first_pass_grammar.specs.Before.{LastParagraph, LastDefinition, Before, nothing, begins_paragraph, after_block, before_end}
 use Rattle.first_pass_grammar.specs.Skeleton.{Line, Inside, OpensLeaf, Opens, level, onward, end_before, IsSequence, Opening}
 use Rattle.first_pass_grammar.specs.Rows.{DefinitionsTo, Rows, any_gap, list_after, leaf_row, gap_before, rows_of}
 use Rattle.first_pass_grammar.specs.Derivation.{with_definitions, with_all_of, node_of, items_of, definitions_of, footnotes_of}

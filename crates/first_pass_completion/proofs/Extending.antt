@@ -11,9 +11,8 @@ use Rattle.first_pass_grammar.specs.Openers.{start_at}
 use Rattle.first_pass_grammar.specs.Leaves.{Document, around}
 use Rattle.first_pass_grammar.specs.Blocks.{LeafBlock, Block, Head, label_of, Skeleton, Nil, Then, Node}
 use Rattle.first_pass_grammar.specs.Before.{Last, Before, last_container, after_container, before_end}
-use Rattle.first_pass_grammar.specs.Skeleton.{Continues, Line, Inside, Opening, OpensLeaf, OpensNode, OpensBy, OpensFootnote, Opens, Level, level, Remaining, Lines}
-use Rattle.first_pass_grammar.specs.Skeleton.{InLine}
-use Rattle.first_pass_grammar.specs.Skeleton.{may_define, ends_old_footnote, onward, only_blanks, end_of_left, end_before, IsFirst, IsSequence}
+use Rattle.first_pass_grammar.specs.Skeleton.{Continues, Line, Inside, Opening, OpensLeaf, OpensNode, OpensBy, OpensFootnote, Opens, Level, level, Remaining}
+use Rattle.first_pass_grammar.specs.Skeleton.{Lines, InLine, may_define, ends_old_footnote, onward, only_blanks, end_of_left, end_before, IsFirst, IsSequence}
 use Rattle.first_pass_grammar.specs.Rows.{ItemsOf, Rows, any_gap, rows_of}
 use Rattle.first_pass_grammar.specs.LinkTables.{LinkEntry, with_link, with_links, with_label, with_labels}
 use Rattle.first_pass_grammar.specs.Derivation.{Tables, with_definitions, definitions_of, footnotes_of, with_all_of}

@@ -6,16 +6,14 @@ use Rattle.first_pass_items.specs.declared.item.ItemBody.TheVariants.{Definition
 use Rattle.first_pass_grammar.specs.declared.kind.Container.TheVariants.{Definition}
 use Rattle.first_pass_grammar.specs.Before.{Before, nothing, after_container, before_end}
 use Rattle.first_pass_grammar.specs.Blocks.{Skeleton, Node}
-use Rattle.first_pass_grammar.specs.Rows.{Joins, DefinitionsTo, Rows, OneOf, Definitions, definitions_first}
-use Rattle.first_pass_grammar.specs.Rows.{Row, row_of, any_gap, is_loose, list_until}
+use Rattle.first_pass_grammar.specs.Rows.{Joins, DefinitionsTo, Rows, OneOf, Definitions, definitions_first, Row, row_of, any_gap, is_loose, list_until}
 use Rattle.first_pass_grammar.specs.Rows.{items_after, list_after, rows_of}
 use Rattle.first_pass_grammar.specs.Derivation.{node_of, items_of}
 use Rattle.first_pass_grammar.specs.Completion.{ended, with_title, title_taken, title_left, list_closed, ParagraphAt, NoList, OneList}
 use Rattle.first_pass_grammar.specs.Completion.{Pending, OneTitle, rows_beyond, after_paragraph, after_title, rendered}
 use Rattle.first_pass_grammar.proofs.Sequences.Tightening.{list_closed-append, closed_item}
 use Rattle.first_pass_completion.proofs.States.{DefinitionHead, definition_head_of, OpenDefinitions}
-use Rattle.first_pass_completion.proofs.TitleNodes.{reflagged}
-use Rattle.first_pass_completion.proofs.TitleNodes.{length-with_title, length-taken, closed-ended, closed-reflagged, taken-ended}
+use Rattle.first_pass_completion.proofs.TitleNodes.{reflagged, length-with_title, length-taken, closed-ended, closed-reflagged, taken-ended}
 
 -- the next item or definition of a list
 or_four : (a b c e : Bool) → (a || (b || (c || e))) ≡ (((a || b) || c) || e)

@@ -18,8 +18,7 @@ use Rattle.first_pass_grammar.specs.Before.{Before, nothing, definition_may_foll
 use Rattle.first_pass_grammar.specs.Rows.{leaf_row, gap_before, row_of, container_row, rows_of}
 use Rattle.first_pass_grammar.specs.Openers.{Start, definition_head, definition_start, after_item, start_at}
 use Rattle.first_pass_grammar.specs.Skeleton.{Continues, Inside, Opening, OpensLeaf, OpensNode, OpensBy, OpensFootnote, Opens, level, may_define, opening_by}
-use Rattle.first_pass_grammar.specs.Skeleton.{opening_of}
-use Rattle.first_pass_grammar.specs.Skeleton.{next_is_blank, Level, Remaining, Begins, Ends, next_block, IsFirst, IsSequence}
+use Rattle.first_pass_grammar.specs.Skeleton.{opening_of, next_is_blank, Level, Remaining, Begins, Ends, next_block, IsFirst, IsSequence}
 use Rattle.first_pass_grammar.proofs.Uniqueness.Alike.{only_opener, only_head, AlikeOpening}
 use Rattle.first_pass_completion.proofs.Extending.{StaysAt}
 use Rattle.first_pass_completion.proofs.FlatBlocks.{FlatBlock, OwnParagraph, opened_own}

@@ -7,14 +7,12 @@ use Rattle.first_pass_grammar.specs.declared.kind.Container.TheVariants.{BlockQu
 use Rattle.first_pass_grammar.specs.Containers.{in_quote}
 use Rattle.first_pass_grammar.specs.Leaves.{Document}
 use Rattle.first_pass_grammar.specs.Blocks.{LeafBlock, BlankLine, Block, Head, Opener, QuoteMarker, ItemMarker, FootnoteMarker, DefinitionMarker, Skeleton}
-use Rattle.first_pass_grammar.specs.Blocks.{Nil}
-use Rattle.first_pass_grammar.specs.Blocks.{Then, Node}
+use Rattle.first_pass_grammar.specs.Blocks.{Nil, Then, Node}
 use Rattle.first_pass_grammar.specs.Before.{Before, is_after_definition, begins_paragraph, after_block}
 use Rattle.first_pass_grammar.specs.Skeleton.{Inside, Opens, level, Continues}
 use Rattle.first_pass_grammar.specs.Rows.{Rows, any_gap, row_of, leaf_row, gap_before, container_row, definitions_first, rows_of}
 use Rattle.first_pass_grammar.specs.Derivation.{items_of}
-use Rattle.first_pass_grammar.specs.Completion.{Closed, OtherClosed, ParagraphAt, DefinitionClosed, TitleAt, NoList, rows_beyond, rendered, Frame}
-use Rattle.first_pass_grammar.specs.Completion.{InContainer}
+use Rattle.first_pass_grammar.specs.Completion.{Closed, OtherClosed, ParagraphAt, DefinitionClosed, TitleAt, NoList, rows_beyond, rendered, Frame, InContainer}
 use Rattle.first_pass_grammar.specs.Completion.{InList, InDefinitions, containers_of, loosened, IsPlain, last_plain, StandsIn, IsShaped}
 use Rattle.first_pass_completion.proofs.Completions.{beside_all}
 use Rattle.first_pass_completion.proofs.Extending.{stepped, tail, lvl, loosened_in, stands_after, plain_before, extend, OpensAtPlace}

@@ -1,6 +1,5 @@
 -- Lists that are closed together with the container around them.
-use Rattle.std.proofs.Common.{◌≡◌, ℕ, suc, ◌<◌, Bool, true, false, List, [], ◌∷◌, ◌++◌, length, None, refl}
-use Rattle.std.proofs.Common.{sym, ap, ◌∙◌, subst, arith}
+use Rattle.std.proofs.Common.{◌≡◌, ℕ, suc, ◌<◌, Bool, true, false, List, [], ◌∷◌, ◌++◌, length, None, refl, sym, ap, ◌∙◌, subst, arith}
 use Rattle.std.proofs.Math.Bool.{or-false}
 use Rattle.first_pass_items.specs.declared.item.Item.{Item}
 use Rattle.first_pass_lines.specs.Places.{Place}
@@ -8,18 +7,13 @@ use Rattle.first_pass_grammar.specs.declared.kind.Container.{Container}
 use Rattle.first_pass_grammar.specs.Containers.{next_goes_on}
 use Rattle.first_pass_grammar.specs.Footnotes.{ends_footnote}
 use Rattle.first_pass_grammar.specs.Leaves.{Document, around}
-use Rattle.first_pass_grammar.specs.Before.{Last, LastParagraph, LastItem, LastDefinition, Before}
-use Rattle.first_pass_grammar.specs.Before.{before_end}
-use Rattle.first_pass_grammar.specs.Skeleton.{Continues, Line, Inside, level, Remaining, Lines, InLine, Ends, next_block, only_blanks}
-use Rattle.first_pass_grammar.specs.Skeleton.{end_of_left, IsSequence}
-use Rattle.first_pass_grammar.specs.Rows.{Joins, ItemsOf, DefinitionsTo, End, any_gap, is_loose}
-use Rattle.first_pass_grammar.specs.Rows.{definitions_first, rows_of}
+use Rattle.first_pass_grammar.specs.Before.{Last, LastParagraph, LastItem, LastDefinition, Before, before_end}
+use Rattle.first_pass_grammar.specs.Skeleton.{Continues, Line, Inside, level, Remaining, Lines, InLine, Ends, next_block, only_blanks, end_of_left, IsSequence}
+use Rattle.first_pass_grammar.specs.Rows.{Joins, ItemsOf, DefinitionsTo, End, any_gap, is_loose, definitions_first, rows_of}
 use Rattle.first_pass_grammar.specs.Derivation.{items_of}
 use Rattle.first_pass_grammar.specs.Completion.{title_left, list_closed, OtherClosed, ParagraphAt, DefinitionClosed, TitleAt, Pending, NoList, OneList}
-use Rattle.first_pass_grammar.specs.Completion.{OneTitle, rows_beyond, rendered, InList, InDefinitions, containers_of}
-use Rattle.first_pass_grammar.specs.Completion.{AreBelow, IsPlain}
-use Rattle.first_pass_completion.proofs.Extending.{stepped, tail, AreBelow-more, stands_after}
-use Rattle.first_pass_completion.proofs.Extending.{Adds, extend_same}
+use Rattle.first_pass_grammar.specs.Completion.{OneTitle, rows_beyond, rendered, InList, InDefinitions, containers_of, AreBelow, IsPlain}
+use Rattle.first_pass_completion.proofs.Extending.{stepped, tail, AreBelow-more, stands_after, Adds, extend_same}
 use Rattle.first_pass_grammar.proofs.Sequences.Finishes.{Finish, Tail, before_of}
 use Rattle.first_pass_grammar.proofs.Sequences.Goings.{ends_inside, stops}
 use Rattle.first_pass_grammar.proofs.Sequences.Tightening.{length-closed}

@@ -1,6 +1,5 @@
 -- The mark of a footnote definition at a place, and where blocks continue after its head.
-use Rattle.std.specs.Prelude.{◌≡◌, ℕ, ◌+◌, ◌≤◌, ◌&&◌, nat_lt, Bool, true, false, List, length, drop, Option, Some, None}
-use Rattle.std.specs.Prelude.{IsCharBoundary, if◌then◌else◌}
+use Rattle.std.specs.Prelude.{◌≡◌, ℕ, ◌+◌, ◌≤◌, ◌&&◌, nat_lt, Bool, true, false, List, length, drop, Option, Some, None, IsCharBoundary, if◌then◌else◌}
 use Rattle.std.specs.List.{prefix_len}
 use Rattle.std.specs.Option.{unwrap_or}
 use Rattle.first_pass_items.specs.declared.option_set.Options.{Options}

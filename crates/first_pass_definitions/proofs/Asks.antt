@@ -23,10 +23,8 @@ use Rattle.first_pass_labels.specs.declared.label_table.LinkPlaces.{LinkPlaces}
 use Rattle.first_pass_definitions.specs.Reading.{stops_title_line, goes_on_at}
 use Rattle.first_pass_items.specs.declared.cow_str.CowStr.{CowStr}
 use Rattle.first_pass_definitions.proofs.Targets.{shifted, IsLabelAnswer, IsReferenceAnswer, label_found, IsTitleRead, read_to, IsDest, space_found}
-use Rattle.first_pass_definitions.proofs.Targets.{dest_found}
-use Rattle.first_pass_definitions.proofs.Targets.{TargetFound}
-use Rattle.first_pass_definitions.specs.Memory.{LabelAsks, TargetAsks, ReferenceAsks, AfterAsks, PartsAsk, line_asks, text_asks}
-use Rattle.first_pass_definitions.specs.Memory.{after_asks, MeetsTable}
+use Rattle.first_pass_definitions.proofs.Targets.{dest_found, TargetFound}
+use Rattle.first_pass_definitions.specs.Memory.{LabelAsks, TargetAsks, ReferenceAsks, AfterAsks, PartsAsk, line_asks, text_asks, after_asks, MeetsTable}
 
 -- a fact of an error
 pub on_err : {A E P : Type 0} (r : Result A E) → P → OnErr r P

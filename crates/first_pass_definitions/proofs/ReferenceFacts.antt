@@ -1,7 +1,6 @@
 -- The ends of definitions.
-use Rattle.std.proofs.Common.{◌≡◌, ◌⊎◌, inl, inr, ℕ, zero, suc, ◌+◌, ◌-◌, ◌<◌, ◌==◌, ◌&&◌, nat_lt, Bool, true, false, List, [], ◌∷◌, take, drop}
-use Rattle.std.proofs.Common.{slice_index, Option}
-use Rattle.std.proofs.Common.{Some, None, is_some, refl, sym, ap, subst, ◌∙◌, arith, if◌then◌else◌}
+use Rattle.std.proofs.Common.{◌≡◌, ◌⊎◌, inl, inr, ℕ, zero, suc, ◌+◌, ◌-◌, ◌<◌, ◌==◌, ◌&&◌, nat_lt, Bool, true, false, List, [], ◌∷◌, take, drop, slice_index}
+use Rattle.std.proofs.Common.{Option, Some, None, is_some, refl, sym, ap, subst, ◌∙◌, arith, if◌then◌else◌}
 use Rattle.std.specs.Bool.{⊤}
 use Rattle.std.specs.Char.{is_ascii_punctuation}
 use Rattle.std.proofs.lemmas.Bool.{and_parts, eqb-true}
@@ -13,8 +12,7 @@ use Rattle.first_pass_items.specs.Bytes.{line_feed, carriage_return, quotation_m
 use Rattle.first_pass_items.specs.Bytes.{greater_than, left_bracket, right_bracket}
 use Rattle.first_pass_lines.specs.Lines.{is_line_end, ends_line, begins, blank_len}
 use Rattle.first_pass_links.specs.Destinations.{unescaped_upto, ends_bracketed, bracketed_at, ends_run, longer, if_closed, closes_none, nesting_after}
-use Rattle.first_pass_links.specs.Destinations.{bare_len}
-use Rattle.first_pass_links.specs.Destinations.{unbracketed, destination_at}
+use Rattle.first_pass_links.specs.Destinations.{bare_len, unbracketed, destination_at}
 use Rattle.first_pass_links.specs.Escapes.{begins_escape}
 use Rattle.first_pass_links.proofs.Destinations.{first_byte}
 use Rattle.first_pass_links.specs.Labels.{joined, bytes_of, offsets_of, label_len, is_label, as_read, label_at}

@@ -20,8 +20,7 @@ use Rattle.first_pass_html.proofs.TagDecisions.{tag_line_decided}
 use Rattle.first_pass_grammar.specs.declared.kind.Container.{Container}
 use Rattle.first_pass_grammar.specs.Containers.{Context, context}
 use Rattle.first_pass_grammar.specs.Names.{Names, Extends}
-use Rattle.first_pass_grammar.specs.Kinds.{Kind, Blank, IndentedCode, Metadata, HtmlToEnd, HtmlToBlank, ThematicBreak, AtxHeading, FencedCode}
-use Rattle.first_pass_grammar.specs.Kinds.{LinkDefinitions}
+use Rattle.first_pass_grammar.specs.Kinds.{Kind, Blank, IndentedCode, Metadata, HtmlToEnd, HtmlToBlank, ThematicBreak, AtxHeading, FencedCode, LinkDefinitions}
 use Rattle.first_pass_grammar.specs.Kinds.{Paragraph, all_taken, unindented, is_blank_rest, heading_or, rule_or, fence_or, metadata_or, metadata_at}
 use Rattle.first_pass_grammar.specs.Kinds.{begins_html_to_end, begins_html_to_blank, html_kind, first_kind, later_kind, IsKindBy, IsKind}
 use Rattle.first_pass_grammar.specs.Leaves.{document, block_with, heading_text_at, heading_block, rule_block}

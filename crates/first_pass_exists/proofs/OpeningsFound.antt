@@ -1,6 +1,5 @@
 -- Something opens at each place where blocks continue; inside a container less of the text is left.
-use Rattle.std.proofs.Common.{◌≡◌, inl, inr, ℕ, suc, ◌-◌, ◌<◌, ◌≤◌, Bool, true, false, List, [], ◌∷◌, length, Option, Some, None, refl, sym, ap, arith}
-use Rattle.std.proofs.Common.{nat_lt}
+use Rattle.std.proofs.Common.{◌≡◌, inl, inr, ℕ, suc, ◌-◌, ◌<◌, ◌≤◌, Bool, true, false, List, [], ◌∷◌, length, Option, Some, None, refl, sym, ap, arith, nat_lt}
 use Rattle.std.proofs.Common.{if◌then◌else◌, ◌+◌, ◌&&◌, drop, MatchOption}
 use Rattle.std.proofs.lemmas.Bool.{false≢true, and_parts}
 use Rattle.std.specs.Option.{option_map, option_and_then}
@@ -28,21 +27,17 @@ use Rattle.first_pass_grammar.specs.declared.kind.Container.TheVariants.{BlockQu
 use Rattle.first_pass_grammar.specs.Names.{Names}
 use Rattle.first_pass_grammar.specs.Containers.{Context, context, at_rest, prefix, front, footnote_columns}
 use Rattle.first_pass_grammar.specs.Kinds.{Paragraph, all_taken, unindented, is_blank_rest, item_at, is_ordinary_after_tag, definition_marker_at}
-use Rattle.first_pass_grammar.specs.Leaves.{Document, document}
-use Rattle.first_pass_grammar.specs.Blocks.{leaf_block, FootnoteMarker, Head}
-use Rattle.first_pass_grammar.specs.Skeleton.{Continues, Line, AtPlace, Allowed, Anything, OnlyALeaf, TextOf, OnlyMark, Inside, after_marker, Opening, OpensNode}
-use Rattle.first_pass_grammar.specs.Skeleton.{next_is_blank, only_task}
-use Rattle.first_pass_grammar.specs.Openers.{task_by, task_after}
-use Rattle.first_pass_grammar.specs.Skeleton.{after_tag, Opens, OpensIf, Level, may_define}
+use Rattle.first_pass_grammar.specs.Leaves.{Document, document, around}
+use Rattle.first_pass_grammar.specs.Blocks.{leaf_block, FootnoteMarker, Head, opened}
+use Rattle.first_pass_grammar.specs.Skeleton.{Continues, Line, AtPlace, Allowed, Anything, OnlyALeaf, TextOf, OnlyMark, Inside, after_marker, Opening}
+use Rattle.first_pass_grammar.specs.Skeleton.{OpensNode, next_is_blank, only_task, after_tag, Opens, OpensIf, Level, may_define, OpensBy, OpensFootnote}
+use Rattle.first_pass_grammar.specs.Openers.{task_by, task_after, Start, start_at}
+use Rattle.first_pass_grammar.specs.Skeleton.{footnote_opening, opening_by, opening_of, without_indent}
 use Rattle.first_pass_exists.proofs.KindsFound.{IsShorter, only_leads, leads_leaf, reach, Shrinks, Leads, leads_text, leads_block}
-use Rattle.first_pass_grammar.specs.Openers.{Start, start_at}
 use Rattle.first_pass_grammar.specs.declared.kind.AfterMarker.{AfterMarker}
 use Rattle.first_pass_grammar.specs.declared.kind.AfterMarker.TheVariants.{OnLine, TaskText, LineEnds, OnlyTag}
-use Rattle.first_pass_grammar.specs.Skeleton.{OpensBy, OpensFootnote, footnote_opening, opening_by, opening_of, without_indent}
-use Rattle.first_pass_grammar.specs.Blocks.{opened}
 use Rattle.first_pass_grammar.proofs.Sequences.OpenerFacts.{start_cases}
 use Rattle.first_pass_exists.proofs.RunsFound.{beyond_shorter}
-use Rattle.first_pass_grammar.specs.Leaves.{around}
 
 -- after a marker, less of the line is left
 mapped_to : {A B : Type 0} (f : A → B) (o : Option A) (y : B) → option_map f o ≡ Some y → (x : A) × (o ≡ Some x) × (f x ≡ y)

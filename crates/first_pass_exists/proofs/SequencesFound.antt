@@ -8,8 +8,7 @@ use Rattle.first_pass_grammar.specs.Leaves.{document}
 use Rattle.first_pass_grammar.specs.Blocks.{Leaf, Head, opened, Skeleton, Nil, Then, Node}
 use Rattle.first_pass_grammar.specs.Skeleton.{Continues, Line, Blanks, AtPlace, Anything, OnlyALeaf, TextOf, OnlyMark, Opening, OpensLeaf, OpensNode, OpensAt}
 use Rattle.first_pass_grammar.specs.Skeleton.{Level, level, level_in, level_after_leaf, level_after, Remaining, Lines, InLine, NextBlock, Begins, Ends}
-use Rattle.first_pass_grammar.specs.Skeleton.{next_block, onward}
-use Rattle.first_pass_grammar.specs.Skeleton.{after_first, only_blanks, end_before, IsFirst, IsSequence}
+use Rattle.first_pass_grammar.specs.Skeleton.{next_block, onward, after_first, only_blanks, end_before, IsFirst, IsSequence}
 use Rattle.first_pass_grammar.proofs.Sequences.Goings.{BeginsAt, LeavesAt, begins_at, leaves_at, all_taken_at}
 use Rattle.first_pass_grammar.proofs.Names.MoreNames.{extends_none, extends_both}
 use Rattle.first_pass_exists.proofs.KindsFound.{reach, IsShorter, Shrinks, Leads, leads_also}

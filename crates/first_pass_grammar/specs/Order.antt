@@ -1,11 +1,9 @@
 -- Order: which ranges are inside one another, and which follow one another (this project).
-use Rattle.std.specs.Prelude.{◌≡◌, ◌⊎◌, ℕ, suc, ◌+◌, ◌-◌, ◌*◌, ◌<◌, ◌≤◌, Bool, true, false, List, [], ◌∷◌, ◌++◌, length, map, IsCharBoundary}
-use Rattle.std.specs.Prelude.{if◌then◌else◌}
+use Rattle.std.specs.Prelude.{◌≡◌, ◌⊎◌, ℕ, suc, ◌+◌, ◌-◌, ◌*◌, ◌<◌, ◌≤◌, Bool, true, false, List, [], ◌∷◌, ◌++◌, length, map, IsCharBoundary, if◌then◌else◌}
 use Rattle.first_pass_items.specs.declared.item.Item.{Item}
 use Rattle.first_pass_items.specs.declared.item.ItemBody.{ItemBody}
 use Rattle.first_pass_items.specs.declared.item.ItemBody.TheVariants.{Paragraph, TightParagraph, Heading, TaskListMarker, ListItem, DefinitionList}
-use Rattle.first_pass_items.specs.declared.item.ItemBody.TheVariants.{DefinitionListTitle}
-use Rattle.first_pass_items.specs.declared.item.ItemBody.TheVariants.{MaybeDefinitionListTitle}
+use Rattle.first_pass_items.specs.declared.item.ItemBody.TheVariants.{DefinitionListTitle, MaybeDefinitionListTitle}
 use Rattle.first_pass_grammar.specs.Counting.{counted_nodes}
 
 -- the range of a node, and whether it is a text block (a paragraph, heading or title), a task list item marker, a list

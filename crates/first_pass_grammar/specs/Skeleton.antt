@@ -10,16 +10,13 @@ use Rattle.first_pass_lines.specs.Rest.{Rest, indent}
 use Rattle.first_pass_lines.specs.Places.{Place, offset, start_of, moved_columns}
 use Rattle.first_pass_grammar.specs.declared.kind.Container.{Container}
 use Rattle.first_pass_grammar.specs.Blocks.{Leaf, BlankLine, Block, leaf_block, Opener, QuoteMarker, ItemMarker, FootnoteMarker, DefinitionMarker, Head}
-use Rattle.first_pass_grammar.specs.Blocks.{opened, run_block}
-use Rattle.first_pass_grammar.specs.Blocks.{flowing_block}
-use Rattle.first_pass_grammar.specs.Blocks.{Skeleton, Nil, Then, Node}
+use Rattle.first_pass_grammar.specs.Blocks.{opened, run_block, flowing_block, Skeleton, Nil, Then, Node}
 use Rattle.first_pass_grammar.specs.Openers.{AfterMarker, OnLine, TaskText, LineEnds, OnlyTag, Start, start_at}
 use Rattle.first_pass_grammar.specs.Before.{Before, nothing, list_is_open, definition_may_follow, after_leaf, after_container, before_end}
 use Rattle.first_pass_grammar.specs.Containers.{Context, context, at_rest, after, front, taken, next_goes_on, is_quote, in_quote, in_old_footnote}
 use Rattle.first_pass_grammar.specs.Containers.{footnote_columns}
 use Rattle.first_pass_grammar.specs.Footnotes.{footnote_head_at, label_bytes, NamesLabel, place_past, past_head, ends_footnote}
-use Rattle.first_pass_grammar.specs.Kinds.{Kind, Blank, IndentedCode, Metadata, HtmlToEnd, HtmlToBlank, ThematicBreak, AtxHeading, FencedCode}
-use Rattle.first_pass_grammar.specs.Kinds.{LinkDefinitions}
+use Rattle.first_pass_grammar.specs.Kinds.{Kind, Blank, IndentedCode, Metadata, HtmlToEnd, HtmlToBlank, ThematicBreak, AtxHeading, FencedCode, LinkDefinitions}
 use Rattle.first_pass_grammar.specs.Kinds.{Paragraph, all_taken, unindented, is_blank_rest, IsKind, is_ordinary_after_tag}
 use Rattle.first_pass_html.specs.Ends.{BlockEnd}
 use Rattle.first_pass_html.specs.Starts.{html_end}

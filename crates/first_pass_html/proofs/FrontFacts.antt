@@ -11,8 +11,7 @@ use Rattle.first_pass_items.specs.Bytes.{quotation_mark, apostrophe, solidus, eq
 use Rattle.first_pass_lines.specs.Lines.{begins, is_space_or_tab}
 use Rattle.first_pass_html.specs.Tags.{starts_attribute, is_attribute_byte, is_unquoted, is_quoted, is_word, is_attribute_name, IsQuotedValue, IsValue}
 use Rattle.first_pass_html.specs.Tags.{IsValueSpecification, IsAttribute, AreAttributes, IsOpenTagEnd}
-use Rattle.first_pass_html.specs.TagLengths.{word_len, unquoted_len, quoted_len, value_len, blanks_value_len, specification_len, attribute_name_len}
-use Rattle.first_pass_html.specs.TagLengths.{named_len}
+use Rattle.first_pass_html.specs.TagLengths.{word_len, unquoted_len, quoted_len, value_len, blanks_value_len, specification_len, attribute_name_len, named_len}
 use Rattle.first_pass_html.specs.TagLengths.{attribute_len, close_len, open_end_len}
 use Rattle.first_pass_html.proofs.ListFacts.{prefix_passes}
 

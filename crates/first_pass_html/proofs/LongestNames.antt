@@ -1,6 +1,5 @@
 -- Facts on the longest of some names at the start of the bytes.
-use Rattle.std.proofs.Common.{◌≡◌, ◌↔◌, IsTrue, ℕ, ◌<◌, ◌≤◌, nat_lt, inl, inr, Bool, true, false, true≢false, not, cond, ◌==◌, ◌&&◌, ◌||◌, List, [], ◌∷◌}
-use Rattle.std.proofs.Common.{◌++◌}
+use Rattle.std.proofs.Common.{◌≡◌, ◌↔◌, IsTrue, ℕ, ◌<◌, ◌≤◌, nat_lt, inl, inr, Bool, true, false, true≢false, not, cond, ◌==◌, ◌&&◌, ◌||◌, List, [], ◌∷◌, ◌++◌}
 use Rattle.std.proofs.Common.{length, take, get_or, bytes_eq, refl, sym, ap, ◌∙◌, subst, arith, append-nil}
 use Rattle.std.specs.List.{Contains, list_all, list_any}
 use Rattle.std.specs.Char.{to_ascii_lowercase}

@@ -18,10 +18,9 @@ use Rattle.first_pass_html.specs.TagLengths.{word_len, tag_name_len, named_len, 
 use Rattle.first_pass_html.specs.Fronts.{IsOnlyFront, HasNoFront, IsEndBefore, IsPastAttributes}
 use Rattle.first_pass_html.proofs.TagFacts.{step, last}
 use Rattle.first_pass_html.proofs.FrontFacts.{some_if, some_unless, some_map, begins_front, attribute_front}
-use Rattle.first_pass_html.proofs.WholeTagFacts.{OpeningCounted, opening_found, opening_needs_name, opening_not_raw, opening_needs_end}
-use Rattle.first_pass_html.proofs.WholeTagFacts.{closing_found, closing_needs_name}
-use Rattle.first_pass_html.proofs.WholeTagFacts.{closing_needs_end, first_byte, open_found, open_none, close_found, close_none, needs_bracket, tag_line_none}
-use Rattle.first_pass_html.proofs.WholeTagFacts.{tag_line_not_blank}
+use Rattle.first_pass_html.proofs.WholeTagFacts.{OpeningCounted, opening_found, opening_needs_name, opening_not_raw, opening_needs_end, closing_found}
+use Rattle.first_pass_html.proofs.WholeTagFacts.{closing_needs_name, closing_needs_end, first_byte, open_found, open_none, close_found, close_none}
+use Rattle.first_pass_html.proofs.WholeTagFacts.{needs_bracket, tag_line_none, tag_line_not_blank}
 
 -- the counted length is at most that of the bytes
 name_within : (first other : ℕ → Bool) (bs : List ℕ) (n : ℕ) → word_len first other bs ≡ Some n → n ≤ length bs

@@ -14,8 +14,7 @@ use Rattle.first_pass_lines.specs.Places.{place_at, offset, IsPlaceOf}
 use Rattle.first_pass_open.proofs.PlaceLemmas.{all_keep}
 use Rattle.first_pass_metadata.proofs.MetadataFacts.{metadata_plain}
 use Rattle.first_pass_html.specs.Tags.{BeginsTagLine}
-use Rattle.first_pass_grammar.specs.Kinds.{Kind, Blank, IndentedCode, Metadata, HtmlToEnd, HtmlToBlank, ThematicBreak, AtxHeading, FencedCode}
-use Rattle.first_pass_grammar.specs.Kinds.{LinkDefinitions}
+use Rattle.first_pass_grammar.specs.Kinds.{Kind, Blank, IndentedCode, Metadata, HtmlToEnd, HtmlToBlank, ThematicBreak, AtxHeading, FencedCode, LinkDefinitions}
 use Rattle.first_pass_grammar.specs.Kinds.{Paragraph, all_taken, is_blank_rest, heading_or, rule_or, fence_or, metadata_or, metadata_at, begins_html_to_end}
 use Rattle.first_pass_grammar.specs.Kinds.{begins_html_to_blank, html_kind, first_kind, later_kind, IsKindBy, IsKind}
 use Rattle.first_pass_kinds.specs.BlockStart.{kind_of, IsFoundWithCondition}

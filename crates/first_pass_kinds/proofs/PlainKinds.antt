@@ -6,9 +6,8 @@ use Rattle.first_pass_items.specs.OptionWords.{has}
 use Rattle.first_pass_lines.specs.Lines.{begins}
 use Rattle.first_pass_lines.specs.Rest.{Rest}
 use Rattle.first_pass_lines.specs.Plain.{is_plain, begins_plain}
-use Rattle.first_pass_scan.proofs.PlainFacts.{plain_begins, plain_eol, plain_blank, plain_hrule, plain_atx, plain_fence, plain_listitem}
+use Rattle.first_pass_scan.proofs.PlainFacts.{plain_begins, plain_eol, plain_blank, plain_hrule, plain_atx, plain_fence, plain_listitem, plain_indent}
 use Rattle.first_pass_metadata.proofs.MetadataFacts.{plain_metadata}
-use Rattle.first_pass_scan.proofs.PlainFacts.{plain_indent}
 use Rattle.first_pass_html.specs.Tags.{BeginsTagLine}
 use Rattle.first_pass_open.proofs.PlainLemmas.{plain_all}
 use Rattle.first_pass_grammar.specs.Kinds.{Paragraph, all_taken, html_kind, first_kind, later_kind, IsKindBy, IsKind, interrupts_with}

@@ -1,7 +1,6 @@
 -- Facts on places in the text, and on the columns of a rest.
 use Rattle.std.proofs.Common.{◌≡◌, ◌⊎◌, inl, inr, ℕ, zero, suc, ◌+◌, ◌-◌, ◌<◌, ◌≤◌, Bool, true, false, ◌==◌, List, ◌∷◌, length, drop, get_or, slice_index, []}
-use Rattle.std.proofs.Common.{Option, Some, None, IsUtf8, IsCharBoundary, if◌then◌else◌, refl, sym, ap, subst, ◌∙◌, arith, length-drop, get_or-drop}
-use Rattle.std.proofs.Common.{drop-drop}
+use Rattle.std.proofs.Common.{Option, Some, None, IsUtf8, IsCharBoundary, if◌then◌else◌, refl, sym, ap, subst, ◌∙◌, arith, length-drop, get_or-drop, drop-drop}
 use Rattle.std.proofs.lemmas.Option.{none-some}
 use Rattle.std.specs.List.{prefix_len}
 use Rattle.std.proofs.lemmas.Str.{IsCharBoundary-after_ascii, IsCharBoundary-end}
@@ -12,8 +11,7 @@ use Rattle.first_pass_items.specs.Bytes.{tab, space, greater_than, ascii_end}
 use Rattle.first_pass_lines.specs.Lines.{begins, ends_line, line_len, is_content, is_white, is_number_sign}
 use Rattle.first_pass_lines.specs.Rest.{Rest, past_byte, past_bytes, past_quote_byte, past_quote, column_of_byte, column_of, next_column, after_columns}
 use Rattle.first_pass_lines.specs.Rest.{indent}
-use Rattle.first_pass_lines.specs.Places.{Place, place_at, offset, line_place, IsPlaceOf, moved_columns, moved_bytes, line_end}
-use Rattle.first_pass_lines.specs.Places.{start_of, lines_at}
+use Rattle.first_pass_lines.specs.Places.{Place, place_at, offset, line_place, IsPlaceOf, moved_columns, moved_bytes, line_end, start_of, lines_at}
 use Rattle.first_pass_lines.proofs.LineFacts.{line_len-none, line_len-step, line_len-some, line_len-within, line_len-content_first, lines_at-line}
 use Rattle.first_pass_lines.proofs.LineFacts.{lines_at-end}
 use Rattle.first_pass_lines.proofs.Columns.{after-more, after-none, indent-some, all-more, all-none}

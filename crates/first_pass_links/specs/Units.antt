@@ -1,7 +1,6 @@
 -- The units in which a label is read. Only contracts of private functions cite this.
 use Rattle.std.specs.Prelude.{◌≡◌, ◌⊎◌, ℕ, ◌+◌, ◌-◌, ◌==◌, ◌<◌, ◌≤◌, ◌&&◌, not, Bool, true, false, List, [], ◌∷◌, ◌++◌, length, take, drop, slice_index}
-use Rattle.std.specs.Prelude.{Option}
-use Rattle.std.specs.Prelude.{Result, if◌then◌else◌}
+use Rattle.std.specs.Prelude.{Option, Result, if◌then◌else◌}
 use Rattle.std.specs.List.{list_any, list_all, count_by}
 use Rattle.std.specs.Borrow.{Bor}
 use Rattle.std.specs.Str.{IsCharBoundary}

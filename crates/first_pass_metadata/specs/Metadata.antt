@@ -1,6 +1,5 @@
 -- Lines that open or close a metadata block.
-use Rattle.std.specs.Prelude.{ℕ, ◌+◌, ◌==◌, ◌&&◌, ◌||◌, not, nat_eq, Bool, List, [], ◌∷◌, drop, Option}
-use Rattle.std.specs.Prelude.{Some, None, is_some, if◌then◌else◌}
+use Rattle.std.specs.Prelude.{ℕ, ◌+◌, ◌==◌, ◌&&◌, ◌||◌, not, nat_eq, Bool, List, [], ◌∷◌, drop, Option, Some, None, is_some, if◌then◌else◌}
 use Rattle.std.specs.List.{list_any, starts_with}
 use Rattle.first_pass_items.specs.Bytes.{space, plus_sign, hyphen, full_stop}
 use Rattle.first_pass_lines.specs.Lines.{begins, is_blank_line, line_len, at_line_end}

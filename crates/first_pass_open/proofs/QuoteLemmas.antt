@@ -8,13 +8,12 @@ use Rattle.std.proofs.lemmas.List.{take_more, take-append-drop, get_or-reverse, 
 use Rattle.first_pass_items.specs.declared.item.Item.{Item}
 use Rattle.first_pass_items.specs.declared.option_set.Options.{Options}
 use Rattle.first_pass_tree.specs.declared.tree_index.TreeIndex.{TreeIndex}
-use Rattle.first_pass_tree.specs.Forest.{Forest}
+use Rattle.first_pass_tree.specs.Forest.{Forest, at_depth}
 use Rattle.first_pass_lines.specs.Lines.{at_line_end}
 use Rattle.first_pass_lines.specs.Rest.{Rest, column_of, column_of_byte, next_column, indent}
 use Rattle.first_pass_lines.proofs.Columns.{after-none}
 use Rattle.first_pass_tokens.specs.TreeTokens.{chained, leaves}
 use Rattle.first_pass_tokens.proofs.ChainLemmas.{chained-spine, chained-nodes}
-use Rattle.first_pass_tree.specs.Forest.{at_depth}
 use Rattle.first_pass_grammar.specs.declared.kind.Container.{Container}
 use Rattle.first_pass_grammar.specs.declared.kind.Container.TheVariants.{BlockQuote, ListItem, FootnoteDefinition, Definition}
 use Rattle.first_pass_grammar.specs.Containers.{has_columns, is_quote, prefix, after}

@@ -18,8 +18,7 @@ use Rattle.first_pass_grammar.specs.Counting.{is_row, is_cell}
 use Rattle.first_pass_grammar.specs.Names.{Names, Index, index_of}
 use Rattle.first_pass_grammar.specs.WholeTables.{Mark, shown, may_be_title}
 use Rattle.first_pass_lists.specs.Closing.{is_list, is_item, top_body, loosened_by, loosened_at, popped_by, gap_tree, gap_marked, loosened_top, list_kept}
-use Rattle.first_pass_lists.specs.Closing.{item_without_indent}
-use Rattle.first_pass_lists.specs.Closing.{definition_without_indent, blank_read_by, blank_read}
+use Rattle.first_pass_lists.specs.Closing.{item_without_indent, definition_without_indent, blank_read_by, blank_read}
 use Rattle.first_pass_lists.specs.declared.state.PassState.{PassState}
 use Rattle.first_pass_order.proofs.OrderLemmas.{flags_of}
 

@@ -1,8 +1,7 @@
 -- The number of counted nodes: closing nodes and noting blank lines adds none, and opening a container adds one
 -- or two, with a byte for each.
-use Rattle.std.proofs.Common.{◌≡◌, ℕ, zero, suc, ◌+◌, ◌<◌, ◌≤◌, Bool, true, false, if◌then◌else◌, List, [], ◌∷◌, ◌++◌, length, slice_get}
-use Rattle.std.proofs.Common.{map, take}
-use Rattle.std.proofs.Common.{drop, Option, Some, None, is_some, refl, sym, ap, subst, ◌∙◌, inl, inr, arith}
+use Rattle.std.proofs.Common.{◌≡◌, ℕ, zero, suc, ◌+◌, ◌<◌, ◌≤◌, Bool, true, false, if◌then◌else◌, List, [], ◌∷◌, ◌++◌, length, slice_get, map, take, drop}
+use Rattle.std.proofs.Common.{Option, Some, None, is_some, refl, sym, ap, subst, ◌∙◌, inl, inr, arith}
 use Rattle.std.specs.Option.{option_and_then}
 use Rattle.std.proofs.lemmas.Bool.{cases_Bool}
 use Rattle.first_pass_items.specs.declared.option_set.Options.{Options}
@@ -26,20 +25,16 @@ use Rattle.first_pass_grammar.specs.Openers.{task_by, task_after}
 use Rattle.first_pass_grammar.specs.Counting.{is_cell, is_row, last_cell, is_inserted_after, own, counted_nodes}
 use Rattle.first_pass_grammar.specs.Order.{GrowsBy}
 use Rattle.first_pass_grammar.proofs.Count.CountedNodes.{alike_first, own_first, own_ended, own_changed, own_one, own_added}
-use Rattle.first_pass_open.specs.OpenBlock.{with_child}
+use Rattle.first_pass_open.specs.OpenBlock.{with_child, begun_item}
 use Rattle.first_pass_open.proofs.PlaceLemmas.{option_on, task_shorter}
-use Rattle.first_pass_lists.specs.Closing.{popped_at, popped, empty_item_closed}
-use Rattle.first_pass_lists.specs.Closing.{list_finished, list_kept, begun}
-use Rattle.first_pass_lists.specs.Closing.{blank_read, footnote_begun, with_tree, current_body, current_moved}
-use Rattle.first_pass_lists.specs.Closing.{definitions_closed, definitions_left, with_current, title_begun}
-use Rattle.first_pass_lists.specs.Closing.{definitions_by, definitions_at, definitions_opened, definition_begun}
+use Rattle.first_pass_lists.specs.Closing.{popped_at, popped, empty_item_closed, list_finished, list_kept, begun, blank_read, footnote_begun, with_tree}
+use Rattle.first_pass_lists.specs.Closing.{current_body, current_moved, definitions_closed, definitions_left, with_current, title_begun, definitions_by}
+use Rattle.first_pass_lists.specs.Closing.{definitions_at, definitions_opened, definition_begun}
 use Rattle.first_pass_items.specs.declared.item.CowIndex.{CowIndex}
 use Rattle.first_pass_lists.specs.declared.state.PassState.{PassState}
-use Rattle.first_pass_open.specs.OpenBlock.{begun_item}
 use Rattle.first_pass_order.proofs.AlikeNodes.{AreAlike, NoNodes, OneMore}
 use Rattle.first_pass_order.proofs.PropertyKept.{IsLeft, Property, HoldsAt, HoldsBefore, popped_at_keeps, popped_keeps, empty_item_closed_keeps, noted_keeps}
-use Rattle.first_pass_order.proofs.PropertyKept.{kept_keeps, blank_keeps}
-use Rattle.first_pass_order.proofs.PropertyKept.{list_finished_keeps, quote_keeps, item_keeps, note_keeps}
+use Rattle.first_pass_order.proofs.PropertyKept.{kept_keeps, blank_keeps, list_finished_keeps, quote_keeps, item_keeps, note_keeps}
 use Rattle.first_pass_open.specs.Between.{AddsBetween}
 use Rattle.first_pass_lists.proofs.NoEmptyItem.{item_opened}
 

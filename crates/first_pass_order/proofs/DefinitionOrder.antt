@@ -1,8 +1,7 @@
 -- Order when definition lists are opened and closed: a paragraph becomes a title, a possible title is kept, and one
 -- that is no title is moved out of its list.
-use Rattle.std.proofs.Common.{◌≡◌, ℕ, suc, ◌+◌, ◌<◌, ◌≤◌, not, is_some, Bool, true, false, if◌then◌else◌, List, [], ◌∷◌, ◌++◌, length}
-use Rattle.std.proofs.Common.{take, drop, slice_get, Option, Some, None, IfSome, IsCharBoundary, refl, sym, ap, subst, ◌∙◌, arith}
-use Rattle.std.proofs.Common.{length-append}
+use Rattle.std.proofs.Common.{◌≡◌, ℕ, suc, ◌+◌, ◌<◌, ◌≤◌, not, is_some, Bool, true, false, if◌then◌else◌, List, [], ◌∷◌, ◌++◌, length, take, drop, slice_get}
+use Rattle.std.proofs.Common.{Option, Some, None, IfSome, IsCharBoundary, refl, sym, ap, subst, ◌∙◌, arith, length-append}
 use Rattle.std.proofs.lemmas.Bool.{and_parts}
 use Rattle.std.proofs.lemmas.List.{take-map, drop-map}
 use Rattle.std.proofs.Math.Seq.{take-append_seam, drop-append_seam}
@@ -10,28 +9,23 @@ use Rattle.std.specs.Prelude.{IsSomeAnd}
 use Rattle.std.specs.Option.{option_and_then, option_map, option_map_or}
 use Rattle.first_pass_items.specs.declared.item.Item.{Item}
 use Rattle.first_pass_items.specs.declared.item.ItemBody.{ItemBody}
-use Rattle.first_pass_items.specs.declared.item.ItemBody.TheVariants.{Paragraph, DefinitionList}
-use Rattle.first_pass_items.specs.declared.item.ItemBody.TheVariants.{MaybeDefinitionListTitle}
+use Rattle.first_pass_items.specs.declared.item.ItemBody.TheVariants.{Paragraph, DefinitionList, MaybeDefinitionListTitle}
 use Rattle.first_pass_tree.specs.declared.tree_index.TreeIndex.{TreeIndex}
-use Rattle.first_pass_tree.specs.Forest.{Forest, IsForest, IsLastAt, depths, modify, with_body_at, with_end_at, body_at, item_at, at_depth, added}
-use Rattle.first_pass_tree.specs.Forest.{with_end}
+use Rattle.first_pass_tree.specs.Forest.{Forest, IsForest, IsLastAt, depths, modify, with_body_at, with_end_at, body_at, item_at, at_depth, added, with_end}
 use Rattle.first_pass_tree.proofs.BodyLemmas.{body-kept, body-changed}
-use Rattle.first_pass_grammar.specs.Order.{Ranged, extent_of, extents, is_task_marker, Siblings, laid, Elsewhere}
-use Rattle.first_pass_grammar.specs.Order.{InItem, Fits, FitsBetween}
+use Rattle.first_pass_grammar.specs.Order.{Ranged, extent_of, extents, is_task_marker, Siblings, laid, Elsewhere, InItem, Fits, FitsBetween}
 use Rattle.first_pass_grammar.specs.OpenOrder.{laid_open, AreAt, open_within, FitsOpen, item_on_top, within_top, IsOrderedTo}
 use Rattle.first_pass_grammar.proofs.Order.Orders.{ended_at, extents-append, length-extents, extents-at_depth, laid-at_depth, laid_open-level}
 use Rattle.first_pass_grammar.proofs.Order.Orders.{length-places, below_ended, extents-ended, between-any}
 use Rattle.first_pass_order.proofs.RowSplits.{last_child, fits_open_ends}
 use Rattle.first_pass_open.specs.Between.{AddsBetween}
-use Rattle.first_pass_lists.specs.Closing.{with_tree, gap_marked, top_body, current_body, top_end}
-use Rattle.first_pass_lists.specs.Closing.{definitions_closed, possible_title, definitions_left, title_begun, is_after_definition}
-use Rattle.first_pass_lists.specs.Closing.{is_definition_list as is_definitions}
+use Rattle.first_pass_lists.specs.Closing.{with_tree, gap_marked, top_body, current_body, top_end, definitions_closed, possible_title, definitions_left}
+use Rattle.first_pass_lists.specs.Closing.{title_begun, is_after_definition, is_definition_list as is_definitions}
 use Rattle.first_pass_lists.specs.declared.state.PassState.{PassState}
 use Rattle.first_pass_order.specs.Ordered.{top_of, AreNested, EndsBeforeLast, EndsBeforeTitle, HasDefinition, CanClose, IsReadTo}
 use Rattle.first_pass_order.proofs.Nests.{classes_body, classes_ended, nested_same}
 use Rattle.first_pass_order.proofs.Nests.{title_there, definitions_closed_outside, noted_outside, outside_closes, nested_front, top_front}
-use Rattle.first_pass_order.proofs.OrderLemmas.{ordered_same, ordered_added, ordered_none}
-use Rattle.first_pass_order.proofs.OrderLemmas.{LiesIn, lies_in, extents-body}
+use Rattle.first_pass_order.proofs.OrderLemmas.{ordered_same, ordered_added, ordered_none, LiesIn, lies_in, extents-body}
 use Rattle.first_pass_order.proofs.PopOrder.{ordered_gap_marked, noted_empty}
 use Rattle.first_pass_order.proofs.AlikeNodes.{LooksAlike, like_itself}
 use Rattle.first_pass_order.proofs.PropertyKept.{IsLeft, is_left}

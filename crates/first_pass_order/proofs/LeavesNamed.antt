@@ -6,8 +6,7 @@ use Rattle.first_pass_lines.specs.Places.{Place}
 use Rattle.first_pass_tokens.specs.TreeTokens.{leaves}
 use Rattle.first_pass_grammar.specs.declared.kind.Container.{Container}
 use Rattle.first_pass_grammar.specs.Names.{AreNamed}
-use Rattle.first_pass_grammar.specs.Kinds.{Kind, Blank, IndentedCode, Metadata, HtmlToEnd, HtmlToBlank, ThematicBreak, AtxHeading, FencedCode}
-use Rattle.first_pass_grammar.specs.Kinds.{LinkDefinitions}
+use Rattle.first_pass_grammar.specs.Kinds.{Kind, Blank, IndentedCode, Metadata, HtmlToEnd, HtmlToBlank, ThematicBreak, AtxHeading, FencedCode, LinkDefinitions}
 use Rattle.first_pass_grammar.specs.Kinds.{Paragraph, unindented}
 use Rattle.first_pass_grammar.specs.LinkRuns.{Ended, FlowsOn}
 use Rattle.first_pass_grammar.specs.Leaves.{Document}

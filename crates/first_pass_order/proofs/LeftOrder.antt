@@ -1,27 +1,20 @@
 -- Order when a definition list is closed before its last child, which is moved out of it.
-use Rattle.std.proofs.Common.{◌≡◌, ℕ, zero, suc, ◌+◌, ◌<◌, ◌≤◌, false, List, [], ◌∷◌, ◌++◌, length}
-use Rattle.std.proofs.Common.{take, drop, slice_get, None, IsCharBoundary, refl, sym, ap, subst, ◌∙◌, arith}
-use Rattle.std.proofs.Common.{length-append}
+use Rattle.std.proofs.Common.{◌≡◌, ℕ, zero, suc, ◌+◌, ◌<◌, ◌≤◌, false, List, [], ◌∷◌, ◌++◌, length, take, drop, slice_get, None, IsCharBoundary, refl, sym, ap}
+use Rattle.std.proofs.Common.{subst, ◌∙◌, arith, length-append, Bool}
 use Rattle.std.proofs.lemmas.List.{take-append-drop, length-take-le}
 use Rattle.std.specs.Option.{option_map, option_map_or}
 use Rattle.first_pass_items.specs.declared.item.Item.{Item}
 use Rattle.first_pass_tree.specs.declared.tree_index.TreeIndex.{TreeIndex}
-use Rattle.first_pass_tree.specs.Forest.{Forest, modify, map_from}
-use Rattle.first_pass_tree.specs.Forest.{shallower}
-use Rattle.first_pass_grammar.specs.Order.{Ranged, extent_of, extents, Siblings, laid, Elsewhere}
-use Rattle.first_pass_grammar.specs.Order.{Fits}
+use Rattle.first_pass_tree.specs.Forest.{Forest, modify, map_from, shallower}
+use Rattle.first_pass_grammar.specs.Order.{Ranged, extent_of, extents, Siblings, laid, Elsewhere, Fits}
 use Rattle.first_pass_grammar.specs.OpenOrder.{laid_open, AreAt, within_top, IsOrderedTo}
-use Rattle.first_pass_grammar.proofs.Order.Orders.{ended_at, extents-append, length-extents, laid_open-level}
-use Rattle.first_pass_grammar.proofs.Order.Orders.{fits-any, fits-later}
+use Rattle.first_pass_grammar.proofs.Order.Orders.{ended_at, extents-append, length-extents, laid_open-level, fits-any, fits-later}
 use Rattle.first_pass_order.proofs.RowSplits.{laid-shallower, extents-moved}
 use Rattle.first_pass_open.specs.OpenBlock.{closed_by}
 use Rattle.first_pass_lists.specs.Closing.{state_with, top_end}
 use Rattle.first_pass_lists.specs.declared.state.PassState.{PassState}
-use Rattle.first_pass_order.specs.Ordered.{EndsBeforeTitle}
-use Rattle.first_pass_order.proofs.OrderLemmas.{ordered_more, ordered_closed}
-use Rattle.std.proofs.Common.{Bool}
-use Rattle.first_pass_order.specs.Ordered.{reached, IsOrderedAt}
-use Rattle.first_pass_order.proofs.OrderLemmas.{flags_of, ordered_same, ordered_later, ordered_begun}
+use Rattle.first_pass_order.specs.Ordered.{EndsBeforeTitle, reached, IsOrderedAt}
+use Rattle.first_pass_order.proofs.OrderLemmas.{ordered_more, ordered_closed, flags_of, ordered_same, ordered_later, ordered_begun}
 use Rattle.first_pass_order.proofs.AlikeNodes.{AreAlike, NoNodes, OneMore}
 use Rattle.first_pass_order.proofs.PropertyKept.{IsLeft, Property, MayLeave, HoldsAt, HoldsBefore}
 use Rattle.first_pass_tokens.proofs.BytesLemmas.{length-modify}

@@ -1,13 +1,10 @@
 -- Each index in nodes names an entry: closing nodes and noting blank lines changes no index, and opening a container
 -- adds none.
-use Rattle.std.proofs.Common.{◌≡◌, ℕ, zero, suc, ◌+◌, ◌<◌, Bool, true, false, List, [], ◌∷◌, ◌++◌, length}
-use Rattle.std.proofs.Common.{slice_get}
-use Rattle.std.proofs.Common.{Option, Some, map, take, drop}
-use Rattle.std.proofs.Common.{None, refl, sym, ap, subst}
+use Rattle.std.proofs.Common.{◌≡◌, ℕ, zero, suc, ◌+◌, ◌<◌, Bool, true, false, List, [], ◌∷◌, ◌++◌, length, slice_get, Option, Some, map, take, drop, None}
+use Rattle.std.proofs.Common.{refl, sym, ap, subst}
 use Rattle.first_pass_items.specs.declared.item.Item.{Item}
 use Rattle.first_pass_items.specs.declared.item.ItemBody.{ItemBody}
-use Rattle.first_pass_items.specs.declared.item.ItemBody.TheVariants.{Paragraph}
-use Rattle.first_pass_items.specs.declared.item.ItemBody.TheVariants.{TaskListMarker, DefinitionList, DefinitionListTitle, DefinitionListDefinition}
+use Rattle.first_pass_items.specs.declared.item.ItemBody.TheVariants.{Paragraph, TaskListMarker, DefinitionList, DefinitionListTitle, DefinitionListDefinition}
 use Rattle.first_pass_items.specs.declared.item.ItemBody.TheVariants.{MaybeDefinitionListTitle}
 use Rattle.first_pass_tree.specs.declared.tree_index.TreeIndex.{TreeIndex}
 use Rattle.first_pass_tree.specs.Forest.{Forest, modify, empty_forest, with_end_at, with_end, with_body_at, item_at, is_text, added, at_depth}
@@ -29,11 +26,8 @@ use Rattle.first_pass_order.proofs.AlikeNodes.{AreAlike, NoNodes, OneMore}
 use Rattle.first_pass_order.proofs.PropertyKept.{IsLeft, Property, HoldsAt, HoldsBefore, popped_keeps, empty_item_closed_keeps, kept_keeps, blank_keeps}
 use Rattle.first_pass_order.proofs.PropertyKept.{list_finished_keeps, list_continued_keeps, quote_keeps, item_keeps, note_keeps}
 use Rattle.first_pass_open.specs.OpenBlock.{with_child, begun_item}
-use Rattle.first_pass_lists.specs.Closing.{list_continued, popped, empty_item_closed}
-use Rattle.first_pass_lists.specs.Closing.{list_finished, list_kept, begun}
-use Rattle.first_pass_lists.specs.Closing.{blank_read, footnote_begun, with_tree}
-use Rattle.first_pass_lists.specs.Closing.{with_current, title_begun}
-use Rattle.first_pass_lists.specs.Closing.{definitions_by, definitions_at, definitions_opened, definition_begun}
+use Rattle.first_pass_lists.specs.Closing.{list_continued, popped, empty_item_closed, list_finished, list_kept, begun, blank_read, footnote_begun, with_tree}
+use Rattle.first_pass_lists.specs.Closing.{with_current, title_begun, definitions_by, definitions_at, definitions_opened, definition_begun}
 use Rattle.first_pass_items.specs.declared.item.CowIndex.{CowIndex}
 use Rattle.first_pass_lists.specs.declared.state.PassState.{PassState}
 use Rattle.first_pass_lists.proofs.NoEmptyItem.{item_opened}

@@ -21,15 +21,11 @@ use Rattle.first_pass_grammar.specs.Order.{is_task_marker}
 use Rattle.first_pass_open.specs.OpenBlock.{closed_by, with_child}
 use Rattle.first_pass_open.proofs.PathLemmas.{get_front}
 use Rattle.first_pass_lists.specs.Closing.{state_with, with_tree, loosened_by, loosened_at, top_body, is_definition_list, is_list, is_list_of, is_item}
-use Rattle.first_pass_lists.specs.Closing.{is_footnote}
-use Rattle.first_pass_lists.specs.Closing.{popped_at, current_moved, definitions_closed, title_by, possible_title, title_closed, top_end}
-use Rattle.first_pass_lists.specs.Closing.{popped_after}
-use Rattle.first_pass_lists.specs.Closing.{popped, empty_item_closed_by, empty_item_closed, list_closed, footnote_left, gap_marked, list_finished}
-use Rattle.first_pass_lists.specs.Closing.{loosened_top, list_kept, begun, footnote_begun, list_continued, blank_read_by}
-use Rattle.first_pass_lists.specs.Closing.{blank_read}
+use Rattle.first_pass_lists.specs.Closing.{is_footnote, popped_at, current_moved, definitions_closed, title_by, possible_title, title_closed, top_end}
+use Rattle.first_pass_lists.specs.Closing.{popped_after, popped, empty_item_closed_by, empty_item_closed, list_closed, footnote_left, gap_marked}
+use Rattle.first_pass_lists.specs.Closing.{list_finished, loosened_top, list_kept, begun, footnote_begun, list_continued, blank_read_by, blank_read}
 use Rattle.first_pass_lists.specs.declared.state.PassState.{PassState}
-use Rattle.first_pass_order.proofs.AlikeNodes.{class_of, AreAlike, NoNodes, OneMore, LooksAlike, like_popped, like_loosened, like_noted, like_kept}
-use Rattle.first_pass_order.proofs.AlikeNodes.{like_blank}
+use Rattle.first_pass_order.proofs.AlikeNodes.{class_of, AreAlike, NoNodes, OneMore, LooksAlike, like_popped, like_loosened, like_noted, like_kept, like_blank}
 use Rattle.first_pass_order.specs.Ordered.{top_of, AreNested, HasDefinition, CanClose}
 
 abbrev pub classes : List (ℕ × Item) → List (Bool × Bool)

@@ -5,20 +5,17 @@ use Rattle.std.proofs.lemmas.Str.{IsCharBoundary-start, IsCharBoundary-end}
 use Rattle.std.specs.Option.{option_and_then}
 use Rattle.first_pass_items.specs.declared.item.Item.{Item}
 use Rattle.first_pass_items.specs.declared.item.ItemBody.{ItemBody}
-use Rattle.first_pass_items.specs.declared.item.ItemBody.TheVariants.{List as ListBody, ListItem as ListItemBody}
-use Rattle.first_pass_items.specs.declared.item.ItemBody.TheVariants.{DefinitionList, DefinitionListDefinition}
+use Rattle.first_pass_items.specs.declared.item.ItemBody.TheVariants.{List as ListBody, ListItem as ListItemBody, DefinitionList, DefinitionListDefinition}
 use Rattle.first_pass_tree.specs.declared.tree_index.TreeIndex.{TreeIndex}
 use Rattle.first_pass_tree.specs.Forest.{Forest, empty_forest, with_end_at, body_at, modify, at_depth, appended, added}
-use Rattle.first_pass_grammar.specs.Order.{Ranged, is_text_block, is_task_marker, is_list_item, is_definition_list, extent_of, extents, Siblings, Empty}
-use Rattle.first_pass_grammar.specs.Order.{Node, laid}
-use Rattle.first_pass_grammar.specs.Order.{IsBetween, Elsewhere, InItem, Fits, FitsBetween, IsOrdered}
+use Rattle.first_pass_grammar.specs.Order.{Ranged, is_text_block, is_task_marker, is_list_item, is_definition_list, extent_of, extents, Siblings, Empty, Node}
+use Rattle.first_pass_grammar.specs.Order.{laid, IsBetween, Elsewhere, InItem, Fits, FitsBetween, IsOrdered}
 use Rattle.first_pass_grammar.specs.OpenOrder.{laid_open, AreAt, open_within, FitsOpen, item_on_top, within_top, IsOrderedTo}
 use Rattle.first_pass_grammar.proofs.Order.Orders.{beside, ended_at, extents-append, length-extents, extents-at_depth, laid-at_depth, laid-one, laid_open-beside}
 use Rattle.first_pass_grammar.proofs.Order.Orders.{laid_open-pushed, laid_open-level, laid_open-popped, laid_open-root, length-places, fits-one, fits_open-later}
 use Rattle.first_pass_grammar.proofs.Order.Orders.{fits_open-beside, fits_open-pushed, fits_open-popped, extents-ended, extents-kept, fits-whole}
 use Rattle.first_pass_open.specs.OpenBlock.{closed_by}
-use Rattle.first_pass_lists.specs.Closing.{is_item, popped_by}
-use Rattle.first_pass_lists.specs.Closing.{begun}
+use Rattle.first_pass_lists.specs.Closing.{is_item, popped_by, begun}
 use Rattle.first_pass_lists.specs.declared.state.PassState.{PassState}
 use Rattle.first_pass_order.specs.Ordered.{reached, IsOrderedAt}
 

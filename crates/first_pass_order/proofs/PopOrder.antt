@@ -1,7 +1,7 @@
 -- Closing the state's nodes keeps order where lists and items end, and so does noting blank lines.
 use Rattle.std.proofs.Common.{◌≡◌, ◌⊎◌, inl, inr, ℕ, ◌≤◌, true, false, List, [], ◌∷◌, length}
 use Rattle.std.proofs.Common.{slice_get, Option, Some, None, IsCharBoundary, refl, sym, ap, subst, ◌∙◌, arith}
-use Rattle.std.proofs.lemmas.Bool.{cond_both}
+use Rattle.std.proofs.lemmas.Bool.{cond_both, true≢false}
 use Rattle.std.specs.Option.{option_and_then}
 use Rattle.first_pass_items.specs.declared.item.Item.{Item}
 use Rattle.first_pass_items.specs.declared.item.ItemBody.{ItemBody}
@@ -11,26 +11,21 @@ use Rattle.first_pass_tree.specs.declared.tree_index.TreeIndex.{TreeIndex}
 use Rattle.first_pass_tree.specs.Forest.{Forest, with_body_at, body_at}
 use Rattle.first_pass_grammar.specs.OpenOrder.{IsOrderedTo}
 use Rattle.first_pass_open.specs.OpenBlock.{closed_by}
-use Rattle.first_pass_lists.specs.Closing.{with_tree, top_body, is_list, is_item, popped_at, current_moved}
-use Rattle.first_pass_lists.specs.Closing.{definitions_closed, top_end, possible_title, title_closed, popped_after, popped, empty_item_closed}
-use Rattle.first_pass_lists.specs.Closing.{gap_tree, list_finished, list_kept, list_continued}
+use Rattle.first_pass_lists.specs.Closing.{with_tree, top_body, is_list, is_item, popped_at, current_moved, definitions_closed, top_end, possible_title}
+use Rattle.first_pass_lists.specs.Closing.{title_closed, popped_after, popped, empty_item_closed, gap_tree, list_finished, list_kept, list_continued}
 use Rattle.first_pass_lists.specs.Closing.{blank_read_by, blank_read, gap_marked, footnote_begun}
 use Rattle.first_pass_items.specs.declared.item.CowIndex.{CowIndex}
 use Rattle.first_pass_lists.specs.declared.state.PassState.{PassState}
 use Rattle.first_pass_order.specs.Ordered.{reached, IsOrderedAt, EndsBeforeTitle, IsReadTo}
 use Rattle.first_pass_order.proofs.AlikeNodes.{like_blank}
-use Rattle.first_pass_order.proofs.Nests.{title_there, popped_settled, empty_item_closed_nested, like_item, like_nested}
-use Rattle.first_pass_order.proofs.Nests.{empty_item_closed_last, blank_last, settled_closes, outside_closes, list_finished_outside, list_continued_settled}
-use Rattle.first_pass_order.proofs.Nests.{footnote_begun_settled}
+use Rattle.first_pass_order.proofs.Nests.{title_there, popped_settled, empty_item_closed_nested, like_item, like_nested, empty_item_closed_last, blank_last}
+use Rattle.first_pass_order.proofs.Nests.{settled_closes, outside_closes, list_finished_outside, list_continued_settled, footnote_begun_settled}
 use Rattle.first_pass_order.proofs.LeftOrder.{title_later, order_kept, ordered_at, ordered_before, may_leave}
-use Rattle.std.proofs.lemmas.Bool.{true≢false}
 use Rattle.first_pass_order.proofs.PropertyKept.{popped_here, empty_item_closed_keeps, empty_item_closed_leaves, noted_keeps, kept_keeps, blank_keeps, no_item_list}
-use Rattle.first_pass_lists.proofs.NoEmptyItem.{finished_none, popped_at_none}
+use Rattle.first_pass_lists.proofs.NoEmptyItem.{finished_none, popped_at_none, list_finished_none, list_continued_none}
 use Rattle.first_pass_order.proofs.PropertyKept.{list_finished_keeps, list_continued_keeps, note_keeps}
-use Rattle.first_pass_lists.proofs.NoEmptyItem.{list_finished_none, list_continued_none}
 use Rattle.first_pass_tree.proofs.BodyLemmas.{body-kept}
-use Rattle.first_pass_order.proofs.OrderLemmas.{ordered_none, ordered_at_later}
-use Rattle.first_pass_order.proofs.OrderLemmas.{popped_empty}
+use Rattle.first_pass_order.proofs.OrderLemmas.{ordered_none, ordered_at_later, popped_empty}
 
 empty_moved : (q : PassState) (o : Option TreeIndex) → (current_moved q o).begin_list_item ≡ q.begin_list_item
 empty_moved q None = refl

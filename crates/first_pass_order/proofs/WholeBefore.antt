@@ -14,8 +14,7 @@ use Rattle.first_pass_grammar.specs.Derivation.{Tables, Derives}
 use Rattle.first_pass_grammar.specs.Completion.{ended, Pending, OneList, Unfinished, Further, AreFurther, rows_on, rows_beyond, rendered, Frame, InContainer}
 use Rattle.first_pass_grammar.specs.Completion.{InList, InDefinitions, definitions_open, containers_of, loosened, container_closed, Becomes, Completion}
 use Rattle.first_pass_grammar.specs.Containers.{is_quote}
-use Rattle.first_pass_grammar.specs.WholeTables.{Mark, ATable, ARow, ACell, shown, marks, RowCells, row_marks, TableRows, table_marks, AreFull}
-use Rattle.first_pass_grammar.specs.WholeTables.{AreWholeTables}
+use Rattle.first_pass_grammar.specs.WholeTables.{Mark, ATable, ARow, ACell, shown, marks, RowCells, row_marks, TableRows, table_marks, AreFull, AreWholeTables}
 use Rattle.first_pass_grammar.proofs.Each.EachRow.{each_row}
 use Rattle.first_pass_grammar.proofs.Sequences.Finishes.{containers-loosened}
 use Rattle.first_pass_grammar.proofs.WholeTables.FullHeads.{heads_are_full}

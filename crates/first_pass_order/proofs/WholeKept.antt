@@ -1,20 +1,18 @@
 -- Tables stay whole: closing nodes and noting blank lines ends no row, opening a container adds no part of a table,
 -- and a leaf block adds whole tables. A possible title that turns out to be none has no part of a table, nor does a
 -- paragraph that becomes a title.
-use Rattle.std.proofs.Common.{◌≡◌, ℕ, zero, suc, ◌+◌, ◌||◌, Bool, true, false, List, [], ◌∷◌, ◌++◌, length}
-use Rattle.std.proofs.Common.{map}
-use Rattle.std.proofs.Common.{Option, Some, None, refl, sym, ap, subst, ◌∙◌}
+use Rattle.std.proofs.Common.{◌≡◌, ℕ, zero, suc, ◌+◌, ◌||◌, Bool, true, false, List, [], ◌∷◌, ◌++◌, length, map, Option, Some, None, refl, sym, ap, subst, ◌∙◌}
+use Rattle.std.proofs.Common.{inl, inr}
 use Rattle.std.specs.Prelude.{IsSomeAnd}
 use Rattle.std.specs.Option.{option_map_or}
-use Rattle.std.proofs.lemmas.Bool.{true≢false}
+use Rattle.std.proofs.lemmas.Bool.{true≢false, cases_Bool}
 use Rattle.std.proofs.lemmas.Option.{none-some, same_Some}
 use Rattle.first_pass_items.specs.declared.item.Item.{Item}
 use Rattle.first_pass_items.specs.declared.item.ItemBody.{ItemBody}
 use Rattle.first_pass_items.specs.declared.item.ItemBody.TheVariants.{TableHead, TableRow, TaskListMarker}
 use Rattle.first_pass_items.specs.declared.option_set.Options.{Options}
 use Rattle.first_pass_tree.specs.declared.tree_index.TreeIndex.{TreeIndex}
-use Rattle.first_pass_tree.specs.Forest.{Forest, IsForest, modify, empty_forest, with_end_at, body_at, added, at_depth, map_from}
-use Rattle.first_pass_tree.specs.Forest.{shallower}
+use Rattle.first_pass_tree.specs.Forest.{Forest, IsForest, modify, empty_forest, with_end_at, body_at, added, at_depth, map_from, shallower}
 use Rattle.first_pass_lines.specs.Places.{Place, line_end, IsPlaceOf}
 use Rattle.first_pass_grammar.specs.declared.kind.Container.{Container}
 use Rattle.first_pass_grammar.specs.Names.{Names, Extends, AreNamed}
@@ -39,18 +37,12 @@ use Rattle.first_pass_grammar.proofs.Each.EachCell.{deeper_nodes}
 use Rattle.first_pass_grammar.proofs.WholeTables.WholeBlocks.{whole_none, ShownBy, text_whole, opens_as}
 use Rattle.first_pass_grammar.proofs.WholeTables.WholeForests.{whole_both, whole_same}
 use Rattle.first_pass_names.proofs.NameLemmas.{extends_none}
-use Rattle.first_pass_open.specs.OpenBlock.{closed_by, with_child}
+use Rattle.first_pass_open.specs.OpenBlock.{closed_by, with_child, begun_item, opened_block}
 use Rattle.first_pass_open.specs.Path.{path_of}
-use Rattle.first_pass_lists.specs.Closing.{popped, empty_item_closed}
-use Rattle.first_pass_lists.specs.Closing.{list_finished, begun}
-use Rattle.first_pass_lists.specs.Closing.{blank_read}
-use Rattle.first_pass_lists.specs.Closing.{footnote_begun, possible_title}
+use Rattle.first_pass_lists.specs.Closing.{popped, empty_item_closed, list_finished, begun, blank_read, footnote_begun, possible_title}
 use Rattle.first_pass_items.specs.declared.item.CowIndex.{CowIndex}
 use Rattle.first_pass_lists.specs.declared.state.PassState.{PassState}
 use Rattle.first_pass_order.specs.LeafBlocks.{AddsKind}
-use Rattle.std.proofs.lemmas.Bool.{cases_Bool}
-use Rattle.std.proofs.Common.{inl, inr}
-use Rattle.first_pass_open.specs.OpenBlock.{begun_item, opened_block}
 use Rattle.first_pass_order.proofs.Nests.{title_there}
 use Rattle.first_pass_order.proofs.AlikeNodes.{IsBodyLike, IsAlike, AreAlike, NoNodes, OneMore, LooksAlike}
 use Rattle.first_pass_order.proofs.PropertyKept.{IsLeft, Property, MayLeave, none_leaves, HoldsAt, HoldsBefore, popped_keeps, empty_item_closed_keeps}

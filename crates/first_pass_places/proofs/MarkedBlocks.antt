@@ -19,8 +19,7 @@ use Rattle.first_pass_links.specs.Footnotes.{begins_footnote_mark}
 use Rattle.first_pass_grammar.specs.declared.kind.AfterMarker.{AfterMarker}
 use Rattle.first_pass_grammar.specs.declared.kind.AfterMarker.TheVariants.{OnLine, TaskText, LineEnds, OnlyTag}
 use Rattle.first_pass_grammar.specs.declared.kind.Container.{Container}
-use Rattle.first_pass_grammar.specs.Blocks.{Leaf, Opener, QuoteMarker, ItemMarker, FootnoteMarker, DefinitionMarker, Head, opened, Skeleton}
-use Rattle.first_pass_grammar.specs.Blocks.{Nil, Then, Node}
+use Rattle.first_pass_grammar.specs.Blocks.{Leaf, Opener, QuoteMarker, ItemMarker, FootnoteMarker, DefinitionMarker, Head, opened, Skeleton, Nil, Then, Node}
 use Rattle.first_pass_grammar.specs.Containers.{Context, at_rest, front}
 use Rattle.first_pass_grammar.specs.Footnotes.{footnote_head_at, footnote_prefix, place_past}
 use Rattle.first_pass_grammar.specs.Kinds.{Kind, Blank, IndentedCode, Metadata, HtmlToEnd, HtmlToBlank, ThematicBreak, AtxHeading, FencedCode}

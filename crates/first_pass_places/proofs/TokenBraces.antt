@@ -17,8 +17,7 @@ use Rattle.first_pass_tokens.specs.declared.pieces.Piece.TheVariants.{Left, Begi
 use Rattle.first_pass_tokens.specs.Braces.{MathBraces, braces_after}
 use Rattle.first_pass_tokens.specs.Chains.{text_token, token, run_tokens, touches, add_token, add_tokens, add_text}
 use Rattle.first_pass_tokens.specs.LineTokens.{Spot, spot, content_ends_at, ends_cell, ArePieces, add_piece, add_pieces, text_end, line_end_len}
-use Rattle.first_pass_tokens.specs.LineTokens.{breaks_by_backslash}
-use Rattle.first_pass_tokens.specs.LineTokens.{backslashes_at_end, blanks_at_end, AreLineTokens}
+use Rattle.first_pass_tokens.specs.LineTokens.{breaks_by_backslash, backslashes_at_end, blanks_at_end, AreLineTokens}
 use Rattle.first_pass_tokens.specs.Pieces.{Inline, found_at, size}
 use Rattle.first_pass_tokens.proofs.LineLemmas.{piece_of, pieces_reach as pieces_order}
 use Rattle.first_pass_tokens.proofs.ChainLemmas.{add_text-none, add_text-some}

@@ -17,8 +17,7 @@ use Rattle.first_pass_items.specs.declared.item.ItemBody.{ItemBody}
 use Rattle.first_pass_items.specs.declared.item.ItemBody.TheVariants.{Root, Paragraph, TightParagraph, Rule, Heading, FencedCodeBlock, IndentCodeBlock}
 use Rattle.first_pass_items.specs.declared.item.ItemBody.TheVariants.{HtmlBlock, BlockQuote, FootnoteDefinition, MetadataBlock, DefinitionList}
 use Rattle.first_pass_items.specs.declared.item.ItemBody.TheVariants.{MaybeDefinitionListTitle, DefinitionListTitle, DefinitionListDefinition, Table}
-use Rattle.first_pass_items.specs.declared.item.ItemBody.TheVariants.{TableHead}
-use Rattle.first_pass_items.specs.declared.item.ItemBody.TheVariants.{TableRow, TableCell, Text, SoftBreak, HardBreak, MaybeEmphasis, MaybeMath}
+use Rattle.first_pass_items.specs.declared.item.ItemBody.TheVariants.{TableHead, TableRow, TableCell, Text, SoftBreak, HardBreak, MaybeEmphasis, MaybeMath}
 use Rattle.first_pass_items.specs.declared.item.ItemBody.TheVariants.{MaybeSmartQuote, MaybeCode, MaybeHtml, MaybeLinkOpen, MaybeLinkClose, MaybeImage, Html}
 use Rattle.first_pass_items.specs.declared.item.ItemBody.TheVariants.{SynthesizeText, SynthesizeChar, TaskListMarker, ListItem, List as ListBody}
 pub use Rattle.first_pass_printed.specs.Visible.{in_parentheses, visible_byte, visible}

@@ -1,8 +1,7 @@
 -- The closing fence, the info string and the lines of a fenced code block.
 use Rattle.std.proofs.Common.{◌≡◌, inl, inr, ℕ, ◌+◌, ◌-◌, ◌<◌, ◌≤◌, ◌==◌, ◌&&◌, not, Bool, nat_lt, nat_le, true, false, List, length, take, drop, get_or}
 use Rattle.std.proofs.Common.{reverse, Option, Some, None, IsUtf8, IsCharBoundary, if◌then◌else◌, refl, sym, ap, subst, ◌∙◌, arith, length-drop}
-use Rattle.std.proofs.Common.{length-take-le}
-use Rattle.std.proofs.Common.{get_or-drop, drop-drop}
+use Rattle.std.proofs.Common.{length-take-le, get_or-drop, drop-drop}
 use Rattle.std.specs.Option.{option_map}
 use Rattle.std.specs.List.{prefix_len, suffix_len}
 use Rattle.std.proofs.lemmas.Bool.{cases_lt, eqb-true}

@@ -1,9 +1,7 @@
 -- Raw leaf blocks are in order: each is between two offsets with everything below it, and its lines follow one
 -- another in the text.
-use Rattle.std.proofs.Common.{◌≡◌, ◌⊎◌, inl, inr, ℕ, zero, suc, ◌+◌, ◌-◌, ◌*◌, ◌<◌, ◌≤◌, ◌==◌, ◌&&◌, Bool, true, false, not, List, ◌∷◌, ◌++◌, length, drop}
-use Rattle.std.proofs.Common.{[]}
-use Rattle.std.proofs.Common.{get_or, slice_index, nat_lt, nat_le, if◌then◌else◌, Option, Some, None, IsUtf8, IsCharBoundary, refl, sym, ap, subst, ◌∙◌}
-use Rattle.std.proofs.Common.{arith}
+use Rattle.std.proofs.Common.{◌≡◌, ◌⊎◌, inl, inr, ℕ, zero, suc, ◌+◌, ◌-◌, ◌*◌, ◌<◌, ◌≤◌, ◌==◌, ◌&&◌, Bool, true, false, not, List, ◌∷◌, ◌++◌, length, drop, []}
+use Rattle.std.proofs.Common.{get_or, slice_index, nat_lt, nat_le, if◌then◌else◌, Option, Some, None, IsUtf8, IsCharBoundary, refl, sym, ap, subst, ◌∙◌, arith}
 use Rattle.std.proofs.Common.{length-append, length-drop, get_or-drop}
 use Rattle.std.specs.List.{prefix_len}
 use Rattle.std.specs.Option.{option_map, option_and_then}

@@ -5,7 +5,7 @@ use Rattle.first_pass_items.specs.declared.item.Item.{Item}
 use Rattle.first_pass_tree.specs.Forest.{Forest, added}
 use Rattle.first_pass_html.specs.Ends.{BlockEnd}
 use Rattle.first_pass_lines.specs.Lines.{line_len}
-use Rattle.first_pass_lines.specs.Places.{Place, offset}
+use Rattle.first_pass_lines.specs.Places.{Place, offset, line_rest}
 use Rattle.first_pass_tokens.specs.TreeTokens.{with_tokens, chained}
 use Rattle.first_pass_grammar.specs.declared.kind.Container.{Container}
 use Rattle.first_pass_grammar.specs.Names.{Names, Extends}
@@ -22,7 +22,6 @@ use Rattle.first_pass_grammar.specs.HtmlBlocks.{until_end, until_blank}
 use Rattle.first_pass_grammar.specs.Completion.{lines_from}
 use Rattle.std.specs.Option.{option_and_then}
 use Rattle.first_pass_lines.specs.Rest.{Rest, after_columns}
-use Rattle.first_pass_lines.specs.Places.{line_rest}
 use Rattle.first_pass_grammar.specs.Containers.{has_columns, after}
 use Rattle.first_pass_open.specs.Path.{path_of}
 

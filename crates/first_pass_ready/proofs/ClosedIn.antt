@@ -18,12 +18,10 @@ use Rattle.first_pass_grammar.specs.Before.{Last, LastItem, list_is_open, is_par
 use Rattle.first_pass_grammar.specs.Skeleton.{Level, level}
 use Rattle.first_pass_grammar.specs.Derivation.{node_of}
 use Rattle.first_pass_grammar.specs.Completion.{Closed, OtherClosed, ParagraphAt, DefinitionClosed, TitleAt, Frame, InContainer, InList, InDefinitions}
-use Rattle.first_pass_grammar.specs.Completion.{closed_as}
-use Rattle.first_pass_grammar.specs.Completion.{IsPlain, last_plain, last_defined, StandsIn, last_of, containers_of}
+use Rattle.first_pass_grammar.specs.Completion.{closed_as, IsPlain, last_plain, last_defined, StandsIn, last_of, containers_of}
 use Rattle.first_pass_open.specs.OpenBlock.{closed_by}
 use Rattle.first_pass_open.specs.Path.{path_of}
-use Rattle.first_pass_lists.specs.Closing.{top_body, top_end, is_definition_list, title_by, possible_title, precedes_definition}
-use Rattle.first_pass_lists.specs.Closing.{may_begin_definition}
+use Rattle.first_pass_lists.specs.Closing.{top_body, top_end, is_definition_list, title_by, possible_title, precedes_definition, may_begin_definition}
 use Rattle.first_pass_ready.specs.State.{frame_of, frame_at, AreOpen, closed_in_definitions, closed_elsewhere, closed_below, closed_none, closed_with}
 use Rattle.first_pass_ready.specs.State.{closed_in}
 use Rattle.first_pass_ready.proofs.OpenLemmas.{open_path}

@@ -28,8 +28,8 @@ use Rattle.first_pass_grammar.specs.Footnotes.{footnote_prefix, footnote_at, foo
 use Rattle.first_pass_grammar.specs.Openers.{start_at}
 use Rattle.first_pass_grammar.specs.Leaves.{Document, around}
 use Rattle.first_pass_grammar.specs.Blocks.{BlankLine}
-use Rattle.first_pass_grammar.specs.Skeleton.{Continues, Line, Inside, Blanks, Opening, OpensLeaf, OpensFootnote, OpensAs, Opens, is_blank_after, next_is_blank}
-use Rattle.first_pass_grammar.specs.Skeleton.{Level, level, may_define, Lines, end_before}
+use Rattle.first_pass_grammar.specs.Skeleton.{Continues, Line, Inside, Blanks, Opening, OpensLeaf, OpensFootnote, OpensAs, Opens, is_blank_after}
+use Rattle.first_pass_grammar.specs.Skeleton.{next_is_blank, Level, level, may_define, Lines, end_before, OpensBy}
 use Rattle.first_pass_grammar.specs.Derivation.{Tables, node_of}
 use Rattle.first_pass_grammar.specs.Completion.{Closed, Frame, InContainer, InList, InDefinitions, containers_of, AreBelow, last_plain, last_defined}
 use Rattle.first_pass_grammar.proofs.Sequences.Finishes.{CompletesAt, Tail}
@@ -55,7 +55,6 @@ use Rattle.first_pass_ready.proofs.ClosedIn.{defined_open, plain_not_open}
 use Rattle.first_pass_ready.proofs.ItemBodies.{item_body, item_container, columns_are, item_is, item_columns_of, item_frame, item_path, item_true}
 use Rattle.first_pass_ready.proofs.ItemBodies.{item_no_list, item_no_quote, without_indent_is, after_zero}
 use Rattle.first_pass_items.specs.declared.option_set.Options.{Options}
-use Rattle.first_pass_grammar.specs.Skeleton.{OpensBy}
 use Rattle.first_pass_grammar.proofs.Sequences.OpenerFacts.{marker_where, start_none}
 
 -- Columns do not change whether a line is blank.

@@ -1,6 +1,5 @@
 -- A new block ends an innermost list, and notes a blank line before it.
-use Rattle.std.proofs.Common.{◌≡◌, ℕ, ◌<◌, ◌==◌, Bool, true, false, ◌||◌, List, [], ◌∷◌, map, Option, Some, None, refl, sym, ap, subst}
-use Rattle.std.proofs.Common.{◌∙◌, if◌then◌else◌}
+use Rattle.std.proofs.Common.{◌≡◌, ℕ, ◌<◌, ◌==◌, Bool, true, false, ◌||◌, List, [], ◌∷◌, map, Option, Some, None, refl, sym, ap, subst, ◌∙◌, if◌then◌else◌}
 use Rattle.std.specs.Option.{option_and_then, option_map_or}
 use Rattle.first_pass_items.specs.declared.item.Item.{Item}
 use Rattle.first_pass_items.specs.declared.item.ItemBody.{ItemBody}
@@ -16,8 +15,7 @@ use Rattle.first_pass_grammar.specs.Before.{is_paragraph_body, definition_may_fo
 use Rattle.first_pass_grammar.specs.Skeleton.{Inside, Opening, Opens}
 use Rattle.first_pass_grammar.specs.Derivation.{Tables, node_of, list_flags}
 use Rattle.first_pass_grammar.specs.Completion.{flagged, Closed, OtherClosed, ParagraphAt, DefinitionClosed, TitleAt, Frame, InContainer, InList}
-use Rattle.first_pass_grammar.specs.Completion.{InDefinitions}
-use Rattle.first_pass_grammar.specs.Completion.{IsPlain, StandsIn, last_defined}
+use Rattle.first_pass_grammar.specs.Completion.{InDefinitions, IsPlain, StandsIn, last_defined}
 use Rattle.first_pass_grammar.specs.WholeTables.{ShowsNothing, SilentClosed}
 use Rattle.first_pass_grammar.proofs.Sequences.Finishes.{CompletesAt}
 use Rattle.first_pass_completion.proofs.Extending.{tail, StaysAt, loosened_in}

@@ -1,6 +1,5 @@
 -- A line is read: containers are closed, and the line is entered.
-use Rattle.std.proofs.Common.{◌≡◌, ℕ, ◌+◌, ◌<◌, ◌≤◌, true, false, List, ◌∷◌, length, drop, Some, None, is_some, IsUtf8}
-use Rattle.std.proofs.Common.{IsCharBoundary, refl, ap, subst, ◌∙◌}
+use Rattle.std.proofs.Common.{◌≡◌, ℕ, ◌+◌, ◌<◌, ◌≤◌, true, false, List, ◌∷◌, length, drop, Some, None, is_some, IsUtf8, IsCharBoundary, refl, ap, subst, ◌∙◌}
 use Rattle.first_pass_items.specs.declared.item.Item.{Item}
 use Rattle.first_pass_tree.specs.declared.tree_index.TreeIndex.{TreeIndex}
 use Rattle.first_pass_tree.specs.Forest.{Forest}
@@ -14,15 +13,13 @@ use Rattle.first_pass_grammar.specs.Leaves.{Document}
 use Rattle.first_pass_grammar.specs.Skeleton.{Inside}
 use Rattle.first_pass_grammar.specs.Derivation.{Tables}
 use Rattle.first_pass_grammar.specs.Completion.{lines_from}
-use Rattle.first_pass_lists.specs.Closing.{empty_item_closed}
-use Rattle.first_pass_lists.specs.Closing.{blank_read}
+use Rattle.first_pass_lists.specs.Closing.{empty_item_closed, blank_read, footnote_ended}
 use Rattle.first_pass_lists.specs.declared.state.PassState.{PassState}
 use Rattle.first_pass_open.specs.Path.{path_in, path_of, outer}
 use Rattle.first_pass_ready.specs.State.{NoMore, Ready, ReadyAt}
 use Rattle.first_pass_open.proofs.PlaceLemmas.{after_keeps, line_start_end}
 use Rattle.first_pass_ready.proofs.EnterLemmas.{ready_blank_line, ready_line}
 use Rattle.first_pass_ready.proofs.OldFootnotes.{ends_here, ended_path, ended_ready}
-use Rattle.first_pass_lists.specs.Closing.{footnote_ended}
 use Rattle.first_pass_items.specs.declared.option_set.Options.{Options}
 
 -- a line and those after it, after the containers that it does not continue are closed

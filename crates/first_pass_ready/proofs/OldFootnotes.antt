@@ -26,10 +26,9 @@ use Rattle.first_pass_completion.proofs.Extending.{tail, lvl}
 use Rattle.first_pass_grammar.proofs.Sequences.Goings.{ends_old}
 use Rattle.first_pass_open.specs.OpenBlock.{closed_by}
 use Rattle.first_pass_open.specs.Path.{container_of, with_container, path_in, path_of}
-use Rattle.first_pass_lists.specs.Closing.{top_body, is_footnote, popped}
+use Rattle.first_pass_lists.specs.Closing.{top_body, is_footnote, popped, footnote_ended}
 use Rattle.first_pass_lists.specs.declared.state.PassState.{PassState}
 use Rattle.first_pass_ready.specs.State.{frame_of, item_columns, closed_in, AreOpen, ReadyAt, ReadyWith, Ready}
-use Rattle.first_pass_lists.specs.Closing.{footnote_ended}
 use Rattle.first_pass_ready.proofs.ClosedIn.{items_no_container, definitions_no_container, definitions_at, list_at, top_in, HasDefined, open_defined}
 use Rattle.first_pass_ready.proofs.ClosedIn.{defined_open, plain_not_open}
 use Rattle.first_pass_ready.proofs.ItemBodies.{item_container}

@@ -1,6 +1,5 @@
 -- One open node is closed: the completions of the nodes.
-use Rattle.std.proofs.Common.{◌≡◌, ℕ, zero, suc, ◌==◌, Bool, true, false, not, List, [], ◌∷◌, length, map, Some, refl, sym, ap, subst, ◌∙◌}
-use Rattle.std.proofs.Common.{if◌then◌else◌}
+use Rattle.std.proofs.Common.{◌≡◌, ℕ, zero, suc, ◌==◌, Bool, true, false, not, List, [], ◌∷◌, length, map, Some, refl, sym, ap, subst, ◌∙◌, if◌then◌else◌}
 use Rattle.std.proofs.lemmas.List.{length-map}
 use Rattle.std.specs.Int.RustNames.{bit_and}
 use Rattle.std.specs.Option.{option_and_then}
@@ -40,9 +39,8 @@ use Rattle.first_pass_ready.specs.State.{frame_of, frame_at, is_footnote_in_anot
 use Rattle.first_pass_tree.proofs.BodyLemmas.{body-changed}
 use Rattle.first_pass_ready.proofs.OpenLemmas.{open_path, open_below, frame-closed, frame-ended}
 use Rattle.first_pass_ready.proofs.ListLemmas.{list_flags_of, list_not_tight, list_flagged, tight_closed, loose_closed, open_flags, definitions_flags}
-use Rattle.first_pass_ready.proofs.ClosedIn.{items_no_container, definitions_no_container, items_no_definitions, definitions_no_items}
-use Rattle.first_pass_ready.proofs.ClosedIn.{level_of, open_level, closed_at_body}
-use Rattle.first_pass_ready.proofs.ClosedIn.{top_in, top_of, plain_no_definitions, top_no_definitions, closed_popped}
+use Rattle.first_pass_ready.proofs.ClosedIn.{items_no_container, definitions_no_container, items_no_definitions, definitions_no_items, level_of, open_level}
+use Rattle.first_pass_ready.proofs.ClosedIn.{closed_at_body, top_in, top_of, plain_no_definitions, top_no_definitions, closed_popped}
 
 -- the depth below a closed list, from its open nodes
 pub list_depth : (os : List TreeIndex) → suc (suc (suc (length (map (λ (i : TreeIndex). i.0) os)))) ≡ suc (suc (suc (length os)))

@@ -20,8 +20,7 @@ use Rattle.first_pass_grammar.specs.Leaves.{Document, around}
 use Rattle.first_pass_grammar.specs.Containers.{next_goes_on}
 use Rattle.first_pass_grammar.specs.Skeleton.{Continues, Line, Inside, Opening, Opens}
 use Rattle.first_pass_grammar.specs.Derivation.{Tables, list_flags}
-use Rattle.first_pass_grammar.specs.Completion.{list_closed, title_left, ParagraphAt, TitleAt, Frame, InContainer, InList, InDefinitions}
-use Rattle.first_pass_grammar.specs.Completion.{containers_of}
+use Rattle.first_pass_grammar.specs.Completion.{list_closed, title_left, ParagraphAt, TitleAt, Frame, InContainer, InList, InDefinitions, containers_of}
 use Rattle.first_pass_grammar.specs.WholeTables.{SilentFrom, SilentClosed}
 use Rattle.first_pass_grammar.proofs.Sequences.Finishes.{CompletesAt}
 use Rattle.first_pass_completion.proofs.Extending.{tail, lvl, StaysAt}

@@ -15,8 +15,7 @@ use Rattle.first_pass_grammar.specs.Leaves.{Document, document}
 use Rattle.first_pass_grammar.specs.Derivation.{Tables}
 use Rattle.first_pass_grammar.specs.Containers.{footnote_columns, next_goes_on, is_footnote, in_footnote}
 use Rattle.first_pass_grammar.specs.Skeleton.{Continues, Line, Blanks, next_is_blank}
-use Rattle.first_pass_grammar.specs.Completion.{Closed, OtherClosed, ParagraphAt, DefinitionClosed, TitleAt, NoList, Frame, InContainer, InList}
-use Rattle.first_pass_grammar.specs.Completion.{InDefinitions}
+use Rattle.first_pass_grammar.specs.Completion.{Closed, OtherClosed, ParagraphAt, DefinitionClosed, TitleAt, NoList, Frame, InContainer, InList, InDefinitions}
 use Rattle.first_pass_grammar.specs.Completion.{containers_of, last_of, Completes}
 use Rattle.first_pass_grammar.specs.WholeTables.{SilentClosed}
 use Rattle.first_pass_lists.specs.Closing.{top_body, top_end, item_without_indent, definition_without_indent}

@@ -13,8 +13,7 @@ use Rattle.first_pass_grammar.specs.Containers.{Context, at_rest, after}
 use Rattle.first_pass_grammar.specs.Kinds.{all_taken, unindented}
 use Rattle.first_pass_grammar.specs.Tables.{interrupts_row, row_text}
 use Rattle.first_pass_open.proofs.PathLemmas.{after-end}
-use Rattle.first_pass_open.proofs.PlaceLemmas.{after_keeps, all_keep}
-use Rattle.first_pass_open.proofs.PlaceLemmas.{ends_past}
+use Rattle.first_pass_open.proofs.PlaceLemmas.{after_keeps, all_keep, ends_past}
 
 -- the place at which the text of a row begins
 pub record BeginsRow (text : List ℕ) (around : Context) (n start : ℕ) : Type 0 where

@@ -23,8 +23,7 @@ use Rattle.first_pass_grammar.proofs.Count.CountedNodes.{own_join}
 use Rattle.first_pass_grammar.proofs.Order.RowEnds.{row_ends_its_line}
 use Rattle.first_pass_grammar.proofs.Order.TableEnds.{cells_end}
 use Rattle.first_pass_open.specs.Path.{path_of}
-use Rattle.first_pass_open.specs.Between.{line_end_at}
-use Rattle.first_pass_open.specs.Between.{AddsBetween}
+use Rattle.first_pass_open.specs.Between.{line_end_at, AddsBetween}
 use Rattle.first_pass_tables.specs.Appends.{OpenTable, ReadsRow, ReadsRowLine, AppendsRows, ClosesBetween}
 use Rattle.first_pass_tables.proofs.CellsFit.{between-order, between-join, between-wider, row_fits}
 use Rattle.first_pass_tables.proofs.RowsFit.{row_place, HeadAndBody, RowsBetween, rows_fit}

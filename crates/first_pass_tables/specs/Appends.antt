@@ -1,7 +1,6 @@
 -- The cells and rows that are appended to a table.
 use Rattle.std.specs.Prelude.{◌≡◌, ◌⊎◌, ℕ, ◌+◌, ◌-◌, ◌≤◌, ◌&&◌, ◌||◌, not, Bool, true, false, nat_lt, nat_le, max, List, [], ◌∷◌, ◌++◌, length, drop, take}
-use Rattle.std.specs.Prelude.{Option, Some}
-use Rattle.std.specs.Prelude.{None, is_some, slice_get, IsCharBoundary}
+use Rattle.std.specs.Prelude.{Option, Some, None, is_some, slice_get, IsCharBoundary}
 use Rattle.first_pass_items.specs.declared.item.Item.{Item}
 use Rattle.first_pass_items.specs.declared.item.ItemBody.TheVariants.{TableHead, TableRow, TableCell}
 use Rattle.first_pass_items.specs.OptionWords.{has, tables}

@@ -1,8 +1,7 @@
 -- The attribute block at the end of a heading's text.
-use Rattle.std.proofs.Common.{◌≡◌, inl, inr, ℕ, suc, zero, ◌+◌, ◌-◌, ◌≤◌, ◌<◌, ◌==◌, ◌&&◌, nat_lt, Bool, true, false, List, ◌∷◌, ◌++◌, length, take, drop, get_or, []}
-use Rattle.std.proofs.Common.{slice_index, Option, Some, None, is_some, IsSomeAnd, min, IsUtf8, IsCharBoundary, refl, sym, ap, subst, ◌∙◌, arith}
-use Rattle.std.proofs.Common.{length-append}
-use Rattle.std.proofs.Common.{length-drop, length-take, length-take-le, get_or-drop, if◌then◌else◌}
+use Rattle.std.proofs.Common.{◌≡◌, inl, inr, ℕ, suc, zero, ◌+◌, ◌-◌, ◌≤◌, ◌<◌, ◌==◌, ◌&&◌, nat_lt, Bool, true, false, List, ◌∷◌, ◌++◌, length, take, drop}
+use Rattle.std.proofs.Common.{get_or, [], slice_index, Option, Some, None, is_some, IsSomeAnd, min, IsUtf8, IsCharBoundary, refl, sym, ap, subst, ◌∙◌, arith}
+use Rattle.std.proofs.Common.{length-append, length-drop, length-take, length-take-le, get_or-drop, if◌then◌else◌}
 use Rattle.std.specs.List.{slice_range, suffix_len}
 use Rattle.std.specs.Option.{option_map, option_map_or}
 use Rattle.std.proofs.lemmas.Bool.{cond_both, cases_lt}
@@ -17,8 +16,7 @@ use Rattle.first_pass_attributes.specs.AttributeBlocks.{Braces, attribute_block,
 use Rattle.first_pass_attributes.specs.Attributes.{Attributes, attributes_of, attributes_in}
 use Rattle.first_pass_attributes.specs.declared.attrs.HeadingAttributes.{HeadingAttributes}
 use Rattle.first_pass_attributes.proofs.BlockFacts.{block-found}
-use Rattle.first_pass_grammar.specs.Headings.{heading_attribute_block, heading_attributes_of, before_attributes, chain_end, chain_bytes}
-use Rattle.first_pass_grammar.specs.Headings.{kept_before}
+use Rattle.first_pass_grammar.specs.Headings.{heading_attribute_block, heading_attributes_of, before_attributes, chain_end, chain_bytes, kept_before}
 use Rattle.first_pass_items.specs.declared.item.Item.{Item}
 use Rattle.first_pass_lines.specs.Lines.{is_white}
 use Rattle.first_pass_open.proofs.PathLemmas.{get_last}

@@ -9,7 +9,7 @@ use Rattle.std.proofs.lemmas.List.{take_all, get_or-take, get_or_past}
 use Rattle.std.proofs.lemmas.List.Sums.{suffix_len-le-length}
 use Rattle.first_pass_items.specs.declared.cow_str.CowStr.{CowStr}
 use Rattle.first_pass_tokens.specs.Braces.{MathBraces, no_braces}
-use Rattle.first_pass_tokens.specs.LineTokens.{spot}
+use Rattle.first_pass_tokens.specs.LineTokens.{spot, AreLineTokens, text_end}
 use Rattle.first_pass_items.specs.declared.item.Item.{Item}
 use Rattle.first_pass_items.specs.declared.item.HeadingLevel.{HeadingLevel}
 use Rattle.first_pass_items.specs.declared.item.ItemBody.TheVariants.{Heading as HeadingBody, Rule}
@@ -33,7 +33,6 @@ use Rattle.first_pass_attributes.specs.AttributeBlocks.{Braces}
 use Rattle.first_pass_items.specs.Bytes.{space, number_sign, left_brace}
 use Rattle.first_pass_items.specs.declared.item.HeadingIndex.{HeadingIndex}
 use Rattle.first_pass_tokens.specs.Pieces.{Inline}
-use Rattle.first_pass_tokens.specs.LineTokens.{AreLineTokens, text_end}
 use Rattle.first_pass_text.proofs.KeptBytes.{run_none, space_aside, kept_counted}
 use Rattle.first_pass_text.proofs.AttributeEnds.{before_none, braces_within, opens_with}
 use Rattle.first_pass_text.proofs.TextFronts.{front_len, front_utf8, place_in_front, order_in_text}
@@ -42,8 +41,7 @@ use Rattle.std.proofs.lemmas.Str.{IsCharBoundary-before_ascii}
 use Rattle.first_pass_grammar.specs.OpenOrder.{within_top}
 use Rattle.first_pass_grammar.proofs.Order.Orders.{block_fits}
 use Rattle.first_pass_text.specs.Appends.{AddsHeading}
-use Rattle.first_pass_open.specs.Between.{line_end_at}
-use Rattle.first_pass_open.specs.Between.{AddsBetween}
+use Rattle.first_pass_open.specs.Between.{line_end_at, AddsBetween}
 use Rattle.first_pass_open.proofs.PlaceLemmas.{place_end, line_start_end}
 
 -- the run of bytes that pass at the end of a front of a list: it is empty, or its first byte passes

@@ -13,7 +13,7 @@ use Rattle.first_pass_lines.specs.Places.{Place, offset, line_rest, line_place, 
 use Rattle.first_pass_lines.proofs.LineFacts.{lines_at-line, lines_at-end}
 use Rattle.first_pass_lines.proofs.PlaceFacts.{line_end_boundary}
 use Rattle.first_pass_grammar.specs.declared.kind.Container.{Container}
-use Rattle.first_pass_tokens.specs.LineTokens.{AreLineTokens, EndsLine, IsBreak}
+use Rattle.first_pass_tokens.specs.LineTokens.{AreLineTokens, EndsLine, IsBreak, Spot, spot}
 use Rattle.first_pass_tokens.specs.Chains.{text_token, add_text, add_token, add_tokens, close_break, is_backslash_break}
 use Rattle.first_pass_tokens.specs.TreeTokens.{chained, with_tokens, JoinsNone, AppendsLine}
 use Rattle.first_pass_tokens.proofs.ChainLemmas.{add_text-some, with_tokens-chained, with_text-chained, appended-chained}
@@ -23,7 +23,6 @@ use Rattle.first_pass_grammar.specs.Names.{Names, Extends}
 use Rattle.first_pass_grammar.proofs.Names.MoreNames.{extends_both}
 use Rattle.first_pass_tokens.proofs.NamedTexts.{line_more}
 use Rattle.first_pass_tokens.specs.Braces.{MathBraces, no_braces}
-use Rattle.first_pass_tokens.specs.LineTokens.{Spot, spot}
 use Rattle.first_pass_grammar.specs.Leaves.{Document, document, around, content_at, add_break, TextLines, text_lines, AreTextLines}
 use Rattle.first_pass_grammar.specs.Completion.{lines_from}
 use Rattle.first_pass_open.specs.Between.{line_end_at}

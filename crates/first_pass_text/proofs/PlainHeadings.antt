@@ -14,8 +14,7 @@ use Rattle.first_pass_tokens.specs.Pieces.{Inline, text_upto}
 use Rattle.first_pass_tokens.specs.TreeTokens.{leaves}
 use Rattle.first_pass_tokens.proofs.ChainLemmas.{add_text-some, add_text-none}
 use Rattle.first_pass_tokens.proofs.LineLemmas.{end_bounded, ends_line}
-use Rattle.first_pass_grammar.specs.Leaves.{kept_len, heading_chain}
-use Rattle.first_pass_grammar.specs.Leaves.{Document, document, IsHeading}
+use Rattle.first_pass_grammar.specs.Leaves.{kept_len, heading_chain, Document, document, IsHeading}
 use Rattle.first_pass_grammar.specs.Headings.{heading_attribute_block, before_attributes, heading_attributes_of, text_before_attributes}
 use Rattle.first_pass_grammar.specs.Names.{Names, NamesAttributes, Extends}
 use Rattle.first_pass_items.specs.declared.item.HeadingIndex.{HeadingIndex}

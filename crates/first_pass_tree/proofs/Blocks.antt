@@ -1,6 +1,5 @@
 -- Facts for a caller that adds a block: it opens the block, adds its children and closes it.
-use Rattle.std.proofs.Common.{◌≡◌, ℕ, ◌+◌, List, ◌∷◌, ◌++◌, length, Some, refl, sym, []}
-use Rattle.std.proofs.Common.{◌∙◌, ap, arith, append_assoc}
+use Rattle.std.proofs.Common.{◌≡◌, ℕ, ◌+◌, List, ◌∷◌, ◌++◌, length, Some, refl, sym, [], ◌∙◌, ap, arith, append_assoc}
 use Rattle.first_pass_tree.specs.declared.tree_index.TreeIndex.{TreeIndex}
 use Rattle.first_pass_tree.specs.Forest.{Forest, modify, at_depth, added, block_of, appended, pushed, popped, modified}
 

@@ -6,8 +6,7 @@ use Rattle.std.proofs.lemmas.Bool.{cases_lt, cases_eq}
 use Rattle.std.proofs.lemmas.Bool.Decides.{nat_tests}
 use Rattle.first_pass_tree.specs.declared.tree_index.TreeIndex.{TreeIndex}
 use Rattle.first_pass_tree.specs.Forest.{Forest, IsForest, IsLastAt, IsOpenPath, IsPreorder, IsChildOfCurrent, CanMoveFrom, depths, map_from, shallower}
-use Rattle.first_pass_tree.specs.Forest.{end_of}
-use Rattle.first_pass_tree.specs.Forest.{last_before, moved_from, open_place}
+use Rattle.first_pass_tree.specs.Forest.{end_of, last_before, moved_from, open_place}
 use Rattle.first_pass_tree.proofs.Depths.{last-order, open-last, at-end}
 use Rattle.first_pass_tree.proofs.Keeps.{map_set, run-within}
 

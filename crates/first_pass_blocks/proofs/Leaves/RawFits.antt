@@ -19,8 +19,7 @@ use Rattle.first_pass_names.proofs.NameLemmas.{extends_none}
 use Rattle.first_pass_raw.proofs.IndentedLemmas.{first_at, first_is}
 use Rattle.first_pass_raw.proofs.RawOrder.{ArePlaced, AreFew, IsPlaced, html_few, to_blank_left, fence_plain, ends_before_next, kept_last, indented_fits}
 use Rattle.first_pass_raw.proofs.RawOrder.{fenced_fits, metadata_fits, html_fits, indented_after_placed, indented_after_few, fenced_after_placed}
-use Rattle.first_pass_raw.proofs.RawOrder.{metadata_after_placed, to_end_placed, to_blank_placed, fenced_after_before, metadata_after_before}
-use Rattle.first_pass_raw.proofs.RawOrder.{to_end_before}
+use Rattle.first_pass_raw.proofs.RawOrder.{metadata_after_placed, to_end_placed, to_blank_placed, fenced_after_before, metadata_after_before, to_end_before}
 use Rattle.first_pass_open.specs.Between.{AddsBetween}
 use Rattle.first_pass_grammar.specs.OpenOrder.{within_top}
 use Rattle.first_pass_grammar.specs.Order.{GrowsBy}

@@ -33,9 +33,8 @@ use Rattle.first_pass_open.specs.OpenBlock.{IsJustPushed, begun_item, opened_blo
 use Rattle.first_pass_open.proofs.BlockLemmas.{just_pushed}
 use Rattle.first_pass_open.specs.Path.{path_of, context_of}
 use Rattle.first_pass_open.proofs.PathLemmas.{AreIn, path_of-opened}
-use Rattle.first_pass_open.specs.Between.{line_end_at}
+use Rattle.first_pass_open.specs.Between.{line_end_at, AddsBetween}
 use Rattle.first_pass_text.specs.Appends.{AddsPlainText}
-use Rattle.first_pass_open.specs.Between.{AddsBetween}
 use Rattle.first_pass_tables.specs.Appends.{with_below, AppendsRows}
 use Rattle.first_pass_containers.specs.TextsAdded.{AddsText}
 use Rattle.first_pass_tables.proofs.TableFits.{table_fits}

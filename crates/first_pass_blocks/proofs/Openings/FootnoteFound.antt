@@ -1,6 +1,5 @@
 -- Whether a footnote definition begins at a place, from the results of the calls, and what is open then.
-use Rattle.std.proofs.Common.{◌≡◌, ℕ, ◌+◌, ◌<◌, Bool, true, List, drop, Option, Some, None, MatchOption}
-use Rattle.std.proofs.Common.{IsSomeAnd, refl, sym, ap, subst, ◌∙◌, arith}
+use Rattle.std.proofs.Common.{◌≡◌, ℕ, ◌+◌, ◌<◌, Bool, true, List, drop, Option, Some, None, MatchOption, IsSomeAnd, refl, sym, ap, subst, ◌∙◌, arith}
 use Rattle.first_pass_items.specs.OptionWords.{gfm_footnotes}
 use Rattle.first_pass_tree.specs.Forest.{in_table}
 use Rattle.first_pass_lines.specs.Lines.{line_len}

@@ -1,6 +1,5 @@
 -- A pass opened the footnote definition that begins at a place.
-use Rattle.std.proofs.Common.{drop, Some, ◌≡◌, ℕ, ◌+◌, ◌<◌, ◌≤◌, false, List, [], ◌∷◌, length, Some}
-use Rattle.std.proofs.Common.{IsCharBoundary, sym, ap, subst, ◌∙◌, arith, length-append}
+use Rattle.std.proofs.Common.{drop, Some, ◌≡◌, ℕ, ◌+◌, ◌<◌, ◌≤◌, false, List, [], ◌∷◌, length, IsCharBoundary, sym, ap, subst, ◌∙◌, arith, length-append}
 use Rattle.first_pass_items.specs.declared.item.ItemBody.TheVariants.{FootnoteDefinition as FootnoteDefinitionBody}
 use Rattle.first_pass_items.specs.CowText.{text_of}
 use Rattle.first_pass_tree.specs.Forest.{in_table}

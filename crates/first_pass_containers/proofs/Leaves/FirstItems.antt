@@ -13,8 +13,7 @@ use Rattle.first_pass_grammar.specs.declared.kind.Container.{Container}
 use Rattle.first_pass_grammar.specs.Before.{begins_paragraph}
 use Rattle.first_pass_grammar.specs.Blocks.{BlankLine, Block, leaf_block}
 use Rattle.first_pass_grammar.specs.Completion.{lines_from}
-use Rattle.first_pass_grammar.specs.Kinds.{Kind, Blank, IndentedCode, Metadata, HtmlToEnd, HtmlToBlank, ThematicBreak, AtxHeading, FencedCode}
-use Rattle.first_pass_grammar.specs.Kinds.{LinkDefinitions}
+use Rattle.first_pass_grammar.specs.Kinds.{Kind, Blank, IndentedCode, Metadata, HtmlToEnd, HtmlToBlank, ThematicBreak, AtxHeading, FencedCode, LinkDefinitions}
 use Rattle.first_pass_grammar.specs.Kinds.{Paragraph, unindented}
 use Rattle.first_pass_grammar.specs.Leaves.{Document, document, around, TextLines}
 use Rattle.first_pass_grammar.specs.LinkRuns.{Ended, FlowsOn}

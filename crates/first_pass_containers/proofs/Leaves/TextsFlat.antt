@@ -1,6 +1,5 @@
 -- The items of a text have a first one, and if that is no paragraph, none of them is one.
-use Rattle.std.proofs.Common.{◌≡◌, ℕ, ◌-◌, ◌++◌, true, false, List, [], ◌∷◌, length, drop, Option, Some, None, MatchOption, refl, sym}
-use Rattle.std.proofs.Common.{ap, subst, ◌∙◌}
+use Rattle.std.proofs.Common.{◌≡◌, ℕ, ◌-◌, ◌++◌, true, false, List, [], ◌∷◌, length, drop, Option, Some, None, MatchOption, refl, sym, ap, subst, ◌∙◌}
 use Rattle.std.proofs.lemmas.Bool.{true≢false}
 use Rattle.first_pass_items.specs.declared.item.Alignment.{Alignment}
 use Rattle.first_pass_items.specs.declared.item.HeadingLevel.{HeadingLevel}

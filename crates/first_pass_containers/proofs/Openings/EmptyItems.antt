@@ -18,8 +18,7 @@ use Rattle.first_pass_grammar.specs.Containers.{at_rest}
 use Rattle.first_pass_grammar.specs.Kinds.{is_blank_rest}
 use Rattle.first_pass_grammar.specs.Leaves.{Document}
 use Rattle.first_pass_grammar.specs.Openers.{item_head, item_start, definition_head, definition_start}
-use Rattle.first_pass_grammar.specs.Skeleton.{Continues, Blanks, after_marker, only_task, next_is_blank, opening_of, OpensNode}
-use Rattle.first_pass_grammar.specs.Skeleton.{Opens, Level}
+use Rattle.first_pass_grammar.specs.Skeleton.{Continues, Blanks, after_marker, only_task, next_is_blank, opening_of, OpensNode, Opens, Level}
 use Rattle.first_pass_grammar.specs.Derivation.{Tables, node_of}
 use Rattle.first_pass_grammar.specs.Completion.{OtherClosed, AreBelow}
 use Rattle.first_pass_completion.proofs.Completions.{fresh, completes-mark}

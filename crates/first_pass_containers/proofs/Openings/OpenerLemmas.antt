@@ -5,8 +5,7 @@ use Rattle.std.proofs.lemmas.Bool.Decides.{nat_tests}
 use Rattle.std.specs.Option.{option_and_then}
 use Rattle.first_pass_items.specs.declared.item.Item.{Item}
 use Rattle.first_pass_items.specs.declared.item.ItemBody.{ItemBody}
-use Rattle.first_pass_items.specs.declared.item.ItemBody.TheVariants.{BlockQuote as BlockQuoteBody, List as ListBody, ListItem as ListItemBody}
-use Rattle.first_pass_items.specs.declared.item.ItemBody.TheVariants.{DefinitionList}
+use Rattle.first_pass_items.specs.declared.item.ItemBody.TheVariants.{BlockQuote as BlockQuoteBody, List as ListBody, ListItem as ListItemBody, DefinitionList}
 use Rattle.first_pass_items.specs.declared.item.ListFlags.{ListFlags}
 use Rattle.first_pass_items.specs.declared.item.BlockQuoteKind.{BlockQuoteKind}
 use Rattle.first_pass_tree.specs.declared.tree_index.TreeIndex.{TreeIndex}
@@ -22,8 +21,7 @@ use Rattle.first_pass_grammar.specs.Kinds.{is_blank_rest, quote_start}
 use Rattle.first_pass_grammar.specs.Leaves.{Document, around}
 use Rattle.first_pass_grammar.specs.Order.{is_task_marker}
 use Rattle.first_pass_grammar.specs.OpenOrder.{is_in_item}
-use Rattle.first_pass_grammar.specs.Openers.{item_head, item_start, after_task, quote_head, quote_begun, definition_head, definition_start}
-use Rattle.first_pass_grammar.specs.Openers.{Start, start_at}
+use Rattle.first_pass_grammar.specs.Openers.{item_head, item_start, after_task, quote_head, quote_begun, definition_head, definition_start, Start, start_at}
 use Rattle.first_pass_grammar.specs.Skeleton.{Continues, Inside, AtPlace, TextOf, Opening, OpensNode, Opens, Level, may_define, opening_of, after_tag}
 use Rattle.first_pass_grammar.specs.Derivation.{Tables, node_of, list_flags}
 use Rattle.first_pass_grammar.specs.Completion.{Closed, OtherClosed, ParagraphAt, DefinitionClosed, TitleAt, lines_from, Frame, InContainer, InList}

@@ -30,33 +30,28 @@ use Rattle.first_pass_grammar.specs.Order.{is_task_marker}
 use Rattle.first_pass_grammar.specs.OpenOrder.{item_on_top}
 use Rattle.first_pass_grammar.proofs.Sequences.OpenerFacts.{start_cases}
 use Rattle.first_pass_open.specs.declared.source.Source.{Source}
-use Rattle.first_pass_open.proofs.PlaceLemmas.{item_keeps, item_shorter, definition_keeps, definition_shorter, markers_keep, mark_is_task}
-use Rattle.first_pass_open.proofs.PlaceLemmas.{prefix_keeps, quote_prefix_shorter}
-use Rattle.first_pass_open.proofs.PlaceLemmas.{place_end}
+use Rattle.first_pass_open.proofs.PlaceLemmas.{item_keeps, item_shorter, definition_keeps, definition_shorter, markers_keep, mark_is_task, prefix_keeps}
+use Rattle.first_pass_open.proofs.PlaceLemmas.{quote_prefix_shorter, place_end}
 use Rattle.first_pass_lists.specs.Closing.{top_body, may_begin_definition, with_tree, is_list, list_kept, loosened_top, begun, list_finished, list_continued}
-use Rattle.first_pass_lists.specs.Closing.{definitions_opened}
-use Rattle.first_pass_lists.specs.Closing.{definition_begun}
+use Rattle.first_pass_lists.specs.Closing.{definitions_opened, definition_begun}
 use Rattle.first_pass_lists.specs.declared.state.PassState.{PassState}
 use Rattle.first_pass_containers.specs.Positions.{Position, InLine, LeafAt, IsInLine, OrderedUpTo, ReadsTo, may_define, OrderedIn}
 use Rattle.first_pass_order.specs.Ordered.{IsReadTo}
 use Rattle.first_pass_containers.specs.Starts.{StartMatches, start_opened, after_at, IsAfterMarker, marker_of}
-use Rattle.first_pass_containers.proofs.Openings.StartFound.{start_told, start_is}
+use Rattle.first_pass_containers.proofs.Openings.StartFound.{start_told, start_is, may_if}
 use Rattle.first_pass_ready.specs.State.{ReadyAt}
-use Rattle.first_pass_lists.proofs.NoEmptyItem.{list_finished_none, list_continued_none}
+use Rattle.first_pass_lists.proofs.NoEmptyItem.{list_finished_none, list_continued_none, item_opened}
 use Rattle.first_pass_order.proofs.NamedLemmas.{item_named, definition_named, quote_named, child_named}
 use Rattle.first_pass_order.proofs.WholeKept.{item_whole, quote_whole, child_whole}
 use Rattle.first_pass_order.proofs.DefinitionsWhole.{definition_whole}
 use Rattle.first_pass_order.proofs.CountLemmas.{item_count, definition_count, quote_count, child_count, left_before, offset_before, mark_shorter}
 use Rattle.first_pass_containers.proofs.Order.CountSteps.{container_count}
 use Rattle.first_pass_containers.proofs.Order.OrderSteps.{offset_later, upto_later, ordered_on, top_begun, ordered_item, ordered_definition_in, ordered_quote}
-use Rattle.first_pass_containers.proofs.Order.OrderSteps.{mark_stands}
-use Rattle.first_pass_containers.proofs.Order.OrderSteps.{ordered_container}
-use Rattle.first_pass_containers.proofs.Order.OrderSteps.{ordered_empty_item, quote_stands, place_before_end, NewBlock, stands_later}
+use Rattle.first_pass_containers.proofs.Order.OrderSteps.{mark_stands, ordered_container, ordered_empty_item, quote_stands, place_before_end, NewBlock}
+use Rattle.first_pass_containers.proofs.Order.OrderSteps.{stands_later}
 use Rattle.first_pass_ready.proofs.ClosedIn.{takes_same}
 use Rattle.first_pass_containers.proofs.Openings.OpenerLemmas.{ready_item, ready_definition, ready_quote, ready_tagged, after_opened, ready_after, ContainerBegins}
-use Rattle.first_pass_lists.proofs.NoEmptyItem.{item_opened}
 use Rattle.first_pass_containers.proofs.Openings.EmptyItems.{IsNoParagraph, empty_item_read, ready_empty_item, ready_empty_definition}
-use Rattle.first_pass_containers.proofs.Openings.StartFound.{may_if}
 use Rattle.first_pass_grammar.specs.Skeleton.{Inside}
 use Rattle.first_pass_containers.specs.declared.openers.Start.{Start as FoundStart}
 use Rattle.first_pass_open.specs.Between.{MarkerBetween}

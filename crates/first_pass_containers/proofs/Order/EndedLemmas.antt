@@ -4,9 +4,8 @@ use Rattle.first_pass_items.specs.declared.option_set.Options.{Options}
 use Rattle.first_pass_grammar.specs.Names.{Names}
 use Rattle.first_pass_grammar.specs.Containers.{in_old_footnote}
 use Rattle.first_pass_open.specs.Path.{path_of}
-use Rattle.first_pass_lists.specs.Closing.{popped}
+use Rattle.first_pass_lists.specs.Closing.{popped, footnote_ended}
 use Rattle.first_pass_lists.specs.declared.state.PassState.{PassState}
-use Rattle.first_pass_lists.specs.Closing.{footnote_ended}
 use Rattle.first_pass_order.specs.Ordered.{IsReadTo}
 use Rattle.first_pass_order.proofs.CountLemmas.{count, popped_count}
 use Rattle.first_pass_order.proofs.NamedLemmas.{AreReadNamed, popped_named}

@@ -1,13 +1,11 @@
 -- Order at each step of reading a line: open containers, and what follows them.
-use Rattle.std.proofs.Common.{◌≡◌, ◌⊎◌, inl, inr, ℕ, ◌+◌, ◌<◌, ◌≤◌, Bool, true, false, List, [], ◌∷◌, length, drop, Option, Some, None, IsUtf8}
-use Rattle.std.proofs.Common.{IsCharBoundary}
+use Rattle.std.proofs.Common.{◌≡◌, ◌⊎◌, inl, inr, ℕ, ◌+◌, ◌<◌, ◌≤◌, Bool, true, false, List, [], ◌∷◌, length, drop, Option, Some, None, IsUtf8, IsCharBoundary}
 use Rattle.std.proofs.Common.{refl, sym, ap, subst, ◌∙◌, arith, length-append, if◌then◌else◌}
 use Rattle.std.specs.Option.{option_map}
 use Rattle.first_pass_items.specs.declared.item.Item.{Item}
 use Rattle.first_pass_items.specs.declared.item.BlockQuoteKind.{BlockQuoteKind}
 use Rattle.first_pass_items.specs.declared.item.ItemBody.{ItemBody}
-use Rattle.first_pass_items.specs.declared.item.ItemBody.TheVariants.{BlockQuote as BlockQuoteBody, ListItem as ListItemBody}
-use Rattle.first_pass_items.specs.declared.item.ItemBody.TheVariants.{DefinitionListDefinition}
+use Rattle.first_pass_items.specs.declared.item.ItemBody.TheVariants.{BlockQuote as BlockQuoteBody, ListItem as ListItemBody, DefinitionListDefinition}
 use Rattle.first_pass_items.specs.declared.item.CowIndex.{CowIndex}
 use Rattle.first_pass_items.specs.declared.option_set.Options.{Options}
 use Rattle.first_pass_items.specs.OptionWords.{has}
@@ -21,14 +19,13 @@ use Rattle.first_pass_lines.proofs.PlaceFacts.{place_length, columns_keep, colum
 use Rattle.first_pass_grammar.specs.declared.kind.Container.TheVariants.{BlockQuote}
 use Rattle.first_pass_grammar.specs.Containers.{prefix}
 use Rattle.first_pass_grammar.specs.Kinds.{all_taken, unindented}
-use Rattle.first_pass_grammar.specs.Openers.{task_by, task_after}
+use Rattle.first_pass_grammar.specs.Openers.{task_by, task_after, after_task}
 use Rattle.first_pass_grammar.specs.Derivation.{node_of}
 use Rattle.first_pass_grammar.specs.OpenOrder.{IsOrderedTo}
 use Rattle.first_pass_open.specs.OpenBlock.{with_child}
 use Rattle.first_pass_lists.specs.Closing.{state_with, top_body, is_list, is_item, may_begin_definition, empty_item_closed_by, empty_item_closed, list_finished, begun}
 use Rattle.first_pass_lists.specs.Closing.{list_continued, definition_begun, footnote_begun}
 use Rattle.first_pass_lists.specs.declared.state.PassState.{PassState}
-use Rattle.first_pass_grammar.specs.Openers.{after_task}
 use Rattle.first_pass_containers.specs.Positions.{line_or, OrderedUpTo, OrderedIn, OrderedText, OrderedOn}
 use Rattle.first_pass_containers.specs.Starts.{after_at}
 use Rattle.first_pass_order.specs.Ordered.{reached, AreNested, CanClose, IsOrderedAt, IsReadTo}
@@ -36,8 +33,7 @@ use Rattle.first_pass_open.specs.Between.{AddsBetween, MarkerBetween}
 use Rattle.first_pass_open.proofs.PathLemmas.{get_front}
 use Rattle.first_pass_ready.proofs.OpenLemmas.{get_end}
 use Rattle.first_pass_open.proofs.PlaceLemmas.{all_keep, task_keeps, option_on, quote_less}
-use Rattle.first_pass_lists.proofs.NoEmptyItem.{list_finished_none, list_continued_none}
-use Rattle.first_pass_lists.proofs.NoEmptyItem.{item_opened}
+use Rattle.first_pass_lists.proofs.NoEmptyItem.{list_finished_none, list_continued_none, item_opened}
 use Rattle.first_pass_order.proofs.OrderLemmas.{ordered_later, ordered_appended, ordered_added, ordered_begun, ordered_none}
 use Rattle.first_pass_order.proofs.LeftOrder.{title_later}
 use Rattle.first_pass_order.proofs.PopOrder.{ordered_list_finished, ordered_list_continued, ordered_note}

@@ -1,6 +1,5 @@
 -- A property of the bodies in leaf blocks holds for the items of each leaf block of a derived sequence.
-use Rattle.std.proofs.Common.{◌≡◌, ℕ, Bool, true, false, List, [], ◌∷◌, ◌++◌, ◌-◌, length, drop, Option, Some, None, MatchOption, IfSome, refl, sym, ap}
-use Rattle.std.proofs.Common.{subst}
+use Rattle.std.proofs.Common.{◌≡◌, ℕ, Bool, true, false, List, [], ◌∷◌, ◌++◌, ◌-◌, length, drop, Option, Some, None, MatchOption, IfSome, refl, sym, ap, subst}
 use Rattle.std.proofs.Common.{if◌then◌else◌}
 use Rattle.std.proofs.lemmas.Bool.{true≢false}
 use Rattle.first_pass_items.specs.OptionWords.{has, tasklists}
@@ -30,8 +29,7 @@ use Rattle.first_pass_grammar.specs.Blocks.{Leaf, BlankLine, Block, Head, opened
 use Rattle.first_pass_grammar.specs.CodeBlocks.{metadata_kind}
 use Rattle.first_pass_grammar.specs.Containers.{Context, at_rest, front}
 use Rattle.first_pass_grammar.specs.Footnotes.{footnote_head_at}
-use Rattle.first_pass_grammar.specs.Kinds.{Kind, Blank, IndentedCode, Metadata, HtmlToEnd, HtmlToBlank, ThematicBreak, AtxHeading, FencedCode}
-use Rattle.first_pass_grammar.specs.Kinds.{LinkDefinitions}
+use Rattle.first_pass_grammar.specs.Kinds.{Kind, Blank, IndentedCode, Metadata, HtmlToEnd, HtmlToBlank, ThematicBreak, AtxHeading, FencedCode, LinkDefinitions}
 use Rattle.first_pass_grammar.specs.Kinds.{Paragraph, unindented, is_blank_rest, is_ordinary_after_tag}
 use Rattle.first_pass_grammar.specs.Leaves.{Document, around, block_with, heading_text_at, TextLines}
 use Rattle.first_pass_grammar.specs.LinkRuns.{kind_in, Ended, FlowsOn}

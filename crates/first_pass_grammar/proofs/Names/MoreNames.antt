@@ -10,8 +10,7 @@ use Rattle.first_pass_items.specs.declared.item.CowIndex.{CowIndex}
 use Rattle.first_pass_items.specs.declared.item.HeadingIndex.{HeadingIndex}
 use Rattle.first_pass_attributes.specs.Attributes.{Attributes}
 use Rattle.first_pass_tokens.specs.NamedTexts.{AreMore}
-use Rattle.first_pass_grammar.specs.Names.{Names, NamesAlignments, NamesAttributes, Extends, with_named, with_alignments, with_heading}
-use Rattle.first_pass_grammar.specs.Names.{alignments_named}
+use Rattle.first_pass_grammar.specs.Names.{Names, NamesAlignments, NamesAttributes, Extends, with_named, with_alignments, with_heading, alignments_named}
 
 -- names extend themselves
 pub extends_none : (names : Names) → Extends names names

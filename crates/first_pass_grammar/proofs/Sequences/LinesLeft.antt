@@ -1,7 +1,6 @@
 -- The lines of a text are places of it, and so are the lines that paragraphs, runs of definitions, tables and other
 -- blocks leave.
-use Rattle.std.proofs.Common.{◌≡◌, inl, inr, ℕ, ◌+◌, nat_lt, Bool, true, false, List, [], ◌∷◌, drop, drop-drop, Option, Some, None, MatchOption, refl, sym}
-use Rattle.std.proofs.Common.{ap}
+use Rattle.std.proofs.Common.{◌≡◌, inl, inr, ℕ, ◌+◌, nat_lt, Bool, true, false, List, [], ◌∷◌, drop, drop-drop, Option, Some, None, MatchOption, refl, sym, ap}
 use Rattle.std.proofs.Common.{◌∙◌, subst, arith, if◌then◌else◌}
 use Rattle.first_pass_items.specs.declared.item.Item.{Item}
 use Rattle.first_pass_items.specs.declared.item.Alignment.{Alignment}

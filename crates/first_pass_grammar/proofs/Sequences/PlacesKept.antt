@@ -1,15 +1,13 @@
 -- The rest at a place is the text from its offset on. This holds for the lines of a text; after columns, markers and
 -- container prefixes; and for the places and lines after a leaf block.
-use Rattle.std.proofs.Common.{◌≡◌, ℕ, ◌+◌, ◌-◌, nat_lt, Bool, true, false, List, [], ◌∷◌, drop, Option, Some, None, refl, sym, ap}
-use Rattle.std.proofs.Common.{subst, length}
-use Rattle.std.proofs.Common.{◌∙◌, arith, drop-drop, if◌then◌else◌}
+use Rattle.std.proofs.Common.{◌≡◌, ℕ, ◌+◌, ◌-◌, nat_lt, Bool, true, false, List, [], ◌∷◌, drop, Option, Some, None, refl, sym, ap, subst, length, ◌∙◌, arith}
+use Rattle.std.proofs.Common.{drop-drop, if◌then◌else◌}
 use Rattle.std.specs.Option.{option_map}
 use Rattle.std.proofs.lemmas.Option.{none-some, same_Some}
 use Rattle.std.proofs.Math.Seq.{drop-append_seam}
 use Rattle.first_pass_items.specs.declared.option_set.Options.{Options}
 use Rattle.first_pass_items.specs.OptionWords.{has, tasklists}
-use Rattle.first_pass_lines.specs.Rest.{Rest, indent, past_bytes}
-use Rattle.first_pass_lines.specs.Rest.{after_columns}
+use Rattle.first_pass_lines.specs.Rest.{Rest, indent, past_bytes, after_columns}
 use Rattle.first_pass_lines.specs.Places.{Place, place_at, offset}
 use Rattle.first_pass_scan.specs.Markers.{item_of, task_of, definition_of}
 use Rattle.first_pass_scan.proofs.MarkerPlaces.{IsMarked, item-marked, task-marked, definition-marked}

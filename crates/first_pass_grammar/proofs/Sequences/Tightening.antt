@@ -11,17 +11,14 @@ use Rattle.first_pass_items.specs.declared.item.ItemBody.TheVariants.{BlockQuote
 use Rattle.first_pass_items.specs.declared.item.ItemBody.TheVariants.{FootnoteDefinition as FootnoteDefinitionBody}
 use Rattle.first_pass_tree.specs.Forest.{modify, map_from, at_depth}
 use Rattle.first_pass_tree.specs.Tight.{tightened}
-use Rattle.first_pass_grammar.specs.Before.{Before, nothing, after_blank, after_block}
+use Rattle.first_pass_grammar.specs.Before.{Before, nothing, after_blank, after_block, begins_paragraph}
 use Rattle.first_pass_grammar.specs.Blocks.{LeafBlock, BlankLine, Block, Opener, QuoteMarker, ItemMarker, Skeleton, Nil, Then, Node, FootnoteMarker}
 use Rattle.first_pass_grammar.specs.Blocks.{DefinitionMarker}
 use Rattle.first_pass_grammar.specs.Rows.{What, ALeaf, AQuote, AList, AnItem, Row, Rows, End, OneOf, is_loose, list_after, row_of, container_row, rows_of}
-use Rattle.first_pass_grammar.specs.Derivation.{node_of, list_flags, row_items, tight_in, items_of}
+use Rattle.first_pass_grammar.specs.Derivation.{node_of, list_flags, row_items, tight_in, items_of, as_title}
 use Rattle.first_pass_grammar.specs.Completion.{flagged, list_closed}
-use Rattle.first_pass_grammar.specs.Rows.{AFootnote, ADefinitionList, ATitle, ADefinition, Joins, ItemsOf, DefinitionsTo, row_of_leaf}
-use Rattle.first_pass_grammar.specs.Rows.{Definitions, apart_after, definitions_of_row, is_untitled, is_run_row, definitions_first, titled, leaf_row}
-use Rattle.first_pass_grammar.specs.Rows.{gap_before}
-use Rattle.first_pass_grammar.specs.Before.{begins_paragraph}
-use Rattle.first_pass_grammar.specs.Derivation.{as_title}
+use Rattle.first_pass_grammar.specs.Rows.{AFootnote, ADefinitionList, ATitle, ADefinition, Joins, ItemsOf, DefinitionsTo, row_of_leaf, Definitions}
+use Rattle.first_pass_grammar.specs.Rows.{apart_after, definitions_of_row, is_untitled, is_run_row, definitions_first, titled, leaf_row, gap_before}
 use Rattle.first_pass_items.specs.declared.item.ItemBody.TheVariants.{DefinitionList as DefinitionListBody, DefinitionListDefinition as DefinitionBody}
 use Rattle.first_pass_tokens.proofs.BytesLemmas.{length-modify}
 

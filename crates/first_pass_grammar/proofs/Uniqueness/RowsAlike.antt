@@ -6,33 +6,27 @@ use Rattle.first_pass_items.specs.declared.item.ItemBody.TheVariants.{BlockQuote
 use Rattle.first_pass_items.specs.declared.item.ItemBody.TheVariants.{FootnoteDefinition as FootnoteDefinitionBody}
 use Rattle.first_pass_tree.specs.Forest.{at_depth}
 use Rattle.first_pass_grammar.specs.declared.kind.Container.{Container}
-use Rattle.first_pass_grammar.specs.Names.{Names, Named, read_nodes}
+use Rattle.first_pass_grammar.specs.Names.{Names, Named, read_nodes, only_kind}
 use Rattle.first_pass_grammar.specs.Kinds.{Kind}
 use Rattle.first_pass_grammar.specs.Blocks.{LeafBlock, BlankLine, Block, Head, Opener, QuoteMarker, ItemMarker, FootnoteMarker, DefinitionMarker, opened}
-use Rattle.first_pass_grammar.specs.Blocks.{label_of, Skeleton, Nil}
-use Rattle.first_pass_grammar.specs.Blocks.{Then, Node}
+use Rattle.first_pass_grammar.specs.Blocks.{label_of, Skeleton, Nil, Then, Node}
 use Rattle.first_pass_grammar.specs.LinkTables.{LinkEntry, with_links, with_labels}
 use Rattle.first_pass_grammar.specs.Before.{Before, LastOther, nothing, after_blank, after_block, after_container, before_end}
 use Rattle.first_pass_grammar.specs.Containers.{is_quote}
-use Rattle.first_pass_grammar.specs.Rows.{What, ALeaf, AQuote, AList, AnItem, AFootnote, Row, Rows, End, OneOf, gapped, any_gap, is_loose}
-use Rattle.first_pass_grammar.specs.Rows.{Joins, ItemsOf, DefinitionsTo, Untitled, WithTitle, Apart, ADefinitionList, ATitle, ADefinition, continues_list}
-use Rattle.first_pass_grammar.specs.Rows.{end_of_list_before}
+use Rattle.first_pass_grammar.specs.Rows.{What, ALeaf, AQuote, AList, AnItem, AFootnote, Row, Rows, End, OneOf, gapped, any_gap, is_loose, Joins, ItemsOf}
+use Rattle.first_pass_grammar.specs.Rows.{DefinitionsTo, Untitled, WithTitle, Apart, ADefinitionList, ATitle, ADefinition, continues_list, end_of_list_before}
 use Rattle.first_pass_grammar.specs.Rows.{Definitions, apart_after, definitions_of_row, is_untitled, is_run_row, definitions_first, titled, leaf_row}
-use Rattle.first_pass_grammar.specs.Rows.{gap_before}
+use Rattle.first_pass_grammar.specs.Rows.{gap_before, end_of_row, list_until, items_after, list_after, row_of, row_of_leaf, container_row, rows_of, in_list}
+use Rattle.first_pass_grammar.specs.Rows.{what_of}
 use Rattle.first_pass_grammar.specs.Before.{LastParagraph, is_paragraph_body, begins_paragraph, is_run, is_after_definition, last_after_run}
 use Rattle.first_pass_grammar.specs.Derivation.{as_title}
-use Rattle.first_pass_grammar.specs.Names.{only_kind}
 use Rattle.std.specs.Option.{option_map, option_map_or}
 use Rattle.first_pass_items.specs.declared.item.ItemBody.{ItemBody}
 use Rattle.first_pass_items.specs.declared.item.ItemBody.TheVariants.{DefinitionList as DefinitionListBody, DefinitionListDefinition as DefinitionBody}
 use Rattle.first_pass_items.specs.declared.item.ItemBody.TheVariants.{DefinitionListTitle, SynthesizeText, FencedCodeBlock, Table, Heading}
-use Rattle.first_pass_grammar.specs.Rows.{end_of_row, list_until, items_after, list_after, row_of, row_of_leaf, container_row, rows_of}
-use Rattle.first_pass_grammar.specs.Rows.{in_list, what_of}
 use Rattle.first_pass_grammar.specs.Derivation.{Tables, definitions_of, footnotes_of, with_all_of, node_of, list_flags, row_items, tight_in, items_of}
 use Rattle.first_pass_grammar.proofs.Uniqueness.Alike.{AlikeNodes, AlikeLeaf, AlikeHead, stands, only_head, only_opener, label_node, opened_alike, label_alike}
-use Rattle.first_pass_grammar.proofs.Uniqueness.Alike.{Alike, nodes_append, tight_read}
-use Rattle.first_pass_grammar.proofs.Uniqueness.Alike.{read_tight}
-use Rattle.first_pass_grammar.proofs.Uniqueness.Alike.{read_at_depth}
+use Rattle.first_pass_grammar.proofs.Uniqueness.Alike.{Alike, nodes_append, tight_read, read_tight, read_at_depth}
 
 -- a row without the items of its leaf block and the index of its label; the next definition: only these
 abbrev bare_what : What → What

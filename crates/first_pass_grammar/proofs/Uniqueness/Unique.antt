@@ -1,12 +1,11 @@
 -- The grammar derives at most one forest from a text, read through its indices, and at most one pair of tables.
 use Rattle.std.proofs.Common.{◌≡◌, inl, inr, ℕ, ◌+◌, Bool, true, false, List, [], ◌∷◌, length, map, drop, Option, Some, None, IfSome, MatchOption, refl, sym}
-use Rattle.std.proofs.Common.{ap, ◌∙◌, subst}
-use Rattle.std.proofs.Common.{if◌then◌else◌}
+use Rattle.std.proofs.Common.{ap, ◌∙◌, subst, if◌then◌else◌}
 use Rattle.first_pass_items.specs.declared.item.Item.{Item}
 use Rattle.first_pass_items.specs.declared.item.ItemBody.TheVariants.{Root, Rule, Heading as HeadingBody, IndentCodeBlock, FencedCodeBlock, MetadataBlock}
 use Rattle.first_pass_items.specs.declared.item.ItemBody.TheVariants.{HtmlBlock}
 use Rattle.first_pass_items.specs.declared.option_set.Options.{Options}
-use Rattle.first_pass_items.specs.OptionWords.{has}
+use Rattle.first_pass_items.specs.OptionWords.{has, tasklists}
 use Rattle.first_pass_html.specs.Ends.{BlockEnd}
 use Rattle.first_pass_lines.specs.Lines.{level_number}
 use Rattle.first_pass_scan.specs.Markers.{task_of}
@@ -15,9 +14,8 @@ use Rattle.first_pass_lines.specs.Places.{Place, offset, lines_at, start_of, mov
 use Rattle.first_pass_links.specs.Escapes.{unescaped}
 use Rattle.first_pass_grammar.specs.declared.kind.Container.{Container}
 use Rattle.first_pass_grammar.specs.Names.{Names, Named, read_nodes}
-use Rattle.first_pass_grammar.specs.Containers.{Context, at_rest, front, footnote_columns}
-use Rattle.first_pass_grammar.specs.Kinds.{Kind, Blank, IndentedCode, Metadata, HtmlToEnd, HtmlToBlank, ThematicBreak, AtxHeading, FencedCode}
-use Rattle.first_pass_grammar.specs.Kinds.{LinkDefinitions}
+use Rattle.first_pass_grammar.specs.Containers.{Context, at_rest, front, footnote_columns, is_quote}
+use Rattle.first_pass_grammar.specs.Kinds.{Kind, Blank, IndentedCode, Metadata, HtmlToEnd, HtmlToBlank, ThematicBreak, AtxHeading, FencedCode, LinkDefinitions}
 use Rattle.first_pass_grammar.specs.Kinds.{Paragraph, unindented, is_blank_rest, first_kind, IsKindBy, IsKind, is_ordinary_after_tag}
 use Rattle.first_pass_grammar.specs.Headings.{heading_attributes_of}
 use Rattle.first_pass_grammar.specs.Leaves.{Document, document, around, line_bytes, heading_text_at, heading_block}
@@ -30,34 +28,26 @@ use Rattle.first_pass_grammar.specs.LinkRuns.{kind_in, lines_beyond, ends_run, B
 use Rattle.std.proofs.lemmas.Bool.{true≢false}
 use Rattle.std.proofs.lemmas.Option.{none-some, same_Some}
 use Rattle.first_pass_grammar.specs.Blocks.{leaf_block, Leaf, BlankLine, Block, Opener, QuoteMarker, ItemMarker, FootnoteMarker, DefinitionMarker, Head}
-use Rattle.first_pass_grammar.specs.Blocks.{opened, Skeleton, Nil}
-use Rattle.first_pass_grammar.specs.Blocks.{Then, Node}
-use Rattle.first_pass_grammar.specs.Skeleton.{OpensBeyond, OpensRun, Continues, Line, Blanks, AtPlace, Anything, OnlyALeaf, TextOf, OnlyMark, after_marker, Opening}
-use Rattle.first_pass_grammar.specs.Skeleton.{OpensLeaf, OpensNode, OpensText, OpensExtent, OpensAs, OpensBlockAt, next_is_blank}
-use Rattle.first_pass_grammar.specs.Skeleton.{only_task, after_tag}
-use Rattle.first_pass_grammar.specs.Openers.{task_by, task_after, tag_after}
-use Rattle.first_pass_grammar.specs.Skeleton.{Opens, OpensAt, may_define, Level, level, level_in, level_after_leaf, level_after, Remaining, Lines, InLine}
-use Rattle.first_pass_grammar.specs.Skeleton.{NextBlock}
-use Rattle.first_pass_grammar.specs.Skeleton.{Begins, Ends}
-use Rattle.first_pass_grammar.specs.Skeleton.{next_block, onward, after_first, end_before, IsFirst, IsSequence}
+use Rattle.first_pass_grammar.specs.Blocks.{opened, Skeleton, Nil, Then, Node}
+use Rattle.first_pass_grammar.specs.Skeleton.{OpensBeyond, OpensRun, Continues, Line, Blanks, AtPlace, Anything, OnlyALeaf, TextOf, OnlyMark, after_marker}
+use Rattle.first_pass_grammar.specs.Skeleton.{Opening, OpensLeaf, OpensNode, OpensText, OpensExtent, OpensAs, OpensBlockAt, next_is_blank, only_task}
+use Rattle.first_pass_grammar.specs.Skeleton.{after_tag, Opens, OpensAt, may_define, Level, level, level_in, level_after_leaf, level_after, Remaining, Lines}
+use Rattle.first_pass_grammar.specs.Openers.{task_by, task_after, tag_after, AfterMarker, OnLine, TaskText, LineEnds, OnlyTag, Start, start_at}
+use Rattle.first_pass_grammar.specs.Skeleton.{InLine, NextBlock, Begins, Ends, next_block, onward, after_first, end_before, IsFirst, IsSequence, OpensBy}
+use Rattle.first_pass_grammar.specs.Skeleton.{OpensFootnote, opening_by, without_indent}
 use Rattle.first_pass_grammar.specs.Derivation.{Tables, no_tables, node_of, Derives, IsOnlyDerived}
 use Rattle.first_pass_grammar.proofs.Sequences.AfterMarkers.{HoldsAfter, after_task_holds, after_quote_holds}
 use Rattle.first_pass_grammar.proofs.Names.NoIndex.{HasNoIndex, only_read}
 use Rattle.first_pass_grammar.specs.RawLines.{range_text, range_html}
-use Rattle.first_pass_grammar.proofs.Uniqueness.Alike.{with_names, AlikeNodes, HoldsNoIndex, AlikeLeaf, AlikeOpening, Alike, label_node, opened_alike, label_named}
-use Rattle.first_pass_grammar.proofs.Uniqueness.Alike.{text_free, html_free, raw_alike, block_alike}
-use Rattle.first_pass_grammar.proofs.Uniqueness.Alike.{fence_alike, heading_alike}
+use Rattle.first_pass_grammar.proofs.Uniqueness.Alike.{with_names, AlikeNodes, HoldsNoIndex, AlikeLeaf, AlikeOpening, Alike, label_node, opened_alike}
+use Rattle.first_pass_grammar.proofs.Uniqueness.Alike.{label_named, text_free, html_free, raw_alike, block_alike, fence_alike, heading_alike}
 use Rattle.first_pass_grammar.proofs.Uniqueness.LinesAlike.{one_heading}
 use Rattle.first_pass_grammar.proofs.Uniqueness.TablesAlike.{one_text}
 use Rattle.first_pass_grammar.specs.Before.{Before, nothing, after_container, before_end}
-use Rattle.first_pass_grammar.specs.Containers.{is_quote}
 use Rattle.first_pass_grammar.proofs.Sequences.Goings.{same_left}
 use Rattle.first_pass_grammar.proofs.Uniqueness.RowsAlike.{end_alike, forest_alike, told_alike, after_alike}
-use Rattle.first_pass_grammar.specs.Openers.{AfterMarker, OnLine, TaskText, LineEnds, OnlyTag, Start, start_at}
-use Rattle.first_pass_grammar.specs.Skeleton.{OpensBy, OpensFootnote, opening_by, without_indent}
 use Rattle.first_pass_grammar.specs.Footnotes.{footnote_head_at}
 use Rattle.first_pass_grammar.proofs.Sequences.OpenerFacts.{start_cases}
-use Rattle.first_pass_items.specs.OptionWords.{tasklists}
 
 -- a place has one kind
 one_kind_by : (r : Rest) (first : Option Kind) (k k' : Kind) → IsKindBy r first k → IsKindBy r first k' → k ≡ k'

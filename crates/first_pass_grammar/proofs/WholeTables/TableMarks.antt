@@ -1,7 +1,6 @@
 -- The marks of a table's nodes: each row has as many cells as there are columns, and the number of inserted cells is
 -- limited.
-use Rattle.std.proofs.Common.{◌≡◌, inl, inr, ℕ, zero, suc, ◌+◌, ◌-◌, ◌<◌, ◌≤◌, ◌==◌, nat_lt, nat_le, Bool, true, false, List, ◌∷◌, ◌++◌, length, map, take}
-use Rattle.std.proofs.Common.{[]}
+use Rattle.std.proofs.Common.{◌≡◌, inl, inr, ℕ, zero, suc, ◌+◌, ◌-◌, ◌<◌, ◌≤◌, ◌==◌, nat_lt, nat_le, Bool, true, false, List, ◌∷◌, ◌++◌, length, map, take, []}
 use Rattle.std.proofs.Common.{drop, replicate, refl, sym, ap, ◌∙◌, arith}
 use Rattle.std.proofs.lemmas.Bool.{cases_lt, and_parts, eq-eqb, ne_eqb, leb-true, true≢false}
 use Rattle.std.proofs.lemmas.List.{append_assoc, append-nil, map-append, at_drop_all}
@@ -23,7 +22,7 @@ use Rattle.first_pass_grammar.specs.Leaves.{Document}
 use Rattle.first_pass_grammar.specs.Tables.{cell_content, cell_start, cell_text, cell_block, AreCells, inserted, side_by_side, row_cells, row_block, Taken}
 use Rattle.first_pass_grammar.specs.Tables.{TableSoFar, table_so_far, AreRows, most_inserted, IsTable}
 use Rattle.first_pass_grammar.specs.WholeTables.{Mark, ATable, ARow, ACell, shown, marks, RowCells, row_marks, TableRows, table_marks, how_often, inserted_in}
-use Rattle.first_pass_grammar.specs.WholeTables.{StartApart, HaveCells, AreFull, AreWholeTables}
+use Rattle.first_pass_grammar.specs.WholeTables.{StartApart, HaveCells, AreFull, AreWholeTables, ShowsNothing}
 use Rattle.first_pass_grammar.proofs.Count.RowsWithRoom.{with_row, RowsWithRoom, counted}
 use Rattle.first_pass_grammar.proofs.Each.EachToken.{AreEach, HoldsOfTokens, HoldsOfRaw, cell_each}
 use Rattle.first_pass_grammar.proofs.Order.RowEnds.{row_ends_its_line, next_starts_later}
@@ -33,7 +32,6 @@ use Rattle.first_pass_items.specs.declared.cow_str.CowStr.{CowStr}
 use Rattle.first_pass_grammar.proofs.Names.TokensNamed.{NamesWithin}
 use Rattle.first_pass_items.specs.declared.item.ItemBody.TheVariants.{MaybeEmphasis, MaybeMath, MaybeSmartQuote, SynthesizeChar, SynthesizeText, Text}
 use Rattle.first_pass_items.specs.declared.item.ItemBody.TheVariants.{MaybeCode, MaybeHtml, MaybeLinkOpen, MaybeLinkClose, MaybeImage}
-use Rattle.first_pass_grammar.specs.WholeTables.{ShowsNothing}
 
 -- more nodes, and nodes at another depth
 pub marks-append : (names : Names) (nodes more : List (ℕ × Item)) → marks names (nodes ++ more) ≡ marks names nodes ++ marks names more

@@ -10,35 +10,31 @@ use Rattle.first_pass_lines.specs.Lines.{level_number}
 use Rattle.first_pass_lines.specs.Rest.{Rest, indent}
 use Rattle.first_pass_lines.specs.Places.{Place, offset, start_of, line_of}
 use Rattle.first_pass_scan.specs.Markers.{task_of}
-use Rattle.first_pass_items.specs.OptionWords.{has, tasklists}
+use Rattle.first_pass_items.specs.OptionWords.{has, tasklists, gfm_footnotes}
 use Rattle.first_pass_tokens.specs.Braces.{no_braces}
 use Rattle.first_pass_tokens.specs.LineTokens.{spot}
 use Rattle.first_pass_grammar.specs.declared.kind.Container.{Container}
 use Rattle.first_pass_grammar.specs.Names.{Names}
 use Rattle.first_pass_grammar.specs.Containers.{Context, at_rest, front}
-use Rattle.first_pass_grammar.specs.Kinds.{Kind, Blank, IndentedCode, Metadata, HtmlToEnd, HtmlToBlank, ThematicBreak, AtxHeading, FencedCode}
-use Rattle.first_pass_grammar.specs.Kinds.{LinkDefinitions}
+use Rattle.first_pass_grammar.specs.Kinds.{Kind, Blank, IndentedCode, Metadata, HtmlToEnd, HtmlToBlank, ThematicBreak, AtxHeading, FencedCode, LinkDefinitions}
 use Rattle.first_pass_grammar.specs.Kinds.{Paragraph, unindented, is_blank_rest, is_ordinary_after_tag}
 use Rattle.first_pass_grammar.specs.Leaves.{Document, around, heading_text_at, block_with, TextLines}
 use Rattle.first_pass_grammar.specs.CodeBlocks.{fence_judge, metadata_judge, metadata_kind}
 use Rattle.first_pass_grammar.specs.Extents.{in_containers}
 use Rattle.first_pass_grammar.specs.HtmlBlocks.{holds_end, tag_judge, blank_judge}
 use Rattle.first_pass_grammar.specs.LinkTables.{LinkEntry}
-use Rattle.first_pass_grammar.specs.LinkRuns.{kind_in, Beyond, Ended, FlowsOn}
+use Rattle.first_pass_grammar.specs.LinkRuns.{kind_in, Beyond, Ended, FlowsOn, lines_beyond}
 use Rattle.first_pass_grammar.specs.RawLines.{range_text, range_html}
 use Rattle.first_pass_grammar.specs.TableHeads.{headed_table}
 use Rattle.first_pass_grammar.specs.Tables.{inserted, Taken, most_inserted, IsTable}
 use Rattle.first_pass_grammar.specs.Texts.{IsPlainText, IsText, IsUnderlined, text_children, heading_children, plain_text, underline_first}
-use Rattle.first_pass_grammar.specs.Blocks.{opened, Skeleton, Nil, Then, Node}
-use Rattle.first_pass_grammar.specs.Skeleton.{OpensBeyond, OpensRun, Continues, Line, Blanks, AtPlace, Allowed, Anything, OnlyALeaf, TextOf, OnlyMark, after_marker}
-use Rattle.first_pass_grammar.specs.Skeleton.{Opening, OpensLeaf, OpensNode, OpensText, OpensAs, OpensBlockAt, next_is_blank}
-use Rattle.first_pass_grammar.specs.Openers.{task_by, task_after}
-use Rattle.first_pass_grammar.specs.Skeleton.{only_task, after_tag, OpensIf}
-use Rattle.first_pass_grammar.specs.Openers.{tag_after}
-use Rattle.first_pass_grammar.specs.Skeleton.{may_define, OpensAt, Level, Remaining, Lines, InLine, onward, level_in, level_after_leaf, level_after}
-use Rattle.first_pass_grammar.specs.Skeleton.{after_first, IsFirst}
-use Rattle.first_pass_grammar.specs.Skeleton.{IsSequence}
-use Rattle.first_pass_grammar.specs.WholeTables.{Mark, marks, table_marks, AreFull, AreWholeTables}
+use Rattle.first_pass_grammar.specs.Blocks.{opened, Skeleton, Nil, Then, Node, Head}
+use Rattle.first_pass_grammar.specs.Skeleton.{OpensBeyond, OpensRun, Continues, Line, Blanks, AtPlace, Allowed, Anything, OnlyALeaf, TextOf, OnlyMark}
+use Rattle.first_pass_grammar.specs.Skeleton.{after_marker, Opening, OpensLeaf, OpensNode, OpensText, OpensAs, OpensBlockAt, next_is_blank, only_task}
+use Rattle.first_pass_grammar.specs.Openers.{task_by, task_after, tag_after, AfterMarker, OnLine, TaskText, LineEnds, OnlyTag, Start, start_at}
+use Rattle.first_pass_grammar.specs.Skeleton.{after_tag, OpensIf, may_define, OpensAt, Level, Remaining, Lines, InLine, onward, level_in, level_after_leaf}
+use Rattle.first_pass_grammar.specs.Skeleton.{level_after, after_first, IsFirst, IsSequence, OpensBy, OpensFootnote, Opens, opening_by, without_indent}
+use Rattle.first_pass_grammar.specs.WholeTables.{Mark, marks, table_marks, AreFull, AreWholeTables, ShowsNothing}
 use Rattle.first_pass_grammar.proofs.Sequences.AfterMarkers.{HoldsAfter, after_task_holds, after_quote_holds}
 use Rattle.first_pass_grammar.proofs.Each.EachLeaf.{HoldsOfLeaf, HoldsOfEachLeaf}
 use Rattle.first_pass_grammar.proofs.Each.EachToken.{AreEach, heading_each, range_text_each, range_html_each, raw_lines_each, lines_each, children_each}
@@ -46,17 +42,11 @@ use Rattle.first_pass_grammar.proofs.Each.EachToken.{heading_children_each}
 use Rattle.first_pass_grammar.proofs.Sequences.PlacesKept.{IsAt, AreAt, at_unindented, at_front, at_taken, at_quote, at_item, at_marker, extent_at, tag_left_at}
 use Rattle.first_pass_grammar.proofs.Sequences.PlacesKept.{code_at}
 use Rattle.first_pass_grammar.proofs.Sequences.LinesLeft.{BeyondAt, run_at, text_left, beyond_at, place_after_at, head_at}
-use Rattle.first_pass_items.specs.OptionWords.{gfm_footnotes}
 use Rattle.first_pass_grammar.specs.Footnotes.{footnote_head_at, place_past}
-use Rattle.first_pass_grammar.specs.LinkRuns.{lines_beyond}
 use Rattle.first_pass_grammar.proofs.WholeTables.TableMarks.{text_shows, tokens_show, raw_shows, block_shows, table_shows}
 use Rattle.first_pass_items.specs.declared.item.HeadingLevel.{HeadingLevel}
-use Rattle.first_pass_grammar.specs.Openers.{AfterMarker, OnLine, TaskText, LineEnds, OnlyTag, Start, start_at}
-use Rattle.first_pass_grammar.specs.Skeleton.{OpensBy, OpensFootnote, Opens, opening_by, without_indent}
-use Rattle.first_pass_grammar.specs.Blocks.{Head}
 use Rattle.first_pass_grammar.proofs.Sequences.OpenerFacts.{start_cases}
 use Rattle.first_pass_grammar.proofs.Sequences.Goings.{BeginsAt, LeavesAt, begins_at, leaves_at}
-use Rattle.first_pass_grammar.specs.WholeTables.{ShowsNothing}
 
 -- nodes that are no part of a table
 pub whole_none : (names : Names) (nodes : List (ℕ × Item)) → marks names nodes ≡ [] → AreWholeTables names nodes

@@ -3,21 +3,17 @@ use Rattle.std.proofs.Common.{◌≡◌, ℕ, suc, ◌==◌, Bool, true, false, 
 use Rattle.std.proofs.lemmas.List.{append_assoc}
 use Rattle.first_pass_items.specs.declared.item.Item.{Item}
 use Rattle.first_pass_items.specs.declared.item.ItemBody.{ItemBody}
-use Rattle.first_pass_items.specs.declared.item.ItemBody.TheVariants.{Paragraph as ParagraphBody}
+use Rattle.first_pass_items.specs.declared.item.ItemBody.TheVariants.{Paragraph as ParagraphBody, DefinitionListTitle}
 use Rattle.first_pass_tree.specs.Forest.{at_depth}
 use Rattle.first_pass_tree.specs.Tight.{tight_body, tightened}
 use Rattle.first_pass_lines.specs.Places.{lines_at}
 use Rattle.first_pass_grammar.specs.Names.{Names}
 use Rattle.first_pass_grammar.specs.Leaves.{Document}
 use Rattle.first_pass_grammar.specs.Skeleton.{Line, level, Lines}
-use Rattle.first_pass_grammar.specs.Before.{nothing}
-use Rattle.first_pass_grammar.specs.Rows.{What, ALeaf, AQuote, AList, AnItem, Rows, End, OneOf, is_loose}
-use Rattle.first_pass_grammar.specs.Rows.{ADefinitionList, ATitle, ADefinition}
-use Rattle.first_pass_grammar.specs.Before.{is_paragraph_body, begins_paragraph}
-use Rattle.first_pass_grammar.specs.Derivation.{as_title}
-use Rattle.first_pass_items.specs.declared.item.ItemBody.TheVariants.{DefinitionListTitle}
-use Rattle.first_pass_grammar.specs.Rows.{rows_of, AFootnote}
-use Rattle.first_pass_grammar.specs.Derivation.{row_items, tight_in, items_of, Tables, root_of, Derives}
+use Rattle.first_pass_grammar.specs.Before.{nothing, is_paragraph_body, begins_paragraph}
+use Rattle.first_pass_grammar.specs.Rows.{What, ALeaf, AQuote, AList, AnItem, Rows, End, OneOf, is_loose, ADefinitionList, ATitle, ADefinition, rows_of}
+use Rattle.first_pass_grammar.specs.Rows.{AFootnote}
+use Rattle.first_pass_grammar.specs.Derivation.{as_title, row_items, tight_in, items_of, Tables, root_of, Derives}
 use Rattle.first_pass_grammar.specs.WholeTables.{Mark, ATable, shown, marks, row_marks, TableRows, table_marks, AreFull, AreWholeTables}
 use Rattle.first_pass_grammar.proofs.Each.EachRow.{HoldsOfRow, HoldsOfEachRow, each_row}
 use Rattle.first_pass_grammar.proofs.WholeTables.FullHeads.{heads_are_full}

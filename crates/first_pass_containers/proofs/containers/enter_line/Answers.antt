@@ -7,7 +7,7 @@ use Rattle.first_pass_grammar.specs.Names.{Names}
 use Rattle.first_pass_grammar.specs.Derivation.{Tables}
 use Rattle.first_pass_grammar.specs.Skeleton.{Inside}
 use Rattle.first_pass_grammar.specs.Completion.{lines_from}
-use Rattle.first_pass_lists.specs.Closing.{empty_item_closed}
+use Rattle.first_pass_lists.specs.Closing.{empty_item_closed, footnote_ended}
 use Rattle.first_pass_lists.specs.declared.state.PassState.{PassState}
 use Rattle.first_pass_order.specs.Ordered.{IsReadTo}
 use Rattle.first_pass_containers.specs.Entering.{place_entered}
@@ -20,7 +20,6 @@ use Rattle.first_pass_containers.proofs.LineByLine.EnteredLines.{entered_whole, 
 use Rattle.first_pass_containers.proofs.Order.OrderSteps.{ordered_at_place}
 use Rattle.first_pass_ready.proofs.LineLemmas.{IsSettled, settled, at_line, blank_line_read, line_entered, line_kept}
 use Rattle.first_pass_lists.proofs.NoEmptyItem.{finished_none}
-use Rattle.first_pass_lists.specs.Closing.{footnote_ended}
 use Rattle.first_pass_containers.proofs.Order.EndedLemmas.{ended_count, ended_named, ended_whole, ended_ordered, ended_unblank}
 use Rattle.first_pass_containers.proofs.containers.enter_line.Goals as goal
 use Rattle.first_pass_containers.proofs.containers.enter_line.Goals.{After-is_some}

@@ -5,9 +5,8 @@ use Rattle.first_pass_lines.specs.Rest.{Rest}
 use Rattle.first_pass_lines.specs.Places.{place_at, IsPlaceOf}
 use Rattle.first_pass_grammar.specs.Kinds.{all_taken, html_kind, later_kind, metadata_at, IsKind}
 use Rattle.first_pass_kinds.specs.BlockStart.{kind_of, IsFoundWithCondition}
-use Rattle.first_pass_kinds.proofs.KindLemmas.{few_columns, many_columns, blank_kind, code_kind, AfterMetadata, ColumnsTaken, past_columns}
-use Rattle.first_pass_kinds.proofs.KindLemmas.{found_early, tag_found, tag_absent}
-use Rattle.first_pass_kinds.proofs.KindLemmas.{metadata_here, html_here, tag_here, last_here, found_html}
+use Rattle.first_pass_kinds.proofs.KindLemmas.{few_columns, many_columns, blank_kind, code_kind, AfterMetadata, ColumnsTaken, past_columns, found_early}
+use Rattle.first_pass_kinds.proofs.KindLemmas.{tag_found, tag_absent, metadata_here, html_here, tag_here, last_here, found_html}
 use Rattle.first_pass_open.proofs.PlainLemmas.{plain_all, plain_few}
 use Rattle.first_pass_kinds.proofs.PlainKinds.{plain_kind}
 use Rattle.first_pass_kinds.proofs.MarkBytes.{heading_kind}

@@ -5,8 +5,7 @@ use Rattle.std.proofs.lemmas.Str.{IsCharBoundary-start, IsCharBoundary-after_asc
 use Rattle.first_pass_links.specs.Labels.{is_bracket, label_at}
 use Rattle.first_pass_links.specs.Units.{part, left_at, IsLighter, Reads, StopsByError, IsBlankRest}
 use Rattle.first_pass_links.proofs.Parts.{read_none, part-none}
-use Rattle.first_pass_links.proofs.Labels.{too_long, blank_stops, end_stops, open_stops, blank_label, closed, known_as, label_after, nothing_known}
-use Rattle.first_pass_links.proofs.Labels.{unit_known}
+use Rattle.first_pass_links.proofs.Labels.{too_long, blank_stops, end_stops, open_stops, blank_label, closed, known_as, label_after, nothing_known, unit_known}
 use Rattle.first_pass_links.proofs.Labels.{closing_bracket}
 use Rattle.first_pass_links.proofs.Rewritten.{on_err, track_none, track_unit, track_written, track_stop}
 use Rattle.first_pass_links.proofs.label.scan_link_label_rest.Goals as goal

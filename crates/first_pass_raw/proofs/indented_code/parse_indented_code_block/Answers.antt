@@ -9,10 +9,8 @@ use Rattle.first_pass_open.specs.Path.{path_of, has_quote_after}
 use Rattle.first_pass_names.specs.TableEntries.{names_of}
 use Rattle.first_pass_names.proofs.NameLemmas.{extends_none, extends_both}
 use Rattle.first_pass_raw.specs.RawBlocks.{AppendsRaw, after_line_at}
-use Rattle.first_pass_raw.proofs.IndentedLemmas.{ContinuesCode, place_line_end, next_end}
-use Rattle.first_pass_raw.proofs.IndentedLemmas.{first_at, first_is, first_boundary, so_far_first, so_far_next, so_far_stop, kept_child, next_read, next_rest}
-use Rattle.first_pass_raw.proofs.IndentedLemmas.{next_quotes}
-use Rattle.first_pass_raw.proofs.IndentedLemmas.{opened_last, just_opened, code_open, code_added}
+use Rattle.first_pass_raw.proofs.IndentedLemmas.{ContinuesCode, place_line_end, next_end, first_at, first_is, first_boundary, so_far_first, so_far_next}
+use Rattle.first_pass_raw.proofs.IndentedLemmas.{so_far_stop, kept_child, next_read, next_rest, next_quotes, opened_last, just_opened, code_open, code_added}
 use Rattle.first_pass_grammar.specs.Leaves.{document}
 use Rattle.first_pass_grammar.specs.RawLines.{range_text}
 use Rattle.first_pass_raw.proofs.indented_code.parse_indented_code_block.Goals as goal

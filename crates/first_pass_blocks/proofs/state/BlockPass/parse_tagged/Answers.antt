@@ -3,8 +3,7 @@ use Rattle.std.proofs.Common.{arith}
 use Rattle.first_pass_lines.specs.Lines.{line_len}
 use Rattle.first_pass_lines.specs.Rest.{Rest}
 use Rattle.first_pass_lines.specs.Places.{Place, line_rest, place_at, line_end, IsPlaceOf}
-use Rattle.first_pass_grammar.specs.Containers.{front}
-use Rattle.first_pass_grammar.specs.Containers.{Context}
+use Rattle.first_pass_grammar.specs.Containers.{front, Context}
 use Rattle.first_pass_blocks.specs.Views.{context_in}
 use Rattle.first_pass_grammar.specs.Kinds.{all_taken, is_ordinary_after_tag, unindented}
 use Rattle.first_pass_grammar.specs.Leaves.{document}
