@@ -61,7 +61,7 @@ impl<'a> BlockPass<'a> {
     {
         // An estimate of the number of nodes: pages of memory that are never reached cost nothing. It stays under 32
         // MiB, since the C library maps a larger block anew in each pass.
-        let capacity = max(128, (text.len() / 6).min(640_000));
+        let capacity = max(128, (text.len() / 5).min(690_000));
         let mut tree = Tree::with_capacity(alloc, capacity)?;
         let root = tree.root();
         tree.set_end(root, text.len());
