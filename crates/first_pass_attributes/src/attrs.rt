@@ -3,14 +3,14 @@
 ghost use Rattle.std.specs.Int.{bit_at};
 ghost use Rattle.std.specs.List.{suffix_len};
 ghost use Rattle.std.specs.Option.{option_map};
-ghost use Rattle.std.specs.Prelude.{◌≡◌, ◌==◌, ◌^◌, ℕ, ◌≤◌, ◌<◌, ◌+◌, ◌-◌, length, true, take, drop, slice_index, IfSome, IfOk, OnOk, OnErr, IsSomeAnd, Some, None, IsUtf8, IsCharBoundary, filter, [], ◌∷◌};
+ghost use Rattle.std.specs.Prelude.{◌≡◌, ◌==◌, ◌^◌, ℕ, ◌≤◌, ◌<◌, ◌+◌, ◌-◌, length, true, take, slice_index, IfSome, IfOk, OnErr, IsSomeAnd, Some, None, IsUtf8, IsCharBoundary};
 ghost use Rattle.first_pass_items.specs.Bytes.{left_brace, right_brace};
 ghost use Rattle.first_pass_lines.specs.Lines.{ends as ends_with};
 ghost use Rattle.first_pass_attributes.specs.AttributeBlocks.{is_after_block, is_inside_block, opening_brace as opening_of, length_before_block, inside_block};
-ghost use Rattle.first_pass_attributes.specs.Attributes.{is_attribute_word, key_and_value as key_and_value_of, with_words, attributes_of, pair_in, attributes_in, HasSeveral};
+ghost use Rattle.first_pass_attributes.specs.Attributes.{attributes_of, attributes_in, HasSeveral};
 
 pub use crate::short_list::ShortList;
-use crate::words::{scan_key, scan_word_within};
+use crate::words::parse_attribute_words;
 use first_pass_lines::lanes::LANES;
 use first_pass_lines::lines::{is_line_end, is_space_or_tab};
 use std::alloc::{AllocError, Global};
@@ -175,93 +175,4 @@ pub fn parse_inside_attribute_block<'a>(
     let ahead = inside_attr_block.as_bytes();
     let attributes = parse_attribute_words(alloc, inside_attr_block, ahead)?;
     Ok(attributes)
-}
-
-/// Returns the same as `parse_inside_attribute_block`. `ahead` begins with the bytes of the text between the braces.
-/// The more bytes follow these, the more words are found by reading 16 bytes at once.
-#[inline(always)]
-pub fn parse_attribute_words<'a>(
-    alloc: Global,
-    inside_attr_block: &'a str,
-    ahead: &[u8],
-) -> Result<Option<HeadingAttributes<'a>>, AllocError>
-    requires { inside_attr_block.now ≡ take (length inside_attr_block.now) ahead.now }
-    ensures value { IfOk result (λ answer.
-        IsSomeAnd answer (λ h. attributes_in h ≡ attributes_of inside_attr_block.now)) }
-    ensures err { OnErr result (HasSeveral (attributes_of inside_attr_block.now)) }
-{
-    let mut attributes = HeadingAttributes {
-        id: None,
-        classes: ShortList::new(),
-        attrs: ShortList::new(),
-    };
-    let mut rest = inside_attr_block;
-    let mut ahead = ahead;
-    loop {
-        let end = scan_word_within(ahead, rest.len());
-        add_word(alloc, &mut attributes, &rest[..end])?;
-        if end == rest.len() {
-            return Ok(Some(attributes));
-        }
-        rest = &rest[end + 1..];
-        ahead = &ahead[end + 1..];
-    }
-}
-
-// Adds the attribute of a word, if it has one.
-#[inline(always)]
-fn add_word<'a>(
-    alloc: Global,
-    attributes: &mut HeadingAttributes<'a>,
-    word: &'a str,
-) -> Result<(), AllocError>
-    ensures value { OnOk result (attributes_in attributes.new
-        ≡ with_words (attributes_in attributes.old) (filter is_attribute_word (word.now ∷ []))) }
-    ensures err { OnErr result (HasSeveral
-        (with_words (attributes_in attributes.old) (filter is_attribute_word (word.now ∷ [])))) }
-{
-    if !is_attribute_word(word) {
-        return Ok(());
-    }
-    let mark = word.as_bytes()[0];
-    if mark == b'#' {
-        attributes.id = Some(without_mark(word));
-        return Ok(());
-    }
-    if mark == b'.' {
-        attributes.classes.push(alloc, without_mark(word))?;
-        return Ok(());
-    }
-    attributes.attrs.push(alloc, key_and_value(word))?;
-    Ok(())
-}
-
-// Whether a word has an attribute.
-#[inline(always)]
-fn is_attribute_word(word: &str) -> bool
-    ensures { result ≡ is_attribute_word word.now }
-{
-    2 <= word.len()
-}
-
-// A word without its first byte, which is ASCII.
-#[inline(always)]
-fn without_mark(word: &str) -> &str
-    requires some { 0 < length word.now }
-    requires ascii { slice_index word.now 0 < 128 }
-    ensures { result.now ≡ drop 1 word.now }
-{
-    &word[1..]
-}
-
-// The key of a word, and its value.
-#[inline(always)]
-#[tactic(auto, unfolding(crate::specs::Attributes::key_and_value))]
-fn key_and_value(word: &str) -> (&str, Option<&str>)
-    ensures { pair_in result ≡ key_and_value_of word.now }
-{
-    match scan_key(word.as_bytes()) {
-        None => (word, None),
-        Some(at) => (&word[..at], Some(&word[at + 1..])),
-    }
 }

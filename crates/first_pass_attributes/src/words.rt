@@ -1,12 +1,15 @@
 //! The words in an attribute block (this project).
 
 ghost use Rattle.std.specs.List.{position, prefix_len};
-ghost use Rattle.std.specs.Prelude.{◌≡◌, ◌==◌, ◌≤◌, ◌<◌, not, length, take, slice_index, IfSome};
+ghost use Rattle.std.specs.Prelude.{◌≡◌, ◌==◌, ◌≤◌, ◌<◌, ◌∷◌, [], Some, None, not, filter, length, take, drop, slice_index, IfSome, IfOk, OnOk, OnErr, IsSomeAnd};
 ghost use Rattle.first_pass_items.specs.Bytes.{equals_sign};
 ghost use Rattle.first_pass_lines.specs.Lanes.{IsRunIn};
-ghost use Rattle.first_pass_attributes.specs.Attributes.{is_between_words, is_solid};
+ghost use Rattle.first_pass_attributes.specs.Attributes.{is_between_words, is_solid, is_attribute_word, key_and_value as key_and_value_of, with_words, attributes_of, pair_in, attributes_in, HasSeveral};
 
+use crate::attrs::HeadingAttributes;
+use crate::short_list::ShortList;
 use first_pass_lines::lanes::{LANES, first_set};
+use std::alloc::{AllocError, Global};
 use std::simd::prelude::*;
 
 /// Returns the number of bytes before the first byte between words, or the length of `bytes` if there is none. Tabs,
@@ -68,4 +71,93 @@ pub fn scan_key(word: &[u8]) -> Option<usize>
     ensures sign { IfSome result (λ at. slice_index word.now at ≡ equals_sign) }
 {
     word.iter().position(|b| *b == b'=')
+}
+
+/// Returns the same as `parse_inside_attribute_block`. `ahead` begins with the bytes of the text between the braces.
+/// The more bytes follow these, the more words are found by reading 16 bytes at once.
+#[inline(always)]
+pub fn parse_attribute_words<'a>(
+    alloc: Global,
+    inside_attr_block: &'a str,
+    ahead: &[u8],
+) -> Result<Option<HeadingAttributes<'a>>, AllocError>
+    requires { inside_attr_block.now ≡ take (length inside_attr_block.now) ahead.now }
+    ensures value { IfOk result (λ answer.
+        IsSomeAnd answer (λ h. attributes_in h ≡ attributes_of inside_attr_block.now)) }
+    ensures err { OnErr result (HasSeveral (attributes_of inside_attr_block.now)) }
+{
+    let mut attributes = HeadingAttributes {
+        id: None,
+        classes: ShortList::new(),
+        attrs: ShortList::new(),
+    };
+    let mut rest = inside_attr_block;
+    let mut ahead = ahead;
+    loop {
+        let end = scan_word_within(ahead, rest.len());
+        add_word(alloc, &mut attributes, &rest[..end])?;
+        if end == rest.len() {
+            return Ok(Some(attributes));
+        }
+        rest = &rest[end + 1..];
+        ahead = &ahead[end + 1..];
+    }
+}
+
+// Adds the attribute of a word, if it has one.
+#[inline(always)]
+fn add_word<'a>(
+    alloc: Global,
+    attributes: &mut HeadingAttributes<'a>,
+    word: &'a str,
+) -> Result<(), AllocError>
+    ensures value { OnOk result (attributes_in attributes.new
+        ≡ with_words (attributes_in attributes.old) (filter is_attribute_word (word.now ∷ []))) }
+    ensures err { OnErr result (HasSeveral
+        (with_words (attributes_in attributes.old) (filter is_attribute_word (word.now ∷ [])))) }
+{
+    if !is_attribute_word(word) {
+        return Ok(());
+    }
+    let mark = word.as_bytes()[0];
+    if mark == b'#' {
+        attributes.id = Some(without_mark(word));
+        return Ok(());
+    }
+    if mark == b'.' {
+        attributes.classes.push(alloc, without_mark(word))?;
+        return Ok(());
+    }
+    attributes.attrs.push(alloc, key_and_value(word))?;
+    Ok(())
+}
+
+// Whether a word has an attribute.
+#[inline(always)]
+fn is_attribute_word(word: &str) -> bool
+    ensures { result ≡ is_attribute_word word.now }
+{
+    2 <= word.len()
+}
+
+// A word without its first byte, which is ASCII.
+#[inline(always)]
+fn without_mark(word: &str) -> &str
+    requires some { 0 < length word.now }
+    requires ascii { slice_index word.now 0 < 128 }
+    ensures { result.now ≡ drop 1 word.now }
+{
+    &word[1..]
+}
+
+// The key of a word, and its value.
+#[inline(always)]
+#[tactic(auto, unfolding(crate::specs::Attributes::key_and_value))]
+fn key_and_value(word: &str) -> (&str, Option<&str>)
+    ensures { pair_in result ≡ key_and_value_of word.now }
+{
+    match scan_key(word.as_bytes()) {
+        None => (word, None),
+        Some(at) => (&word[..at], Some(&word[at + 1..])),
+    }
 }

@@ -16,8 +16,9 @@ ghost use Rattle.first_pass_text.specs.CutTexts.{IsLastAndChildless, CutsBlock, 
 
 use bitflags::Flags;
 use first_pass_attributes::attrs::{
-    HeadingAttributes, extract_attribute_block_content_from_header_text, parse_attribute_words,
+    HeadingAttributes, extract_attribute_block_content_from_header_text,
 };
+use first_pass_attributes::words::parse_attribute_words;
 use first_pass_items::item::{HeadingIndex, HeadingLevel, Item, ItemBody};
 use first_pass_items::option_set::Options;
 use first_pass_lines::lines::is_white;

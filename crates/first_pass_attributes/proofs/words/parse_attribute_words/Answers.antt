@@ -5,7 +5,7 @@ use Rattle.first_pass_attributes.specs.Attributes.{Attributes, HasSeveral, is_be
 use Rattle.first_pass_attributes.proofs.AttributeFacts.{with-next}
 use Rattle.first_pass_attributes.proofs.MemoryFacts.{on_err, several-left}
 use Rattle.first_pass_attributes.proofs.WordFacts.{words-next, words-last, word-end, word-start, ahead-long, ahead-next}
-use Rattle.first_pass_attributes.proofs.attrs.parse_attribute_words.Goals as goal
+use Rattle.first_pass_attributes.proofs.words.parse_attribute_words.Goals as goal
 
 pub loop-attributes-init : goal.loop-attributes-init
 unfolding attributes_of

@@ -1,6 +1,6 @@
 use Rattle.std.proofs.Common.{◌≡◌, ◌<◌, length, slice_index, arith}
 use Rattle.std.proofs.lemmas.Str.{IsCharBoundary-after_ascii}
-use Rattle.first_pass_attributes.proofs.attrs.key_and_value.Goals as goal
+use Rattle.first_pass_attributes.proofs.words.key_and_value.Goals as goal
 
 pub range_from-requires : goal.range_from-requires
 range_from-requires c some =

@@ -1,6 +1,6 @@
 use Rattle.std.proofs.Common.{◌≡◌, IsUtf8, filter, length, take}
 use Rattle.first_pass_attributes.specs.Attributes.{is_attribute_word, words, with_words, attributes_of, attributes_in}
-use Rattle.first_pass_attributes.proofs.attrs.parse_attribute_words.Given as goal
+use Rattle.first_pass_attributes.proofs.words.parse_attribute_words.Given as goal
 
 -- the attributes so far, followed by those of the words that are left
 abbrev pub invariant-loop-attributes : goal.invariant-loop-attributes
