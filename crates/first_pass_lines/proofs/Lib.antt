@@ -3,5 +3,6 @@ pub mod HeadingFacts
 pub mod LaneLemmas
 pub mod LineFacts
 pub mod MaskLemmas
+pub mod OptionFacts
 pub mod PlaceFacts
 pub mod SpaceFacts

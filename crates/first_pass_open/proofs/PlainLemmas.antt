@@ -1,8 +1,10 @@
 -- If a plain or an inert byte is next (`is_plain`, `is_inert`), there is no indentation. No list item or block quote
 -- begins there.
-use Rattle.std.proofs.Common.{◌≡◌, min, true, false, Bool, List, [], ◌∷◌, Option, Some, None, refl, sym, ap, ◌∙◌, if◌then◌else◌}
+use Rattle.std.proofs.Common.{◌≡◌, min, true, false, Bool, List, [], ◌∷◌, not, Option, Some, None, is_some, refl, sym, ap, ◌∙◌, if◌then◌else◌}
 use Rattle.std.specs.Option.{option_and_then}
+use Rattle.std.proofs.lemmas.Bool.{not-true}
 use Rattle.std.proofs.lemmas.Option.{none-some}
+use Rattle.first_pass_lines.proofs.OptionFacts.{none_is}
 use Rattle.first_pass_items.specs.declared.item.BlockQuoteKind.{BlockQuoteKind}
 use Rattle.first_pass_lines.specs.Rest.{Rest, next_column, indent, after_columns}
 use Rattle.first_pass_lines.proofs.Columns.{all-none}
@@ -27,11 +29,14 @@ pub inert_few : (r : Rest) → r.owed ≡ 0 → begins_inert r.left ≡ true →
 inert_few r o h = rw (inert_indent r o h) refl
 
 -- If no column is next, there is no indentation to take.
-pub none_all : (r : Rest) → next_column r ≡ None → all_taken r ≡ r
-none_all r h = all-none r h
+no_next : (r : Rest) → true ≡ not (is_some (next_column r)) → next_column r ≡ None
+no_next r h = none_is (next_column r) (not-true _ (sym h))
 
-pub none_few : (r : Rest) → next_column r ≡ None → 0 ≡ min 4 (indent r)
-none_few r h = rw (no_column r h) refl
+pub none_all : (r : Rest) → true ≡ not (is_some (next_column r)) → all_taken r ≡ r
+none_all r h = all-none r (no_next r h)
+
+pub none_few : (r : Rest) → true ≡ not (is_some (next_column r)) → 0 ≡ min 4 (indent r)
+none_few r h = rw (no_column r (no_next r h)) refl
 
 pub inert_prefix : (kind : Option BlockQuoteKind) (r : Rest) → r.owed ≡ 0 → begins_inert r.left ≡ true → prefix (BlockQuote kind) r ≡ None
 unfolding prefix

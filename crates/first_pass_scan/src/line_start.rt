@@ -1,6 +1,6 @@
 //! A place in a line, and the rest of the text from there on, in columns.
 
-ghost use Rattle.std.specs.Prelude.{◌≡◌, ◌≤◌, ◌+◌, ◌<◌, ◌^◌, ◌==◌, min, nat_le, length, drop, is_some, None, IfSome, MatchOption, if◌then◌else◌, true, false};
+ghost use Rattle.std.specs.Prelude.{◌≡◌, ◌≤◌, ◌+◌, ◌<◌, ◌^◌, ◌==◌, min, nat_le, not, length, drop, is_some, IfSome, MatchOption, if◌then◌else◌, true, false};
 ghost use Rattle.first_pass_lines.specs.Lines.{at_line_end, is_blank_line};
 ghost use Rattle.first_pass_scan.specs.Blanks.{without_owed, past_blank};
 ghost use Rattle.first_pass_scan.specs.LeafLines.{hrule_len};
@@ -137,8 +137,7 @@ impl<'a> LineStart<'a> {
     /// Returns whether no column is next: none is owed, and no space or tab is here (CommonMark 2.2).
     #[inline(always)]
     pub fn has_no_column(&self) -> bool
-        ensures none { result ≡ true → next_column self.now ≡ None }
-        ensures some { result ≡ false → is_some (next_column self.now) ≡ true }
+        ensures { result ≡ not (is_some (next_column self.now)) }
     {
         self.owed == 0 && !matches!(self.bytes.get(self.at), Some(b' ' | b'\t'))
     }

@@ -13,10 +13,10 @@ returns-then-is_at_inert-clause-rest c =
     sym (inert_all c.args.line_start.now (c.is_at_inert.ensures.owed c.if-is_at_inert.true) (c.is_at_inert.ensures.inert c.if-is_at_inert.true))
 
 pub returns-then-has_no_column-clause-columns : goal.returns-then-has_no_column-clause-columns
-returns-then-has_no_column-clause-columns c = none_few c.args.line_start.now (c.has_no_column.ensures.none c.if-has_no_column.true)
+returns-then-has_no_column-clause-columns c = none_few c.args.line_start.now (sym c.if-has_no_column.true ∙ c.has_no_column.ensures)
 
 pub returns-then-has_no_column-clause-rest : goal.returns-then-has_no_column-clause-rest
-returns-then-has_no_column-clause-rest c = sym (none_all c.args.line_start.now (c.has_no_column.ensures.none c.if-has_no_column.true))
+returns-then-has_no_column-clause-rest c = sym (none_all c.args.line_start.now (sym c.if-has_no_column.true ∙ c.has_no_column.ensures))
 
 pub returns-clause-rest : goal.returns-clause-rest
 returns-clause-rest c =
