@@ -18,7 +18,8 @@ use first_pass_lines::lines::{begins, content_len, is_inert_front, scan_nextline
 use first_pass_lines::places::rest_of;
 use first_pass_open::front::front_of;
 use first_pass_open::source::Source;
-use first_pass_table_scan::table_start::{has_pipe, scan_delimiter_row, scan_head_columns};
+use first_pass_table_scan::table_scan::has_pipe;
+use first_pass_table_scan::table_start::{scan_delimiter_row, scan_head_columns};
 use first_pass_tree::forest::Tree;
 use std::alloc::AllocError;
 

@@ -1,9 +1,10 @@
 -- Facts on the cells of a delimiter row, and on the pipes of a header row.
-use Rattle.std.proofs.Common.{◌≡◌, ℕ, ◌+◌, ◌<◌, ◌≤◌, ◌||◌, Bool, true, false, true≢false, List, [], ◌∷◌, ◌++◌, length, map, take, drop, Option, Some, None, refl, sym, ap, ◌∙◌, append_assoc}
-use Rattle.std.proofs.Common.{arith, inl, inr}
-use Rattle.std.specs.Option.{option_map}
+use Rattle.std.proofs.Common.{◌≡◌, ℕ, ◌+◌, ◌<◌, ◌≤◌, ◌||◌, nat_lt, true, true≢false, List, [], ◌∷◌, ◌++◌, length, map, take, drop, Option, Some, None, refl}
+use Rattle.std.proofs.Common.{sym, ap, ◌∙◌, append_assoc, arith, inl, inr}
+use Rattle.std.specs.Option.{option_map, is_some}
 use Rattle.std.specs.List.{position_or_len, list_any, slice_split}
 use Rattle.std.proofs.lemmas.Bool.{cases_lt, false_from_ne_true}
+use Rattle.std.proofs.lemmas.Bool.Decides.{nat_tests}
 use Rattle.std.proofs.lemmas.List.{take_all}
 use Rattle.std.proofs.lemmas.List.Sums.{position_or_len_is, fails_before_first}
 use Rattle.std.proofs.lemmas.List.Splits.{slice_split_none, slice_split_first}
@@ -13,15 +14,21 @@ use Rattle.first_pass_items.specs.declared.item.Alignment.{Alignment}
 use Rattle.first_pass_lines.specs.Lines.{begins}
 use Rattle.first_pass_table_scan.specs.TableHead.{is_pipe, delimiter_cell, each_of, delimiter_cells, pipes_after}
 
--- the results of a search for a byte
-pub first_none : (test : ℕ → Bool) (bs : List ℕ) → IsFirstByte test bs None → length bs ≡ position_or_len test bs
-first_none test bs h =
-    sym (position_or_len_is test bs (length bs) 0 (omega arith) (λ k l. false_from_ne_true _ (h k (omega arith) l)) (λ l. absurd (omega arith)))
+-- a search for a pipe finds one if there is one
+any_before : (bs : List ℕ) → nat_lt (position_or_len is_pipe bs) (length bs) ≡ list_any is_pipe bs
+any_before [] = refl
+any_before (b ∷ bs) = grind (arith, nat_tests, any_before bs)
 
-pub first_some : (test : ℕ → Bool) (bs : List ℕ) (at : ℕ) → IsFirstByte test bs (Some at) → at ≡ position_or_len test bs
-first_some test bs at h =
+pub pipe_found : (bs : List ℕ) (o : Option ℕ) → IsFirstByte is_pipe bs o → is_some o ≡ list_any is_pipe bs
+pipe_found bs None h =
+    let none : position_or_len is_pipe bs ≡ length bs =
+    position_or_len_is is_pipe bs (length bs) 0 (omega arith) (λ k l. false_from_ne_true _ (h k (omega arith) l)) (λ l. absurd (omega arith)) in
+    grind (arith, nat_tests, any_before bs, none)
+pipe_found bs (Some at) h =
     let high = h.0.high in
-    sym (position_or_len_is test bs at 0 (omega arith) (λ k l. false_from_ne_true _ (h.0.before k (omega arith) l)) (λ l. h.1))
+    let some : position_or_len is_pipe bs ≡ at =
+    position_or_len_is is_pipe bs at 0 (omega arith) (λ k l. false_from_ne_true _ (h.0.before k (omega arith) l)) (λ l. h.1) in
+    grind (arith, nat_tests, any_before bs, some, high)
 
 -- the first cell and the others
 split_more : (bs : List ℕ) (n : ℕ) → n ≡ position_or_len is_pipe bs → n < length bs → slice_split is_pipe bs ≡ take n bs ∷ slice_split is_pipe (drop (n + 1) bs)

@@ -108,19 +108,9 @@ fn scan_delimiter_cell(bytes: &[u8]) -> Option<Alignment>
     }
 }
 
-// The number of bytes before the first pipe, or of all bytes if there is none.
-pub(crate) fn cell_len(bytes: &[u8]) -> usize
-    ensures value { result ≡ position_or_len is_pipe bytes.now }
-    ensures within { result ≤ length bytes.now }
-{
-    match memchr(b'|', bytes) {
-        None => bytes.len(),
-        Some(at) => at,
-    }
-}
-
-// Returns the same as `cell_len`, but goes byte by byte: the cells of a delimiter row are short.
-fn short_cell_len(bytes: &[u8]) -> usize
+// The number of bytes before the first pipe, or of all bytes if there is none. Goes byte by byte: the cells of a
+// delimiter row are short.
+fn cell_len(bytes: &[u8]) -> usize
     ensures value { result ≡ position_or_len is_pipe bytes.now }
     ensures within { result ≤ length bytes.now }
 {
@@ -134,7 +124,7 @@ fn scan_delimiter_cells(alloc: Global, bytes: &[u8]) -> Result<Option<Vec<Alignm
     let mut columns = Vec::new(alloc);
     let mut rest = bytes;
     loop {
-        let end = short_cell_len(rest);
+        let end = cell_len(rest);
         let Some(column) = scan_delimiter_cell(&rest[..end]) else {
             return Ok(None);
         };
@@ -146,14 +136,16 @@ fn scan_delimiter_cells(alloc: Global, bytes: &[u8]) -> Result<Option<Vec<Alignm
     }
 }
 
-// Whether there is a pipe among the bytes. Most rows begin with one.
-fn contains_pipe(row: &[u8]) -> bool
-    ensures { result ≡ list_any is_pipe row.now }
+/// Returns whether there is a pipe among the bytes. Most rows begin with one. Without one, a line is neither a header
+/// row nor a delimiter row. GFM 4.10.
+#[inline(always)]
+pub fn has_pipe(bytes: &[u8]) -> bool
+    ensures { result ≡ list_any is_pipe bytes.now }
 {
-    if begins(b'|', row) {
+    if begins(b'|', bytes) {
         return true;
     }
-    row.contains(&b'|')
+    memchr(b'|', bytes).is_some()
 }
 
 // The alignments of the delimiter row at the start of `bytes`, if there is one.
@@ -168,7 +160,7 @@ pub(crate) fn scan_alignments(
         return Ok(None);
     }
     let row = stripped(&bytes[..content_len(bytes)]);
-    if !contains_pipe(row) {
+    if !has_pipe(row) {
         return Ok(None);
     }
     scan_delimiter_cells(alloc, without_last(without_first(row, b'|'), b'|'))

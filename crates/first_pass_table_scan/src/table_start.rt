@@ -2,13 +2,13 @@
 //! indentation of a line (GFM 4.10).
 
 ghost use Rattle.std.specs.Option.{option_map, option_map_or};
-ghost use Rattle.std.specs.List.{take_while, list_any};
+ghost use Rattle.std.specs.List.{take_while};
 ghost use Rattle.std.specs.Prelude.{◌≡◌, ◌≤◌, ℕ, ◌+◌, ◌-◌, ◌==◌, ◌&&◌, ◌||◌, not, nat_lt, length, slice_index, Some, IfOk};
 ghost use Rattle.first_pass_items.specs.Bytes.{hyphen, colon, backslash, pipe};
 ghost use Rattle.first_pass_lines.specs.Lines.{begins, is_content};
 ghost use Rattle.first_pass_table_scan.specs.TableHead.{is_pipe, head_columns, columns_by_pipes, delimiter_row_of, last_pipe_after, pipes_of};
 
-use crate::table_scan::{cell_len, count_header_cols, scan_alignments};
+use crate::table_scan::{count_header_cols, scan_alignments};
 use first_pass_items::item::Alignment;
 use first_pass_lines::lines::content_len;
 use first_pass_scan::line_start::LineStart;
@@ -26,14 +26,6 @@ pub fn scan_head_columns(bytes: &[u8]) -> usize
         return 0;
     }
     count_header_cols(bytes, pipes, 0, end - 1)
-}
-
-/// Returns whether there is a pipe among the bytes. Without one, a line is no header row of a table. GFM 4.10.
-#[inline(always)]
-pub fn has_pipe(bytes: &[u8]) -> bool
-    ensures { result ≡ list_any is_pipe bytes.now }
-{
-    cell_len(bytes) < bytes.len()
 }
 
 // Whether `byte`, which is at the offset `at` of a row, is a pipe and no backslash is directly before it.
