@@ -196,7 +196,7 @@ fn append_pieces(
     let mut pending = held_from(content.start);
     let mut from = content.start;
     while let Some(at) = next_special_in_words(content.special, text, from) {
-        if content_ends_at(text, content, at) {
+        if special_ends_at(text, content, at) {
             return Ok((at, pending));
         }
         // A pipe that ends no cell is plain text, as are those after it.
@@ -226,19 +226,8 @@ fn run_end(text: &[u8], at: usize) -> usize
     at + run_len(text, at)
 }
 
-// Whether the content ends at a byte: at a line ending, or at a pipe in a row.
-#[inline(always)]
-#[tactic(auto, unfolding(crate::specs::LineTokens::content_ends_at))]
-fn content_ends_at(text: &[u8], content: Content<'_>, at: usize) -> bool
-    requires { at < length text.now }
-    ensures { (b : MathBraces) → result ≡ content_ends_at (content_in text.now content.entry b) at }
-{
-    let byte = text[at];
-    (byte == b'|' && content.row && content.options.contains(Options::ENABLE_TABLES))
-        || is_line_end(byte)
-}
-
-// The same, at a special byte: a pipe is special only with tables.
+// Whether the content ends at a special byte: at a line ending, or at a pipe in a row. A pipe is special only with
+// tables.
 #[inline(always)]
 fn special_ends_at(text: &[u8], content: Content<'_>, at: usize) -> bool
     requires within { at < length text.now }

@@ -45,7 +45,7 @@ loop-at-preserved c =
     let to_is = ap (λ n. spot n c.named_piece.new.braces) c.in_ok-from-2.ensures.next
     ∙ ap (spot (at + size piece.piece)) (piece.ensures.braces ∙ ap (λ f. braces_after f c.loop-at.braces) here) in
     let next = read_piece piece.piece (record {
-      on = sym (c.content_ends_at.ensures c.args.braces.now) ∙ c.if-content_ends_at.false;
+      on = sym (c.special_ends_at.ensures c.args.braces.now) ∙ c.if-special_ends_at.false;
       becomes = is;
       fits = omega (arith, c.special_found-found.ensures.fits, piece.ensures.size);
       ends = becomes_solid _ _ z.text at _ piece.piece piece.ensures.becomes c.special_found-found.ensures.ends;
@@ -66,7 +66,7 @@ loop-at-preserved-in-Some-bracket_token c =
     let here = sym (token.value c.args.content c.args.braces.now) ∙ found_special z at special in
     let to_is = ap (λ n. spot n c.loop-at.braces) c.in_ok-from.ensures.next ∙ ap (λ f. spot (at + size piece) (braces_after f c.loop-at.braces)) here in
     let next = read_piece piece (record {
-      on = sym (c.content_ends_at.ensures c.args.braces.now) ∙ c.if-content_ends_at.false;
+      on = sym (c.special_ends_at.ensures c.args.braces.now) ∙ c.if-special_ends_at.false;
       becomes = subst (λ f. MakesPiece c.loop-at.texts.items c.loop-at.braces f piece) here refl;
       fits = token.fits;
       ends = token.ends;
@@ -85,14 +85,14 @@ loop-at-preserved-then-text-at-eq124 c =
     let end = c.run_end-from.ensures in
     record {
       read = read_upto at to c.loop-at.braces (upto_special (goal.at.loop-at-preserved-then-text-at-eq124 c).In-Some) (omega (arith, end.some)) end.within
-          (plain_run z at to (sym (c.content_ends_at.ensures c.args.braces.now) ∙ c.if-content_ends_at.false) c.if-text-at-eq124.true end.value end.within);
+          (plain_run z at to (sym (c.special_ends_at.ensures c.args.braces.now) ∙ c.if-special_ends_at.false) c.if-text-at-eq124.true end.value end.within);
       more = c.loop-at.invariant.more;
     }
 
-pub returns-then-content_ends_at-clause-read : goal.returns-then-content_ends_at-clause-read
-returns-then-content_ends_at-clause-read c =
+pub returns-then-special_ends_at-clause-read : goal.returns-then-special_ends_at-clause-read
+returns-then-special_ends_at-clause-read c =
     read_all (content_in c.args.text.now c.args.content c.args.braces.now) _ _ _ (spot c.in-Some.at c.loop-at.braces)
-    (upto_special (goal.at.returns-then-content_ends_at-clause-read c).In-Some) (sym (c.content_ends_at.ensures c.args.braces.now) ∙ c.if-content_ends_at.true)
+    (upto_special (goal.at.returns-then-special_ends_at-clause-read c).In-Some) (sym (c.special_ends_at.ensures c.args.braces.now) ∙ c.if-special_ends_at.true)
 
 pub returns-clause-read : goal.returns-clause-read
 returns-clause-read c =
@@ -104,3 +104,6 @@ special_found-found-requires-clause-front c = front_upto c.args.content.whole.no
 
 pub next_special_in_words-requires : goal.next_special_in_words-requires
 next_special_in_words-requires c = spares_words c.args.content.options c.args.content.special.now c.requires.marks
+
+pub special_ends_at-requires-clause-marked : goal.special_ends_at-requires-clause-marked
+special_ends_at-requires-clause-marked c = c.in-Some.ensures.found.marked
