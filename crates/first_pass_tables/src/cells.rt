@@ -18,7 +18,7 @@ use first_pass_names::items::Allocations;
 use first_pass_open::open_block::{close_block, open_block};
 use first_pass_open::source::Source;
 use first_pass_tokens::braces::BraceContexts;
-use first_pass_tokens::line::scan_plain_cell;
+use first_pass_tokens::line::scan_plain_content;
 use first_pass_tokens::pieces::Content;
 use first_pass_tree::forest::Tree;
 use first_pass_tree::tree_index::TreeIndex;
@@ -121,7 +121,7 @@ pub fn append_table_cell(
         row: true,
     };
     // Most cells are plain text.
-    if let Some(plain) = scan_plain_cell(content) {
+    if let Some(plain) = scan_plain_content(content) {
         let item = Item {
             start: cell.at,
             end: plain.end,

@@ -29,7 +29,7 @@ use first_pass_names::items::Allocations;
 use first_pass_open::open_block::{close_block, open_block};
 use first_pass_open::source::Source;
 use first_pass_tokens::braces::BraceContexts;
-use first_pass_tokens::line::scan_plain_cell;
+use first_pass_tokens::line::scan_plain_content;
 use first_pass_tokens::pieces::Content;
 use first_pass_tree::forest::Tree;
 use first_pass_tree::tree_index::TreeIndex;
@@ -201,7 +201,7 @@ fn scan_plain_heading(content: Content<'_>) -> Option<PlainHeading>
     if content.end.is_some() {
         return None;
     }
-    let found = scan_plain_cell(content)?;
+    let found = scan_plain_content(content)?;
     let bytes = content.whole.as_bytes();
     if !ends_in_text(bytes, content.start, found.end) {
         return None;

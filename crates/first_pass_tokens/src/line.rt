@@ -88,20 +88,20 @@ pub fn append_cell(
     Ok(end)
 }
 
-/// The end of a cell that has at most one token, a text, and the end of that token.
+/// The end of a content that has at most one token, a text, and the end of that token.
 #[derive(Clone, Copy)]
-pub struct PlainCell {
+pub struct PlainContent {
     /// The offset at which the token ends: before the white space at the end of the content.
     pub token_end: usize,
     /// The end of the content: the offset of the pipe or the line ending.
     pub end: usize,
 }
 
-/// Finds the end of a cell, as `append_cell` does, if the first special byte of its content is there. Its only token
-/// is then the text from the start of the content on; it has none if that text is empty. Returns `None` if a special
-/// byte comes earlier, or if there is none.
+/// Finds the end of a content, of a cell or of another line, if its first special byte is there. Its only token is then
+/// the text from its start on; it has none if that text is empty. Returns `None` if a special byte comes earlier, or if
+/// there is none.
 #[inline(always)]
-pub fn scan_plain_cell(content: Content<'_>) -> Option<PlainCell>
+pub fn scan_plain_content(content: Content<'_>) -> Option<PlainContent>
     requires set { IfSome content.«end» (λ e. e ≤ length content.whole.now) }
     requires within { content.start ≤ length (text_upto content.whole.now content.«end») }
     requires marks { MarksSpecial content.special.now content.options }
@@ -114,12 +114,12 @@ pub fn scan_plain_cell(content: Content<'_>) -> Option<PlainCell>
         → EndsAtFirstMark content.entry.special.now (source content.entry b) at → ⊥) }
 {
     let text = text_upto(content.whole, content.end);
-    plain_cell_in(text, content)
+    plain_content_in(text, content)
 }
 
 // The same, given the text up to the last possible end of the content.
 #[inline(always)]
-fn plain_cell_in(text: &[u8], content: Content<'_>) -> Option<PlainCell>
+fn plain_content_in(text: &[u8], content: Content<'_>) -> Option<PlainContent>
     requires within { content.start ≤ length text.now }
     requires marks { MarksSpecial content.special.now content.options }
     ensures cell { IfSome result (λ plain. (texts : List CowStr) (b : MathBraces)
@@ -133,7 +133,7 @@ fn plain_cell_in(text: &[u8], content: Content<'_>) -> Option<PlainCell>
     let at = next_special_in_words(content.special, text, content.start)?;
     if special_ends_at(text, content, at) {
         let blanks = blanks_at_end(text, content.start, at);
-        return Some(PlainCell {
+        return Some(PlainContent {
             token_end: at - blanks,
             end: at,
         });

@@ -5,7 +5,7 @@ use crate::containers::{open_node, options_of};
 use first_pass_cases::answer::Answer;
 use first_pass_items::item::{Item, ItemBody};
 use first_pass_tokens::braces::BraceContexts;
-use first_pass_tokens::line::{append_cell, append_line, scan_plain_cell};
+use first_pass_tokens::line::{append_cell, append_line, scan_plain_content};
 use first_pass_tokens::pieces::Content;
 use first_pass_tree::forest::Tree;
 use first_pass_walk::walk::special_bytes;
@@ -16,7 +16,7 @@ pub fn answer_tokens(call: &Call<'_>, answer: &mut Answer) -> Result<bool, Alloc
     match call.name {
         "append_line" => append_tokens(&tokens_of(call, false)?, answer)?,
         "append_cell" => append_tokens(&tokens_of(call, true)?, answer)?,
-        "scan_plain_cell" => append_plain_cell(call, answer)?,
+        "scan_plain_content" => append_plain_content(call, answer)?,
         _ => return Ok(false),
     }
     Ok(true)
@@ -63,7 +63,7 @@ fn tokens_of(call: &Call<'_>, row: bool) -> Result<Tree<Item>, AllocError> {
 }
 
 // Appends the end of the token of a plain cell and that of its content, which begins at the start of the text.
-fn append_plain_cell(call: &Call<'_>, answer: &mut Answer) -> Result<(), AllocError> {
+fn append_plain_content(call: &Call<'_>, answer: &mut Answer) -> Result<(), AllocError> {
     let options = options_of(call.given.number(0));
     let special = special_bytes(&options);
     let content = Content {
@@ -74,7 +74,7 @@ fn append_plain_cell(call: &Call<'_>, answer: &mut Answer) -> Result<(), AllocEr
         end: None,
         row: true,
     };
-    match scan_plain_cell(content) {
+    match scan_plain_content(content) {
         Some(plain) => {
             answer.number(plain.token_end)?;
             answer.number(plain.end)

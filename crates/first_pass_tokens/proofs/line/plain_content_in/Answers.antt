@@ -6,7 +6,7 @@ use Rattle.first_pass_tokens.specs.Pieces.{content_in}
 use Rattle.first_pass_tokens.specs.LineTokens.{blanks_at_end, content_ends_at, IsCell}
 use Rattle.first_pass_tokens.proofs.SoFar.{cell_plain}
 use Rattle.first_pass_walk.proofs.WalkFacts.{spares_words}
-use Rattle.first_pass_tokens.proofs.line.plain_cell_in.Goals as goal
+use Rattle.first_pass_tokens.proofs.line.plain_content_in.Goals as goal
 
 pub next_special_in_words-requires : goal.next_special_in_words-requires
 next_special_in_words-requires c = spares_words c.args.content.options c.args.content.special.now c.requires.marks
