@@ -85,7 +85,9 @@ impl Flags for ListFlags {
     }
 }
 
-/// The kind of a node: a block, or a token that may be inline markup in a block.
+/// The kind of a node: a block, or a token that may be inline markup in a block. The order matters for speed: the kinds
+/// from `FootnoteDefinition` to `DefinitionListDefinition` are neighbours, so that one comparison excludes most open
+/// nodes that need no columns (`columns_needed` of `first_pass_open`).
 #[derive(Clone, Copy, PartialEq, Eq)]
 pub enum ItemBody {
     /// The node around all others.

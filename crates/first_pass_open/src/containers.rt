@@ -14,7 +14,7 @@ use first_pass_scan::line_start::LineStart;
 use first_pass_tree::forest::Tree;
 
 // Takes this many columns, or fewer if the line then ends: the prefix of a list item, of a definition, or of a footnote
-// definition in GitHub's form. Returns whether it is there; takes nothing if it is not.
+// definition, which in the old form needs 0 columns. Returns whether it is there; takes nothing if it is not.
 #[inline(always)]
 #[tactic(auto, unfolding(first_pass_grammar::specs::Containers::prefix))]
 fn takes_columns<'a>(columns: usize, line_start: &mut LineStart<'a>) -> bool
@@ -30,19 +30,7 @@ fn takes_columns<'a>(columns: usize, line_start: &mut LineStart<'a>) -> bool
 }
 
 // The columns that a line needs to continue a node with this body; `None` for a block quote and for a node that is no
-// container.
-#[inline(always)]
-fn columns_by_kind(body: &ItemBody, options: Options) -> Option<usize>
-    ensures { result ≡ columns_needed (container_of options body.now) }
-{
-    match body {
-        ItemBody::ListItem(columns) | ItemBody::DefinitionListDefinition(columns) => Some(*columns),
-        ItemBody::FootnoteDefinition(_) => Some(if options.has_gfm_footnotes() { 4 } else { 0 }),
-        _ => None,
-    }
-}
-
-// The same, with list items found by one test. The kinds of the second test are neighbours in `ItemBody`, so that it
+// container. List items are found by one test. The kinds of the second test are neighbours in `ItemBody`, so that it
 // becomes one comparison. Compilers make a jump table of a match on single kinds, and processors seldom predict its
 // jump.
 #[inline(always)]
@@ -52,7 +40,7 @@ fn columns_needed(body: &ItemBody, options: Options) -> Option<usize>
     if let ItemBody::ListItem(columns) = body {
         return Some(*columns);
     }
-    if matches!(
+    if !matches!(
         body,
         ItemBody::FootnoteDefinition(_)
             | ItemBody::MetadataBlock(_)
@@ -61,9 +49,13 @@ fn columns_needed(body: &ItemBody, options: Options) -> Option<usize>
             | ItemBody::DefinitionListTitle
             | ItemBody::DefinitionListDefinition(_)
     ) {
-        return columns_by_kind(body, options);
+        return None;
     }
-    None
+    match body {
+        ItemBody::DefinitionListDefinition(columns) => Some(*columns),
+        ItemBody::FootnoteDefinition(_) => Some(if options.has_gfm_footnotes() { 4 } else { 0 }),
+        _ => None,
+    }
 }
 
 // Takes the prefix that a line needs to continue a node with this body. A node that is no container has an empty
