@@ -1,11 +1,14 @@
--- The headings that have at most one token.
-use Rattle.std.proofs.Common.{◌≡◌, ◌<◌, ◌≤◌, ℕ, ◌+◌, ◌-◌, ◌==◌, nat_le, nat_lt, min, true, false, List, [], ◌∷◌, length, take, slice_index}
+-- The headings that have at most one token, a text.
+use Rattle.std.proofs.Common.{◌≡◌, ◌<◌, ◌≤◌, ℕ, ◌+◌, ◌-◌, ◌==◌, nat_le, nat_lt, min, Bool, true, false, List, [], ◌∷◌, length, take, slice_index}
 use Rattle.std.proofs.Common.{Option, None, Some, is_some, inl, inr, refl, sym, ap, subst, ◌∙◌, arith}
-use Rattle.std.specs.List.{slice_range, suffix_len}
-use Rattle.std.proofs.lemmas.Bool.{cases_lt, cond-true, cond-false, cond_both, le-ltb, lt-ltb, true≢false}
+use Rattle.std.specs.List.{slice_index_or, slice_range, suffix_len}
+use Rattle.std.proofs.lemmas.Bool.{cases_Bool, cases_lt, eqb-true, cond-true, cond-false, cond_both, le-ltb, lt-ltb, true≢false}
+use Rattle.first_pass_lines.proofs.OptionFacts.{none_is}
 use Rattle.first_pass_items.specs.Bytes.{backslash}
 use Rattle.first_pass_items.specs.declared.cow_str.CowStr.{CowStr}
 use Rattle.first_pass_items.specs.declared.item.Item.{Item}
+use Rattle.first_pass_items.specs.declared.option_set.Options.{Options}
+use Rattle.first_pass_walk.specs.Walk.{is_special, IsNextMarked, MarksSpecial}
 use Rattle.first_pass_tree.specs.Forest.{cut_item, text_between}
 use Rattle.first_pass_tokens.specs.Chains.{add_text, add_tokens, close_break, cut, text_token}
 use Rattle.first_pass_tokens.specs.LineTokens.{text_end, line_break, breaks_by_backslash, backslashes_at_end, blanks_at_end, line_end_len, break_of}
@@ -68,6 +71,23 @@ text_cut start to kept = elim (cases_lt start to) [
       ∙ sym (cond-false _ _ _ (le-ltb start (min (start + kept) to) (omega arith)))
 ]
 
+special_backslash : (options : Options) → is_special options backslash ≡ true
+unfolding is_special
+special_backslash options = refl
+
+-- no backslash is directly before the first special byte
+pub no_backslash : (s : Inline) (lut : List Bool) (end : ℕ) → MarksSpecial lut s.options → IsNextMarked lut s.text s.start end → s.start < end
+    → (slice_index s.text (end - 1) == backslash) ≡ false
+no_backslash s lut end m first some =
+    let b : ℕ = slice_index s.text (end - 1) in
+    elim (cases_Bool (b == backslash)) [
+      | inl same ↦
+          let marked : slice_index_or lut backslash false ≡ true = m backslash (omega arith) ∙ special_backslash s.options in
+          absurd (true≢false (sym marked ∙ ap (λ x. slice_index_or lut x false) (sym (eqb-true b backslash same))
+          ∙ first.least (end - 1) (omega (arith, some)) (omega (arith, some))))
+      | inr other ↦ other
+    ]
+
 module _ (s : Inline) (end : ℕ) (some : s.start < end) (within : end ≤ length s.text) (last : (slice_index s.text (end - 1) == backslash) ≡ false) where
   -- no backslash breaks the line
   unbroken : breaks_by_backslash s end ≡ false
@@ -119,14 +139,9 @@ module _ (s : Inline) (end : ℕ) (some : s.start < end) (within : end ≤ lengt
             ∙ ap (λ n. leaves (heading_chain n s.start tokens)) (sym kept_is) ∙ text_cut s.start to kept ∙ ap (text_between s.start) (sym end_is);
       }
 
--- what is not some is none
-none_from : (o : Option ℕ) → is_some o ≡ false → o ≡ None
-none_from None h = refl
-none_from (Some x) h = absurd (true≢false h)
-
 -- a content without an end of its own goes up to the end of the text
 pub upto_all : (text bytes : List ℕ) (cut : Option ℕ) → is_some cut ≡ false → bytes ≡ text → text_upto text cut ≡ bytes
-upto_all text bytes cut none same = ap (text_upto text) (none_from cut none) ∙ sym same
+upto_all text bytes cut none same = ap (text_upto text) (none_is cut none) ∙ sym same
 
 pub upto_within : (text bytes : List ℕ) (at : ℕ) (cut : Option ℕ) → is_some cut ≡ false → bytes ≡ text → at < length (text_upto text cut) → at < length bytes
 upto_within text bytes at cut none same within = subst (λ t. at < length t) (upto_all text bytes cut none same) within

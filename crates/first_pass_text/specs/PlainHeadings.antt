@@ -1,4 +1,4 @@
--- Headings that have at most one token.
+-- Headings that have at most one token, a text.
 use Rattle.std.specs.Prelude.{◌≡◌, ℕ, List, [], Option}
 use Rattle.std.specs.List.{slice_range}
 use Rattle.first_pass_items.specs.declared.cow_str.CowStr.{CowStr}

@@ -2,8 +2,7 @@
 
 ghost use Rattle.std.specs.List.{slice_range, suffix_len};
 ghost use Rattle.std.specs.Option.{option_map, option_map_or, unwrap_or};
-ghost use Rattle.std.specs.Prelude.{◌≡◌, ℕ, ◌==◌, ◌&&◌, ◌+◌, ◌-◌, nat_lt, not, slice_index, take, drop, ◌≤◌, Some, length, None, IfOk, IfSome, OnOk, IsCharBoundary, false};
-ghost use Rattle.first_pass_items.specs.Bytes.{backslash};
+ghost use Rattle.std.specs.Prelude.{◌≡◌, ℕ, ◌==◌, ◌+◌, ◌-◌, take, drop, ◌≤◌, Some, length, None, IfOk, IfSome, OnOk, IsCharBoundary, false};
 ghost use Rattle.first_pass_walk.specs.Walk.{MarksSpecial};
 ghost use Rattle.first_pass_lines.specs.Lines.{atx_level as atx_level_of, level_number as number_of};
 ghost use Rattle.first_pass_names.specs.TableEntries.{names_of, NamesMore};
@@ -14,9 +13,8 @@ ghost use Rattle.first_pass_open.specs.Between.{AddsBetween, line_end_at};
 ghost use Rattle.first_pass_text.specs.Appends.{AppendsHeading, AddsHeading, line_from, attribute_place};
 ghost use Rattle.first_pass_text.specs.PlainHeadings.{IsPlainHeading};
 ghost use Rattle.first_pass_open.specs.OpenBlock.{IsJustPushed};
-ghost use Rattle.first_pass_tokens.specs.Braces.{MathBraces, no_braces};
-ghost use Rattle.first_pass_tokens.specs.LineTokens.{line_end_len};
-ghost use Rattle.first_pass_tokens.specs.Pieces.{content_in, source, text_upto};
+ghost use Rattle.first_pass_tokens.specs.Braces.{no_braces};
+ghost use Rattle.first_pass_tokens.specs.Pieces.{source, text_upto};
 
 use crate::attributes::{extract_and_parse_heading_attribute_block, name_attributes};
 use crate::paragraph::append_last_backslash;
@@ -29,7 +27,7 @@ use first_pass_names::items::Allocations;
 use first_pass_open::open_block::{close_block, open_block};
 use first_pass_open::source::Source;
 use first_pass_tokens::braces::BraceContexts;
-use first_pass_tokens::line::scan_plain_content;
+use first_pass_tokens::line::{line_end_len, scan_plain_content};
 use first_pass_tokens::pieces::Content;
 use first_pass_tree::forest::Tree;
 use first_pass_tree::tree_index::TreeIndex;
@@ -152,30 +150,6 @@ struct PlainHeading {
     next: usize,
 }
 
-// The length of the line ending at a place: `\r\n` has two bytes.
-#[tactic(auto, unfolding(first_pass_tokens::specs::LineTokens::line_end_len))]
-fn line_end_len(text: &[u8], end: usize) -> usize
-    requires { end ≤ length text.now }
-    ensures value { (c : Content) (b : MathBraces) → result ≡ line_end_len (content_in text.now c b) end }
-    ensures fits { end + result ≤ length text.now }
-{
-    if end >= text.len() {
-        0
-    } else if text[end] == b'\r' && end + 1 < text.len() && text[end + 1] == b'\n' {
-        2
-    } else {
-        1
-    }
-}
-
-// Whether there are bytes between two offsets, and the last of them is no backslash.
-fn ends_in_text(text: &[u8], start: usize, end: usize) -> bool
-    requires { end ≤ length text.now }
-    ensures { result ≡ (nat_lt start end && not (slice_index text.now (end - 1) == backslash)) }
-{
-    start < end && text[end - 1] != b'\\'
-}
-
 // The length of a heading's text between two offsets without its closing sequence (CommonMark 4.2).
 fn kept_between(text: &[u8], start: usize, end: usize) -> usize
     requires order { start ≤ end }
@@ -187,7 +161,8 @@ fn kept_between(text: &[u8], start: usize, end: usize) -> usize
 }
 
 // Returns the ends of a heading with at most one token, if it has no attribute block and the first special byte of its
-// content ends its line. Returns `None` for other headings, and if the content is empty or ends in a backslash.
+// content ends its line. No backslash is then before the line ending. Returns `None` for other headings, and if the
+// content is empty.
 #[inline(always)]
 fn scan_plain_heading(content: Content<'_>) -> Option<PlainHeading>
     requires set { IfSome content.«end» (λ e. e ≤ length content.whole.now) }
@@ -203,7 +178,7 @@ fn scan_plain_heading(content: Content<'_>) -> Option<PlainHeading>
     }
     let found = scan_plain_content(content)?;
     let bytes = content.whole.as_bytes();
-    if !ends_in_text(bytes, content.start, found.end) {
+    if found.end <= content.start {
         return None;
     }
     let next = found.end + line_end_len(bytes, found.end);

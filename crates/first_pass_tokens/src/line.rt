@@ -88,7 +88,7 @@ pub fn append_cell(
     Ok(end)
 }
 
-/// The end of a content that has at most one token, a text, and the end of that token.
+/// The end of the content of a cell or line that has at most one token, a text, and the end of that token.
 #[derive(Clone, Copy)]
 pub struct PlainContent {
     /// The offset at which the token ends: before the white space at the end of the content.
@@ -97,9 +97,9 @@ pub struct PlainContent {
     pub end: usize,
 }
 
-/// Finds the end of a content, of a cell or of another line, if its first special byte is there. Its only token is then
-/// the text from its start on; it has none if that text is empty. Returns `None` if a special byte comes earlier, or if
-/// there is none.
+/// Finds the end of the content of a cell or of another line, if the first special byte is there. The only token is
+/// then the text from the start of the content on; there is none if that text is empty. Returns `None` if a special
+/// byte comes earlier, or if there is none.
 #[inline(always)]
 pub fn scan_plain_content(content: Content<'_>) -> Option<PlainContent>
     requires set { IfSome content.«end» (λ e. e ≤ length content.whole.now) }
@@ -450,9 +450,10 @@ fn blanks_at_end(text: &[u8], start: usize, end: usize) -> usize
     }
 }
 
-// The length of the line ending at a place: `\r\n` has two bytes.
+/// Returns the length of the line ending at the offset `end`: `\r\n` has two bytes. Returns 0 at the end of the text.
+/// The result is 1 at any other byte too, so call it only where a line ends (CommonMark 2.1).
 #[tactic(auto, unfolding(crate::specs::LineTokens::line_end_len))]
-fn line_end_len(text: &[u8], end: usize) -> usize
+pub fn line_end_len(text: &[u8], end: usize) -> usize
     requires { end ≤ length text.now }
     ensures value { (c : Content) (b : MathBraces) → result ≡ line_end_len (content_in text.now c b) end }
     ensures fits { end + result ≤ length text.now }
