@@ -1,6 +1,7 @@
 -- Blocks added before a sequence lead to the same trees.
 use Rattle.std.proofs.Common.{◌≡◌, ℕ, suc, ◌<◌, ◌≤◌, Bool, true, false, ◌||◌, ◌&&◌, List, [], ◌∷◌, ◌++◌, length, Option, Some, None}
 use Rattle.std.proofs.Common.{MatchOption, refl, sym, ap, ◌∙◌, subst, arith}
+use Rattle.std.proofs.Math.Bool.{and-false}
 use Rattle.std.specs.Option.{is_some}
 use Rattle.first_pass_items.specs.declared.item.Item.{Item}
 use Rattle.first_pass_lines.specs.Places.{Place}
@@ -261,12 +262,8 @@ abbrev pub StaysAt : Document → List Container → Place → Type 0
 StaysAt d path p = ends_footnote (around d path) p ≡ false
 
 -- the same if no other one begins there, and outside of footnote definitions
-and_no : (b : Bool) → (b && false) ≡ false
-and_no true = refl
-and_no false = refl
-
 pub stays_without : (d : Document) (path : List Container) (p : Place) → footnote_head_at (around d path) p ≡ None → StaysAt d path p
-stays_without d path p none = ap (λ (o : Option (ℕ × List ℕ)). in_footnote path && is_some o) none ∙ and_no (in_footnote path)
+stays_without d path p none = ap (λ (o : Option (ℕ × List ℕ)). in_footnote path && is_some o) none ∙ and-false (in_footnote path)
 
 pub stays_outside : (d : Document) (path : List Container) (p : Place) → in_footnote path ≡ false → StaysAt d path p
 stays_outside d path p out = ap (λ (b : Bool). b && is_some (footnote_head_at (around d path) p)) out

@@ -1,6 +1,7 @@
 -- A footnote definition in the old form ends at a line, after a counting blank line.
 use Rattle.std.proofs.Common.{◌≡◌, ◌⊎◌, inl, inr, ℕ, ◌==◌, Bool, true, false, not, ◌&&◌, List, [], ◌∷◌, Option, Some, None, refl, sym}
 use Rattle.std.proofs.Common.{ap, subst, ◌∙◌, if◌then◌else◌}
+use Rattle.std.proofs.Math.Bool.{and-false}
 use Rattle.std.proofs.lemmas.Bool.{true≢false}
 use Rattle.std.specs.Option.{option_and_then}
 use Rattle.first_pass_items.specs.declared.item.Item.{Item}
@@ -36,17 +37,13 @@ use Rattle.first_pass_ready.proofs.PopLemmas.{leave_container}
 use Rattle.first_pass_ready.proofs.StateLemmas.{ready_plain, popped_as, popped_paths, popped_spine}
 use Rattle.first_pass_grammar.proofs.Sequences.FootnoteHeads.{after_by}
 
-pub and_no : (b : Bool) → (b && false) ≡ false
-and_no true = refl
-and_no false = refl
-
 -- the innermost open node is a footnote definition that ends at the next line: one in the old form, after a counting
 -- blank line
 abbrev pub ends_here : Options → Forest Item → Bool → Bool
 ends_here options f run = is_footnote (top_body f) && (run && not (gfm_footnotes options))
 
 pub stays_unblank : (options : Options) (f : Forest Item) → ends_here options f false ≡ false
-stays_unblank options f = and_no (is_footnote (top_body f))
+stays_unblank options f = and-false (is_footnote (top_body f))
 
 -- no footnote definition, by the frames
 no_footnote_by : (options : Options) (b : Option ItemBody) (frame : Frame) (frames : List Frame) → option_and_then (frame_of options) b ≡ Some frame
@@ -107,7 +104,7 @@ old_by options (Some (DefinitionList flags)) n run is h = absurd (definitions_no
 old_by options (Some b) n run is h = cc
 
 list_stays : (a run : Bool) → (a && (run && false)) ≡ false
-list_stays a run = ap (λ (t : Bool). a && t) (and_no run) ∙ and_no a
+list_stays a run = ap (λ (t : Bool). a && t) (and-false run) ∙ and-false a
 
 continues_in : (options : Options) (nodes : List (ℕ × Item)) (s : List TreeIndex) (frames : List Frame) (closed : Closed) (run : Bool)
     → AreOpen options nodes s frames → HasDefined frames closed
@@ -154,8 +151,8 @@ IsLeft options e r =
 ended_cases : (options : Options) (e : ℕ) (r : PassState) (g b t : Bool) → gfm_footnotes options ≡ g → r.blank ≡ b → is_footnote (top_body r.tree) ≡ t
     → Stays options e r ⊎ IsLeft options e r
 ended_cases options e r true b t g_is b_is t_is =
-    let z = ended_by options e r true b t g_is b_is t_is in inl (sym z.0, sym z.1 ∙ ap (λ (x : Bool). t && x) (and_no b) ∙ and_no t)
-ended_cases options e r false false t g_is b_is t_is = let z = ended_by options e r false false t g_is b_is t_is in inl (sym z.0, sym z.1 ∙ and_no t)
+    let z = ended_by options e r true b t g_is b_is t_is in inl (sym z.0, sym z.1 ∙ ap (λ (x : Bool). t && x) (and-false b) ∙ and-false t)
+ended_cases options e r false false t g_is b_is t_is = let z = ended_by options e r false false t g_is b_is t_is in inl (sym z.0, sym z.1 ∙ and-false t)
 ended_cases options e r false true false g_is b_is t_is = let z = ended_by options e r false true false g_is b_is t_is in inl (sym z.0, sym z.1)
 ended_cases options e r false true true g_is b_is t_is =
     let z = ended_by options e r false true true g_is b_is t_is in inr (sym z.0, g_is, b_is, t_is)

@@ -1,5 +1,6 @@
 -- A line that begins with a pipe ends no table.
 use Rattle.std.proofs.Common.{◌≡◌, ◌&&◌, ◌||◌, ℕ, Bool, true, false, true≢false, List, [], ◌∷◌, is_some, None, refl, sym, ap, ◌∙◌, subst}
+use Rattle.std.proofs.Math.Bool.{and-false}
 use Rattle.std.proofs.lemmas.Bool.{eqb-true}
 use Rattle.first_pass_items.specs.Bytes.{pipe}
 use Rattle.first_pass_items.specs.declared.option_set.Options.{Options}
@@ -10,10 +11,6 @@ use Rattle.first_pass_grammar.specs.Kinds.{interrupts_with}
 use Rattle.first_pass_grammar.specs.Tables.{interrupts_row}
 use Rattle.first_pass_kinds.specs.Marks.{cannot_interrupt_by_standard}
 use Rattle.first_pass_kinds.proofs.MarkBytes.{unmarked_interrupts}
-
-neither : (t : Bool) → (t && false) ≡ false
-neither true = refl
-neither false = refl
 
 no_block : (bs : List ℕ) → interrupts_with false (pipe ∷ bs) ≡ false
 unfolding cannot_interrupt_by_standard
@@ -26,7 +23,7 @@ no_footnote bs = refl
 no_end : (options : Options) (bs : List ℕ) → interrupts_row options (pipe ∷ bs) ≡ false
 no_end options bs =
     ap (λ t. t || (has options footnotes && is_some (footnote_head (λ further. None) true (pipe ∷ bs)))) (no_block bs)
-    ∙ ap (λ t. has options footnotes && t) (no_footnote bs) ∙ neither (has options footnotes)
+    ∙ ap (λ t. has options footnotes && t) (no_footnote bs) ∙ and-false (has options footnotes)
 
 pub pipe_ends_no_table : (options : Options) (bs : List ℕ) → begins pipe bs ≡ true → interrupts_row options bs ≡ false
 pipe_ends_no_table options [] h = absurd (true≢false (sym h))

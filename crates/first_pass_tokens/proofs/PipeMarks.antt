@@ -1,5 +1,6 @@
 -- The table of marks marks the pipe only with tables.
 use Rattle.std.proofs.Common.{◌≡◌, ℕ, ◌==◌, ◌&&◌, ◌||◌, ◌<◌, Bool, true, false, nat_le, List, length, slice_index, refl, sym, ap, ◌∙◌, arith}
+use Rattle.std.proofs.Math.Bool.{and-false}
 use Rattle.std.proofs.lemmas.Bool.{eqb-true}
 use Rattle.std.proofs.lemmas.Bool.Decides.{nat_tests}
 use Rattle.std.specs.List.{slice_index_or}
@@ -11,15 +12,11 @@ use Rattle.first_pass_lines.specs.Lines.{is_line_end}
 use Rattle.first_pass_tokens.specs.Pieces.{Inline}
 use Rattle.first_pass_tokens.specs.LineTokens.{ends_cell, content_ends_at}
 
-and_no : (t : Bool) → (t && false) ≡ false
-and_no true = refl
-and_no false = refl
-
 only_first : (t a b c d : Bool) → ((t && true) || (((a && false) || (b && false)) || ((c && false) || (d && false)))) ≡ t
 only_first true a b c d = refl
 only_first false a b c d =
-    ap (λ x. (x || (b && false)) || ((c && false) || (d && false))) (and_no a) ∙ ap (λ x. x || ((c && false) || (d && false))) (and_no b)
-    ∙ ap (λ x. x || (d && false)) (and_no c) ∙ and_no d
+    ap (λ x. (x || (b && false)) || ((c && false) || (d && false))) (and-false a) ∙ ap (λ x. x || ((c && false) || (d && false))) (and-false b)
+    ∙ ap (λ x. x || (d && false)) (and-false c) ∙ and-false d
 
 special_pipe : (options : Options) → is_special options pipe ≡ has options tables
 unfolding is_special
@@ -34,7 +31,7 @@ pipe_marked options lut b m small marked same =
 
 in_row : (r t p : Bool) → (p ≡ true → t ≡ true) → (r && (t && p)) ≡ (p && r)
 in_row true t true h = ap (λ x. x && true) (h refl)
-in_row true t false h = and_no t
+in_row true t false h = and-false t
 in_row false t true h = refl
 in_row false t false h = refl
 

@@ -1,8 +1,9 @@
 use Rattle.std.proofs.Common.{◌≡◌, ◌+◌, Bool, true, false, not, ◌&&◌, drop, is_some, IsCharBoundary, sym, ap, subst, ◌∙◌, arith}
+use Rattle.std.proofs.Math.Bool.{and-false}
 use Rattle.first_pass_lines.specs.Lines.{blank_len, line_len}
 use Rattle.first_pass_lines.proofs.PlaceFacts.{line_end_boundary}
 use Rattle.first_pass_containers.specs.Positions.{LineAt, ReadsTo}
-use Rattle.first_pass_ready.proofs.OldFootnotes.{ends_here, and_no}
+use Rattle.first_pass_ready.proofs.OldFootnotes.{ends_here}
 use Rattle.first_pass_containers.proofs.LineByLine.BlankLines.{one_read}
 use Rattle.first_pass_containers.proofs.containers.read_blank_lines.Goals as goal
 use Rattle.first_pass_containers.proofs.containers.read_blank_lines.Goals.{else-is_in_footnote-via-else-is_in_footnote}
@@ -10,7 +11,7 @@ use Rattle.first_pass_containers.proofs.containers.read_blank_lines.Goals.{else-
 
 -- no footnote definition in the old form is innermost
 gfm_stays : (footnote run gfm : Bool) → gfm ≡ true → (footnote && (run && not gfm)) ≡ false
-gfm_stays footnote run gfm h = ap (λ g. footnote && (run && not g)) h ∙ ap (λ t. footnote && t) (and_no run) ∙ and_no footnote
+gfm_stays footnote run gfm h = ap (λ g. footnote && (run && not g)) h ∙ ap (λ t. footnote && t) (and-false run) ∙ and-false footnote
 
 other_stays : (footnote run gfm : Bool) → footnote ≡ false → (footnote && (run && not gfm)) ≡ false
 other_stays footnote run gfm h = ap (λ f. f && (run && not gfm)) h

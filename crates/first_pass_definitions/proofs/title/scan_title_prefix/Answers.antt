@@ -1,4 +1,5 @@
 use Rattle.std.proofs.Common.{◌≡◌, ℕ, ◌-◌, false, length, drop, Option, Some, None, is_some, IsCharBoundary, refl, sym, ap, subst, ◌∙◌, arith}
+use Rattle.first_pass_lines.proofs.OptionFacts.{none_is}
 use Rattle.first_pass_lines.specs.Lines.{blank_len}
 use Rattle.first_pass_lines.specs.Rest.{Rest}
 use Rattle.first_pass_lines.specs.Places.{place_at, IsPlaceOf}
@@ -7,10 +8,6 @@ use Rattle.first_pass_open.proofs.PlaceLemmas.{all_keep}
 use Rattle.first_pass_definitions.proofs.Places.{rest_place}
 use Rattle.first_pass_definitions.proofs.title.scan_title_prefix.Goals as goal
 use Rattle.first_pass_definitions.proofs.title.scan_title_prefix.Goals.{After-bytes_scanned}
-
-none_is : {A : Type 0} (o : Option A) → is_some o ≡ false → o ≡ None
-none_is None h = refl
-none_is (Some x) h = cc
 
 -- after the indentation of the line
 text_place : (c : After-bytes_scanned)
