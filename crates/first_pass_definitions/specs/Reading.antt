@@ -1,5 +1,5 @@
 -- How a title is read line by line. Contracts of public functions cite only `stops_title_line`, through `text_asks`.
-use Rattle.std.specs.Prelude.{ℕ, ◌+◌, ◌==◌, ◌&&◌, ◌||◌, not, nat_le, Bool, List, drop, Option, Some, None, false, ⊤, ◌≡◌, ◌⊎◌}
+use Rattle.std.specs.Prelude.{ℕ, ◌+◌, ◌==◌, ◌&&◌, ◌||◌, not, nat_lt, Bool, List, drop, Option, Some, None, false, ⊤, ◌≡◌, ◌⊎◌}
 use Rattle.std.specs.List.{list_any}
 use Rattle.std.specs.Option.{option_map, option_and_then}
 use Rattle.first_pass_lines.specs.Lines.{is_line_end, eol_len}
@@ -21,7 +21,7 @@ stops_title_line close b = is_line_end b || ends_title close b
 -- a byte at which reading of a title's line never stops, and which escapes nothing: a space, or a byte greater than `)`
 -- except a backslash (CommonMark 6.3)
 abbrev pub is_title_text : ℕ → Bool
-is_title_text b = b == space || (nat_le 42 b && not (b == backslash))
+is_title_text b = b == space || (nat_lt right_parenthesis b && not (b == backslash))
 
 -- the offset at which a title continues after the line ending at an offset, if it does (CommonMark 4.7)
 abbrev pub goes_on_at : (List ℕ → Option ℕ) → List ℕ → ℕ → Option ℕ
