@@ -25,9 +25,6 @@ plain_few r o h = rw (plain_indent r o h) refl
 pub inert_all : (r : Rest) → r.owed ≡ 0 → begins_inert r.left ≡ true → all_taken r ≡ r
 inert_all r o h = inert_after (indent r) r o h
 
-pub inert_few : (r : Rest) → r.owed ≡ 0 → begins_inert r.left ≡ true → 0 ≡ min 4 (indent r)
-inert_few r o h = rw (inert_indent r o h) refl
-
 -- If no column is next, there is no indentation to take.
 no_next : (r : Rest) → true ≡ not (is_some (next_column r)) → next_column r ≡ None
 no_next r h = none_is (next_column r) (not-true _ (sym h))

@@ -12,10 +12,6 @@ pub fn scan_indentation<'a>(line_start: &mut LineStart<'a>) -> usize
     ensures columns { result ≡ min 4 (indent line_start.old) }
     ensures rest { line_start.new ≡ all_taken line_start.old }
 {
-    // Where the caller has made the first test, the compiler leaves it out.
-    if line_start.is_at_inert() {
-        return 0;
-    }
     if line_start.has_no_column() {
         return 0;
     }

@@ -139,7 +139,14 @@ impl<'a> LineStart<'a> {
     pub fn has_no_column(&self) -> bool
         ensures { result ≡ not (is_some (next_column self.now)) }
     {
-        self.owed == 0 && !matches!(self.bytes.get(self.at), Some(b' ' | b'\t'))
+        if self.owed != 0 {
+            return false;
+        }
+        // Most bytes are above a space.
+        match self.bytes.get(self.at) {
+            Some(byte) if *byte > b' ' => true,
+            next => !matches!(next, Some(b' ' | b'\t')),
+        }
     }
 
     /// Takes as many columns of spaces and tabs as there are, up to `n`, and returns their number. CommonMark 2.2.

@@ -1,16 +1,8 @@
 use Rattle.std.proofs.Common.{ap, sym, ◌∙◌}
 use Rattle.first_pass_lines.specs.Rest.{Rest, indent, after_columns}
-use Rattle.first_pass_open.proofs.PlainLemmas.{inert_all, inert_few, none_all, none_few}
+use Rattle.first_pass_open.proofs.PlainLemmas.{none_all, none_few}
 use Rattle.first_pass_open.proofs.PlaceLemmas.{all_after}
 use Rattle.first_pass_open.proofs.indentation.scan_indentation.Goals as goal
-
-pub returns-then-is_at_inert-clause-columns : goal.returns-then-is_at_inert-clause-columns
-returns-then-is_at_inert-clause-columns c =
-    inert_few c.args.line_start.now (c.is_at_inert.ensures.owed c.if-is_at_inert.true) (c.is_at_inert.ensures.inert c.if-is_at_inert.true)
-
-pub returns-then-is_at_inert-clause-rest : goal.returns-then-is_at_inert-clause-rest
-returns-then-is_at_inert-clause-rest c =
-    sym (inert_all c.args.line_start.now (c.is_at_inert.ensures.owed c.if-is_at_inert.true) (c.is_at_inert.ensures.inert c.if-is_at_inert.true))
 
 pub returns-then-has_no_column-clause-columns : goal.returns-then-has_no_column-clause-columns
 returns-then-has_no_column-clause-columns c = none_few c.args.line_start.now (sym c.if-has_no_column.true ∙ c.has_no_column.ensures)
