@@ -1,20 +1,6 @@
-//! Each public name, each call of the pass, and deep and long texts. Also the parts below the pass, if a case needs
-//! several calls or a text built in a loop: columns, long labels, definitions under labels, walks. A case with one
-//! text and one result is in `scan_cases`.
+//! Each public name, and each call of the pass.
 #![tactic(auto)]
 
 #[cfg(test)]
 mod calls;
-#[cfg(test)]
-mod columns;
-#[cfg(test)]
-mod deep;
-#[cfg(test)]
-mod definitions;
-#[cfg(test)]
-mod labels;
-#[cfg(test)]
-mod long;
 pub mod surface;
-#[cfg(test)]
-mod walks;
