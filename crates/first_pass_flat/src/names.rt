@@ -1,7 +1,8 @@
 //! The bytes that nodes name, and how texts are appended to the names.
 
-ghost use Rattle.std.specs.Prelude.{◌≡◌, ◌++◌, length, map, IfOk, OnOk};
+ghost use Rattle.std.specs.Prelude.{◌≡◌, ◌++◌, [], false, length, map, IfOk, OnOk};
 ghost use Rattle.std.specs.List.{flat_map};
+ghost use Rattle.first_pass_grammar.specs.Names.{Names};
 ghost use Rattle.first_pass_names.specs.TableEntries.{names_of};
 ghost use Rattle.first_pass_flat.specs.Kinds.{alignment_byte};
 ghost use Rattle.first_pass_flat.specs.FlatNodes.{name_by, name_of};
@@ -41,32 +42,31 @@ pub(crate) fn append_names(
     ensures { OnOk result (names.new.items ≡ names.old.items ++ flat_map (name_by (names_of allocs.now)) nodes.now) }
 {
     for node in nodes {
-        append_name(names, &node.1.body, allocs)?;
+        let body = &node.1.body;
+        if may_name_bytes(body) {
+            append_name(names, body, allocs)?;
+        }
     }
     Ok(())
 }
 
-// Appends the bytes that a node names, if it names any.
+// Whether a node of this kind may name bytes.
 #[inline(always)]
-fn append_name(
-    names: &mut Vec<u8>,
-    body: &ItemBody,
-    allocs: &Allocations<'_>,
-) -> Result<(), AllocError>
-    ensures { OnOk result (names.new.items ≡ names.old.items ++ name_of (names_of allocs.now) body.now) }
+fn may_name_bytes(body: &ItemBody) -> bool
+    ensures { result ≡ false → (names : Names) → name_of names body.now ≡ [] }
 {
-    match *body {
+    matches!(
+        *body,
         ItemBody::FencedCodeBlock(_)
-        | ItemBody::FootnoteDefinition(_)
-        | ItemBody::SynthesizeText(_)
-        | ItemBody::Table(_) => append_named(names, body, allocs),
-        _ => Ok(()),
-    }
+            | ItemBody::FootnoteDefinition(_)
+            | ItemBody::SynthesizeText(_)
+            | ItemBody::Table(_)
+    )
 }
 
-// The same as `append_name`, out of line because few nodes name bytes.
+// Appends the bytes that a node names, if it names any. Out of line because few nodes do.
 #[inline(never)]
-fn append_named(
+fn append_name(
     names: &mut Vec<u8>,
     body: &ItemBody,
     allocs: &Allocations<'_>,

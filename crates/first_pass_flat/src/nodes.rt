@@ -130,7 +130,12 @@ fn fill_before(
         | ItemBody::FencedCodeBlock(_)
         | ItemBody::FootnoteDefinition(_)
         | ItemBody::SynthesizeText(_)
-        | ItemBody::Table(_) => fill_named(flat, after, node, next, allocs),
+        | ItemBody::Table(_) => {
+            let before = place_before(after, body, allocs);
+            let named = named_range((before, after), body, allocs);
+            flat[before.node] = flat_node(node, next, named, values_of(body))?;
+            Ok(before)
+        }
         _ => fill_plain(flat, after, node, next, values_of(body)),
     }
 }
@@ -158,30 +163,6 @@ fn fill_plain(
         attribute: after.attribute,
     };
     flat[before.node] = flat_node(node, next, (after.name, 0), values)?;
-    Ok(before)
-}
-
-// The same as `fill_before`, for a node that may name something.
-#[inline(always)]
-fn fill_named(
-    flat: &mut [FlatNode],
-    after: FlatPlace,
-    node: &(usize, Item),
-    next: usize,
-    allocs: &Allocations<'_>,
-) -> Result<FlatPlace, TooLong>
-    requires node { 0 < after.node }
-    requires room { after.node ≤ length flat.old }
-    requires name { length (name_of (names_of allocs.now) node.now.1.body) ≤ after.name }
-    requires attribute { length (attributes_of_body (names_of allocs.now) node.now.1.body) ≤ after.attribute }
-    ensures ok { IfOk result (λ before.
-        IsRecordWritten (names_of allocs.now) node.now next flat.old flat.new (before, after)) }
-    ensures long { IsErr result → NeedsMoreBits (names_of allocs.now) node.now next after }
-{
-    let body = &node.1.body;
-    let before = place_before(after, body, allocs);
-    let named = named_range((before, after), body, allocs);
-    flat[before.node] = flat_node(node, next, named, values_of(body))?;
     Ok(before)
 }
 
