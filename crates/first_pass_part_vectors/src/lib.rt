@@ -1,5 +1,5 @@
 //! The parts below the pass, if a case needs several calls or a text built in a loop: columns, long labels, definitions
-//! under labels, walks. A case with one text and one result is in `scan_cases`.
+//! under labels, titles, walks. A case with one text and one result is in `scan_cases`.
 #![tactic(auto)]
 
 #[cfg(test)]
@@ -8,5 +8,7 @@ mod columns;
 mod definitions;
 #[cfg(test)]
 mod labels;
+#[cfg(test)]
+mod titles;
 #[cfg(test)]
 mod walks;

@@ -6,6 +6,4 @@ mod pieces;
 #[cfg(test)]
 mod ranges;
 #[cfg(test)]
-mod titles;
-#[cfg(test)]
 mod tree;
