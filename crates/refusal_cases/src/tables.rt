@@ -137,28 +137,15 @@ enum Entry {
 impl Entry {
     // The counts of tables that have only this number of such entries.
     fn counts(self, count: usize) -> Counts {
+        let mut counts = NONE;
         match self {
-            Entry::Text => Counts {
-                texts: count,
-                ..NONE
-            },
-            Entry::Alignments => Counts {
-                alignments: count,
-                ..NONE
-            },
-            Entry::Heading => Counts {
-                headings: count,
-                ..NONE
-            },
-            Entry::Link => Counts {
-                links: count,
-                ..NONE
-            },
-            Entry::Footnote => Counts {
-                footnotes: count,
-                ..NONE
-            },
+            Entry::Text => counts.texts = count,
+            Entry::Alignments => counts.alignments = count,
+            Entry::Heading => counts.headings = count,
+            Entry::Link => counts.links = count,
+            Entry::Footnote => counts.footnotes = count,
         }
+        counts
     }
 
     // Adds such an entry with this word. Returns the error of the call, or whether the index that it returned is `at`;
