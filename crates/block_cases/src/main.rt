@@ -30,20 +30,11 @@
 mod case;
 mod table;
 
-use first_pass_cases::fault::CasesFault;
-use first_pass_cases::table::{read_table, write_report};
-use first_pass_cases::tally::{Tally, end_with};
+use first_pass_cases::table::end_report;
 use std::process::ExitCode;
 
-fn run(rt: &HostRuntime) -> Result<Tally, CasesFault> {
-    let whole = read_table(rt)?;
-    let mut report = String::new(rt.alloc());
-    let tally = table::compare(rt.alloc(), whole.as_str(), &mut report)?;
-    write_report(rt, report.as_str(), tally)?;
-    Ok(tally)
-}
-
 fn main(rt: HostRuntime) -> ExitCode {
-    let answer = run(&rt);
-    end_with(&rt, answer)
+    let mut report = String::new(rt.alloc());
+    let answer = table::compare(&rt, &mut report);
+    end_report(&rt, report.as_str(), answer)
 }

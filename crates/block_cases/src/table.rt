@@ -2,14 +2,16 @@
 
 use crate::case::{append_difference, printed, read_case};
 use first_pass_cases::fault::CasesFault;
-use first_pass_cases::table::compare_groups;
+use first_pass_cases::table::{compare_groups, read_table};
 use first_pass_cases::tally::{Tally, append_place};
 use std::alloc::Global;
 
 /// Runs each case of the table. Appends to the report each case that differs.
-pub fn compare(alloc: Global, table: &str, report: &mut String) -> Result<Tally, CasesFault> {
+pub fn compare(rt: &HostRuntime, report: &mut String) -> Result<Tally, CasesFault> {
+    let table = read_table(rt)?;
+    let alloc = rt.alloc();
     compare_groups(
-        table,
+        table.as_str(),
         report,
         |group, line, report| compare_case(alloc, group, line, report),
     )

@@ -1,11 +1,12 @@
 //! The table that a program reads, and the report that it writes.
 
 use crate::fault::CasesFault;
-use crate::tally::Tally;
+use crate::tally::{Tally, end_with};
 use crate::texts::is_heading;
 use first_pass_host::fault::RunFault;
 use first_pass_host::input::read_whole;
 use first_pass_host::output::write_whole;
+use std::process::ExitCode;
 use std::str;
 
 /// Reads the whole table from standard input.
@@ -17,12 +18,23 @@ pub fn read_table(rt: &HostRuntime) -> Result<String, CasesFault> {
     }
 }
 
-/// Writes the cases that differ and the line of the tally to standard output.
-pub fn write_report(rt: &HostRuntime, report: &str, tally: Tally) -> Result<(), CasesFault> {
+/// Ends a run that made this report: writes the report and the line of the tally to standard output, and returns the
+/// status (see `end_with`). After a fault only the fault is written.
+pub fn end_report(rt: &HostRuntime, report: &str, answer: Result<Tally, CasesFault>) -> ExitCode {
+    end_with(rt, written(rt, report, answer))
+}
+
+// Writes the report and the line of the tally, if there is no fault.
+fn written(
+    rt: &HostRuntime,
+    report: &str,
+    answer: Result<Tally, CasesFault>,
+) -> Result<Tally, CasesFault> {
+    let tally = answer?;
     let mut output = rt.stdout();
     write_whole(&mut output, report.as_bytes())?;
     write_whole(&mut output, tally.line(rt.alloc())?.as_bytes())?;
-    Ok(())
+    Ok(tally)
 }
 
 /// Compares the groups of lines of a table, except headings. `compare` gets a group and the number of its first line.

@@ -33,23 +33,11 @@ mod table;
 mod tables;
 mod trees;
 
-use first_pass_cases::fault::CasesFault;
-use first_pass_cases::table::{read_table, write_report};
-use first_pass_cases::tally::{Tally, end_with};
-use first_pass_host::words::words_of;
+use first_pass_cases::table::end_report;
 use std::process::ExitCode;
 
-fn run(rt: &HostRuntime) -> Result<Tally, CasesFault> {
-    // Only compiled code (`rt try`) runs a program that reads its words, and compiled code is what counts here.
-    words_of(rt)?;
-    let whole = read_table(rt)?;
-    let mut report = String::new(rt.alloc());
-    let tally = table::compare(rt, whole.as_str(), &mut report)?;
-    write_report(rt, report.as_str(), tally)?;
-    Ok(tally)
-}
-
 fn main(rt: HostRuntime) -> ExitCode {
-    let answer = run(&rt);
-    end_with(&rt, answer)
+    let mut report = String::new(rt.alloc());
+    let answer = table::compare(&rt, &mut report);
+    end_report(&rt, report.as_str(), answer)
 }

@@ -6,13 +6,17 @@ use crate::programs::call_program;
 use crate::tables::call_tables;
 use crate::trees::call_tree;
 use first_pass_cases::fault::CasesFault;
-use first_pass_cases::table::compare_groups;
+use first_pass_cases::table::{compare_groups, read_table};
 use first_pass_cases::tally::{Tally, append_place};
+use first_pass_host::words::words_of;
 
 /// Makes the call of each case. Appends to the report the outcome that a case requests, and each case that differs.
-pub fn compare(rt: &HostRuntime, table: &str, report: &mut String) -> Result<Tally, CasesFault> {
+pub fn compare(rt: &HostRuntime, report: &mut String) -> Result<Tally, CasesFault> {
+    // Only compiled code (`rt try`) runs a program that reads its words, and compiled code is what counts here.
+    words_of(rt)?;
+    let table = read_table(rt)?;
     compare_groups(
-        table,
+        table.as_str(),
         report,
         |group, line, report| compare_case(rt, group, line, report),
     )

@@ -18,6 +18,7 @@ use first_pass_cases::answer::Answer;
 use first_pass_cases::fault::CasesFault;
 use first_pass_cases::given::{Given, read_given};
 use first_pass_cases::pictures::read_shown;
+use first_pass_cases::table::read_table;
 use first_pass_cases::tally::{Tally, append_place};
 use std::alloc::{AllocError, Global};
 
@@ -31,13 +32,14 @@ struct Case<'t> {
 }
 
 /// Makes the call of each line. Appends to the report each line whose result differs.
-pub fn compare(alloc: Global, table: &str, report: &mut String) -> Result<Tally, CasesFault> {
+pub fn compare(rt: &HostRuntime, report: &mut String) -> Result<Tally, CasesFault> {
+    let table = read_table(rt)?;
     let mut tally = Tally::new();
     let mut number: usize = 0;
     for line in table.lines() {
         number = number.saturating_add(1);
         if !line.is_empty() && !line.starts_with('#') {
-            let differs = compare_line(alloc, line, number, report)?;
+            let differs = compare_line(rt.alloc(), line, number, report)?;
             tally.count(differs);
         }
     }
