@@ -3,8 +3,6 @@
 
 pub mod forest;
 mod node_list;
-mod subtrees;
-#[cfg(test)]
-mod tests;
+pub mod subtrees;
 pub mod tight;
 pub mod tree_index;

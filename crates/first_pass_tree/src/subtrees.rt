@@ -8,9 +8,9 @@ use std::marker::Model;
 
 /// The node at the index `place`, with its descendants before the index `past`.
 #[derive(Clone, Copy, PartialEq, Eq)]
-pub(crate) struct Subtree {
-    pub(crate) place: usize,
-    pub(crate) past: usize,
+pub struct Subtree {
+    pub place: usize,
+    pub past: usize,
 }
 
 /// Records of subtrees, in the order in which the subtrees begin. Each ends at or before the end of the next one. In

@@ -6,4 +6,6 @@ mod pieces;
 #[cfg(test)]
 mod ranges;
 #[cfg(test)]
+mod subtrees;
+#[cfg(test)]
 mod tree;

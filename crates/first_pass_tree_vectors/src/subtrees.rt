@@ -1,31 +1,27 @@
 //! The recorded subtrees of a tree, over several calls.
 
-use crate::forest::Tree;
-use crate::subtrees::Subtree;
-use crate::tree_index::TreeIndex;
 use first_pass_items::item::{Item, ItemBody, ListFlags};
+use first_pass_tree::forest::Tree;
+use first_pass_tree::subtrees::Subtree;
+use first_pass_tree::tree_index::TreeIndex;
 use std::test::Fail;
+
+fn item(start: usize, end: usize, body: ItemBody) -> Item {
+    Item { start, end, body }
+}
 
 // `- - a` without its paragraph: a list in the open item of a list. Both are recorded, and the inner list was
 // just closed. Then the outer list is closed too, or loses everything below its item.
 #[test]
 fn remembers_subtrees_until_they_are_cut(rt: HostRuntime) -> Result<(), Fail> {
     for is_cut in [false, true] {
-        let list = Item {
-            start: 0,
-            end: 4,
-            body: ItemBody::List(ListFlags::IS_TIGHT, b'-', 0),
-        };
+        let list = item(0, 4, ItemBody::List(ListFlags::IS_TIGHT, b'-', 0));
         let mut tree = Tree::with_capacity(rt.alloc(), 5)?;
         for start in [0, 2] {
             tree.append(list)?;
             tree.push()?;
             tree.remember()?;
-            tree.append(Item {
-                start,
-                end: 4,
-                body: ItemBody::ListItem(2),
-            })?;
+            tree.append(item(start, 4, ItemBody::ListItem(2)))?;
             tree.push()?;
         }
         tree.pop();
@@ -33,16 +29,8 @@ fn remembers_subtrees_until_they_are_cut(rt: HostRuntime) -> Result<(), Fail> {
         tree.note_end();
         if is_cut {
             assert!(rt; tree.remove_node() == Some(TreeIndex(2)));
-            tree.append(Item {
-                start: 0,
-                end: 4,
-                body: ItemBody::Rule,
-            })?;
-            tree.append(Item {
-                start: 0,
-                end: 4,
-                body: ItemBody::Rule,
-            })?;
+            tree.append(item(0, 4, ItemBody::Rule))?;
+            tree.append(item(0, 4, ItemBody::Rule))?;
             let outer = Subtree { place: 1, past: 2 };
             assert!(rt; tree.take_subtree(0, 5) == Some(outer));
         } else {
@@ -67,25 +55,13 @@ fn remembers_subtrees_until_they_are_cut(rt: HostRuntime) -> Result<(), Fail> {
 fn keeps_a_subtree_that_ends_before_a_child_that_leaves(rt: HostRuntime) -> Result<(), Fail> {
     for ends_before in [false, true] {
         let mut tree = Tree::with_capacity(rt.alloc(), 4)?;
-        tree.append(Item {
-            start: 0,
-            end: 4,
-            body: ItemBody::BlockQuote(None),
-        })?;
+        tree.append(item(0, 4, ItemBody::BlockQuote(None)))?;
         tree.push()?;
         tree.remember()?;
-        let list = tree.append(Item {
-            start: 2,
-            end: 4,
-            body: ItemBody::DefinitionList(ListFlags::IS_TIGHT),
-        })?;
+        let list = tree.append(item(2, 4, ItemBody::DefinitionList(ListFlags::IS_TIGHT)))?;
         tree.push()?;
         tree.remember()?;
-        let left = tree.append(Item {
-            start: 2,
-            end: 4,
-            body: ItemBody::Paragraph,
-        })?;
+        let left = tree.append(item(2, 4, ItemBody::Paragraph))?;
         tree.pop();
         if ends_before {
             tree.note_end_before(left);
