@@ -8,10 +8,8 @@ use crate::definition::{append_definition, append_footnote};
 use crate::node::append_node;
 use first_pass_host::fault::RunFault;
 use first_pass_host::output::write_each;
-use first_pass_items::item::Item;
 use first_pass_names::items::Allocations;
-use first_pass_run::tree_report::TreeLines;
-use first_pass_tree::forest::Tree;
+use first_pass_run::tree_report::{Parsed, TreeLines};
 use std::alloc::Global;
 use std::io::Write;
 
@@ -22,21 +20,15 @@ pub struct JsonTree;
 impl TreeLines for JsonTree {
     ghost lines = { λ _ _ names nodes tables. json_lines names nodes tables };
 
-    fn write_lines<W: Write>(
-        &self,
-        alloc: Global,
-        _text: &str,
-        parsed: &(Tree<Item>, Allocations<'_>),
-        output: &mut W,
-    ) -> Result<(), RunFault> {
-        let (tree, allocs) = parsed;
+    fn write_lines<W: Write>(&self, parsed: &Parsed<'_>, output: &mut W) -> Result<(), RunFault> {
+        let allocs = &parsed.allocs;
         write_each(
-            alloc,
-            tree.nodes().iter(),
+            parsed.alloc,
+            parsed.tree.nodes().iter(),
             |line, (depth, item)| append_node(line, *depth, *item, allocs),
             output,
         )?;
-        write_tables(alloc, allocs, output)
+        write_tables(parsed.alloc, allocs, output)
     }
 }
 

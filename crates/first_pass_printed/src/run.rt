@@ -6,11 +6,7 @@ use crate::links::append_link;
 use crate::node::append_node;
 use first_pass_host::fault::RunFault;
 use first_pass_host::output::write_each;
-use first_pass_items::item::Item;
-use first_pass_names::items::Allocations;
-use first_pass_run::tree_report::TreeLines;
-use first_pass_tree::forest::Tree;
-use std::alloc::Global;
+use first_pass_run::tree_report::{Parsed, TreeLines};
 use std::io::Write;
 
 /// The lines of the program `blocks`: one for each node of a text's tree of blocks, in reading order, then one for each
@@ -20,22 +16,16 @@ pub struct PrintedBlocks;
 impl TreeLines for PrintedBlocks {
     ghost lines = { λ _ _ names nodes tables. printed_lines names nodes tables };
 
-    fn write_lines<W: Write>(
-        &self,
-        alloc: Global,
-        _text: &str,
-        parsed: &(Tree<Item>, Allocations<'_>),
-        output: &mut W,
-    ) -> Result<(), RunFault> {
-        let (tree, allocs) = parsed;
+    fn write_lines<W: Write>(&self, parsed: &Parsed<'_>, output: &mut W) -> Result<(), RunFault> {
+        let allocs = &parsed.allocs;
         write_each(
-            alloc,
-            tree.nodes().iter(),
+            parsed.alloc,
+            parsed.tree.nodes().iter(),
             |line, (depth, item)| append_node(line, *depth, *item, allocs),
             output,
         )?;
         write_each(
-            alloc,
+            parsed.alloc,
             allocs.refdefs().iter(),
             |line, (label, link)| append_link(line, label, link),
             output,

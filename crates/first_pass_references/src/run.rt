@@ -9,10 +9,8 @@ use crate::reference::reference_at;
 use first_pass_host::fault::RunFault;
 use first_pass_host::output::write_each;
 use first_pass_items::item::Item;
-use first_pass_names::items::Allocations;
-use first_pass_run::tree_report::TreeLines;
-use first_pass_tree::forest::Tree;
-use std::alloc::{AllocError, Global};
+use first_pass_run::tree_report::{Parsed, TreeLines};
+use std::alloc::AllocError;
 use std::io::Write;
 
 /// The lines of the program `links`: one for each link definition of a text, in the byte order of their folded labels,
@@ -23,25 +21,18 @@ pub struct ListedLinks;
 impl TreeLines for ListedLinks {
     ghost lines = { λ _. links_lines };
 
-    fn write_lines<W: Write>(
-        &self,
-        alloc: Global,
-        text: &str,
-        parsed: &(Tree<Item>, Allocations<'_>),
-        output: &mut W,
-    ) -> Result<(), RunFault> {
-        let (tree, allocs) = parsed;
-        let nodes = tree.nodes();
+    fn write_lines<W: Write>(&self, parsed: &Parsed<'_>, output: &mut W) -> Result<(), RunFault> {
+        let nodes = parsed.tree.nodes();
         write_each(
-            alloc,
-            allocs.refdefs().iter(),
+            parsed.alloc,
+            parsed.allocs.refdefs().iter(),
             |line, (label, link)| append_definition(line, label, link),
             output,
         )?;
         write_each(
-            alloc,
+            parsed.alloc,
             0..nodes.len(),
-            |line, first| append_first(alloc, line, text, nodes_from(nodes, first), allocs),
+            |line, first| append_first(line, parsed, nodes_from(nodes, first)),
             output,
         )
     }
@@ -56,20 +47,19 @@ fn nodes_from(nodes: &[(usize, Item)], first: usize) -> &[(usize, Item)]
 
 // Appends the line of the first of these nodes, if it is a footnote definition or begins a reference.
 fn append_first(
-    alloc: Global,
     line: &mut Vec<u8>,
-    text: &str,
+    parsed: &Parsed<'_>,
     nodes: &[(usize, Item)],
-    allocs: &Allocations<'_>,
 ) -> Result<(), AllocError>
-    ensures { OnOk result (line.new.items ≡ line.old.items
-        ++ first_lines text.now (names_of allocs.now) (tables_of allocs.now).links nodes.now) }
+    ensures { OnOk result (line.new.items ≡ line.old.items ++ first_lines parsed.now.text.now
+        (names_of parsed.now.allocs) (tables_of parsed.now.allocs).links nodes.now) }
 {
+    let allocs = &parsed.allocs;
     let Some((_, first)) = nodes.first() else {
         return Ok(());
     };
     append_footnote(line, *first, allocs)?;
-    match reference_at(alloc, text, nodes, allocs)? {
+    match reference_at(parsed.alloc, parsed.text, nodes, allocs)? {
         Some(reference) => append_reference(line, &reference),
         None => Ok(()),
     }

@@ -14,6 +14,15 @@ use first_pass_tree::forest::Tree;
 use std::alloc::Global;
 use std::io::Write;
 
+/// A text with its tree and its tables, and the allocator for its lines.
+#[derive(Drop)]
+pub struct Parsed<'a> {
+    pub alloc: Global,
+    pub text: &'a str,
+    pub tree: Tree<Item>,
+    pub allocs: Allocations<'a>,
+}
+
 /// The lines that a program writes for a text's tree.
 pub trait TreeLines {
     // The lines for a text with its names, nodes and tables.
@@ -21,15 +30,10 @@ pub trait TreeLines {
 
     /// Writes the lines for a text, its tree and its tables. Fails with `WriteFailed`, or with `OutOfMemory` if an
     /// allocation fails; then a beginning of the lines may be written.
-    fn write_lines<W: Write>(
-        &self,
-        alloc: Global,
-        text: &str,
-        parsed: &(Tree<Item>, Allocations<'_>),
-        output: &mut W,
-    ) -> Result<(), RunFault>
+    fn write_lines<W: Write>(&self, parsed: &Parsed<'_>, output: &mut W) -> Result<(), RunFault>
         ensures { WritesText
-            (lines self.now text.now (names_of parsed.now.1) parsed.now.0.nodes (tables_of parsed.now.1))
+            (lines self.now parsed.now.text.now (names_of parsed.now.allocs) parsed.now.tree.nodes
+            (tables_of parsed.now.allocs))
             (stream_between (W.contents output.old) (W.contents output.new)) result };
 }
 
@@ -46,7 +50,13 @@ impl<P: Parse, L: TreeLines> Report for TreeReport<P, L> {
         options: Options,
         output: &mut W,
     ) -> Result<(), RunFault> {
-        let parsed = self.0.parse(alloc, text, options)?;
-        self.1.write_lines(alloc, text, &parsed, output)
+        let (tree, allocs) = self.0.parse(alloc, text, options)?;
+        let parsed = Parsed {
+            alloc,
+            text,
+            tree,
+            allocs,
+        };
+        self.1.write_lines(&parsed, output)
     }
 }

@@ -8,13 +8,13 @@ use Rattle.first_pass_printed.proofs.run.PrintedBlocksTreeLines.write_lines.Goal
 
 pub returns-in_err-write_each : goal.returns-in_err-write_each
 returns-in_err-write_each g c =
-    let line = node_line (names_of c.args.parsed.now.1) in
+    let line = node_line (names_of c.args.parsed.now.allocs) in
     let nodes = c.in_err-write_each.ensures _ _ (element_lines _ line (λ old new x call. search of_calls)) in
     first_failed _ _ _ _ _ _ (search rules) (written_as _ _ _ _ (ap (flat_map line) (c.iter.ensures.rest ∙ c.nodes.ensures)) nodes)
 
 pub returns : goal.returns
 returns g c =
-    let line = node_line (names_of c.args.parsed.now.1) in
+    let line = node_line (names_of c.args.parsed.now.allocs) in
     let nodes = c.in_ok-write_each.ensures _ _ (element_lines _ line (λ old new x call. search of_calls)) in
     let links = c.write_each-2.ensures _ _ (entry_lines _ link_line link_entry (λ old new x call. search of_calls)) in
     let links_are = ap (λ l. flat_map link_line (map link_entry l)) (c.iter-2.ensures.entries ∙ c.refdefs.ensures) in
