@@ -1,10 +1,10 @@
 -- The closing fence, the info string and the lines of a fenced code block.
 use Rattle.std.proofs.Common.{◌≡◌, inl, inr, ℕ, ◌+◌, ◌-◌, ◌<◌, ◌≤◌, ◌==◌, ◌&&◌, not, Bool, nat_lt, nat_le, true, false, List, length, take, drop, get_or}
-use Rattle.std.proofs.Common.{reverse, Option, Some, None, IsUtf8, IsCharBoundary, if◌then◌else◌, refl, sym, ap, subst, ◌∙◌, arith, length-drop}
-use Rattle.std.proofs.Common.{length-take-le, get_or-drop, drop-drop}
+use Rattle.std.proofs.Common.{reverse, Option, Some, None, is_some, slice_index_or, not-suc-le-zero, ◌∷◌, [], IsUtf8, IsCharBoundary, if◌then◌else◌}
+use Rattle.std.proofs.Common.{refl, sym, ap, subst, ◌∙◌, arith, length-drop, length-take-le, get_or-drop, drop-drop}
 use Rattle.std.specs.Option.{option_map}
 use Rattle.std.specs.List.{prefix_len, suffix_len}
-use Rattle.std.proofs.lemmas.Bool.{cases_lt, eqb-true}
+use Rattle.std.proofs.lemmas.Bool.{cases_lt, eqb-true, leb-false, lt-ltb, lt-leb, ne_eqb}
 use Rattle.std.proofs.lemmas.Bool.Decides.{nat_tests}
 use Rattle.std.proofs.lemmas.List.{get_or-reverse, get_or-take, take-take}
 use Rattle.std.proofs.lemmas.List.Sums.{prefix_len_passes, suffix_len-le-length}
@@ -17,10 +17,10 @@ use Rattle.first_pass_items.specs.declared.item.ItemBody.TheVariants.{FencedCode
 use Rattle.first_pass_tree.specs.Forest.{Forest}
 use Rattle.first_pass_lines.specs.Lines.{is_white, is_white_or_line_end, begins, line_len}
 use Rattle.first_pass_scan.specs.LeafLines.{run_len, has_backquote, code_fence, closing_fence_len}
-use Rattle.first_pass_lines.specs.Rest.{Rest, indent}
+use Rattle.first_pass_lines.specs.Rest.{Rest, indent, next_column, after_columns}
 use Rattle.first_pass_lines.specs.Places.{line_place, place_at, offset, IsPlaceOf}
 use Rattle.first_pass_lines.proofs.LineFacts.{line_len-fits}
-use Rattle.first_pass_lines.proofs.PlaceFacts.{line_is_place, white_keeps, prefix_keeps}
+use Rattle.first_pass_lines.proofs.PlaceFacts.{all_columns_up_to, line_is_place, white_keeps, prefix_keeps}
 use Rattle.first_pass_grammar.specs.Names.{Names, Extends}
 use Rattle.first_pass_grammar.specs.Kinds.{all_taken, unindented}
 use Rattle.first_pass_grammar.specs.Leaves.{Document, block_with}
@@ -31,12 +31,38 @@ use Rattle.first_pass_open.specs.OpenBlock.{closed_by}
 use Rattle.first_pass_open.specs.Path.{path_of}
 use Rattle.first_pass_raw.specs.RawBlocks.{AddsRaw, fenced_after}
 use Rattle.first_pass_raw.proofs.ExtentLemmas.{Filled, OpenedAt, lines_of, block_done}
+use Rattle.first_pass_open.proofs.PlainLemmas.{none_few, none_all}
 use Rattle.first_pass_open.proofs.PlaceLemmas.{all_keep, place_end, line_start_end}
 
 -- a place after the columns of a line
 pub indented_place : (text : List ℕ) (start n : ℕ) (r : Rest) → IsUtf8 text → n ≡ (all_taken r).taken → IsPlaceOf text (place_at start r)
     → (start + n ≡ offset (unindented (place_at start r))) × IsPlaceOf text (unindented (place_at start r))
 indented_place text start n r u f i = (ap (λ k. start + k) f, all_keep text start r u i)
+
+-- fewer than four columns are all taken when up to four are
+pub few_taken : (r s : Rest) (four : Bool) (n : ℕ) → four ≡ false → four ≡ nat_le 4 (indent r) → s ≡ after_columns 4 r → n ≡ s.taken
+    → (indent r < 4) × (n ≡ (all_taken r).taken)
+few_taken r s four n less value after is =
+    let few : indent r < 4 = omega (arith, leb-false 4 (indent r) (sym value ∙ less)) in
+    (few, is ∙ ap (λ (t : Rest). t.taken) (after ∙ all_columns_up_to 4 r (omega (arith, few))))
+
+-- a line that begins with another byte than the fence is no closing fence
+no_run : (bs : List ℕ) (byte count : ℕ) → 1 ≤ length bs → (slice_index_or bs 0 0 ≡ byte → ⊥) → 0 < count → closing_fence_len byte count bs ≡ None
+unfolding closing_fence_len
+no_run [] byte count filled other many = absurd (not-suc-le-zero filled)
+no_run (b ∷ bs) byte count filled other many =
+    let none : run_len byte (b ∷ bs) ≡ 0 = rw (ne_eqb _ _ other) refl in
+    let short : nat_le count 0 ≡ false = lt-leb _ _ many in
+    let full : (length (b ∷ bs) == 0) ≡ false = ne_eqb _ _ (λ same. not-suc-le-zero (subst (λ n. 1 ≤ n) same filled)) in
+    rw full (rw none (rw short refl))
+
+pub no_fence : (r : Rest) (byte count start : ℕ) → true ≡ not (is_some (next_column r)) → 1 ≤ length r.left → (slice_index_or r.left 0 0 ≡ byte → ⊥) → 0 < count
+    → closing_fence_end byte count (place_at start r) ≡ None
+no_fence r byte count start none filled other many =
+    let few : nat_lt (indent r) 4 ≡ true = lt-ltb _ _ (omega (arith, none_few r none)) in
+    let no : closing_fence_len byte count (all_taken r).left ≡ None =
+    ap (λ (t : Rest). closing_fence_len byte count t.left) (none_all r none) ∙ no_run r.left byte count filled other many in
+    rw few (ap (option_map (λ n. offset (unindented (place_at start r)) + n)) no)
 
 -- the result of a search for a closing fence in the rest after the columns
 pub closing_end : (text : List ℕ) (start n byte count : ℕ) (r : Rest) (o : Option ℕ)

@@ -1,6 +1,6 @@
 //! Fenced code blocks (CommonMark 4.5).
 
-ghost use Rattle.std.specs.Prelude.{◌≡◌, ◌≤◌, length, drop, Some, IfOk, OnOk, IsCharBoundary, IsUtf8};
+ghost use Rattle.std.specs.Prelude.{◌≡◌, ◌≤◌, ℕ, length, drop, true, None, Some, IfOk, OnOk, IsCharBoundary, IsUtf8};
 ghost use Rattle.std.specs.List.{suffix_len};
 ghost use Rattle.first_pass_lines.specs.Lines.{is_white_or_line_end};
 ghost use Rattle.first_pass_lines.specs.Places.{place_at, IsPlaceOf};
@@ -19,7 +19,6 @@ use first_pass_lines::lines::{is_white_or_line_end, scan_whitespace_no_nl};
 use first_pass_lines::places::{next_line, rest_of};
 use first_pass_links::escape::unescape;
 use first_pass_names::items::Allocations;
-use first_pass_open::indentation::scan_indentation;
 use first_pass_open::open_block::{close_block, open_block};
 use first_pass_open::source::Source;
 use first_pass_scan::leaf_scan::scan_closing_code_fence;
@@ -95,14 +94,30 @@ fn trailing_white(bytes: &[u8]) -> usize
         .count()
 }
 
+// Whether the line begins with another byte than a fence or its indentation does. Then it is no closing fence. The
+// count is tested because a blank line would close a fence of no bytes.
+#[inline(always)]
+fn begins_otherwise(line_start: &LineStart<'_>, fence: Fence) -> bool
+    ensures { result ≡ true → (start : ℕ)
+        → closing_fence_end fence.byte fence.count (place_at start line_start.now) ≡ None }
+{
+    match line_start.left() {
+        [first, ..] => *first != fence.byte && 0 < fence.count && line_start.has_no_column(),
+        [] => false,
+    }
+}
+
 // The end of the closing fence in the rest of a line of the text, if there is one; `start` is the start of the line.
 fn closing_fence(text: &str, start: usize, line_start: LineStart<'_>, fence: Fence) -> Option<usize>
     requires place { IsPlaceOf text.now (place_at start line_start) }
     ensures { result ≡ closing_fence_end fence.byte fence.count (place_at start line_start.entry) }
 {
+    if begins_otherwise(&line_start, fence) {
+        return None;
+    }
     let bytes = text.as_bytes();
     let mut line_start = line_start;
-    if scan_indentation(&mut line_start) >= 4 {
+    if line_start.scan_space(4) {
         return None;
     }
     let at = start + line_start.bytes_scanned();
