@@ -1,4 +1,7 @@
 pub mod FoldingLemmas
 pub mod FrontLemmas
+pub mod OrderLemmas
+pub mod PlaceLemmas
+pub mod SettledLemmas
 pub mod TableLemmas
 pub mod TextOrder

@@ -1,32 +1,17 @@
 -- The result of a look-up in a table of labels, and the change by one more definition.
-use Rattle.std.proofs.Common.{◌≡◌, ◌≢◌, ℕ, zero, suc, Bool, true, false, cond, List, [], ◌∷◌, All, Option, None, Some, is_some, nat_eq, refl, sym, ap, subst}
+use Rattle.std.proofs.Common.{◌≡◌, ◌≢◌, ℕ, zero, suc, Bool, true, false, cond, List, [], ◌∷◌, All, Option, None, Some, nat_eq, refl, sym, subst}
 use Rattle.std.proofs.Common.{◌∙◌, le_of_suc-le-suc, suc-le-suc, zero-le, not-suc-le-zero}
 use Rattle.std.proofs.lemmas.Bool.{true≢false}
-use Rattle.std.specs.declared.cmp.Ordering.{Ordering}
-use Rattle.std.specs.declared.cmp.Ordering.TheVariants.{Less, Equal, Greater}
-use Rattle.std.specs.Ordering.{match_ordering, is_eq}
-use Rattle.std.specs.Cmp.Lexicographic.{pointwise, texts_ties, bytes_decides, nat_list_cmp_total}
+use Rattle.std.specs.Cmp.Lexicographic.{pointwise, texts_ties, bytes_decides}
 use Rattle.std.specs.Map.{lookup}
-use Rattle.std.specs.Option.{unwrap_or}
-use Rattle.std.specs.List.Sorted.{IsStrictlySortedBy}
-use Rattle.std.specs.Cmp.{on_total}
-use Rattle.std.proofs.lemmas.Map.{lookup-none}
-use Rattle.std.proofs.lemmas.Option.{none-some, same_Some}
-use Rattle.std.proofs.lemmas.Map.Entries.{none_below_head}
-use Rattle.std.specs.BTreeMap.{is_at, insert_entry}
+use Rattle.std.specs.BTreeMap.{is_at}
 use Rattle.first_pass_items.specs.declared.cow_str.CowStr.{CowStr}
-use Rattle.first_pass_items.specs.CowText.{text_of}
-use Rattle.first_pass_labels.specs.Foldings.{folded, folding_of, label_cmp}
-use Rattle.first_pass_labels.specs.LabelTables.{defined_under, HoldsUnder, with_first, IsInOrder}
+use Rattle.first_pass_labels.specs.Foldings.{folding_of, label_cmp}
+use Rattle.first_pass_labels.specs.LabelTables.{defined_under, HoldsUnder}
 
 -- a look-up by order finds the label with the same folding
-found_by_order : {X : Type 0} (label : CowStr) (es : List (CowStr × X)) → defined_under (folding_of label) es ≡ lookup (is_at (label_cmp label)) es
+pub found_by_order : {X : Type 0} (label : CowStr) (es : List (CowStr × X)) → defined_under (folding_of label) es ≡ lookup (is_at (label_cmp label)) es
 found_by_order label es = λ i. lookup (λ l. texts_ties (folding_of label) (folding_of l) i) es
-
-pub found_under : {X : Type 0} (es now : List (CowStr × X)) (key : CowStr) (label : List ℕ) (r : Option X) → r ≡ lookup (is_at (label_cmp key)) es
-    → es ≡ now → text_of key ≡ label → r ≡ defined_under (folded label) now
-found_under es now key label r is same text =
-    is ∙ sym (found_by_order key es) ∙ ap (λ t. defined_under (folded t) es) text ∙ ap (defined_under (folded label)) same
 
 -- ---- a definition is next to a label with its folding
 
@@ -47,35 +32,3 @@ holds_under folding (e ∷ es) = holds_cons folding e es (pointwise nat_eq foldi
 
 pub found_holds : {X : Type 0} (es : List (CowStr × X)) (folding : List ℕ) (r : Option X) → r ≡ defined_under folding es → HoldsUnder es folding r
 found_holds es folding r is = subst (HoldsUnder es folding) (sym is) (holds_under folding es)
-
--- ---- the first definition stays
-
-again_cons : {X : Type 0} (label : CowStr) (v : X) (e : CowStr × X) (es : List (CowStr × X)) → IsInOrder (e ∷ es) → (o : Ordering) → label_cmp label e.0 ≡ o
-    → cond (is_eq o) (Some e.1) (lookup (is_at (label_cmp label)) es) ≡ Some v
-    → (lookup (is_at (label_cmp label)) es ≡ Some v → insert_entry label_cmp es label v ≡ es)
-    → match_ordering o ((label, v) ∷ e ∷ es) ((e.0, v) ∷ es) (e ∷ insert_entry label_cmp es label v) ≡ e ∷ es
-again_cons label v e es order Less is found rest =
-    let none = lookup-none (is_at (label_cmp label)) (e ∷ es) (none_below_head (on_total folding_of nat_list_cmp_total) label e es order is) in
-    absurd (none-some v (sym none ∙ ap (λ o. cond (is_eq o) (Some e.1) (lookup (is_at (label_cmp label)) es)) is ∙ found))
-again_cons label v e es order Equal is found rest = ap (λ w. (e.0, w) ∷ es) (sym (same_Some e.1 v found))
-again_cons label v e es order Greater is found rest = ap (λ l. e ∷ l) (rest found)
-
--- a definition that is already there changes nothing
-said_again : {X : Type 0} (label : CowStr) (v : X) (es : List (CowStr × X)) → IsInOrder es → lookup (is_at (label_cmp label)) es ≡ Some v
-    → insert_entry label_cmp es label v ≡ es
-unfolding IsStrictlySortedBy
-said_again label v [] order found = absurd (none-some v found)
-said_again label v (e ∷ es) order found =
-    again_cons label v e es order (label_cmp label e.0) refl found (λ rest. said_again label v es order.1 rest)
-
-put_first : {X : Type 0} (es : List (CowStr × X)) (label : CowStr) (x : X) (r : Option X) → IsInOrder es → r ≡ lookup (is_at (label_cmp label)) es
-    → insert_entry label_cmp es label (unwrap_or r x) ≡ cond (is_some r) es (insert_entry label_cmp es label x)
-put_first es label x None order is = refl
-put_first es label x (Some v) order is = said_again label v es order (sym is)
-
-pub first_stays : {X : Type 0} (es old new : List (CowStr × X)) (label : CowStr) (x : X) (r : Option X) → es ≡ old → IsInOrder es
-    → r ≡ lookup (is_at (label_cmp label)) es
-    → new ≡ insert_entry label_cmp es label (unwrap_or r x) → new ≡ with_first old label x
-first_stays es old new label x r same order is put =
-    put ∙ put_first es label x r order is ∙ ap (λ o. cond (is_some o) es (insert_entry label_cmp es label x)) (is ∙ sym (found_by_order label es))
-    ∙ ap (λ l. with_first l label x) same

@@ -24,7 +24,7 @@ same_folding x y = (bytes_decides (folding_of x) (folding_of y)).0
 pub folding_same : (x y : CowStr) → folding_of x ≡ folding_of y → is_same_label x y ≡ true
 folding_same x y = (bytes_decides (folding_of x) (folding_of y)).1
 
-equal_by : (o : Ordering) → is_eq o ≡ true → o ≡ Equal
+pub equal_by : (o : Ordering) → is_eq o ≡ true → o ≡ Equal
 equal_by Less h = absurd (true≢false (sym h))
 equal_by Equal h = refl
 equal_by Greater h = absurd (true≢false (sym h))
@@ -37,10 +37,10 @@ folding_tied x y same = equal_by (label_cmp x y) (sym (texts_ties (folding_of x)
 
 -- ---- an insertion keeps the order
 
-label_total : IsTotalOrder label_cmp
+pub label_total : IsTotalOrder label_cmp
 label_total = on_total folding_of nat_list_cmp_total
 
-below_all : (l k : CowStr) (ks : List CowStr) → label_cmp l k ≡ Less → AllByRecursion (λ y. label_cmp k y ≡ Less) ks
+pub below_all : (l k : CowStr) (ks : List CowStr) → label_cmp l k ≡ Less → AllByRecursion (λ y. label_cmp k y ≡ Less) ks
     → AllByRecursion (λ y. label_cmp l y ≡ Less) ks
 below_all l k [] less all = tt
 below_all l k (y ∷ ks) less all = (label_total.trans l k y less all.0, below_all l k ks less all.1)
@@ -95,15 +95,15 @@ with_one_more es (d ∷ ds) l x = with_one_more (with_first es d.0 d.1) ds l x
 -- ---- the definition under a folding
 
 -- the first definition if there is one, otherwise the second
-abbrev first_of : {X : Type 0} → Option X → Option X → Option X
+abbrev pub first_of : {X : Type 0} → Option X → Option X → Option X
 first_of None o = o
 first_of (Some x) o = Some x
 
-first_of_none : {X : Type 0} (o : Option X) → first_of o None ≡ o
+pub first_of_none : {X : Type 0} (o : Option X) → first_of o None ≡ o
 first_of_none None = refl
 first_of_none (Some x) = refl
 
-first_of_three : {X : Type 0} (o p q : Option X) → first_of (first_of o p) q ≡ first_of o (first_of p q)
+pub first_of_three : {X : Type 0} (o p q : Option X) → first_of (first_of o p) q ≡ first_of o (first_of p q)
 first_of_three None p q = refl
 first_of_three (Some x) p q = refl
 
@@ -166,7 +166,7 @@ module _ {X : Type 0} (f : List ℕ) (l : CowStr) (x : X) where
   under_first : (es : List (CowStr × X)) → defined_under f (with_first es l x) ≡ first_of (defined_under f es) (cond (has f l) (Some x) None)
   under_first es = under_first_by es (defined_under (folding_of l) es) (has f l) refl refl
 
-cond_first : {X : Type 0} (b : Bool) (x : X) (o : Option X) → first_of (cond b (Some x) None) o ≡ cond b (Some x) o
+pub cond_first : {X : Type 0} (b : Bool) (x : X) (o : Option X) → first_of (cond b (Some x) None) o ≡ cond b (Some x) o
 cond_first true x o = refl
 cond_first false x o = refl
 

@@ -1,8 +1,10 @@
 -- A table of definitions by label, as the list of its labels, each with its definition (CommonMark 6.3, on matching
 -- labels).
-use Rattle.std.specs.Prelude.{◌≡◌, ◌≢◌, ℕ, List, Option, None, Some, All, Contains, cond, is_some, nat_eq, [], ◌∷◌}
+use Rattle.std.specs.Prelude.{◌≡◌, ◌≢◌, ◌<◌, ℕ, List, Bool, true, Option, None, Some, All, Contains, cond, is_some, length, map, nat_eq, [], ◌∷◌}
 use Rattle.std.specs.Cmp.Lexicographic.{pointwise}
+use Rattle.std.specs.List.{filter, slice_get}
 use Rattle.std.specs.List.Sorted.{IsStrictlySortedBy}
+use Rattle.std.specs.Ordering.{is_lt}
 use Rattle.std.specs.Map.{keys_of, lookup}
 use Rattle.std.specs.BTreeMap.{insert_entry}
 use Rattle.first_pass_items.specs.declared.cow_str.CowStr.{CowStr}
@@ -33,3 +35,25 @@ with_all entries (d ∷ ds) = with_all (with_first entries d.0 d.1) ds
 -- the table of the definitions of a text, in the order of the text
 abbrev pub table_of : {X : Type 0} → List (CowStr × X) → List (CowStr × X)
 table_of definitions = with_all [] definitions
+
+-- a label is past the last one if it comes after it in the order of labels; without a last one each label is
+abbrev pub is_past : Option CowStr → CowStr → Bool
+is_past None label = true
+is_past (Some last) label = is_lt (label_cmp last label)
+
+-- the definitions whose labels are past the last one
+abbrev pub past : {X : Type 0} → Option CowStr → List (CowStr × X) → List (CowStr × X)
+past last definitions = filter (λ d. is_past last d.0) definitions
+
+-- of the least definition so far and one more, the one with the lesser label; the first one if they are tied
+abbrev pub least_with : {X : Type 0} → Option (CowStr × X) → CowStr × X → Option (CowStr × X)
+least_with None d = Some d
+least_with (Some least) d = cond (is_lt (label_cmp d.0 least.0)) (Some d) (Some least)
+
+-- the definitions at these indices are those of the table, in its order (this project)
+abbrev pub IsOrderOf : {X : Type 0} → List ℕ → List (CowStr × X) → List (CowStr × X) → Type 0
+IsOrderOf order definitions table = map (slice_get definitions) order ≡ map Some table
+
+-- the same if there are indices
+abbrev pub IsOrderIfAny : {X : Type 0} → List ℕ → List (CowStr × X) → List (CowStr × X) → Type 0
+IsOrderIfAny order definitions table = 0 < length order → IsOrderOf order definitions table

@@ -1,2 +1,3 @@
 pub mod Foldings
 pub mod LabelTables
+pub mod Slots

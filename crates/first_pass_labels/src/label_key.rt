@@ -1,13 +1,13 @@
 //! A label as the key of a table.
 
-ghost use Rattle.std.specs.Prelude.{◌≡◌, ◌/◌, ◌^◌, Some, IfOk, refl};
+ghost use Rattle.std.specs.Prelude.{◌≡◌, ◌<◌, ◌/◌, ◌^◌, ℕ, slice_index, Some, IfOk, refl};
 ghost use Rattle.std.proofs.Common.{rules};
 ghost use Rattle.std.specs.Hash as fed;
 ghost use Rattle.std.specs.Cmp.{on_equiv, on_total, on_po, on_per, partial_equiv_from_equiv};
 ghost use Rattle.std.specs.Cmp.Lexicographic.{nat_list_eq_equiv, nat_list_cmp_total, texts_ties, texts_po};
 ghost use Rattle.std.specs.Cmp.Rules.{hashing};
 ghost use Rattle.first_pass_items.specs.CowText.{text_of};
-ghost use Rattle.first_pass_labels.specs.Foldings.{folding_of, is_same_label, label_cmp};
+ghost use Rattle.first_pass_labels.specs.Foldings.{folding_of, is_same_label, label_cmp, leading_number};
 
 use crate::folding::{Folding, leading_number, own_leading_number};
 use first_pass_items::cow_str::CowStr;
@@ -76,6 +76,16 @@ impl<'a> LabelKey<'a> {
         self.folding.text_of(self.label.deref())
     }
 
+    /// Returns the first eight bytes of the folding as one number, the first byte the most significant, with 0 for each
+    /// missing byte.
+    #[inline(always)]
+    pub(crate) fn first_eight(&self) -> u64
+        ensures value { result ≡ leading_number 16 (folding_of self.now) / 2 ^ 64 }
+        ensures fit { (at : ℕ) → slice_index (folding_of self.now) at < 256 }
+    {
+        half(self.front)
+    }
+
     // The byte order of the foldings. Most keys differ in their first bytes, so this call is seldom needed and is not
     // inlined.
     #[inline(never)]
@@ -132,7 +142,7 @@ impl<'a> Ord for LabelKey<'a> {
     /// Returns the byte order of the foldings.
     #[inline(always)]
     fn cmp(&self, other: &LabelKey<'a>) -> Ordering {
-        // The first eight bytes often decide. A search in a table passes smaller keys most often.
+        // The first eight bytes often decide.
         let (first, compared) = (half(self.front), half(other.front));
         if first > compared {
             return Ordering::Greater;

@@ -3,16 +3,17 @@
 ghost use Rattle.std.specs.Prelude.{◌≡◌, ◌^◌, ◌<◌, ◌+◌, [], length, is_some, IfOk, IfSome, OnOk, OnErr};
 ghost use Rattle.std.specs.Option.{option_copied};
 ghost use Rattle.std.specs.Map.Iter.{ShowsInOrder, deref_pair};
-ghost use Rattle.first_pass_labels.specs.Foldings.{folded};
+ghost use Rattle.first_pass_labels.specs.Foldings.{folded, folding_of};
 ghost use Rattle.first_pass_items.specs.CowText.{text_of};
 ghost use Rattle.first_pass_labels.specs.LabelTables.{defined_under, with_first, IsInOrder, HoldsUnder};
 
+pub use crate::in_order::InOrder;
+use crate::in_order::order_of;
 use crate::label_key::LabelKey;
+use crate::search::{find_first, find_settled};
 use first_pass_items::cow_str::{CowStr, InlineStr};
 use std::alloc::{AllocError, Global};
 use std::boxed::BoxedStr;
-use std::collections::BTreeMap;
-use std::collections::btree_map::Iter;
 use std::marker::Model;
 use std::ops::Range;
 
@@ -87,20 +88,29 @@ pub type RefDefs<'a> = LabelTable<'a, LinkDef<'a>>;
 /// The footnote definitions of a text, by label.
 pub type FootDefs<'a> = LabelTable<'a, FootnoteDef>;
 
-/// A table of definitions by label, in the byte order of the labels' foldings, with one label for each folding.
+/// A table of definitions by label, in the byte order of the labels' foldings. `get` and `iter` show only the first
+/// definition of each folding.
+///
+/// The table keeps every definition that was added. `settle` sorts it. While it is not sorted, `get` goes through all
+/// definitions, and so does each step of `iter`.
 #[derive(Drop)]
 pub struct LabelTable<'a, T> {
     alloc: Global,
-    entries: BTreeMap<LabelKey<'a>, T>,
+    entries: Vec<(LabelKey<'a>, T)>,
+    // The indices of the table's entries in the order of their labels. Empty unless the table is settled.
+    order: Vec<usize>,
 }
 
 impl<'a, T> Model for LabelTable<'a, T> {
     ghost use Rattle.std.specs.Prelude.{List};
     ghost use Rattle.first_pass_items.specs.declared.cow_str.CowStr.{CowStr};
+    ghost use Rattle.first_pass_labels.specs.LabelTables.{table_of, IsOrderIfAny};
 
     ghost Value = { List (CowStr × T) };
 
-    ghost view = { λ t. t.entries.entries };
+    ghost view = { λ t. table_of t.entries.items };
+
+    ghost invariant = { λ t. IsOrderIfAny t.order.items t.entries.items (table_of t.entries.items) };
 }
 
 impl<'a, T> LabelTable<'a, T> {
@@ -110,7 +120,8 @@ impl<'a, T> LabelTable<'a, T> {
     {
         LabelTable {
             alloc,
-            entries: BTreeMap::new(alloc),
+            entries: Vec::new(alloc),
+            order: Vec::new(alloc),
         }
     }
 
@@ -121,22 +132,31 @@ impl<'a, T> LabelTable<'a, T> {
         ensures holds { IfOk result (λ found. HoldsUnder self.now (folded label.now) (option_copied found)) }
     {
         let key = key_of_copy(self.alloc, label)?;
-        Ok(self.entries.get(&key))
+        Ok(self.find(&key))
+    }
+
+    // Returns the definition whose label has the same folding as that of the key.
+    fn find(&self, key: &LabelKey<'a>) -> Option<&T>
+        ensures { option_copied result ≡ defined_under (folding_of key.now) self.now }
+    {
+        if self.order.is_empty() {
+            return find_first(self.entries.as_slice(), key);
+        }
+        find_settled(self.entries.as_slice(), self.order.as_slice(), key)
     }
 
     /// Returns the labels with their definitions, in the byte order of their foldings. No folding occurs twice.
-    pub fn iter(&self) -> Iter<'_, LabelKey<'a>, T>
+    pub fn iter(&self) -> InOrder<'_, 'a, T>
         ensures entries { result ≡ self.now }
         ensures order { IsInOrder self.now }
         ensures fits { length self.now < 2 ^ 63 }
         ensures runs { ShowsInOrder (deref_pair {K = LabelKey} {X = T}) }
     {
-        self.entries.iter()
+        InOrder::new(self.entries.as_slice(), self.order.as_slice())
     }
 
     /// Adds a definition under a label, unless the table has one under a label with the same folding: the first stays.
-    /// Fails only if an allocation fails; then nothing changes (CommonMark 4.7).
-    #[tactic(auto, using(crate::proofs::TableLemmas::first_stays))]
+    /// Fails only if an allocation fails; then no definition is added (CommonMark 4.7).
     pub fn insert_first(&mut self, label: LabelKey<'a>, definition: T) -> Result<(), AllocError>
     where
         T: Drop,
@@ -144,7 +164,21 @@ impl<'a, T> LabelTable<'a, T> {
         ensures order { IsInOrder self.old }
         ensures refused { OnErr result (self.new ≡ self.old) }
     {
-        self.entries.entry(label)?.or_insert(definition);
+        self.order.clear();
+        self.entries.push((label, definition))?;
+        Ok(())
+    }
+
+    /// Sorts the table, so that `get` and `iter` take few steps until the next definition is added. Its labels and
+    /// definitions stay the same. Fails only if an allocation fails. Allocates nothing if the table is empty.
+    pub fn settle(&mut self) -> Result<(), AllocError>
+        ensures same { self.new ≡ self.old }
+        ensures err { OnErr result (0 < length self.old) }
+    {
+        if 0 < self.entries.len() {
+            let order = order_of(self.alloc, self.entries.as_slice())?;
+            self.order = order;
+        }
         Ok(())
     }
 }

@@ -2,6 +2,9 @@
 #![tactic(auto)]
 
 mod folding;
+pub mod in_order;
 pub mod label_key;
 pub mod label_table;
 pub mod laws;
+mod search;
+mod slot;
