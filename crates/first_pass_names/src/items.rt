@@ -60,6 +60,17 @@ impl<'a> Allocations<'a> {
         &self.footdefs
     }
 
+    /// Sorts both tables, so that look-ups and listings take few steps until the next entry is added. No entry changes.
+    /// Fails only if an allocation fails.
+    pub fn settle(&mut self) -> Result<(), AllocError>
+        ensures entries { entries self.new ≡ entries self.old }
+        ensures names { names_of self.new ≡ names_of self.old }
+    {
+        self.refdefs.settle()?;
+        self.footdefs.settle()?;
+        Ok(())
+    }
+
     /// Appends a string to the list of strings, and returns its index there. Fails only if an allocation fails; then
     /// nothing changes.
     pub fn allocate_cow(&mut self, cow: CowStr<'a>) -> Result<CowIndex, AllocError>
