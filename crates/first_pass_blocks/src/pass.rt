@@ -291,9 +291,10 @@ pub fn run_first_pass<'a>(
     let BlockPass {
         source: _,
         state,
-        allocs,
+        mut allocs,
         metadata_ends: _,
     } = pass;
     let PassState { tree, .. } = state;
+    allocs.settle()?;
     Ok((tree, allocs))
 }

@@ -7,7 +7,7 @@ use Rattle.first_pass_items.specs.declared.item.CowIndex.{CowIndex}
 use Rattle.first_pass_items.specs.declared.item.Item.{Item}
 use Rattle.first_pass_items.specs.declared.item.ItemBody.{ItemBody}
 use Rattle.first_pass_items.specs.declared.item.ItemBody.TheVariants.{FootnoteDefinition}
-use Rattle.first_pass_labels.specs.LabelTables.{with_first, with_all}
+use Rattle.first_pass_labels.specs.LabelTables.{table_of, with_first, with_all}
 use Rattle.first_pass_grammar.specs.Names.{Names}
 use Rattle.first_pass_places.specs.FootnoteNodes.{label_with_index, labels_from, entry_bytes, AreFirstFootnotes, AddsNode}
 
@@ -73,3 +73,15 @@ label_among names index j (suc i) (n ∷ nodes) d within some =
 
 pub one_label : (names : Names) (index : ℕ) (ix : CowIndex) (body : ItemBody) → body ≡ FootnoteDefinition ix → 0 < length (label_with_index names index body)
 one_label names index ix body e = subst (λ (b : ItemBody). 0 < length (label_with_index names index b)) (sym e) (omega arith)
+
+-- ---- a table that is not empty has a label
+
+none_of : (names : Names) (nodes : List (ℕ × Item)) (definitions : List (CowStr × ℕ)) → map entry_bytes definitions ≡ labels_from names 0 nodes
+    → 0 < length (table_of definitions) → 0 < length (labels_from names 0 nodes)
+unfolding with_all
+none_of names nodes [] labels some = absurd (omega (arith, some))
+none_of names nodes (d ∷ definitions) labels some = omega (arith, sym (ap length labels))
+
+pub some_labels : (names : Names) (nodes : List (ℕ × Item)) (table : List (CowStr × ℕ)) → 0 < length table → AreFirstFootnotes names nodes table
+    → 0 < length (labels_from names 0 nodes)
+some_labels names nodes table some h = none_of names nodes h.definitions h.labels (omega (arith, some, ap length h.first))

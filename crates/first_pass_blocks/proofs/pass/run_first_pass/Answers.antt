@@ -8,8 +8,11 @@ use Rattle.first_pass_lists.specs.declared.state.PassState.{PassState}
 use Rattle.first_pass_open.specs.declared.source.Source.{Source}
 use Rattle.first_pass_order.specs.Ordered.{reached, IsReadTo, IsReadFrom}
 use Rattle.first_pass_ready.specs.State.{Ready}
-use Rattle.first_pass_names.specs.TableEntries.{tables_of, names_of}
-use Rattle.first_pass_blocks.specs.Written.{TablesAreWritten}
+use Rattle.first_pass_names.specs.TableEntries.{Entries, entries, names_of, tables_in, tables_of}
+use Rattle.first_pass_grammar.specs.Derivation.{Derives}
+use Rattle.first_pass_grammar.specs.Names.{AreNamed}
+use Rattle.first_pass_definitions.specs.Found.{AreWritten}
+use Rattle.first_pass_blocks.specs.Written.{AreFootnotesWritten, TablesAreWritten}
 use Rattle.first_pass_blocks.proofs.LinkDefinitions.WrittenLemmas.{none_written}
 use Rattle.first_pass_grammar.proofs.Count.CountedNodes.{own_at_most}
 use Rattle.first_pass_order.proofs.InsertedCells.{all_nodes}
@@ -80,11 +83,13 @@ at_end options text r at past (inl o) = o
 at_end options text r at past (inr h) = (let within = h.0.within in absurd (omega arith))
 
 -- At the end of the text all containers are closed.
-all_closed : (c : goal.After-close_containers) → c.close_containers.new.state.tree.spine ≡ []
+all_closed : (c : goal.In_ok-settle) → c.close_containers.new.state.tree.spine ≡ []
 all_closed c = c.close_containers.ensures.spine ∙ outer-none c.loop-ix.pass.state.tree.spine
 
-pub returns-clause-derived : goal.returns-clause-derived
-returns-clause-derived c =
+derived : (c : goal.In_ok-settle)
+    → Derives (document c.args.text.now c.args.options (names_of c.loop-ix.pass.allocs)) c.close_containers.new.state.tree.nodes
+    (tables_of c.loop-ix.pass.allocs)
+derived c =
     let names = names_of c.loop-ix.pass.allocs in
     let d = document c.args.text.now c.args.options names in
     let i = c.loop-ix.invariant in
@@ -95,16 +100,24 @@ returns-clause-derived c =
     c.close_containers.ensures.kept.ready d (tables_of c.loop-ix.pass.allocs) [] refl (λ m low high. refl) here in
     ready_finish d (tables_of c.loop-ix.pass.allocs) now (all_closed c) closed
 
+pub returns-clause-derived : goal.returns-clause-derived
+returns-clause-derived c =
+    let old = c.loop-ix.pass.allocs in
+    let new = c.settle.new.self in
+    let nodes = c.close_containers.new.state.tree.nodes in
+    subst (λ m. Derives (document c.args.text.now c.args.options m) nodes (tables_of new)) (sym c.settle.ensures.names)
+    (subst (Derives (document c.args.text.now c.args.options (names_of old)) nodes) (sym (ap tables_in c.settle.ensures.entries)) (derived c))
+
 pub returns-clause-only : goal.returns-clause-only
 returns-clause-only c =
-    only_derived c.args.text.now c.args.options (names_of c.loop-ix.pass.allocs) c.close_containers.new.state.tree.nodes (tables_of c.loop-ix.pass.allocs)
+    only_derived c.args.text.now c.args.options (names_of c.settle.new.self) c.close_containers.new.state.tree.nodes (tables_of c.settle.new.self)
     (returns-clause-derived c)
 
 pub returns-clause-tables : goal.returns-clause-tables
 returns-clause-tables c =
-    let names = names_of c.loop-ix.pass.allocs in
+    let names = names_of c.settle.new.self in
     let d = document c.args.text.now c.args.options names in
-    derived_whole d c.close_containers.new.state.tree.nodes (tables_of c.loop-ix.pass.allocs) (returns-clause-derived c)
+    derived_whole d c.close_containers.new.state.tree.nodes (tables_of c.settle.new.self) (returns-clause-derived c)
 
 pub returns-clause-finished : goal.returns-clause-finished
 returns-clause-finished c = all_closed c
@@ -113,7 +126,7 @@ pub returns-clause-settled : goal.returns-clause-settled
 returns-clause-settled c =
     let names = names_of c.loop-ix.pass.allocs in
     let d = document c.args.text.now c.args.options names in
-    derived_settled d c.close_containers.new.state.tree.nodes (tables_of c.loop-ix.pass.allocs) (returns-clause-derived c)
+    derived_settled d c.close_containers.new.state.tree.nodes (tables_of c.loop-ix.pass.allocs) (derived c)
 
 pub returns-clause-order : goal.returns-clause-order
 returns-clause-order c =
@@ -141,14 +154,18 @@ returns-clause-counted c =
 pub returns-clause-node_bound : goal.returns-clause-node_bound
 returns-clause-node_bound c =
     let counted = returns-clause-counted c in
-    let all = all_nodes (names_of c.loop-ix.pass.allocs) c.close_containers.new.state.tree.nodes (returns-clause-tables c) in
+    let all = all_nodes (names_of c.settle.new.self) c.close_containers.new.state.tree.nodes (returns-clause-tables c) in
     omega arith
 
 pub returns-clause-named : goal.returns-clause-named
-returns-clause-named c = c.close_containers.ensures.kept.named (names_of c.loop-ix.pass.allocs) c.loop-ix.invariant.named
+returns-clause-named c =
+    subst (λ m. AreNamed m c.close_containers.new.state.tree.nodes) (sym c.settle.ensures.names)
+    (c.close_containers.ensures.kept.named (names_of c.loop-ix.pass.allocs) c.loop-ix.invariant.named)
 
 pub returns-clause-links : goal.returns-clause-links
-returns-clause-links c = c.loop-ix.invariant.written.0
+returns-clause-links c =
+    subst (λ (e : Entries). AreWritten c.args.text.now e.links) (sym c.settle.ensures.entries) c.loop-ix.invariant.written.0
 
 pub returns-clause-footnotes : goal.returns-clause-footnotes
-returns-clause-footnotes c = c.loop-ix.invariant.written.1
+returns-clause-footnotes c =
+    subst (λ (e : Entries). AreFootnotesWritten c.args.text.now e.footnotes) (sym c.settle.ensures.entries) c.loop-ix.invariant.written.1

@@ -3,7 +3,7 @@ use Rattle.std.proofs.lemmas.List.{take_all}
 use Rattle.first_pass_links.proofs.Rewritten.{on_err}
 use Rattle.first_pass_names.specs.TableEntries.{names_of}
 use Rattle.first_pass_places.specs.FootnoteNodes.{AreFirstFootnotes}
-use Rattle.first_pass_places.proofs.FootnoteEntries.{label_among, none_first, next_node}
+use Rattle.first_pass_places.proofs.FootnoteEntries.{label_among, none_first, next_node, some_labels}
 use Rattle.first_pass_places.proofs.footnotes.footnote_nodes.Goals as goal
 
 pub loop-index-init : goal.loop-index-init
@@ -23,5 +23,13 @@ returns-in_err-add_footnote-clause-err c =
 
 pub returns-clause-value : goal.returns-clause-value
 returns-clause-value c =
-    subst (λ l. AreFirstFootnotes (names_of c.args.allocs.now) l c.loop-index.table) (take_all c.loop-index.index c.args.nodes.now c.loop-index-test.false)
-    c.loop-index.invariant
+    subst (AreFirstFootnotes (names_of c.args.allocs.now) c.args.nodes.now) (sym c.settle.ensures.same)
+    (subst (λ l. AreFirstFootnotes (names_of c.args.allocs.now) l c.loop-index.table) (take_all c.loop-index.index c.args.nodes.now c.loop-index-test.false)
+    c.loop-index.invariant)
+
+pub returns-in_err-settle-clause-err : goal.returns-in_err-settle-clause-err
+returns-in_err-settle-clause-err c =
+    on_err c.from_residual-in_err-settle.result
+    (some_labels (names_of c.args.allocs.now) c.args.nodes.now c.loop-index.table c.in_err-settle.ensures.err
+    (subst (λ l. AreFirstFootnotes (names_of c.args.allocs.now) l c.loop-index.table) (take_all c.loop-index.index c.args.nodes.now c.loop-index-test.false)
+    c.loop-index.invariant))
