@@ -3,7 +3,8 @@ use Rattle.std.proofs.Common.{◌≡◌, ℕ, Bool, true, false, cond, get_or, L
 use Rattle.std.proofs.Common.{append-nil, ne_eqb}
 use Rattle.first_pass_items.specs.Bytes.{number_sign, full_stop}
 use Rattle.first_pass_lines.specs.Lines.{begins}
-use Rattle.first_pass_attributes.specs.Attributes.{Attributes, is_attribute_word, gives_key, key_and_value, last_or, with_words}
+use Rattle.first_pass_attributes.specs.Attributes.{Attributes, attributes_in, attributes_of, no_attributes, is_attribute_word, words, gives_key, key_and_value, last_or, with_words}
+use Rattle.first_pass_attributes.specs.declared.attrs.HeadingAttributes.{HeadingAttributes}
 
 -- attributes are equal if their three parts are
 pub same_parts : {i j : Option (List ℕ)} {c d : List (List ℕ)} {e f : List (List ℕ × Option (List ℕ))}
@@ -51,6 +52,12 @@ with-told : (a : Attributes) (t : Bool) (w : List ℕ) (ws : List (List ℕ))
     → with_words a (cond t (w ∷ ws) ws) ≡ with_words (with_words a (cond t (w ∷ []) [])) ws
 with-told a true w ws = with-first a w ws
 with-told a false w ws = ap (λ b. with_words b ws) (sym (with-none a))
+
+-- the attributes of a block are those of its words, added to none
+pub from_none : (bs : List ℕ) (empty : HeadingAttributes) → attributes_in empty ≡ no_attributes
+    → with_words (attributes_in empty) (filter is_attribute_word (words bs)) ≡ attributes_of bs
+unfolding attributes_of
+from_none bs empty e = ap (λ (a : Attributes). with_words a (filter is_attribute_word (words bs))) e
 
 -- the same for a word that may have no attribute
 pub with-next : (a : Attributes) (w : List ℕ) (ws : List (List ℕ))

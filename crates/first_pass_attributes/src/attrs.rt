@@ -7,10 +7,10 @@ ghost use Rattle.std.specs.Prelude.{◌≡◌, ◌==◌, ◌^◌, ℕ, ◌≤◌
 ghost use Rattle.first_pass_items.specs.Bytes.{left_brace, right_brace};
 ghost use Rattle.first_pass_lines.specs.Lines.{ends as ends_with};
 ghost use Rattle.first_pass_attributes.specs.AttributeBlocks.{is_after_block, is_inside_block, opening_brace as opening_of, length_before_block, inside_block};
-ghost use Rattle.first_pass_attributes.specs.Attributes.{attributes_of, attributes_in, HasSeveral};
+ghost use Rattle.first_pass_attributes.specs.Attributes.{attributes_of, attributes_in, no_attributes, HasSeveral};
 
 pub use crate::short_list::ShortList;
-use crate::words::parse_attribute_words;
+use crate::words::add_attribute_words;
 use first_pass_lines::lanes::LANES;
 use first_pass_lines::lines::{is_line_end, is_space_or_tab};
 use std::alloc::{AllocError, Global};
@@ -158,6 +158,20 @@ pub struct HeadingAttributes<'a> {
     pub attrs: ShortList<(&'a str, Option<&'a str>)>,
 }
 
+impl<'a> HeadingAttributes<'a> {
+    /// Returns no attributes. Allocates nothing.
+    #[inline(always)]
+    pub fn new() -> HeadingAttributes<'a>
+        ensures { attributes_in result ≡ no_attributes }
+    {
+        HeadingAttributes {
+            id: None,
+            classes: ShortList::new(),
+            attrs: ShortList::new(),
+        }
+    }
+}
+
 /// Returns the attributes in the text between the braces of an attribute block, never `None`. Tabs, 0x0C, spaces and
 /// line endings separate its words, and words of one byte are ignored. `#install` is an id, and the last id counts.
 /// `.wide` is a class. Any other word is a key; its value, if any, is the part after its first `=`. The key and the
@@ -173,6 +187,7 @@ pub fn parse_inside_attribute_block<'a>(
     ensures err { OnErr result (HasSeveral (attributes_of inside_attr_block.now)) }
 {
     let ahead = inside_attr_block.as_bytes();
-    let attributes = parse_attribute_words(alloc, inside_attr_block, ahead)?;
-    Ok(attributes)
+    let mut attributes = HeadingAttributes::new();
+    add_attribute_words(alloc, &mut attributes, inside_attr_block, ahead)?;
+    Ok(Some(attributes))
 }

@@ -4,10 +4,9 @@ ghost use Rattle.std.specs.List.{position, prefix_len};
 ghost use Rattle.std.specs.Prelude.{◌≡◌, ◌==◌, ◌≤◌, ◌<◌, ◌∷◌, [], Some, None, not, filter, length, take, drop, slice_index, IfSome, IfOk, OnOk, OnErr, IsSomeAnd};
 ghost use Rattle.first_pass_items.specs.Bytes.{equals_sign};
 ghost use Rattle.first_pass_lines.specs.Lanes.{IsRunIn};
-ghost use Rattle.first_pass_attributes.specs.Attributes.{is_between_words, is_solid, is_attribute_word, key_and_value as key_and_value_of, with_words, attributes_of, pair_in, attributes_in, HasSeveral};
+ghost use Rattle.first_pass_attributes.specs.Attributes.{is_between_words, is_solid, is_attribute_word, words, key_and_value as key_and_value_of, with_words, pair_in, attributes_in, HasSeveral};
 
 use crate::attrs::HeadingAttributes;
-use crate::short_list::ShortList;
 use first_pass_lines::lanes::{LANES, first_set};
 use std::alloc::{AllocError, Global};
 use std::simd::prelude::*;
@@ -73,31 +72,30 @@ pub fn scan_key(word: &[u8]) -> Option<usize>
     word.iter().position(|b| *b == b'=')
 }
 
-/// Returns the same as `parse_inside_attribute_block`. `ahead` begins with the bytes of the text between the braces.
-/// The more bytes follow these, the more words are found by reading 16 bytes at once.
+/// Adds the attributes of the words in `inside_attr_block`, the text between the braces of an attribute block, to
+/// `attributes`. `ahead` begins with the bytes of this text. The more bytes follow these, the more words are found by
+/// reading 16 bytes at once. Fails only if an allocation fails; with at most one class and at most one key in all, it
+/// allocates nothing and does not fail (this project).
 #[inline(always)]
-pub fn parse_attribute_words<'a>(
+pub fn add_attribute_words<'a>(
     alloc: Global,
+    attributes: &mut HeadingAttributes<'a>,
     inside_attr_block: &'a str,
     ahead: &[u8],
-) -> Result<Option<HeadingAttributes<'a>>, AllocError>
+) -> Result<(), AllocError>
     requires { inside_attr_block.now ≡ take (length inside_attr_block.now) ahead.now }
-    ensures value { IfOk result (λ answer.
-        IsSomeAnd answer (λ h. attributes_in h ≡ attributes_of inside_attr_block.now)) }
-    ensures err { OnErr result (HasSeveral (attributes_of inside_attr_block.now)) }
+    ensures value { OnOk result (attributes_in attributes.new
+        ≡ with_words (attributes_in attributes.old) (filter is_attribute_word (words inside_attr_block.now))) }
+    ensures err { OnErr result (HasSeveral
+        (with_words (attributes_in attributes.old) (filter is_attribute_word (words inside_attr_block.now)))) }
 {
-    let mut attributes = HeadingAttributes {
-        id: None,
-        classes: ShortList::new(),
-        attrs: ShortList::new(),
-    };
     let mut rest = inside_attr_block;
     let mut ahead = ahead;
     loop {
         let end = scan_word_within(ahead, rest.len());
-        add_word(alloc, &mut attributes, &rest[..end])?;
+        add_word(alloc, attributes, &rest[..end])?;
         if end == rest.len() {
-            return Ok(Some(attributes));
+            return Ok(());
         }
         rest = &rest[end + 1..];
         ahead = &ahead[end + 1..];

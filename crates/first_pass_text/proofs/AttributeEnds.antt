@@ -1,6 +1,6 @@
 -- The attribute block at the end of a heading's text.
-use Rattle.std.proofs.Common.{◌≡◌, inl, inr, ℕ, suc, zero, ◌+◌, ◌-◌, ◌≤◌, ◌<◌, ◌==◌, ◌&&◌, nat_lt, Bool, true, false, List, ◌∷◌, ◌++◌, length, take, drop}
-use Rattle.std.proofs.Common.{get_or, [], slice_index, Option, Some, None, is_some, IsSomeAnd, min, IsUtf8, IsCharBoundary, refl, sym, ap, subst, ◌∙◌, arith}
+use Rattle.std.proofs.Common.{◌≡◌, inl, inr, ℕ, ◌+◌, ◌-◌, ◌≤◌, ◌<◌, ◌==◌, ◌&&◌, nat_lt, Bool, true, false, List, ◌∷◌, ◌++◌, length, take, drop}
+use Rattle.std.proofs.Common.{get_or, [], slice_index, Option, Some, None, is_some, min, IsUtf8, IsCharBoundary, refl, sym, ap, subst, ◌∙◌, arith}
 use Rattle.std.proofs.Common.{length-append, length-drop, length-take, length-take-le, get_or-drop, if◌then◌else◌}
 use Rattle.std.specs.List.{slice_range, suffix_len}
 use Rattle.std.specs.Option.{option_map, option_map_or}
@@ -13,9 +13,10 @@ use Rattle.first_pass_items.specs.OptionWords.{has, heading_attributes}
 use Rattle.first_pass_items.specs.Bytes.{left_brace, right_brace}
 use Rattle.first_pass_items.specs.declared.option_set.Options.{Options}
 use Rattle.first_pass_attributes.specs.AttributeBlocks.{Braces, attribute_block, length_before_block, between_braces, inside_block}
-use Rattle.first_pass_attributes.specs.Attributes.{Attributes, attributes_of, attributes_in}
-use Rattle.first_pass_attributes.specs.declared.attrs.HeadingAttributes.{HeadingAttributes}
+use Rattle.first_pass_attributes.specs.Attributes.{attributes_of}
 use Rattle.first_pass_attributes.proofs.BlockFacts.{block-found}
+use Rattle.first_pass_grammar.specs.Names.{Names, NamesAttributes}
+use Rattle.first_pass_items.specs.declared.item.HeadingIndex.{HeadingIndex}
 use Rattle.first_pass_grammar.specs.Headings.{heading_attribute_block, heading_attributes_of, before_attributes, chain_end, chain_bytes, kept_before}
 use Rattle.first_pass_items.specs.declared.item.Item.{Item}
 use Rattle.first_pass_lines.specs.Lines.{is_white}
@@ -117,17 +118,12 @@ some_inside r (Some block) e = let same : r ≡ between_braces block = cc in (bl
 pub given_not : (options : Options) (bs : List ℕ) → has options heading_attributes ≡ true → None ≡ inside_block bs → heading_attributes_of options bs ≡ None
 given_not options bs h e = given_none options bs (these_braces options bs h ∙ none_inside (attribute_block bs) e)
 
-is_given : (o : Option HeadingAttributes) (given : Attributes)
-    → IsSomeAnd o (λ (h : HeadingAttributes). attributes_in h ≡ given) → option_map attributes_in o ≡ Some given
-is_given None given h = absurd h
-is_given (Some a) given h = ap Some h
-
--- The attributes that were found between the braces are those of the text.
-pub given_some : (options : Options) (text : List ℕ) (start to : ℕ) (block : List ℕ) (r : ℕ × ℕ) (found : Option HeadingAttributes)
+-- The attributes of the bytes that were found between the braces are those of the text.
+pub given_some : (options : Options) (text : List ℕ) (start to : ℕ) (block : List ℕ) (r : ℕ × ℕ)
     → has options heading_attributes ≡ true → to ≤ length text → Some r ≡ inside_block (slice_range text start to)
-    → block ≡ slice_range text (start + r.0) (start + r.1) → IsSomeAnd found (λ (h : HeadingAttributes). attributes_in h ≡ attributes_of block)
-    → option_map attributes_in found ≡ heading_attributes_of options (slice_range text start to)
-given_some options text start to block r found h within e block_is is =
+    → block ≡ slice_range text (start + r.0) (start + r.1)
+    → heading_attributes_of options (slice_range text start to) ≡ Some (attributes_of block)
+given_some options text start to block r h within e block_is =
     let bs : List ℕ = slice_range text start to in
     let (braces, found_is, opens, closes) = some_inside r (attribute_block bs) e in
     let inside = block_within bs braces found_is in
@@ -135,19 +131,8 @@ given_some options text start to block r found h within e block_is is =
     let same : slice_range bs (braces.opening + 1) braces.closing ≡ block =
     ap (λ n. slice_range bs n braces.closing) opens ∙ ap (slice_range bs r.0) closes
     ∙ between_both text start to r.0 r.1 (omega (arith, inside.0, inside.1)) ∙ sym block_is in
-    is_given found (attributes_of block) is
-    ∙ sym (ap (option_map (λ (b : Braces). attributes_of (slice_range bs (b.opening + 1) b.closing))) (these_braces options bs h ∙ found_is)
-    ∙ ap (λ xs. Some (attributes_of xs)) same)
-
--- the first n bytes are as many as their own length
-take_own : (n : ℕ) (xs : List ℕ) → take n xs ≡ take (length (take n xs)) xs
-take_own zero xs = refl
-take_own (suc n) [] = refl
-take_own (suc n) (x ∷ xs) = ap (λ (ys : List ℕ). x ∷ ys) (take_own n xs)
-
--- bytes with which others begin are the first of those, as many as their own length
-pub own_length : (block xs : List ℕ) (n : ℕ) → block ≡ take n xs → block ≡ take (length block) xs
-own_length block xs n e = e ∙ take_own n xs ∙ ap (λ k. take k xs) (ap length (sym e))
+    ap (option_map (λ (b : Braces). attributes_of (slice_range bs (b.opening + 1) b.closing))) (these_braces options bs h ∙ found_is)
+    ∙ ap (λ xs. Some (attributes_of xs)) same
 
 -- the offset after the opening brace is a character boundary
 pub brace_boundary : (text bs : List ℕ) (start to opening at : ℕ)
@@ -160,28 +145,29 @@ brace_boundary text bs start to opening at utf8 bs_is within less opens at_is =
     let same : start + opening + 1 ≡ start + at = omega arith in
     subst (IsCharBoundary text) same (IsCharBoundary-after_ascii text (start + opening) utf8 (omega arith) (omega (arith, opens)))
 
--- a text has a block if attributes were found, and none if none were
-given_by : (options : Options) (bs : List ℕ) (found : Option HeadingAttributes) (o : Option Braces) → heading_attribute_block options bs ≡ o
-    → option_map attributes_in found ≡ option_map (λ (block : Braces). attributes_of (slice_range bs (block.opening + 1) block.closing)) o
-    → is_some found ≡ true → (block : Braces) × (heading_attribute_block options bs ≡ Some block)
-given_by options bs found (Some block) is e some = (block, is)
-given_by options bs (Some a) None is e some = absurd cc
-given_by options bs None None is e some = absurd cc
+-- a text has a block if an index names its attributes, and none without an index
+named_by : (options : Options) (bs : List ℕ) (names : Names) (index : Option HeadingIndex) (o : Option Braces) → heading_attribute_block options bs ≡ o
+    → NamesAttributes names index (option_map (λ (block : Braces). attributes_of (slice_range bs (block.opening + 1) block.closing)) o)
+    → is_some index ≡ true → (block : Braces) × (heading_attribute_block options bs ≡ Some block)
+named_by options bs names index (Some block) is e some = (block, is)
+named_by options bs names (Some ix) None is e some = absurd e
+named_by options bs names None None is e some = absurd cc
 
-none_by : (options : Options) (bs : List ℕ) (found : Option HeadingAttributes) (o : Option Braces) → heading_attribute_block options bs ≡ o
-    → option_map attributes_in found ≡ option_map (λ (block : Braces). attributes_of (slice_range bs (block.opening + 1) block.closing)) o
-    → is_some found ≡ false → heading_attribute_block options bs ≡ None
-none_by options bs found None is e none = is
-none_by options bs None (Some block) is e none = absurd cc
-none_by options bs (Some a) (Some block) is e none = absurd cc
+unnamed_by : (options : Options) (bs : List ℕ) (names : Names) (index : Option HeadingIndex) (o : Option Braces) → heading_attribute_block options bs ≡ o
+    → NamesAttributes names index (option_map (λ (block : Braces). attributes_of (slice_range bs (block.opening + 1) block.closing)) o)
+    → is_some index ≡ false → heading_attribute_block options bs ≡ None
+unnamed_by options bs names index None is e none = is
+unnamed_by options bs names None (Some block) is e none = absurd e
+unnamed_by options bs names (Some ix) (Some block) is e none = absurd cc
 
-pub block_given : (options : Options) (bs : List ℕ) (found : Option HeadingAttributes) → option_map attributes_in found ≡ heading_attributes_of options bs
-    → is_some found ≡ true → (block : Braces) × (heading_attribute_block options bs ≡ Some block)
-block_given options bs found e some = given_by options bs found (heading_attribute_block options bs) refl e some
+pub block_named : (options : Options) (bs : List ℕ) (names : Names) (index : Option HeadingIndex)
+    → NamesAttributes names index (heading_attributes_of options bs) → is_some index ≡ true
+    → (block : Braces) × (heading_attribute_block options bs ≡ Some block)
+block_named options bs names index e some = named_by options bs names index (heading_attribute_block options bs) refl e some
 
-pub none_given : (options : Options) (bs : List ℕ) (found : Option HeadingAttributes) → option_map attributes_in found ≡ heading_attributes_of options bs
-    → is_some found ≡ false → heading_attribute_block options bs ≡ None
-none_given options bs found e none = none_by options bs found (heading_attribute_block options bs) refl e none
+pub none_named : (options : Options) (bs : List ℕ) (names : Names) (index : Option HeadingIndex)
+    → NamesAttributes names index (heading_attributes_of options bs) → is_some index ≡ false → heading_attribute_block options bs ≡ None
+none_named options bs names index e none = unnamed_by options bs names index (heading_attribute_block options bs) refl e none
 
 -- the end of the content before a block
 pub length_some : (options : Options) (bs : List ℕ) (block : Braces)

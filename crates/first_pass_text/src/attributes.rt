@@ -1,13 +1,13 @@
 //! The attribute block at the end of a heading's text (this project).
 
-ghost use Rattle.std.specs.Prelude.{◌≡◌, ◌≤◌, ◌+◌, ◌-◌, List, length, slice_get, IfOk, IfSome, OnOk, Some, None, if◌then◌else◌};
+ghost use Rattle.std.specs.Prelude.{◌≡◌, ◌≤◌, ◌+◌, ◌-◌, List, length, take, drop, slice_get, IfOk, IfSome, IfNone, OnOk, Some, None, if◌then◌else◌};
 ghost use Rattle.std.specs.List.{slice_range, suffix_len};
 ghost use Rattle.first_pass_lines.specs.Lines.{is_white};
 ghost use Rattle.std.specs.Option.{option_map};
 ghost use Rattle.first_pass_items.specs.declared.item.Item.{Item};
 ghost use Rattle.first_pass_tree.specs.Forest.{Forest, item_at};
 ghost use Rattle.first_pass_tokens.specs.TreeTokens.{chained};
-ghost use Rattle.first_pass_attributes.specs.Attributes.{attributes_in};
+ghost use Rattle.first_pass_attributes.specs.Attributes.{attributes_in, attributes_of};
 ghost use Rattle.first_pass_grammar.specs.Headings.{before_attributes, heading_attributes_of, chain_end as chain_end_of};
 ghost use Rattle.first_pass_grammar.specs.Leaves.{document};
 ghost use Rattle.first_pass_grammar.specs.Names.{Names, Extends, NamesAttributes, NamesEntry, AttributesAt};
@@ -17,23 +17,71 @@ ghost use Rattle.first_pass_text.specs.CutTexts.{IsLastAndChildless, CutsBlock, 
 use bitflags::Flags;
 use first_pass_attributes::attrs::{
     HeadingAttributes, extract_attribute_block_content_from_header_text,
+    parse_inside_attribute_block,
 };
-use first_pass_attributes::words::parse_attribute_words;
+use first_pass_attributes::words::add_attribute_words;
 use first_pass_items::item::{HeadingIndex, HeadingLevel, Item, ItemBody};
 use first_pass_items::option_set::Options;
 use first_pass_lines::lines::is_white;
+use first_pass_lines::places::rest_of;
 use first_pass_names::items::Allocations;
 use first_pass_open::source::Source;
 use first_pass_tree::forest::Tree;
 use first_pass_tree::tree_index::TreeIndex;
 use std::alloc::AllocError;
 
+// The text between the braces of an attribute block, and the offset at which it begins in the whole text.
+#[derive(Clone, Copy)]
+struct BlockText<'a> {
+    text: &'a str,
+    start: usize,
+}
+
+// Returns the offset at which the content of a heading ends, and the text of its attribute block. The heading's text
+// extends from the offset `header_start` to `header_end`; if the end is before the start, it is empty and ends at its
+// start. Without a block, or without the option for heading attributes, returns the end of the heading's text and
+// `None` (this project).
+#[inline(always)]
+fn block_text_between<'a>(
+    source: &Source<'a>,
+    header_start: usize,
+    header_end: usize,
+) -> (usize, Option<BlockText<'a>>)
+    requires from { header_start ≤ length source.now.text.now }
+    requires to { header_end ≤ length source.now.text.now }
+    ensures content { result.0 ≡ header_start + length
+        (before_attributes source.now.options (slice_range source.now.text.now header_start header_end)) }
+    ensures none { IfNone result.1 (heading_attributes_of source.now.options
+        (slice_range source.now.text.now header_start header_end) ≡ None) }
+    ensures some { IfSome result.1 (λ block. heading_attributes_of source.now.options
+        (slice_range source.now.text.now header_start header_end) ≡ Some (attributes_of block.text.now)) }
+    ensures place { IfSome result.1 (λ block. (block.start ≤ length source.now.text.now)
+        × (block.text.now ≡ take (length block.text.now) (drop block.start source.now.text.now))) }
+{
+    if header_end <= header_start {
+        return (header_start, None);
+    }
+    if !source.options.contains(Options::ENABLE_HEADING_ATTRIBUTES) {
+        return (header_end, None);
+    }
+    let heading = &source.text.as_bytes()[header_start..header_end];
+    let (length, inside) = extract_attribute_block_content_from_header_text(heading);
+    let content_end = header_start + length;
+    match inside {
+        None => (content_end, None),
+        Some(inside) => {
+            let start = header_start + inside.start;
+            let text = &source.text[start..header_start + inside.end];
+            (content_end, Some(BlockText { text, start }))
+        }
+    }
+}
+
 /// Returns the offset at which the content of a heading ends, and the heading's attributes. The heading's text extends
 /// from the offset `header_start` to `header_end`; if the end is before the start, it is empty and ends at its start.
 /// The content ends at the attribute block, and includes the white space before the block. Without a block, or without
 /// the option for heading attributes, returns the end of the heading's text and `None`. Fails only if an allocation
 /// fails (this project).
-#[inline(always)]
 pub fn extract_and_parse_heading_attribute_block<'a>(
     source: &Source<'a>,
     header_start: usize,
@@ -46,43 +94,42 @@ pub fn extract_and_parse_heading_attribute_block<'a>(
     ensures attributes { IfOk result (λ answer. option_map attributes_in answer.1
         ≡ heading_attributes_of source.now.options (slice_range source.now.text.now header_start header_end)) }
 {
-    if header_end <= header_start {
-        return Ok((header_start, None));
-    }
-    if !source.options.contains(Options::ENABLE_HEADING_ATTRIBUTES) {
-        return Ok((header_end, None));
-    }
-    let heading = &source.text.as_bytes()[header_start..header_end];
-    let (length, inside) = extract_attribute_block_content_from_header_text(heading);
-    match inside {
-        None => Ok((header_start + length, None)),
-        Some(inside) => {
-            let block = &source.text[header_start + inside.start..header_start + inside.end];
-            let ahead = &source.text.as_bytes()[header_start + inside.start..];
-            let attributes = parse_attribute_words(source.alloc, block, ahead)?;
-            Ok((header_start + length, attributes))
-        }
-    }
+    let (content_end, block) = block_text_between(source, header_start, header_end);
+    let Some(block) = block else {
+        return Ok((content_end, None));
+    };
+    let attributes = parse_inside_attribute_block(source.alloc, block.text)?;
+    Ok((content_end, attributes))
 }
 
-/// Adds the attributes of a heading, if it has some, to `allocs`, and returns their index. Fails only if an allocation
-/// fails (this project).
+/// Adds the attributes of a heading, if it has some, to `allocs`, and returns their index after the offset at which the
+/// heading's content ends. The bounds and the content are those of `extract_and_parse_heading_attribute_block`. Fails
+/// only if an allocation fails (this project).
 #[inline(always)]
 pub fn name_attributes<'a>(
+    source: &Source<'a>,
     allocs: &mut Allocations<'a>,
-    attributes: Option<HeadingAttributes<'a>>,
-) -> Result<Option<HeadingIndex>, AllocError>
+    header_start: usize,
+    header_end: usize,
+) -> Result<(usize, Option<HeadingIndex>), AllocError>
+    requires from { header_start ≤ length source.now.text.now }
+    requires to { header_end ≤ length source.now.text.now }
     ensures more { OnOk result (NamesMore allocs.old allocs.new) }
-    ensures named { IfOk result (λ index. (more : Names) → Extends more (names_of allocs.new)
-        → NamesAttributes more index (option_map attributes_in attributes.entry)) }
+    ensures content { IfOk result (λ answer. answer.0 ≡ header_start + length
+        (before_attributes source.now.options (slice_range source.now.text.now header_start header_end))) }
+    ensures named { IfOk result (λ answer. (more : Names) → Extends more (names_of allocs.new)
+        → NamesAttributes more answer.1
+        (heading_attributes_of source.now.options (slice_range source.now.text.now header_start header_end))) }
 {
-    match attributes {
-        None => Ok(None),
-        Some(attributes) => {
-            let index = allocs.allocate_heading(attributes)?;
-            Ok(Some(index))
-        }
-    }
+    let (content_end, block) = block_text_between(source, header_start, header_end);
+    let Some(block) = block else {
+        return Ok((content_end, None));
+    };
+    let mut attributes = HeadingAttributes::new();
+    let ahead = rest_of(source.text.as_bytes(), block.start);
+    add_attribute_words(source.alloc, &mut attributes, block.text, ahead)?;
+    let index = allocs.allocate_heading(attributes)?;
+    Ok((content_end, Some(index)))
 }
 
 // The end of the chain in the innermost open node; `start`, the offset at which its text begins, if the chain has no
@@ -139,12 +186,11 @@ pub fn cut_attributes<'a>(
 {
     // The end is before `start` if a task list item marker is the only child. No token ends after the whole text.
     let end = chain_end(tree, start).min(source.text.len());
-    let (content_end, attributes) = extract_and_parse_heading_attribute_block(source, start, end)?;
-    if attributes.is_some() {
+    let (content_end, index) = name_attributes(source, allocs, start, end)?;
+    if index.is_some() {
         let content = &source.text.as_bytes()[start..content_end];
         tree.truncate_siblings(content_end - white_at_cut(content, broken));
     }
-    let index = name_attributes(allocs, attributes)?;
     Ok(index)
 }
 

@@ -16,7 +16,7 @@ ghost use Rattle.first_pass_open.specs.OpenBlock.{IsJustPushed};
 ghost use Rattle.first_pass_tokens.specs.Braces.{no_braces};
 ghost use Rattle.first_pass_tokens.specs.Pieces.{source, text_upto};
 
-use crate::attributes::{extract_and_parse_heading_attribute_block, name_attributes};
+use crate::attributes::name_attributes;
 use crate::paragraph::append_last_backslash;
 use bitflags::Flags;
 use first_pass_items::item::{HeadingIndex, HeadingLevel, Item, ItemBody};
@@ -118,11 +118,10 @@ fn name_attribute_block<'a>(
         return Ok((None, None));
     }
     let line_end = next_line(source.text.as_bytes(), start);
-    let (opening, attributes) = extract_and_parse_heading_attribute_block(source, start, line_end)?;
-    if attributes.is_none() {
+    let (opening, index) = name_attributes(source, allocs, start, line_end)?;
+    if index.is_none() {
         return Ok((None, None));
     }
-    let index = name_attributes(allocs, attributes)?;
     Ok((Some(AttributeBlock { opening, line_end }), index))
 }
 

@@ -1,4 +1,4 @@
-use Rattle.std.proofs.Common.{◌-◌, ◌+◌, ◌<◌, sym, ap, ◌∙◌, arith}
+use Rattle.std.proofs.Common.{◌+◌, ◌<◌, sym, ap, ◌∙◌, arith}
 use Rattle.std.specs.List.{slice_range}
 use Rattle.first_pass_grammar.specs.Leaves.{kept_len}
 use Rattle.first_pass_tokens.specs.Braces.{no_braces}

@@ -1,72 +1,67 @@
 use Rattle.std.proofs.Common.{◌≡◌, ℕ, ◌+◌, ◌-◌, ◌<◌, ◌∷◌, [], List, filter, length, take, drop, not, refl, sym, ap, subst, ◌∙◌, arith}
 use Rattle.std.specs.List.{prefix_len}
 use Rattle.std.proofs.lemmas.List.{take_rest}
-use Rattle.first_pass_attributes.specs.Attributes.{Attributes, HasSeveral, is_between_words, is_attribute_word, words, with_words, attributes_of, attributes_in}
+use Rattle.first_pass_attributes.specs.Attributes.{Attributes, HasSeveral, is_between_words, is_attribute_word, words, with_words, attributes_in}
 use Rattle.first_pass_attributes.proofs.AttributeFacts.{with-next}
 use Rattle.first_pass_attributes.proofs.MemoryFacts.{on_err, several-left}
 use Rattle.first_pass_attributes.proofs.WordFacts.{words-next, words-last, word-end, word-start, ahead-long, ahead-next}
-use Rattle.first_pass_attributes.proofs.words.parse_attribute_words.Goals as goal
+use Rattle.first_pass_attributes.proofs.words.add_attribute_words.Goals as goal
 
-pub loop-attributes-init : goal.loop-attributes-init
-unfolding attributes_of
-loop-attributes-init c = record {
-  utf8 = c.utf8.inside_attr_block;
-  left = rw (c.new.ensures, c.new-2.ensures) refl;
-  ahead = c.requires;
-}
+pub loop-rest-init : goal.loop-rest-init
+loop-rest-init c = record { utf8 = c.utf8.inside_attr_block; left = refl; ahead = c.requires }
 
 pub scan_word_within-end-requires : goal.scan_word_within-end-requires
-scan_word_within-end-requires c = ahead-long c.loop-attributes.rest.now c.loop-attributes.ahead.now c.loop-attributes.invariant.ahead
+scan_word_within-end-requires c = ahead-long c.loop-rest.rest.now c.loop-rest.ahead.now c.loop-rest.invariant.ahead
 
 pub range-requires-clause-end_boundary : goal.range-requires-clause-end_boundary
 range-requires-clause-end_boundary c =
-    let text : List ℕ = c.loop-attributes.rest.now in
+    let text : List ℕ = c.loop-rest.rest.now in
     word-end text c.scan_word_within-end.result
-    (c.scan_word_within-end.ensures.value ∙ ap (prefix_len (λ b. not (is_between_words b))) (sym c.loop-attributes.invariant.ahead))
+    (c.scan_word_within-end.ensures.value ∙ ap (prefix_len (λ b. not (is_between_words b))) (sym c.loop-rest.invariant.ahead))
 
 pub range_from-rest-requires : goal.range_from-rest-requires
 range_from-rest-requires c some =
-    let text : List ℕ = c.loop-attributes.rest.now in
+    let text : List ℕ = c.loop-rest.rest.now in
     let less : c.scan_word_within-end.result < length text = grind arith in
     word-start text c.scan_word_within-end.result
-    (c.scan_word_within-end.ensures.value ∙ ap (prefix_len (λ b. not (is_between_words b))) (sym c.loop-attributes.invariant.ahead))
-    c.loop-attributes.invariant.utf8 less
+    (c.scan_word_within-end.ensures.value ∙ ap (prefix_len (λ b. not (is_between_words b))) (sym c.loop-rest.invariant.ahead))
+    c.loop-rest.invariant.utf8 less
 
 pub returns-then-end-rest-clause-value : goal.returns-then-end-rest-clause-value
 returns-then-end-rest-clause-value c =
-    let before : Attributes = attributes_in c.loop-attributes.attributes in
-    let text : List ℕ = c.loop-attributes.rest.now in
+    let before : Attributes = attributes_in c.loop-rest.attributes in
+    let text : List ℕ = c.loop-rest.rest.now in
     let last = words-last text c.scan_word_within-end.result
-    (c.scan_word_within-end.ensures.value ∙ ap (prefix_len (λ b. not (is_between_words b))) (sym c.loop-attributes.invariant.ahead)) c.if-end-rest.true in
+    (c.scan_word_within-end.ensures.value ∙ ap (prefix_len (λ b. not (is_between_words b))) (sym c.loop-rest.invariant.ahead)) c.if-end-rest.true in
     let whole : c.scan_word_within-end.result - 0 ≡ c.scan_word_within-end.result = omega arith in
     c.in_ok-add_word.ensures.value
     ∙ ap (λ x. with_words before (filter is_attribute_word (x ∷ []))) (c.range.ensures.value ∙ ap (λ n. take n text) whole)
     ∙ ap (with_words before) (sym last)
-    ∙ c.loop-attributes.invariant.left
+    ∙ c.loop-rest.invariant.left
 
 pub returns-in_err-add_word-clause-err : goal.returns-in_err-add_word-clause-err
 returns-in_err-add_word-clause-err c =
-    let before : Attributes = attributes_in c.loop-attributes.attributes in
-    let text : List ℕ = c.loop-attributes.rest.now in
+    let before : Attributes = attributes_in c.loop-rest.attributes in
+    let text : List ℕ = c.loop-rest.rest.now in
     let end : ℕ = c.scan_word_within-end.result in
     let whole : end - 0 ≡ end = omega arith in
     let word = c.range.ensures.value ∙ ap (λ n. take n text) whole in
-    let value = c.scan_word_within-end.ensures.value ∙ ap (prefix_len (λ b. not (is_between_words b))) (sym c.loop-attributes.invariant.ahead) in
-    on_err _ (subst HasSeveral c.loop-attributes.invariant.left
+    let value = c.scan_word_within-end.ensures.value ∙ ap (prefix_len (λ b. not (is_between_words b))) (sym c.loop-rest.invariant.ahead) in
+    on_err _ (subst HasSeveral c.loop-rest.invariant.left
     (several-left before text end value
     (subst (λ (x : List ℕ). HasSeveral (with_words before (filter is_attribute_word (x ∷ [])))) word c.in_err-add_word.ensures.err)))
 
-pub loop-attributes-preserved : goal.loop-attributes-preserved
-loop-attributes-preserved c =
-    let before : Attributes = attributes_in c.loop-attributes.attributes in
-    let text : List ℕ = c.loop-attributes.rest.now in
+pub loop-rest-preserved : goal.loop-rest-preserved
+loop-rest-preserved c =
+    let before : Attributes = attributes_in c.loop-rest.attributes in
+    let text : List ℕ = c.loop-rest.rest.now in
     let end : ℕ = c.scan_word_within-end.result in
     let word : List ℕ = take end text in
     let rest : List ℕ = c.range_from-rest.result.now in
     let less : end < length text = grind arith in
     let on : rest ≡ drop (end + 1) text = c.range_from-rest.ensures.value in
     let next = words-next text end
-    (c.scan_word_within-end.ensures.value ∙ ap (prefix_len (λ b. not (is_between_words b))) (sym c.loop-attributes.invariant.ahead)) less in
+    (c.scan_word_within-end.ensures.value ∙ ap (prefix_len (λ b. not (is_between_words b))) (sym c.loop-rest.invariant.ahead)) less in
     let whole : end - 0 ≡ end = omega arith in
     let added : attributes_in c.add_word.new.attributes ≡ with_words before (filter is_attribute_word (word ∷ [])) =
     c.in_ok-add_word.ensures.value ∙ ap (λ x. with_words before (filter is_attribute_word (x ∷ []))) (c.range.ensures.value ∙ ap (λ n. take n text) whole) in
@@ -76,9 +71,9 @@ loop-attributes-preserved c =
           ∙ sym (with-next before word (words rest))
           ∙ ap (λ bs. with_words before (filter is_attribute_word (word ∷ words bs))) on
           ∙ ap (with_words before) (sym next)
-          ∙ c.loop-attributes.invariant.left;
-      ahead = subst (λ (xs : List ℕ). rest ≡ take (length rest) xs) (sym (take_rest c.loop-attributes.ahead.now (end + 1)))
-          (subst (λ (bs : List ℕ). bs ≡ take (length bs) (drop (end + 1) c.loop-attributes.ahead.now)) (sym on)
-          (ahead-next text c.loop-attributes.ahead.now end c.loop-attributes.invariant.ahead
-          (ahead-long text c.loop-attributes.ahead.now c.loop-attributes.invariant.ahead) less));
+          ∙ c.loop-rest.invariant.left;
+      ahead = subst (λ (xs : List ℕ). rest ≡ take (length rest) xs) (sym (take_rest c.loop-rest.ahead.now (end + 1)))
+          (subst (λ (bs : List ℕ). bs ≡ take (length bs) (drop (end + 1) c.loop-rest.ahead.now)) (sym on)
+          (ahead-next text c.loop-rest.ahead.now end c.loop-rest.invariant.ahead
+          (ahead-long text c.loop-rest.ahead.now c.loop-rest.invariant.ahead) less));
     }

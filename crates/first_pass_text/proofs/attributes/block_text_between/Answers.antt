@@ -1,22 +1,20 @@
-use Rattle.std.proofs.Common.{◌≡◌, ◌+◌, ◌-◌, ◌<◌, ℕ, List, [], length, take, drop, Option, IfSome, IsUtf8, slice_index, true, ◌≤◌, sym, ap, subst, ◌∙◌, arith}
+use Rattle.std.proofs.Common.{◌≡◌, ◌+◌, ◌<◌, ℕ, List, [], length, Option, IfSome, IsUtf8, slice_index, true, ◌≤◌, sym, ap, subst, ◌∙◌, arith}
 use Rattle.std.specs.List.{slice_range}
 use Rattle.std.specs.Option.{option_map}
 use Rattle.std.specs.declared.ops.Range.{Range}
-use Rattle.std.proofs.lemmas.List.{take_rest}
 use Rattle.first_pass_items.specs.Bytes.{left_brace}
 use Rattle.first_pass_items.specs.OptionWords.{has, heading_attributes}
 use Rattle.first_pass_attributes.specs.AttributeBlocks.{inside_block}
 use Rattle.first_pass_grammar.specs.Headings.{heading_attributes_of}
 use Rattle.first_pass_text.proofs.AttributeEnds.{none_between, length_between, no_braces, empty_braces, before_none, given_none, content_before, given_not}
-use Rattle.first_pass_text.proofs.AttributeEnds.{given_some, brace_boundary, own_length}
-use Rattle.first_pass_text.proofs.attributes.extract_and_parse_heading_attribute_block.Goals as goal
+use Rattle.first_pass_text.proofs.AttributeEnds.{given_some, brace_boundary}
+use Rattle.first_pass_text.proofs.attributes.block_text_between.Goals as goal
 
-pub returns-then-header_end-header_start-clause-attributes :
-    goal.returns-then-header_end-header_start-clause-attributes
-returns-then-header_end-header_start-clause-attributes c =
+pub returns-then-header_end-header_start-clause-none : goal.returns-then-header_end-header_start-clause-none
+returns-then-header_end-header_start-clause-none c =
     let options = c.args.source.now.options in
-    sym (ap (heading_attributes_of options) (none_between c.args.source.now.text.now c.args.header_start c.args.header_end c.if-header_end-header_start.true)
-    ∙ given_none options [] (empty_braces options))
+    ap (heading_attributes_of options) (none_between c.args.source.now.text.now c.args.header_start c.args.header_end c.if-header_end-header_start.true)
+    ∙ given_none options [] (empty_braces options)
 
 pub returns-then-not-contains-clause-content : goal.returns-then-not-contains-clause-content
 returns-then-not-contains-clause-content c =
@@ -27,15 +25,15 @@ returns-then-not-contains-clause-content c =
     let less = c.if-header_end-header_start.false in
     omega arith
 
-pub returns-then-not-contains-clause-attributes : goal.returns-then-not-contains-clause-attributes
-returns-then-not-contains-clause-attributes c =
+pub returns-then-not-contains-clause-none : goal.returns-then-not-contains-clause-none
+returns-then-not-contains-clause-none c =
     let options = c.args.source.now.options in
     let bs : List ℕ = slice_range c.args.source.now.text.now c.args.header_start c.args.header_end in
-    sym (given_none options bs (no_braces options bs (sym (c.contains.ensures tt) ∙ c.if-not-contains.true)))
+    given_none options bs (no_braces options bs (sym (c.contains.ensures tt) ∙ c.if-not-contains.true))
 
 -- the block was found
-pub range-block-requires-clause-start_boundary : goal.range-block-requires-clause-start_boundary
-range-block-requires-clause-start_boundary c some =
+pub range-text-requires-clause-start_boundary : goal.range-text-requires-clause-start_boundary
+range-text-requires-clause-start_boundary c some =
     let e = c.extract_attribute_block_content_from_header_text-length in
     let text : List ℕ = c.args.source.now.text.now in
     let bs : List ℕ = slice_range c.as_bytes.result.now c.args.header_start c.args.header_end in
@@ -48,16 +46,6 @@ range-block-requires-clause-start_boundary c some =
     (subst IsUtf8 c.as_bytes.ensures.value c.as_bytes.ensures.utf8) is c.requires.to
     (omega (arith, places.0, places.1, places.2)) opens places.0
 
-pub parse_attribute_words-requires : goal.parse_attribute_words-requires
-parse_attribute_words-requires c =
-    let from : ℕ = c.args.header_start + c.in-Some.inside.start in
-    let to : ℕ = c.args.header_start + c.in-Some.inside.«end» in
-    let block : List ℕ = c.range-block.result.now in
-    let bytes : List ℕ = c.as_bytes-in-Some.result.now in
-    subst (λ (xs : List ℕ). block ≡ take (length block) xs) (sym (take_rest bytes from))
-    (own_length block (drop from bytes) (to - from)
-    (c.range-block.ensures.value ∙ ap (λ (xs : List ℕ). slice_range xs from to) (sym c.as_bytes-in-Some.ensures.value)))
-
 pub returns-in-None-clause-content : goal.returns-in-None-clause-content
 returns-in-None-clause-content c =
     let options = c.args.source.now.options in
@@ -66,35 +54,34 @@ returns-in-None-clause-content c =
     content_before options c.args.source.now.text.now c.as_bytes.result.now c.args.header_start c.args.header_end e.result.0 on c.as_bytes.ensures.value
     e.ensures.before
 
-pub returns-in-None-clause-attributes : goal.returns-in-None-clause-attributes
-returns-in-None-clause-attributes c =
+pub returns-in-None-clause-none : goal.returns-in-None-clause-none
+returns-in-None-clause-none c =
     let options = c.args.source.now.options in
     let e = c.extract_attribute_block_content_from_header_text-length in
     let on : has options heading_attributes ≡ true = sym (c.contains.ensures tt) ∙ c.if-not-contains.false in
     let none = subst (λ (o : Option (Range ℕ)).
     option_map (λ (r : Range ℕ). (r.start, r.«end»)) o ≡ inside_block (slice_range c.as_bytes.result.now c.args.header_start c.args.header_end)) c.in-None.is
     e.ensures.inside in
-    sym (given_not options (slice_range c.args.source.now.text.now c.args.header_start c.args.header_end) on
-    (none ∙ ap (λ (xs : List ℕ). inside_block (slice_range xs c.args.header_start c.args.header_end)) c.as_bytes.ensures.value))
+    given_not options (slice_range c.args.source.now.text.now c.args.header_start c.args.header_end) on
+    (none ∙ ap (λ (xs : List ℕ). inside_block (slice_range xs c.args.header_start c.args.header_end)) c.as_bytes.ensures.value)
 
-pub returns-in_ok-attributes-in-Some-clause-content : goal.returns-in_ok-attributes-in-Some-clause-content
-returns-in_ok-attributes-in-Some-clause-content c =
+pub returns-in-Some-clause-content : goal.returns-in-Some-clause-content
+returns-in-Some-clause-content c =
     let options = c.args.source.now.options in
     let e = c.extract_attribute_block_content_from_header_text-length in
     let on : has options heading_attributes ≡ true = sym (c.contains.ensures tt) ∙ c.if-not-contains.false in
     content_before options c.args.source.now.text.now c.as_bytes.result.now c.args.header_start c.args.header_end e.result.0 on c.as_bytes.ensures.value
     e.ensures.before
 
-pub returns-in_ok-attributes-in-Some-clause-attributes : goal.returns-in_ok-attributes-in-Some-clause-attributes
-returns-in_ok-attributes-in-Some-clause-attributes c =
+pub returns-in-Some-clause-some : goal.returns-in-Some-clause-some
+returns-in-Some-clause-some c =
     let options = c.args.source.now.options in
     let e = c.extract_attribute_block_content_from_header_text-length in
     let on : has options heading_attributes ≡ true = sym (c.contains.ensures tt) ∙ c.if-not-contains.false in
-    let text : List ℕ = c.args.source.now.text.now in
     let found = subst (λ (o : Option (Range ℕ)).
     option_map (λ (r : Range ℕ). (r.start, r.«end»)) o ≡ inside_block (slice_range c.as_bytes.result.now c.args.header_start c.args.header_end)) c.in-Some.is
     e.ensures.inside in
-    given_some options text c.args.header_start c.args.header_end c.range-block.result.now
-    (c.in-Some.inside.start, c.in-Some.inside.«end») c.in_ok-attributes-in-Some.attributes on c.requires.to
+    given_some options c.args.source.now.text.now c.args.header_start c.args.header_end c.range-text.result.now
+    (c.in-Some.inside.start, c.in-Some.inside.«end») on c.requires.to
     (found ∙ ap (λ (xs : List ℕ). inside_block (slice_range xs c.args.header_start c.args.header_end)) c.as_bytes.ensures.value)
-    c.range-block.ensures.value c.in_ok-attributes-in-Some.ensures.value
+    c.range-text.ensures.value
