@@ -1,4 +1,3 @@
-pub mod BracketFacts
 pub mod AlikeLemmas
 pub mod BraceLemmas
 pub mod BytesLemmas
@@ -14,6 +13,7 @@ pub mod NamedTexts
 pub mod OrderLemmas
 pub mod PieceFacts
 pub mod PipeMarks
+pub mod QuickPieces
 pub mod ReferenceBytes
 pub mod RunPlaces
 pub mod SoFar

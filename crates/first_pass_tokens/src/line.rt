@@ -17,7 +17,7 @@ ghost use Rattle.first_pass_tokens.specs.HeldText.{held_after, tree_after, IsHel
 
 use crate::braces::BraceContexts;
 use crate::named::named_piece;
-use crate::pieces::{Content, Piece, bracket_token, piece_len, run_len, special_found};
+use crate::pieces::{Content, Piece, piece_len, quick_piece, run_len, special_found};
 use bitflags::Flags;
 use first_pass_items::cow_str::CowStr;
 use first_pass_items::item::{Item, ItemBody};
@@ -204,8 +204,8 @@ fn append_pieces(
             from = run_end(text, at);
             continue;
         }
-        if let Some(token) = bracket_token(text, at) {
-            from = append_through(tree, &mut pending, at, token)?;
+        if let Some(known) = quick_piece(text, at) {
+            from = append_through(tree, &mut pending, at, known)?;
             continue;
         }
         let found = special_found(text, content, at);

@@ -3,7 +3,7 @@
 ghost use Rattle.std.specs.Prelude.{◌≡◌, ◌||◌, ◌+◌, ◌<◌, ◌≤◌, ◌^◌, true, IfSome, is_some, length, slice_index, take, ℕ, List, IsCharBoundary, IsUtf8};
 ghost use Rattle.first_pass_items.specs.Bytes.{backslash, backquote, hyphen, full_stop};
 ghost use Rattle.first_pass_tokens.specs.Braces.{MathBraces};
-ghost use Rattle.first_pass_tokens.specs.Pieces.{content_in, IsReadyAt, is_bracket_at, is_solid_at, dollar_found, special_found, reference_found, dash_found, found_size, FoundSolid, special_piece, backslash_piece, backslash_piece_in, backquote_piece, is_delimiter, char_before, run_in, run_size, is_quote, quote_piece, dot_piece, run_piece, delimiter_piece, bracket_piece, run_at, size, EndsSolid};
+ghost use Rattle.first_pass_tokens.specs.Pieces.{content_in, IsReadyAt, is_bracket_at, is_single_mark_at, is_solid_at, dollar_found, special_found, reference_found, dash_found, found_size, FoundSolid, special_piece, backslash_piece, backslash_piece_in, backquote_piece, is_delimiter, char_before, run_in, run_size, is_quote, quote_piece, dot_piece, run_piece, delimiter_piece, bracket_piece, run_at, size, EndsSolid};
 
 use first_pass_entities::entity::scan_reference;
 use first_pass_flank::flank::{DelimiterRun, ends_with_pipe, first_char, last_char};
@@ -84,13 +84,14 @@ pub fn special_found(text: &[u8], content: Content<'_>, at: usize) -> TokenStart
     }
 }
 
-/// Returns the token at a bracket: at `<` with no backslash after it, at `[` and at `]`. Returns `None` at any other
-/// byte. `special_found` finds the same token, but tests many other bytes first.
+/// Returns the piece at a special byte that is known from this byte and the next one: the token at `<` with no
+/// backslash after it, at `[` and at `]`, and plain text at `!` with no `[` after it and at a single full stop or
+/// hyphen. Returns `None` at any other byte. `special_found` finds the same piece, but tests many other bytes first.
 #[inline(always)]
-#[tactic(auto, using(crate::proofs::BracketFacts::less_ready, crate::proofs::BracketFacts::left_ready, crate::proofs::BracketFacts::right_ready))]
-pub(crate) fn bracket_token(text: &[u8], at: usize) -> Option<Piece>
+#[tactic(auto, using(crate::proofs::QuickPieces::less_ready, crate::proofs::QuickPieces::left_ready, crate::proofs::QuickPieces::right_ready, crate::proofs::QuickPieces::exclamation_ready, crate::proofs::QuickPieces::stop_ready, crate::proofs::QuickPieces::hyphen_ready))]
+pub(crate) fn quick_piece(text: &[u8], at: usize) -> Option<Piece>
     requires { at < length text.now }
-    ensures some { is_some result ≡ is_bracket_at text.now at }
+    ensures some { is_some result ≡ (is_bracket_at text.now at || is_single_mark_at text.now at) }
     ensures value { IfSome result (λ piece. (c : Content) (b : MathBraces)
         → IsReadyAt (content_in text.now c b) at piece) }
     ensures fits { IfSome result (λ piece. at + size piece ≤ length text.now) }
@@ -100,6 +101,9 @@ pub(crate) fn bracket_token(text: &[u8], at: usize) -> Option<Piece>
         b'<' if byte_at(text, at + 1) != b'\\' => Some(Piece::Token(0, 1, ItemBody::MaybeHtml)),
         b'[' => Some(Piece::Token(0, 1, ItemBody::MaybeLinkOpen)),
         b']' => Some(Piece::Token(0, 1, ItemBody::MaybeLinkClose(true))),
+        b'!' if byte_at(text, at + 1) != b'[' => Some(Piece::Left(1)),
+        b'.' if byte_at(text, at + 1) != b'.' => Some(Piece::Left(1)),
+        b'-' if byte_at(text, at + 1) != b'-' => Some(Piece::Left(1)),
         _ => None,
     }
 }

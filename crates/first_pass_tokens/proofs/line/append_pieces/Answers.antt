@@ -55,13 +55,13 @@ loop-at-preserved c =
       more = more_both texts c.loop-at.texts.items c.args.texts.now.items more c.loop-at.invariant.more;
     }
 
--- the same after the token at a bracket
-pub loop-at-preserved-in-Some-bracket_token : goal.loop-at-preserved-in-Some-bracket_token
-loop-at-preserved-in-Some-bracket_token c =
+-- the same after a piece that is known from two bytes
+pub loop-at-preserved-in-Some-quick_piece : goal.loop-at-preserved-in-Some-quick_piece
+loop-at-preserved-in-Some-quick_piece c =
     let z : Inline = content_in c.args.text.now c.args.content c.args.braces.now in
     let at = c.in-Some.at in
-    let piece = c.in-Some-bracket_token.token in
-    let token = c.in-Some-bracket_token.ensures in
+    let piece = c.in-Some-quick_piece.known in
+    let token = c.in-Some-quick_piece.ensures in
     let special = sym (c.requires.marks _ (omega (arith, c.type_inv.text at))) ∙ c.in-Some.ensures.found.marked in
     let here = sym (token.value c.args.content c.args.braces.now) ∙ found_special z at special in
     let to_is = ap (λ n. spot n c.loop-at.braces) c.in_ok-from.ensures.next ∙ ap (λ f. spot (at + size piece) (braces_after f c.loop-at.braces)) here in
@@ -70,7 +70,7 @@ loop-at-preserved-in-Some-bracket_token c =
       becomes = subst (λ f. MakesPiece c.loop-at.texts.items c.loop-at.braces f piece) here refl;
       fits = token.fits;
       ends = token.ends;
-    }) (upto_special (goal.at.loop-at-preserved-in-Some-bracket_token c).In-Some) in
+    }) (upto_special (goal.at.loop-at-preserved-in-Some-quick_piece c).In-Some) in
     record {
       read = rw (c.in_ok-from.ensures.tree, c.in_ok-from.ensures.pending, to_is) next;
       more = c.loop-at.invariant.more;

@@ -1,0 +1,47 @@
+-- The pieces that are known from two bytes.
+use Rattle.std.proofs.Common.{◌≡◌, inl, inr, ℕ, ◌+◌, ◌<◌, ◌==◌, false, true, List, length, refl, sym, ap, ◌∙◌, arith, slice_index}
+use Rattle.std.proofs.lemmas.Bool.{cases_lt}
+use Rattle.first_pass_items.specs.Bytes.{less_than, left_bracket, backslash, right_bracket, exclamation_mark, full_stop, hyphen}
+use Rattle.first_pass_items.specs.declared.item.ItemBody.TheVariants.{MaybeHtml, MaybeLinkOpen, MaybeLinkClose}
+use Rattle.first_pass_tokens.specs.declared.pieces.Piece.TheVariants.{Token, Left}
+use Rattle.first_pass_tokens.specs.Pieces.{Inline, special_found, special_piece, bracket_piece, dot_piece, dash_found, dash_piece, run_at, IsReadyAt}
+use Rattle.first_pass_tokens.proofs.PieceFacts.{run_some, run_same}
+
+pub less_ready : (z : Inline) (at : ℕ) → slice_index z.text at ≡ less_than → (slice_index z.text (at + 1) == backslash) ≡ false
+    → IsReadyAt z at (Token 0 1 MaybeHtml)
+unfolding special_found special_piece bracket_piece
+less_ready z at here other = rw here (rw other refl)
+
+pub left_ready : (z : Inline) (at : ℕ) → slice_index z.text at ≡ left_bracket → IsReadyAt z at (Token 0 1 MaybeLinkOpen)
+unfolding special_found special_piece bracket_piece
+left_ready z at here = rw here refl
+
+pub right_ready : (z : Inline) (at : ℕ) → slice_index z.text at ≡ right_bracket → IsReadyAt z at (Token 0 1 (MaybeLinkClose true))
+unfolding special_found special_piece bracket_piece
+right_ready z at here = rw here refl
+
+pub exclamation_ready : (z : Inline) (at : ℕ) → slice_index z.text at ≡ exclamation_mark → (slice_index z.text (at + 1) == left_bracket) ≡ false
+    → IsReadyAt z at (Left 1)
+unfolding special_found special_piece bracket_piece
+exclamation_ready z at here other = rw here (rw other refl)
+
+pub stop_ready : (z : Inline) (at : ℕ) → slice_index z.text at ≡ full_stop → (slice_index z.text (at + 1) == full_stop) ≡ false
+    → IsReadyAt z at (Left 1)
+unfolding special_found special_piece dot_piece
+stop_ready z at here other = rw here (rw other refl)
+
+-- a hyphen with no hyphen after it is a run of one
+run_one : (text : List ℕ) (at : ℕ) → at < length text → slice_index text at ≡ hyphen → (slice_index text (at + 1) == hyphen) ≡ false → run_at text at ≡ 1
+run_one text at within here other =
+    elim (cases_lt 1 (run_at text at)) as (λ _. run_at text at ≡ 1) [
+      | inl more ↦
+          let same = run_same text at (at + 1) (omega arith) (omega (arith, more)) ∙ here in
+          let is : true ≡ false = sym (ap (λ b. b == hyphen) same) ∙ other in
+          absurd cc
+      | inr most ↦ omega (arith, run_some text at within)
+    ]
+
+pub hyphen_ready : (z : Inline) (at : ℕ) → at < length z.text → slice_index z.text at ≡ hyphen → (slice_index z.text (at + 1) == hyphen) ≡ false
+    → IsReadyAt z at (Left 1)
+unfolding special_found dash_found dash_piece
+hyphen_ready z at within here other = let one = run_one z.text at within here other in rw here (rw one refl)
