@@ -1,7 +1,8 @@
 -- The folding of an ASCII text: its small letters, or the text itself if it has no capital letter.
-use Rattle.std.proofs.Common.{◌≡◌, ℕ, suc, ◌+◌, ◌<◌, ◌≤◌, true, List, [], ◌∷◌, length, map, slice_index, IsAscii, encode_utf8_all}
-use Rattle.std.proofs.Common.{refl, sym, ap, ap₂, subst, ◌∙◌, arith}
-use Rattle.std.proofs.lemmas.Bool.{and_parts, and_from}
+use Rattle.std.proofs.Common.{◌≡◌, ℕ, suc, ◌+◌, ◌<◌, ◌≤◌, nat_eq, inl, inr, true, List, [], ◌∷◌, length, map, slice_index, IsAscii, encode_utf8_all}
+use Rattle.std.proofs.Common.{refl, sym, ap, ap₂, ◌∙◌, arith}
+use Rattle.std.proofs.lemmas.Bool.{and_parts, and_from, cases_lt, eq-eqb, false_from_ne_true, ne_eqb, true≢false}
+use Rattle.std.proofs.lemmas.List.{get_or_past}
 use Rattle.std.proofs.lemmas.Bool.Decides.{nat_tests}
 use Rattle.std.proofs.lemmas.Str.{chars-IsAscii, encodes-IsAscii}
 use Rattle.std.proofs.lemmas.Str.Ascii.{IsAscii-from_all, All-from_ascii, IsAscii-map, lowercase_ascii}
@@ -11,7 +12,8 @@ use Rattle.std.specs.List.{list_all}
 use Rattle.caseless.specs.Caseless.{default_case_fold}
 use Rattle.caseless.proofs.CaselessLemmas.{default_case_fold-ascii}
 use Rattle.first_pass_items.specs.Bytes.{ascii_end}
-use Rattle.first_pass_labels.specs.Foldings.{folded, folds_to_itself, leading_number}
+use Rattle.first_pass_lines.specs.Lanes.{IsRunIn}
+use Rattle.first_pass_labels.specs.Foldings.{folded, folds_to_itself}
 
 pub ascii_folded : (bs : List ℕ) → IsAscii bs → folded bs ≡ map to_ascii_lowercase bs
 ascii_folded bs ascii =
@@ -42,18 +44,27 @@ own_by_index [] own = refl
 own_by_index (b ∷ bytes) own =
     and_from (folds_to_itself b) (list_all folds_to_itself bytes) (own 0 (omega arith)) (own_by_index bytes (λ k below. own (suc k) (omega (arith, below))))
 
--- each byte of a short text folds to itself if the first sixteen bytes, with 0 for each missing byte, do
-pub own_from_run : (first bytes : List ℕ) (r : ℕ) → length bytes ≤ 16 → 16 ≤ r → ((k : ℕ) → k < 16 → slice_index first k ≡ slice_index bytes k)
-    → ((k : ℕ) → 0 ≤ k → k < 0 + r → folds_to_itself (slice_index first k) ≡ true) → list_all folds_to_itself bytes ≡ true
-own_from_run first bytes r short all same own =
-    own_by_index bytes (λ k below.
-    let within : k < 16 = omega (arith, below, short) in
-    ap folds_to_itself (sym (same k within)) ∙ own k (omega arith) (omega (arith, within, all)))
+-- in a text of such bytes, so does the 0 for a missing byte
+own_at : (bytes : List ℕ) (k : ℕ) → list_all folds_to_itself bytes ≡ true → folds_to_itself (slice_index bytes k) ≡ true
+own_at bytes k own =
+    elim (cases_lt k (length bytes)) [
+      | inl below ↦ AllPass-from_list_all folds_to_itself bytes own k 0 below
+      | inr past ↦ ap folds_to_itself (get_or_past bytes k 0 past)
+    ]
 
--- the folding and the leading number of a label each byte of which folds to itself
-pub own_key : (bytes label : List ℕ) (front : ℕ) → bytes ≡ label → front ≡ leading_number 16 bytes → list_all folds_to_itself bytes ≡ true
-    → ((at : ℕ) → slice_index bytes at < 256)
-    → (label ≡ folded label) × (front ≡ leading_number 16 (folded label)) × ((at : ℕ) → slice_index (folded label) at < 256)
-own_key bytes label front same is own fits =
-    let folding : bytes ≡ folded label = sym (own_folded bytes own) ∙ ap folded same in
-    (sym same ∙ folding, is ∙ ap (leading_number 16) folding, λ at. subst (λ (bs : List ℕ). slice_index bs at < 256) folding (fits at))
+-- Each byte of a text of at most sixteen folds to itself if sixteen bytes do, and only then: its own, with 0 for each missing byte.
+pub own_by_run : (all bytes : List ℕ) (r : ℕ) → length bytes ≤ 16 → ((k : ℕ) → k < 16 → slice_index all k ≡ slice_index bytes k)
+    → IsRunIn folds_to_itself all 0 16 r → nat_eq r 16 ≡ list_all folds_to_itself bytes
+own_by_run all bytes r short same run =
+    elim (cases_lt r 16) [
+      | inl ends ↦
+          let at : r ≡ 0 + r = omega arith in
+          ne_eqb r 16 (λ e. absurd (omega (arith, e, ends)))
+          ∙ sym (false_from_ne_true (list_all folds_to_itself bytes) (λ own.
+          true≢false (sym (own_at bytes r own) ∙ ap folds_to_itself (sym (same r ends) ∙ ap (λ (k : ℕ). slice_index all k) at) ∙ run.2 ends)))
+      | inr whole ↦
+          eq-eqb r 16 (omega (arith, whole, run.0))
+          ∙ sym (own_by_index bytes (λ k below.
+          let within : k < 16 = omega (arith, below, short) in
+          ap folds_to_itself (sym (same k within)) ∙ run.1 k (omega arith) (omega (arith, within, whole))))
+    ]

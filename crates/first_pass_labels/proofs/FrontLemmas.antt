@@ -1,5 +1,5 @@
 -- The first bytes of two texts, as numbers, decide their order if the numbers differ.
-use Rattle.std.proofs.Common.{◌≡◌, ◌≢◌, ℕ, zero, suc, ◌+◌, ◌*◌, ◌/◌, ◌^◌, ◌<◌, List, [], ◌∷◌, slice_index, inl, inr, refl, sym, ap, ap₂, subst, ◌∙◌, arith}
+use Rattle.std.proofs.Common.{◌≡◌, ℕ, zero, suc, ◌+◌, ◌*◌, ◌^◌, ◌<◌, ◌≤◌, List, [], ◌∷◌, slice_index, inl, inr, refl, sym, ap, ap₂, subst, ◌∙◌, arith}
 use Rattle.std.proofs.Common.{suc-le-suc, zero-le, not-suc-le-zero}
 use Rattle.std.proofs.lemmas.Bool.{cases_lt}
 use Rattle.std.specs.Cmp.{nat_cmp_is}
@@ -60,34 +60,23 @@ front_less (suc n) xs ys f g less =
           less_at n xs ys (alike n xs ys f g front) (omega (arith, less, front))
     ]
 
-pub fronts_decide : (n : ℕ) (xs ys : List ℕ) → Fit xs → Fit ys → leading_number n xs ≢ leading_number n ys
-    → nat_cmp (leading_number n xs) (leading_number n ys) ≡ slice_cmp nat_cmp xs ys
-fronts_decide n xs ys f g apart =
-    elim (cases_lt (leading_number n xs) (leading_number n ys)) [
-      | inl less ↦ sym (nat_cmp_is (leading_number n xs) (leading_number n ys) Less less) ∙ sym (front_less n xs ys f g less)
-      | inr level ↦
-          let more : leading_number n ys < leading_number n xs = omega (arith, level, apart) in
-          sym (nat_cmp_is (leading_number n xs) (leading_number n ys) Greater more)
-          ∙ sym (nat_list_cmp_total.antisymm xs ys ∙ ap ordering_reverse (front_less n ys xs g f more))
-    ]
+-- the first sixteen bytes of a label's folding as two numbers, and each byte is below 256
+abbrev pub AreFirst : CowStr → ℕ → ℕ → Type 0
+AreFirst label first second =
+    (first * 2 ^ 64 + second ≡ leading_number 16 (folding_of label)) × (second < 2 ^ 64) × Fit (folding_of label)
 
--- the number of the first bytes of a label's folding, which are all below 256
-pub record IsFront (label : CowStr) (front : ℕ) : Type 0 where
-  pub is : front ≡ leading_number 16 (folding_of label)
-  pub fits : Fit (folding_of label)
+module _ (x y : CowStr) (a b c d : ℕ) (f : AreFirst x a b) (g : AreFirst y c d) where
+  number_less : a * 2 ^ 64 + b < c * 2 ^ 64 + d → label_cmp x y ≡ Less
+  number_less less =
+      front_less 16 (folding_of x) (folding_of y) f.2 g.2
+      (subst (λ (k : ℕ). k < leading_number 16 (folding_of y)) f.0 (subst (λ (k : ℕ). a * 2 ^ 64 + b < k) g.0 less))
 
--- labels whose fronts differ have the order of these numbers
-front_compared : (x y : CowStr) (m n : ℕ) → IsFront x m → IsFront y n → m ≢ n → nat_cmp m n ≡ label_cmp x y
-front_compared x y m n f g apart =
-    ap₂ nat_cmp f.is g.is ∙ fronts_decide 16 (folding_of x) (folding_of y) f.fits g.fits (λ e. apart (f.is ∙ e ∙ sym g.is))
+  -- a label with a smaller number is before the other
+  pub first_below : a < c → label_cmp x y ≡ Less
+  first_below less = number_less (omega (arith, less, f.1, g.1))
 
--- a label with a larger front is after the other, and one with a smaller front before it
-pub front_above : (x y : CowStr) (m n : ℕ) → IsFront x m → IsFront y n → n < m → Greater ≡ label_cmp x y
-front_above x y m n f g above = nat_cmp_is m n Greater above ∙ front_compared x y m n f g (λ e. omega (arith, e, above))
+  pub second_below : c ≤ a → a ≤ c → b < d → label_cmp x y ≡ Less
+  second_below le ge less = number_less (omega (arith, le, ge, less))
 
-pub front_below : (x y : CowStr) (m n : ℕ) → IsFront x m → IsFront y n → m < n → Less ≡ label_cmp x y
-front_below x y m n f g below = nat_cmp_is m n Less below ∙ front_compared x y m n f g (λ e. omega (arith, e, below))
-
--- the larger number is the one with the larger upper half
-pub half_below : (m n a b : ℕ) → a ≡ m / 2 ^ 64 → b ≡ n / 2 ^ 64 → a < b → m < n
-half_below m n a b e f less = omega (arith, e, f, less)
+pub swapped : (x y : CowStr) → label_cmp y x ≡ Less → Greater ≡ label_cmp x y
+swapped x y less = sym (nat_list_cmp_total.antisymm (folding_of x) (folding_of y) ∙ ap ordering_reverse less)

@@ -1,6 +1,6 @@
 //! The stored folding of a label.
 
-ghost use Rattle.std.specs.Prelude.{◌≡◌, ◌≤◌, ◌<◌, ℕ, List, length, map, slice_index, string_bytes, IfOk, IfSome, IsAscii, true};
+ghost use Rattle.std.specs.Prelude.{◌≡◌, ◌≤◌, ◌<◌, ℕ, List, length, map, slice_index, string_bytes, IfOk, IsAscii};
 ghost use Rattle.std.specs.List.{list_all};
 ghost use Rattle.std.specs.Char.{to_ascii_lowercase};
 ghost use Rattle.first_pass_lines.specs.Lanes.{IsRunIn};
@@ -99,39 +99,16 @@ fn lower_cased(text: &str) -> Folding
 }
 
 // Whether each byte folds to itself.
+#[inline(always)]
 fn is_own_folding(bytes: &[u8]) -> bool
     ensures { result ≡ list_all folds_to_itself bytes.now }
 {
+    if bytes.len() <= LANES {
+        return own_run(&first_bytes(bytes)) == LANES;
+    }
     bytes
         .iter()
         .all(|byte| byte.is_ascii() && !byte.is_ascii_uppercase())
-}
-
-/// Returns the first sixteen bytes as one number, the first byte the most significant, with 0 for each missing byte. Of
-/// two texts, the one with the smaller number is first in byte order.
-pub(crate) fn leading_number(bytes: &[u8]) -> u128
-    ensures value { result ≡ leading_number 16 bytes.now }
-    ensures fit { (at : ℕ) → slice_index bytes.now at < 256 }
-{
-    u128::from_be_bytes(first_bytes(bytes))
-}
-
-/// Returns the leading number of a text of at most sixteen bytes that folds to itself byte by byte. Returns `None` for
-/// any other text.
-#[inline(always)]
-pub(crate) fn own_leading_number(bytes: &[u8]) -> Option<u128>
-    ensures value { IfSome result (λ front. front ≡ leading_number 16 bytes.now) }
-    ensures own { IfSome result (λ _. list_all folds_to_itself bytes.now ≡ true) }
-    ensures fit { (at : ℕ) → slice_index bytes.now at < 256 }
-{
-    if bytes.len() > LANES {
-        return None;
-    }
-    let first = first_bytes(bytes);
-    if own_run(&first) < LANES {
-        return None;
-    }
-    Some(u128::from_be_bytes(first))
 }
 
 // The number of bytes among the first sixteen that come before the first one that does not fold to itself, or 16.
@@ -144,6 +121,16 @@ fn own_run(bytes: &[u8]) -> usize
     let capitals = (lanes - u8x16::splat(b'A')).simd_lt(u8x16::splat(26));
     let others = lanes.simd_ge(u8x16::splat(0x80));
     first_set((capitals | others).to_bitmask())
+}
+
+/// Returns the first sixteen bytes as one number, the first byte the most significant, with 0 for each missing byte. Of
+/// two texts, the one with the smaller number is first in byte order.
+#[inline(always)]
+pub(crate) fn leading_number(bytes: &[u8]) -> u128
+    ensures value { result ≡ leading_number 16 bytes.now }
+    ensures fit { (at : ℕ) → slice_index bytes.now at < 256 }
+{
+    u128::from_be_bytes(first_bytes(bytes))
 }
 
 // The first sixteen bytes, with 0 for each missing byte.

@@ -5,21 +5,27 @@ ghost use Rattle.std.specs.Cmp.{on_equiv, on_total, on_po, on_per, partial_equiv
 ghost use Rattle.std.specs.Cmp.Lexicographic.{nat_list_eq_equiv, nat_list_cmp_total, texts_ties, texts_po};
 ghost use Rattle.first_pass_labels.specs.Slots.{slot_folding, is_same_slot, slot_cmp};
 
+use crate::folding::leading_number;
 use crate::label_key::LabelKey;
 use std::cmp::Ordering;
 use std::marker::Model;
 
-/// An entry of a table with its index there. Slots are compared by label. The first eight bytes of the label's folding
-/// are stored here too: they decide most comparisons, and the entry is rarely in the cache.
+// One more than the greatest number of eight bytes.
+const HALF: u128 = 1 << 64;
+
+/// An entry of a table with its index there. Slots are compared by label. The first sixteen bytes of the label's
+/// folding are stored here too, as two numbers: they decide most comparisons, and the entry is rarely in the cache.
 #[derive(Drop)]
 pub(crate) struct Slot<'t, 'a, T> {
+    // The first eight bytes of the folding, and the next eight.
     first: u64,
+    second: u64,
     entry: &'t (LabelKey<'a>, T),
     index: usize,
 }
 
 impl<'t, 'a, T> Model for Slot<'t, 'a, T> {
-    ghost use Rattle.std.specs.Prelude.{◌≡◌, ◌<◌, ◌/◌, ◌^◌, ℕ, slice_index};
+    ghost use Rattle.std.specs.Prelude.{◌≡◌, ◌<◌, ◌+◌, ◌*◌, ◌^◌, ℕ, slice_index};
     ghost use Rattle.first_pass_items.specs.declared.cow_str.CowStr.{CowStr};
     ghost use Rattle.first_pass_labels.specs.Foldings.{folding_of, leading_number};
 
@@ -27,7 +33,8 @@ impl<'t, 'a, T> Model for Slot<'t, 'a, T> {
 
     ghost view = { λ s. (s.entry.now, s.index) };
 
-    ghost invariant = { λ s. (s.first ≡ leading_number 16 (folding_of s.entry.now.0) / 2 ^ 64)
+    ghost invariant = { λ s. (s.first * 2 ^ 64 + s.second ≡ leading_number 16 (folding_of s.entry.now.0))
+        × (s.second < 2 ^ 64)
         × ((at : ℕ) → slice_index (folding_of s.entry.now.0) at < 256) };
 }
 
@@ -36,8 +43,10 @@ impl<'t, 'a, T> Slot<'t, 'a, T> {
     pub(crate) fn new(entry: &'t (LabelKey<'a>, T), index: usize) -> Slot<'t, 'a, T>
         ensures { result ≡ (entry.now, index) }
     {
+        let number = leading_number(entry.0.folding().as_bytes());
         Slot {
-            first: entry.0.first_eight(),
+            first: (number / HALF) as u64,
+            second: (number % HALF) as u64,
             entry,
             index,
         }
@@ -93,6 +102,12 @@ impl<'t, 'a, T> Ord for Slot<'t, 'a, T> {
             return Ordering::Greater;
         }
         if self.first < other.first {
+            return Ordering::Less;
+        }
+        if self.second > other.second {
+            return Ordering::Greater;
+        }
+        if self.second < other.second {
             return Ordering::Less;
         }
         self.entry.0.cmp(&other.entry.0)
