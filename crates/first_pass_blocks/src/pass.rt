@@ -295,6 +295,6 @@ pub fn run_first_pass<'a>(
         metadata_ends: _,
     } = pass;
     let PassState { tree, .. } = state;
-    allocs.settle()?;
+    allocs.sort_tables()?;
     Ok((tree, allocs))
 }

@@ -2,6 +2,6 @@ pub mod FoldingLemmas
 pub mod FrontLemmas
 pub mod OrderLemmas
 pub mod PlaceLemmas
-pub mod SettledLemmas
+pub mod SortedLemmas
 pub mod TableLemmas
 pub mod TextOrder

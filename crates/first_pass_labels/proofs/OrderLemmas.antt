@@ -21,7 +21,7 @@ use Rattle.first_pass_items.specs.declared.cow_str.CowStr.{CowStr}
 use Rattle.first_pass_labels.specs.Foldings.{label_cmp}
 use Rattle.first_pass_labels.specs.LabelTables.{table_of, IsInOrder, IsOrderOf}
 use Rattle.first_pass_labels.specs.Slots.{slot_folding, is_same_slot, slot_cmp}
-use Rattle.first_pass_labels.proofs.SettledLemmas.{entry_under, entry_of_table, unique}
+use Rattle.first_pass_labels.proofs.SortedLemmas.{entry_under, entry_of_table, unique}
 use Rattle.first_pass_labels.proofs.TextOrder.{label_total, equal_by, in_order_table}
 
 -- ---- a stable sort keeps the first entry of each label

@@ -12,8 +12,8 @@ use Rattle.std.specs.declared.cmp.Ordering.TheVariants.{Less, Equal, Greater}
 use Rattle.std.specs.BTreeMap.{is_at}
 use Rattle.first_pass_items.specs.declared.cow_str.CowStr.{CowStr}
 use Rattle.first_pass_labels.specs.Foldings.{label_cmp}
-use Rattle.first_pass_labels.specs.LabelTables.{table_of, past, with_all, IsInOrder, IsOrderOf}
-use Rattle.first_pass_labels.proofs.SettledLemmas.{past_first}
+use Rattle.first_pass_labels.specs.LabelTables.{table_of, after_label, with_all, IsInOrder, IsOrderOf}
+use Rattle.first_pass_labels.proofs.SortedLemmas.{after_first}
 use Rattle.first_pass_labels.proofs.TextOrder.{label_total}
 
 -- ---- places of lists
@@ -134,48 +134,48 @@ module _ {X : Type 0} where
 
 -- ---- one step through a table
 
-table_none : {X : Type 0} (last : Option CowStr) (es : List (CowStr × X)) → es ≡ [] → table_of (past last es) ≡ []
+table_none : {X : Type 0} (last : Option CowStr) (es : List (CowStr × X)) → es ≡ [] → table_of (after_label last es) ≡ []
 unfolding with_all
-table_none last es is = ap (λ l. table_of (past last l)) is
+table_none last es is = ap (λ l. table_of (after_label last l)) is
 
-pub table_step : {X : Type 0} (last : Option CowStr) (es : List (CowStr × X)) (e : CowStr × X) → Some e ≡ slice_get (table_of (past last es)) 0
-    → table_of (past last es) ≡ e ∷ table_of (past (Some e.0) es)
+pub table_step : {X : Type 0} (last : Option CowStr) (es : List (CowStr × X)) (e : CowStr × X) → Some e ≡ slice_get (table_of (after_label last es)) 0
+    → table_of (after_label last es) ≡ e ∷ table_of (after_label (Some e.0) es)
 table_step last es e first =
-    let tab = table_of (past last es) in
+    let tab = table_of (after_label last es) in
     let split = table_rest tab e (sym first) in
-    split ∙ ap (λ r. e ∷ r) (past_first last es e (drop 1 tab) split)
+    split ∙ ap (λ r. e ∷ r) (after_first last es e (drop 1 tab) split)
 
 -- `left` has the entries after a step by the order
 module _ {X : Type 0} (last : Option CowStr) (es left : List (CowStr × X)) (order : List ℕ)
-    (is : IsOrderOf order es (table_of (past last es))) (some : 0 < length order)
+    (is : IsOrderOf order es (table_of (after_label last es))) (some : 0 < length order)
     (e : CowStr × X) (here : e ≡ get_or es (get_or order 0 0) e) (more : 1 < length order → left ≡ es) (none : length order ≤ 1 → left ≡ []) where
   abbrev tab : List (CowStr × X)
-  tab = table_of (past last es)
+  tab = table_of (after_label last es)
 
   split : tab ≡ e ∷ drop 1 tab
   split = let n = named es tab order 0 is some in table_rest tab e (n.in_table ∙ ap Some (sym (here ∙ n.reads e)))
 
-  rest_is : drop 1 tab ≡ table_of (past (Some e.0) es)
-  rest_is = past_first last es e (drop 1 tab) split
+  rest_is : drop 1 tab ≡ table_of (after_label (Some e.0) es)
+  rest_is = after_first last es e (drop 1 tab) split
 
-  left_is : table_of (past (Some e.0) es) ≡ table_of (past (Some e.0) left)
+  left_is : table_of (after_label (Some e.0) es) ≡ table_of (after_label (Some e.0) left)
   left_is =
       elim (cases_lt 1 (length order)) [
-        | inl long ↦ ap (λ l. table_of (past (Some e.0) l)) (sym (more long))
+        | inl long ↦ ap (λ l. table_of (after_label (Some e.0) l)) (sym (more long))
         | inr short ↦
             let few : length order ≤ 1 = omega (arith, short) in
             let one : length tab ≤ 1 = omega (arith, few, ap length is, length-map order (slice_get es), length-map tab Some) in
             sym rest_is ∙ drop_all 1 tab one ∙ sym (table_none (Some e.0) left (none few))
       ]
 
-  pub order_step : tab ≡ e ∷ table_of (past (Some e.0) left)
+  pub order_step : tab ≡ e ∷ table_of (after_label (Some e.0) left)
   order_step = split ∙ ap (λ r. e ∷ r) (rest_is ∙ left_is)
 
   pub order_left : 0 < length (take (length order - 1) (drop 1 order))
-      → IsOrderOf (take (length order - 1) (drop 1 order)) left (table_of (past (Some e.0) left))
+      → IsOrderOf (take (length order - 1) (drop 1 order)) left (table_of (after_label (Some e.0) left))
   order_left any =
       let same : take (length order - 1) (drop 1 order) ≡ drop 1 order = take_all (length order - 1) (drop 1 order) (omega (arith, length-drop 1 order)) in
       let long : 1 < length order = omega (arith, any, ap length same, length-drop 1 order) in
-      subst (λ o. IsOrderOf o left (table_of (past (Some e.0) left))) (sym same)
-      (subst (λ (l : List (CowStr × X)). IsOrderOf (drop 1 order) l (table_of (past (Some e.0) l))) (sym (more long))
+      subst (λ o. IsOrderOf o left (table_of (after_label (Some e.0) left))) (sym same)
+      (subst (λ (l : List (CowStr × X)). IsOrderOf (drop 1 order) l (table_of (after_label (Some e.0) l))) (sym (more long))
       (order_rest es tab order is ∙ ap (map Some) rest_is))

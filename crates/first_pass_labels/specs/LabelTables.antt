@@ -36,24 +36,24 @@ with_all entries (d ∷ ds) = with_all (with_first entries d.0 d.1) ds
 abbrev pub table_of : {X : Type 0} → List (CowStr × X) → List (CowStr × X)
 table_of definitions = with_all [] definitions
 
--- a label is past the last one if it comes after it in the order of labels; without a last one each label is
-abbrev pub is_past : Option CowStr → CowStr → Bool
-is_past None label = true
-is_past (Some last) label = is_lt (label_cmp last label)
+-- whether a label comes after another one in the order of labels; without another one, each label does (this project)
+abbrev pub comes_after : Option CowStr → CowStr → Bool
+comes_after None label = true
+comes_after (Some other) label = is_lt (label_cmp other label)
 
--- the definitions whose labels are past the last one
-abbrev pub past : {X : Type 0} → Option CowStr → List (CowStr × X) → List (CowStr × X)
-past last definitions = filter (λ d. is_past last d.0) definitions
+-- the definitions whose labels come after a label, or all of them without one (this project)
+abbrev pub after_label : {X : Type 0} → Option CowStr → List (CowStr × X) → List (CowStr × X)
+after_label label definitions = filter (λ d. comes_after label d.0) definitions
 
--- of the least definition so far and one more, the one with the lesser label; the first one if they are tied
-abbrev pub least_with : {X : Type 0} → Option (CowStr × X) → CowStr × X → Option (CowStr × X)
-least_with None d = Some d
-least_with (Some least) d = cond (is_lt (label_cmp d.0 least.0)) (Some d) (Some least)
+-- of two definitions, the one whose label comes first; the first of the two if their labels are tied (this project)
+abbrev pub lesser_of : {X : Type 0} → Option (CowStr × X) → CowStr × X → Option (CowStr × X)
+lesser_of None d = Some d
+lesser_of (Some first) d = cond (is_lt (label_cmp d.0 first.0)) (Some d) (Some first)
 
 -- the definitions at these indices are those of the table, in its order (this project)
 abbrev pub IsOrderOf : {X : Type 0} → List ℕ → List (CowStr × X) → List (CowStr × X) → Type 0
 IsOrderOf order definitions table = map (slice_get definitions) order ≡ map Some table
 
--- the same if there are indices
+-- the same, unless no index is given: a table that is not sorted has none (this project)
 abbrev pub IsOrderIfAny : {X : Type 0} → List ℕ → List (CowStr × X) → List (CowStr × X) → Type 0
 IsOrderIfAny order definitions table = 0 < length order → IsOrderOf order definitions table

@@ -1,5 +1,5 @@
--- The slots that a table of labels is sorted by: each has a label, its definition and the index of both among the
--- definitions of the text (this project).
+-- What a table of labels is sorted by: a label with its definition, and the index of both in the text's order (this
+-- project).
 use Rattle.std.specs.Prelude.{ℕ, List, Bool, nat_eq}
 use Rattle.std.specs.declared.cmp.Ordering.{Ordering}
 use Rattle.std.specs.Ordering.{nat_cmp}

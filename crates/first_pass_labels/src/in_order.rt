@@ -6,7 +6,7 @@ ghost use Rattle.std.specs.List.{slice_get};
 ghost use Rattle.std.specs.Iterator.{at_most};
 ghost use Rattle.std.specs.Map.Iter.{TakesFirst, deref_pair};
 ghost use Rattle.first_pass_items.specs.declared.cow_str.CowStr.{CowStr};
-ghost use Rattle.first_pass_labels.specs.LabelTables.{table_of, past, is_past, least_with, IsOrderOf, IsOrderIfAny};
+ghost use Rattle.first_pass_labels.specs.LabelTables.{table_of, after_label, comes_after, lesser_of, IsOrderOf, IsOrderIfAny};
 
 use crate::label_key::LabelKey;
 use crate::slot::Slot;
@@ -47,11 +47,11 @@ fn slots_of<'t, 'a, T>(
 }
 
 /// An iterator over the labels of a table with their definitions, in the byte order of the labels' foldings. In a table
-/// that is not settled each step goes through all definitions.
+/// that is not sorted each step goes through all definitions.
 #[derive(Drop)]
 pub struct InOrder<'t, 'a, T> {
     entries: &'t [(LabelKey<'a>, T)],
-    // What is left of the table's order. Empty if the table is not settled.
+    // What is left of the table's order. Empty if the table is not sorted.
     order: &'t [usize],
     // The label of the last item.
     last: Option<&'t LabelKey<'a>>,
@@ -61,14 +61,14 @@ impl<'t, 'a, T> Model for InOrder<'t, 'a, T> {
     ghost use Rattle.std.specs.Prelude.{List};
     ghost use Rattle.std.specs.Option.{option_copied};
     ghost use Rattle.first_pass_items.specs.declared.cow_str.CowStr.{CowStr};
-    ghost use Rattle.first_pass_labels.specs.LabelTables.{table_of, past, IsOrderIfAny};
+    ghost use Rattle.first_pass_labels.specs.LabelTables.{table_of, after_label, IsOrderIfAny};
 
     ghost Value = { List (CowStr × T) };
 
-    ghost view = { λ i. table_of (past (option_copied i.last) i.entries.now) };
+    ghost view = { λ i. table_of (after_label (option_copied i.last) i.entries.now) };
 
     ghost invariant = { λ i. IsOrderIfAny i.order.now i.entries.now
-        (table_of (past (option_copied i.last) i.entries.now)) };
+        (table_of (after_label (option_copied i.last) i.entries.now)) };
 }
 
 impl<'t, 'a, T> InOrder<'t, 'a, T> {
@@ -101,7 +101,7 @@ impl<'t, 'a, T> Iterator for InOrder<'t, 'a, T> {
             self.last = Some(&entry.0);
             return Some((&entry.0, &entry.1));
         }
-        let entry = least_past(entries, self.last)?;
+        let entry = least_after(entries, self.last)?;
         self.last = Some(&entry.0);
         Some((&entry.0, &entry.1))
     }
@@ -123,25 +123,25 @@ fn entries_left<'t, 'a, T>(
     }
 }
 
-// Returns the first entry with the least label among those past the last one.
-fn least_past<'t, 'a, T>(
+// Returns the first entry with the least label among those whose labels come after the last one.
+fn least_after<'t, 'a, T>(
     entries: &'t [(LabelKey<'a>, T)],
     last: Option<&'t LabelKey<'a>>,
 ) -> Option<&'t (LabelKey<'a>, T)>
-    ensures { option_copied result ≡ slice_get (table_of (past (option_copied last.entry) entries.now)) 0 }
+    ensures { option_copied result ≡ slice_get (table_of (after_label (option_copied last.entry) entries.now)) 0 }
 {
     let mut least = None;
     for at in 0..entries.len() {
-        if comes_after(&entries[at].0, last) {
+        if is_after(&entries[at].0, last) {
             least = lesser(least, &entries[at]);
         }
     }
     least
 }
 
-// Whether a label is past the last one.
-fn comes_after<'a>(label: &LabelKey<'a>, last: Option<&LabelKey<'a>>) -> bool
-    ensures { result ≡ is_past (option_copied last.entry) label.now }
+// Whether a label comes after the last one. Without a last one, each label does.
+fn is_after<'a>(label: &LabelKey<'a>, last: Option<&LabelKey<'a>>) -> bool
+    ensures { result ≡ comes_after (option_copied last.entry) label.now }
 {
     match last {
         Some(last) => last.cmp(label).is_lt(),
@@ -154,7 +154,7 @@ fn lesser<'t, 'a, T>(
     least: Option<&'t (LabelKey<'a>, T)>,
     entry: &'t (LabelKey<'a>, T),
 ) -> Option<&'t (LabelKey<'a>, T)>
-    ensures { option_copied result ≡ least_with (option_copied least.entry) entry.now }
+    ensures { option_copied result ≡ lesser_of (option_copied least.entry) entry.now }
 {
     match least {
         Some(first) => {

@@ -10,7 +10,7 @@ ghost use Rattle.first_pass_labels.specs.LabelTables.{defined_under, with_first,
 pub use crate::in_order::InOrder;
 use crate::in_order::order_of;
 use crate::label_key::LabelKey;
-use crate::search::{find_first, find_settled};
+use crate::search::{find_first, find_sorted};
 use first_pass_items::cow_str::{CowStr, InlineStr};
 use std::alloc::{AllocError, Global};
 use std::boxed::BoxedStr;
@@ -91,13 +91,13 @@ pub type FootDefs<'a> = LabelTable<'a, FootnoteDef>;
 /// A table of definitions by label, in the byte order of the labels' foldings. `get` and `iter` show only the first
 /// definition of each folding.
 ///
-/// The table keeps every definition that was added. `settle` sorts it. While it is not sorted, `get` goes through all
-/// definitions, and so does each step of `iter`.
+/// The table keeps every definition that was added, in the order of the text. `sort` sorts their indices. While the
+/// table is not sorted, `get` goes through all definitions, and so does each step of `iter`.
 #[derive(Drop)]
 pub struct LabelTable<'a, T> {
     alloc: Global,
     entries: Vec<(LabelKey<'a>, T)>,
-    // The indices of the table's entries in the order of their labels. Empty unless the table is settled.
+    // The indices of the table's entries in the order of their labels. Empty unless the table is sorted.
     order: Vec<usize>,
 }
 
@@ -142,7 +142,7 @@ impl<'a, T> LabelTable<'a, T> {
         if self.order.is_empty() {
             return find_first(self.entries.as_slice(), key);
         }
-        find_settled(self.entries.as_slice(), self.order.as_slice(), key)
+        find_sorted(self.entries.as_slice(), self.order.as_slice(), key)
     }
 
     /// Returns the labels with their definitions, in the byte order of their foldings. No folding occurs twice.
@@ -164,14 +164,14 @@ impl<'a, T> LabelTable<'a, T> {
         ensures order { IsInOrder self.old }
         ensures refused { OnErr result (self.new ≡ self.old) }
     {
-        self.order.clear();
         self.entries.push((label, definition))?;
+        self.order.clear();
         Ok(())
     }
 
     /// Sorts the table, so that `get` and `iter` take few steps until the next definition is added. Its labels and
     /// definitions stay the same. Fails only if an allocation fails. Allocates nothing if the table is empty.
-    pub fn settle(&mut self) -> Result<(), AllocError>
+    pub fn sort(&mut self) -> Result<(), AllocError>
         ensures same { self.new ≡ self.old }
         ensures err { OnErr result (0 < length self.old) }
     {

@@ -26,7 +26,7 @@ pub(crate) fn find_first<'t, 'a, T>(
 }
 
 /// Returns the same for entries with this order, in few steps.
-pub(crate) fn find_settled<'t, 'a, T>(
+pub(crate) fn find_sorted<'t, 'a, T>(
     entries: &'t [(LabelKey<'a>, T)],
     order: &[usize],
     key: &LabelKey<'a>,

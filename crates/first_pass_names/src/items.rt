@@ -2,7 +2,7 @@
 
 ghost use Rattle.std.specs.Option.{option_map};
 ghost use Rattle.first_pass_attributes.specs.Attributes.{attributes_in};
-ghost use Rattle.std.specs.Prelude.{◌≡◌, ◌<◌, ◌∷◌, [], length, slice_get, None, Ok, Some, IfOk, IsSomeAnd, MatchOption, OnOk, OnErr, false};
+ghost use Rattle.std.specs.Prelude.{◌≡◌, ◌<◌, ◌+◌, ◌∷◌, [], length, slice_get, None, Ok, Some, IfOk, IsSomeAnd, MatchOption, OnOk, OnErr, false};
 ghost use Rattle.first_pass_links.specs.Labels.{label_at};
 ghost use Rattle.first_pass_items.specs.CowText.{text_of};
 ghost use Rattle.first_pass_names.specs.TableEntries.{entries, with_definition, IsCopy, AddsFootnote, tables_of, names_of, no_names, with_named, with_alignments, with_heading, link_entry, link_at as link_at_of, refdefs_of, footdefs_of};
@@ -14,7 +14,7 @@ use first_pass_items::cow_str::{CowStr, InlineStr};
 use first_pass_items::item::{Alignment, AlignmentIndex, CowIndex, HeadingIndex};
 pub use first_pass_labels::label_key::LabelKey;
 use first_pass_labels::label_table::LabelTable;
-pub use first_pass_labels::label_table::{FootDefs, FootnoteDef, LinkDef, RefDefs};
+pub use first_pass_labels::label_table::{FootDefs, FootnoteDef, InOrder, LinkDef, RefDefs};
 use first_pass_links::label::scan_link_label_rest;
 use std::alloc::{AllocError, Global};
 use std::boxed::BoxedStr;
@@ -61,13 +61,14 @@ impl<'a> Allocations<'a> {
     }
 
     /// Sorts both tables, so that look-ups and listings take few steps until the next entry is added. No entry changes.
-    /// Fails only if an allocation fails.
-    pub fn settle(&mut self) -> Result<(), AllocError>
+    /// Fails only if an allocation fails. Allocates nothing if both tables are empty.
+    pub fn sort_tables(&mut self) -> Result<(), AllocError>
         ensures entries { entries self.new ≡ entries self.old }
         ensures names { names_of self.new ≡ names_of self.old }
+        ensures err { OnErr result (0 < length (refdefs_of self.old) + length (footdefs_of self.old)) }
     {
-        self.refdefs.settle()?;
-        self.footdefs.settle()?;
+        self.refdefs.sort()?;
+        self.footdefs.sort()?;
         Ok(())
     }
 

@@ -26,7 +26,7 @@ pub fn footnote_nodes<'d>(
     for (index, node) in nodes.iter().enumerate() {
         add_footnote(alloc, &mut table, index, &node.1, allocs)?;
     }
-    table.settle()?;
+    table.sort()?;
     Ok(table)
 }
 

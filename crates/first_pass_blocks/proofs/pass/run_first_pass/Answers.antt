@@ -83,10 +83,10 @@ at_end options text r at past (inl o) = o
 at_end options text r at past (inr h) = (let within = h.0.within in absurd (omega arith))
 
 -- At the end of the text all containers are closed.
-all_closed : (c : goal.In_ok-settle) → c.close_containers.new.state.tree.spine ≡ []
+all_closed : (c : goal.In_ok-sort_tables) → c.close_containers.new.state.tree.spine ≡ []
 all_closed c = c.close_containers.ensures.spine ∙ outer-none c.loop-ix.pass.state.tree.spine
 
-derived : (c : goal.In_ok-settle)
+derived : (c : goal.In_ok-sort_tables)
     → Derives (document c.args.text.now c.args.options (names_of c.loop-ix.pass.allocs)) c.close_containers.new.state.tree.nodes
     (tables_of c.loop-ix.pass.allocs)
 derived c =
@@ -103,21 +103,21 @@ derived c =
 pub returns-clause-derived : goal.returns-clause-derived
 returns-clause-derived c =
     let old = c.loop-ix.pass.allocs in
-    let new = c.settle.new.self in
+    let new = c.sort_tables.new.self in
     let nodes = c.close_containers.new.state.tree.nodes in
-    subst (λ m. Derives (document c.args.text.now c.args.options m) nodes (tables_of new)) (sym c.settle.ensures.names)
-    (subst (Derives (document c.args.text.now c.args.options (names_of old)) nodes) (sym (ap tables_in c.settle.ensures.entries)) (derived c))
+    subst (λ m. Derives (document c.args.text.now c.args.options m) nodes (tables_of new)) (sym c.sort_tables.ensures.names)
+    (subst (Derives (document c.args.text.now c.args.options (names_of old)) nodes) (sym (ap tables_in c.sort_tables.ensures.entries)) (derived c))
 
 pub returns-clause-only : goal.returns-clause-only
 returns-clause-only c =
-    only_derived c.args.text.now c.args.options (names_of c.settle.new.self) c.close_containers.new.state.tree.nodes (tables_of c.settle.new.self)
+    only_derived c.args.text.now c.args.options (names_of c.sort_tables.new.self) c.close_containers.new.state.tree.nodes (tables_of c.sort_tables.new.self)
     (returns-clause-derived c)
 
 pub returns-clause-tables : goal.returns-clause-tables
 returns-clause-tables c =
-    let names = names_of c.settle.new.self in
+    let names = names_of c.sort_tables.new.self in
     let d = document c.args.text.now c.args.options names in
-    derived_whole d c.close_containers.new.state.tree.nodes (tables_of c.settle.new.self) (returns-clause-derived c)
+    derived_whole d c.close_containers.new.state.tree.nodes (tables_of c.sort_tables.new.self) (returns-clause-derived c)
 
 pub returns-clause-finished : goal.returns-clause-finished
 returns-clause-finished c = all_closed c
@@ -154,18 +154,18 @@ returns-clause-counted c =
 pub returns-clause-node_bound : goal.returns-clause-node_bound
 returns-clause-node_bound c =
     let counted = returns-clause-counted c in
-    let all = all_nodes (names_of c.settle.new.self) c.close_containers.new.state.tree.nodes (returns-clause-tables c) in
+    let all = all_nodes (names_of c.sort_tables.new.self) c.close_containers.new.state.tree.nodes (returns-clause-tables c) in
     omega arith
 
 pub returns-clause-named : goal.returns-clause-named
 returns-clause-named c =
-    subst (λ m. AreNamed m c.close_containers.new.state.tree.nodes) (sym c.settle.ensures.names)
+    subst (λ m. AreNamed m c.close_containers.new.state.tree.nodes) (sym c.sort_tables.ensures.names)
     (c.close_containers.ensures.kept.named (names_of c.loop-ix.pass.allocs) c.loop-ix.invariant.named)
 
 pub returns-clause-links : goal.returns-clause-links
 returns-clause-links c =
-    subst (λ (e : Entries). AreWritten c.args.text.now e.links) (sym c.settle.ensures.entries) c.loop-ix.invariant.written.0
+    subst (λ (e : Entries). AreWritten c.args.text.now e.links) (sym c.sort_tables.ensures.entries) c.loop-ix.invariant.written.0
 
 pub returns-clause-footnotes : goal.returns-clause-footnotes
 returns-clause-footnotes c =
-    subst (λ (e : Entries). AreFootnotesWritten c.args.text.now e.footnotes) (sym c.settle.ensures.entries) c.loop-ix.invariant.written.1
+    subst (λ (e : Entries). AreFootnotesWritten c.args.text.now e.footnotes) (sym c.sort_tables.ensures.entries) c.loop-ix.invariant.written.1

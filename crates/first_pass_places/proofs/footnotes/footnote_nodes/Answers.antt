@@ -23,13 +23,13 @@ returns-in_err-add_footnote-clause-err c =
 
 pub returns-clause-value : goal.returns-clause-value
 returns-clause-value c =
-    subst (AreFirstFootnotes (names_of c.args.allocs.now) c.args.nodes.now) (sym c.settle.ensures.same)
+    subst (AreFirstFootnotes (names_of c.args.allocs.now) c.args.nodes.now) (sym c.sort.ensures.same)
     (subst (λ l. AreFirstFootnotes (names_of c.args.allocs.now) l c.loop-index.table) (take_all c.loop-index.index c.args.nodes.now c.loop-index-test.false)
     c.loop-index.invariant)
 
-pub returns-in_err-settle-clause-err : goal.returns-in_err-settle-clause-err
-returns-in_err-settle-clause-err c =
-    on_err c.from_residual-in_err-settle.result
-    (some_labels (names_of c.args.allocs.now) c.args.nodes.now c.loop-index.table c.in_err-settle.ensures.err
+pub returns-in_err-sort-clause-err : goal.returns-in_err-sort-clause-err
+returns-in_err-sort-clause-err c =
+    on_err c.from_residual-in_err-sort.result
+    (some_labels (names_of c.args.allocs.now) c.args.nodes.now c.loop-index.table c.in_err-sort.ensures.err
     (subst (λ l. AreFirstFootnotes (names_of c.args.allocs.now) l c.loop-index.table) (take_all c.loop-index.index c.args.nodes.now c.loop-index-test.false)
     c.loop-index.invariant))

@@ -1,20 +1,22 @@
 use Rattle.std.proofs.Common.{sym, ap, length, ◌∙◌, arith}
 use Rattle.std.specs.Option.{option_copied}
-use Rattle.first_pass_labels.specs.LabelTables.{table_of, past}
+use Rattle.first_pass_labels.specs.LabelTables.{table_of, after_label}
 use Rattle.first_pass_labels.proofs.PlaceLemmas.{named, no_first, order_left, order_step, table_step}
 use Rattle.first_pass_labels.proofs.in_order.InOrderIterator.next.Goals as goal
 
 pub offset_bounds-entries-order : goal.offset_bounds-entries-order
 offset_bounds-entries-order g c =
     let i = c.self.inside in
-    let n = named i.entries.now (table_of (past (option_copied i.last) i.entries.now)) i.order.now 0
+    let n = named i.entries.now (table_of (after_label (option_copied i.last) i.entries.now)) i.order.now 0
     (c.self.invariant c.if-order-gt0.true) c.if-order-gt0.true in
     omega (arith, n.within)
 
 pub bounds-entries-order : goal.bounds-entries-order
 bounds-entries-order g c =
     let i = c.self.inside in
-    (named i.entries.now (table_of (past (option_copied i.last) i.entries.now)) i.order.now 0 (c.self.invariant c.if-order-gt0.true) c.if-order-gt0.true).within
+    let n = named i.entries.now (table_of (after_label (option_copied i.last) i.entries.now)) i.order.now 0
+    (c.self.invariant c.if-order-gt0.true) c.if-order-gt0.true in
+    n.within
 
 pub invariant_of-self : goal.invariant_of-self
 invariant_of-self g c =
@@ -42,7 +44,7 @@ returns-then-order-gt0-clause-goes g c =
 pub returns-in_err-entry-clause-steps : goal.returns-in_err-entry-clause-steps
 returns-in_err-entry-clause-steps g c =
     let i = c.self.inside in
-    let none = sym c.self.view_is ∙ no_first (table_of (past (option_copied i.last) i.entries.now)) (sym c.in_err-entry.ensures) in
+    let none = sym c.self.view_is ∙ no_first (table_of (after_label (option_copied i.last) i.entries.now)) (sym c.in_err-entry.ensures) in
     rw c.from_residual.ensures (none, none)
 
 pub returns-clause-steps : goal.returns-clause-steps

@@ -18,5 +18,5 @@ pub returns : goal.returns
 returns g c =
     let f = folding_of c.args.key.now in
     let es = c.self.inside.entries.items in
-    c.find_settled.ensures ∙ ap (λ l. lookup (is_at (label_cmp c.args.key.now)) (table_of l)) c.as_slice-2.ensures.value
+    c.find_sorted.ensures ∙ ap (λ l. lookup (is_at (label_cmp c.args.key.now)) (table_of l)) c.as_slice-2.ensures.value
     ∙ sym (found_by_order c.args.key.now (table_of es)) ∙ ap (defined_under f) c.self.view_is

@@ -2,7 +2,7 @@ use Rattle.std.proofs.Common.{ap, arith, length, subst}
 use Rattle.std.proofs.iter.runs.Sources.{from_front}
 use Rattle.std.specs.Map.Iter.{TakesFirst, deref_pair}
 use Rattle.first_pass_labels.specs.LabelTables.{IsInOrder}
-use Rattle.first_pass_labels.proofs.SettledLemmas.{table_long}
+use Rattle.first_pass_labels.proofs.SortedLemmas.{table_long}
 use Rattle.first_pass_labels.proofs.TextOrder.{in_order_table}
 use Rattle.first_pass_labels.proofs.label_table.LabelTable.iter.Goals as goal
 

@@ -3,7 +3,7 @@ use Rattle.std.proofs.lemmas.Map.Entries.{lookup_at_gap}
 use Rattle.first_pass_labels.specs.LabelTables.{table_of}
 use Rattle.first_pass_labels.proofs.PlaceLemmas.{named, past_end, below_more, above_more, found_at}
 use Rattle.first_pass_labels.proofs.TextOrder.{in_order_table, label_total}
-use Rattle.first_pass_labels.proofs.search.find_settled.Goals as goal
+use Rattle.first_pass_labels.proofs.search.find_sorted.Goals as goal
 
 pub loop-low-init : goal.loop-low-init
 loop-low-init g c = record {

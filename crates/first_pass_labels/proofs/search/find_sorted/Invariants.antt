@@ -4,7 +4,7 @@ use Rattle.std.specs.declared.cmp.Ordering.TheVariants.{Less, Greater}
 use Rattle.first_pass_items.specs.declared.cow_str.CowStr.{CowStr}
 use Rattle.first_pass_labels.specs.Foldings.{label_cmp}
 use Rattle.first_pass_labels.specs.LabelTables.{table_of}
-use Rattle.first_pass_labels.proofs.search.find_settled.Given as goal
+use Rattle.first_pass_labels.proofs.search.find_sorted.Given as goal
 
 -- the labels before `low` are below the key, and those from `high` on above it
 abbrev pub invariant-loop-low : goal.invariant-loop-low

@@ -1,6 +1,6 @@
 use Rattle.std.proofs.Common.{◌<◌, arith, length, subst}
-use Rattle.first_pass_labels.proofs.SettledLemmas.{table_some, on_err}
-use Rattle.first_pass_labels.proofs.label_table.LabelTable.settle.Goals as goal
+use Rattle.first_pass_labels.proofs.SortedLemmas.{table_some, on_err}
+use Rattle.first_pass_labels.proofs.label_table.LabelTable.sort.Goals as goal
 
 pub returns-in_err-order-clause-err : goal.returns-in_err-order-clause-err
 returns-in_err-order-clause-err g c =

@@ -18,7 +18,7 @@ use Rattle.std.proofs.lemmas.Map.{lookup-none}
 use Rattle.std.proofs.lemmas.Map.Entries.{none_below_head}
 use Rattle.first_pass_items.specs.declared.cow_str.CowStr.{CowStr}
 use Rattle.first_pass_labels.specs.Foldings.{folding_of, label_cmp}
-use Rattle.first_pass_labels.specs.LabelTables.{defined_under, with_first, with_all, table_of, IsInOrder, past, is_past, least_with}
+use Rattle.first_pass_labels.specs.LabelTables.{defined_under, with_first, with_all, table_of, IsInOrder, after_label, comes_after, lesser_of}
 use Rattle.first_pass_labels.proofs.TableLemmas.{found_by_order}
 use Rattle.first_pass_labels.proofs.TextOrder.{equal_by, label_total, below_all, folding_tied, first_of, first_of_none, first_of_three}
 use Rattle.first_pass_labels.proofs.TextOrder.{cond_first, in_order_table, with_one_more}
@@ -160,7 +160,7 @@ module _ {X : Type 0} where
   unique (a ∷ xs) [] p q same = absurd (none-some a (sym (same a) ∙ own a xs))
   unique (a ∷ xs) (b ∷ ys) p q same = unique_cons a b xs ys (label_cmp a.0 b.0) refl p q same (unique xs ys p.1 q.1)
 
-  -- ---- what is past the first entry of a table
+  -- ---- what comes after the first entry of a table
 
   none_either : (b : Bool) (o : Option (CowStr × X)) → o ≡ None → o ≡ cond b o None
   none_either true o h = refl
@@ -171,25 +171,25 @@ module _ {X : Type 0} where
   skipped l e es true apart = ap (λ b. cond b (Some e) (entry_under l es)) apart
   skipped l e es false apart = refl
 
-  past_tied : (k l : CowStr) (e : CowStr × X) (es fs : List (CowStr × X)) (p : Bool) → label_cmp l e.0 ≡ Equal → is_lt (label_cmp k l) ≡ p
+  after_tied : (k l : CowStr) (e : CowStr × X) (es fs : List (CowStr × X)) (p : Bool) → label_cmp l e.0 ≡ Equal → is_lt (label_cmp k l) ≡ p
       → entry_under l fs ≡ cond (is_lt (label_cmp k l)) (entry_under l es) None
       → entry_under l (cond p (e ∷ fs) fs) ≡ cond (is_lt (label_cmp k l)) (Some e) None
-  past_tied k l e es fs true t is rest =
+  after_tied k l e es fs true t is rest =
       ap (λ o. cond (is_eq o) (Some e) (entry_under l fs)) t ∙ sym (ap (λ b. cond b (Some e) None) is)
-  past_tied k l e es fs false t is rest =
+  after_tied k l e es fs false t is rest =
       rest ∙ ap (λ b. cond b (entry_under l es) None) is ∙ sym (ap (λ b. cond b (Some e) None) is)
 
-  past_cons : (k l : CowStr) (e : CowStr × X) (es : List (CowStr × X)) (o : Ordering) → label_cmp l e.0 ≡ o
-      → entry_under l (past (Some k) es) ≡ cond (is_lt (label_cmp k l)) (entry_under l es) None
-      → entry_under l (past (Some k) (e ∷ es)) ≡ cond (is_lt (label_cmp k l)) (cond (is_eq o) (Some e) (entry_under l es)) None
-  past_cons k l e es Less is rest = skipped l e (past (Some k) es) (is_lt (label_cmp k e.0)) (ap is_eq is) ∙ rest
-  past_cons k l e es Equal is rest =
-      past_tied k l e es (past (Some k) es) (is_lt (label_cmp k e.0)) is (ap is_lt (alike_right label_total l e.0 k is)) rest
-  past_cons k l e es Greater is rest = skipped l e (past (Some k) es) (is_lt (label_cmp k e.0)) (ap is_eq is) ∙ rest
+  after_cons : (k l : CowStr) (e : CowStr × X) (es : List (CowStr × X)) (o : Ordering) → label_cmp l e.0 ≡ o
+      → entry_under l (after_label (Some k) es) ≡ cond (is_lt (label_cmp k l)) (entry_under l es) None
+      → entry_under l (after_label (Some k) (e ∷ es)) ≡ cond (is_lt (label_cmp k l)) (cond (is_eq o) (Some e) (entry_under l es)) None
+  after_cons k l e es Less is rest = skipped l e (after_label (Some k) es) (is_lt (label_cmp k e.0)) (ap is_eq is) ∙ rest
+  after_cons k l e es Equal is rest =
+      after_tied k l e es (after_label (Some k) es) (is_lt (label_cmp k e.0)) is (ap is_lt (alike_right label_total l e.0 k is)) rest
+  after_cons k l e es Greater is rest = skipped l e (after_label (Some k) es) (is_lt (label_cmp k e.0)) (ap is_eq is) ∙ rest
 
-  past_under : (k l : CowStr) (es : List (CowStr × X)) → entry_under l (past (Some k) es) ≡ cond (is_lt (label_cmp k l)) (entry_under l es) None
-  past_under k l [] = none_either (is_lt (label_cmp k l)) None refl
-  past_under k l (e ∷ es) = past_cons k l e es (label_cmp l e.0) refl (past_under k l es)
+  after_under : (k l : CowStr) (es : List (CowStr × X)) → entry_under l (after_label (Some k) es) ≡ cond (is_lt (label_cmp k l)) (entry_under l es) None
+  after_under k l [] = none_either (is_lt (label_cmp k l)) None refl
+  after_under k l (e ∷ es) = after_cons k l e es (label_cmp l e.0) refl (after_under k l es)
 
   selected_by : (ds : List (CowStr × X)) (e : CowStr × X) (rest : List (CowStr × X)) → table_of ds ≡ e ∷ rest
       → AllByRecursion (λ y. label_cmp e.0 y ≡ Less) (keys_of rest) → (d : CowStr × X) (o : Ordering) → label_cmp e.0 d.0 ≡ o
@@ -202,14 +202,14 @@ module _ {X : Type 0} where
   selected_by ds e rest is above d Greater more =
       none_above d.0 rest (below_all d.0 e.0 (keys_of rest) (label_total.antisymm d.0 e.0 ∙ ap ordering_reverse more) above)
 
-  selected : (ds : List (CowStr × X)) (e : CowStr × X) (rest : List (CowStr × X)) → table_of ds ≡ e ∷ rest → rest ≡ table_of (past (Some e.0) ds)
+  selected : (ds : List (CowStr × X)) (e : CowStr × X) (rest : List (CowStr × X)) → table_of ds ≡ e ∷ rest → rest ≡ table_of (after_label (Some e.0) ds)
   unfolding IsStrictlySortedBy
   selected ds e rest is =
       let order : IsInOrder (e ∷ rest) = subst IsInOrder is (in_order_table ds) in
-      unique rest (table_of (past (Some e.0) ds)) order.1 (in_order_table (past (Some e.0) ds))
-      (λ d. selected_by ds e rest is order.0 d (label_cmp e.0 d.0) refl ∙ sym (past_under e.0 d.0 ds) ∙ sym (entry_of_table d.0 (past (Some e.0) ds)))
+      unique rest (table_of (after_label (Some e.0) ds)) order.1 (in_order_table (after_label (Some e.0) ds))
+      (λ d. selected_by ds e rest is order.0 d (label_cmp e.0 d.0) refl ∙ sym (after_under e.0 d.0 ds) ∙ sym (entry_of_table d.0 (after_label (Some e.0) ds)))
 
--- ---- the same among what is past an earlier label
+-- ---- the same among what comes after an earlier label
 
 module _ {X : Type 0} (p q : X → Bool) (within : (d : X) → p d ≡ true → q d ≡ true) where
   twice_cons : (d : X) (es : List X) (a b : Bool) → q d ≡ a → p d ≡ b → filter p (filter q es) ≡ filter p es
@@ -227,30 +227,31 @@ less_by Less h = refl
 less_by Equal h = absurd (true≢false (sym h))
 less_by Greater h = absurd (true≢false (sym h))
 
-past_both : (last : Option CowStr) (e d : CowStr) → is_past last e ≡ true → is_lt (label_cmp e d) ≡ true → is_past last d ≡ true
-past_both None e d h less = refl
-past_both (Some k) e d h less = ap is_lt (label_total.trans k e d (less_by (label_cmp k e) h) (less_by (label_cmp e d) less))
+after_both : (last : Option CowStr) (e d : CowStr) → comes_after last e ≡ true → is_lt (label_cmp e d) ≡ true → comes_after last d ≡ true
+after_both None e d h less = refl
+after_both (Some k) e d h less = ap is_lt (label_total.trans k e d (less_by (label_cmp k e) h) (less_by (label_cmp e d) less))
 
 module _ {X : Type 0} (last : Option CowStr) where
-  passes_cons : (l : CowStr) (e d : CowStr × X) (fs : List (CowStr × X)) (p b : Bool) → is_past last d.0 ≡ p → is_eq (label_cmp l d.0) ≡ b
-      → (entry_under l fs ≡ Some e → is_past last e.0 ≡ true) → entry_under l (cond p (d ∷ fs) fs) ≡ Some e → is_past last e.0 ≡ true
+  passes_cons : (l : CowStr) (e d : CowStr × X) (fs : List (CowStr × X)) (p b : Bool) → comes_after last d.0 ≡ p → is_eq (label_cmp l d.0) ≡ b
+      → (entry_under l fs ≡ Some e → comes_after last e.0 ≡ true) → entry_under l (cond p (d ∷ fs) fs) ≡ Some e → comes_after last e.0 ≡ true
   passes_cons l e d fs true true ps is rest found =
-      ap (λ (c : CowStr × X). is_past last c.0) (sym (same_Some d e (sym (ap (λ c. cond c (Some d) (entry_under l fs)) is) ∙ found))) ∙ ps
+      ap (λ (c : CowStr × X). comes_after last c.0) (sym (same_Some d e (sym (ap (λ c. cond c (Some d) (entry_under l fs)) is) ∙ found))) ∙ ps
   passes_cons l e d fs true false ps is rest found = rest (sym (ap (λ c. cond c (Some d) (entry_under l fs)) is) ∙ found)
   passes_cons l e d fs false b ps is rest found = rest found
 
-  passes : (l : CowStr) (e : CowStr × X) (es : List (CowStr × X)) → entry_under l (past last es) ≡ Some e → is_past last e.0 ≡ true
+  passes : (l : CowStr) (e : CowStr × X) (es : List (CowStr × X)) → entry_under l (after_label last es) ≡ Some e → comes_after last e.0 ≡ true
   passes l e [] found = absurd (none-some e found)
   passes l e (d ∷ es) found =
-      passes_cons l e d (past last es) (is_past last d.0) (is_eq (label_cmp l d.0)) refl refl (passes l e es) found
+      passes_cons l e d (after_label last es) (comes_after last d.0) (is_eq (label_cmp l d.0)) refl refl (passes l e es) found
 
-  pub past_first : (es : List (CowStr × X)) (e : CowStr × X) (rest : List (CowStr × X)) → table_of (past last es) ≡ e ∷ rest
-      → rest ≡ table_of (past (Some e.0) es)
-  past_first es e rest is =
-      let found = sym (entry_of_table e.0 (past last es)) ∙ ap (entry_under e.0) is ∙ own e rest in
+  pub after_first : (es : List (CowStr × X)) (e : CowStr × X) (rest : List (CowStr × X)) → table_of (after_label last es) ≡ e ∷ rest
+      → rest ≡ table_of (after_label (Some e.0) es)
+  after_first es e rest is =
+      let found = sym (entry_of_table e.0 (after_label last es)) ∙ ap (entry_under e.0) is ∙ own e rest in
       let within = passes e.0 e es found in
-      selected (past last es) e rest is
-      ∙ ap table_of (twice (λ (d : CowStr × X). is_past (Some e.0) d.0) (λ (d : CowStr × X). is_past last d.0) (λ d. past_both last e.0 d.0 within) es)
+      selected (after_label last es) e rest is
+      ∙ ap table_of (twice (λ (d : CowStr × X). comes_after (Some e.0) d.0) (λ (d : CowStr × X). comes_after last d.0)
+      (λ d. after_both last e.0 d.0 within) es)
 
 -- ---- the first entry of a table with one more definition
 
@@ -265,37 +266,37 @@ module _ {X : Type 0} (e : CowStr × X) where
   head_by h t Greater true f g = refl
   head_by h t Greater false f g = refl
 
-  head_more : (t : List (CowStr × X)) → IsInOrder t → slice_get (with_first t e.0 e.1) 0 ≡ least_with (slice_get t 0) e
+  head_more : (t : List (CowStr × X)) → IsInOrder t → slice_get (with_first t e.0 e.1) 0 ≡ lesser_of (slice_get t 0) e
   head_more [] order = refl
   head_more (h ∷ t) order =
       head_by h t (label_cmp e.0 h.0) (is_some (defined_under (folding_of e.0) (h ∷ t)))
       (λ less. ap is_some (found_by_order e.0 (h ∷ t) ∙ lookup-none (is_at (label_cmp e.0)) (h ∷ t) (none_below_head label_total e.0 h t order less)))
       (λ tied. ap is_some (found_by_order e.0 (h ∷ t) ∙ ap (λ o. cond (is_eq o) (Some h.1) (lookup (is_at (label_cmp e.0)) t)) tied))
 
-  pub least_more : (ds : List (CowStr × X)) → slice_get (table_of (ds ++ e ∷ [])) 0 ≡ least_with (slice_get (table_of ds) 0) e
+  pub least_more : (ds : List (CowStr × X)) → slice_get (table_of (ds ++ e ∷ [])) 0 ≡ lesser_of (slice_get (table_of ds) 0) e
   least_more ds = ap (λ t. slice_get t 0) (with_one_more [] ds e.0 e.1) ∙ head_more (table_of ds) (in_order_table ds)
 
 module _ {X : Type 0} (last : Option CowStr) (es : List (CowStr × X)) (i : ℕ) (d : CowStr × X) (here : i < length es) where
   abbrev before : List (CowStr × X)
-  before = past last (take i es)
+  before = after_label last (take i es)
 
-  with_next : (b : Bool) → is_past last (get_or es i d).0 ≡ b → past last (take (i + 1) es) ≡ before ++ cond b (get_or es i d ∷ []) []
+  with_next : (b : Bool) → comes_after last (get_or es i d).0 ≡ b → after_label last (take (i + 1) es) ≡ before ++ cond b (get_or es i d ∷ []) []
   with_next b is =
-      filter_more (λ (e : CowStr × X). is_past last e.0) es i d here ∙ ap (λ c. before ++ cond c (get_or es i d ∷ []) []) is
+      filter_more (λ (e : CowStr × X). comes_after last e.0) es i d here ∙ ap (λ c. before ++ cond c (get_or es i d ∷ []) []) is
 
-  pub least_taken : (e : CowStr × X) → is_past last (get_or es i d).0 ≡ true
-      → slice_get (table_of (past last (take (i + 1) es))) 0 ≡ least_with (slice_get (table_of before) 0) (get_or es i e)
+  pub least_taken : (e : CowStr × X) → comes_after last (get_or es i d).0 ≡ true
+      → slice_get (table_of (after_label last (take (i + 1) es))) 0 ≡ lesser_of (slice_get (table_of before) 0) (get_or es i e)
   least_taken e is =
       ap (λ l. slice_get (table_of l) 0) (with_next true is) ∙ least_more (get_or es i d) before
-      ∙ ap (least_with (slice_get (table_of before) 0)) (get_or_default es i d e here)
+      ∙ ap (lesser_of (slice_get (table_of before) 0)) (get_or_default es i d e here)
 
-  pub least_left : is_past last (get_or es i d).0 ≡ false → slice_get (table_of (past last (take (i + 1) es))) 0 ≡ slice_get (table_of before) 0
+  pub least_left : comes_after last (get_or es i d).0 ≡ false → slice_get (table_of (after_label last (take (i + 1) es))) 0 ≡ slice_get (table_of before) 0
   least_left is = ap (λ l. slice_get (table_of l) 0) (with_next false is ∙ append-nil before)
 
--- without a last label every entry is past it
-pub past_none : {X : Type 0} (es : List (CowStr × X)) → past None es ≡ es
-past_none [] = refl
-past_none (e ∷ es) = ap (λ l. e ∷ l) (past_none es)
+-- without a label, all definitions
+pub after_none : {X : Type 0} (es : List (CowStr × X)) → after_label None es ≡ es
+after_none [] = refl
+after_none (e ∷ es) = ap (λ l. e ∷ l) (after_none es)
 
 -- ---- a table is no longer than the definitions
 
