@@ -57,6 +57,70 @@ fn first_definitions_stay(rt: HostRuntime) -> Result<(), Fail> {
     Ok(())
 }
 
+// Each label with its destination, in the order of the table.
+fn listed(alloc: Global, links: &RefDefs<'_>) -> Result<String, AllocError> {
+    let mut all = String::new(alloc);
+    for (label, link) in links.iter() {
+        all.push_str(label.label())?;
+        all.push_str(" ")?;
+        all.push_str(link.dest.deref())?;
+        all.push_str(", ")?;
+    }
+    Ok(all)
+}
+
+// The destination under a label, or `-`.
+fn found<'t>(links: &'t RefDefs<'_>, label: &str) -> Result<&'t str, AllocError> {
+    match links.get(label)? {
+        Some(link) => Ok(link.dest.deref()),
+        None => Ok("-"),
+    }
+}
+
+// Whether a table has what the test below defines first.
+fn has_first_labels(alloc: Global, links: &RefDefs<'_>) -> Result<bool, AllocError> {
+    let all = listed(alloc, links)?;
+    Ok(
+        all.as_str()
+            == "A long label of one 3, a long label of two 1, a long lane 5, b 2, \u{df} 6, "
+            && found(links, "A LONG LABEL OF TWO")? == "1"
+            && found(links, "SS")? == "6"
+            && found(links, "a long label")? == "-"
+            && found(links, "a")? == "-"
+            && found(links, "B")? == "2",
+    )
+}
+
+// A sorted table gives the same results as before, and takes further definitions. Labels of this test have their first
+// eight or sixteen bytes in common.
+#[test]
+fn sorting_changes_no_result(rt: HostRuntime) -> Result<(), Fail> {
+    let mut links = RefDefs::new(rt.alloc());
+    for (label, dest) in [
+        ("a long label of two", "1"),
+        ("b", "2"),
+        ("A long label of one", "3"),
+        ("a LONG label of two", "4"),
+        ("a long lane", "5"),
+        ("\u{df}", "6"),
+    ] {
+        links.insert_first(key(rt.alloc(), label)?, link(dest))?;
+    }
+    assert!(rt; has_first_labels(rt.alloc(), &links)?);
+    links.sort()?;
+    assert!(rt; has_first_labels(rt.alloc(), &links)?);
+    links.insert_first(key(rt.alloc(), "B")?, link("7"))?;
+    assert!(rt; has_first_labels(rt.alloc(), &links)?);
+    links.insert_first(key(rt.alloc(), "A")?, link("8"))?;
+    assert!(rt; found(&links, "a")? == "8");
+    let all = listed(rt.alloc(), &links)?;
+    links.sort()?;
+    assert!(rt; found(&links, "a")? == "8");
+    assert!(rt; listed(rt.alloc(), &links)?.as_str() == all.as_str());
+    assert!(rt; all.as_str().starts_with("A 8, A long label of one 3, "));
+    Ok(())
+}
+
 #[test]
 fn first_footnotes_stay(rt: HostRuntime) -> Result<(), Fail> {
     let mut footnotes = FootDefs::new(rt.alloc());
