@@ -3,7 +3,8 @@
 use first_pass_blocks::state::BlockPass;
 use first_pass_tokens::braces::BraceContexts;
 
-/// A pass over a text: the tree so far, and the entries that its nodes name.
+/// A pass over a text: the tree so far, and the entries that its nodes name. Its two tables are not sorted, so each
+/// look-up goes through all their entries, until `Allocations::sort_tables` is called.
 #[derive(Drop)]
 pub struct FirstPass<'a> {
     /// The pass over blocks: the text and the options; the tree and the other state between two lines; and the entries
