@@ -1,5 +1,8 @@
 //! The table that a program reads, and the report that it writes.
 
+ghost use Rattle.std.specs.Prelude.{◌≡◌, ◌==◌, ◌⊎◌, IfOk, Ok, OnErr, if◌then◌else◌};
+ghost use Rattle.std.specs.Process.{exit_status};
+
 use crate::fault::CasesFault;
 use crate::tally::{Tally, end_with};
 use crate::texts::is_heading;
@@ -19,8 +22,13 @@ pub fn read_table(rt: &HostRuntime) -> Result<String, CasesFault> {
 }
 
 /// Ends a run that made this report: writes the report and the line of the tally to standard output, and returns the
-/// status (see `end_with`). After a fault only the fault is written.
-pub fn end_report(rt: &HostRuntime, report: &str, answer: Result<Tally, CasesFault>) -> ExitCode {
+/// status (see `end_with`). After a fault only the fault is written. The status is also 2 if a write or an allocation
+/// fails here.
+pub fn end_report(rt: &HostRuntime, report: &str, answer: Result<Tally, CasesFault>) -> ExitCode
+    ensures tally { IfOk answer (λ tally. (exit_status result ≡ (if tally.differ == 0 then 0 else 1))
+        ⊎ (exit_status result ≡ 2)) }
+    ensures fault { OnErr answer (exit_status result ≡ 2) }
+{
     end_with(rt, written(rt, report, answer))
 }
 
@@ -29,7 +37,9 @@ fn written(
     rt: &HostRuntime,
     report: &str,
     answer: Result<Tally, CasesFault>,
-) -> Result<Tally, CasesFault> {
+) -> Result<Tally, CasesFault>
+    ensures { IfOk result (λ tally. answer ≡ Ok tally) }
+{
     let tally = answer?;
     let mut output = rt.stdout();
     write_whole(&mut output, report.as_bytes())?;

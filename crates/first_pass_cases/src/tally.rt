@@ -1,5 +1,8 @@
 //! The number of cases in a table, and how many of them differ.
 
+ghost use Rattle.std.specs.Prelude.{◌≡◌, ◌==◌, IfOk, OnErr, if◌then◌else◌};
+ghost use Rattle.std.specs.Process.{exit_status};
+
 use crate::fault::CasesFault;
 use std::alloc::{AllocError, Global};
 use std::process::ExitCode;
@@ -32,7 +35,9 @@ impl Tally {
     }
 
     /// Returns the exit status of a program: 0 if no case differs, otherwise 1.
-    pub fn status(self) -> u8 {
+    pub fn status(self) -> u8
+        ensures { result ≡ (if self.differ == 0 then 0 else 1) }
+    {
         u8::from(self.differ != 0)
     }
 }
@@ -43,7 +48,10 @@ pub fn append_place(report: &mut String, line: usize) -> Result<(), AllocError> 
 }
 
 /// Ends a run: writes a fault to standard error and returns status 2, or returns the status of the tally.
-pub fn end_with(rt: &HostRuntime, answer: Result<Tally, CasesFault>) -> ExitCode {
+pub fn end_with(rt: &HostRuntime, answer: Result<Tally, CasesFault>) -> ExitCode
+    ensures tally { IfOk answer (λ tally. exit_status result ≡ (if tally.differ == 0 then 0 else 1)) }
+    ensures fault { OnErr answer (exit_status result ≡ 2) }
+{
     match answer {
         Ok(tally) => ExitCode::from(tally.status()),
         Err(fault) => {
