@@ -6,7 +6,7 @@ use first_pass_cases::table::{compare_groups, read_table};
 use first_pass_cases::tally::{Tally, append_place};
 use std::alloc::Global;
 
-/// Runs each case of the table. Appends to the report each case that differs.
+/// Reads the table from standard input and runs each case. Appends to the report each case that differs.
 pub fn compare(rt: &HostRuntime, report: &mut String) -> Result<Tally, CasesFault> {
     let table = read_table(rt)?;
     let alloc = rt.alloc();

@@ -61,7 +61,7 @@ pub fn cell_at(bytes: &[u8], at: usize) -> CellStart
     ensures order { (at ≤ result.at) × (result.at ≤ result.content) }
 {
     let cell = cell_start(bytes, at);
-    // The most frequent cases come first. They have two bytes, as any has except at the end of the text.
+    // The most frequent cases come first. Two bytes are left, except at the end of the text.
     match rest_of(bytes, cell) {
         [b' ', next, ..] if *next > b' ' => start_in_row(cell, cell + 1),
         [first, _, ..] if *first > b' ' => start_in_row(cell, cell),

@@ -445,8 +445,8 @@ impl Tree<Item> {
         }
     }
 
-    /// Removes the last recorded subtree and returns it, if it is between the indices `from` and `to`. For
-    /// `surgerize_tight_list`, which skips what is recorded.
+    /// Removes the last recorded subtree and returns it, if it is between the indices `from` and `to`. Returns `None`
+    /// otherwise, and removes nothing. For `surgerize_tight_list`, which skips what is recorded.
     pub fn take_subtree(&mut self, from: usize, to: usize) -> Option<Subtree>
         ensures tree { self.new ≡ self.old }
         ensures within { IfSome result (λ s. (from ≤ s.place) × (s.past ≤ to)) }

@@ -10,7 +10,8 @@ use first_pass_cases::table::{compare_groups, read_table};
 use first_pass_cases::tally::{Tally, append_place};
 use first_pass_host::words::words_of;
 
-/// Makes the call of each case. Appends to the report the outcome that a case requests, and each case that differs.
+/// Reads the table from standard input and makes the call of each case. Appends to the report the outcome that a case
+/// requests, and each case that differs.
 pub fn compare(rt: &HostRuntime, report: &mut String) -> Result<Tally, CasesFault> {
     // Only compiled code (`rt try`) runs a program that reads its words, and compiled code is what counts here.
     words_of(rt)?;

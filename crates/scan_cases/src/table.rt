@@ -31,7 +31,8 @@ struct Case<'t> {
     want: &'t str,
 }
 
-/// Makes the call of each line. Appends to the report each line whose result differs.
+/// Reads the table from standard input and makes the call of each line. Appends to the report each line whose result
+/// differs.
 pub fn compare(rt: &HostRuntime, report: &mut String) -> Result<Tally, CasesFault> {
     let table = read_table(rt)?;
     let mut tally = Tally::new();
