@@ -838,9 +838,6 @@ place_past text a n l b =
     let g = get_or-drop a text n 0 in
     (omega arith, λ h k. let z = b.1 (omega arith) (omega arith) in omega arith)
 
-pub closing_bracket : (b : ℕ) → is_bracket b ≡ true → (b ≡ left_bracket → ⊥) → b ≡ right_bracket
-closing_bracket b h f = eqb-true b right_bracket (rw (differs b left_bracket f) at h)
-
 -- a prefix of no bytes, and one that ends with an ASCII byte
 pub no_prefix : (bs : List ℕ) (n : ℕ) → IsUtf8 bs → n ≡ 0 → IsCharBoundary bs n
 no_prefix bs n u e = rw e (IsCharBoundary-start bs u)

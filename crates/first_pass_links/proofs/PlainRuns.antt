@@ -1,21 +1,21 @@
 -- Runs of plain bytes in destinations and labels.
-use Rattle.std.proofs.Common.{◌≡◌, ℕ, zero, suc, inl, ◌+◌, ◌<◌, ◌≤◌, ◌==◌, ◌||◌, not, Bool, true, false, List, ◌++◌, length, take, drop, get_or}
-use Rattle.std.proofs.Common.{Option, refl, sym, ap, subst, ◌∙◌, arith, append_assoc, length-append, if◌then◌else◌}
+use Rattle.std.proofs.Common.{◌≡◌, ℕ, zero, suc, inl, ◌+◌, ◌<◌, ◌≤◌, ◌==◌, ◌||◌, not, Bool, true, false, List, [], ◌++◌, length, take, drop, get_or}
+use Rattle.std.proofs.Common.{Option, Some, refl, sym, ap, subst, ◌∙◌, arith, append_assoc, length-append, if◌then◌else◌}
 use Rattle.std.specs.List.{list_any, count_by}
 use Rattle.std.proofs.lemmas.Bool.Decides.{nat_tests}
 use Rattle.std.proofs.lemmas.List.{drop_more, map-append, length-map, get_or-drop}
-use Rattle.first_pass_items.specs.Bytes.{left_parenthesis, right_parenthesis, backslash}
+use Rattle.first_pass_items.specs.Bytes.{left_parenthesis, right_parenthesis, right_bracket, backslash}
 use Rattle.first_pass_lines.specs.Lines.{is_white_or_line_end}
 use Rattle.first_pass_links.specs.Escapes.{begins_escape}
 use Rattle.first_pass_links.specs.Destinations.{ends_run, closes_none, nesting_after, bare_len, longer}
-use Rattle.first_pass_links.specs.Labels.{is_bracket, begins_character, bytes_of, label_len, as_read}
-use Rattle.first_pass_links.specs.Plain.{is_ordinary}
+use Rattle.first_pass_links.specs.Labels.{is_bracket, begins_character, bytes_of, label_len, as_read, label_at}
+use Rattle.first_pass_links.specs.Plain.{is_ordinary, IsPlainLabel}
 use Rattle.first_pass_links.specs.Units.{part, read_of, left_at, kept_unit, Reads}
 use Rattle.first_pass_links.specs.Runs.{is_run_byte}
 use Rattle.first_pass_links.proofs.Runs.{longer-none, plain_facts}
-use Rattle.first_pass_links.proofs.Destinations.{run_unit}
-use Rattle.first_pass_links.proofs.Labels.{byte_reads, read-kept, take_past, count_append, any_append}
-use Rattle.first_pass_links.proofs.Parts.{part-split}
+use Rattle.first_pass_links.proofs.Destinations.{run_unit, first_byte}
+use Rattle.first_pass_links.proofs.Labels.{byte_reads, read-kept, take_past, count_append, any_append, nothing_known, unit_known, known_as, closed}
+use Rattle.first_pass_links.proofs.Parts.{part-start, part-split}
 
 -- the first r bytes from an offset on are plain
 abbrev pub ArePlain : List ℕ → ℕ → ℕ → Type 0
@@ -156,3 +156,17 @@ pub plain_run_reads : (h : List ℕ → Option ℕ) (t : Bool) (text : List ℕ)
     → Reads h t text at (kept_unit (at + r) r true)
 plain_run_reads h t text at zero some within plain = absurd (omega arith)
 plain_run_reads h t text at (suc r) some within plain = plain_reads h t text at r within plain
+
+-- plain bytes with a `]` after them are a label
+pub plain_label : (h : List ℕ → Option ℕ) (t : Bool) (text : List ℕ) (n : ℕ) → IsPlainLabel text n → label_at h t text ≡ Some (n + 1, take n text)
+plain_label h t text n l =
+    let z : 0 + n ≡ n = omega arith in
+    let there = first_byte right_bracket text n l.closes in
+    let some = l.some in
+    let few = l.few in
+    let within = there.0 in
+    let plain : ArePlain text 0 n = are_plain text text 0 n refl l.plain in
+    let r : Reads h t text 0 (kept_unit n n true) =
+    subst (λ (j : ℕ). Reads h t text 0 (kept_unit j n true)) z (plain_run_reads h t text 0 n some (omega arith) plain) in
+    sym (nothing_known t h text) ∙ unit_known h t text 0 (kept_unit n n true) (known_as 0 false []) r
+    ∙ closed h t text n _ there.0 there.1 (omega arith) refl ∙ ap (λ bs. Some (n + 1, bs)) (read-kept text 0 n n true ∙ part-start text n)

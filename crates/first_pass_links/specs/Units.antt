@@ -1,16 +1,16 @@
 -- The units in which a label is read. Only contracts of private functions cite this.
 use Rattle.std.specs.Prelude.{◌≡◌, ◌⊎◌, ℕ, ◌+◌, ◌-◌, ◌==◌, ◌<◌, ◌≤◌, ◌&&◌, not, Bool, true, false, List, [], ◌∷◌, ◌++◌, length, take, drop, slice_index}
-use Rattle.std.specs.Prelude.{Option, Result, if◌then◌else◌}
+use Rattle.std.specs.Prelude.{Option, Result, None, IfSome, IsSomeAnd, MatchOption, if◌then◌else◌}
 use Rattle.std.specs.List.{list_any, list_all, count_by}
 use Rattle.std.specs.Borrow.{Bor}
 use Rattle.std.specs.Str.{IsCharBoundary}
 use Rattle.std.specs.declared.alloc.AllocError.{AllocError}
-use Rattle.first_pass_items.specs.Bytes.{space, pipe, ascii_end}
+use Rattle.first_pass_items.specs.Bytes.{space, pipe, right_bracket, ascii_end}
 use Rattle.first_pass_lines.specs.Lines.{begins, is_white_or_line_end}
 use Rattle.first_pass_links.specs.Escapes.{begins_escape}
 use Rattle.first_pass_links.specs.Changes.{begins_pipe_escape}
 use Rattle.first_pass_links.specs.declared.label.Unit.{Unit}
-use Rattle.first_pass_links.specs.Labels.{AnswersWith, ErrsAfter, begins_character, joined, bytes_of, label_len, as_read}
+use Rattle.first_pass_links.specs.Labels.{AnswersWith, ErrsAfter, IsRewritten, begins_character, joined, bytes_of, label_len, label_at, as_read}
 
 -- the bytes from one offset up to another (this project)
 abbrev pub part : List ℕ → ℕ → ℕ → List ℕ
@@ -117,3 +117,13 @@ pub record StopsByError (text : List ℕ) (at : ℕ) (post : Bor (List ℕ) → 
   pub characters : ℕ
   pub run : (prefix : List ℕ → Option ℕ) → AnswersWith text prefix post → IsWhiteRun prefix text at next characters
   pub stops : ErrsAfter text next post
+
+-- The result for a label is an offset and that of its `]`, or none if no label is there. The label as it is read is
+-- `written`, then the text from the first offset up to the `]`. If that offset is not 0, something changes (this project).
+pub record ReadsUnits (text : List ℕ) (in_table : Bool) (post : Bor (List ℕ) → Result (Option ℕ) AllocError → Type 0) (written : List ℕ)
+    (answer : Option (ℕ × ℕ)) : Type 0 where
+  pub value : (prefix : List ℕ → Option ℕ) → AnswersWith text prefix post → MatchOption (label_at prefix in_table text) (answer ≡ None)
+      (λ label. IsSomeAnd answer (λ read. (read.1 + 1 ≡ label.0) × (written ++ part text read.0 read.1 ≡ label.1)))
+  pub closes : IfSome answer (λ read. (read.1 < length text) × (slice_index text read.1 ≡ right_bracket))
+  pub lighter : IfSome answer (λ read. IsLighter text written read.0 read.1)
+  pub changes : IfSome answer (λ read. 0 < read.0 → (prefix : List ℕ → Option ℕ) → AnswersWith text prefix post → IsRewritten prefix in_table text)

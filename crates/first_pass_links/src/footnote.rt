@@ -48,12 +48,8 @@ where
     if !begins_footnote_mark(bytes) {
         return Ok(None);
     }
-    let Some((len, label)) = scan_link_label_rest(
-        alloc,
-        &text[2..],
-        linebreak_handler,
-        is_in_table,
-    )?
+    let rest = &text[2..];
+    let Some((len, label)) = scan_link_label_rest(alloc, rest, linebreak_handler, is_in_table)?
     else {
         return Ok(None);
     };

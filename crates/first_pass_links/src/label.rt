@@ -10,10 +10,10 @@ ghost use Rattle.first_pass_lines.specs.Lines.{ends_line, is_white_or_line_end};
 ghost use Rattle.first_pass_links.specs.Destinations.{unescaped_upto};
 ghost use Rattle.first_pass_entities.specs.Texts.{Borrows};
 ghost use Rattle.first_pass_links.specs.Labels.{AnswersWith, AnswersPlaces, CanErr, ErrsAfter, is_bracket, begins_character, ends_line_label, is_label, label_at};
-ghost use Rattle.first_pass_links.specs.Units.{part, read_of, left_at, kept_unit, space_unit, dropped_unit, backslash_unit, IsUnit, Reads, IsLighter, IsWhiteRun, EndsWhiteRun, StopsByError, IsBlankRest};
+ghost use Rattle.first_pass_links.specs.Units.{part, read_of, left_at, kept_unit, space_unit, dropped_unit, backslash_unit, IsUnit, Reads, ReadsUnits, IsLighter, IsWhiteRun, EndsWhiteRun, StopsByError, IsBlankRest};
 
 use crate::destination::unit_len;
-use crate::plain::plain_run;
+use crate::plain::{plain_run, scan_plain_label};
 use first_pass_items::cow_str::CowStr;
 use first_pass_lines::lines::{begins, is_line_end, is_white_or_line_end};
 use first_pass_lines::places::rest_of;
@@ -57,14 +57,42 @@ where
     ensures err { OnErr result ((prefix : List ℕ → Option ℕ) → AnswersWith text.now prefix (F.post linebreak_handler)
         → CanErr prefix is_in_table text.now (F.post linebreak_handler)) }
 {
-    let bytes = text.as_bytes();
     let mut written = String::new(alloc);
+    let Some((from, at)) = scan_units(&mut written, text, &linebreak_handler, is_in_table)? else {
+        return Ok(None);
+    };
+    Ok(Some((at + 1, finish(written, text, from, at)?)))
+}
+
+// Reads a label unit by unit. If a unit changes, appends all text up to its end as it is read to `written`, which is
+// empty at first. Returns the offset of the first byte that is not yet written, and that of the `]`; `None` if no label
+// is there.
+#[inline(always)]
+fn scan_units<F>(
+    written: &mut String,
+    text: &str,
+    handler: &F,
+    in_table: bool,
+) -> Result<Option<(usize, usize)>, AllocError>
+where
+    F: Fn(&[u8]) -> Result<Option<usize>, AllocError>,
+    requires callable { F.IsAlwaysCallable handler.now }
+    requires places { AnswersPlaces text.now (F.post handler.now) }
+    requires empty { string_bytes written.old ≡ [] }
+    ensures ok { IfOk result (ReadsUnits text.now in_table (F.post handler.now) (string_bytes written.new)) }
+    ensures err { OnErr result ((prefix : List ℕ → Option ℕ) → AnswersWith text.now prefix (F.post handler.now)
+        → CanErr prefix in_table text.now (F.post handler.now)) }
+{
+    let bytes = text.as_bytes();
+    if let Some(len) = scan_plain_label(bytes) {
+        return Ok(Some((0, len)));
+    }
     let mut from = 0;
     let mut at = 0;
     let mut characters = 0;
     let mut solid = false;
     while at < bytes.len() && !is_bracket(bytes[at]) {
-        let Some(unit) = scan_unit(bytes, at, &linebreak_handler, is_in_table)? else {
+        let Some(unit) = scan_unit(bytes, at, handler, in_table)? else {
             return Ok(None);
         };
         characters += unit.characters;
@@ -72,16 +100,13 @@ where
             return Ok(None);
         }
         solid = solid | unit.solid;
-        from = write_unit(&mut written, text, from, at, unit)?;
+        from = write_unit(written, text, from, at, unit)?;
         at = unit.next;
     }
-    if at >= bytes.len() || bytes[at] == b'[' {
-        return Ok(None);
+    if solid && begins(b']', rest_of(bytes, at)) {
+        return Ok(Some((from, at)));
     }
-    if !solid {
-        return Ok(None);
-    }
-    Ok(Some((at + 1, finish(written, text, from, at)?)))
+    Ok(None)
 }
 
 /// Returns the number of bytes before the first unescaped bracket, the first line ending, or the end. If a `]` follows

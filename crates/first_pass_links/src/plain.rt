@@ -1,10 +1,12 @@
 //! Runs of bytes without a special meaning in a label, in a destination or in a text, tested 16 at a time.
 
-ghost use Rattle.std.specs.Prelude.{◌≡◌, ◌+◌, ◌<◌, ◌≤◌, ℕ, length, slice_index, true};
+ghost use Rattle.std.specs.Prelude.{◌≡◌, ◌+◌, ◌<◌, ◌≤◌, ℕ, length, slice_index, true, IfSome};
 ghost use Rattle.first_pass_lines.specs.Lanes.{IsRunIn};
-ghost use Rattle.first_pass_links.specs.Plain.{is_ordinary, is_unmarked};
+ghost use Rattle.first_pass_links.specs.Plain.{is_ordinary, is_unmarked, IsPlainLabel};
 
 use first_pass_lines::lanes::{LANES, first_set};
+use first_pass_lines::lines::begins;
+use first_pass_lines::places::rest_of;
 use std::simd::prelude::*;
 
 /// Returns the number of plain bytes at the start of `bytes`, at most 16; 0 if `bytes` has fewer than 16. A plain byte
@@ -12,6 +14,7 @@ use std::simd::prelude::*;
 /// outside `<..>`, it ends, nests and escapes nothing, and is no white space (CommonMark 6.3).
 #[inline(always)]
 pub(crate) fn plain_run(bytes: &[u8]) -> usize
+    ensures few { result ≤ 16 }
     ensures within { result ≤ length bytes.now }
     ensures plain { (k : ℕ) → k < result → is_ordinary (slice_index bytes.now k) ≡ true }
 {
@@ -22,7 +25,20 @@ pub(crate) fn plain_run(bytes: &[u8]) -> usize
     plain_lanes(bytes)
 }
 
-// The same for at least 16 bytes.
+/// Returns the length of the label at the start of `bytes`, which are those after a `[`, if it has only plain bytes, at
+/// most 16. Returns `None` for other labels, and if `bytes` has fewer than 16 (CommonMark 6.3).
+#[inline(always)]
+pub(crate) fn scan_plain_label(bytes: &[u8]) -> Option<usize>
+    ensures { IfSome result (IsPlainLabel bytes.now) }
+{
+    let len = plain_run(bytes);
+    if len > 0 && begins(b']', rest_of(bytes, len)) {
+        return Some(len);
+    }
+    None
+}
+
+// The same as `plain_run`, for at least 16 bytes.
 #[inline(always)]
 fn plain_lanes(bytes: &[u8]) -> usize
     requires { 16 ≤ length bytes.now }

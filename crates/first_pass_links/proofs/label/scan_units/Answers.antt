@@ -1,0 +1,188 @@
+use Rattle.std.proofs.Common.{inl, inr, ◌≡◌, ◌⊎◌, ℕ, Bool, List, Option, Result, Some, None, [], ◌++◌, ◌+◌, ◌<◌, ◌||◌, ◌==◌, true, false, length, get_or}
+use Rattle.std.proofs.Common.{drop, refl, sym, ap, subst, ◌∙◌, arith}
+use Rattle.std.specs.Borrow.{Bor}
+use Rattle.std.specs.String.{string_bytes}
+use Rattle.std.specs.Str.{IsCharBoundary}
+use Rattle.std.specs.declared.alloc.AllocError.{AllocError}
+use Rattle.std.proofs.lemmas.Bool.{cases_lt, eqb-true, true≢false}
+use Rattle.std.proofs.lemmas.List.{drop_more}
+use Rattle.std.proofs.lemmas.Str.{IsCharBoundary-start}
+use Rattle.first_pass_items.specs.Bytes.{left_bracket, right_bracket}
+use Rattle.first_pass_lines.specs.Lines.{begins}
+use Rattle.first_pass_links.specs.Labels.{AnswersWith, IsRewritten, is_bracket, label_at}
+use Rattle.first_pass_links.specs.Plain.{IsPlainLabel}
+use Rattle.first_pass_links.specs.Units.{part, left_at, IsLighter, Reads, ReadsUnits, StopsByError, IsBlankRest}
+use Rattle.first_pass_links.proofs.Destinations.{first_byte}
+use Rattle.first_pass_links.proofs.Parts.{read_none, part-none, part-start}
+use Rattle.first_pass_links.proofs.PlainRuns.{plain_label}
+use Rattle.first_pass_links.proofs.Labels.{too_long, blank_stops, end_stops, open_stops, blank_label, closed, known_as, label_after, nothing_known, unit_known}
+use Rattle.first_pass_links.proofs.Labels.{Known}
+use Rattle.first_pass_links.proofs.Rewritten.{on_err, track_none, track_unit, track_written, track_stop}
+use Rattle.first_pass_links.proofs.label.scan_units.Goals as goal
+use Rattle.first_pass_links.proofs.label.scan_units.Goals.{then-loop-at-test+else-not-is_bracket, else-loop-at-test}
+use Rattle.first_pass_links.proofs.label.scan_units.Goals.{else-solid-via-then-solid+else-begins, else-solid-via-else-solid}
+
+pub scan_unit-requires-clause-places : goal.scan_unit-requires-clause-places
+scan_unit-requires-clause-places g c =
+    λ following n at b e. c.requires.places following n at (subst (λ xs. IsCharBoundary xs at) c.as_bytes-bytes.ensures.value b)
+    (e ∙ ap (drop at) c.as_bytes-bytes.ensures.value)
+
+pub loop-at-init : goal.loop-at-init
+loop-at-init g c =
+    let text = c.args.text.now in
+    let e : string_bytes c.args.written.now ++ part text 0 0 ≡ [] = ap (λ bs. bs ++ part text 0 0) c.requires.empty ∙ part-none text 0 in
+    record {
+      read = subst (λ bs. IsLighter text bs 0 0) (sym c.requires.empty) (read_none text (IsCharBoundary-start text c.utf8.text));
+      bound = omega arith;
+      label = λ h a. ap (λ bs. label_after c.args.in_table (known_as 0 false bs) (left_at h text 0)) e ∙ nothing_known c.args.in_table h text;
+      tracked = λ h a. track_none h c.args.in_table text (0 ≡ 0) refl;
+    }
+
+pub loop-at-preserved : goal.loop-at-preserved
+loop-at-preserved g c =
+    let text = c.args.text.now in
+    let unit = c.in-Some-2.unit in
+    let reads = rw c.in-Some-2.is at c.in_ok-unit.ensures.reads in
+    record {
+      read = c.in_ok-from.ensures.read;
+      bound = c.if-characters-gt-MOST_CHARACTERS.false;
+      label = λ h a.
+          let r : Reads h c.args.in_table text c.loop-at.at unit =
+          subst (λ xs. Reads h c.args.in_table xs c.loop-at.at unit) c.as_bytes-bytes.ensures.value (reads h (λ following answer at b e.
+          a following answer at (subst (λ xs. IsCharBoundary xs at) c.as_bytes-bytes.ensures.value b) (e ∙ ap (drop at) c.as_bytes-bytes.ensures.value))) in
+          ap (λ bs.
+          label_after c.args.in_table (known_as (c.loop-at.characters + unit.characters) (c.loop-at.solid || unit.solid) bs) (left_at h text unit.next))
+          c.in_ok-from.ensures.bytes
+          ∙ sym (unit_known h c.args.in_table text c.loop-at.at unit _ r)
+          ∙ c.loop-at.invariant.label h a;
+      tracked = λ h a.
+          let r : Reads h c.args.in_table text c.loop-at.at unit =
+          subst (λ xs. Reads h c.args.in_table xs c.loop-at.at unit) c.as_bytes-bytes.ensures.value (reads h (λ following answer at b e.
+          a following answer at (subst (λ xs. IsCharBoundary xs at) c.as_bytes-bytes.ensures.value b) (e ∙ ap (drop at) c.as_bytes-bytes.ensures.value))) in
+          track_unit h c.args.in_table text c.loop-at.at unit (c.loop-at.from ≡ 0) (c.in_ok-from.from ≡ 0) (c.loop-at.invariant.tracked h a) r
+          (λ e z. c.in_ok-from.ensures.same e ∙ z);
+    }
+
+-- there is no label
+none_read : (text written : List ℕ) (in_table : Bool) (post : Bor (List ℕ) → Result (Option ℕ) AllocError → Type 0)
+    → ((prefix : List ℕ → Option ℕ) → AnswersWith text prefix post → label_at prefix in_table text ≡ None) → ReadsUnits text in_table post written None
+none_read text written in_table post none =
+    record { value = λ prefix a. let e = none prefix a in rw e refl; closes = tt; lighter = tt; changes = tt }
+
+-- the label is known up to its `]`
+some_read : (text written : List ℕ) (in_table : Bool) (post : Bor (List ℕ) → Result (Option ℕ) AllocError → Type 0) (from at : ℕ)
+    → ((prefix : List ℕ → Option ℕ) → AnswersWith text prefix post → label_at prefix in_table text ≡ Some (at + 1, written ++ part text from at))
+    → (at < length text) × (get_or text at 0 ≡ right_bracket) → IsLighter text written from at
+    → (0 < from → (prefix : List ℕ → Option ℕ) → AnswersWith text prefix post → IsRewritten prefix in_table text)
+    → ReadsUnits text in_table post written (Some (from, at))
+some_read text written in_table post from at some closes lighter changes =
+    record { value = λ prefix a. let e = some prefix a in rw e (refl, refl); closes = closes; lighter = lighter; changes = changes }
+
+-- a plain label
+pub returns-in-Some-clause-ok : goal.returns-in-Some-clause-ok
+returns-in-Some-clause-ok g c =
+    let text = c.args.text.now in
+    let len = c.in-Some.len in
+    let plain : IsPlainLabel text len = subst (λ (xs : List ℕ). IsPlainLabel xs len) c.as_bytes-bytes.ensures.value
+    (rw c.in-Some.is at c.scan_plain_label.ensures) in
+    let there = first_byte right_bracket text len plain.closes in
+    let written : string_bytes c.args.written.now ++ part text 0 len ≡ part text 0 len = ap (λ bs. bs ++ part text 0 len) c.requires.empty in
+    some_read text (string_bytes c.args.written.now) c.args.in_table _ 0 len
+    (λ h a. plain_label h c.args.in_table text len plain ∙ ap (λ bs. Some (len + 1, bs)) (sym (written ∙ part-start text len)))
+    there
+    (record {
+      order = omega arith;
+      within = omega (arith, there.0);
+      boundary = IsCharBoundary-start text c.utf8.text;
+      lighter = inl (refl, c.requires.empty);
+    })
+    (λ some. absurd (omega (arith, some)))
+
+pub returns-in_default-2-clause-ok : goal.returns-in_default-2-clause-ok
+returns-in_default-2-clause-ok g c = none_read c.args.text.now _ c.args.in_table _ (λ h a.
+    let r : IsBlankRest h c.args.text.now c.loop-at.at =
+    subst (λ xs. IsBlankRest h xs c.loop-at.at) c.as_bytes-bytes.ensures.value (c.in_ok-unit.ensures.none c.in_default-2.is h (λ following answer at b e.
+    a following answer at (subst (λ xs. IsCharBoundary xs at) c.as_bytes-bytes.ensures.value b) (e ∙ ap (drop at) c.as_bytes-bytes.ensures.value))) in
+    sym (c.loop-at.invariant.label h a) ∙ blank_stops h c.args.in_table c.args.text.now c.loop-at.at r _)
+
+pub returns-then-characters-gt-MOST_CHARACTERS-clause-ok : goal.returns-then-characters-gt-MOST_CHARACTERS-clause-ok
+returns-then-characters-gt-MOST_CHARACTERS-clause-ok g c =
+    let reads = rw c.in-Some-2.is at c.in_ok-unit.ensures.reads in
+    none_read c.args.text.now _ c.args.in_table _ (λ h a.
+    let r : Reads h c.args.in_table c.args.text.now c.loop-at.at c.in-Some-2.unit =
+    subst (λ xs. Reads h c.args.in_table xs c.loop-at.at c.in-Some-2.unit) c.as_bytes-bytes.ensures.value (reads h (λ following answer at b e.
+    a following answer at (subst (λ xs. IsCharBoundary xs at) c.as_bytes-bytes.ensures.value b) (e ∙ ap (drop at) c.as_bytes-bytes.ensures.value))) in
+    sym (c.loop-at.invariant.label h a) ∙ unit_known h c.args.in_table c.args.text.now c.loop-at.at c.in-Some-2.unit _ r
+    ∙ too_long c.args.in_table _ (left_at h c.args.text.now c.in-Some-2.unit.next) c.if-characters-gt-MOST_CHARACTERS.true)
+
+-- at a bracket that is not the `]` of a label there is none
+at_bracket : (opens : Bool) (h : List ℕ → Option ℕ) (t : Bool) (text : List ℕ) (at : ℕ) (known : Known) → at < length text
+    → is_bracket (get_or text at 0) ≡ true → (get_or text at 0 == left_bracket) ≡ opens → (known.solid ≡ false) ⊎ (begins right_bracket (drop at text) ≡ false)
+    → label_after t known (left_at h text at) ≡ None
+at_bracket true h t text at known within bracket left why = open_stops h t text at within (eqb-true _ left_bracket left) known
+at_bracket false h t text at known within bracket left why =
+    let closing : get_or text at 0 ≡ right_bracket = eqb-true _ right_bracket (rw left at bracket) in
+    elim why [
+      | inl blank ↦ blank_label h t text at known within closing blank
+      | inr none ↦ (let there : begins right_bracket (drop at text) ≡ true = ap (begins right_bracket) (drop_more text at 0 within) ∙ rw closing refl in
+          absurd (true≢false (sym there ∙ none)))
+    ]
+
+not_closed : (h : List ℕ → Option ℕ) (t : Bool) (text : List ℕ) (at : ℕ) (known : Known) → (at < length text → is_bracket (get_or text at 0) ≡ true)
+    → (known.solid ≡ false) ⊎ (begins right_bracket (drop at text) ≡ false) → label_after t known (left_at h text at) ≡ None
+not_closed h t text at known bracket why =
+    elim (cases_lt at (length text)) [
+      | inl within ↦ at_bracket _ h t text at known within (bracket within) refl why
+      | inr past ↦ end_stops h t text at past known
+    ]
+
+pub returns-then-begins-clause-ok : goal.returns-then-begins-clause-ok
+returns-then-begins-clause-ok g c =
+    let text = c.args.text.now in
+    let closes : begins right_bracket (drop c.loop-at.at text) ≡ true = ap (begins right_bracket)
+    (sym (c.rest_of.ensures.value ∙ ap (drop c.loop-at.at) c.as_bytes-bytes.ensures.value)) ∙ sym c.begins.ensures.value ∙ c.if-begins.true in
+    let there = first_byte right_bracket text c.loop-at.at closes in
+    some_read text _ c.args.in_table _ c.loop-at.from c.loop-at.at
+    (λ h a. sym (c.loop-at.invariant.label h a)
+    ∙ closed h c.args.in_table text c.loop-at.at _ there.0 there.1 c.loop-at.invariant.bound c.if-solid.true)
+    there c.loop-at.invariant.read
+    (λ some h a. track_written h c.args.in_table text c.loop-at.at (c.loop-at.from ≡ 0) (c.loop-at.invariant.tracked h a) (λ z. omega (arith, some, z)))
+
+pub returns-clause-ok : goal.returns-clause-ok
+returns-clause-ok g c =
+    let text = c.args.text.now in
+    let b = c.as_bytes-bytes.ensures.value in
+    let l = ap length b in
+    let bracket : c.loop-at.at < length text → is_bracket (get_or text c.loop-at.at 0) ≡ true = λ within. elim c.loop-at-test.branch [
+      | then-loop-at-test+else-not-is_bracket w ↦
+          ap (λ xs. is_bracket (get_or xs c.loop-at.at 0)) (sym b) ∙ sym w.is_bracket.ensures ∙ w.if-not-is_bracket.false
+      | else-loop-at-test w ↦ absurd (omega (arith, within, l, w.loop-at-test.false))
+    ] in
+    let why : (c.loop-at.solid ≡ false) ⊎ (begins right_bracket (drop c.loop-at.at text) ≡ false) = elim c.else-solid.branch [
+      | else-solid-via-then-solid+else-begins w ↦
+          inr (ap (begins right_bracket) (sym (w.rest_of.ensures.value ∙ ap (drop c.loop-at.at) b)) ∙ sym w.begins.ensures.value ∙ w.if-begins.false)
+      | else-solid-via-else-solid w ↦ inl w.if-solid.false
+    ] in
+    none_read text _ c.args.in_table _
+    (λ h a. sym (c.loop-at.invariant.label h a) ∙ not_closed h c.args.in_table text c.loop-at.at _ bracket why)
+
+-- the handler fails
+pub returns-in_err-unit-clause-err : goal.returns-in_err-unit-clause-err
+returns-in_err-unit-clause-err g c =
+    on_err c.from_residual.result
+    (λ h a. track_stop h c.args.in_table c.args.text.now c.loop-at.at (c.loop-at.from ≡ 0) _ (c.loop-at.invariant.tracked h a) (subst
+    (λ xs. StopsByError xs c.loop-at.at (λ b r. g.F.Fn.post c.args.handler.now (b, tt) r)) c.as_bytes-bytes.ensures.value c.in_err-unit.ensures.err) a)
+
+-- a unit is written
+pub returns-in_err-from-clause-err : goal.returns-in_err-from-clause-err
+returns-in_err-from-clause-err g c =
+    let text = c.args.text.now in
+    let unit = c.in-Some-2.unit in
+    let reads = rw c.in-Some-2.is at c.in_ok-unit.ensures.reads in
+    on_err c.from_residual-in_err-from.result (λ h a.
+    let r : Reads h c.args.in_table text c.loop-at.at unit =
+    subst (λ xs. Reads h c.args.in_table xs c.loop-at.at unit) c.as_bytes-bytes.ensures.value (reads h (λ following answer at b e.
+    a following answer at (subst (λ xs. IsCharBoundary xs at) c.as_bytes-bytes.ensures.value b) (e ∙ ap (drop at) c.as_bytes-bytes.ensures.value))) in
+    let k =
+    track_unit h c.args.in_table text c.loop-at.at unit (c.loop-at.from ≡ 0) ⊥ (c.loop-at.invariant.tracked h a) r (λ e z. c.in_err-from.ensures.err e) in
+    inl (track_written h c.args.in_table text unit.next ⊥ k (λ z. z)))
