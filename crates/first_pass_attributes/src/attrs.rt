@@ -5,14 +5,13 @@ ghost use Rattle.std.specs.List.{suffix_len};
 ghost use Rattle.std.specs.Option.{option_map};
 ghost use Rattle.std.specs.Prelude.{◌≡◌, ◌==◌, ◌^◌, ℕ, ◌≤◌, ◌<◌, ◌+◌, ◌-◌, length, true, take, slice_index, IfSome, IfOk, OnErr, IsSomeAnd, Some, None, IsUtf8, IsCharBoundary};
 ghost use Rattle.first_pass_items.specs.Bytes.{left_brace, right_brace};
-ghost use Rattle.first_pass_lines.specs.Lines.{ends as ends_with};
 ghost use Rattle.first_pass_attributes.specs.AttributeBlocks.{is_after_block, is_inside_block, opening_brace as opening_of, length_before_block, inside_block};
 ghost use Rattle.first_pass_attributes.specs.Attributes.{attributes_of, attributes_in, no_attributes, HasSeveral};
 
 pub use crate::short_list::ShortList;
 use crate::words::add_attribute_words;
 use first_pass_lines::lanes::LANES;
-use first_pass_lines::lines::{is_line_end, is_space_or_tab};
+use first_pass_lines::lines::{ends, is_line_end, is_space_or_tab};
 use std::alloc::{AllocError, Global};
 use std::ops::Range;
 use std::simd::prelude::*;
@@ -37,7 +36,7 @@ pub fn extract_attribute_block_content_from_header_text(
         → IfSome result.1 (λ r. IsCharBoundary heading.now r.start × IsCharBoundary heading.now r.«end») }
 {
     let kept = without_last(heading, scan_after_block(heading));
-    if !ends(kept, b'}') {
+    if !ends(b'}', kept) {
         return (heading.len(), None);
     }
     let closing = kept.len() - 1;
@@ -52,9 +51,8 @@ fn scan_after_block(bytes: &[u8]) -> usize
     ensures value { result ≡ suffix_len is_after_block bytes.now }
     ensures within { result ≤ length bytes.now }
 {
-    bytes
-        .iter()
-        .rev()
+    let backwards = bytes.iter().rev();
+    backwards
         .take_while(|b| is_space_or_tab(**b) || is_line_end(**b))
         .count()
 }
@@ -122,18 +120,6 @@ fn without_last(bytes: &[u8], count: usize) -> &[u8]
     &bytes[..bytes.len() - count]
 }
 
-// Whether the last byte is this one, which is not 0.
-fn ends(bytes: &[u8], byte: u8) -> bool
-    requires { 0 < byte }
-    ensures value { result ≡ ends_with byte bytes.now }
-    ensures some { result ≡ true → 0 < length bytes.now }
-{
-    match bytes.last() {
-        None => false,
-        Some(last) => *last == byte,
-    }
-}
-
 // The offset of the opening brace of a block whose closing brace follows these bytes.
 #[tactic(auto, unfolding(crate::specs::AttributeBlocks::opening_brace))]
 fn opening_brace(bytes: &[u8]) -> Option<usize>
@@ -142,7 +128,7 @@ fn opening_brace(bytes: &[u8]) -> Option<usize>
     ensures opens { IfSome result (λ opening. slice_index bytes.now opening ≡ left_brace) }
 {
     let front = without_last(bytes, scan_inside_block(bytes));
-    if ends(front, b'{') {
+    if ends(b'{', front) {
         Some(front.len() - 1)
     } else {
         None

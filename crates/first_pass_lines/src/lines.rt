@@ -1,8 +1,8 @@
 //! Classes of bytes, line endings, blank lines and ATX headings.
 
-ghost use Rattle.std.specs.List.{prefix_len};
+ghost use Rattle.std.specs.List.{prefix_len, suffix_len};
 ghost use Rattle.std.specs.Prelude.{◌≡◌, ◌<◌, ◌≤◌, length, true, IfSome};
-ghost use Rattle.first_pass_lines.specs.Lines.{is_line_end, is_white, is_space_or_tab, is_white_or_line_end, begins, is_content, is_number_sign, eol_len, blank_len, line_len, level_number as number_of, level_of, atx_level};
+ghost use Rattle.first_pass_lines.specs.Lines.{is_line_end, is_white, is_space_or_tab, is_white_or_line_end, begins, ends, is_content, is_number_sign, eol_len, blank_len, line_len, level_number as number_of, level_of, atx_level};
 ghost use Rattle.first_pass_lines.specs.Plain.{begins_plain, begins_inert};
 
 use crate::lanes::{LANES, content_run, white_run};
@@ -45,6 +45,18 @@ pub fn begins(byte: u8, bytes: &[u8]) -> bool
     match bytes {
         [] => false,
         [first, ..] => *first == byte,
+    }
+}
+
+/// Returns whether `bytes` ends with `byte`, which is not 0.
+pub fn ends(byte: u8, bytes: &[u8]) -> bool
+    requires { 0 < byte }
+    ensures value { result ≡ ends byte bytes.now }
+    ensures some { result ≡ true → 0 < length bytes.now }
+{
+    match bytes.last() {
+        None => false,
+        Some(last) => *last == byte,
     }
 }
 
@@ -157,6 +169,15 @@ pub fn scan_blank_line(bytes: &[u8]) -> Option<usize>
         Some(end) => Some(white + end),
         None => None,
     }
+}
+
+/// Returns the number of bytes at the end of `bytes` that are white space or part of a line ending.
+pub fn trailing_white(bytes: &[u8]) -> usize
+    ensures value { result ≡ suffix_len is_white_or_line_end bytes.now }
+    ensures within { result ≤ length bytes.now }
+{
+    let backwards = bytes.iter().rev();
+    backwards.take_while(|b| is_white_or_line_end(**b)).count()
 }
 
 // The number of bytes that are searched for a line ending 16 at a time. Most lines are shorter, and `memchr2`

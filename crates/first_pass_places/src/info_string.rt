@@ -1,14 +1,12 @@
 //! Where the info string of a fenced code block is written (CommonMark 4.5).
 
 ghost use Rattle.std.specs.Prelude.{◌≡◌, ◌≤◌, length, slice_index};
-ghost use Rattle.std.specs.List.{suffix_len};
-ghost use Rattle.first_pass_lines.specs.Lines.{is_white_or_line_end};
 ghost use Rattle.first_pass_scan.specs.LeafLines.{run_len};
 ghost use Rattle.first_pass_places.specs.InfoStrings.{info_range};
 ghost use Rattle.first_pass_places.specs.RangeEnds.{IsAsciiAt, EndsAreBoundaries};
 
 use first_pass_items::item::Item;
-use first_pass_lines::lines::{is_white_or_line_end, scan_whitespace_no_nl};
+use first_pass_lines::lines::{scan_whitespace_no_nl, trailing_white};
 use first_pass_lines::places::{next_line, rest_of};
 use first_pass_scan::leaf_scan::scan_run;
 use std::ops::Range;
@@ -49,16 +47,4 @@ fn scan_fence(bytes: &[u8]) -> usize
         None => 0,
         Some(byte) => scan_run(bytes, *byte),
     }
-}
-
-// The number of bytes at the end that are white space or part of a line ending.
-fn trailing_white(bytes: &[u8]) -> usize
-    ensures value { result ≡ suffix_len is_white_or_line_end bytes.now }
-    ensures within { result ≤ length bytes.now }
-{
-    bytes
-        .iter()
-        .rev()
-        .take_while(|b| is_white_or_line_end(**b))
-        .count()
 }

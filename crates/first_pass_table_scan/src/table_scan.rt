@@ -4,12 +4,12 @@ ghost use Rattle.std.specs.List.{prefix_len, suffix_len, position_or_len, list_a
 ghost use Rattle.std.specs.Prelude.{◌≡◌, ◌≤◌, ◌<◌, ◌+◌, ◌-◌, ◌==◌, true, length, take, drop, IfOk, if◌then◌else◌};
 ghost use Rattle.std.specs.Option.{option_map};
 ghost use Rattle.first_pass_items.specs.Bytes.{pipe};
-ghost use Rattle.first_pass_lines.specs.Lines.{begins, is_space_or_tab, is_white, ends as ends_with};
+ghost use Rattle.first_pass_lines.specs.Lines.{begins, is_space_or_tab, is_white};
 ghost use Rattle.first_pass_table_scan.specs.TableHead.{is_pipe, stripped as stripped_bytes, without_first as past_first, without_last as before_last, is_hyphens as only_hyphens, alignment_by, delimiter_cell, delimiter_cells, delimiter_row, table_head, pipes_of, header_columns};
 
 use first_pass_items::item::Alignment;
 use first_pass_lines::lines::{
-    begins, content_len, is_space_or_tab, scan_blank_line, scan_blanks, scan_nextline,
+    begins, content_len, ends, is_space_or_tab, scan_blank_line, scan_blanks, scan_nextline,
     scan_whitespace_no_nl,
 };
 use first_pass_lines::places::rest_of;
@@ -23,11 +23,8 @@ fn scan_last_blanks(bytes: &[u8]) -> usize
     ensures value { result ≡ suffix_len is_space_or_tab bytes.now }
     ensures within { result ≤ length bytes.now }
 {
-    bytes
-        .iter()
-        .rev()
-        .take_while(|b| is_space_or_tab(**b))
-        .count()
+    let backwards = bytes.iter().rev();
+    backwards.take_while(|b| is_space_or_tab(**b)).count()
 }
 
 // The bytes without leading and trailing spaces and tabs.
@@ -50,24 +47,12 @@ fn without_first(bytes: &[u8], byte: u8) -> &[u8]
     }
 }
 
-// Whether the last byte is this one, which is not 0.
-fn ends(bytes: &[u8], byte: u8) -> bool
-    requires { 0 < byte }
-    ensures value { result ≡ ends_with byte bytes.now }
-    ensures some { result ≡ true → 0 < length bytes.now }
-{
-    match bytes.last() {
-        None => false,
-        Some(last) => *last == byte,
-    }
-}
-
 // The bytes without the last one, if that is this byte, which is not 0.
 fn without_last(bytes: &[u8], byte: u8) -> &[u8]
     requires { 0 < byte }
     ensures { result.now ≡ before_last byte bytes.now }
 {
-    if ends(bytes, byte) {
+    if ends(byte, bytes) {
         &bytes[..bytes.len() - 1]
     } else {
         bytes
@@ -100,7 +85,7 @@ fn scan_delimiter_cell(bytes: &[u8]) -> Option<Alignment>
 {
     let cell = stripped(bytes);
     let tail = without_first(cell, b':');
-    let following = ends(tail, b':');
+    let following = ends(b':', tail);
     if is_hyphens(without_last(tail, b':')) {
         Some(alignment(tail.len() < cell.len(), following))
     } else {
