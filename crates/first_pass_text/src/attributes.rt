@@ -30,51 +30,20 @@ use first_pass_tree::forest::Tree;
 use first_pass_tree::tree_index::TreeIndex;
 use std::alloc::AllocError;
 
+/// A text with a setext heading underline.
+#[derive(Clone, Copy)]
+pub struct Underlined {
+    /// The level of its underline.
+    pub level: HeadingLevel,
+    /// Whether a backslash breaks its last line.
+    pub broken: bool,
+}
+
 // The text between the braces of an attribute block, and the offset at which it begins in the whole text.
 #[derive(Clone, Copy)]
 struct BlockText<'a> {
     text: &'a str,
     start: usize,
-}
-
-// Returns the offset at which the content of a heading ends, and the text of its attribute block. The heading's text
-// extends from the offset `header_start` to `header_end`; if the end is before the start, it is empty and ends at its
-// start. Without a block, or without the option for heading attributes, returns the end of the heading's text and
-// `None` (this project).
-#[inline(always)]
-fn block_text_between<'a>(
-    source: &Source<'a>,
-    header_start: usize,
-    header_end: usize,
-) -> (usize, Option<BlockText<'a>>)
-    requires from { header_start ≤ length source.now.text.now }
-    requires to { header_end ≤ length source.now.text.now }
-    ensures content { result.0 ≡ header_start + length
-        (before_attributes source.now.options (slice_range source.now.text.now header_start header_end)) }
-    ensures none { IfNone result.1 (heading_attributes_of source.now.options
-        (slice_range source.now.text.now header_start header_end) ≡ None) }
-    ensures some { IfSome result.1 (λ block. heading_attributes_of source.now.options
-        (slice_range source.now.text.now header_start header_end) ≡ Some (attributes_of block.text.now)) }
-    ensures place { IfSome result.1 (λ block. (block.start ≤ length source.now.text.now)
-        × (block.text.now ≡ take (length block.text.now) (drop block.start source.now.text.now))) }
-{
-    if header_end <= header_start {
-        return (header_start, None);
-    }
-    if !source.options.contains(Options::ENABLE_HEADING_ATTRIBUTES) {
-        return (header_end, None);
-    }
-    let heading = &source.text.as_bytes()[header_start..header_end];
-    let (length, inside) = extract_attribute_block_content_from_header_text(heading);
-    let content_end = header_start + length;
-    match inside {
-        None => (content_end, None),
-        Some(inside) => {
-            let start = header_start + inside.start;
-            let text = &source.text[start..header_start + inside.end];
-            (content_end, Some(BlockText { text, start }))
-        }
-    }
 }
 
 /// Returns the offset at which the content of a heading ends, and the heading's attributes. The heading's text extends
@@ -132,6 +101,73 @@ pub fn name_attributes<'a>(
     Ok((content_end, Some(index)))
 }
 
+/// Turns the block `node_ix`, the innermost open node, into a setext heading. It already has the heading's chain.
+/// Removes the attribute block from the chain, and adds the attributes to `allocs`. Adds no node. Fails only if an
+/// allocation fails (CommonMark 4.3, and this project).
+pub fn make_heading<'a>(
+    source: &Source<'a>,
+    tree: &mut Tree<Item>,
+    allocs: &mut Allocations<'a>,
+    node_ix: TreeIndex,
+    underlined: Underlined,
+) -> Result<(), AllocError>
+    requires open { slice_get tree.old.spine 0 ≡ Some node_ix }
+    requires start { IfSome (item_at tree.old node_ix) (λ x. x.start ≤ length source.now.text.now) }
+    ensures more { OnOk result (NamesMore allocs.old allocs.new) }
+    ensures heading { OnOk result (
+        BecomesHeading (document source.now.text.now source.now.options (names_of allocs.new)) underlined.level
+        underlined.broken node_ix
+        tree.old tree.new) }
+    ensures node_bound { OnOk result (length tree.new.nodes ≤ length tree.old.nodes) }
+{
+    tree.recall_forest();
+    let start = tree[node_ix].start;
+    let index = cut_attributes(source, tree, allocs, start, underlined.broken)?;
+    tree.recall_forest();
+    tree.set_body(node_ix, ItemBody::Heading(underlined.level, index));
+    Ok(())
+}
+
+// Returns the offset at which the content of a heading ends, and the text of its attribute block. The heading's text
+// extends from the offset `header_start` to `header_end`; if the end is before the start, it is empty and ends at its
+// start. Without a block, or without the option for heading attributes, returns the end of the heading's text and
+// `None` (this project).
+#[inline(always)]
+fn block_text_between<'a>(
+    source: &Source<'a>,
+    header_start: usize,
+    header_end: usize,
+) -> (usize, Option<BlockText<'a>>)
+    requires from { header_start ≤ length source.now.text.now }
+    requires to { header_end ≤ length source.now.text.now }
+    ensures content { result.0 ≡ header_start + length
+        (before_attributes source.now.options (slice_range source.now.text.now header_start header_end)) }
+    ensures none { IfNone result.1 (heading_attributes_of source.now.options
+        (slice_range source.now.text.now header_start header_end) ≡ None) }
+    ensures some { IfSome result.1 (λ block. heading_attributes_of source.now.options
+        (slice_range source.now.text.now header_start header_end) ≡ Some (attributes_of block.text.now)) }
+    ensures place { IfSome result.1 (λ block. (block.start ≤ length source.now.text.now)
+        × (block.text.now ≡ take (length block.text.now) (drop block.start source.now.text.now))) }
+{
+    if header_end <= header_start {
+        return (header_start, None);
+    }
+    if !source.options.contains(Options::ENABLE_HEADING_ATTRIBUTES) {
+        return (header_end, None);
+    }
+    let heading = &source.text.as_bytes()[header_start..header_end];
+    let (length, inside) = extract_attribute_block_content_from_header_text(heading);
+    let content_end = header_start + length;
+    match inside {
+        None => (content_end, None),
+        Some(inside) => {
+            let start = header_start + inside.start;
+            let text = &source.text[start..header_start + inside.end];
+            (content_end, Some(BlockText { text, start }))
+        }
+    }
+}
+
 // The end of the chain in the innermost open node; `start`, the offset at which its text begins, if the chain has no
 // token.
 fn chain_end(tree: &Tree<Item>, start: usize) -> usize
@@ -162,12 +198,12 @@ fn white_at_cut(content: &[u8], broken: bool) -> usize
     if broken { 0 } else { trailing_white(content) }
 }
 
-/// Removes the attribute block of a setext heading from the end of its chain, which is in the innermost open node. The
-/// heading's text begins at the offset `start`. The white space before the block is removed too, unless a backslash
-/// breaks the last line of the text (`broken`). Adds the attributes to `allocs`, and returns their index; `None` if
-/// there is no block. Adds no node. Fails only if an allocation fails (CommonMark 4.3, and this project).
+// Removes the attribute block of a setext heading from the end of its chain, which is in the innermost open node. The
+// heading's text begins at the offset `start`. The white space before the block is removed too, unless a backslash
+// breaks the last line of the text (`broken`). Adds the attributes to `allocs`, and returns their index; `None` if
+// there is no block. Adds no node. Fails only if an allocation fails (CommonMark 4.3, and this project).
 #[inline(never)]
-pub fn cut_attributes<'a>(
+fn cut_attributes<'a>(
     source: &Source<'a>,
     tree: &mut Tree<Item>,
     allocs: &mut Allocations<'a>,
@@ -192,40 +228,4 @@ pub fn cut_attributes<'a>(
         tree.truncate_siblings(content_end - white_at_cut(content, broken));
     }
     Ok(index)
-}
-
-/// A text with a setext heading underline.
-#[derive(Clone, Copy)]
-pub struct Underlined {
-    /// The level of its underline.
-    pub level: HeadingLevel,
-    /// Whether a backslash breaks its last line.
-    pub broken: bool,
-}
-
-/// Turns the block `node_ix`, the innermost open node, into a setext heading. It already has the heading's chain.
-/// Removes the attribute block from the chain, and adds the attributes to `allocs`. Adds no node. Fails only if an
-/// allocation fails (CommonMark 4.3, and this project).
-pub fn make_heading<'a>(
-    source: &Source<'a>,
-    tree: &mut Tree<Item>,
-    allocs: &mut Allocations<'a>,
-    node_ix: TreeIndex,
-    underlined: Underlined,
-) -> Result<(), AllocError>
-    requires open { slice_get tree.old.spine 0 ≡ Some node_ix }
-    requires start { IfSome (item_at tree.old node_ix) (λ x. x.start ≤ length source.now.text.now) }
-    ensures more { OnOk result (NamesMore allocs.old allocs.new) }
-    ensures heading { OnOk result (
-        BecomesHeading (document source.now.text.now source.now.options (names_of allocs.new)) underlined.level
-        underlined.broken node_ix
-        tree.old tree.new) }
-    ensures node_bound { OnOk result (length tree.new.nodes ≤ length tree.old.nodes) }
-{
-    tree.recall_forest();
-    let start = tree[node_ix].start;
-    let index = cut_attributes(source, tree, allocs, start, underlined.broken)?;
-    tree.recall_forest();
-    tree.set_body(node_ix, ItemBody::Heading(underlined.level, index));
-    Ok(())
 }
