@@ -102,12 +102,12 @@ pub fn append_table_cell(
     tree: &mut Tree<Item>,
     allocs: &mut Allocations<'_>,
     braces: &mut BraceContexts,
-    cell: CellStart,
+    cell: &CellStart,
 ) -> Result<usize, AllocError>
-    requires within { cell.content ≤ length source.now.text.now }
+    requires within { cell.now.content ≤ length source.now.text.now }
     ensures cell { IfOk result (λ stop.
-        AddsCell (document source.now.text.now source.now.options (names_of allocs.new)) cell.at
-        (spot cell.content braces.old) tree.old tree.new (spot stop braces.new)) }
+        AddsCell (document source.now.text.now source.now.options (names_of allocs.new)) cell.now.at
+        (spot cell.now.content braces.old) tree.old tree.new (spot stop braces.new)) }
     ensures more { OnOk result (NamesMore allocs.old allocs.new) }
     ensures texts { OnOk result (AddsTexts (names_of allocs.new) (names_of allocs.old)) }
 {

@@ -87,7 +87,7 @@ fn append_some_cells(
                 ended: false,
             });
         }
-        at = append_table_cell(source, tree, allocs, braces, start)?;
+        at = append_table_cell(source, tree, allocs, braces, &start)?;
         count += 1;
     }
 }

@@ -10,9 +10,9 @@ use Rattle.first_pass_tables.proofs.cells.append_table_cell.Goals as goal
 
 pub returns-in-Some-clause-cell : goal.returns-in-Some-clause-cell
 returns-in-Some-clause-cell c =
-    let from = c.args.cell.content in
+    let from = c.args.cell.now.content in
     let to = c.in-Some.plain.token_end in
-    let item : Item = record { start = c.args.cell.at; «end» = c.in-Some.plain.«end»; body = TableCell } in
+    let item : Item = record { start = c.args.cell.now.at; «end» = c.in-Some.plain.«end»; body = TableCell } in
     record {
       tokens = add_text from to false [];
       cell = c.in-Some.ensures.cell (names_of c.args.allocs.now).texts c.args.braces.now;
