@@ -1,8 +1,12 @@
--- Where the ends of a range are in a text in UTF-8 (this project).
-use Rattle.std.specs.Prelude.{ℕ, ◌<◌, List, slice_index, IfSome, IsCharBoundary}
+-- Ranges in a text, and where their ends are if it is in UTF-8 (this project).
+use Rattle.std.specs.Prelude.{ℕ, ◌<◌, ◌≤◌, List, length, slice_index, IfSome, IsCharBoundary}
 use Rattle.std.specs.declared.ops.Range.{Range}
 use Rattle.first_pass_items.specs.Bytes.{ascii_end}
 use Rattle.first_pass_places.specs.declared.attributes.AttributeRanges.{AttributeRanges}
+
+-- a range in a text: it ends at its start or later, and not after the text (this project)
+abbrev pub IsIn : List ℕ → Range ℕ → Type 0
+IsIn text range = (range.start ≤ range.«end») × (range.«end» ≤ length text)
 
 -- both ends of a range are on character boundaries (this project)
 abbrev pub EndsAreBoundaries : List ℕ → Range ℕ → Type 0

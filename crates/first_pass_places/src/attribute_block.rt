@@ -3,7 +3,7 @@
 ghost use Rattle.std.specs.Prelude.{◌≡◌, ◌≤◌, ◌==◌, not, length, IfSome, IsCharBoundary};
 ghost use Rattle.std.specs.List.{suffix_len};
 ghost use Rattle.first_pass_places.specs.AttributeBlockPlaces.{attribute_block_range, upto_last};
-ghost use Rattle.first_pass_places.specs.RangeEnds.{EndsAreBoundaries};
+ghost use Rattle.first_pass_places.specs.RangeEnds.{EndsAreBoundaries, IsIn};
 
 use first_pass_items::item::{Item, ItemBody};
 use std::ops::Range;
@@ -17,8 +17,7 @@ pub fn attribute_block_range(text: &str, heading: &Item) -> Option<Range<usize>>
     requires order { heading.now.start ≤ heading.now.«end» }
     requires within { heading.now.«end» ≤ length text.now }
     ensures value { result ≡ attribute_block_range text.now heading.now }
-    ensures order { IfSome result (λ range. range.start ≤ range.«end») }
-    ensures within { IfSome result (λ range. range.«end» ≤ length text.now) }
+    ensures range { IfSome result (λ range. IsIn text.now range) }
     ensures boundary { IsCharBoundary text.now heading.now.start
         → IfSome result (λ range. EndsAreBoundaries text.now range) }
 {
@@ -31,8 +30,7 @@ pub(crate) fn attribute_block_range_in(text: &[u8], heading: &Item) -> Option<Ra
     requires order { heading.now.start ≤ heading.now.«end» }
     requires within { heading.now.«end» ≤ length text.now }
     ensures value { result ≡ attribute_block_range text.now heading.now }
-    ensures order { IfSome result (λ range. range.start ≤ range.«end») }
-    ensures within { IfSome result (λ range. range.«end» ≤ length text.now) }
+    ensures range { IfSome result (λ range. IsIn text.now range) }
 {
     let ItemBody::Heading(_, Some(_)) = heading.body else {
         return None;

@@ -84,7 +84,7 @@ fn add_words(
     let mut from = start;
     while from < end {
         let next = from + scan_word(&text[from..end]);
-        add_word(places, text, from, next)?;
+        add_word(places, text, &(from..next))?;
         from = next + 1;
     }
     Ok(())
@@ -94,17 +94,16 @@ fn add_words(
 fn add_word(
     places: &mut Vec<AttributeRanges>,
     text: &[u8],
-    start: usize,
-    end: usize,
+    word: &Range<usize>,
 ) -> Result<(), AllocError>
-    requires order { start ≤ end }
-    requires within { end ≤ length text.now }
+    requires order { word.now.start ≤ word.now.«end» }
+    requires within { word.now.«end» ≤ length text.now }
     ensures value { OnOk result (places.new.items
-        ≡ places.old.items ++ map (attribute_place text.now) (word_range start end)) }
-    ensures err { OnErr result (start + 1 < end) }
+        ≡ places.old.items ++ map (attribute_place text.now) (word_range word.now.start word.now.«end»)) }
+    ensures err { OnErr result (word.now.start + 1 < word.now.«end») }
 {
-    if 2 <= end - start {
-        places.push(attribute_place(text, start, end))?;
+    if 2 <= word.end - word.start {
+        places.push(attribute_place(text, word.start, word.end))?;
     }
     Ok(())
 }

@@ -2,7 +2,7 @@
 
 ghost use Rattle.std.specs.Prelude.{◌≡◌, ◌≤◌, length, IfSome, IsUtf8};
 ghost use Rattle.first_pass_places.specs.NamePlaces.{HasWholeStart, name_range};
-ghost use Rattle.first_pass_places.specs.RangeEnds.{EndsAreBoundaries};
+ghost use Rattle.first_pass_places.specs.RangeEnds.{EndsAreBoundaries, IsIn};
 
 use crate::attribute_block::attribute_block_range_in;
 use crate::footnote_label::label_range;
@@ -19,8 +19,7 @@ pub fn name_range(text: &str, node: &Item) -> Option<Range<usize>>
     requires order { node.now.start ≤ node.now.«end» }
     requires within { node.now.«end» ≤ length text.now }
     ensures value { result ≡ name_range text.now node.now }
-    ensures order { IfSome result (λ range. range.start ≤ range.«end») }
-    ensures within { IfSome result (λ range. range.«end» ≤ length text.now) }
+    ensures range { IfSome result (λ range. IsIn text.now range) }
     ensures boundary { HasWholeStart node.now.body text.now node.now.start
         → IfSome result (λ range. EndsAreBoundaries text.now range) }
 {
@@ -32,8 +31,7 @@ pub fn name_range_in(text: &[u8], node: &Item) -> Option<Range<usize>>
     requires order { node.now.start ≤ node.now.«end» }
     requires within { node.now.«end» ≤ length text.now }
     ensures value { result ≡ name_range text.now node.now }
-    ensures order { IfSome result (λ range. range.start ≤ range.«end») }
-    ensures within { IfSome result (λ range. range.«end» ≤ length text.now) }
+    ensures range { IfSome result (λ range. IsIn text.now range) }
     ensures boundary { IsUtf8 text.now → HasWholeStart node.now.body text.now node.now.start
         → IfSome result (λ range. EndsAreBoundaries text.now range) }
 {
