@@ -8,10 +8,11 @@ use Rattle.first_pass_grammar.specs.LinkRuns.{Beyond, Ended, FlowsOn, IsRun}
 use Rattle.first_pass_grammar.specs.Completion.{lines_from}
 use Rattle.first_pass_blocks.specs.declared.definition.RunEnd.{RunEnd}
 use Rattle.first_pass_blocks.specs.declared.definition.RunEnd.TheVariants.{NextLine, Paragraph}
-use Rattle.first_pass_names.specs.TableEntries.{names_of}
+use Rattle.first_pass_tree.specs.Forest.{in_table}
+use Rattle.first_pass_names.specs.TableEntries.{names_of, tables_of}
 use Rattle.first_pass_blocks.specs.Written.{TablesAreWritten}
 use Rattle.first_pass_blocks.specs.declared.state.BlockPass.{BlockPass}
-use Rattle.first_pass_blocks.specs.Views.{allocs_of, state_of, source_of, source_text}
+use Rattle.first_pass_blocks.specs.Views.{allocs_of, context_in, state_of, source_of, source_text, tree_of}
 
 -- a place is not before another in the same line, or is in a later line
 abbrev pub IsLater : List ℕ → Place → Place → Type 0
@@ -45,3 +46,10 @@ pub record PutsDefinitions (old new : BlockPass) : Type 0 where
   pub state : state_of new ≡ state_of old
   pub names : names_of (allocs_of new) ≡ names_of (allocs_of old)
   pub written : TablesAreWritten (source_text old) (allocs_of old) → TablesAreWritten (source_text old) (allocs_of new)
+
+-- All link reference definitions from the offset `at` on, in the line at `line`, are read and put into the pass's table.
+pub record ReadsDefinitions (old new : BlockPass) (line at : ℕ) (following : RunEnd) : Type 0 where
+  pub kept : PutsDefinitions old new
+  pub run : (p : Place) → p.line ≡ line → offset p ≡ at → IsPlaceOf (source_text old) p
+      → ReadsRun (source_text old) (context_in old) (in_table (tree_of old).nodes (tree_of old).spine) p (tables_of (allocs_of old)) (tables_of (allocs_of new))
+      following

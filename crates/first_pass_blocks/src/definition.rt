@@ -1,15 +1,13 @@
 //! Runs of link reference definitions (CommonMark 4.7).
 
-ghost use Rattle.std.specs.Prelude.{◌≡◌, ◌||◌, IfOk, OnOk, OnErr, Some, None, IsUtf8, IsCharBoundary, true, if◌then◌else◌};
-ghost use Rattle.first_pass_lines.specs.Places.{Place, line_rest, offset, IsPlaceOf};
+ghost use Rattle.std.specs.Prelude.{◌≡◌, ◌||◌, IfOk, OnErr, Some, None, IsUtf8, IsCharBoundary, true, if◌then◌else◌};
+ghost use Rattle.first_pass_lines.specs.Places.{line_rest};
 ghost use Rattle.first_pass_grammar.specs.Containers.{front};
 ghost use Rattle.first_pass_grammar.specs.Kinds.{all_taken, is_ordinary_after_tag, is_blank_rest};
 ghost use Rattle.first_pass_open.specs.Path.{context_of};
-ghost use Rattle.first_pass_tree.specs.Forest.{in_table};
-ghost use Rattle.first_pass_names.specs.TableEntries.{tables_of};
 ghost use Rattle.first_pass_kinds.specs.Memory.{line_may_head_table};
-ghost use Rattle.first_pass_blocks.specs.Runs.{PutsDefinitions, ReadsRun};
-ghost use Rattle.first_pass_blocks.specs.Views.{allocs_of, context_in, source_text, tree_of};
+ghost use Rattle.first_pass_blocks.specs.Runs.{ReadsDefinitions};
+ghost use Rattle.first_pass_blocks.specs.Views.{source_text};
 
 use crate::state::BlockPass;
 use first_pass_definitions::reference::parse_refdef_total;
@@ -66,12 +64,7 @@ impl<'a> BlockPass<'a> {
     pub(crate) fn parse_definitions(&mut self, line: usize, at: usize) -> Result<RunEnd, AllocError>
         requires utf8 { IsUtf8 (source_text self.old) }
         requires boundary { IsCharBoundary (source_text self.old) at }
-        ensures kept { OnOk result (PutsDefinitions self.old self.new) }
-        ensures run { IfOk result (λ following. (p : Place) → p.line ≡ line → offset p ≡ at
-            → IsPlaceOf (source_text self.old) p
-            → ReadsRun (source_text self.old) (context_in self.old)
-            (in_table (tree_of self.old).nodes (tree_of self.old).spine) p (tables_of (allocs_of self.old))
-            (tables_of (allocs_of self.new)) following) }
+        ensures { IfOk result (λ following. ReadsDefinitions self.old self.new line at following) }
     {
         self.source.recall_length();
         // No definition begins with another byte than `[`, so most paragraphs need no call.
@@ -85,12 +78,7 @@ impl<'a> BlockPass<'a> {
     fn parse_run(&mut self, line: usize, at: usize) -> Result<RunEnd, AllocError>
         requires utf8 { IsUtf8 (source_text self.old) }
         requires boundary { IsCharBoundary (source_text self.old) at }
-        ensures kept { OnOk result (PutsDefinitions self.old self.new) }
-        ensures run { IfOk result (λ following. (p : Place) → p.line ≡ line → offset p ≡ at
-            → IsPlaceOf (source_text self.old) p
-            → ReadsRun (source_text self.old) (context_in self.old)
-            (in_table (tree_of self.old).nodes (tree_of self.old).spine) p (tables_of (allocs_of self.old))
-            (tables_of (allocs_of self.new)) following) }
+        ensures { IfOk result (λ following. ReadsDefinitions self.old self.new line at following) }
     {
         self.source.recall_length();
         let mut line = line;

@@ -10,17 +10,19 @@ use Rattle.first_pass_blocks.specs.declared.state.BlockPass.{BlockPass}
 use Rattle.first_pass_blocks.proofs.LinkDefinitions.RunLemmas.{run_begun, run_flows, defined_none}
 use Rattle.first_pass_blocks.proofs.state.BlockPass.parse_definitions.Goals as goal
 
-pub returns-then-not-begins-clause-run : goal.returns-then-not-begins-clause-run
-returns-then-not-begins-clause-run c = λ p line at i.
+pub returns-then-not-begins : goal.returns-then-not-begins
+returns-then-not-begins c =
     let now : BlockPass = c.args.self.now in
     let text = now.source.text.now in
     let around = context_in now in
     let nested = in_table now.state.tree.nodes now.state.tree.spine in
     let h : begins left_bracket (drop c.args.at text) ≡ false = ap (begins left_bracket) (sym
     (c.rest_of.ensures.value ∙ ap (drop c.args.at) c.as_bytes.ensures.value)) ∙ sym c.begins.ensures.value ∙ c.if-not-begins.true in
-    run_flows text around nested p p c.args.at (tables_of now.allocs) (tables_of now.allocs) (sym at)
-    (λ plain. defined_none text around p i (ap (λ n. reference_definition_at false around (drop n text)) at ∙ no_bracket false around (drop c.args.at text) h))
-    (run_begun text around nested p (tables_of now.allocs) i)
-
-pub returns-then-not-begins-clause-kept : goal.returns-then-not-begins-clause-kept
-returns-then-not-begins-clause-kept c = record { source = refl; state = refl; names = refl; written = λ h. h }
+    record {
+      kept = record { source = refl; state = refl; names = refl; written = λ h. h };
+      run = λ p line at i.
+          run_flows text around nested p p c.args.at (tables_of now.allocs) (tables_of now.allocs) (sym at)
+          (λ plain. defined_none text around p i
+          (ap (λ n. reference_definition_at false around (drop n text)) at ∙ no_bracket false around (drop c.args.at text) h))
+          (run_begun text around nested p (tables_of now.allocs) i);
+    }
