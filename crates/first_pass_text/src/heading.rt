@@ -160,8 +160,8 @@ fn kept_between(text: &[u8], start: usize, end: usize) -> usize
 }
 
 // Returns the ends of a heading with at most one token, if it has no attribute block and the first special byte of its
-// content ends its line. A backslash is a special byte, so none is before the line ending then. Returns `None` for other
-// headings, and if the content is empty.
+// content ends its line. A backslash is a special byte, so none is before the line ending then. Returns `None` for
+// other headings, and if the content is empty.
 #[inline(always)]
 fn scan_plain_heading(content: Content<'_>) -> Option<PlainHeading>
     requires set { IfSome content.«end» (λ e. e ≤ length content.whole.now) }
