@@ -182,7 +182,7 @@ fn chain_end(tree: &Tree<Item>, start: usize) -> usize
 }
 
 // The number of white space bytes at the end.
-fn trailing_white(bytes: &[u8]) -> usize
+fn white_at_end(bytes: &[u8]) -> usize
     ensures value { result ≡ suffix_len is_white bytes.now }
     ensures within { result ≤ length bytes.now }
 {
@@ -195,7 +195,7 @@ fn white_at_cut(content: &[u8], broken: bool) -> usize
     ensures value { result ≡ (if broken then 0 else suffix_len is_white content.now) }
     ensures within { result ≤ length content.now }
 {
-    if broken { 0 } else { trailing_white(content) }
+    if broken { 0 } else { white_at_end(content) }
 }
 
 // Removes the attribute block of a setext heading from the end of its chain, which is in the innermost open node. The
