@@ -12,6 +12,7 @@ use crate::state::FirstPass;
 use first_pass_html::ends::HtmlEnd;
 use first_pass_raw::fenced_code::Fence;
 use first_pass_raw::html_block::HtmlStart;
+use first_pass_raw::indented_code::CodeStart;
 use first_pass_raw::raw_line::{RawKind, RawLine, append_raw_line};
 use first_pass_raw::{fenced_code, html_block, indented_code, metadata_block};
 use std::alloc::AllocError;
@@ -92,12 +93,15 @@ impl<'a> FirstPass<'a> {
         ensures { IfOk result (λ next. AddsIndentedCode self.old self.new start_ix remaining_space next) }
     {
         let pass = &mut self.pass;
+        let start = CodeStart {
+            at: start_ix,
+            owed: remaining_space,
+        };
         let (next, blank) = indented_code::parse_indented_code_block(
             &pass.source,
             &mut pass.state.tree,
             &mut pass.allocs,
-            start_ix,
-            remaining_space,
+            &start,
         )?;
         pass.state.begin_list_item = None;
         pass.state.blank = blank;
@@ -130,7 +134,7 @@ impl<'a> FirstPass<'a> {
             &mut pass.state.tree,
             &mut pass.allocs,
             start_ix,
-            fence,
+            &fence,
         )?;
         pass.state.begin_list_item = None;
         Ok(next)
@@ -183,7 +187,7 @@ impl<'a> FirstPass<'a> {
             &pass.source,
             &mut pass.state.tree,
             &mut pass.allocs,
-            start,
+            &start,
             html_end,
         )?;
         pass.state.begin_list_item = None;
@@ -214,7 +218,7 @@ impl<'a> FirstPass<'a> {
             &pass.source,
             &mut pass.state.tree,
             &mut pass.allocs,
-            start,
+            &start,
         )?;
         pass.state.begin_list_item = None;
         Ok(next)

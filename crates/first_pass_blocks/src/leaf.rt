@@ -14,7 +14,7 @@ use first_pass_kinds::kinds::MarkedLeaf;
 use first_pass_open::place::Place;
 use first_pass_raw::fenced_code::{Fence, parse_fenced_code_block};
 use first_pass_raw::html_block::{HtmlStart, parse_html_block_type_1_to_5};
-use first_pass_raw::indented_code::parse_indented_code_block;
+use first_pass_raw::indented_code::{CodeStart, parse_indented_code_block};
 use first_pass_raw::metadata_block::parse_metadata_block;
 use first_pass_text::heading::parse_atx_heading;
 use first_pass_text::rule::parse_hrule;
@@ -72,13 +72,15 @@ impl<'a> BlockPass<'a> {
         self.source.recall_length();
         let mut place = place;
         place.rest.scan_space_upto(4);
-        let owed = place.rest.remaining_space();
+        let start = CodeStart {
+            at: place.offset(),
+            owed: place.rest.remaining_space(),
+        };
         let (next, blank) = parse_indented_code_block(
             &self.source,
             &mut self.state.tree,
             &mut self.allocs,
-            place.offset(),
-            owed,
+            &start,
         )?;
         self.state.blank = blank;
         Ok(next)
@@ -110,7 +112,7 @@ impl<'a> BlockPass<'a> {
             &self.source,
             &mut self.state.tree,
             &mut self.allocs,
-            HtmlStart { at, columns },
+            &HtmlStart { at, columns },
             end,
         )?;
         Ok(next)
@@ -155,7 +157,7 @@ impl<'a> BlockPass<'a> {
             &mut self.state.tree,
             &mut self.allocs,
             at,
-            fence,
+            &fence,
         )?;
         Ok(next)
     }

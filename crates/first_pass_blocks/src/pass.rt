@@ -201,7 +201,7 @@ impl<'a> BlockPass<'a> {
                     &self.source,
                     &mut self.state.tree,
                     &mut self.allocs,
-                    HtmlStart { at, columns },
+                    &HtmlStart { at, columns },
                 )?;
                 Ok(next)
             }

@@ -95,8 +95,8 @@ fn scan_metadata(
     options: Options,
     ends: &mut MetadataEnds,
 ) -> Option<u8>
-    requires within { at ≤ length text.now }
     requires known { IsKnownOf text.now ends.old }
+    requires within { at ≤ length text.now }
     ensures value { result ≡ metadata_at columns options (drop at text.now) }
     ensures known { IsKnownOf text.now ends.new }
 {

@@ -22,6 +22,7 @@ use first_pass_open::source::Source;
 use first_pass_scan::line_start::LineStart;
 use first_pass_tree::forest::Tree;
 use std::alloc::AllocError;
+use std::ops::Range;
 
 /// A kind of raw leaf block, with its verdicts on the lines that continue the containers around it.
 pub trait JudgesLines {
@@ -35,23 +36,17 @@ pub trait JudgesLines {
     fn kind(&self) -> RawKind
         ensures { result ≡ kinds self.now };
 
-    /// Returns the verdict on a line of the text. `start` is the start of the line, `next` that of the following one,
-    /// and `line_start` its rest after the container prefixes. If the line belongs to the block, moves `line_start`
-    /// to the text of the line.
-    fn judge(
-        &self,
-        text: &str,
-        start: usize,
-        next: usize,
-        line_start: &mut LineStart<'_>,
-    ) -> Verdict
-        requires place { IsPlaceOf text.now (place_at start line_start.old) }
-        requires next { next ≡ line_end (place_at start line_start.old) }
-        requires boundary { IsCharBoundary text.now next }
-        ensures verdict { judges self.now (line_place start (drop start text.now)) (place_at start line_start.old)
-            ≡ said result (place_at start line_start.new) }
-        ensures place { IsPlaceOf text.now (place_at start line_start.new) }
-        ensures next { next ≡ line_end (place_at start line_start.new) };
+    /// Returns the verdict on a line of the text. `line` is the range of the line with its line ending, and
+    /// `line_start` its rest after the container prefixes. If the line belongs to the block, moves `line_start` to the
+    /// text of the line.
+    fn judge(&self, text: &str, line: &Range<usize>, line_start: &mut LineStart<'_>) -> Verdict
+        requires place { IsPlaceOf text.now (place_at line.now.start line_start.old) }
+        requires next { line.now.«end» ≡ line_end (place_at line.now.start line_start.old) }
+        requires boundary { IsCharBoundary text.now line.now.«end» }
+        ensures verdict { judges self.now (line_place line.now.start (drop line.now.start text.now))
+            (place_at line.now.start line_start.old) ≡ said result (place_at line.now.start line_start.new) }
+        ensures place { IsPlaceOf text.now (place_at line.now.start line_start.new) }
+        ensures next { line.now.«end» ≡ line_end (place_at line.now.start line_start.new) };
 }
 
 /// Appends the lines of a block from the line at `start` on, according to `judge`. `start` is an offset into the
@@ -63,8 +58,8 @@ pub fn read_lines<'a, J: JudgesLines>(
     allocs: &mut Allocations<'a>,
     start: usize,
 ) -> Result<BlockLines, AllocError>
-    requires boundary { IsCharBoundary source.now.text.now start }
     requires apart { JoinsNone tree.old }
+    requires boundary { IsCharBoundary source.now.text.now start }
     ensures lines { IfOk result (λ lines. AppendsLines (range_of (J.kinds judge.now))
         (document source.now.text.now source.now.options (names_of allocs.new))
         (extent_from source.now.text.now (path_of source.now.options tree.old) (J.judges judge.now) start)
@@ -80,7 +75,7 @@ pub fn read_lines<'a, J: JudgesLines>(
             return Ok(BlockLines { end: ix, next: ix });
         };
         let next = next_line(source.text.as_bytes(), ix);
-        let verdict = judge.judge(source.text, ix, next, &mut line_start);
+        let verdict = judge.judge(source.text, &(ix..next), &mut line_start);
         if let Verdict::Stops(end) = verdict {
             return Ok(BlockLines { end, next: ix });
         }

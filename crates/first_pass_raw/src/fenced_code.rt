@@ -1,8 +1,6 @@
 //! Fenced code blocks (CommonMark 4.5).
 
 ghost use Rattle.std.specs.Prelude.{◌≡◌, ◌≤◌, ℕ, length, drop, true, None, Some, IfOk, OnOk, IsCharBoundary, IsUtf8};
-ghost use Rattle.std.specs.List.{suffix_len};
-ghost use Rattle.first_pass_lines.specs.Lines.{is_white_or_line_end};
 ghost use Rattle.first_pass_lines.specs.Places.{place_at, IsPlaceOf};
 ghost use Rattle.first_pass_grammar.specs.Leaves.{document};
 ghost use Rattle.first_pass_open.specs.Path.{path_of};
@@ -15,7 +13,7 @@ use crate::extent::{JudgesLines, read_lines};
 use crate::raw_line::RawKind;
 use crate::verdict::Verdict;
 use first_pass_items::item::{Item, ItemBody};
-use first_pass_lines::lines::{is_white_or_line_end, scan_whitespace_no_nl};
+use first_pass_lines::lines::{scan_whitespace_no_nl, trailing_white};
 use first_pass_lines::places::{next_line, rest_of};
 use first_pass_links::escape::unescape;
 use first_pass_names::items::Allocations;
@@ -25,6 +23,7 @@ use first_pass_scan::leaf_scan::scan_closing_code_fence;
 use first_pass_scan::line_start::LineStart;
 use first_pass_tree::forest::Tree;
 use std::alloc::AllocError;
+use std::ops::Range;
 
 /// A code fence that opens a block: the columns before it, its byte, and its length in bytes.
 #[derive(Clone, Copy)]
@@ -34,6 +33,28 @@ pub struct Fence {
     pub count: usize,
 }
 
+impl JudgesLines for Fence {
+    ghost use Rattle.first_pass_grammar.specs.CodeBlocks.{fence_judge};
+    ghost use Rattle.first_pass_raw.specs.declared.raw_line.RawKind.TheVariants.{Code};
+
+    ghost judges = { λ fence. fence_judge fence.indent fence.byte fence.count };
+
+    ghost kinds = { λ fence. Code };
+
+    fn kind(&self) -> RawKind {
+        RawKind::Code
+    }
+
+    #[inline(always)]
+    fn judge(&self, text: &str, line: &Range<usize>, line_start: &mut LineStart<'_>) -> Verdict {
+        if let Some(end) = closing_fence(text, line.start, line_start.copy(), *self) {
+            return Verdict::Closes(end);
+        }
+        line_start.scan_space_upto(self.indent);
+        Verdict::GoesOn
+    }
+}
+
 /// Appends the fenced code block whose fence begins at the offset `start_ix`. Returns the start of the next unread
 /// line, or the end of the text (CommonMark 4.5). Fails only if an allocation fails.
 pub fn parse_fenced_code_block<'a>(
@@ -41,15 +62,15 @@ pub fn parse_fenced_code_block<'a>(
     tree: &mut Tree<Item>,
     allocs: &mut Allocations<'a>,
     start_ix: usize,
-    fence: Fence,
+    fence: &Fence,
 ) -> Result<usize, AllocError>
     requires boundary { IsCharBoundary source.now.text.now start_ix }
-    requires fence { code_fence (drop start_ix source.now.text.now) ≡ Some (fence.count, fence.byte) }
+    requires fence { code_fence (drop start_ix source.now.text.now) ≡ Some (fence.now.count, fence.now.byte) }
     ensures block { IfOk result (λ next.
         let e = fenced_after source.now.text.now (path_of source.now.options tree.old)
-        fence.indent fence.byte fence.count start_ix in
+        fence.now.indent fence.now.byte fence.now.count start_ix in
         AddsRaw (document source.now.text.now source.now.options (names_of allocs.new)) (λ d.
-        IsFencedCode d start_ix fence.count e.places e.«end») e.left tree.old tree.new next) }
+        IsFencedCode d start_ix fence.now.count e.places e.«end») e.left tree.old tree.new next) }
     ensures boundary { IfOk result (λ next. (after_line_at source.now.text.now start_ix ≤ next)
         × IsCharBoundary source.now.text.now next) }
     ensures more { OnOk result (NamesMore allocs.old allocs.new) }
@@ -65,7 +86,7 @@ pub fn parse_fenced_code_block<'a>(
     let info_ix = allocs.allocate_cow(info)?;
     open_block(tree, start_ix, ItemBody::FencedCodeBlock(info_ix))?;
     let first = next_line(bytes, start_ix);
-    let lines = read_lines(&fence, source, tree, allocs, first)?;
+    let lines = read_lines(fence, source, tree, allocs, first)?;
     close_block(tree, lines.end);
     Ok(lines.next)
 }
@@ -80,18 +101,6 @@ fn info_string(text: &str, start: usize) -> &str
     let from = start + scan_whitespace_no_nl(rest_of(bytes, start));
     let next = next_line(bytes, from);
     &text[from..next - trailing_white(&bytes[from..next])]
-}
-
-// The number of bytes at the end that are white space or part of a line ending.
-fn trailing_white(bytes: &[u8]) -> usize
-    ensures value { result ≡ suffix_len is_white_or_line_end bytes.now }
-    ensures within { result ≤ length bytes.now }
-{
-    bytes
-        .iter()
-        .rev()
-        .take_while(|b| is_white_or_line_end(**b))
-        .count()
 }
 
 // Whether the line begins with another byte than a fence or its indentation does. Then it is no closing fence. The
@@ -123,33 +132,4 @@ fn closing_fence(text: &str, start: usize, line_start: LineStart<'_>, fence: Fen
     let at = start + line_start.bytes_scanned();
     let size = scan_closing_code_fence(rest_of(bytes, at), fence.byte, fence.count)?;
     Some(at + size)
-}
-
-impl JudgesLines for Fence {
-    ghost use Rattle.first_pass_grammar.specs.CodeBlocks.{fence_judge};
-    ghost use Rattle.first_pass_raw.specs.declared.raw_line.RawKind.TheVariants.{Code};
-
-    ghost judges = { λ fence. fence_judge fence.indent fence.byte fence.count };
-
-    ghost kinds = { λ fence. Code };
-
-    #[inline(always)]
-    fn kind(&self) -> RawKind {
-        RawKind::Code
-    }
-
-    #[inline(always)]
-    fn judge(
-        &self,
-        text: &str,
-        start: usize,
-        _next: usize,
-        line_start: &mut LineStart<'_>,
-    ) -> Verdict {
-        if let Some(end) = closing_fence(text, start, line_start.copy(), *self) {
-            return Verdict::Closes(end);
-        }
-        line_start.scan_space_upto(self.indent);
-        Verdict::GoesOn
-    }
 }

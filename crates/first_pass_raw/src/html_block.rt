@@ -28,6 +28,7 @@ use first_pass_open::source::Source;
 use first_pass_scan::line_start::LineStart;
 use first_pass_tree::forest::Tree;
 use std::alloc::AllocError;
+use std::ops::Range;
 
 /// The start of an HTML block.
 #[derive(Clone, Copy)]
@@ -45,16 +46,16 @@ pub fn parse_html_block_type_1_to_5<'a>(
     source: &Source<'a>,
     tree: &mut Tree<Item>,
     allocs: &mut Allocations<'a>,
-    start: HtmlStart,
+    start: &HtmlStart,
     html_end: HtmlEnd,
 ) -> Result<usize, AllocError>
-    requires boundary { IsCharBoundary source.now.text.now start.at }
-    requires columns { start.columns ≤ 3 }
-    ensures block { IfOk result (λ next. (p : Place) → IsPlaceAt source.now.text.now start.at p
+    requires boundary { IsCharBoundary source.now.text.now start.now.at }
+    requires columns { start.now.columns ≤ 3 }
+    ensures block { IfOk result (λ next. (p : Place) → IsPlaceAt source.now.text.now start.now.at p
         → let e = html_to_end source.now.text.now (path_of source.now.options tree.old) (condition_of html_end) p in
         AddsRaw (document source.now.text.now source.now.options (names_of allocs.new)) (λ d.
-        IsHtml d start.at start.columns e.places e.«end») e.left tree.old tree.new next) }
-    ensures boundary { IfOk result (λ next. (after_line_at source.now.text.now start.at ≤ next)
+        IsHtml d start.now.at start.now.columns e.places e.«end») e.left tree.old tree.new next) }
+    ensures boundary { IfOk result (λ next. (after_line_at source.now.text.now start.now.at ≤ next)
         × IsCharBoundary source.now.text.now next) }
     ensures more { OnOk result (NamesMore allocs.old allocs.new) }
     ensures utf8 { IsUtf8 source.now.text.now }
@@ -76,15 +77,15 @@ pub fn parse_html_block_type_6_or_7<'a>(
     source: &Source<'a>,
     tree: &mut Tree<Item>,
     allocs: &mut Allocations<'a>,
-    start: HtmlStart,
+    start: &HtmlStart,
 ) -> Result<usize, AllocError>
-    requires boundary { IsCharBoundary source.now.text.now start.at }
-    requires columns { start.columns ≤ 3 }
-    ensures block { IfOk result (λ next. (p : Place) → IsPlaceAt source.now.text.now start.at p
+    requires boundary { IsCharBoundary source.now.text.now start.now.at }
+    requires columns { start.now.columns ≤ 3 }
+    ensures block { IfOk result (λ next. (p : Place) → IsPlaceAt source.now.text.now start.now.at p
         → let e = html_to_blank source.now.text.now (path_of source.now.options tree.old) p in
         AddsRaw (document source.now.text.now source.now.options (names_of allocs.new)) (λ d.
-        IsHtml d start.at start.columns e.places e.«end») e.left tree.old tree.new next) }
-    ensures boundary { IfOk result (λ next. (after_line_at source.now.text.now start.at ≤ next)
+        IsHtml d start.now.at start.now.columns e.places e.«end») e.left tree.old tree.new next) }
+    ensures boundary { IfOk result (λ next. (after_line_at source.now.text.now start.now.at ≤ next)
         × IsCharBoundary source.now.text.now next) }
     ensures more { OnOk result (NamesMore allocs.old allocs.new) }
     ensures utf8 { IsUtf8 source.now.text.now }
@@ -101,13 +102,15 @@ fn open_html_block<'a>(
     tree: &mut Tree<Item>,
     allocs: &mut Allocations<'a>,
     text: &str,
-    start: HtmlStart,
+    start: &HtmlStart,
 ) -> Result<usize, AllocError>
-    requires boundary { IsCharBoundary text.now start.at }
-    requires columns { start.columns ≤ 3 }
-    ensures next { IfOk result (λ next. (next ≡ after_line_at text.now start.at) × IsCharBoundary text.now next) }
-    ensures line { IfOk result (λ next. AppendsRaw range_html text.now (names_of allocs.new) start.columns start.at next
-        (opened_block tree.old start.at HtmlBlock) tree.new) }
+    requires boundary { IsCharBoundary text.now start.now.at }
+    requires columns { start.now.columns ≤ 3 }
+    ensures next { IfOk result (λ next.
+        (next ≡ after_line_at text.now start.now.at) × IsCharBoundary text.now next) }
+    ensures line { IfOk result (λ next.
+        AppendsRaw range_html text.now (names_of allocs.new) start.now.columns start.now.at next
+        (opened_block tree.old start.now.at HtmlBlock) tree.new) }
     ensures path { OnOk result ((options : Options) → path_of options tree.new ≡ path_of options tree.old) }
     ensures apart { OnOk result (JoinsNone tree.new) }
     ensures more { OnOk result (NamesMore allocs.old allocs.new) }
@@ -152,24 +155,17 @@ impl JudgesLines for ToEnd {
 
     ghost kinds = { λ block. Html };
 
-    #[inline(always)]
     fn kind(&self) -> RawKind {
         RawKind::Html
     }
 
     #[inline(always)]
-    fn judge(
-        &self,
-        text: &str,
-        start: usize,
-        next: usize,
-        line_start: &mut LineStart<'_>,
-    ) -> Verdict {
-        let at = start + line_start.bytes_scanned();
+    fn judge(&self, text: &str, line: &Range<usize>, line_start: &mut LineStart<'_>) -> Verdict {
+        let at = line.start + line_start.bytes_scanned();
         if at == text.len() {
             return Verdict::Closes(at);
         }
-        if holds_end(&text[at..next], self.html_end) {
+        if holds_end(&text[at..line.end], self.html_end) {
             Verdict::IsLast
         } else {
             Verdict::GoesOn
@@ -189,24 +185,17 @@ impl JudgesLines for ToBlank {
 
     ghost kinds = { λ block. Html };
 
-    #[inline(always)]
     fn kind(&self) -> RawKind {
         RawKind::Html
     }
 
     #[inline(always)]
-    fn judge(
-        &self,
-        _text: &str,
-        start: usize,
-        _next: usize,
-        line_start: &mut LineStart<'_>,
-    ) -> Verdict {
+    fn judge(&self, _text: &str, line: &Range<usize>, line_start: &mut LineStart<'_>) -> Verdict {
         if line_start.is_at_eol() {
-            return Verdict::Stops(start);
+            return Verdict::Stops(line.start);
         }
         if scan_blank_line(line_start.left()).is_some() {
-            return Verdict::Stops(start + line_start.bytes_scanned());
+            return Verdict::Stops(line.start + line_start.bytes_scanned());
         }
         Verdict::GoesOn
     }

@@ -25,35 +25,49 @@ use first_pass_tree::forest::Tree;
 use first_pass_tree::tree_index::TreeIndex;
 use std::alloc::AllocError;
 
-/// Appends the indented code whose first line has its text at the offset `start_ix`, after its four columns. At most 3
-/// columns, `remaining_space`, are owed there. Returns the start of the next unread line, or the end of the text. Also
-/// returns whether the last line read is blank: blank lines at the end are no part of the block (CommonMark 4.4). Fails
-/// only if an allocation fails.
+/// The text of the first line of indented code, after its four columns.
+#[derive(Clone, Copy)]
+pub struct CodeStart {
+    /// The offset of its first byte.
+    pub at: usize,
+    /// The columns owed there, at most 3.
+    pub owed: usize,
+}
+
+// The part of the lines so far that stays if only blank lines follow: its last node, and its end.
+#[derive(Clone, Copy)]
+struct Kept {
+    last: Option<TreeIndex>,
+    end: usize,
+}
+
+/// Appends the indented code whose first line has its text at `start`. Returns the start of the next unread line, or
+/// the end of the text. Also returns whether the last line read is blank: blank lines at the end are no part of the
+/// block (CommonMark 4.4). Fails only if an allocation fails.
 pub fn parse_indented_code_block<'a>(
     source: &Source<'a>,
     tree: &mut Tree<Item>,
     allocs: &mut Allocations<'a>,
-    start_ix: usize,
-    remaining_space: usize,
+    start: &CodeStart,
 ) -> Result<(usize, bool), AllocError>
-    requires boundary { IsCharBoundary source.now.text.now start_ix }
-    requires owed { remaining_space ≤ 3 }
-    requires code { is_blank_line (drop start_ix source.now.text.now) ≡ false }
+    requires boundary { IsCharBoundary source.now.text.now start.now.at }
+    requires owed { start.now.owed ≤ 3 }
+    requires code { is_blank_line (drop start.now.at source.now.text.now) ≡ false }
     ensures block { IfOk result (λ answer. (p : Place)
-        → IsPlaceAt source.now.text.now start_ix p → p.rest.owed ≡ remaining_space
+        → IsPlaceAt source.now.text.now start.now.at p → p.rest.owed ≡ start.now.owed
         → AddsIndented (document source.now.text.now source.now.options (names_of allocs.new)) p
         tree.old tree.new answer.0 answer.1) }
-    ensures boundary { IfOk result (λ answer. (after_line_at source.now.text.now start_ix ≤ answer.0)
+    ensures boundary { IfOk result (λ answer. (after_line_at source.now.text.now start.now.at ≤ answer.0)
         × IsCharBoundary source.now.text.now answer.0) }
     ensures more { OnOk result (NamesMore allocs.old allocs.new) }
     ensures utf8 { IsUtf8 source.now.text.now }
 {
     tree.recall_forest();
     let text = source.text;
-    open_block(tree, start_ix, ItemBody::IndentCodeBlock)?;
+    open_block(tree, start.at, ItemBody::IndentCodeBlock)?;
     tree.recall_forest();
     let nodes_to_quote = nodes_to_quote(tree);
-    let mut next = append_line(tree, allocs, text, start_ix, remaining_space)?;
+    let mut next = append_line(tree, allocs, text, start.at, start.owed)?;
     let mut kept = Kept {
         last: tree.cur(),
         end: next,
@@ -68,13 +82,6 @@ pub fn parse_indented_code_block<'a>(
     cut_after(tree, kept);
     close_block(tree, kept.end);
     Ok((next, blank))
-}
-
-// The part of the lines so far that stays if only blank lines follow: its last node, and its end.
-#[derive(Clone, Copy)]
-struct Kept {
-    last: Option<TreeIndex>,
-    end: usize,
 }
 
 // Appends the line of code from the offset `at` on, with `owed` columns owed there, and returns the end of the line.
@@ -138,8 +145,8 @@ fn indented_line<'a>(
     start: usize,
     nodes_to_quote: usize,
 ) -> Option<LineStart<'a>>
-    requires boundary { IsCharBoundary source.now.text.now start }
     requires quotes { has_quote_after source.now.options tree.now nodes_to_quote ≡ false }
+    requires boundary { IsCharBoundary source.now.text.now start }
     ensures value { result ≡ code_rest_at source.now.text.now (path_of source.now.options tree.now) start }
     ensures place { IfSome result (λ line_start. IsPlaceOf source.now.text.now (place_at start line_start)) }
 {

@@ -19,17 +19,7 @@ use first_pass_open::source::Source;
 use first_pass_scan::line_start::LineStart;
 use first_pass_tree::forest::Tree;
 use std::alloc::AllocError;
-
-// The kind of a metadata block, by the byte of its marks.
-fn metadata_kind(byte: u8) -> MetadataBlockKind
-    ensures { result ≡ metadata_kind byte }
-{
-    if byte < b'-' {
-        MetadataBlockKind::PlusesStyle
-    } else {
-        MetadataBlockKind::YamlStyle
-    }
-}
+use std::ops::Range;
 
 /// Appends the metadata block that begins at the offset `start_ix`, with `metadata_block_ch` as the byte of its
 /// marks. Returns the start of the next unread line, or the end of the text. Fails only if an allocation fails.
@@ -66,6 +56,17 @@ pub fn parse_metadata_block<'a>(
     Ok(lines.next)
 }
 
+// The kind of a metadata block, by the byte of its marks.
+fn metadata_kind(byte: u8) -> MetadataBlockKind
+    ensures { result ≡ metadata_kind byte }
+{
+    if byte < b'-' {
+        MetadataBlockKind::PlusesStyle
+    } else {
+        MetadataBlockKind::YamlStyle
+    }
+}
+
 // A metadata block whose marks have this byte.
 #[derive(Clone, Copy)]
 struct Metadata {
@@ -80,21 +81,14 @@ impl JudgesLines for Metadata {
 
     ghost kinds = { λ metadata. Code };
 
-    #[inline(always)]
     fn kind(&self) -> RawKind {
         RawKind::Code
     }
 
     #[inline(always)]
-    fn judge(
-        &self,
-        text: &str,
-        start: usize,
-        _next: usize,
-        _line_start: &mut LineStart<'_>,
-    ) -> Verdict {
-        match scan_closing_metadata_block(rest_of(text.as_bytes(), start), self.byte) {
-            Some(size) => Verdict::Closes(start + size),
+    fn judge(&self, text: &str, line: &Range<usize>, _line_start: &mut LineStart<'_>) -> Verdict {
+        match scan_closing_metadata_block(rest_of(text.as_bytes(), line.start), self.byte) {
+            Some(size) => Verdict::Closes(line.start + size),
             None => Verdict::GoesOn,
         }
     }

@@ -13,13 +13,13 @@ use Rattle.first_pass_raw.proofs.fenced_code.parse_fenced_code_block.Goals.{In_o
 
 pub overflow_add-start_ix : goal.overflow_add-start_ix
 overflow_add-start_ix c =
-    let b = fence_end c.args.source.now.text.now c.args.start_ix c.args.fence.count c.args.fence.byte
+    let b = fence_end c.args.source.now.text.now c.args.start_ix c.args.fence.now.count c.args.fence.now.byte
     (subst IsUtf8 c.as_bytes-bytes.ensures.value c.as_bytes-bytes.ensures.utf8) c.requires.boundary c.requires.fence in
     omega (arith, b.0, c.as_bytes-bytes.ensures.len, ap length c.as_bytes-bytes.ensures.value)
 
 pub info_string-requires : goal.info_string-requires
 info_string-requires c = record {
-  boundary = fence_end c.args.source.now.text.now c.args.start_ix c.args.fence.count c.args.fence.byte
+  boundary = fence_end c.args.source.now.text.now c.args.start_ix c.args.fence.now.count c.args.fence.now.byte
       (subst IsUtf8 c.as_bytes-bytes.ensures.value c.as_bytes-bytes.ensures.utf8) c.requires.boundary c.requires.fence;
 }
 
@@ -30,7 +30,7 @@ read_lines-requires-clause-boundary c =
 
 -- The block is opened, and its lines are appended.
 abbrev opened : (c : In_ok-lines) → OpenedAt range_text (document c.args.source.now.text.now c.args.source.now.options (names_of c.read_lines.new.allocs))
-    (fence_judge c.args.fence.indent c.args.fence.byte c.args.fence.count) c.args.tree.now c.args.start_ix (FencedCodeBlock c.in_ok-info_ix.info_ix)
+    (fence_judge c.args.fence.now.indent c.args.fence.now.byte c.args.fence.now.count) c.args.tree.now c.args.start_ix (FencedCodeBlock c.in_ok-info_ix.info_ix)
 opened c = record {
   opened = c.open_block.new.tree;
   filled = c.read_lines.new.tree;
@@ -53,7 +53,7 @@ returns-clause-block c =
     let named = names_of c.allocate_cow.new.self in
     let names = names_of c.read_lines.new.allocs in
     fenced_added (document c.args.source.now.text.now c.args.source.now.options names) c.args.tree.now c.close_block.new.tree
-    c.args.start_ix c.args.fence.indent c.args.fence.byte c.args.fence.count c.in_ok-info_ix.info_ix
+    c.args.start_ix c.args.fence.now.indent c.args.fence.now.byte c.args.fence.now.count c.in_ok-info_ix.info_ix
     (opened (goal.at.returns-clause-block c).In_ok-lines)
     (λ more e. subst (NamesInfo more c.in_ok-info_ix.info_ix) c.info_string.ensures
     (info_named (names_of c.args.allocs.now) named more c.in_ok-info_ix.info_ix c.in_ok-info.info c.info_string.result.now

@@ -19,29 +19,30 @@ use Rattle.first_pass_raw.proofs.indented_code.parse_indented_code_block.Goals.{
 pub lines-init : goal.lines-init
 lines-init c =
     let e = c.in_ok-next.ensures.«end» in
-    let opened : Forest Item = opened_block c.args.tree.now c.args.start_ix IndentCodeBlock in
+    let opened : Forest Item = opened_block c.args.tree.now c.args.start.now.at IndentCodeBlock in
     let line = subst (λ (f : Forest Item).
-    AppendsRaw range_text c.args.source.now.text.now (names_of c.append_line.new.allocs) c.args.remaining_space c.args.start_ix c.in_ok-next.next f
+    AppendsRaw range_text c.args.source.now.text.now (names_of c.append_line.new.allocs) c.args.start.now.owed c.args.start.now.at c.in_ok-next.next f
     c.append_line.new.tree)
     c.in_ok-open_block.ensures.tree c.in_ok-next.ensures.line in
     record {
-      boundary = first_boundary c.args.source.now.text.now c.args.start_ix c.in_ok-next.next c.append_line.ensures.utf8 c.requires.boundary c.requires.code e;
+      boundary = first_boundary c.args.source.now.text.now c.args.start.now.at c.in_ok-next.next c.append_line.ensures.utf8 c.requires.boundary
+          c.requires.code e;
       from = omega arith;
       named = c.in_ok-next.ensures.more.names;
       same_entries = c.in_ok-next.ensures.more.entries;
       read = λ p at o. so_far_first (document c.args.source.now.text.now c.args.source.now.options (names_of c.append_line.new.allocs)) p opened
-          c.args.start_ix c.cur.result
+          c.args.start.now.at c.cur.result
           (record {
             new = c.append_line.new.tree;
             named = names_of c.append_line.new.allocs;
-            owed = c.args.remaining_space;
-            from = c.args.start_ix;
+            owed = c.args.start.now.owed;
+            from = c.args.start.now.at;
             to = c.in_ok-next.next;
             extends = extends_none (names_of c.append_line.new.allocs);
             line = line;
             owed_is = sym o;
             from_is = sym at.offset_is;
-            to_is = e ∙ sym (place_line_end c.args.source.now.text.now c.args.start_ix p at);
+            to_is = e ∙ sym (place_line_end c.args.source.now.text.now c.args.start.now.at p at);
           })
           at c.requires.code (joins_none-fresh opened refl) c.cur.ensures;
     }
@@ -49,20 +50,22 @@ lines-init c =
 pub indented_line-requires-clause-quotes : goal.indented_line-requires-clause-quotes
 indented_line-requires-clause-quotes c =
     let text = c.args.source.now.text.now in
-    let opened : Forest Item = opened_block c.args.tree.now c.args.start_ix IndentCodeBlock in
+    let opened : Forest Item = opened_block c.args.tree.now c.args.start.now.at IndentCodeBlock in
     let forest = subst (IsForest {T = Item}) c.in_ok-open_block.ensures.tree c.recall_forest-2.ensures in
-    let first = c.lines.invariant.read (first_at text c.args.start_ix c.args.remaining_space) (first_is text c.args.start_ix c.args.remaining_space) refl in
+    let first = c.lines.invariant.read (first_at text c.args.start.now.at c.args.start.now.owed)
+    (first_is text c.args.start.now.at c.args.start.now.owed) refl in
     next_quotes _ _ _ _ _ _ _ _ first forest
     (subst (λ (f : Forest Item). has_quote_after c.args.source.now.options f c.nodes_to_quote-nodes_to_quote.result ≡ false) c.in_ok-open_block.ensures.tree
     (c.nodes_to_quote-nodes_to_quote.ensures c.args.source.now.options))
 
 -- The next line continues the code.
 continues : (c : In_ok-next-2) → ContinuesCode (document c.args.source.now.text.now c.args.source.now.options (names_of c.lines.allocs))
-    (opened_block c.args.tree.now c.args.start_ix IndentCodeBlock) c.lines.next c.in-Some.line_start
+    (opened_block c.args.tree.now c.args.start.now.at IndentCodeBlock) c.lines.next c.in-Some.line_start
 continues c =
     let text = c.args.source.now.text.now in
     let forest = subst (IsForest {T = Item}) c.in_ok-open_block.ensures.tree c.recall_forest-2.ensures in
-    let first = c.lines.invariant.read (first_at text c.args.start_ix c.args.remaining_space) (first_is text c.args.start_ix c.args.remaining_space) refl in
+    let first = c.lines.invariant.read (first_at text c.args.start.now.at c.args.start.now.owed)
+    (first_is text c.args.start.now.at c.args.start.now.owed) refl in
     record {
       utf8 = c.append_line.ensures.utf8;
       boundary = c.lines.invariant.boundary;
@@ -75,18 +78,18 @@ line_ends : (c : In_ok-next-2) → (c.in_ok-next-2.next ≡ after_line_at c.args
     × IsCharBoundary c.args.source.now.text.now c.in_ok-next-2.next
 line_ends c =
     let goes = continues c in
-    next_read c.args.source.now.text.now (path_of c.args.source.now.options (opened_block c.args.tree.now c.args.start_ix IndentCodeBlock)) c.lines.next _
+    next_read c.args.source.now.text.now (path_of c.args.source.now.options (opened_block c.args.tree.now c.args.start.now.at IndentCodeBlock)) c.lines.next _
     c.in_ok-next-2.next c.in-Some.line_start goes.utf8 goes.boundary goes.goes goes.place c.bytes_scanned.ensures c.in_ok-next-2.ensures.«end»
 
 pub lines-preserved : goal.lines-preserved
 lines-preserved c =
     let i = c.lines.invariant in
     let text = c.args.source.now.text.now in
-    let opened : Forest Item = opened_block c.args.tree.now c.args.start_ix IndentCodeBlock in
+    let opened : Forest Item = opened_block c.args.tree.now c.args.start.now.at IndentCodeBlock in
     let goes = continues (goal.at.lines-preserved c).In_ok-next-2 in
     let read = line_ends (goal.at.lines-preserved c).In_ok-next-2 in
     let later : c.lines.next < c.in_ok-next-2.next = read.1 in
-    let from : after_line_at text c.args.start_ix ≤ c.lines.next = i.from in
+    let from : after_line_at text c.args.start.now.at ≤ c.lines.next = i.from in
     record {
       boundary = read.2;
       from = omega arith;
@@ -119,27 +122,29 @@ lines-smaller c =
 pub cut_after-requires : goal.cut_after-requires
 cut_after-requires c =
     let text = c.args.source.now.text.now in
-    let opened : Forest Item = opened_block c.args.tree.now c.args.start_ix IndentCodeBlock in
-    let first = c.lines.invariant.read (first_at text c.args.start_ix c.args.remaining_space) (first_is text c.args.start_ix c.args.remaining_space) refl in
-    kept_child (opened_last opened (just_opened c.args.tree.now opened c.args.start_ix refl)) first
+    let opened : Forest Item = opened_block c.args.tree.now c.args.start.now.at IndentCodeBlock in
+    let first = c.lines.invariant.read (first_at text c.args.start.now.at c.args.start.now.owed)
+    (first_is text c.args.start.now.at c.args.start.now.owed) refl in
+    kept_child (opened_last opened (just_opened c.args.tree.now opened c.args.start.now.at refl)) first
 
 pub close_block-requires : goal.close_block-requires
 close_block-requires c =
     let text = c.args.source.now.text.now in
-    let opened : Forest Item = opened_block c.args.tree.now c.args.start_ix IndentCodeBlock in
+    let opened : Forest Item = opened_block c.args.tree.now c.args.start.now.at IndentCodeBlock in
     let forest = subst (IsForest {T = Item}) c.in_ok-open_block.ensures.tree c.recall_forest-2.ensures in
-    let first = c.lines.invariant.read (first_at text c.args.start_ix c.args.remaining_space) (first_is text c.args.start_ix c.args.remaining_space) refl in
+    let first = c.lines.invariant.read (first_at text c.args.start.now.at c.args.start.now.owed)
+    (first_is text c.args.start.now.at c.args.start.now.owed) refl in
     let stops = sym (next_rest _ _ _ _ _ _ _ c.indented_line.result first forest c.indented_line.ensures.value) ∙ c.in_default.is in
     let all = so_far_stop
-    (opened_last opened (just_opened c.args.tree.now opened c.args.start_ix refl)) first c.cut_after.new.tree stops c.cut_after.ensures in
-    code_open c.args.tree.now c.args.start_ix refl all
+    (opened_last opened (just_opened c.args.tree.now opened c.args.start.now.at refl)) first c.cut_after.new.tree stops c.cut_after.ensures in
+    code_open c.args.tree.now c.args.start.now.at refl all
 
 pub returns-clause-block : goal.returns-clause-block
 returns-clause-block c p at o =
-    let opened : Forest Item = opened_block c.args.tree.now c.args.start_ix IndentCodeBlock in
+    let opened : Forest Item = opened_block c.args.tree.now c.args.start.now.at IndentCodeBlock in
     let forest = subst (IsForest {T = Item}) c.in_ok-open_block.ensures.tree c.recall_forest-2.ensures in
     let s = c.lines.invariant.read p at o in
     let stops = sym (next_rest _ _ _ _ _ _ _ c.indented_line.result s forest c.indented_line.ensures.value) ∙ c.in_default.is in
     let all = so_far_stop
-    (opened_last opened (just_opened c.args.tree.now opened c.args.start_ix refl)) s c.cut_after.new.tree stops c.cut_after.ensures in
-    code_added c.args.tree.now c.args.start_ix refl all c.close_block.new.tree c.recall_forest.ensures at.offset_is c.close_block.ensures.tree
+    (opened_last opened (just_opened c.args.tree.now opened c.args.start.now.at refl)) s c.cut_after.new.tree stops c.cut_after.ensures in
+    code_added c.args.tree.now c.args.start.now.at refl all c.close_block.new.tree c.recall_forest.ensures at.offset_is c.close_block.ensures.tree

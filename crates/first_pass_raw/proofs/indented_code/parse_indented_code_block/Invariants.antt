@@ -13,11 +13,11 @@ use Rattle.first_pass_raw.proofs.indented_code.parse_indented_code_block.Given a
 abbrev pub invariant-lines : goal.invariant-lines
 invariant-lines l = record {
   boundary : IsCharBoundary l.source.text.now l.next;
-  from : after_line_at l.source.text.now l.start_ix ≤ l.next;
+  from : after_line_at l.source.text.now l.start.at ≤ l.next;
   named : Extends (names_of l.allocs) (names_of l.fn.allocs);
   same_entries : entries l.allocs ≡ entries l.fn.allocs;
-  read : (p : Place) → IsPlaceAt l.source.text.now l.start_ix p → p.rest.owed ≡ l.remaining_space
-      → IndentedSoFar (document l.source.text.now l.source.options (names_of l.allocs)) p (opened_block l.fn.tree l.start_ix IndentCodeBlock) l.tree l.next
+  read : (p : Place) → IsPlaceAt l.source.text.now l.start.at p → p.rest.owed ≡ l.start.owed
+      → IndentedSoFar (document l.source.text.now l.source.options (names_of l.allocs)) p (opened_block l.fn.tree l.start.at IndentCodeBlock) l.tree l.next
       l.kept l.blank;
 }
 

@@ -50,13 +50,13 @@ returns c =
     let tree = c.parse_indented_code_block.new.tree in
     let i = columns_keep text 4 p f.utf8 f.place in
     let there = read_to (after_columns 4) _ p _ _ c.offset.ensures c.scan_space_upto.ensures.rest c.place.view_is in
-    let owed = c.remaining_space-owed.ensures.value ∙ ap (λ (r : Rest). r.owed) c.scan_space_upto.ensures.rest
+    let owed = c.remaining_space.ensures.value ∙ ap (λ (r : Rest). r.owed) c.scan_space_upto.ensures.rest
     ∙ ap (λ (z : Place). (after_columns 4 z.rest).owed) c.place.view_is in
     let ends = ap (after_line_at text) there ∙ ap (λ bs. offset q + line_len bs) (sym i.left) ∙ columns_line_end 4 p in
     let low = offset_later text p.line p.rest q.rest f.place i (columns_shorter 4 p.rest) in
     let later = e.boundary.0 in
     let begins = subst (IsCharBoundary text) (sym there) i.boundary in
-    let fits = indented_between text options names self.state.tree tree c.offset.result next e.utf8 begins e.boundary.1.0 c.remaining_space-owed.result
+    let fits = indented_between text options names self.state.tree tree c.offset.result next e.utf8 begins e.boundary.1.0 c.remaining_space.result
     c.in_ok-next.blank e.block in
     record {
       source = refl;
