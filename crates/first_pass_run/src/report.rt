@@ -13,23 +13,26 @@ use std::alloc::Global;
 use std::io::{Read, Write};
 use std::str;
 
+/// A text for a report, with the options to parse it under and the allocator.
+#[derive(Clone, Copy)]
+pub struct Input<'t> {
+    pub alloc: Global,
+    pub text: &'t str,
+    pub options: Options,
+}
+
 /// A report on a text: the output of a program.
 pub trait Report {
     // The relation between options, a text and the whole output for it.
     ghost says: { Self → OptionSet → List ℕ → List ℕ → Type 0 };
 
-    /// Writes the whole output for a text under options. Returns `OutOfMemory` if an allocation fails, and
+    /// Writes the whole output for a text under its options. Returns `OutOfMemory` if an allocation fails, and
     /// `WriteFailed` if a write fails; nothing or a beginning of the output was written then.
-    fn write_report<W: Write>(
-        &self,
-        alloc: Global,
-        text: &str,
-        options: Options,
-        output: &mut W,
-    ) -> Result<(), RunFault>
-        ensures ok { OnOk result (WritesOutput (says self.now) options text.now
+    fn write_report<W: Write>(&self, input: Input<'_>, output: &mut W) -> Result<(), RunFault>
+        ensures ok { OnOk result (WritesOutput (says self.now) input.entry.options input.entry.text.now
             (stream_between (W.contents output.old) (W.contents output.new))) }
-        ensures fault { IfErr result (λ fault. LeavesReport (says self.now) fault options text.now
+        ensures fault { IfErr result (λ fault.
+            LeavesReport (says self.now) fault input.entry.options input.entry.text.now
             (stream_between (W.contents output.old) (W.contents output.new))) };
 }
 
@@ -72,7 +75,14 @@ fn report_bytes<P: Report, W: Write>(
         (stream_between (W.contents output.old) (W.contents output.new))) }
 {
     match str::from_utf8(bytes) {
-        Ok(text) => report.write_report(alloc, text, options, output),
+        Ok(text) => {
+            let input = Input {
+                alloc,
+                text,
+                options,
+            };
+            report.write_report(input, output)
+        }
         Err(_) => Err(RunFault::NotUtf8),
     }
 }

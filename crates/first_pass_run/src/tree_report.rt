@@ -4,10 +4,9 @@ ghost use Rattle.first_pass_host.specs.Streams.{WritesText, stream_between};
 ghost use Rattle.first_pass_names.specs.TableEntries.{names_of, tables_of};
 ghost use Rattle.first_pass_run.specs.TreeReports.{AreTreeLines, Lines};
 
-use crate::report::Report;
+use crate::report::{Input, Report};
 use first_pass_host::fault::RunFault;
 use first_pass_items::item::Item;
-use first_pass_items::option_set::Options;
 use first_pass_names::items::Allocations;
 use first_pass_names::parse::Parse;
 use first_pass_tree::forest::Tree;
@@ -43,17 +42,11 @@ pub struct TreeReport<P, L>(pub P, pub L);
 impl<P: Parse, L: TreeLines> Report for TreeReport<P, L> {
     ghost says = { λ report options text output. AreTreeLines (L.lines report.1) options text output };
 
-    fn write_report<W: Write>(
-        &self,
-        alloc: Global,
-        text: &str,
-        options: Options,
-        output: &mut W,
-    ) -> Result<(), RunFault> {
-        let (tree, allocs) = self.0.parse(alloc, text, options)?;
+    fn write_report<W: Write>(&self, input: Input<'_>, output: &mut W) -> Result<(), RunFault> {
+        let (tree, allocs) = self.0.parse(input.alloc, input.text, input.options)?;
         let parsed = Parsed {
-            alloc,
-            text,
+            alloc: input.alloc,
+            text: input.text,
             tree,
             allocs,
         };
