@@ -1,7 +1,10 @@
 //! The ranges of the attributes of a heading, and the labels and the nodes of two footnotes.
 
+ghost use Rattle.std.specs.Prelude.{◌≡◌};
+ghost use Rattle.first_pass_items.specs.declared.item.ItemBody.TheVariants.{FootnoteDefinition};
+
 use first_pass_items::cow_str::CowStr;
-use first_pass_items::item::{HeadingIndex, HeadingLevel, Item, ItemBody};
+use first_pass_items::item::{CowIndex, HeadingIndex, HeadingLevel, Item, ItemBody};
 use first_pass_names::items::Allocations;
 use first_pass_places::attributes::{AttributeKind, attribute_ranges};
 use first_pass_places::footnote_label::footnote_label_range;
@@ -33,27 +36,26 @@ fn each_attribute_has_its_ranges(rt: HostRuntime) -> Result<(), Fail> {
     Ok(())
 }
 
+// A footnote definition with this range.
+fn footnote(start: usize, end: usize, label: CowIndex) -> Item
+    ensures { result ≡ record { start = start; «end» = end; body = FootnoteDefinition label } }
+{
+    Item {
+        start,
+        end,
+        body: ItemBody::FootnoteDefinition(label),
+    }
+}
+
 // Two footnotes, and a second definition of the first one.
 #[test]
 fn each_footnote_has_its_node_and_label(rt: HostRuntime) -> Result<(), Fail> {
     let text = "[^a]: b\n\n[^c]: d\n\n[^A]: e\n";
     assert!(rt; text.len() == 26);
     let mut allocs = Allocations::new(rt.alloc());
-    let first = Item {
-        start: 0,
-        end: 8,
-        body: ItemBody::FootnoteDefinition(allocs.allocate_cow(CowStr::Borrowed("a"))?),
-    };
-    let second = Item {
-        start: 9,
-        end: 17,
-        body: ItemBody::FootnoteDefinition(allocs.allocate_cow(CowStr::Borrowed("c"))?),
-    };
-    let again = Item {
-        start: 18,
-        end: 26,
-        body: ItemBody::FootnoteDefinition(allocs.allocate_cow(CowStr::Borrowed("A"))?),
-    };
+    let first = footnote(0, 8, allocs.allocate_cow(CowStr::Borrowed("a"))?);
+    let second = footnote(9, 17, allocs.allocate_cow(CowStr::Borrowed("c"))?);
+    let again = footnote(18, 26, allocs.allocate_cow(CowStr::Borrowed("A"))?);
     let rule = Item {
         start: 8,
         end: 8,

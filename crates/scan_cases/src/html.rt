@@ -12,15 +12,15 @@ use std::alloc::AllocError;
 pub fn answer_html(call: &Call<'_>, answer: &mut Answer) -> Result<bool, AllocError> {
     let bytes = call.text.as_bytes();
     match call.name {
+        "holds_raw_end_tag" => answer.flag(holds_raw_end_tag(bytes))?,
+        "is_block_name" => answer.flag(is_block_name(bytes))?,
+        "is_raw_name" => answer.flag(is_raw_name(bytes))?,
         "get_html_end_tag" => match get_html_end_tag(bytes) {
             Some(HtmlEnd::AnyRawTag) => answer.word("AnyRawTag")?,
             Some(HtmlEnd::Text(text)) => answer.text(text)?,
             None => answer.none()?,
         },
-        "holds_raw_end_tag" => answer.flag(holds_raw_end_tag(bytes))?,
         "starts_html_block_type_6" => answer.flag(starts_html_block_type_6(bytes))?,
-        "is_block_name" => answer.flag(is_block_name(bytes))?,
-        "is_raw_name" => answer.flag(is_raw_name(bytes))?,
         "scan_html_type_7" => answer.length(scan_html_type_7(bytes))?,
         _ => return Ok(false),
     }

@@ -5,6 +5,7 @@ use first_pass_cases::answer::Answer;
 use first_pass_lines::lines::{
     begins, is_line_end, is_space_or_tab, is_white, is_white_or_line_end, level_number,
     scan_atx_heading, scan_blank_line, scan_blanks, scan_eol, scan_nextline, scan_whitespace_no_nl,
+    trailing_white,
 };
 use first_pass_lines::places::{next_line, rest_of};
 use std::alloc::AllocError;
@@ -19,6 +20,7 @@ pub fn answer_lines(call: &Call<'_>, answer: &mut Answer) -> Result<bool, AllocE
         "scan_nextline" => answer.number(scan_nextline(bytes))?,
         "scan_whitespace_no_nl" => answer.number(scan_whitespace_no_nl(bytes))?,
         "scan_blanks" => answer.number(scan_blanks(bytes))?,
+        "trailing_white" => answer.number(trailing_white(bytes))?,
         "scan_atx_heading" => answer.length(scan_atx_heading(bytes).map(level_number))?,
         "next_line" => answer.number(next_line(bytes, start))?,
         "rest_of" => answer.number(rest_of(bytes, start).len())?,

@@ -28,6 +28,15 @@ pub fn answer_links(call: &Call<'_>, answer: &mut Answer) -> Result<bool, AllocE
     Ok(true)
 }
 
+/// Appends a text, and whether it is borrowed.
+pub fn append_cow(cow: &CowStr<'_>, answer: &mut Answer) -> Result<(), AllocError> {
+    answer.word(match cow {
+        CowStr::Borrowed(_) => "borrowed",
+        _ => "owned",
+    })?;
+    answer.text(cow.deref())
+}
+
 // The number of bytes of a character reference, and the number of each of its characters.
 fn append_reference(bytes: &[u8], answer: &mut Answer) -> Result<(), AllocError> {
     let (len, found) = scan_entity(bytes);
@@ -41,15 +50,6 @@ fn append_reference(bytes: &[u8], answer: &mut Answer) -> Result<(), AllocError>
         }
         None => answer.none(),
     }
-}
-
-/// Appends a text, and whether it is borrowed.
-pub fn append_cow(cow: &CowStr<'_>, answer: &mut Answer) -> Result<(), AllocError> {
-    answer.word(match cow {
-        CowStr::Borrowed(_) => "borrowed",
-        _ => "owned",
-    })?;
-    answer.text(cow.deref())
 }
 
 // The number of bytes of a destination, and its text. The arguments are its offset and the greatest nesting of its
