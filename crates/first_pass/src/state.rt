@@ -3,8 +3,9 @@
 use first_pass_blocks::state::BlockPass;
 use first_pass_tokens::braces::BraceContexts;
 
-/// A pass over a text: the tree so far, and the entries that its nodes name. Its two tables are not sorted, so each
-/// look-up goes through all their entries, until `Allocations::sort_tables` is called.
+/// A pass over a text: the tree so far, and the entries that its nodes name. Its two tables of labels are not
+/// sorted: a look-up may go through a whole table, unless `Allocations::sort_tables` was called after the last
+/// definition.
 #[derive(Drop)]
 pub struct FirstPass<'a> {
     /// The pass over blocks: the text and the options; the tree and the other state between two lines; and the entries

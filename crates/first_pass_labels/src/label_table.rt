@@ -91,8 +91,9 @@ pub type FootDefs<'a> = LabelTable<'a, FootnoteDef>;
 /// A table of definitions by label, in the byte order of the labels' foldings. `get` and `iter` show only the first
 /// definition of each folding.
 ///
-/// The table keeps every definition that was added, in the order of the text. `sort` sorts their indices. While the
-/// table is not sorted, `get` goes through all definitions, and so does each step of `iter`.
+/// The table keeps every definition that was added, in the order of the calls. `sort` makes a list of the indices of
+/// those that are shown, in the order of their labels. While the table is not sorted, `get` may go through all
+/// definitions, and each step of `iter` does.
 #[derive(Drop)]
 pub struct LabelTable<'a, T> {
     alloc: Global,

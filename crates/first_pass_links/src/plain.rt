@@ -25,8 +25,9 @@ pub(crate) fn plain_run(bytes: &[u8]) -> usize
     plain_lanes(bytes)
 }
 
-/// Returns the length of the label at the start of `bytes`, which are those after a `[`, if it has only plain bytes, at
-/// most 16. Returns `None` for other labels, and if `bytes` has fewer than 16 (CommonMark 6.3).
+/// Returns the length, without its `]`, of the label at the start of `bytes`, which are those after a `[`. The label
+/// has at most 16 bytes, all of them plain. Returns `None` for other labels, and if `bytes` has fewer than 16
+/// (CommonMark 6.3).
 #[inline(always)]
 pub(crate) fn scan_plain_label(bytes: &[u8]) -> Option<usize>
     ensures { IfSome result (IsPlainLabel bytes.now) }

@@ -77,7 +77,7 @@ fn found<'t>(links: &'t RefDefs<'_>, label: &str) -> Result<&'t str, AllocError>
     }
 }
 
-// Whether a table has what the test below defines first.
+// Whether a table has exactly the first definitions of the test below.
 fn has_first_labels(alloc: Global, links: &RefDefs<'_>) -> Result<bool, AllocError> {
     let all = listed(alloc, links)?;
     Ok(

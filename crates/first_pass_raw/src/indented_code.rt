@@ -25,7 +25,7 @@ use first_pass_tree::forest::Tree;
 use first_pass_tree::tree_index::TreeIndex;
 use std::alloc::AllocError;
 
-/// The text of the first line of indented code, after its four columns.
+/// Where indented code begins: at the text of its first line, after four columns.
 #[derive(Clone, Copy)]
 pub struct CodeStart {
     /// The offset of its first byte.

@@ -71,9 +71,9 @@ pub fn extract_and_parse_heading_attribute_block<'a>(
     Ok((content_end, attributes))
 }
 
-/// Adds the attributes of a heading, if it has some, to `allocs`, and returns their index after the offset at which the
-/// heading's content ends. The bounds and the content are those of `extract_and_parse_heading_attribute_block`. Fails
-/// only if an allocation fails (this project).
+/// Adds the attributes of a heading to `allocs`, if it has an attribute block. Returns the offset at which the
+/// content of the heading ends, and the index of the attributes; `None` without a block. The bounds and the content
+/// are those of `extract_and_parse_heading_attribute_block`. Fails only if an allocation fails (this project).
 #[inline(always)]
 pub fn name_attributes<'a>(
     source: &Source<'a>,
@@ -94,6 +94,7 @@ pub fn name_attributes<'a>(
     let Some(block) = block else {
         return Ok((content_end, None));
     };
+    // Parsed in place: the result of the call above is large, and would be cleared before it is written.
     let mut attributes = HeadingAttributes::new();
     let ahead = rest_of(source.text.as_bytes(), block.start);
     add_attribute_words(source.alloc, &mut attributes, block.text, ahead)?;
@@ -181,7 +182,7 @@ fn chain_end(tree: &Tree<Item>, start: usize) -> usize
     }
 }
 
-// The number of white space bytes at the end.
+// The number of white space bytes at the end. Line endings are none; `trailing_white` counts them too.
 fn white_at_end(bytes: &[u8]) -> usize
     ensures value { result ≡ suffix_len is_white bytes.now }
     ensures within { result ≤ length bytes.now }

@@ -85,8 +85,9 @@ pub fn special_found(text: &[u8], content: Content<'_>, at: usize) -> TokenStart
 }
 
 /// Returns the piece at a special byte that is known from this byte and the next one: the token at `<` with no
-/// backslash after it, at `[` and at `]`, and plain text at `!` with no `[` after it and at a single full stop or
-/// hyphen. Returns `None` at any other byte. `special_found` finds the same piece, but tests many other bytes first.
+/// backslash after it, at `[` and at `]`, and plain text at `!` with no `[` after it, at `.` with no `.` after it and
+/// at `-` with no `-` after it. Returns `None` at any other byte. `special_found` finds the same piece, but tests many
+/// other bytes first.
 #[inline(always)]
 #[tactic(auto, using(crate::proofs::QuickPieces::less_ready, crate::proofs::QuickPieces::left_ready, crate::proofs::QuickPieces::right_ready, crate::proofs::QuickPieces::exclamation_ready, crate::proofs::QuickPieces::stop_ready, crate::proofs::QuickPieces::hyphen_ready))]
 pub(crate) fn quick_piece(text: &[u8], at: usize) -> Option<Piece>
