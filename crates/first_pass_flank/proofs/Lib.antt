@@ -1,2 +1,3 @@
 mod AsciiFacts
 pub mod FlankFacts
+pub mod WordFacts

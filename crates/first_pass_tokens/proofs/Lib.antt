@@ -6,6 +6,7 @@ pub mod ChainLemmas
 pub mod DashLemmas
 pub mod Escapes
 pub mod InOrder
+pub mod InsideWords
 pub mod LineFound
 pub mod LineLemmas
 pub mod MarkupLemmas

@@ -1,6 +1,6 @@
--- The pieces that are known from two bytes.
+-- The pieces that are known from a byte and those beside it.
 use Rattle.std.proofs.Common.{◌≡◌, inl, inr, ℕ, ◌+◌, ◌<◌, ◌==◌, false, true, List, length, refl, sym, ap, ◌∙◌, arith, slice_index}
-use Rattle.std.proofs.lemmas.Bool.{cases_lt}
+use Rattle.std.proofs.lemmas.Bool.{cases_lt, eq-eqb}
 use Rattle.first_pass_items.specs.Bytes.{less_than, left_bracket, backslash, right_bracket, exclamation_mark, full_stop, hyphen}
 use Rattle.first_pass_items.specs.declared.item.ItemBody.TheVariants.{MaybeHtml, MaybeLinkOpen, MaybeLinkClose}
 use Rattle.first_pass_tokens.specs.declared.pieces.Piece.TheVariants.{Token, Left}
@@ -30,13 +30,13 @@ pub stop_ready : (z : Inline) (at : ℕ) → slice_index z.text at ≡ full_stop
 unfolding special_found special_piece dot_piece
 stop_ready z at here other = rw here (rw other refl)
 
--- a hyphen with no hyphen after it is a run of one
-run_one : (text : List ℕ) (at : ℕ) → at < length text → slice_index text at ≡ hyphen → (slice_index text (at + 1) == hyphen) ≡ false → run_at text at ≡ 1
-run_one text at within here other =
+-- a byte with no equal one after it is a run of one
+pub run_one : (text : List ℕ) (at b : ℕ) → at < length text → slice_index text at ≡ b → (slice_index text (at + 1) == b) ≡ false → run_at text at ≡ 1
+run_one text at b within here other =
     elim (cases_lt 1 (run_at text at)) as (λ _. run_at text at ≡ 1) [
       | inl more ↦
           let same = run_same text at (at + 1) (omega arith) (omega (arith, more)) ∙ here in
-          let is : true ≡ false = sym (ap (λ b. b == hyphen) same) ∙ other in
+          let is : true ≡ false = sym (ap (λ x. x == b) same ∙ eq-eqb b b refl) ∙ other in
           absurd cc
       | inr most ↦ omega (arith, run_some text at within)
     ]
@@ -44,4 +44,4 @@ run_one text at within here other =
 pub hyphen_ready : (z : Inline) (at : ℕ) → at < length z.text → slice_index z.text at ≡ hyphen → (slice_index z.text (at + 1) == hyphen) ≡ false
     → IsReadyAt z at (Left 1)
 unfolding special_found dash_found dash_piece
-hyphen_ready z at within here other = let one = run_one z.text at within here other in rw here (rw one refl)
+hyphen_ready z at within here other = let one = run_one z.text at hyphen within here other in rw here (rw one refl)

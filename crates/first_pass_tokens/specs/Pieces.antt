@@ -2,7 +2,7 @@
 use Rattle.std.specs.Prelude.{◌≡◌, ℕ, ◌+◌, ◌-◌, ◌==◌, ◌<◌, ◌&&◌, ◌||◌, not, Bool, true, false, List, take, drop, slice_index, length, Option, Some, None}
 use Rattle.std.specs.Prelude.{unwrap_or, nat_lt, if◌then◌else◌}
 use Rattle.std.specs.Option.{option_map_or}
-use Rattle.std.specs.Char.{is_ascii_punctuation}
+use Rattle.std.specs.Char.{is_ascii_punctuation, is_ascii_alphanumeric}
 use Rattle.std.specs.List.{prefix_len, slice_range}
 use Rattle.first_pass_lines.specs.Lines.{is_white_or_line_end}
 use Rattle.first_pass_items.specs.Bytes.{exclamation_mark, quotation_mark, dollar_sign, ampersand, apostrophe, hyphen, full_stop, less_than, left_bracket}
@@ -155,6 +155,13 @@ is_single_mark_at text at =
     (slice_index text at == exclamation_mark && not (slice_index text (at + 1) == left_bracket))
     || ((slice_index text at == full_stop && not (slice_index text (at + 1) == full_stop))
     || (slice_index text at == hyphen && not (slice_index text (at + 1) == hyphen)))
+
+-- the byte at an offset of a content is an underscore between two ASCII letters or digits of the content: it neither
+-- opens nor closes (CommonMark 6.2)
+abbrev pub is_inside_word : List ℕ → ℕ → ℕ → Bool
+is_inside_word text start at =
+    slice_index text at == underscore
+    && (nat_lt start at && (is_ascii_alphanumeric (slice_index text (at - 1)) && is_ascii_alphanumeric (slice_index text (at + 1))))
 
 -- the piece at any other special byte: the first case that fits, otherwise plain text (CommonMark 2.4, 6.1 to 6.6;
 -- smart punctuation: this project)

@@ -204,7 +204,7 @@ fn append_pieces(
             from = run_end(text, at);
             continue;
         }
-        if let Some(known) = quick_piece(text, at) {
+        if let Some(known) = quick_piece(text, content, at) {
             from = append_through(tree, &mut pending, at, known)?;
             continue;
         }

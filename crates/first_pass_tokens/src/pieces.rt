@@ -1,9 +1,9 @@
 //! The pieces of the content of a line: the one that begins at an offset.
 
 ghost use Rattle.std.specs.Prelude.{◌≡◌, ◌||◌, ◌+◌, ◌<◌, ◌≤◌, ◌^◌, true, IfSome, is_some, length, slice_index, take, ℕ, List, IsCharBoundary, IsUtf8};
-ghost use Rattle.first_pass_items.specs.Bytes.{backslash, backquote, hyphen, full_stop};
+ghost use Rattle.first_pass_items.specs.Bytes.{backslash, backquote, hyphen, full_stop, underscore};
 ghost use Rattle.first_pass_tokens.specs.Braces.{MathBraces};
-ghost use Rattle.first_pass_tokens.specs.Pieces.{content_in, IsReadyAt, is_bracket_at, is_single_mark_at, is_solid_at, dollar_found, special_found, reference_found, dash_found, found_size, FoundSolid, special_piece, backslash_piece, backslash_piece_in, backquote_piece, is_delimiter, char_before, run_in, run_size, is_quote, quote_piece, dot_piece, run_piece, delimiter_piece, bracket_piece, run_at, size, EndsSolid};
+ghost use Rattle.first_pass_tokens.specs.Pieces.{content_in, IsReadyAt, is_bracket_at, is_single_mark_at, is_inside_word, is_solid_at, dollar_found, special_found, reference_found, dash_found, found_size, FoundSolid, special_piece, backslash_piece, backslash_piece_in, backquote_piece, is_delimiter, char_before, run_in, run_size, is_quote, quote_piece, dot_piece, run_piece, delimiter_piece, bracket_piece, run_at, size, EndsSolid};
 
 use first_pass_entities::entity::scan_reference;
 use first_pass_flank::flank::{DelimiterRun, ends_with_pipe, first_char, last_char};
@@ -84,17 +84,20 @@ pub fn special_found(text: &[u8], content: Content<'_>, at: usize) -> TokenStart
     }
 }
 
-/// Returns the piece at a special byte that is known from this byte and the next one: the token at `<` with no
-/// backslash after it, at `[` and at `]`, and plain text at `!` with no `[` after it, at `.` with no `.` after it and
-/// at `-` with no `-` after it. Returns `None` at any other byte. `special_found` finds the same piece, but tests many
-/// other bytes first.
+/// Returns the piece at a special byte that is known from this byte and those beside it: the token at `<` with no
+/// backslash after it, at `[` and at `]`, and plain text at `!` with no `[` after it, at `.` with no `.` after it, at
+/// `-` with no `-` after it, and at `_` between two ASCII letters or digits of the content. Returns `None` at any other
+/// byte. `special_found` finds the same piece, but tests many other bytes first.
 #[inline(always)]
-#[tactic(auto, using(crate::proofs::QuickPieces::less_ready, crate::proofs::QuickPieces::left_ready, crate::proofs::QuickPieces::right_ready, crate::proofs::QuickPieces::exclamation_ready, crate::proofs::QuickPieces::stop_ready, crate::proofs::QuickPieces::hyphen_ready))]
-pub(crate) fn quick_piece(text: &[u8], at: usize) -> Option<Piece>
-    requires { at < length text.now }
-    ensures some { is_some result ≡ (is_bracket_at text.now at || is_single_mark_at text.now at) }
-    ensures value { IfSome result (λ piece. (c : Content) (b : MathBraces)
-        → IsReadyAt (content_in text.now c b) at piece) }
+#[tactic(auto, using(crate::proofs::QuickPieces::less_ready, crate::proofs::QuickPieces::left_ready, crate::proofs::QuickPieces::right_ready, crate::proofs::QuickPieces::exclamation_ready, crate::proofs::QuickPieces::stop_ready, crate::proofs::QuickPieces::hyphen_ready, crate::proofs::InsideWords::inside_word_ready))]
+pub(crate) fn quick_piece(text: &[u8], content: Content<'_>, at: usize) -> Option<Piece>
+    requires utf8 { IsUtf8 content.whole.now }
+    requires front { text.now ≡ take (length text.now) content.whole.now }
+    requires within { at < length text.now }
+    ensures some { is_some result ≡ (is_bracket_at text.now at || (is_single_mark_at text.now at
+        || is_inside_word text.now content.entry.start at)) }
+    ensures value { IfSome result (λ piece. (b : MathBraces)
+        → IsReadyAt (content_in text.now content.entry b) at piece) }
     ensures fits { IfSome result (λ piece. at + size piece ≤ length text.now) }
     ensures ends { IfSome result (λ piece. EndsSolid text.now at piece) }
 {
@@ -105,8 +108,21 @@ pub(crate) fn quick_piece(text: &[u8], at: usize) -> Option<Piece>
         b'!' if byte_at(text, at + 1) != b'[' => Some(Piece::Left(1)),
         b'.' if byte_at(text, at + 1) != b'.' => Some(Piece::Left(1)),
         b'-' if byte_at(text, at + 1) != b'-' => Some(Piece::Left(1)),
+        b'_' if is_inside_word(text, content.start, at) => Some(Piece::Left(1)),
         _ => None,
     }
+}
+
+// Whether the underscore at an offset is between two ASCII letters or digits of a content, which begins at `start`.
+#[inline(always)]
+fn is_inside_word(text: &[u8], start: usize, at: usize) -> bool
+    requires within { at < length text.now }
+    requires here { slice_index text.now at ≡ underscore }
+    ensures { result ≡ is_inside_word text.now start at }
+{
+    start < at
+        && text[at - 1].is_ascii_alphanumeric()
+        && byte_at(text, at + 1).is_ascii_alphanumeric()
 }
 
 // The piece found at a dollar sign.

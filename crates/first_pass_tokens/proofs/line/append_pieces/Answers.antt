@@ -55,7 +55,7 @@ loop-at-preserved c =
       more = more_both texts c.loop-at.texts.items c.args.texts.now.items more c.loop-at.invariant.more;
     }
 
--- the same after a piece that is known from two bytes
+-- the same after a piece that is known from a byte and those beside it
 pub loop-at-preserved-in-Some-quick_piece : goal.loop-at-preserved-in-Some-quick_piece
 loop-at-preserved-in-Some-quick_piece c =
     let z : Inline = content_in c.args.text.now c.args.content c.args.braces.now in
@@ -63,7 +63,7 @@ loop-at-preserved-in-Some-quick_piece c =
     let piece = c.in-Some-quick_piece.known in
     let token = c.in-Some-quick_piece.ensures in
     let special = sym (c.requires.marks _ (omega (arith, c.type_inv.text at))) ∙ c.in-Some.ensures.found.marked in
-    let here = sym (token.value c.args.content c.args.braces.now) ∙ found_special z at special in
+    let here = sym (token.value c.args.braces.now) ∙ found_special z at special in
     let to_is = ap (λ n. spot n c.loop-at.braces) c.in_ok-from.ensures.next ∙ ap (λ f. spot (at + size piece) (braces_after f c.loop-at.braces)) here in
     let next = read_piece piece (record {
       on = sym (c.special_ends_at.ensures c.args.braces.now) ∙ c.if-special_ends_at.false;
@@ -107,3 +107,6 @@ next_special_in_words-requires c = spares_words c.args.content.options c.args.co
 
 pub special_ends_at-requires-clause-marked : goal.special_ends_at-requires-clause-marked
 special_ends_at-requires-clause-marked c = c.in-Some.ensures.found.marked
+
+pub quick_piece-requires-clause-front : goal.quick_piece-requires-clause-front
+quick_piece-requires-clause-front c = front_upto c.args.content.whole.now c.args.text.now c.args.content.«end» c.requires.front
