@@ -5,10 +5,11 @@ use Rattle.std.specs.declared.ops.Range.{Range}
 use Rattle.first_pass_items.specs.Bytes.{left_brace}
 use Rattle.first_pass_items.specs.OptionWords.{has, heading_attributes}
 use Rattle.first_pass_attributes.specs.AttributeBlocks.{inside_block}
-use Rattle.first_pass_grammar.specs.Headings.{heading_attributes_of}
+use Rattle.first_pass_grammar.specs.Headings.{before_attributes, heading_attributes_of}
 use Rattle.first_pass_text.proofs.AttributeEnds.{none_between, length_between, no_braces, empty_braces, before_none, given_none, content_before, given_not}
 use Rattle.first_pass_text.proofs.AttributeEnds.{given_some, brace_boundary}
 use Rattle.first_pass_text.proofs.attributes.block_text_between.Goals as goal
+use Rattle.first_pass_text.proofs.attributes.block_text_between.Goals.{After-extract_attribute_block_content_from_header_text-length}
 
 pub returns-then-header_end-header_start-clause-none : goal.returns-then-header_end-header_start-clause-none
 returns-then-header_end-header_start-clause-none c =
@@ -46,13 +47,17 @@ range-text-requires-clause-start_boundary c some =
     (subst IsUtf8 c.as_bytes.ensures.value c.as_bytes.ensures.utf8) is c.requires.to
     (omega (arith, places.0, places.1, places.2)) opens places.0
 
+-- the content ends at the block, or with the text
+content_end : (c : After-extract_attribute_block_content_from_header_text-length)
+    → c.args.header_start + c.extract_attribute_block_content_from_header_text-length.result.0
+    ≡ c.args.header_start + length (before_attributes c.args.source.now.options (slice_range c.args.source.now.text.now c.args.header_start c.args.header_end))
+content_end c =
+    content_before c.args.source.now.options c.args.source.now.text.now c.as_bytes.result.now c.args.header_start c.args.header_end
+    c.extract_attribute_block_content_from_header_text-length.result.0 (sym (c.contains.ensures tt) ∙ c.if-not-contains.false) c.as_bytes.ensures.value
+    c.extract_attribute_block_content_from_header_text-length.ensures.before
+
 pub returns-in-None-clause-content : goal.returns-in-None-clause-content
-returns-in-None-clause-content c =
-    let options = c.args.source.now.options in
-    let e = c.extract_attribute_block_content_from_header_text-length in
-    let on : has options heading_attributes ≡ true = sym (c.contains.ensures tt) ∙ c.if-not-contains.false in
-    content_before options c.args.source.now.text.now c.as_bytes.result.now c.args.header_start c.args.header_end e.result.0 on c.as_bytes.ensures.value
-    e.ensures.before
+returns-in-None-clause-content c = content_end (goal.at.returns-in-None-clause-content c).After-extract_attribute_block_content_from_header_text-length
 
 pub returns-in-None-clause-none : goal.returns-in-None-clause-none
 returns-in-None-clause-none c =
@@ -66,12 +71,7 @@ returns-in-None-clause-none c =
     (none ∙ ap (λ (xs : List ℕ). inside_block (slice_range xs c.args.header_start c.args.header_end)) c.as_bytes.ensures.value)
 
 pub returns-in-Some-clause-content : goal.returns-in-Some-clause-content
-returns-in-Some-clause-content c =
-    let options = c.args.source.now.options in
-    let e = c.extract_attribute_block_content_from_header_text-length in
-    let on : has options heading_attributes ≡ true = sym (c.contains.ensures tt) ∙ c.if-not-contains.false in
-    content_before options c.args.source.now.text.now c.as_bytes.result.now c.args.header_start c.args.header_end e.result.0 on c.as_bytes.ensures.value
-    e.ensures.before
+returns-in-Some-clause-content c = content_end (goal.at.returns-in-Some-clause-content c).After-extract_attribute_block_content_from_header_text-length
 
 pub returns-in-Some-clause-some : goal.returns-in-Some-clause-some
 returns-in-Some-clause-some c =

@@ -8,6 +8,7 @@ use Rattle.first_pass_text.specs.Appends.{line_from}
 use Rattle.first_pass_text.proofs.AttributeEnds.{no_braces, given_none, block_named, none_named}
 use Rattle.first_pass_text.proofs.HeadingLemmas.{line_between, place_none, place_some}
 use Rattle.first_pass_text.proofs.heading.name_attribute_block.Goals as goal
+use Rattle.first_pass_text.proofs.heading.name_attribute_block.Goals.{In_ok-opening}
 
 pub returns-then-not-contains-clause-place : goal.returns-then-not-contains-clause-place
 returns-then-not-contains-clause-place c =
@@ -24,31 +25,36 @@ returns-then-not-contains-clause-named c more e =
     let line : List ℕ = line_from c.args.source.now.text.now c.args.start in
     subst (NamesAttributes more None) (sym (given_none options line (no_braces options line (sym (c.contains.ensures tt) ∙ c.if-not-contains.true)))) tt
 
+-- the line that was read ends where it should
+line_ends : (c : In_ok-opening) → c.next_line-line_end.result ≡ line_end_at c.args.source.now.text.now c.args.start
+line_ends c = c.next_line-line_end.ensures.value ∙ ap (λ t. line_end_at t c.args.start) c.as_bytes.ensures.value
+
+-- and its attributes are named
+line_named : (c : In_ok-opening) → NamesAttributes (names_of c.name_attributes.new.allocs) c.in_ok-opening.index
+    (heading_attributes_of c.args.source.now.options (line_from c.args.source.now.text.now c.args.start))
+line_named c =
+    let names = names_of c.name_attributes.new.allocs in
+    subst (λ xs. NamesAttributes names c.in_ok-opening.index (heading_attributes_of c.args.source.now.options xs))
+    (line_between c.args.source.now.text.now c.args.start c.next_line-line_end.result (line_ends c))
+    (c.in_ok-opening.ensures.named names (extends_none names))
+
 pub returns-then-is_none-clause-place : goal.returns-then-is_none-clause-place
 returns-then-is_none-clause-place c =
     let options = c.args.source.now.options in
     let text : List ℕ = c.args.source.now.text.now in
-    let start : ℕ = c.args.start in
-    let ends : c.next_line-line_end.result ≡ line_end_at text start =
-    c.next_line-line_end.ensures.value ∙ ap (λ t. line_end_at t start) c.as_bytes.ensures.value in
-    let line = line_between text start c.next_line-line_end.result ends in
-    let names = names_of c.name_attributes.new.allocs in
-    let named = subst (λ xs. NamesAttributes names c.in_ok-opening.index (heading_attributes_of options xs)) line
-    (c.in_ok-opening.ensures.named names (extends_none names)) in
-    sym (place_none options text start
-    (none_named options (line_from text start) names c.in_ok-opening.index named (c.is_none.ensures ∙ ap not c.if-is_none.true)))
+    sym (place_none options text c.args.start
+    (none_named options (line_from text c.args.start) (names_of c.name_attributes.new.allocs) c.in_ok-opening.index
+    (line_named (goal.at.returns-then-is_none-clause-place c).In_ok-opening) (c.is_none.ensures ∙ ap not c.if-is_none.true)))
 
 pub returns-clause-place : goal.returns-clause-place
 returns-clause-place c =
     let options = c.args.source.now.options in
     let text : List ℕ = c.args.source.now.text.now in
     let start : ℕ = c.args.start in
-    let ends : c.next_line-line_end.result ≡ line_end_at text start =
-    c.next_line-line_end.ensures.value ∙ ap (λ t. line_end_at t start) c.as_bytes.ensures.value in
-    let line = line_between text start c.next_line-line_end.result ends in
-    let names = names_of c.name_attributes.new.allocs in
-    let named = subst (λ xs. NamesAttributes names c.in_ok-opening.index (heading_attributes_of options xs)) line
-    (c.in_ok-opening.ensures.named names (extends_none names)) in
-    let (block, found) = block_named options (line_from text start) names c.in_ok-opening.index named (c.is_none.ensures ∙ ap not c.if-is_none.false) in
-    place_some options text start c.in_ok-opening.opening c.next_line-line_end.result block found
-    (c.in_ok-opening.ensures.content ∙ ap (λ xs. start + length (before_attributes options xs)) line) ends
+    let found = (goal.at.returns-clause-place c).In_ok-opening in
+    let ends = line_ends found in
+    let (block, at) = block_named options (line_from text start) (names_of c.name_attributes.new.allocs) c.in_ok-opening.index (line_named found)
+    (c.is_none.ensures ∙ ap not c.if-is_none.false) in
+    place_some options text start c.in_ok-opening.opening c.next_line-line_end.result block at
+    (c.in_ok-opening.ensures.content
+    ∙ ap (λ xs. start + length (before_attributes options xs)) (line_between text start c.next_line-line_end.result ends)) ends
