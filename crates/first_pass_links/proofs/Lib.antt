@@ -1,3 +1,4 @@
+pub mod Backslashes
 pub mod Destinations
 pub mod Escapes
 pub mod Footnotes

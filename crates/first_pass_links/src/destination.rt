@@ -79,8 +79,9 @@ fn scan_run(bytes: &[u8], deepest: usize) -> Option<usize>
     if nesting == 0 { Some(at) } else { None }
 }
 
-// The length of a part of a run: a backslash escape, or one other byte and the plain bytes after it. The part begins
-// with no parenthesis.
+// The length of a part of a run. The part begins with no parenthesis: it is a backslash and the byte after it, escaped
+// or not, or one other byte and the plain bytes after it. A backslash at the end, or before a byte that ends the run,
+// is a part by itself.
 #[inline(always)]
 fn text_len(bytes: &[u8]) -> usize
     requires some { 0 < length bytes.now }
@@ -90,11 +91,13 @@ fn text_len(bytes: &[u8]) -> usize
     ensures passed { (deepest nesting : ℕ) → nesting ≤ deepest
         → longer result (bare_len deepest nesting 0 (drop result bytes.now)) ≡ bare_len deepest nesting 0 bytes.now }
 {
-    let unit = unit_len(bytes);
-    if unit == 2 {
-        return unit;
+    if bytes[0] != b'\\' {
+        return 1 + plain_run(rest_of(bytes, 1));
     }
-    unit + plain_run(rest_of(bytes, unit))
+    if bytes.len() < 2 || ends_run(bytes[1]) {
+        return 1;
+    }
+    2
 }
 
 // Whether the byte is a parenthesis.

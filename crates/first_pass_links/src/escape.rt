@@ -6,6 +6,7 @@ ghost use Rattle.first_pass_items.specs.CowText.{text_of};
 ghost use Rattle.first_pass_lines.specs.Lanes.{IsRunIn};
 ghost use Rattle.first_pass_links.specs.Escapes.{unescaped};
 ghost use Rattle.first_pass_links.specs.Plain.{is_unmarked};
+ghost use Rattle.first_pass_entities.specs.Entities.{entity_at};
 ghost use Rattle.first_pass_entities.specs.Texts.{Borrows, TakesNoMemory};
 ghost use Rattle.first_pass_links.specs.Changes.{change_at, IsChange};
 ghost use Rattle.first_pass_links.specs.Units.{part};
@@ -14,6 +15,7 @@ use crate::plain::unmarked_run;
 use first_pass_entities::entity::scan_reference;
 use first_pass_items::cow_str::CowStr;
 use first_pass_lines::lanes::LANES;
+use first_pass_lines::lines::begins;
 use first_pass_lines::places::rest_of;
 use std::alloc::{AllocError, Global};
 
@@ -127,6 +129,18 @@ fn change_at(bytes: &[u8], in_table: bool) -> Option<(usize, char)>
     match bytes {
         [b'\\', b'\\', b'|', ..] if in_table => Some((3, '|')),
         [b'\\', escaped, ..] if escaped.is_ascii_punctuation() => Some((2, *escaped as char)),
-        _ => scan_reference(bytes),
+        _ => reference_at(bytes),
     }
+}
+
+// The same for a reference. `scan_reference` is not inlined, and most bytes begin no reference.
+#[inline(always)]
+#[tactic(auto, unfolding(first_pass_entities::specs::Entities::entity_at))]
+fn reference_at(bytes: &[u8]) -> Option<(usize, char)>
+    ensures { result ≡ entity_at bytes.now }
+{
+    if !begins(b'&', bytes) {
+        return None;
+    }
+    scan_reference(bytes)
 }

@@ -1,23 +1,32 @@
-use Rattle.std.proofs.Common.{◌≡◌, ◌+◌, drop, sym, ap, ◌∙◌, arith}
-use Rattle.first_pass_links.specs.Destinations.{bare_len, longer}
+use Rattle.std.proofs.Common.{◌≡◌, false, sym, ap, ◌∙◌, arith, if◌then◌else◌}
+use Rattle.first_pass_links.specs.Escapes.{begins_escape}
 use Rattle.first_pass_links.proofs.PlainRuns.{are_plain, run_part}
+use Rattle.first_pass_links.proofs.Backslashes.{other_escapes_none, last_escapes_none, end_escapes_none, run_backslash}
 use Rattle.first_pass_links.proofs.destination.text_len.Goals as goal
+use Rattle.first_pass_links.proofs.destination.text_len.Goals.{then-bytes-lt2-via-then-bytes-lt2, then-bytes-lt2-via-else-bytes-lt2+then-ends_run}
 
-pub returns-then-unit-eq2-clause-passed : goal.returns-then-unit-eq2-clause-passed
-returns-then-unit-eq2-clause-passed c =
+pub returns-then-bytes-ne92-clause-passed : goal.returns-then-bytes-ne92-clause-passed
+returns-then-bytes-ne92-clause-passed c =
     λ deepest nesting bound.
     let bs = c.args.bytes.now in
-    let n = c.unit_len-unit.result in
-    let e : n + 0 ≡ n = omega arith in
-    ap (λ j. longer j (bare_len deepest nesting 0 (drop j bs))) (sym e)
-    ∙ run_part deepest nesting bs n 0 c.requires.some c.requires.part c.unit_len-unit.ensures.value (omega (arith, c.unit_len-unit.ensures.within))
+    run_part deepest nesting bs 1 c.plain_run.result c.requires.some c.requires.part
+    (ap (λ t. if t then 2 else 1) (sym (other_escapes_none bs c.requires.some c.if-bytes-ne92.true)))
+    (omega (arith, c.plain_run.ensures.within, c.rest_of.ensures.whole))
+    (are_plain bs _ 1 c.plain_run.result c.rest_of.ensures.value c.plain_run.ensures.plain) bound
+
+-- a backslash by itself
+pub returns-then-bytes-lt2-clause-passed : goal.returns-then-bytes-lt2-clause-passed
+returns-then-bytes-lt2-clause-passed c =
+    λ deepest nesting bound.
+    let bs = c.args.bytes.now in
+    let none : begins_escape bs ≡ false = elim c.then-bytes-lt2.branch [
+      | then-bytes-lt2-via-then-bytes-lt2 w ↦ last_escapes_none bs w.if-bytes-lt2.true
+      | then-bytes-lt2-via-else-bytes-lt2+then-ends_run w ↦ end_escapes_none bs (sym w.ends_run.ensures ∙ w.if-ends_run.true)
+    ] in
+    run_part deepest nesting bs 1 0 c.requires.some c.requires.part (ap (λ t. if t then 2 else 1) (sym none)) (omega (arith, c.requires.some))
     (λ k below. absurd (omega arith)) bound
 
 pub returns-clause-passed : goal.returns-clause-passed
 returns-clause-passed c =
     λ deepest nesting bound.
-    let bs = c.args.bytes.now in
-    let n = c.unit_len-unit.result in
-    run_part deepest nesting bs n c.plain_run.result c.requires.some c.requires.part c.unit_len-unit.ensures.value
-    (omega (arith, c.plain_run.ensures.within, c.rest_of.ensures.whole))
-    (are_plain bs _ n c.plain_run.result c.rest_of.ensures.value c.plain_run.ensures.plain) bound
+    run_backslash deepest nesting c.args.bytes.now c.if-bytes-lt2.false c.if-bytes-ne92.false (sym c.ends_run.ensures ∙ c.if-ends_run.false) bound
