@@ -1,5 +1,5 @@
 -- An underscore between two ASCII letters or digits.
-use Rattle.std.proofs.Common.{◌≡◌, ℕ, ◌+◌, ◌-◌, ◌<◌, ◌≤◌, ◌==◌, ◌&&◌, true, false, List, length, take, Option, Some, IsUtf8}
+use Rattle.std.proofs.Common.{◌≡◌, ℕ, ◌+◌, ◌-◌, ◌<◌, ◌≤◌, ◌==◌, true, false, List, length, take, Option, Some, IsUtf8}
 use Rattle.std.proofs.Common.{nat_lt, slice_index, get_or, refl, sym, ap, ◌∙◌, arith, length-take}
 use Rattle.std.specs.Char.{is_ascii_alphanumeric}
 use Rattle.std.proofs.lemmas.Bool.{and_parts, eqb-true, ltb-true, lt-ltb}

@@ -1,10 +1,14 @@
 -- The pieces that are known from a byte and those beside it.
-use Rattle.std.proofs.Common.{◌≡◌, inl, inr, ℕ, ◌+◌, ◌<◌, ◌==◌, false, true, List, length, refl, sym, ap, ◌∙◌, arith, slice_index}
+use Rattle.std.proofs.Common.{◌≡◌, inl, inr, ℕ, ◌+◌, ◌<◌, ◌==◌, Bool, false, true, List, length, refl, sym, ap, ◌∙◌, arith, slice_index}
 use Rattle.std.proofs.lemmas.Bool.{cases_lt, eq-eqb}
-use Rattle.first_pass_items.specs.Bytes.{less_than, left_bracket, backslash, right_bracket, exclamation_mark, full_stop, hyphen}
+use Rattle.std.proofs.lemmas.Bool.Decides.{nat_tests}
+use Rattle.std.specs.Char.{is_ascii_punctuation}
+use Rattle.first_pass_items.specs.Bytes.{less_than, left_bracket, backslash, backquote, pipe, right_bracket, exclamation_mark, full_stop, hyphen}
 use Rattle.first_pass_items.specs.declared.item.ItemBody.TheVariants.{MaybeHtml, MaybeLinkOpen, MaybeLinkClose}
 use Rattle.first_pass_tokens.specs.declared.pieces.Piece.TheVariants.{Token, Left}
-use Rattle.first_pass_tokens.specs.Pieces.{Inline, special_found, special_piece, bracket_piece, dot_piece, dash_found, dash_piece, run_at, IsReadyAt}
+use Rattle.first_pass_tokens.specs.declared.pieces.TokenStart.TheVariants.{Ready}
+use Rattle.first_pass_tokens.specs.Pieces.{Inline, special_found, special_piece, backslash_piece, backslash_piece_in, bracket_piece, dot_piece}
+use Rattle.first_pass_tokens.specs.Pieces.{dash_found, dash_piece, run_at, IsReadyAt}
 use Rattle.first_pass_tokens.proofs.PieceFacts.{run_some, run_same}
 
 pub less_ready : (z : Inline) (at : ℕ) → slice_index z.text at ≡ less_than → (slice_index z.text (at + 1) == backslash) ≡ false
@@ -29,6 +33,21 @@ pub stop_ready : (z : Inline) (at : ℕ) → slice_index z.text at ≡ full_stop
     → IsReadyAt z at (Left 1)
 unfolding special_found special_piece dot_piece
 stop_ready z at here other = rw here (rw other refl)
+
+-- a byte that is no ASCII punctuation is no pipe, backslash or backquote
+backslash_first : (b : ℕ) → is_ascii_punctuation b ≡ false → ((b == pipe) ≡ false) × (((b == backslash) ≡ false) × ((b == backquote) ≡ false))
+backslash_first b other = (grind (arith, nat_tests, other), (grind (arith, nat_tests, other), grind (arith, nat_tests, other)))
+
+backslash_left : (row : Bool) (text : List ℕ) (at : ℕ) → is_ascii_punctuation (slice_index text (at + 1)) ≡ false
+    → backslash_piece_in row text at ≡ Left 1
+unfolding backslash_piece
+backslash_left true text at other = let f = backslash_first (slice_index text (at + 1)) other in rw (f.0, f.1.0, f.1.1, other) refl
+backslash_left false text at other = let f = backslash_first (slice_index text (at + 1)) other in rw (f.1.1, other) refl
+
+pub backslash_ready : (z : Inline) (at : ℕ) → slice_index z.text at ≡ backslash → is_ascii_punctuation (slice_index z.text (at + 1)) ≡ false
+    → IsReadyAt z at (Left 1)
+unfolding special_found special_piece
+backslash_ready z at here other = rw here (ap Ready (backslash_left z.row z.text at other))
 
 -- a byte with no equal one after it is a run of one
 pub run_one : (text : List ℕ) (at b : ℕ) → at < length text → slice_index text at ≡ b → (slice_index text (at + 1) == b) ≡ false → run_at text at ≡ 1

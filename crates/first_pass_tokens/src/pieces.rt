@@ -86,10 +86,11 @@ pub fn special_found(text: &[u8], content: Content<'_>, at: usize) -> TokenStart
 
 /// Returns the piece at a special byte that is known from this byte and those beside it: the token at `<` with no
 /// backslash after it, at `[` and at `]`, and plain text at `!` with no `[` after it, at `.` with no `.` after it, at
-/// `-` with no `-` after it, and at `_` between two ASCII letters or digits of the content. Returns `None` at any other
-/// byte. `special_found` finds the same piece, but tests many other bytes first.
+/// `-` with no `-` after it, at a backslash with no ASCII punctuation after it, and at `_` between two ASCII letters or
+/// digits of the content. Returns `None` at any other byte. `special_found` finds the same piece, but tests many other
+/// bytes first.
 #[inline(always)]
-#[tactic(auto, using(crate::proofs::QuickPieces::less_ready, crate::proofs::QuickPieces::left_ready, crate::proofs::QuickPieces::right_ready, crate::proofs::QuickPieces::exclamation_ready, crate::proofs::QuickPieces::stop_ready, crate::proofs::QuickPieces::hyphen_ready, crate::proofs::InsideWords::inside_word_ready))]
+#[tactic(auto, using(crate::proofs::QuickPieces::less_ready, crate::proofs::QuickPieces::left_ready, crate::proofs::QuickPieces::right_ready, crate::proofs::QuickPieces::exclamation_ready, crate::proofs::QuickPieces::stop_ready, crate::proofs::QuickPieces::hyphen_ready, crate::proofs::QuickPieces::backslash_ready, crate::proofs::InsideWords::inside_word_ready))]
 pub(crate) fn quick_piece(text: &[u8], content: Content<'_>, at: usize) -> Option<Piece>
     requires utf8 { IsUtf8 content.whole.now }
     requires front { text.now ≡ take (length text.now) content.whole.now }
@@ -108,6 +109,7 @@ pub(crate) fn quick_piece(text: &[u8], content: Content<'_>, at: usize) -> Optio
         b'!' if byte_at(text, at + 1) != b'[' => Some(Piece::Left(1)),
         b'.' if byte_at(text, at + 1) != b'.' => Some(Piece::Left(1)),
         b'-' if byte_at(text, at + 1) != b'-' => Some(Piece::Left(1)),
+        b'\\' if !byte_at(text, at + 1).is_ascii_punctuation() => Some(Piece::Left(1)),
         b'_' if is_inside_word(text, content.start, at) => Some(Piece::Left(1)),
         _ => None,
     }
