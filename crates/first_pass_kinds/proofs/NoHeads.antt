@@ -1,13 +1,14 @@
--- If the first byte of the next line rules out a delimiter row, the line before it heads no table.
-use Rattle.std.proofs.Common.{◌≡◌, ℕ, ◌==◌, ◌⊎◌, nat_le, ◌&&◌, ◌||◌, not, Bool, true, false, true≢false, List, [], ◌∷◌, length, take, drop, Option, Some, None, inl, inr, if◌then◌else◌}
+-- If the first byte of the next line rules out a delimiter row, the line before it heads no table. A line without a pipe heads none either.
+use Rattle.std.proofs.Common.{◌≡◌, ℕ, ◌==◌, ◌⊎◌, nat_le, ◌&&◌, ◌||◌, not, Bool, true, false, true≢false, List, [], ◌∷◌, length, drop, Option, Some, None, inl, inr, if◌then◌else◌}
 use Rattle.std.proofs.Common.{refl, sym, ap, ◌∙◌, arith}
 use Rattle.std.specs.Option.{option_and_then}
-use Rattle.std.specs.List.{list_any}
+use Rattle.std.specs.List.{take_while, list_any}
 use Rattle.std.proofs.lemmas.Bool.{ne_eqb}
 use Rattle.std.proofs.lemmas.Bool.Decides.{nat_tests}
 use Rattle.first_pass_items.specs.Bytes.{hyphen, colon, pipe}
+use Rattle.first_pass_items.specs.OptionWords.{has, tables}
 use Rattle.first_pass_items.specs.declared.item.Alignment.{Alignment}
-use Rattle.first_pass_lines.specs.Lines.{begins, line_len}
+use Rattle.first_pass_lines.specs.Lines.{is_content, begins, line_len}
 use Rattle.first_pass_lines.specs.Plain.{begins_inert, is_inert}
 use Rattle.first_pass_lines.specs.Places.{line_rest}
 use Rattle.first_pass_lines.specs.Rest.{Rest, after_columns}
@@ -16,8 +17,8 @@ use Rattle.first_pass_table_scan.specs.TableHead.{is_pipe, delimiter_row_of, hea
 use Rattle.first_pass_table_scan.proofs.DelimiterRows.{row_of-refused, row_of-some}
 use Rattle.first_pass_table_scan.proofs.HeaderRows.{head-unpiped}
 use Rattle.first_pass_grammar.specs.declared.kind.Container.{Container}
-use Rattle.first_pass_grammar.specs.Containers.{after}
-use Rattle.first_pass_grammar.specs.TableHeads.{if_as_many, table_at}
+use Rattle.first_pass_grammar.specs.Containers.{Context, after}
+use Rattle.first_pass_grammar.specs.TableHeads.{if_as_many, table_at, ends_in_backslash, headed_table}
 use Rattle.first_pass_open.proofs.PlainLemmas.{inert_path}
 
 no_hyphen : (bs : List ℕ) → begins_inert bs ≡ true → begins hyphen bs ≡ false
@@ -60,6 +61,10 @@ cases_row : (o : Option (List Alignment)) → (o ≡ None) ⊎ ((xs : List Align
 cases_row None = inl refl
 cases_row (Some xs) = inr (xs, refl)
 
+if_none_either : (t : Bool) (o : Option (List Alignment)) → o ≡ None → (if t then o else None) ≡ None
+if_none_either true o h = h
+if_none_either false o h = refl
+
 -- a line without a pipe heads no table either
 no_columns : (o : Option Rest) (columns : ℕ) → columns ≡ 0 → option_and_then (if_as_many columns) (option_and_then delimiter_row_of o) ≡ None
 no_columns None columns h = refl
@@ -72,7 +77,10 @@ no_columns (Some r) columns h =
           ap (option_and_then (if_as_many columns)) some.1 ∙ ap (λ (t : Bool). if t then Some some.0 else None) other
     ]
 
-pub no_pipe : (path : List Container) (bs row : List ℕ) → row ≡ take (line_len bs) bs → list_any is_pipe row ≡ false → table_at path bs ≡ None
+no_pipe : (path : List Container) (bs : List ℕ) → list_any is_pipe (take_while is_content bs) ≡ false → table_at path bs ≡ None
 unfolding table_at
-no_pipe path bs row is h =
-    no_columns (after path (line_rest (drop (line_len bs) bs))) (head_columns bs) (head-unpiped bs (ap (list_any is_pipe) (sym is) ∙ h))
+no_pipe path bs h = no_columns (after path (line_rest (drop (line_len bs) bs))) (head_columns bs) (head-unpiped bs h)
+
+pub no_headed : (around : Context) (bs : List ℕ) → list_any is_pipe (take_while is_content bs) ≡ false → headed_table around bs ≡ None
+unfolding headed_table
+no_headed around bs h = if_none_either (has around.options tables && not (ends_in_backslash bs)) (table_at around.path bs) (no_pipe around.path bs h)

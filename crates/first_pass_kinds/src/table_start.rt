@@ -18,7 +18,7 @@ use first_pass_lines::lines::{begins, content_len, is_inert_front, scan_nextline
 use first_pass_lines::places::rest_of;
 use first_pass_open::front::front_of;
 use first_pass_open::source::Source;
-use first_pass_table_scan::table_scan::has_pipe;
+use first_pass_table_scan::pipes::has_pipe_in_line;
 use first_pass_table_scan::table_start::{scan_delimiter_row, scan_head_columns};
 use first_pass_tree::forest::Tree;
 use std::alloc::AllocError;
@@ -44,8 +44,8 @@ fn begins_no_row(bytes: &[u8]) -> bool
 
 // The table whose header row is the first line of `bytes`. `bytes` extends from there to the end of the text, or to an
 // earlier end that a caller sets. The alignments are those of the delimiter row in the next line, if that line
-// continues all open containers and the header row has as many columns. The next line is tested first: the first byte
-// of most lines of prose rules out a delimiter row. Then the header row is tested for a pipe, which it needs.
+// continues all open containers and the header row has as many columns. The first byte of the next line often rules
+// out a delimiter row.
 #[tactic(auto, unfolding(first_pass_grammar::specs::TableHeads::table_at))]
 fn scan_table_at(
     source: &Source<'_>,
@@ -60,9 +60,6 @@ fn scan_table_at(
     let row_len = scan_nextline(bytes);
     let after = rest_of(bytes, row_len);
     if begins_no_row(after) {
-        return Ok(None);
-    }
-    if !has_pipe(&bytes[..row_len]) {
         return Ok(None);
     }
     let front = front_of(after, tree, source.options);
@@ -131,6 +128,10 @@ pub fn scan_headed_line(
     ensures within { IfOk result (λ found. IfSome found (λ t. t.table_head_len ≤ length bytes.now)) }
 {
     if !source.options.contains(Options::ENABLE_TABLES) {
+        return Ok(None);
+    }
+    // Most paragraphs begin with a line without a pipe.
+    if !has_pipe_in_line(bytes) {
         return Ok(None);
     }
     let Some(table) = scan_table_at(source, tree, bytes)? else {

@@ -1,13 +1,13 @@
 -- Facts on the pipes of a header row, and on its columns.
-use Rattle.std.proofs.Common.{◌≡◌, ℕ, zero, suc, ◌+◌, ◌-◌, ◌<◌, ◌≤◌, ◌⊎◌, Bool, true, false, List, ◌∷◌, length, take, drop, Option, Some, None, refl, sym, ap, []}
-use Rattle.std.proofs.Common.{◌∙◌, arith, inl, inr, if◌then◌else◌, ◌==◌, ◌&&◌, ◌||◌, not, get_or, nat_lt, slice_index}
+use Rattle.std.proofs.Common.{◌≡◌, ℕ, suc, ◌+◌, ◌-◌, ◌<◌, ◌≤◌, ◌⊎◌, Bool, true, false, List, ◌∷◌, length, take, drop, Option, Some, None, refl, sym, ap, []}
+use Rattle.std.proofs.Common.{◌∙◌, arith, inl, inr, if◌then◌else◌, ◌==◌, ◌&&◌, not, get_or, nat_lt, slice_index}
 use Rattle.std.specs.Option.{option_map_or}
 use Rattle.std.specs.List.{prefix_len, take_while, list_any}
 use Rattle.std.proofs.lemmas.Bool.Decides.{nat_tests}
 use Rattle.std.proofs.lemmas.List.{drop_more, drop_all, take-take}
 use Rattle.std.proofs.lemmas.List.Folds.{length-prefix_len}
 use Rattle.first_pass_items.specs.Bytes.{backslash}
-use Rattle.first_pass_lines.specs.Lines.{is_content, line_len}
+use Rattle.first_pass_lines.specs.Lines.{is_content}
 use Rattle.first_pass_table_scan.specs.TableHead.{is_pipe, pipes_after, pipes_of, last_pipe_after, header_columns, columns_by_pipes, head_columns}
 use Rattle.first_pass_table_scan.proofs.DelimiterRows.{either_no}
 
@@ -180,7 +180,7 @@ pub head-some : (bs : List ℕ) (n : ℕ) → last_pipe_after 0 (take_while is_c
 unfolding head_columns
 head-some bs n h = ap (λ o. option_map_or (header_columns bs) o 0) h
 
--- bytes without a pipe have no last pipe, and part of them has none
+-- bytes without a pipe have no last pipe
 last-unpiped : (b : ℕ) (bs : List ℕ) → list_any is_pipe bs ≡ false → last_pipe_after b bs ≡ None
 last-unpiped b [] h = refl
 last-unpiped b (c ∷ cs) h =
@@ -188,24 +188,9 @@ last-unpiped b (c ∷ cs) h =
     ap (λ o. option_map_or (λ k. Some (k + 1)) o (if is_pipe c && not (b == backslash) then Some 0 else None)) (last-unpiped c cs parts.1)
     ∙ ap (λ t. if t && not (b == backslash) then Some 0 else None) parts.0
 
-unpiped-take : (n : ℕ) (bs : List ℕ) → list_any is_pipe bs ≡ false → list_any is_pipe (take n bs) ≡ false
-unpiped-take zero bs h = refl
-unpiped-take (suc n) [] h = refl
-unpiped-take (suc n) (c ∷ cs) h =
-    let parts = either_no (is_pipe c) (list_any is_pipe cs) h in
-    ap (λ t. t || list_any is_pipe (take n cs)) parts.0 ∙ unpiped-take n cs parts.1
-
-content_in_line : (bs : List ℕ) → prefix_len is_content bs ≤ line_len bs
-unfolding line_len
-content_in_line bs = omega arith
-
 -- a line without a pipe has no columns
-pub head-unpiped : (bs : List ℕ) → list_any is_pipe (take (line_len bs) bs) ≡ false → head_columns bs ≡ 0
-head-unpiped bs h =
-    let content : take_while is_content bs ≡ take (prefix_len is_content bs) (take (line_len bs) bs) =
-    sym (take-take (prefix_len is_content bs) (line_len bs) bs (content_in_line bs)) in
-    head-none bs (last-unpiped 0 (take_while is_content bs)
-    (ap (list_any is_pipe) content ∙ unpiped-take (prefix_len is_content bs) (take (line_len bs) bs) h))
+pub head-unpiped : (bs : List ℕ) → list_any is_pipe (take_while is_content bs) ≡ false → head_columns bs ≡ 0
+head-unpiped bs h = head-none bs (last-unpiped 0 (take_while is_content bs) h)
 
 line_len-content : (bs : List ℕ) → length (take_while is_content bs) ≡ prefix_len is_content bs
 line_len-content bs = length-prefix_len is_content bs

@@ -1,3 +1,5 @@
 pub mod TableFacts
 pub mod HeaderRows
 pub mod DelimiterRows
+pub mod UnpipedBytes
+pub mod LowestBits

@@ -1,1 +1,2 @@
 pub mod TableHead
+pub mod Pipes

@@ -121,10 +121,9 @@ fn scan_delimiter_cells(alloc: Global, bytes: &[u8]) -> Result<Option<Vec<Alignm
     }
 }
 
-/// Returns whether there is a pipe among the bytes. Most rows begin with one. Without one, a line is neither a header
-/// row nor a delimiter row. GFM 4.10.
+// Whether there is a pipe among the bytes. Most rows begin with one.
 #[inline(always)]
-pub fn has_pipe(bytes: &[u8]) -> bool
+fn has_pipe(bytes: &[u8]) -> bool
     ensures { result ≡ list_any is_pipe bytes.now }
 {
     if begins(b'|', bytes) {

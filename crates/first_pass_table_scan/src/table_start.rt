@@ -17,6 +17,8 @@ use std::alloc::{AllocError, Global};
 /// Returns the number of columns of the first line of `bytes` as a header row. Each pipe that is not directly after a
 /// backslash counts, except one that begins the line after white space. If the rest of the line after the last such
 /// pipe is not blank, it is one more column. Returns 0 if there is no such pipe. GFM 4.10.
+// Not inlined: in its caller the loop over the bytes of a row would lack registers.
+#[inline(never)]
 pub fn scan_head_columns(bytes: &[u8]) -> usize
     ensures { result ≡ head_columns bytes.now }
 {
