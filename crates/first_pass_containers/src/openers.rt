@@ -1,11 +1,11 @@
 //! The list item, definition or block quote that begins at a place (CommonMark 5.1, 5.2, and this project).
 
-ghost use Rattle.std.specs.Prelude.{◌≡◌, ℕ, Some, None, MatchOption, IsSomeAnd, IsUtf8, if◌then◌else◌};
+ghost use Rattle.std.specs.Prelude.{◌≡◌, ◌≤◌, ℕ, min, Some, None, MatchOption, IsSomeAnd, IsUtf8, if◌then◌else◌};
 ghost use Rattle.first_pass_lines.specs.Places.{IsPlaceOf};
-ghost use Rattle.first_pass_lines.specs.Rest.{after_columns};
+ghost use Rattle.first_pass_lines.specs.Rest.{indent, after_columns};
 ghost use Rattle.first_pass_grammar.specs.declared.kind.Container.TheVariants.{BlockQuote};
 ghost use Rattle.first_pass_grammar.specs.Containers.{at_rest, prefix};
-ghost use Rattle.first_pass_grammar.specs.Kinds.{item_at, definition_marker_at};
+ghost use Rattle.first_pass_grammar.specs.Kinds.{all_taken, item_at, definition_marker_at};
 ghost use Rattle.first_pass_grammar.specs.Openers.{task_after, tag_after, after_quote, start_at};
 ghost use Rattle.first_pass_containers.specs.Starts.{marker_of, item_after, IsIndented, StartMatches};
 
@@ -15,7 +15,6 @@ use first_pass_items::item::{BlockQuoteKind, Item, ItemBody};
 use first_pass_items::option_set::Options;
 use first_pass_lines::lines::scan_blank_line;
 use first_pass_lists::list::ListMarker;
-use first_pass_open::indentation::scan_indentation;
 use first_pass_open::place::Place;
 use first_pass_open::source::Source;
 use first_pass_scan::line_start::LineStart;
@@ -55,7 +54,7 @@ pub fn start_at<'a>(source: &Source<'a>, place: &mut Place<'a>, may_define: bool
     source.recall_length();
     let before = place.offset();
     let mut mark = place.rest.copy();
-    let columns = scan_indentation(&mut mark);
+    let columns = scan_short_indentation(&mut mark);
     if columns >= 4 {
         return None;
     }
@@ -83,6 +82,19 @@ pub fn start_at<'a>(source: &Source<'a>, place: &mut Place<'a>, may_define: bool
         start: place.line + quote,
         after: after_quote(tag),
     })
+}
+
+// Takes up to four columns of indentation, and returns their number. A longer run of spaces or tabs, after which no
+// container begins, is not read to its end.
+#[inline(always)]
+fn scan_short_indentation<'a>(line_start: &mut LineStart<'a>) -> usize
+    ensures columns { result ≡ min 4 (indent line_start.old) }
+    ensures rest { result ≤ 3 → line_start.new ≡ all_taken line_start.old }
+{
+    if line_start.has_no_column() {
+        return 0;
+    }
+    line_start.scan_space_upto(4)
 }
 
 // What follows an item's marker, with the marker of a task or without one; `is_over` if the line ends there.

@@ -19,7 +19,7 @@ few_by : (k : ℕ) (r : Rest) (o : Option Rest) → indent r ≤ suc k → next_
 few_by k r None low e more = after-none (suc k) r e ∙ sym (all-none r e)
 few_by k r (Some s) low e more = after-more (suc k) k r s refl e ∙ more s (omega (arith, indent-some r s e)) ∙ all-more r s e
 
-few_columns : (k : ℕ) (r : Rest) → indent r ≤ k → after_columns k r ≡ all_taken r
+pub few_columns : (k : ℕ) (r : Rest) → indent r ≤ k → after_columns k r ≡ all_taken r
 few_columns zero r low = let e : indent r ≡ 0 = omega arith in sym (ap (λ n. after_columns n r) e)
 few_columns (suc k) r low = few_by k r (next_column r) low refl (few_columns k)
 

@@ -1,4 +1,4 @@
-use Rattle.std.proofs.Common.{◌≡◌, ℕ, ◌+◌, Bool, List, Option, Some, None, IsSomeAnd, is_some, refl, sym, ap, subst, ◌∙◌, if◌then◌else◌}
+use Rattle.std.proofs.Common.{◌≡◌, ℕ, ◌+◌, Bool, List, Option, Some, None, IsSomeAnd, is_some, refl, sym, ap, subst, ◌∙◌, arith, if◌then◌else◌}
 use Rattle.first_pass_items.specs.declared.item.Item.{Item}
 use Rattle.first_pass_items.specs.declared.item.BlockQuoteKind.{BlockQuoteKind}
 use Rattle.first_pass_lines.specs.Lines.{blank_len}
@@ -30,22 +30,22 @@ returns-then-columns-ge4 c =
     let p : Place = place_at c.place.inside.line c.place.inside.rest in
     let options = c.args.source.now.options in
     let may = c.args.may_define in
-    let far = is_far p.rest c.copy-mark.result _ c.copy-mark.ensures c.scan_indentation-columns.ensures.columns c.if-columns-ge4.true in
+    let far = is_far p.rest c.copy-mark.result _ c.copy-mark.ensures c.scan_short_indentation-columns.ensures.columns c.if-columns-ge4.true in
     rw (← c.place.view_is) (matches_none _ _ _
     (start_none options may p (no_item p.rest far) (no_definition may p far) (no_quote_prefix p.rest far)) (refl, refl))
 
 -- what each call reads begins with the indentation
 pub scan_item-requires : goal.scan_item-requires
 scan_item-requires c =
-    is_indented c.place.inside.rest c.copy-mark.result _ _ c.copy-mark.ensures c.scan_indentation-columns.ensures.columns
-    c.scan_indentation-columns.ensures.rest c.if-columns-ge4.false
+    is_indented c.place.inside.rest c.copy-mark.result _ _ c.copy-mark.ensures c.scan_short_indentation-columns.ensures.columns
+    (c.scan_short_indentation-columns.ensures.rest (omega (arith, c.if-columns-ge4.false))) c.if-columns-ge4.false
 
 pub scan_definition-requires : goal.scan_definition-requires
 scan_definition-requires c =
     let r : Rest = c.place.inside.rest in
     let item = item_absent (item_at r) c.scan_item.result r c.scan_item.new.line_start c.in_default.is c.scan_item.ensures in
-    is_indented c.scan_item.new.line_start c.copy-mark.result _ _ (c.copy-mark.ensures ∙ sym item.1) c.scan_indentation-columns.ensures.columns
-    c.scan_indentation-columns.ensures.rest c.if-columns-ge4.false
+    is_indented c.scan_item.new.line_start c.copy-mark.result _ _ (c.copy-mark.ensures ∙ sym item.1) c.scan_short_indentation-columns.ensures.columns
+    (c.scan_short_indentation-columns.ensures.rest (omega (arith, c.if-columns-ge4.false))) c.if-columns-ge4.false
 
 pub scan_quote_mark-requires : goal.scan_quote_mark-requires
 scan_quote_mark-requires c =
@@ -56,9 +56,9 @@ scan_quote_mark-requires c =
     let none =
     definition_absent (if c.args.may_define then definition_marker_at first else None) c.scan_definition.result first here
     c.in_default-scan_definition.is c.scan_definition.ensures in (
-      c.scan_indentation-columns.result,
-      is_indented here c.copy-mark.result _ _ (c.copy-mark.ensures ∙ sym (none.1 ∙ item.1)) c.scan_indentation-columns.ensures.columns
-          c.scan_indentation-columns.ensures.rest c.if-columns-ge4.false,
+      c.scan_short_indentation-columns.result,
+      is_indented here c.copy-mark.result _ _ (c.copy-mark.ensures ∙ sym (none.1 ∙ item.1)) c.scan_short_indentation-columns.ensures.columns
+          (c.scan_short_indentation-columns.ensures.rest (omega (arith, c.if-columns-ge4.false))) c.if-columns-ge4.false,
     )
 
 -- the item that begins there
