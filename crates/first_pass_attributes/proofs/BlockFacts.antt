@@ -6,11 +6,12 @@ use Rattle.std.specs.Option.{option_map}
 use Rattle.std.specs.List.{list_all, suffix_len}
 use Rattle.std.proofs.lemmas.Bool.{eqb-true}
 use Rattle.std.proofs.lemmas.Grind.{common_steps}
-use Rattle.std.proofs.lemmas.List.{get_or-reverse, get_or-drop, get_or-append-add, drop_more, take-append-drop, length-take, length-drop}
+use Rattle.std.proofs.lemmas.List.{get_or-reverse, get_or-drop, get_or-append-add, get_or-take, drop_more, take-append-drop, length-take, length-drop}
 use Rattle.std.proofs.lemmas.List.Sums.{prefix_len_passes, suffix_len_is, suffix_len-le-length, AllPass-from_list_all, list_all-from_AllPass}
 use Rattle.std.proofs.Math.Seq.{take-append_seam, drop-length, get_or-append_seam}
 use Rattle.first_pass_items.specs.Bytes.{left_brace, right_brace}
 use Rattle.first_pass_lines.specs.Lines.{ends}
+use Rattle.first_pass_lines.proofs.LineFacts.{ends-last}
 use Rattle.first_pass_attributes.specs.AttributeBlocks.{is_after_block, is_inside_block, Braces, braces, opening_brace, attribute_block, IsAttributeBlock}
 
 -- bytes without the trailing ones that pass a test, and these trailing ones
@@ -69,7 +70,7 @@ ends-with : (xs : List ℕ) (x : ℕ) → ends x (xs ++ x ∷ []) ≡ true
 ends-with xs x =
     let short : length (xs ++ x ∷ []) ≡ length xs + 1 = length-append xs (x ∷ []) in
     let at : slice_index_or (xs ++ x ∷ []) (length (xs ++ x ∷ []) - 1) 0 ≡ x = grind (arith, common_steps) in
-    eq-eqb _ x at
+    ends-last x (xs ++ x ∷ []) (omega (arith, short)) ∙ eq-eqb _ x at
 
 front-length : (xs : List ℕ) (x : ℕ) → length (xs ++ x ∷ []) - 1 ≡ length xs
 front-length xs x = omega (arith, length-append xs (x ∷ []))
@@ -77,15 +78,23 @@ front-length xs x = omega (arith, length-append xs (x ∷ []))
 front-bytes : (xs : List ℕ) (x : ℕ) → take (length (xs ++ x ∷ []) - 1) (xs ++ x ∷ []) ≡ xs
 front-bytes xs x = ap (λ n. take n (xs ++ x ∷ [])) (front-length xs x) ∙ take-append_seam xs (x ∷ [])
 
-some-end : (bs : List ℕ) (x : ℕ) → ends x bs ≡ true → 0 < x → 0 < length bs
-some-end [] x e h = absurd (let same : 0 ≡ x = eqb-true 0 x e in omega arith)
-some-end (b ∷ bs) x e h = omega arith
+some-end : (bs : List ℕ) (x : ℕ) → ends x bs ≡ true → 0 < length bs
+some-end [] x e = absurd cc
+some-end (b ∷ bs) x e = omega arith
 
-split-end : (bs : List ℕ) (x : ℕ) → ends x bs ≡ true → 0 < x → bs ≡ take (length bs - 1) bs ++ x ∷ []
-split-end bs x e h =
+end-is : (bs : List ℕ) (x : ℕ) → ends x bs ≡ true → slice_index_or bs (length bs - 1) 0 ≡ x
+end-is bs x e = eqb-true _ x (sym (ends-last x bs (some-end bs x e)) ∙ e)
+
+-- the last of the first m bytes, among all of them
+pub kept-end : (bs : List ℕ) (m : ℕ) (x : ℕ) → ends x (take m bs) ≡ true → slice_index_or bs (length (take m bs) - 1) 0 ≡ x
+kept-end bs m x e =
+    sym (get_or-take m bs (length (take m bs) - 1) 0 (omega (arith, some-end (take m bs) x e, length-take m bs))) ∙ end-is (take m bs) x e
+
+split-end : (bs : List ℕ) (x : ℕ) → ends x bs ≡ true → bs ≡ take (length bs - 1) bs ++ x ∷ []
+split-end bs x e =
     let n : ℕ = length bs - 1 in
-    let some = some-end bs x e h in
-    let at : slice_index_or bs n 0 ≡ x = eqb-true _ x e in
+    let some = some-end bs x e in
+    let at : slice_index_or bs n 0 ≡ x = end-is bs x e in
     let on : n + 1 ≡ length bs = omega arith in
     let rest : drop (n + 1) bs ≡ [] = ap (λ k. drop k bs) on ∙ drop-length bs in
     sym (take-append-drop n bs) ∙ ap (λ ys. take n bs ++ ys) (drop_more bs n 0 (omega arith) ∙ (λ i. at i ∷ rest i))
@@ -143,7 +152,7 @@ opening-found bs k e =
     let found = if-some (ends left_brace kept) (Some (length kept - 1)) k e in
     let front : List ℕ = take (length kept - 1) kept in
     let inside : List ℕ = following is_inside_block bs in
-    let cut : kept ≡ front ++ left_brace ∷ [] = split-end kept left_brace found.0 (omega arith) in
+    let cut : kept ≡ front ++ left_brace ∷ [] = split-end kept left_brace found.0 in
     let parts : bs ≡ front ++ left_brace ∷ inside =
     left-and-following is_inside_block bs ∙ ap (λ l. l ++ inside) cut ∙ append_assoc front (left_brace ∷ []) inside in
     let place : length kept - 1 ≡ k = cc in
@@ -161,7 +170,7 @@ block-found heading block e =
     let front : List ℕ = opened.0 in
     let inside : List ℕ = opened.1 in
     let rest : List ℕ = following is_after_block heading in
-    let cut : kept ≡ before ++ right_brace ∷ [] = split-end kept right_brace found.0 (omega arith) in
+    let cut : kept ≡ before ++ right_brace ∷ [] = split-end kept right_brace found.0 in
     let long : length before ≡ length front + suc (length inside) = ap length opened.2 ∙ length-append front (left_brace ∷ inside) in
     record {
       front = front;

@@ -1,6 +1,6 @@
 -- Facts on lines.
 use Rattle.std.proofs.Common.{◌≡◌, ℕ, zero, suc, ◌+◌, ◌<◌, ◌≤◌, Bool, true, false, cond, not, ◌==◌, List, [], ◌∷◌, ◌++◌, length, take, drop, map, Some, None}
-use Rattle.std.proofs.Common.{Option, unwrap_or, refl, sym, ap, ◌∙◌, arith, add-one, length-drop, inl, inr, if◌then◌else◌}
+use Rattle.std.proofs.Common.{◌-◌, slice_index, not-suc-le-zero, Option, unwrap_or, refl, sym, ap, ◌∙◌, arith, add-one, length-drop, inl, inr, if◌then◌else◌}
 use Rattle.std.specs.Option.{option_map}
 use Rattle.std.specs.List.{prefix_len, concat, list_all, All}
 use Rattle.std.proofs.lemmas.List.{take-append-drop, drop-drop, length-take-le, append_cancel_left, at_drop_all}
@@ -10,8 +10,13 @@ use Rattle.std.proofs.lemmas.Bool.{eqb-true}
 use Rattle.std.proofs.lemmas.List.Elements.{All-nil, All-cons}
 use Rattle.std.proofs.lemmas.Bool.Decides.{nat_tests}
 use Rattle.first_pass_items.specs.Bytes.{line_feed, carriage_return}
-use Rattle.first_pass_lines.specs.Lines.{begins, ends_line, is_white, is_content, eol_len, blank_len, line_len, IsLineEnd, IsLine}
+use Rattle.first_pass_lines.specs.Lines.{begins, ends, ends_line, is_white, is_content, eol_len, blank_len, line_len, IsLineEnd, IsLine}
 use Rattle.first_pass_lines.specs.Places.{Place, line_place, IsLinePlace, lines_after, lines_at, line_of, IsDivision}
+
+-- the last byte, if there is one
+pub ends-last : (c : ℕ) (bs : List ℕ) → 0 < length bs → ends c bs ≡ (slice_index bs (length bs - 1) == c)
+ends-last c [] some = absurd (not-suc-le-zero some)
+ends-last c (b ∷ bs) some = ap (λ n. slice_index (b ∷ bs) n == c) (let e : length bs ≡ length (b ∷ bs) - 1 = omega arith in e)
 
 -- the length of a line, by its first byte
 pub line_len-none : line_len [] ≡ 0

@@ -1,6 +1,6 @@
 -- Classes of bytes, line endings, blank lines and ATX headings. The bytes run from a position in the text to its end.
 use Rattle.std.specs.Prelude.{◌≡◌, ◌⊎◌, ℕ, ◌+◌, ◌==◌, ◌&&◌, ◌||◌, not, Bool, true, false, List, [], ◌∷◌, ◌++◌, drop, Option, Some, None, is_some, unwrap_or}
-use Rattle.std.specs.Prelude.{◌-◌, length, slice_index, if◌then◌else◌}
+use Rattle.std.specs.Prelude.{length, slice_index, if◌then◌else◌}
 use Rattle.std.specs.Option.{option_map}
 use Rattle.std.specs.List.{prefix_len, list_all}
 use Rattle.first_pass_items.specs.Bytes.{tab, line_feed, line_tabulation, form_feed, carriage_return, space, number_sign}
@@ -33,9 +33,10 @@ abbrev pub begins : ℕ → List ℕ → Bool
 begins c [] = false
 begins c (b ∷ bs) = b == c
 
--- the last byte is c, which is not 0 (this project)
+-- the bytes end with the byte c (this project)
 abbrev pub ends : ℕ → List ℕ → Bool
-ends c bs = slice_index bs (length bs - 1) == c
+ends c [] = false
+ends c (b ∷ bs) = slice_index (b ∷ bs) (length bs) == c
 
 -- a line ends after `\n`, and after a `\r` that no `\n` follows (CommonMark 2.1, line ending)
 abbrev pub ends_line : ℕ → List ℕ → Bool

@@ -48,15 +48,14 @@ pub fn begins(byte: u8, bytes: &[u8]) -> bool
     }
 }
 
-/// Returns whether `bytes` ends with `byte`, which is not 0.
+/// Returns whether `bytes` ends with `byte`.
 pub fn ends(byte: u8, bytes: &[u8]) -> bool
-    requires { 0 < byte }
     ensures value { result ≡ ends byte bytes.now }
     ensures some { result ≡ true → 0 < length bytes.now }
 {
-    match bytes.last() {
-        None => false,
-        Some(last) => *last == byte,
+    match bytes {
+        [] => false,
+        [.., last] => *last == byte,
     }
 }
 
@@ -171,7 +170,8 @@ pub fn scan_blank_line(bytes: &[u8]) -> Option<usize>
     }
 }
 
-/// Returns the number of bytes at the end of `bytes` that are white space or part of a line ending.
+/// Returns the number of bytes at the end of `bytes` that are white space or part of a line ending: tab, 0x0B, 0x0C,
+/// space, `\n` or `\r`.
 pub fn trailing_white(bytes: &[u8]) -> usize
     ensures value { result ≡ suffix_len is_white_or_line_end bytes.now }
     ensures within { result ≤ length bytes.now }

@@ -3,7 +3,7 @@
 use crate::call::Call;
 use first_pass_cases::answer::Answer;
 use first_pass_lines::lines::{
-    begins, is_line_end, is_space_or_tab, is_white, is_white_or_line_end, level_number,
+    begins, ends, is_line_end, is_space_or_tab, is_white, is_white_or_line_end, level_number,
     scan_atx_heading, scan_blank_line, scan_blanks, scan_eol, scan_nextline, scan_whitespace_no_nl,
     trailing_white,
 };
@@ -29,12 +29,13 @@ pub fn answer_lines(call: &Call<'_>, answer: &mut Answer) -> Result<bool, AllocE
     Ok(true)
 }
 
-/// Makes a test of the first byte. Returns `false` for any other call.
+/// Makes a test of the first byte, or of the last one. Returns `false` for any other call.
 pub fn answer_bytes(call: &Call<'_>, answer: &mut Answer) -> Result<bool, AllocError> {
     let bytes = call.text.as_bytes();
     let byte = bytes.first().copied().unwrap_or(0);
     match call.name {
         "begins" => answer.flag(begins(call.given.byte(0), bytes))?,
+        "ends" => answer.flag(ends(call.given.byte(0), bytes))?,
         "is_line_end" => answer.flag(is_line_end(byte))?,
         "is_white" => answer.flag(is_white(byte))?,
         "is_blank" => answer.flag(is_space_or_tab(byte))?,
