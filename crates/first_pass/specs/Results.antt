@@ -11,7 +11,7 @@ use Rattle.first_pass_lines.specs.Lines.{is_line_end}
 use Rattle.first_pass_lines.specs.Places.{line_rest}
 use Rattle.first_pass_lines.specs.Rest.{Rest}
 use Rattle.first_pass_attributes.specs.Attributes.{attributes_in}
-use Rattle.first_pass_attributes.specs.declared.attrs.HeadingAttributes.{HeadingAttributes}
+use Rattle.first_pass_attributes.specs.declared.heading_attributes.HeadingAttributes.{HeadingAttributes}
 use Rattle.first_pass_entities.specs.Texts.{Borrows}
 use Rattle.first_pass_labels.specs.declared.label_table.LinkDef.{LinkDef}
 use Rattle.first_pass_links.specs.Labels.{label_at}

@@ -4,7 +4,7 @@ use Rattle.std.proofs.Common.{append-nil, ne_eqb}
 use Rattle.first_pass_items.specs.Bytes.{number_sign, full_stop}
 use Rattle.first_pass_lines.specs.Lines.{begins}
 use Rattle.first_pass_attributes.specs.Attributes.{Attributes, attributes_in, attributes_of, no_attributes, is_attribute_word, words, gives_key, key_and_value, last_or, with_words}
-use Rattle.first_pass_attributes.specs.declared.attrs.HeadingAttributes.{HeadingAttributes}
+use Rattle.first_pass_attributes.specs.declared.heading_attributes.HeadingAttributes.{HeadingAttributes}
 
 -- attributes are equal if their three parts are
 pub same_parts : {i j : Option (List ℕ)} {c d : List (List ℕ)} {e f : List (List ℕ × Option (List ℕ))}

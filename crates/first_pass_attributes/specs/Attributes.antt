@@ -6,7 +6,7 @@ use Rattle.std.specs.List.{slice_split, position}
 use Rattle.std.specs.Borrow.{Bor}
 use Rattle.first_pass_items.specs.Bytes.{tab, form_feed, space, number_sign, full_stop, equals_sign}
 use Rattle.first_pass_lines.specs.Lines.{is_line_end, begins}
-use Rattle.first_pass_attributes.specs.declared.attrs.HeadingAttributes.{HeadingAttributes}
+use Rattle.first_pass_attributes.specs.declared.heading_attributes.HeadingAttributes.{HeadingAttributes}
 
 -- a byte between words: tab, 0x0C, space or a line ending (this project)
 abbrev pub is_between_words : ℕ → Bool

@@ -1,4 +1,4 @@
-//! The attribute block at the end of a heading, and its attributes (this project).
+//! The attribute block at the end of a heading (this project).
 
 ghost use Rattle.std.specs.Int.{bit_at};
 ghost use Rattle.std.specs.List.{suffix_len};
@@ -6,8 +6,9 @@ ghost use Rattle.std.specs.Option.{option_map};
 ghost use Rattle.std.specs.Prelude.{◌≡◌, ◌==◌, ◌^◌, ℕ, ◌≤◌, ◌<◌, ◌+◌, ◌-◌, length, true, take, slice_index, IfSome, IfOk, OnErr, IsSomeAnd, Some, None, IsUtf8, IsCharBoundary};
 ghost use Rattle.first_pass_items.specs.Bytes.{left_brace, right_brace};
 ghost use Rattle.first_pass_attributes.specs.AttributeBlocks.{is_after_block, is_inside_block, opening_brace as opening_of, length_before_block, inside_block};
-ghost use Rattle.first_pass_attributes.specs.Attributes.{attributes_of, attributes_in, no_attributes, HasSeveral};
+ghost use Rattle.first_pass_attributes.specs.Attributes.{attributes_of, attributes_in, HasSeveral};
 
+pub use crate::heading_attributes::HeadingAttributes;
 pub use crate::short_list::ShortList;
 use crate::words::add_attribute_words;
 use first_pass_lines::lanes::LANES;
@@ -132,29 +133,6 @@ fn opening_brace(bytes: &[u8]) -> Option<usize>
         Some(front.len() - 1)
     } else {
         None
-    }
-}
-
-/// The attributes in the attribute block of a heading, all of them slices of the text. There is an optional id. The
-/// classes and the keys are in order, and each key has an optional value (this project).
-#[derive(Drop)]
-pub struct HeadingAttributes<'a> {
-    pub id: Option<&'a str>,
-    pub classes: ShortList<&'a str>,
-    pub attrs: ShortList<(&'a str, Option<&'a str>)>,
-}
-
-impl<'a> HeadingAttributes<'a> {
-    /// Returns no attributes. Allocates nothing.
-    #[inline(always)]
-    pub fn new() -> HeadingAttributes<'a>
-        ensures { attributes_in result ≡ no_attributes }
-    {
-        HeadingAttributes {
-            id: None,
-            classes: ShortList::new(),
-            attrs: ShortList::new(),
-        }
     }
 }
 

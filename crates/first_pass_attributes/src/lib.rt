@@ -2,6 +2,7 @@
 #![tactic(auto)]
 
 pub mod attrs;
+pub mod heading_attributes;
 pub mod laws;
 pub mod short_list;
 pub mod words;

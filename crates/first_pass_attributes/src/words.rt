@@ -6,7 +6,7 @@ ghost use Rattle.first_pass_items.specs.Bytes.{equals_sign};
 ghost use Rattle.first_pass_lines.specs.Lanes.{IsRunIn};
 ghost use Rattle.first_pass_attributes.specs.Attributes.{is_between_words, is_solid, is_attribute_word, words, key_and_value as key_and_value_of, with_words, pair_in, attributes_in, HasSeveral};
 
-use crate::attrs::HeadingAttributes;
+use crate::heading_attributes::HeadingAttributes;
 use first_pass_lines::lanes::{LANES, first_set};
 use std::alloc::{AllocError, Global};
 use std::simd::prelude::*;
