@@ -38,13 +38,13 @@ own_folded bs h =
     ascii_folded bs (IsAscii-from_all bs (λ k d lt. small _ (AllPass-from_list_all folds_to_itself bs h k d lt)))
     ∙ lower_itself bs h
 
--- each byte folds to itself if each byte by index does
+-- all bytes of a text fold to themselves if the byte at each index does
 own_by_index : (bytes : List ℕ) → ((k : ℕ) → k < length bytes → folds_to_itself (slice_index bytes k) ≡ true) → list_all folds_to_itself bytes ≡ true
 own_by_index [] own = refl
 own_by_index (b ∷ bytes) own =
     and_from (folds_to_itself b) (list_all folds_to_itself bytes) (own 0 (omega arith)) (own_by_index bytes (λ k below. own (suc k) (omega (arith, below))))
 
--- in a text of such bytes, so does the 0 for a missing byte
+-- in such a text the byte at each index folds to itself; past the end it is 0, which does too
 own_at : (bytes : List ℕ) (k : ℕ) → list_all folds_to_itself bytes ≡ true → folds_to_itself (slice_index bytes k) ≡ true
 own_at bytes k own =
     elim (cases_lt k (length bytes)) [
@@ -52,7 +52,8 @@ own_at bytes k own =
       | inr past ↦ ap folds_to_itself (get_or_past bytes k 0 past)
     ]
 
--- Each byte of a text of at most sixteen folds to itself if sixteen bytes do, and only then: its own, with 0 for each missing byte.
+-- A text of at most sixteen bytes is filled up with zeros to sixteen. All its bytes fold to themselves if and only if the
+-- run of such bytes has length sixteen.
 pub own_by_run : (all bytes : List ℕ) (r : ℕ) → length bytes ≤ 16 → ((k : ℕ) → k < 16 → slice_index all k ≡ slice_index bytes k)
     → IsRunIn folds_to_itself all 0 16 r → nat_eq r 16 ≡ list_all folds_to_itself bytes
 own_by_run all bytes r short same run =

@@ -45,7 +45,8 @@ comes_after (Some other) label = is_lt (label_cmp other label)
 abbrev pub after_label : {X : Type 0} → Option CowStr → List (CowStr × X) → List (CowStr × X)
 after_label label definitions = filter (λ d. comes_after label d.0) definitions
 
--- of two definitions, the one whose label comes first; the first of the two if their labels are tied (this project)
+-- of the first definition so far, if any, and another one, the one whose label comes first; the former if their labels
+-- are tied (this project)
 abbrev pub lesser_of : {X : Type 0} → Option (CowStr × X) → CowStr × X → Option (CowStr × X)
 lesser_of None d = Some d
 lesser_of (Some first) d = cond (is_lt (label_cmp d.0 first.0)) (Some d) (Some first)

@@ -132,7 +132,7 @@ fn least_after<'t, 'a, T>(
 {
     let mut least = None;
     for at in 0..entries.len() {
-        if is_after(&entries[at].0, last) {
+        if comes_after(&entries[at].0, last) {
             least = lesser(least, &entries[at]);
         }
     }
@@ -140,7 +140,7 @@ fn least_after<'t, 'a, T>(
 }
 
 // Whether a label comes after the last one. Without a last one, each label does.
-fn is_after<'a>(label: &LabelKey<'a>, last: Option<&LabelKey<'a>>) -> bool
+fn comes_after<'a>(label: &LabelKey<'a>, last: Option<&LabelKey<'a>>) -> bool
     ensures { result ≡ comes_after (option_copied last.entry) label.now }
 {
     match last {

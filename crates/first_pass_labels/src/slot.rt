@@ -11,7 +11,7 @@ use std::cmp::Ordering;
 use std::marker::Model;
 
 // One more than the greatest number of eight bytes.
-const HALF: u128 = 1 << 64;
+const EIGHT_BYTES: u128 = 1 << 64;
 
 /// An entry of a table with its index there. Slots are compared by label. The first sixteen bytes of the label's
 /// folding are stored here too, as two numbers: they decide most comparisons, and the entry is rarely in the cache.
@@ -45,8 +45,8 @@ impl<'t, 'a, T> Slot<'t, 'a, T> {
     {
         let number = leading_number(entry.0.folding().as_bytes());
         Slot {
-            first: (number / HALF) as u64,
-            second: (number % HALF) as u64,
+            first: (number / EIGHT_BYTES) as u64,
+            second: (number % EIGHT_BYTES) as u64,
             entry,
             index,
         }

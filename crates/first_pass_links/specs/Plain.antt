@@ -12,7 +12,8 @@ is_ordinary b = (nat_le 42 b && nat_le b 90) || (nat_le 94 b && nat_le b 126)
 abbrev pub is_unmarked : ℕ → Bool
 is_unmarked b = not (b == backslash || b == ampersand)
 
--- the first n bytes, at least one and at most 16, are ordinary, and a `]` follows them (CommonMark 6.3)
+-- the first n bytes, at least one and at most 16, are ordinary, and a `]` follows them (CommonMark 6.3; at most 16:
+-- this project)
 pub record IsPlainLabel (bytes : List ℕ) (n : ℕ) : Type 0 where
   pub some : 0 < n
   pub few : n ≤ 16

@@ -71,17 +71,18 @@ where
 fn scan_units<F>(
     written: &mut String,
     text: &str,
-    handler: &F,
+    linebreak_handler: &F,
     in_table: bool,
 ) -> Result<Option<(usize, usize)>, AllocError>
 where
     F: Fn(&[u8]) -> Result<Option<usize>, AllocError>,
-    requires callable { F.IsAlwaysCallable handler.now }
-    requires places { AnswersPlaces text.now (F.post handler.now) }
+    requires callable { F.IsAlwaysCallable linebreak_handler.now }
+    requires places { AnswersPlaces text.now (F.post linebreak_handler.now) }
     requires empty { string_bytes written.old ≡ [] }
-    ensures ok { IfOk result (ReadsUnits text.now in_table (F.post handler.now) (string_bytes written.new)) }
-    ensures err { OnErr result ((prefix : List ℕ → Option ℕ) → AnswersWith text.now prefix (F.post handler.now)
-        → CanErr prefix in_table text.now (F.post handler.now)) }
+    ensures ok { IfOk result (ReadsUnits text.now in_table (F.post linebreak_handler.now) (string_bytes written.new)) }
+    ensures err { OnErr result ((prefix : List ℕ → Option ℕ)
+        → AnswersWith text.now prefix (F.post linebreak_handler.now)
+        → CanErr prefix in_table text.now (F.post linebreak_handler.now)) }
 {
     let bytes = text.as_bytes();
     if let Some(len) = scan_plain_label(bytes) {
@@ -92,7 +93,7 @@ where
     let mut characters = 0;
     let mut solid = false;
     while at < bytes.len() && !is_bracket(bytes[at]) {
-        let Some(unit) = scan_unit(bytes, at, handler, in_table)? else {
+        let Some(unit) = scan_unit(bytes, at, linebreak_handler, in_table)? else {
             return Ok(None);
         };
         characters += unit.characters;

@@ -170,8 +170,9 @@ returns-clause-ok g c =
 pub returns-in_err-unit-clause-err : goal.returns-in_err-unit-clause-err
 returns-in_err-unit-clause-err g c =
     on_err c.from_residual.result
-    (λ h a. track_stop h c.args.in_table c.args.text.now c.loop-at.at (c.loop-at.from ≡ 0) _ (c.loop-at.invariant.tracked h a) (subst
-    (λ xs. StopsByError xs c.loop-at.at (λ b r. g.F.Fn.post c.args.handler.now (b, tt) r)) c.as_bytes-bytes.ensures.value c.in_err-unit.ensures.err) a)
+    (λ h a. track_stop h c.args.in_table c.args.text.now c.loop-at.at (c.loop-at.from ≡ 0) _ (c.loop-at.invariant.tracked h a)
+    (subst (λ xs. StopsByError xs c.loop-at.at (λ b r. g.F.Fn.post c.args.linebreak_handler.now (b, tt) r))
+    c.as_bytes-bytes.ensures.value c.in_err-unit.ensures.err) a)
 
 -- a unit is written
 pub returns-in_err-from-clause-err : goal.returns-in_err-from-clause-err

@@ -11,11 +11,11 @@ abbrev pub invariant-loop-at : goal.invariant-loop-at
 invariant-loop-at g l = record {
   read : IsLighter l.text (string_bytes l.written) l.from l.at;
   bound : l.characters ≤ 999;
-  label : (prefix : List ℕ → Option ℕ) → AnswersWith l.text prefix (goal.F-post g l.handler)
+  label : (prefix : List ℕ → Option ℕ) → AnswersWith l.text prefix (goal.F-post g l.linebreak_handler)
       → label_after l.in_table (known_as l.characters l.solid (string_bytes l.written ++ part l.text l.from l.at)) (left_at prefix l.text l.at)
       ≡ label_at prefix l.in_table l.text;
   tracked : (prefix : List ℕ → Option ℕ)
-      → AnswersWith l.text prefix (goal.F-post g l.handler) → IsTracked prefix l.in_table l.text l.at (l.from ≡ 0);
+      → AnswersWith l.text prefix (goal.F-post g l.linebreak_handler) → IsTracked prefix l.in_table l.text l.at (l.from ≡ 0);
 }
 
 abbrev pub decreases-loop-at : goal.decreases-loop-at
