@@ -1,5 +1,5 @@
 -- A word needs memory only if it is a class after another or a key after another.
-use Rattle.std.proofs.Common.{◌≡◌, inl, inr, ℕ, ◌+◌, ◌<◌, true, false, List, [], ◌∷◌, length, map, filter, take, drop, Result, Ok, Err, OnErr}
+use Rattle.std.proofs.Common.{◌≡◌, inl, inr, ℕ, ◌+◌, ◌<◌, true, false, List, [], ◌∷◌, length, map, filter, take, drop}
 use Rattle.std.proofs.Common.{sym, ap, subst, ◌∙◌, arith, length-append}
 use Rattle.std.specs.List.{prefix_len}
 use Rattle.std.proofs.lemmas.Bool.{cases_lt}
@@ -9,10 +9,6 @@ use Rattle.first_pass_lines.specs.Lines.{begins}
 use Rattle.first_pass_attributes.specs.Attributes.{Attributes, HasSeveral, is_attribute_word, words, marked, gives_key, key_and_value, with_words}
 use Rattle.first_pass_attributes.proofs.AttributeFacts.{told-class, told-key, with-next}
 use Rattle.first_pass_attributes.proofs.WordFacts.{in_word, words-next, words-last}
-
-pub on_err : {A E P : Type 0} (r : Result A E) → P → OnErr r P
-on_err (Ok x) p = tt
-on_err (Err e) p = p
 
 -- a class after another
 pub several-class : (a : Attributes) (w x : List ℕ) → is_attribute_word w ≡ true → w ≡ full_stop ∷ x → 0 < length a.classes

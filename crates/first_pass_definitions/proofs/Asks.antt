@@ -26,11 +26,6 @@ use Rattle.first_pass_definitions.proofs.Targets.{shifted, IsLabelAnswer, IsRefe
 use Rattle.first_pass_definitions.proofs.Targets.{dest_found, TargetFound}
 use Rattle.first_pass_definitions.specs.Memory.{LabelAsks, TargetAsks, ReferenceAsks, AfterAsks, PartsAsk, line_asks, text_asks, after_asks, MeetsTable}
 
--- a fact of an error
-pub on_err : {A E P : Type 0} (r : Result A E) → P → OnErr r P
-on_err (Ok x) p = tt
-on_err (Err e) p = p
-
 or_true : (b : Bool) → (b || true) ≡ true
 or_true true = refl
 or_true false = refl

@@ -1,5 +1,5 @@
 -- Lines that are written, held back or remain, and the effect of a step on them.
-use Rattle.std.proofs.Common.{◌≡◌, ℕ, List, [], ◌++◌, Option, Result, Ok, Err, OnErr, refl, sym, ap, subst, ◌∙◌, append_assoc, append-nil}
+use Rattle.std.proofs.Common.{◌≡◌, ℕ, List, [], ◌++◌, Option, Result, Ok, Err, refl, sym, ap, subst, ◌∙◌, append_assoc, append-nil}
 use Rattle.std.proofs.KnownBytes.{Appends-nil, Appends-trans}
 use Rattle.std.specs.Io.KnownBytes.{Appends}
 use Rattle.first_pass_host.specs.declared.fault.RunFault.{RunFault}
@@ -76,11 +76,6 @@ front_after lines others old mid new appended front = record {
   split = ap (λ l. lines ++ l) front.split ∙ sym (append_assoc lines front.written front.left);
   appended = Appends-trans old mid new lines front.written appended front.appended;
 }
-
--- a fact that holds anyway
-pub on_any : {T E P : Type 0} (r : Result T E) → P → OnErr r P
-on_any (Ok x) p = tt
-on_any (Err e) p = p
 
 -- a text that equals the written one is written
 pub written_as : (lines same : List ℕ) (output : Stream) (result : Result (Unit {0}) RunFault) → lines ≡ same → WritesText lines output result

@@ -1,6 +1,6 @@
 -- What a table has of each label, that this decides the table, and its order.
 use Rattle.std.proofs.Common.{◌≡◌, ℕ, suc, ◌+◌, ◌<◌, Bool, true, false, cond, List, [], ◌∷◌, ◌++◌, Option, None, Some, is_some, refl, sym, ap, ap₂, subst}
-use Rattle.std.proofs.Common.{◌∙◌, ◌≤◌, Ok, Err, Result, OnErr, not-suc-le-zero, arith, take, length, get_or}
+use Rattle.std.proofs.Common.{◌∙◌, ◌≤◌, not-suc-le-zero, arith, take, length, get_or}
 use Rattle.std.proofs.lemmas.List.{append-nil, get_or_default}
 use Rattle.std.proofs.lemmas.List.Elements.{filter_more}
 use Rattle.std.proofs.lemmas.Bool.{true≢false}
@@ -334,7 +334,3 @@ found_some l (e ∷ es) d found = omega arith
 pub table_some : {X : Type 0} (ds : List (CowStr × X)) → 0 < length ds → 0 < length (table_of ds)
 table_some [] some = absurd (not-suc-le-zero some)
 table_some (d ∷ ds) some = found_some d.0 (table_of (d ∷ ds)) d (entry_of_table d.0 (d ∷ ds) ∙ own d ds)
-
-pub on_err : {A E P : Type 0} (r : Result A E) → P → OnErr r P
-on_err (Ok x) p = tt
-on_err (Err e) p = p

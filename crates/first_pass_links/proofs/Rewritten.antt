@@ -18,10 +18,6 @@ use Rattle.first_pass_links.proofs.Destinations.{upto-nil, upto-byte}
 use Rattle.first_pass_links.proofs.PipeEscapes.{cell-nil, cell-other, cell-kept, cell-dropped}
 use Rattle.first_pass_links.proofs.Labels.{take_past, upto-run, single-solid, single-more, single-last, as_read-nil, left-end, left-stop}
 
-pub on_err : {A E P : Type 0} (r : Result A E) → P → OnErr r P
-on_err (Ok x) p = tt
-on_err (Err e) p = p
-
 weight-solid : (b : ℕ) → is_white_or_line_end b ≡ false → weight (b ∷ []) ≡ 1
 unfolding weight
 weight-solid b h = rw h

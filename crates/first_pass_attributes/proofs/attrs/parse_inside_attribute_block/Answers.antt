@@ -1,6 +1,6 @@
-use Rattle.std.proofs.Common.{filter, ap, sym, subst, ◌∙◌, refl}
-use Rattle.first_pass_attributes.specs.Attributes.{attributes_of, with_words, words, is_attribute_word, HasSeveral}
-use Rattle.first_pass_attributes.proofs.MemoryFacts.{on_err}
+use Rattle.std.proofs.Common.{subst, ◌∙◌}
+use Rattle.first_pass_items.proofs.ResultFacts.{on_err}
+use Rattle.first_pass_attributes.specs.Attributes.{HasSeveral}
 use Rattle.first_pass_attributes.proofs.AttributeFacts.{from_none}
 use Rattle.first_pass_attributes.proofs.attrs.parse_inside_attribute_block.Goals as goal
 

@@ -1,9 +1,10 @@
 use Rattle.std.proofs.Common.{◌≡◌, ℕ, ◌+◌, ◌-◌, ◌<◌, ◌∷◌, [], List, filter, length, take, drop, not, refl, sym, ap, subst, ◌∙◌, arith}
 use Rattle.std.specs.List.{prefix_len}
 use Rattle.std.proofs.lemmas.List.{take_rest}
+use Rattle.first_pass_items.proofs.ResultFacts.{on_err}
 use Rattle.first_pass_attributes.specs.Attributes.{Attributes, HasSeveral, is_between_words, is_attribute_word, words, with_words, attributes_in}
 use Rattle.first_pass_attributes.proofs.AttributeFacts.{with-next}
-use Rattle.first_pass_attributes.proofs.MemoryFacts.{on_err, several-left}
+use Rattle.first_pass_attributes.proofs.MemoryFacts.{several-left}
 use Rattle.first_pass_attributes.proofs.WordFacts.{words-next, words-last, word-end, word-start, ahead-long, ahead-next}
 use Rattle.first_pass_attributes.proofs.words.add_attribute_words.Goals as goal
 

@@ -1,8 +1,9 @@
 use Rattle.std.proofs.Common.{◌≡◌, ℕ, true, false, ◌∷◌, [], ◌++◌, List, map, drop, get_or, Some, refl, sym, ap, ◌∙◌, arith}
 use Rattle.std.proofs.lemmas.List.{map-append, length-map}
+use Rattle.first_pass_items.proofs.ResultFacts.{on_err}
 use Rattle.first_pass_attributes.specs.Attributes.{Attributes, is_attribute_word, pair_in, attributes_in}
 use Rattle.first_pass_attributes.proofs.AttributeFacts.{same_parts, told-none, told-id, told-class, told-key, begins-mark, begins-other}
-use Rattle.first_pass_attributes.proofs.MemoryFacts.{on_err, several-class, several-key}
+use Rattle.first_pass_attributes.proofs.MemoryFacts.{several-class, several-key}
 use Rattle.first_pass_attributes.proofs.words.add_word.Goals as goal
 
 pub returns-then-not-is_attribute_word-clause-value : goal.returns-then-not-is_attribute_word-clause-value

@@ -1,10 +1,11 @@
 use Rattle.std.proofs.Common.{◌≡◌, ◌+◌, inl, inr, drop, refl, sym, subst, ◌∙◌, arith}
+use Rattle.first_pass_items.proofs.ResultFacts.{on_err}
 use Rattle.first_pass_grammar.specs.Definitions.{space_at}
 use Rattle.first_pass_open.specs.Path.{context_of}
 use Rattle.first_pass_definitions.specs.Found.{IsUnescaped, HasTitle}
 use Rattle.first_pass_definitions.proofs.Targets.{TargetFound, no_space, no_dest, no_further, space_found, target_found, placed, placed_by, is_target}
 use Rattle.first_pass_links.specs.Escapes.{unescaped}
-use Rattle.first_pass_definitions.proofs.Asks.{on_err, dest_asks, parts_ask}
+use Rattle.first_pass_definitions.proofs.Asks.{dest_asks, parts_ask}
 use Rattle.first_pass_definitions.proofs.target.scan_refdef.Goals as goal
 use Rattle.first_pass_definitions.proofs.target.scan_refdef.Goals.{In-Some-2}
 

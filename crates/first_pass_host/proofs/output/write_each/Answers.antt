@@ -1,8 +1,9 @@
 use Rattle.std.proofs.Common.{ap, subst, rules}
 use Rattle.std.specs.Io.KnownBytes.{Appends}
 use Rattle.std.proofs.lemmas.Result.{on_ok_weaker, on_err_weaker}
+use Rattle.first_pass_items.proofs.ResultFacts.{on_err}
 use Rattle.first_pass_host.specs.Streams.{AppendsFront}
-use Rattle.first_pass_host.proofs.HeldLines.{none_written, all_written, next_held, piece_written, front_written, front_so_far, on_any}
+use Rattle.first_pass_host.proofs.HeldLines.{none_written, all_written, next_held, piece_written, front_written, front_so_far}
 use Rattle.first_pass_host.proofs.output.write_each.Goals as goal
 
 pub loop-item-init : goal.loop-item-init
@@ -23,14 +24,14 @@ loop-item-preserved g c = (
 pub returns-in_err-append : goal.returns-in_err-append
 returns-in_err-append g c = λ line lines are. record {
   ok = search rules;
-  front = on_any c.from_residual.result (front_so_far _ _ _ _ _ (c.loop-item.invariant.2 line lines are));
+  front = on_err c.from_residual.result (front_so_far _ _ _ _ _ (c.loop-item.invariant.2 line lines are));
   fault = search rules;
 }
 
 pub returns-in_err-write_piece : goal.returns-in_err-write_piece
 returns-in_err-write_piece g c = λ line lines are. record {
   ok = search rules;
-  front = on_any c.from_residual-in_err-write_piece.result (front_written _ _ _ _ _ _
+  front = on_err c.from_residual-in_err-write_piece.result (front_written _ _ _ _ _ _
       (next_held _ _ _ _ _ _ _ (are.next _ _ _ c.in-Some.ensures.steps) (are.appended _ _ _ c.in_ok-append.ensures) (c.loop-item.invariant.2 line lines are))
       c.in_err-write_piece.ensures.front);
   fault = search rules;

@@ -1,11 +1,11 @@
 use Rattle.std.proofs.Common.{◌≡◌, ◌+◌, Some, None, true, false, drop, refl, sym, ap, subst, ◌∙◌, arith}
 use Rattle.std.specs.Str.{IsCharBoundary}
 use Rattle.first_pass_items.specs.Bytes.{colon}
+use Rattle.first_pass_items.proofs.ResultFacts.{on_err}
 use Rattle.first_pass_lines.specs.Lines.{begins}
 use Rattle.first_pass_links.specs.Footnotes.{begins_footnote_mark}
 use Rattle.first_pass_links.specs.Labels.{label_at, CanErr}
 use Rattle.first_pass_links.proofs.Footnotes.{IsAnswer, after_mark, further, no_mark, no_label, head_by, after_colon}
-use Rattle.first_pass_links.proofs.Rewritten.{on_err}
 use Rattle.first_pass_links.proofs.footnote.scan_footnote_head.Goals as goal
 use Rattle.first_pass_links.proofs.footnote.scan_footnote_head.Goals.{Else-not-begins_footnote_mark, After-begins}
 

@@ -2,8 +2,8 @@ use Rattle.std.proofs.Common.{inl, ◌≡◌, ℕ, ◌+◌, List, Option, Some, 
 use Rattle.std.proofs.lemmas.Str.{IsCharBoundary-before_ascii, IsCharBoundary-after_ascii}
 use Rattle.first_pass_items.specs.declared.cow_str.CowStr.{CowStr}
 use Rattle.first_pass_items.specs.CowText.{text_of}
+use Rattle.first_pass_items.proofs.ResultFacts.{on_err}
 use Rattle.first_pass_links.specs.Labels.{label_at}
-use Rattle.first_pass_links.proofs.Rewritten.{on_err}
 use Rattle.first_pass_links.proofs.label.scan_link_label_rest.Goals as goal
 
 abbrev NoUnits : Option (ℕ × ℕ) → Type 0

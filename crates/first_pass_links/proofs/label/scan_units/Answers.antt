@@ -8,6 +8,7 @@ use Rattle.std.proofs.lemmas.Bool.{cases_lt, eqb-true, true≢false}
 use Rattle.std.proofs.lemmas.List.{drop_more}
 use Rattle.std.proofs.lemmas.Str.{IsCharBoundary-start}
 use Rattle.first_pass_items.specs.Bytes.{left_bracket, right_bracket}
+use Rattle.first_pass_items.proofs.ResultFacts.{on_err}
 use Rattle.first_pass_lines.specs.Lines.{begins}
 use Rattle.first_pass_links.specs.Labels.{AnswersWith, IsRewritten, is_bracket, label_at}
 use Rattle.first_pass_links.specs.Plain.{IsPlainLabel}
@@ -17,7 +18,7 @@ use Rattle.first_pass_links.proofs.Parts.{read_none, part-none, part-start}
 use Rattle.first_pass_links.proofs.PlainRuns.{plain_label}
 use Rattle.first_pass_links.proofs.Labels.{too_long, blank_stops, end_stops, open_stops, blank_label, closed, known_as, label_after, nothing_known, unit_known}
 use Rattle.first_pass_links.proofs.Labels.{Known}
-use Rattle.first_pass_links.proofs.Rewritten.{on_err, track_none, track_unit, track_written, track_stop}
+use Rattle.first_pass_links.proofs.Rewritten.{track_none, track_unit, track_written, track_stop}
 use Rattle.first_pass_links.proofs.label.scan_units.Goals as goal
 use Rattle.first_pass_links.proofs.label.scan_units.Goals.{then-loop-at-test+else-not-is_bracket, else-loop-at-test}
 use Rattle.first_pass_links.proofs.label.scan_units.Goals.{else-solid-via-then-solid+else-begins, else-solid-via-else-solid}

@@ -1,6 +1,6 @@
 use Rattle.std.proofs.Common.{take, sym, subst}
 use Rattle.std.proofs.lemmas.List.{take_all}
-use Rattle.first_pass_links.proofs.Rewritten.{on_err}
+use Rattle.first_pass_items.proofs.ResultFacts.{on_err}
 use Rattle.first_pass_names.specs.TableEntries.{names_of}
 use Rattle.first_pass_places.specs.FootnoteNodes.{AreFirstFootnotes}
 use Rattle.first_pass_places.proofs.FootnoteEntries.{label_among, none_first, next_node, some_labels}

@@ -1,5 +1,6 @@
 use Rattle.std.proofs.Common.{◌<◌, arith, length, subst}
-use Rattle.first_pass_labels.proofs.SortedLemmas.{table_some, on_err}
+use Rattle.first_pass_items.proofs.ResultFacts.{on_err}
+use Rattle.first_pass_labels.proofs.SortedLemmas.{table_some}
 use Rattle.first_pass_labels.proofs.label_table.LabelTable.sort.Goals as goal
 
 pub returns-in_err-order-clause-err : goal.returns-in_err-order-clause-err
