@@ -8,7 +8,7 @@ use Rattle.std.proofs.lemmas.List.Sums.{prefix_len_passes, prefix_len-le-length}
 use Rattle.std.proofs.lemmas.Bool.{eqb-true, cases_lt}
 use Rattle.std.proofs.lemmas.Bool.Decides.{nat_tests}
 use Rattle.first_pass_items.specs.Bytes.{tab, space, greater_than, ascii_end}
-use Rattle.first_pass_lines.specs.Lines.{begins, ends_line, line_len, is_content, is_white, is_number_sign}
+use Rattle.first_pass_lines.specs.Lines.{begins, ends_line, line_len, is_line_end, is_content, is_white, is_number_sign}
 use Rattle.first_pass_lines.specs.Rest.{Rest, past_byte, past_bytes, past_quote_byte, past_quote, column_of_byte, column_of, next_column, after_columns}
 use Rattle.first_pass_lines.specs.Rest.{indent}
 use Rattle.first_pass_lines.specs.Places.{Place, place_at, offset, line_place, IsPlaceOf, moved_columns, moved_bytes, line_end, start_of, lines_at}
@@ -169,13 +169,14 @@ pub taken_columns : (text : List ℕ) (k line : ℕ) (r s : Rest)
     → IsUtf8 text → s ≡ after_columns k r → IsPlaceOf text (place_at line r) → IsPlaceOf text (place_at line s)
 taken_columns text k line r s u e i = subst (λ q. IsPlaceOf text (place_at line q)) (sym e) (columns_keep text k (place_at line r) u i)
 
--- a line ends after an ASCII byte, or with the text
-last_step : (t : Bool) (b : ℕ) (bs : List ℕ) → ends_line b bs ≡ t → (0 < length bs → (slice_index bs (line_len bs - 1) < ascii_end) ⊎ (line_len bs ≡ length bs))
-    → (slice_index (b ∷ bs) (line_len (b ∷ bs) - 1) < ascii_end) ⊎ (line_len (b ∷ bs) ≡ length (b ∷ bs))
+-- a line ends after a byte of a line ending, or with the text
+last_step : (t : Bool) (b : ℕ) (bs : List ℕ)
+    → ends_line b bs ≡ t → (0 < length bs → (is_line_end (slice_index bs (line_len bs - 1)) ≡ true) ⊎ (line_len bs ≡ length bs))
+    → (is_line_end (slice_index (b ∷ bs) (line_len (b ∷ bs) - 1)) ≡ true) ⊎ (line_len (b ∷ bs) ≡ length (b ∷ bs))
 last_step true b bs h f =
     let e : line_len (b ∷ bs) ≡ 1 = line_len-step b bs ∙ rw h in
-    let small : b < ascii_end = grind (arith, nat_tests, h) in
-    inl (rw e small)
+    let line : is_line_end b ≡ true = grind (arith, nat_tests, h) in
+    inl (rw e line)
 last_step false b [] h f =
     let e : line_len (b ∷ []) ≡ line_len [] + 1 = line_len-step b [] ∙ rw h in
     inr (omega (arith, line_len-none))
@@ -183,15 +184,17 @@ last_step false b (c ∷ cs) h f =
     let e : line_len (b ∷ c ∷ cs) ≡ line_len (c ∷ cs) + 1 = line_len-step b (c ∷ cs) ∙ rw h in
     let some = line_len-some (c ∷ cs) (omega arith) in
     let k : line_len (b ∷ c ∷ cs) - 1 ≡ suc (line_len (c ∷ cs) - 1) = omega arith in
-    elim (f (omega arith)) [ inl small ↦ inl (rw k small) | inr all ↦ inr (omega arith) ]
+    elim (f (omega arith)) [ inl line ↦ inl (rw k line) | inr all ↦ inr (omega arith) ]
 
-last_of_line : (bs : List ℕ) → 0 < length bs → (slice_index bs (line_len bs - 1) < ascii_end) ⊎ (line_len bs ≡ length bs)
+pub last_of_line : (bs : List ℕ) → 0 < length bs → (is_line_end (slice_index bs (line_len bs - 1)) ≡ true) ⊎ (line_len bs ≡ length bs)
 last_of_line [] h = absurd (omega arith)
 last_of_line (b ∷ bs) h = last_step (ends_line b bs) b bs refl (last_of_line bs)
 
 end_by : (text : List ℕ) (s : ℕ) (bs : List ℕ) → bs ≡ drop s text → IsUtf8 text → s < length text → 0 < line_len bs → s + line_len bs ≤ length text
-    → length bs ≡ length text - s → (slice_index bs (line_len bs - 1) < ascii_end) ⊎ (line_len bs ≡ length bs) → IsCharBoundary text (s + line_len bs)
-end_by text s bs e u l some fits d (inl small) =
+    → length bs ≡ length text - s → (is_line_end (slice_index bs (line_len bs - 1)) ≡ true) ⊎ (line_len bs ≡ length bs)
+    → IsCharBoundary text (s + line_len bs)
+end_by text s bs e u l some fits d (inl line) =
+    let small : slice_index bs (line_len bs - 1) < ascii_end = grind (arith, nat_tests, line) in
     let b = byte_at text s (line_len bs - 1) bs e in
     let k : s + line_len bs ≡ s + (line_len bs - 1) + 1 = omega arith in
     rw k (IsCharBoundary-after_ascii text (s + (line_len bs - 1)) u (omega arith) (omega arith))

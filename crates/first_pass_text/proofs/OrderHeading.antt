@@ -1,5 +1,5 @@
 -- Thematic breaks and ATX headings are in order.
-use Rattle.std.proofs.Common.{◌≡◌, ◌⊎◌, inl, inr, ℕ, suc, ◌+◌, ◌-◌, ◌<◌, ◌≤◌, ◌==◌, ◌||◌, Bool, true, false, List, [], ◌∷◌, length, take, drop, get_or}
+use Rattle.std.proofs.Common.{◌≡◌, ◌⊎◌, inl, inr, ℕ, ◌+◌, ◌-◌, ◌<◌, ◌≤◌, ◌==◌, ◌||◌, Bool, true, false, List, [], length, take, drop, get_or}
 use Rattle.std.proofs.Common.{slice_index, nat_lt, Option, Some, None, IsUtf8, IsCharBoundary, refl, sym, ap, subst, ◌∙◌, arith, length-drop, length-take-le}
 use Rattle.std.proofs.Common.{get_or-drop, drop-drop, if◌then◌else◌}
 use Rattle.std.specs.List.{prefix_len, suffix_len}
@@ -14,10 +14,10 @@ use Rattle.first_pass_items.specs.declared.item.Item.{Item}
 use Rattle.first_pass_items.specs.declared.item.HeadingLevel.{HeadingLevel}
 use Rattle.first_pass_items.specs.declared.item.ItemBody.TheVariants.{Heading as HeadingBody, Rule}
 use Rattle.first_pass_tree.specs.Forest.{Forest, added}
-use Rattle.first_pass_lines.specs.Lines.{is_line_end, is_number_sign, is_white, ends_line, line_len, level_number, atx_level}
+use Rattle.first_pass_lines.specs.Lines.{is_line_end, is_number_sign, is_white, line_len, level_number, atx_level}
 use Rattle.first_pass_lines.specs.Places.{Place, IsPlaceOf, offset, moved_bytes, line_place}
-use Rattle.first_pass_lines.proofs.LineFacts.{line_len-none, line_len-step, line_len-some, line_len-fits}
-use Rattle.first_pass_lines.proofs.PlaceFacts.{line_is_place, signs_keep, white_keeps}
+use Rattle.first_pass_lines.proofs.LineFacts.{line_len-some, line_len-fits}
+use Rattle.first_pass_lines.proofs.PlaceFacts.{last_of_line, line_is_place, signs_keep, white_keeps}
 use Rattle.first_pass_lines.proofs.HeadingFacts.{atx_level-signs}
 use Rattle.first_pass_tokens.specs.Chains.{add_tokens, close_break, cut}
 use Rattle.first_pass_tokens.proofs.InOrder.{AreInOrder}
@@ -93,27 +93,6 @@ kept_at text =
     let t : ℕ = length text - suffix_len is_space_or_line_end text in
     let o : ℕ = t - suffix_len (λ b. b == number_sign) (take t text) in
     subst (KeptAt text) (sym (kept_counted text)) (kept_by text t o (suffix_len (λ b. b == space) (take o text)) refl (omega arith) refl)
-
--- a line ends with a line ending, or with the text
-last_step : (t : Bool) (b : ℕ) (bs : List ℕ)
-    → ends_line b bs ≡ t → (0 < length bs → (is_line_end (slice_index bs (line_len bs - 1)) ≡ true) ⊎ (line_len bs ≡ length bs))
-    → (is_line_end (slice_index (b ∷ bs) (line_len (b ∷ bs) - 1)) ≡ true) ⊎ (line_len (b ∷ bs) ≡ length (b ∷ bs))
-last_step true b bs h f =
-    let e : line_len (b ∷ bs) ≡ 1 = line_len-step b bs ∙ rw h in
-    let line : is_line_end b ≡ true = grind (arith, nat_tests, h) in
-    inl (rw e line)
-last_step false b [] h f =
-    let e : line_len (b ∷ []) ≡ line_len [] + 1 = line_len-step b [] ∙ rw h in
-    inr (omega (arith, line_len-none))
-last_step false b (c ∷ cs) h f =
-    let e : line_len (b ∷ c ∷ cs) ≡ line_len (c ∷ cs) + 1 = line_len-step b (c ∷ cs) ∙ rw h in
-    let some = line_len-some (c ∷ cs) (omega arith) in
-    let k : line_len (b ∷ c ∷ cs) - 1 ≡ suc (line_len (c ∷ cs) - 1) = omega arith in
-    elim (f (omega arith)) [ inl line ↦ inl (rw k line) | inr all ↦ inr (omega arith) ]
-
-last_of_line : (bs : List ℕ) → 0 < length bs → (is_line_end (slice_index bs (line_len bs - 1)) ≡ true) ⊎ (line_len bs ≡ length bs)
-last_of_line [] h = absurd (omega arith)
-last_of_line (b ∷ bs) h = last_step (ends_line b bs) b bs refl (last_of_line bs)
 
 line_aside : (b : ℕ) → is_line_end b ≡ true → is_space_or_line_end b ≡ true
 line_aside b h = grind (arith, nat_tests, h)

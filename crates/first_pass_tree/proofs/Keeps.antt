@@ -297,16 +297,13 @@ map_set [] i n = refl
 map_set (m ∷ ns) zero n = refl
 map_set (m ∷ ns) (suc i) n = ap (λ z. m.0 ∷ z) (map_set ns i n)
 
--- after a write to one index, each depth after it can still be increased by one
-pub raise-keeps : {T : Type 0} (ns : List (ℕ × T)) (i : ℕ) (n : ℕ × T) → ((k : ℕ) → i ≤ k → k < length ns → get_or (depths ns) k 0 < 2 ^ 63) → (k : ℕ)
-    → i + 1 ≤ k → k < length (set ns i n) → get_or (depths (set ns i n)) k 0 < 2 ^ 63
-raise-keeps ns i n h k a b =
-    let e : depths (set ns i n) ≡ set (depths ns) i n.0 = map_set ns i n in
+-- after a write to one index, each depth after it keeps its property
+pub set-keeps : {T : Type 0} (P : ℕ → Type 0) (ns : List (ℕ × T)) (i : ℕ) (n : ℕ × T)
+    → ((k : ℕ) → i ≤ k → k < length ns → P (get_or (depths ns) k 0)) → (k : ℕ) → i + 1 ≤ k → k < length (set ns i n) → P (get_or (depths (set ns i n)) k 0)
+set-keeps P ns i n h k a b =
     let ne : k ≢ i = omega arith in
-    let r = get_or-set_other (depths ns) i k n.0 0 ne in
-    let q = h k (omega arith) (omega (arith, length-set ns i n)) in
-    let s : get_or (depths (set ns i n)) k 0 ≡ get_or (depths ns) k 0 = ap (λ ds. get_or ds k 0) e ∙ r in
-    omega arith
+    let same = ap (λ ds. get_or ds k 0) (map_set ns i n) ∙ get_or-set_other (depths ns) i k n.0 0 ne in
+    subst P (sym same) (h k (omega arith) (omega (arith, b, length-set ns i n)))
 
 -- the depths once a node is inserted after the current node
 wrap-below : (ds : List ℕ) (p e k : ℕ) (es : List ℕ) → p ≤ length ds → k < p → get_or (take p ds ++ e ∷ es) k 0 ≡ get_or ds k 0

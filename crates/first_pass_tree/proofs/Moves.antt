@@ -1,24 +1,14 @@
 -- Siblings moved out of a list of depths.
-use Rattle.std.proofs.Common.{◌≡◌, ◌≢◌, ℕ, ◌+◌, ◌-◌, ◌<◌, ◌≤◌, suc, zero, List, [], ◌∷◌, length, get_or, set, map, Some, None, true, false, Bool, eqb, cond}
+use Rattle.std.proofs.Common.{◌≡◌, ◌≢◌, ℕ, ◌+◌, ◌-◌, ◌<◌, ◌≤◌, suc, zero, List, [], ◌∷◌, length, get_or, map, Some, None, true, false, Bool, eqb, cond}
 use Rattle.std.proofs.Common.{IfSome, IsSomeAnd, Option, refl, sym, ◌∙◌, ap, subst, ⊎_elim, arith}
-use Rattle.std.proofs.lemmas.List.{length-map, length-set, get_or-set_other}
+use Rattle.std.proofs.lemmas.List.{length-map}
 use Rattle.std.proofs.lemmas.Bool.{cases_lt, cases_eq}
 use Rattle.std.proofs.lemmas.Bool.Decides.{nat_tests}
 use Rattle.first_pass_tree.specs.declared.tree_index.TreeIndex.{TreeIndex}
 use Rattle.first_pass_tree.specs.Forest.{Forest, IsForest, IsLastAt, IsOpenPath, IsPreorder, IsChildOfCurrent, CanMoveFrom, depths, map_from, shallower}
 use Rattle.first_pass_tree.specs.Forest.{end_of, last_before, moved_from, open_place}
 use Rattle.first_pass_tree.proofs.Depths.{last-order, open-last, at-end}
-use Rattle.first_pass_tree.proofs.Keeps.{map_set, run-within}
-
-pub lower-keeps : {T : Type 0} (ns : List (ℕ × T)) (i : ℕ) (n : ℕ × T)
-    → ((k : ℕ) → i ≤ k → k < length ns → 0 < get_or (depths ns) k 0) → (k : ℕ) → i + 1 ≤ k → k < length (set ns i n) → 0 < get_or (depths (set ns i n)) k 0
-lower-keeps ns i n h k a b =
-    let e : depths (set ns i n) ≡ set (depths ns) i n.0 = map_set ns i n in
-    let ne : k ≢ i = omega arith in
-    let r = get_or-set_other (depths ns) i k n.0 0 ne in
-    let q = h k (omega arith) (omega (arith, length-set ns i n)) in
-    let s : get_or (depths (set ns i n)) k 0 ≡ get_or (depths ns) k 0 = ap (λ ds. get_or ds k 0) e ∙ r in
-    omega arith
+use Rattle.first_pass_tree.proofs.Keeps.{run-within}
 
 -- the depths from an index on, each decreased by one
 lower-map : {T : Type 0} (ns : List (ℕ × T)) (k : ℕ) → get_or (depths (map shallower ns)) k 0 ≡ get_or (depths ns) k 0 - 1

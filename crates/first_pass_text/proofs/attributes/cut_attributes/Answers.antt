@@ -13,7 +13,28 @@ use Rattle.first_pass_text.proofs.AttributeEnds.{braces_within, clipped, cut_pla
 use Rattle.first_pass_text.proofs.OrderPlain.{kept_place}
 use Rattle.first_pass_grammar.proofs.Names.MoreNames.{extends_none}
 use Rattle.first_pass_grammar.proofs.Names.TextsNamed.{given_entry}
+use Rattle.first_pass_text.specs.CutTexts.{IsLastAndChildless}
 use Rattle.first_pass_text.proofs.attributes.cut_attributes.Goals as goal
+use Rattle.first_pass_text.proofs.attributes.cut_attributes.Goals.{After-is_some}
+
+module _ (c : After-is_some) (f : Forest Item) (chain : List Item) (bare : IsLastAndChildless f) (is : c.args.tree.now ≡ chained f chain) where
+  abbrev bytes : List ℕ
+  bytes = chain_bytes c.args.source.now.text.now c.args.start chain
+
+  -- the bytes of the chain are the heading's text
+  same_bytes : slice_range c.args.source.now.text.now c.args.start c.min-end.result ≡ bytes
+  same_bytes =
+      let text : List ℕ = c.args.source.now.text.now in
+      let ends : c.min-end.result ≡ min (chain_end c.args.start chain) (length text) =
+      c.min-end.ensures ∙ ap (λ n. min n (length text)) (c.chain_end.ensures f chain bare is) in
+      ap (slice_range text c.args.start) ends ∙ clipped text c.args.start (chain_end c.args.start chain)
+
+  -- the index names their attributes
+  named_bytes : (more : Names) → Extends more (names_of c.name_attributes.new.allocs)
+      → NamesAttributes more c.in_ok-content_end.index (heading_attributes_of c.args.source.now.options bytes)
+  named_bytes more e =
+      subst (λ xs. NamesAttributes more c.in_ok-content_end.index (heading_attributes_of c.args.source.now.options xs)) same_bytes
+      (c.in_ok-content_end.ensures.named more e)
 
 pub returns-then-is_some-clause-cut : goal.returns-then-is_some-clause-cut
 returns-then-is_some-clause-cut c f chain bare is =
@@ -22,12 +43,10 @@ returns-then-is_some-clause-cut c f chain bare is =
     let start : ℕ = c.args.start in
     let names = names_of c.name_attributes.new.allocs in
     let bs : List ℕ = chain_bytes text start chain in
-    let ends : c.min-end.result ≡ min (chain_end start chain) (length text) =
-    c.min-end.ensures ∙ ap (λ n. min n (length text)) (c.chain_end.ensures f chain bare is) in
-    let same : slice_range text start c.min-end.result ≡ bs = ap (slice_range text start) ends ∙ clipped text start (chain_end start chain) in
-    let content = c.in_ok-content_end.ensures.content ∙ ap (λ xs. start + length (before_attributes options xs)) same in
-    let named : (more : Names) → Extends more names → NamesAttributes more c.in_ok-content_end.index (heading_attributes_of options bs) =
-    λ more e. subst (λ xs. NamesAttributes more c.in_ok-content_end.index (heading_attributes_of options xs)) same (c.in_ok-content_end.ensures.named more e) in
+    let at_end = (goal.at.returns-then-is_some-clause-cut c).After-is_some in
+    let content = c.in_ok-content_end.ensures.content
+    ∙ ap (λ xs. start + length (before_attributes options xs)) (same_bytes at_end f chain bare is) in
+    let named = named_bytes at_end f chain bare is in
     let (block, at) = block_named options bs names c.in_ok-content_end.index (named names (extends_none names)) (sym c.is_some.ensures ∙ c.if-is_some.true) in
     let stop : ℕ = c.in_ok-content_end.content_end in
     let cut = cut_by text options start c.args.broken chain block stop c.white_at_cut.result at content
@@ -45,11 +64,7 @@ returns-else-is_some-clause-cut c f chain bare is =
     let start : ℕ = c.args.start in
     let names = names_of c.name_attributes.new.allocs in
     let bs : List ℕ = chain_bytes text start chain in
-    let ends : c.min-end.result ≡ min (chain_end start chain) (length text) =
-    c.min-end.ensures ∙ ap (λ n. min n (length text)) (c.chain_end.ensures f chain bare is) in
-    let same : slice_range text start c.min-end.result ≡ bs = ap (slice_range text start) ends ∙ clipped text start (chain_end start chain) in
-    let named : (more : Names) → Extends more names → NamesAttributes more c.in_ok-content_end.index (heading_attributes_of options bs) =
-    λ more e. subst (λ xs. NamesAttributes more c.in_ok-content_end.index (heading_attributes_of options xs)) same (c.in_ok-content_end.ensures.named more e) in
+    let named = named_bytes (goal.at.returns-else-is_some-clause-cut c).After-is_some f chain bare is in
     let none = none_named options bs names c.in_ok-content_end.index (named names (extends_none names)) (sym c.is_some.ensures ∙ c.if-is_some.false) in
     (is ∙ ap (chained f) (sym (cut_none text options start c.args.broken chain none)), named)
 

@@ -1,4 +1,4 @@
-use Rattle.std.proofs.Common.{◌≡◌, ◌≤◌, ℕ, List, [], length, IsUtf8, ap, subst, ◌∙◌}
+use Rattle.std.proofs.Common.{◌≡◌, ◌≤◌, ℕ, List, [], length, IfSome, IsUtf8, ap, subst, ◌∙◌}
 use Rattle.std.specs.List.{slice_range}
 use Rattle.std.specs.Option.{unwrap_or}
 use Rattle.first_pass_tokens.specs.Pieces.{text_upto}
@@ -17,6 +17,7 @@ use Rattle.first_pass_text.proofs.HeadingLemmas.{heading_read, heading_line_end,
 use Rattle.first_pass_open.proofs.BlockLemmas.{opened_is, just_pushed, still_open, block_closed}
 use Rattle.first_pass_text.proofs.PlainHeadings.{plain_read}
 use Rattle.first_pass_text.proofs.heading.parse_atx_heading.Goals as goal
+use Rattle.first_pass_text.proofs.heading.parse_atx_heading.Goals.{After-opening_of}
 
 pub heading_text-requires-clause-opened : goal.heading_text-requires-clause-opened
 heading_text-requires-clause-opened c =
@@ -25,17 +26,19 @@ heading_text-requires-clause-opened c =
     let at = c.in_ok-heading_ix.ensures.index in
     just_pushed c.args.tree.now c.open_block.new.tree x ix at (opened_is c.args.tree.now c.open_block.new.tree x ix at c.in_ok-heading_ix.ensures.tree)
 
-pub heading_text-requires-clause-set : goal.heading_text-requires-clause-set
-heading_text-requires-clause-set c =
-    (place_fits c.args.source.now.text.now c.args.source.now.options c.heading_text_start-header_start.result c.in_ok-place.place c.opening_of.result
+-- the attribute block and the start of the content are in the text
+block_fits : (c : After-opening_of) → IfSome c.opening_of.result (λ e. e ≤ length c.args.source.now.text.now)
+    × (c.heading_text_start-header_start.result ≤ length (text_upto c.args.source.now.text.now c.opening_of.result))
+block_fits c =
+    place_fits c.args.source.now.text.now c.args.source.now.options c.heading_text_start-header_start.result c.in_ok-place.place c.opening_of.result
     c.in_ok-place.ensures.place c.opening_of.ensures
-    (subst (λ t. c.heading_text_start-header_start.result ≤ length t) c.as_bytes.ensures.value c.heading_text_start-header_start.ensures.within)).0
+    (subst (λ t. c.heading_text_start-header_start.result ≤ length t) c.as_bytes.ensures.value c.heading_text_start-header_start.ensures.within)
+
+pub heading_text-requires-clause-set : goal.heading_text-requires-clause-set
+heading_text-requires-clause-set c = (block_fits (goal.at.heading_text-requires-clause-set c).After-opening_of).0
 
 pub heading_text-requires-clause-within : goal.heading_text-requires-clause-within
-heading_text-requires-clause-within c =
-    (place_fits c.args.source.now.text.now c.args.source.now.options c.heading_text_start-header_start.result c.in_ok-place.place c.opening_of.result
-    c.in_ok-place.ensures.place c.opening_of.ensures
-    (subst (λ t. c.heading_text_start-header_start.result ≤ length t) c.as_bytes.ensures.value c.heading_text_start-header_start.ensures.within)).1
+heading_text-requires-clause-within c = (block_fits (goal.at.heading_text-requires-clause-within c).After-opening_of).1
 
 pub close_block-requires : goal.close_block-requires
 close_block-requires c =
@@ -127,13 +130,7 @@ returns-in-Some-clause-fits c from following starts =
     c.args.tree.now c.append_with_text.new.self c.in-Some.plain.next u starts c.requires.heading (returns-in-Some-clause-block c) from following
 
 pub scan_plain_heading-requires-clause-set : goal.scan_plain_heading-requires-clause-set
-scan_plain_heading-requires-clause-set c =
-    (place_fits c.args.source.now.text.now c.args.source.now.options c.heading_text_start-header_start.result c.in_ok-place.place c.opening_of.result
-    c.in_ok-place.ensures.place c.opening_of.ensures
-    (subst (λ t. c.heading_text_start-header_start.result ≤ length t) c.as_bytes.ensures.value c.heading_text_start-header_start.ensures.within)).0
+scan_plain_heading-requires-clause-set c = (block_fits (goal.at.scan_plain_heading-requires-clause-set c).After-opening_of).0
 
 pub scan_plain_heading-requires-clause-within : goal.scan_plain_heading-requires-clause-within
-scan_plain_heading-requires-clause-within c =
-    (place_fits c.args.source.now.text.now c.args.source.now.options c.heading_text_start-header_start.result c.in_ok-place.place c.opening_of.result
-    c.in_ok-place.ensures.place c.opening_of.ensures
-    (subst (λ t. c.heading_text_start-header_start.result ≤ length t) c.as_bytes.ensures.value c.heading_text_start-header_start.ensures.within)).1
+scan_plain_heading-requires-clause-within c = (block_fits (goal.at.scan_plain_heading-requires-clause-within c).After-opening_of).1
