@@ -1,13 +1,13 @@
 //! The attribute block at the end of a heading's text (this project).
 
-ghost use Rattle.std.specs.Prelude.{◌≡◌, ◌≤◌, ◌+◌, ◌-◌, List, length, take, drop, slice_get, IfOk, IfSome, IfNone, OnOk, Some, None, if◌then◌else◌};
+ghost use Rattle.std.specs.Prelude.{◌≡◌, ◌≤◌, ◌+◌, ◌-◌, List, length, take, drop, slice_get, is_some, true, IfOk, IfSome, IfNone, IsSomeAnd, OnOk, OnErr, Some, None, if◌then◌else◌};
 ghost use Rattle.std.specs.List.{slice_range, suffix_len};
 ghost use Rattle.first_pass_lines.specs.Lines.{is_white};
 ghost use Rattle.std.specs.Option.{option_map};
 ghost use Rattle.first_pass_items.specs.declared.item.Item.{Item};
 ghost use Rattle.first_pass_tree.specs.Forest.{Forest, item_at};
 ghost use Rattle.first_pass_tokens.specs.TreeTokens.{chained};
-ghost use Rattle.first_pass_attributes.specs.Attributes.{attributes_in, attributes_of};
+ghost use Rattle.first_pass_attributes.specs.Attributes.{attributes_in, attributes_of, HasSeveral};
 ghost use Rattle.first_pass_grammar.specs.Headings.{before_attributes, heading_attributes_of, chain_end as chain_end_of};
 ghost use Rattle.first_pass_grammar.specs.Leaves.{document};
 ghost use Rattle.first_pass_grammar.specs.Names.{Names, Extends, NamesAttributes, NamesEntry, AttributesAt};
@@ -50,7 +50,7 @@ struct BlockText<'a> {
 /// from the offset `header_start` to `header_end`; if the end is before the start, it is empty and ends at its start.
 /// The content ends at the attribute block, and includes the white space before the block. Without a block, or without
 /// the option for heading attributes, returns the end of the heading's text and `None`. Fails only if an allocation
-/// fails (this project).
+/// fails; that can happen only with more than one class or more than one key (this project).
 pub fn extract_and_parse_heading_attribute_block<'a>(
     source: &Source<'a>,
     header_start: usize,
@@ -62,6 +62,8 @@ pub fn extract_and_parse_heading_attribute_block<'a>(
         (before_attributes source.now.options (slice_range source.now.text.now header_start header_end))) }
     ensures attributes { IfOk result (λ answer. option_map attributes_in answer.1
         ≡ heading_attributes_of source.now.options (slice_range source.now.text.now header_start header_end)) }
+    ensures err { OnErr result (IsSomeAnd (heading_attributes_of source.now.options
+        (slice_range source.now.text.now header_start header_end)) HasSeveral) }
 {
     let (content_end, block) = block_text_between(source, header_start, header_end);
     let Some(block) = block else {
@@ -73,7 +75,8 @@ pub fn extract_and_parse_heading_attribute_block<'a>(
 
 /// Adds the attributes of a heading to `allocs`, if it has an attribute block. Returns the offset at which the
 /// content of the heading ends, and the index of the attributes; `None` without a block. The bounds and the content
-/// are those of `extract_and_parse_heading_attribute_block`. Fails only if an allocation fails (this project).
+/// are those of `extract_and_parse_heading_attribute_block`. Fails only if there is a block and an allocation fails
+/// (this project).
 #[inline(always)]
 pub fn name_attributes<'a>(
     source: &Source<'a>,
@@ -89,6 +92,8 @@ pub fn name_attributes<'a>(
     ensures named { IfOk result (λ answer. (more : Names) → Extends more (names_of allocs.new)
         → NamesAttributes more answer.1
         (heading_attributes_of source.now.options (slice_range source.now.text.now header_start header_end))) }
+    ensures err { OnErr result (is_some (heading_attributes_of source.now.options
+        (slice_range source.now.text.now header_start header_end)) ≡ true) }
 {
     let (content_end, block) = block_text_between(source, header_start, header_end);
     let Some(block) = block else {
@@ -183,7 +188,7 @@ fn chain_end(tree: &Tree<Item>, start: usize) -> usize
 }
 
 // The number of white space bytes at the end. Line endings are none; `trailing_white` counts them too.
-fn white_at_end(bytes: &[u8]) -> usize
+fn trailing_white_no_nl(bytes: &[u8]) -> usize
     ensures value { result ≡ suffix_len is_white bytes.now }
     ensures within { result ≤ length bytes.now }
 {
@@ -196,7 +201,11 @@ fn white_at_cut(content: &[u8], broken: bool) -> usize
     ensures value { result ≡ (if broken then 0 else suffix_len is_white content.now) }
     ensures within { result ≤ length content.now }
 {
-    if broken { 0 } else { white_at_end(content) }
+    if broken {
+        0
+    } else {
+        trailing_white_no_nl(content)
+    }
 }
 
 // Removes the attribute block of a setext heading from the end of its chain, which is in the innermost open node. The
