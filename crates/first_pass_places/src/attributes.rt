@@ -2,7 +2,7 @@
 
 ghost use Rattle.std.specs.Prelude.{◌≡◌, ◌<◌, ◌≤◌, ◌++◌, ◌+◌, length, map, IfOk, OnOk, OnErr, All, IsCharBoundary};
 ghost use Rattle.first_pass_places.specs.AttributePlaces.{attribute_place, attribute_ranges, key_place, range_of, word_range, word_ranges};
-ghost use Rattle.first_pass_places.specs.RangeEnds.{HasWholeCharacters};
+ghost use Rattle.first_pass_places.specs.RangeEnds.{HasWholeCharacters, IsIn};
 
 use crate::attribute_block::attribute_block_range_in;
 use first_pass_attributes::words::{scan_key, scan_word};
@@ -96,8 +96,7 @@ fn add_word(
     text: &[u8],
     word: &Range<usize>,
 ) -> Result<(), AllocError>
-    requires order { word.now.start ≤ word.now.«end» }
-    requires within { word.now.«end» ≤ length text.now }
+    requires { IsIn text.now word.now }
     ensures value { OnOk result (places.new.items
         ≡ places.old.items ++ map (attribute_place text.now) (word_range word.now.start word.now.«end»)) }
     ensures err { OnErr result (word.now.start + 1 < word.now.«end») }
