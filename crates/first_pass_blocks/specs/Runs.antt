@@ -47,7 +47,8 @@ pub record PutsDefinitions (old new : BlockPass) : Type 0 where
   pub names : names_of (allocs_of new) ≡ names_of (allocs_of old)
   pub written : TablesAreWritten (source_text old) (allocs_of old) → TablesAreWritten (source_text old) (allocs_of new)
 
--- All link reference definitions from the offset `at` on, in the line at `line`, are read and put into the pass's table.
+-- All link reference definitions from the offset `at` on, in the line at `line`, are read and put into the pass's table
+-- (CommonMark 4.7).
 pub record ReadsDefinitions (old new : BlockPass) (line at : ℕ) (following : RunEnd) : Type 0 where
   pub kept : PutsDefinitions old new
   pub run : (p : Place) → p.line ≡ line → offset p ≡ at → IsPlaceOf (source_text old) p
