@@ -19,8 +19,8 @@ use Rattle.first_pass_tree.specs.declared.tree_index.TreeIndex.{TreeIndex}
 use Rattle.first_pass_tree.specs.Forest.{Forest, body_at, cut_item, cut_siblings, cut_tokens, is_escaped, item_at, open_place, with_body_at}
 use Rattle.first_pass_grammar.specs.Leaves.{Document}
 use Rattle.first_pass_grammar.specs.OpenOrder.{laid_open, AreAt, open_within, FitsOpen, IsOrderedTo}
-use Rattle.first_pass_grammar.specs.Order.{Ranged, extent_of, extents, is_text_block, Siblings, Empty, Node, laid, IsBetween, Within, Elsewhere, InItem}
-use Rattle.first_pass_grammar.specs.Order.{InText, InFirst, below, beyond, IsLead, Fits}
+use Rattle.first_pass_grammar.specs.Order.{Ranged, extent_of, extents, is_text_block, Siblings, Empty, Node, laid, IsBetween, Within, Elsewhere}
+use Rattle.first_pass_grammar.specs.Order.{InText, below, beyond, IsLead, Fits}
 use Rattle.first_pass_grammar.proofs.Order.Orders.{ended_at, extents-append, fits-one, fits-order, laid-one, length-places}
 use Rattle.first_pass_open.proofs.PathLemmas.{get_front}
 use Rattle.first_pass_text.specs.CutTexts.{BecomesHeading, CutsChildren}
@@ -74,10 +74,8 @@ only_leaf text d low (n ∷ nodes) (Node y more after) next is h =
 
 -- a marker before the block ends before it
 lead_before : (text : List ℕ) (w : Within) (from : ℕ) (x : Ranged) → IsLead text w from x → x.«end» ≤ from
-lead_before text Elsewhere from x h = absurd h
-lead_before text InItem from x h = absurd h
 lead_before text (InText before) from x h = h.1.before
-lead_before text (InFirst before) from x h = absurd h
+lead_before text w from x h = absurd h
 
 -- the minimum of two character boundaries is one
 min_boundary : (text : List ℕ) (a b : ℕ) → IsCharBoundary text a → IsCharBoundary text b → IsCharBoundary text (min a b)
@@ -89,8 +87,6 @@ min_boundary text a b h k =
 
 lead_cut : (text : List ℕ) (w : Within) (from e : ℕ) (x : Ranged) → x.start < e → IsCharBoundary text e → IsLead text w from x
     → IsLead text w (min from e) (ended_at x (min x.«end» e))
-lead_cut text Elsewhere from e x less b h = absurd h
-lead_cut text InItem from e x less b h = absurd h
 lead_cut text (InText before) from e x less b (marker, h) = (
   marker,
   record {
@@ -101,7 +97,7 @@ lead_cut text (InText before) from e x less b (marker, h) = (
     ends = min_boundary text x.«end» e h.ends b;
   },
 )
-lead_cut text (InFirst before) from e x less b h = absurd h
+lead_cut text w from e x less b h = absurd h
 
 -- a token that remains
 end_by : (t : Bool) (e : ℕ) (y : Item) → nat_lt e y.«end» ≡ t

@@ -63,10 +63,8 @@ OpensAway list at (OpensNode head inside following) = (head_closes head ≡ at) 
 
 -- an opening that ends a definition list is no definition
 other_joins : (e : ℕ) (o : Opener) → joins (DefinitionsTo e) o ≡ false → is_definition o ≡ false
-other_joins e (QuoteMarker kind) h = refl
-other_joins e (ItemMarker byte number columns) h = refl
-other_joins e (FootnoteMarker columns index label) h = refl
 other_joins e (DefinitionMarker columns) h = h
+other_joins e o h = refl
 
 away_other : (e at : ℕ) (o : Opening) → OpensAway (DefinitionsTo e) at o → opens_definition o ≡ false
 away_other e at (OpensLeaf BlankLine there left) away = absurd away
@@ -256,10 +254,8 @@ completes-close_definitions d w l blanks run at b away k =
 
 container_other : (last : ℕ) (o : Opener) (line start e : ℕ) (gap : Bool) (inner next : Rows) → is_definition o ≡ false
     → BeginsOther (container_row last o (row_of (record { opener = o; line = line; start = start }) e gap) inner next)
-container_other last (QuoteMarker kind) line start e gap inner next other = refl
-container_other last (ItemMarker byte number columns) line start e gap inner next other = refl
-container_other last (FootnoteMarker columns index label) line start e gap inner next other = refl
 container_other last (DefinitionMarker columns) line start e gap inner next other = absurd (true≢false other)
+container_other last o line start e gap inner next other = refl
 
 -- the rows of a leaf block, or of a container that is no definition, do not begin with definitions
 leaf_other : (b : LeafBlock) (gap : Bool) (r : Rows) (o : Option Definitions) → BeginsOther (option_map_or (titled b gap) o (OneOf (row_of_leaf b gap) End r))

@@ -113,10 +113,8 @@ blank_step d w list before from lines left plain alike first =
 pub beside_all : (k last : ℕ) (nodes : List (ℕ × Item)) (closed : Closed) (rows : Rows) → definitions_first rows ≡ None
     → (rendered k last nodes (NoList closed) rows ≡ nodes ++ items_of k false rows) × (rows_beyond (NoList closed) rows ≡ rows)
 unfolding rendered
-beside_all k last nodes OtherClosed rows none = (refl, refl)
 beside_all k last nodes (ParagraphAt at) rows none = (rw none refl, rw none refl)
-beside_all k last nodes (DefinitionClosed e blanks) rows none = (refl, refl)
-beside_all k last nodes (TitleAt e at) rows none = (refl, refl)
+beside_all k last nodes closed rows none = (refl, refl)
 
 -- before the first line
 pub completes-first : (d : Document) → CompletesAt d no_tables fresh [] (root_of (length d.text) ∷ []) [] Line (lines_at 0 d.text)
@@ -269,14 +267,9 @@ completes-end d defined t nodes c =
 closed_last : (c : Container) (frames : List Frame) (e : ℕ) → StandsIn c frames → last_of frames (closed_as c e) ≡ last_container c
 closed_last (BlockQuote kind) frames e stands = plain_last OtherClosed frames stands
 closed_last (FootnoteDefinition columns) frames e stands = plain_last OtherClosed frames stands
-closed_last (ListItem columns) [] e stands = absurd stands
-closed_last (ListItem columns) (InContainer c ∷ frames) e stands = absurd stands
-closed_last (ListItem columns) (InDefinitions loose ∷ frames) e stands = absurd stands
 closed_last (ListItem columns) (InList byte loose ∷ frames) e stands = refl
-closed_last (Definition columns) [] e stands = absurd stands
-closed_last (Definition columns) (InContainer c ∷ frames) e stands = absurd stands
-closed_last (Definition columns) (InList byte loose ∷ frames) e stands = absurd stands
 closed_last (Definition columns) (InDefinitions loose ∷ frames) e stands = refl
+closed_last c frames e stands = absurd stands
 
 -- the innermost container, after it is closed
 pop_step : (d : Document) (w : OpenNodes) (c : Container) (t : Tail) (o : ℕ) (from : Continues) (lines : List Place) (left : Remaining)

@@ -25,7 +25,7 @@ use Rattle.first_pass_grammar.specs.LinkRuns.{kind_in, Ended, FlowsOn}
 use Rattle.first_pass_grammar.specs.Rows.{is_paragraph}
 use Rattle.first_pass_grammar.specs.Openers.{Start, start_at}
 use Rattle.first_pass_grammar.specs.declared.kind.AfterMarker.{AfterMarker}
-use Rattle.first_pass_grammar.specs.declared.kind.AfterMarker.TheVariants.{OnLine, TaskText, LineEnds, OnlyTag}
+use Rattle.first_pass_grammar.specs.declared.kind.AfterMarker.TheVariants.{LineEnds}
 use Rattle.first_pass_grammar.specs.Skeleton.{Continues, Line, Blanks, AtPlace, Anything, OnlyALeaf, TextOf, OnlyMark, Opening, OpensLeaf, OpensNode, OpensText}
 use Rattle.first_pass_grammar.specs.Skeleton.{OpensRun, OpensAs, OpensBlockAt, OpensBy, OpensFootnote, Opens, OpensAt, opening_by}
 use Rattle.first_pass_grammar.specs.Skeleton.{next_is_blank, Level, may_define, IsFirst}
@@ -183,10 +183,8 @@ module _ (P : ItemBody → Type 0) (d : Document) (holds : HoldsOfTokens d.names
 
   container_holds : (path : List Container) (head : Head) (inside : Place) (lines : List Place) (after : AfterMarker)
       → HoldsInOpening P (opening_by d path head inside lines after)
-  container_holds path head inside lines OnLine = tt
-  container_holds path head inside lines (TaskText marker) = tt
   container_holds path head inside lines (LineEnds marker) = unless_opens (next_is_blank (opened head.opener ∷ path) lines) _ _ tt tt
-  container_holds path head inside lines OnlyTag = tt
+  container_holds path head inside lines after = tt
 
   opens_by : (path : List Container) (p : Place) (lines : List Place) (s : Option Start) (o : Opening) → OpensBy d path p lines s o → HoldsInOpening P o
   unfolding OpensBy

@@ -71,10 +71,8 @@ container_noted (DefinitionMarker columns) line start e at run inner next = (λ 
 container_apart : (last : ℕ) (o : Opener) (line start e : ℕ) (gap : Bool) (inner next : Rows) → is_definition o ≡ false
     → definitions_first (container_row last o (row_of (record { opener = o; line = line; start = start }) e gap) inner next) ≡ None
 unfolding definitions_first
-container_apart last (QuoteMarker kind) line start e gap inner next other = refl
-container_apart last (ItemMarker byte number columns) line start e gap inner next other = refl
-container_apart last (FootnoteMarker columns index label) line start e gap inner next other = refl
 container_apart last (DefinitionMarker columns) line start e gap inner next other = absurd (true≢false other)
+container_apart last o line start e gap inner next other = refl
 
 node_noted : (quoted run : Bool) (closed : Closed) (head : Head) (e : ℕ) (kids next : Skeleton) → is_definition head.opener ≡ false
     → IsNoted quoted run closed (Node head e kids next)
@@ -142,14 +140,9 @@ plain-loosened gap (InDefinitions loose ∷ frames) h = absurd h
 stands-loosened : (gap : Bool) (c : Container) (frames : List Frame) → StandsIn c frames → StandsIn c (loosened gap frames)
 stands-loosened gap (BlockQuote kind) frames h = plain-loosened gap frames h
 stands-loosened gap (FootnoteDefinition columns) frames h = plain-loosened gap frames h
-stands-loosened gap (ListItem columns) [] h = h
-stands-loosened gap (ListItem columns) (InContainer c ∷ frames) h = h
 stands-loosened gap (ListItem columns) (InDefinitions loose ∷ frames) h = absurd h
-stands-loosened gap (ListItem columns) (InList byte loose ∷ frames) h = h
-stands-loosened gap (Definition columns) [] h = h
-stands-loosened gap (Definition columns) (InContainer c ∷ frames) h = h
 stands-loosened gap (Definition columns) (InList byte loose ∷ frames) h = absurd h
-stands-loosened gap (Definition columns) (InDefinitions loose ∷ frames) h = h
+stands-loosened gap c frames h = h
 
 shaped-loosened : (gap : Bool) (frames : List Frame) → IsShaped frames → IsShaped (loosened gap frames)
 shaped-loosened gap [] h = h

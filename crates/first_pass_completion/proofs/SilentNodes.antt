@@ -374,9 +374,6 @@ silent_as nodes (Definition columns) e = tt
 
 pub silent_definitions : (nodes : List (ℕ × Item)) (place : ℕ) (loose : Bool) (list : Pending) → IsSilent nodes place → SilentList nodes list
     → SilentList nodes (definitions_open place loose list)
-silent_definitions nodes place loose (NoList OtherClosed) h silent = tt
-silent_definitions nodes place loose (NoList (ParagraphAt at)) h silent = tt
 silent_definitions nodes place loose (NoList (DefinitionClosed e blanks)) h silent = h
 silent_definitions nodes place loose (NoList (TitleAt e at)) h silent = (h, silent)
-silent_definitions nodes place loose (OneList at joins l) h silent = tt
-silent_definitions nodes place loose (OneTitle at title e l) h silent = tt
+silent_definitions nodes place loose list h silent = tt

@@ -224,11 +224,9 @@ closed-ended nodes o x d false e = absorbed_tight nodes o d _ _ (λ n. tight_end
 
 pub swapped : (nodes : List (ℕ × Item)) (o x : ℕ) (g f : Item → Item)
     → ((y : Item) → f (g y) ≡ g (f y)) → modify (modify nodes o g) x f ≡ modify (modify nodes x f) o g
-swapped [] o x g f h = refl
 swapped (n ∷ nodes) zero zero g f h = ap (λ z. (n.0, z) ∷ nodes) (h n.1)
-swapped (n ∷ nodes) zero (suc x) g f h = refl
-swapped (n ∷ nodes) (suc o) zero g f h = refl
 swapped (n ∷ nodes) (suc o) (suc x) g f h = ap (λ z. n ∷ z) (swapped nodes o x g f h)
+swapped nodes o x g f h = refl
 
 pub taken-ended : (nodes : List (ℕ × Item)) (o at x : ℕ) → title_taken (ended nodes o x) at ≡ ended (title_taken nodes at) o x
 unfolding title_taken ended

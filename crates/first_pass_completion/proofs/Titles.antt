@@ -44,10 +44,8 @@ other_row k last nodes (TitleAt e at) row inner next u r = refl
 
 pub other_beyond : (closed : Closed) (row : Row) (inner next : Rows) → is_untitled row.what ≡ false → is_run_row row.what ≡ false
     → rows_beyond (NoList closed) (OneOf row inner next) ≡ OneOf row inner next
-other_beyond OtherClosed row inner next u r = refl
 other_beyond (ParagraphAt at) row inner next u r = ap (λ z. beside_or z (OneOf row inner next)) (first_none row inner next u r)
-other_beyond (DefinitionClosed e blanks) row inner next u r = refl
-other_beyond (TitleAt e at) row inner next u r = refl
+other_beyond closed row inner next u r = refl
 
 -- a leaf block before rows
 abbrev before_definitions : LeafBlock → Bool → Option Definitions → Rows → Rows
@@ -157,11 +155,9 @@ run_beside b gap r (Some ds) = refl
 run_beyond : (closed : Closed) (b : LeafBlock) (gap : Bool) (r : Rows) → is_run b.kind ≡ true
     → any_gap (rows_beyond (NoList closed) (OneOf (row_of_leaf b gap) End r)) ≡ (gap || any_gap (rows_beyond (NoList closed) r))
 unfolding any_gap
-run_beyond OtherClosed b gap r is = refl
 run_beyond (ParagraphAt at) b gap r is =
     ap (λ z. any_gap (beside_or z (OneOf (row_of_leaf b gap) End r))) (run_first b gap r is) ∙ run_beside b gap r (definitions_first r)
-run_beyond (DefinitionClosed e blanks) b gap r is = refl
-run_beyond (TitleAt e at) b gap r is = refl
+run_beyond closed b gap r is = refl
 
 pub run_gaps : (closed : Closed) (b : LeafBlock) (gap : Bool) (r : Rows) → is_run b.kind ≡ true → b.items ≡ []
     → any_gap (rows_beyond (NoList closed) (leaf_row b gap r)) ≡ (gap || any_gap (rows_beyond (NoList closed) r))

@@ -40,13 +40,10 @@ reach_after (AtPlace p (OnlyMark marker None)) there = omega arith
 reach_after (AtPlace p (OnlyMark marker (Some e))) there = omega arith
 
 alone_after : (from there : Continues) → only_blanks from ≡ None → only_blanks there ≡ None → only_blanks (after_first from there) ≡ None
-alone_after Line there h k = k
 alone_after (Blanks e) there h k = h
-alone_after (AtPlace p Anything) there h k = k
-alone_after (AtPlace p OnlyALeaf) there h k = k
-alone_after (AtPlace p (TextOf marker)) there h k = k
 alone_after (AtPlace p (OnlyMark marker None)) there h k = refl
 alone_after (AtPlace p (OnlyMark marker (Some e))) there h k = h
+alone_after from there h k = k
 
 alone_onward : (left : Remaining) → only_blanks (onward left).0 ≡ None
 alone_onward (Lines lines) = refl

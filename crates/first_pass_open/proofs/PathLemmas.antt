@@ -85,19 +85,14 @@ columns_prefix (Some (Definition k)) n r e = let same : k ≡ n = cc in rw same 
 -- The prefix of a block quote is the same for all kinds.
 pub quote_prefix : (o : Option Container) (r : Rest) → is_quote_node o ≡ true → prefix_of o r ≡ prefix (BlockQuote None) r
 unfolding prefix
-quote_prefix None r e = absurd cc
 quote_prefix (Some (BlockQuote kind)) r e = refl
-quote_prefix (Some (ListItem k)) r e = absurd cc
-quote_prefix (Some (FootnoteDefinition k)) r e = absurd cc
-quote_prefix (Some (Definition k)) r e = absurd cc
+quote_prefix o r e = absurd cc
 
 -- A node that needs no columns and is no block quote has an empty prefix.
 pub empty_prefix : (o : Option Container) (r : Rest) → columns_needed o ≡ None → is_quote_node o ≡ false → prefix_of o r ≡ Some r
 empty_prefix None r e q = refl
 empty_prefix (Some (BlockQuote kind)) r e q = absurd cc
-empty_prefix (Some (ListItem k)) r e q = absurd cc
-empty_prefix (Some (FootnoteDefinition k)) r e q = absurd cc
-empty_prefix (Some (Definition k)) r e q = absurd cc
+empty_prefix o r e q = absurd cc
 
 -- what a call that takes a prefix returns, for an equal prefix
 pub by_prefix : (o p : Option Rest) (b : Bool) (old new : Rest) → o ≡ p

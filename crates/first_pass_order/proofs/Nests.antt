@@ -9,7 +9,7 @@ use Rattle.std.specs.Option.{option_and_then, option_map}
 use Rattle.first_pass_items.specs.declared.item.CowIndex.{CowIndex}
 use Rattle.first_pass_items.specs.declared.item.Item.{Item}
 use Rattle.first_pass_items.specs.declared.item.ItemBody.{ItemBody}
-use Rattle.first_pass_items.specs.declared.item.ItemBody.TheVariants.{BlockQuote as BlockQuoteBody, List as ListBody, ListItem as ListItemBody, Paragraph}
+use Rattle.first_pass_items.specs.declared.item.ItemBody.TheVariants.{List as ListBody, ListItem as ListItemBody, Paragraph}
 use Rattle.first_pass_items.specs.declared.item.ItemBody.TheVariants.{FootnoteDefinition as FootnoteDefinitionBody, DefinitionList}
 use Rattle.first_pass_items.specs.declared.item.ItemBody.TheVariants.{DefinitionListDefinition, MaybeDefinitionListTitle}
 use Rattle.first_pass_tree.specs.declared.tree_index.TreeIndex.{TreeIndex}
@@ -564,14 +564,12 @@ tree_closes text f at nested none = outside_closes text (state_with f None false
 -- a blank line does not change the last child
 blank_by_last : (r : PassState) (b : Option ItemBody) → top_body r.tree ≡ b → HasDefinition r.tree
     → is_item (top_body (blank_read_by r b).tree) ≡ is_item (top_body r.tree) → HasDefinition (blank_read_by r b).tree
-blank_by_last r None is h item = h
-blank_by_last r (Some (BlockQuoteBody kind)) is h item = h
 blank_by_last r (Some (ListItemBody columns)) is h item =
     λ list. absurd (true≢false (sym (item ∙ ap is_item is) ∙ definitions_other (top_body (blank_read_by r (Some (ListItemBody columns))).tree) list))
 blank_by_last r (Some (DefinitionListDefinition columns)) is h item =
     λ list. absurd (true≢false (sym (item ∙ ap is_item is)
     ∙ definitions_other (top_body (blank_read_by r (Some (DefinitionListDefinition columns))).tree) list))
-blank_by_last r (Some b) is h item = h
+blank_by_last r b is h item = h
 
 pub blank_last : (r : PassState) → HasDefinition r.tree → HasDefinition (blank_read r).tree
 unfolding blank_read

@@ -24,10 +24,8 @@ last_of Empty = inl refl
 last_of (Node x kids next) = inr (last_by x kids next (last_of next))
 
 no_lead : (text : List ℕ) (w : Within) (from : ℕ) (x : Ranged) → x.marker ≡ false → IsLead text w from x → ⊥
-no_lead text Elsewhere from x plain h = h
-no_lead text InItem from x plain h = h
 no_lead text (InText before) from x plain h = (let z : true ≡ false = sym h.0 ∙ plain in cc)
-no_lead text (InFirst before) from x plain h = h
+no_lead text w from x plain h = h
 
 -- a row whose last node ends later
 pub fits_last : (text : List ℕ) (w : Within) (from to e : ℕ) (before : Siblings) (x : Ranged) (kids : Siblings) → x.marker ≡ false → x.«end» ≤ e
@@ -84,11 +82,9 @@ beyond_twice (InFirst at) v (inr e) = e
 
 lead_beyond : (text : List ℕ) (w : Within) (from : ℕ) (y : Ranged) (v : Within) → IsLead text w from y → (v ≡ Elsewhere) ⊎ (v ≡ beyond Elsewhere)
     → v ≡ beyond w
-lead_beyond text Elsewhere from y v l h = absurd l
-lead_beyond text InItem from y v l h = absurd l
 lead_beyond text (InText at) from y v l (inl e) = e
 lead_beyond text (InText at) from y v l (inr e) = e
-lead_beyond text (InFirst at) from y v l h = absurd l
+lead_beyond text w from y v l h = absurd l
 
 pub fits_apart : (text : List ℕ) (w : Within) (from to : ℕ) (before : Siblings) (x : Ranged) (kids : Siblings) → x.marker ≡ false
     → Fits text w from to (beside before (Node x kids Empty)) → FitsApart text w from to before x kids

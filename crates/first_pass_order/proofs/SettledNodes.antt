@@ -12,7 +12,7 @@ use Rattle.first_pass_grammar.specs.Before.{nothing}
 use Rattle.first_pass_grammar.specs.Blocks.{LeafBlock}
 use Rattle.first_pass_grammar.specs.Derivation.{block_items, as_title, row_items, tight_in, items_of, Tables, Derives}
 use Rattle.first_pass_grammar.specs.Leaves.{Document}
-use Rattle.first_pass_grammar.specs.Rows.{What, ALeaf, AQuote, AList, AnItem, AFootnote, ADefinitionList, ATitle, ADefinition, Rows, End, OneOf, is_loose}
+use Rattle.first_pass_grammar.specs.Rows.{What, ALeaf, ATitle, Rows, End, OneOf, is_loose}
 use Rattle.first_pass_grammar.specs.Rows.{rows_of}
 use Rattle.first_pass_grammar.proofs.Each.EachLeaf.{HoldsOfBlocks, HoldsInBlocks, IsBlockOf}
 use Rattle.first_pass_grammar.proofs.Each.EachRow.{HoldsOfRow, HoldsOfEachRow, derived_rows, tight_nodes}
@@ -73,13 +73,8 @@ title_settled (x ∷ items) h = (refl, h.2)
 row_settled : (depth : ℕ) (tight loose : Bool) (start : ℕ) (w : What) (inner : Rows) → HoldsOfRow SettledBlock w inner
     → AreSettled (row_items depth tight loose start w)
 row_settled depth tight loose start (ALeaf block) inner h = block_settled depth tight block (items_settled block.items h.0)
-row_settled depth tight loose start (AQuote kind e) inner h = (refl, tt)
-row_settled depth tight loose start (AList byte number e) inner h = (refl, tt)
-row_settled depth tight loose start (AnItem columns e) inner h = (refl, tt)
-row_settled depth tight loose start (AFootnote index e) inner h = (refl, tt)
-row_settled depth tight loose start (ADefinitionList t e) inner h = (refl, tt)
 row_settled depth tight loose start (ATitle block) inner h = deeper_nodes IsSettled depth (as_title block.items) (title_settled block.items h.0)
-row_settled depth tight loose start (ADefinition columns e) inner h = (refl, tt)
+row_settled depth tight loose start w inner h = (refl, tt)
 
 forest_settled : (depth : ℕ) (tight : Bool) (rows : Rows) → HoldsOfEachRow SettledBlock rows → AreSettled (items_of depth tight rows)
 unfolding HoldsOfEachRow items_of

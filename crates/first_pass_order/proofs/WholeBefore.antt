@@ -59,10 +59,6 @@ module _ (d : Document) where
       let rows = each_row (AreWholeTables d.names) false w.before f.«end» f.blocks blocks in
       subst (ShowsMore d.names w.nodes) (sym is) (rendered_shows d.names 1 f.«end» w.nodes w.list (rows_on false w f) list rows)
   becomes_shows [] [] w (f ∷ g ∷ more) s forest tables silent list are becomes = absurd are
-  becomes_shows [] (place ∷ places) w further s forest tables silent list are becomes = absurd becomes
-  becomes_shows (InList byte loose ∷ frames) [] w further s forest tables silent list are becomes = absurd becomes
-  becomes_shows (InDefinitions loose ∷ frames) [] w further s forest tables silent list are becomes = absurd becomes
-  becomes_shows (InContainer c ∷ frames) [] w further s forest tables silent list are becomes = absurd becomes
   becomes_shows (InList byte loose ∷ frames) (place ∷ places) w further s forest tables silent list are becomes =
       let inside : Unfinished = record { nodes = w.nodes; list = OneList place (ItemsOf byte) loose; before = w.before; defined = w.defined } in
       becomes_shows frames places inside further s forest tables silent.1 silent.0 are becomes
@@ -84,6 +80,7 @@ module _ (d : Document) where
       (becomes_shows (loosened gap frames) places now further next forest tables still (silent_as now.nodes c f.«end»)
       (subst (λ (path : List Container). AreFurther d path now.before next.from next.lines further) (sym (containers-loosened gap frames)) are)
       becomes)
+  becomes_shows frames places w further s forest tables silent list are becomes = absurd becomes
 
 -- If tables follow some marks, and all marks together are whole tables, the first marks are whole tables: those of a
 -- row or a cell begin no table.

@@ -67,21 +67,17 @@ none_kept old new (ix ∷ s) k h = (k ix.0 h.0, none_kept old new s k h.1)
 pub modified_keeps : (nodes : List (ℕ × Item)) (place : ℕ) (g : Item → Item)
     → ((x : Item) → may_not_open x.body ≡ false → may_not_open (g x).body ≡ false)
     → KeepNoRows nodes (modify nodes place g)
-modified_keeps [] place g k i h = h
 modified_keeps (n ∷ nodes) zero g k zero h = k n.1 h
-modified_keeps (n ∷ nodes) zero g k (suc i) h = h
-modified_keeps (n ∷ nodes) (suc place) g k zero h = h
 modified_keeps (n ∷ nodes) (suc place) g k (suc i) h = modified_keeps nodes place g k i h
+modified_keeps nodes place g k w h = h
 
 -- a change of a node that is not open
 pub other_keeps : (nodes : List (ℕ × Item)) (place : ℕ) (g : Item → Item) (b : ItemBody) → body_at nodes place ≡ Some b → may_not_open b ≡ true
     → KeepNoRows nodes (modify nodes place g)
-other_keeps [] place g b is own i h = h
 other_keeps (n ∷ nodes) zero g b is own zero h =
     (let e : n.1.body ≡ b = same_Some n.1.body b is in absurd (true≢false (sym own ∙ sym (ap may_not_open e) ∙ h)))
-other_keeps (n ∷ nodes) zero g b is own (suc i) h = h
-other_keeps (n ∷ nodes) (suc place) g b is own zero h = h
 other_keeps (n ∷ nodes) (suc place) g b is own (suc i) h = other_keeps nodes place g b is own i h
+other_keeps nodes place g b is own w h = h
 
 shallower_keeps : (nodes : List (ℕ × Item)) → KeepNoRows nodes (map shallower nodes)
 shallower_keeps [] i h = h

@@ -149,15 +149,10 @@ row_nodes names depth true loose start (ALeaf block) inner h =
     (tight_nodes IsSilent tight_silent depth (at_depth depth block.items) (deeper_nodes depth block.items (block_silent block.items h.0)))
 row_nodes names depth false loose start (ALeaf block) inner h =
     silent_nodes names (at_depth depth block.items) (deeper_nodes depth block.items (block_silent block.items h.0))
-row_nodes names depth tight loose start (AQuote kind e) inner h = refl
-row_nodes names depth tight loose start (AList byte number e) inner h = refl
-row_nodes names depth tight loose start (AnItem columns e) inner h = refl
-row_nodes names depth tight loose start (AFootnote index e) inner h = refl
-row_nodes names depth tight loose start (ADefinitionList t e) inner h = refl
 row_nodes names depth tight loose start (ATitle block) inner h =
     silent_nodes names (at_depth depth (as_title block.items))
     (deeper_nodes depth (as_title block.items) (title_silent block.items (block_silent block.items h.0)))
-row_nodes names depth tight loose start (ADefinition columns e) inner h = refl
+row_nodes names depth tight loose start w inner h = refl
 
 rows_nodes : (names : Names) (depth : ℕ) (tight : Bool) (rows : Rows) → HoldsOfEachRow IsSilentBlock rows
     → node_labels names (items_of depth tight rows) ≡ row_labels names rows
@@ -180,15 +175,9 @@ gapped_labels names gap End = refl
 gapped_labels names gap (OneOf row inner next) = refl
 
 no_join : (joins : Joins) (w : What) → continues_list joins w ≡ true → (names : Names) → what_label names w ≡ []
-no_join joins (ALeaf block) h names = refl
-no_join joins (AQuote kind e) h names = refl
-no_join joins (AList byte number e) h names = refl
-no_join joins (AnItem columns e) h names = refl
 no_join (ItemsOf byte) (AFootnote index e) h names = absurd (false≢true h)
 no_join (DefinitionsTo until) (AFootnote index e) h names = absurd (false≢true h)
-no_join joins (ADefinitionList t e) h names = refl
-no_join joins (ATitle block) h names = refl
-no_join joins (ADefinition columns e) h names = refl
+no_join joins w h names = refl
 
 joined_by : (t : Bool) (names : Names) (joins : Joins) (row : Row) (inner next : Rows) → continues_list joins row.what ≡ t
     → row_labels names (if t then gapped row.gap inner else End) ++ row_labels names (if t then next else OneOf row inner next)
@@ -230,13 +219,7 @@ end_labels names (OneOf row inner next) h = absurd h
 
 untitled_silent : (w : What) → is_untitled w ≡ true → (names : Names) → what_label names w ≡ []
 untitled_silent (AFootnote index e) h names = absurd (false≢true h)
-untitled_silent (ALeaf block) h names = refl
-untitled_silent (AQuote kind e) h names = refl
-untitled_silent (AList byte number e) h names = refl
-untitled_silent (AnItem columns e) h names = refl
-untitled_silent (ADefinitionList t e) h names = refl
-untitled_silent (ATitle block) h names = refl
-untitled_silent (ADefinition columns e) h names = refl
+untitled_silent w h names = refl
 
 run_silent : (w : What) (inner : Rows) → is_run_row w ≡ true → HoldsOfRow IsSilentBlock w inner → (names : Names)
     → (what_label names w ≡ []) × (row_labels names inner ≡ [])
@@ -284,10 +267,8 @@ titled_labels false names block gap next o h = refl
 
 -- the rows of a sequence have its labels
 head_label : (names : Names) (opener : Opener) (e : ℕ) → NamesItsLabel names opener → what_label names (what_of opener e) ≡ label_of opener
-head_label names (QuoteMarker kind) e h = refl
-head_label names (ItemMarker byte number columns) e h = refl
 head_label names (FootnoteMarker columns index label) e h = ap (λ (l : List ℕ). l ∷ []) h
-head_label names (DefinitionMarker columns) e h = refl
+head_label names opener e h = refl
 
 sequence_labels : (names : Names) (quoted : Bool) (before : Before) (last : ℕ) (s : Skeleton) → HoldsOfEachLeaf IsSilentBlock s → AreNamedHeads names s
     → row_labels names (rows_of quoted before last s) ≡ footnotes_of s

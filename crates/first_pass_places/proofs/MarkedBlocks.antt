@@ -124,11 +124,8 @@ alone_placed text (Some marker) p blanks h i = (i, h)
 
 first_placed : (text : List ℕ) (from there : Continues) → PlacedFrom text there → PlacedFrom text (after_first from there)
 first_placed text (Blanks e) there k = tt
-first_placed text Line there k = k
-first_placed text (AtPlace p Anything) there k = k
-first_placed text (AtPlace p OnlyALeaf) there k = k
-first_placed text (AtPlace p (TextOf marker)) there k = k
 first_placed text (AtPlace p (OnlyMark marker blanks)) there k = marker_placed text blanks
+first_placed text from there k = k
 
 -- the kind of a fenced code block has a code fence
 if_kind : (t : Bool) (count byte : ℕ) → (if t then LinkDefinitions else Paragraph) ≡ FencedCode count byte → ⊥
@@ -259,10 +256,8 @@ module _ (d : Document) where
   if_opened false o o' h k = k
 
   without_marked : (start : ℕ) (opener : Opener) → OpenerMarked d.text start opener → OpenerMarked d.text start (without_indent opener)
-  without_marked start (QuoteMarker kind) h = tt
-  without_marked start (ItemMarker byte number columns) h = tt
   without_marked start (FootnoteMarker columns index label) h = h
-  without_marked start (DefinitionMarker columns) h = tt
+  without_marked start opener h = tt
 
   container_opened : (path : List Container) (head : Head) (inside : Place) (lines : List Place) (after : AfterMarker)
       → OpenerMarked d.text head.start head.opener → HoldsAfter IsTaskItem after → IsAt d.text inside → AreAt d.text lines

@@ -147,10 +147,8 @@ container_rows text last (DefinitionMarker columns) row inner next own h k =
     (tt, (own, h, items_rows text joins next k), list_rows text joins next k)
 
 opener_what : (text : List ℕ) (start : ℕ) (opener : Opener) (e : ℕ) → OpenerMarked text start opener → WhatMarked text start (what_of opener e)
-opener_what text start (QuoteMarker kind) e h = tt
-opener_what text start (ItemMarker byte number columns) e h = tt
 opener_what text start (FootnoteMarker columns index label) e h = h
-opener_what text start (DefinitionMarker columns) e h = tt
+opener_what text start opener e h = tt
 
 apart_rows : (text : List ℕ) (row : Row) (inner : Rows) (o : Option Definitions) → WhatMarked text row.start row.what → RowsMarked text inner
     → DefinitionsMarked text o → DefinitionsMarked text (option_map (apart_after row inner) o)

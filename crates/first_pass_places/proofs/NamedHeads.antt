@@ -8,7 +8,7 @@ use Rattle.first_pass_items.specs.declared.item.CowIndex.{CowIndex}
 use Rattle.first_pass_items.specs.declared.item.Item.{Item}
 use Rattle.first_pass_lines.specs.Places.{Place, start_of}
 use Rattle.first_pass_grammar.specs.declared.kind.AfterMarker.{AfterMarker}
-use Rattle.first_pass_grammar.specs.declared.kind.AfterMarker.TheVariants.{OnLine, TaskText, LineEnds, OnlyTag}
+use Rattle.first_pass_grammar.specs.declared.kind.AfterMarker.TheVariants.{LineEnds}
 use Rattle.first_pass_grammar.specs.declared.kind.Container.{Container}
 use Rattle.first_pass_grammar.specs.Blocks.{Opener, QuoteMarker, ItemMarker, FootnoteMarker, DefinitionMarker, Head, opened, Skeleton, Nil, Then, Node}
 use Rattle.first_pass_grammar.specs.Containers.{at_rest}
@@ -43,10 +43,8 @@ HasNamedHead names (OpensLeaf leaf there left) = Unit {0}
 HasNamedHead names (OpensNode head inside following) = NamesItsLabel names head.opener
 
 without_named : (names : Names) (opener : Opener) → NamesItsLabel names opener → NamesItsLabel names (without_indent opener)
-without_named names (QuoteMarker kind) h = tt
-without_named names (ItemMarker byte number columns) h = tt
 without_named names (FootnoteMarker columns index label) h = h
-without_named names (DefinitionMarker columns) h = tt
+without_named names opener h = tt
 
 label_named : (names : Names) (ix : CowIndex) (written label : List ℕ) → NamesLabel names ix written label → text_named names ix ≡ label
 label_named names ix written label h = ap (λ (o : Option CowStr). unwrap_or (option_map text_of o) []) h.at ∙ h.text
@@ -86,14 +84,12 @@ module _ (d : Document) where
 
   container_opened : (path : List Container) (head : Head) (inside : Place) (lines : List Place) (after : AfterMarker) → NamesItsLabel d.names head.opener
       → IsOpened (opening_by d path head inside lines after)
-  container_opened path head inside lines OnLine h = h
-  container_opened path head inside lines (TaskText marker) h = h
   container_opened path head inside lines (LineEnds marker) h =
       let blanks : Option ℕ = Some (start_of (length d.text) lines) in
       if_opened (next_is_blank (opened head.opener ∷ path) lines)
       (OpensNode (record head { opener = without_indent head.opener }) (only_task marker inside blanks) lines)
       (OpensNode head (only_task marker inside None) lines) (without_named d.names head.opener h) h
-  container_opened path head inside lines OnlyTag h = h
+  container_opened path head inside lines after h = h
 
   start_named : (may : Bool) (p : Place) (s : Start) → start_at d.options may p ≡ Some s → NamesItsLabel d.names s.head.opener
   start_named may p =

@@ -212,13 +212,11 @@ pub closed_renamed : (nodes : List (ℕ × Item)) (place : ℕ) (b c : ItemBody)
     → body_at nodes place ≡ Some b → (at i : ℕ)
     → option_map_or (closed_elsewhere at) (body_at (modify nodes place (λ x. record { start = x.start; «end» = x.«end»; body = c })) i) OtherClosed
     ≡ option_map_or (closed_elsewhere at) (body_at nodes i) OtherClosed
-closed_renamed [] place b c old new is at i = refl
 closed_renamed (n ∷ nodes) zero b c old new is at zero =
     let same : n.1.body ≡ b = cc in
     no_paragraph at c new ∙ sym (ap (closed_elsewhere at) same ∙ no_paragraph at b old)
-closed_renamed (n ∷ nodes) zero b c old new is at (suc i) = refl
-closed_renamed (n ∷ nodes) (suc place) b c old new is at zero = refl
 closed_renamed (n ∷ nodes) (suc place) b c old new is at (suc i) = closed_renamed nodes place b c old new is at i
+closed_renamed nodes place b c old new is at w = refl
 
 -- the body of the innermost open node matches the frames
 abbrev pub IsTop : Options → Option ItemBody → List Frame → Type 0
@@ -259,17 +257,13 @@ top_no_definitions options top (InList byte loose ∷ frames) is none = let b = 
 top_no_definitions options top (InDefinitions loose ∷ frames) is none = absurd none
 
 item_no_definitions : (columns : ℕ) (frames : List Frame) → StandsIn (ListItem columns) frames → NoDefinitions frames
-item_no_definitions columns [] stands = tt
-item_no_definitions columns (InContainer c ∷ frames) stands = tt
-item_no_definitions columns (InList byte loose ∷ frames) stands = tt
 item_no_definitions columns (InDefinitions loose ∷ frames) stands = absurd stands
+item_no_definitions columns frames stands = tt
 
 definition_top : (options : Options) (columns : ℕ) (top : Option ItemBody) (frames : List Frame) → IsTop options top frames
     → StandsIn (Definition columns) frames → (flags : ListFlags) × (top ≡ Some (DefinitionList flags))
-definition_top options columns top [] is stands = absurd stands
-definition_top options columns top (InContainer c ∷ frames) is stands = absurd stands
-definition_top options columns top (InList byte loose ∷ frames) is stands = absurd stands
 definition_top options columns top (InDefinitions loose ∷ frames) is stands = definitions_at options top loose is
+definition_top options columns top frames is stands = absurd stands
 
 -- a closed container is the last child
 closed_as_below : (options : Options) (e place s y : ℕ) (b : ItemBody) (c : Container) (top : Option ItemBody) (frames : List Frame)
@@ -436,10 +430,8 @@ HasDefined (InList byte loose ∷ frames) closed = Unit {0}
 HasDefined (InDefinitions loose ∷ frames) closed = IsDefined closed
 
 top_defined : (options : Options) (f : Forest Item) (frames : List Frame) → IsTop options (top_body f) frames → HasDefined frames (closed_in f)
-top_defined options f [] is = tt
-top_defined options f (InContainer c ∷ frames) is = tt
-top_defined options f (InList byte loose ∷ frames) is = tt
 top_defined options f (InDefinitions loose ∷ frames) is = let b = definitions_at options (top_body f) loose is in closed_defined f b.0 b.1
+top_defined options f frames is = tt
 
 pub open_defined : (options : Options) (f : Forest Item) (frames : List Frame) → AreOpen options f.nodes f.spine frames → HasDefined frames (closed_in f)
 open_defined options f frames o = top_defined options f frames (top_of options f.nodes f.spine frames o)

@@ -128,10 +128,8 @@ blank_after b n path r h = ap is_blank_after (after_zero b path r) ∙ blank_aft
 -- No container begins on a blank line.
 first_by : (t u v : Bool) (b : ℕ) (bs : List ℕ) → is_white b ≡ t → (b == line_feed) ≡ u → (b == carriage_return) ≡ v → is_some (blank_len (b ∷ bs)) ≡ true
     → (t || (u || v)) ≡ true
-first_by true u v b bs e f g h = refl
-first_by false true v b bs e f g h = refl
-first_by false false true b bs e f g h = refl
 first_by false false false b bs e f g h = rw (e, f, g) at h
+first_by t u v b bs e f g h = refl
 
 first_of_blank : (b : ℕ) (bs : List ℕ) → is_some (blank_len (b ∷ bs)) ≡ true → (is_white b || ((b == line_feed) || (b == carriage_return))) ≡ true
 first_of_blank b bs h = first_by (is_white b) (b == line_feed) (b == carriage_return) b bs refl refl refl h
@@ -306,11 +304,9 @@ module _ (d : Document) (defined : Tables) (r : PassState) (p : Place) (lines : 
   blank_at closed (frame ∷ frames) (ix ∷ rest) o has = counts_by d.options r closed (body_at r.tree.nodes ix.0) frame frames o.0 has
 
   same_tree : (b : Option ItemBody) → r.begin_list_item ≡ None → (blank_read_by r b).tree ≡ r.tree
-  same_tree None none = refl
-  same_tree (Some (BlockQuoteBody kind)) none = refl
   same_tree (Some (ListItemBody columns)) none = rw none refl
   same_tree (Some (DefinitionListDefinition columns)) none = rw none refl
-  same_tree (Some b) none = refl
+  same_tree b none = refl
 
   same_none : (b : Option ItemBody) → (blank_read_by r b).begin_list_item ≡ r.begin_list_item
   same_none None = refl

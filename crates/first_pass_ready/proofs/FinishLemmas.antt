@@ -9,7 +9,7 @@ use Rattle.first_pass_tree.specs.declared.tree_index.TreeIndex.{TreeIndex}
 use Rattle.first_pass_tree.specs.Forest.{Forest, IsForest, with_body_at, body_at}
 use Rattle.first_pass_lines.specs.Places.{Place}
 use Rattle.first_pass_grammar.specs.declared.kind.Container.{Container}
-use Rattle.first_pass_grammar.specs.declared.kind.Container.TheVariants.{BlockQuote, ListItem, FootnoteDefinition, Definition}
+use Rattle.first_pass_grammar.specs.declared.kind.Container.TheVariants.{Definition}
 use Rattle.first_pass_grammar.specs.Leaves.{Document}
 use Rattle.first_pass_grammar.specs.Before.{is_paragraph_body, definition_may_follow as takes_after}
 use Rattle.first_pass_grammar.specs.Skeleton.{Inside, Opening, Opens}
@@ -82,24 +82,20 @@ left_path options r at ix rest b none spine is =
 pub path_left : (options : Options) (r : PassState) (at : ℕ) (s : List TreeIndex) (b : Option ItemBody)
     → r.tree.spine ≡ s → top_in r.tree.nodes s ≡ b
     → path_of options (if is_list b then popped at r else r).tree ≡ path_of options r.tree
-path_left options r at [] None spine is = refl
 path_left options r at [] (Some b) spine is = cc
-path_left options r at (ix ∷ rest) None spine is = refl
 path_left options r at (ix ∷ rest) (Some (ListBody flags list number)) spine is =
     left_path options r at ix rest (ListBody flags list number) refl spine is
 path_left options r at (ix ∷ rest) (Some (DefinitionList flags)) spine is = left_path options r at ix rest (DefinitionList flags) refl spine is
-path_left options r at (ix ∷ rest) (Some b) spine is = refl
+path_left options r at s b spine is = refl
 
 -- the state after an innermost list, if there is one, is closed
 pub kept_left : (r : PassState) (at : ℕ) (s : List TreeIndex) (b : Option ItemBody) → r.tree.spine ≡ s → top_in r.tree.nodes s ≡ b
     → ((if is_list b then popped at r else r).blank ≡ r.blank)
     × (r.begin_list_item ≡ None → (if is_list b then popped at r else r).begin_list_item ≡ None)
-kept_left r at [] None spine is = (refl, λ none. none)
 kept_left r at [] (Some b) spine is = cc
-kept_left r at (ix ∷ rest) None spine is = (refl, λ none. none)
 kept_left r at (ix ∷ rest) (Some (ListBody flags list number)) spine is = popped_keeps at r ix rest spine
 kept_left r at (ix ∷ rest) (Some (DefinitionList flags)) spine is = popped_keeps at r ix rest spine
-kept_left r at (ix ∷ rest) (Some b) spine is = (refl, λ none. none)
+kept_left r at s b spine is = (refl, λ none. none)
 
 -- after a possible title a definition may begin
 takes_title : (f : Forest Item) (title : TreeIndex) (t : IsTitle f title) → takes_after (last_in f) ≡ true
@@ -284,9 +280,7 @@ list_around : (frame : Frame) (c : Container) (frames : List Frame) → ((b : Co
 list_around (InContainer b) c frames none stands = absurd (none b refl)
 list_around (InList byte loose) c frames none stands = tt
 list_around (InDefinitions loose) (Definition columns) frames none stands = tt
-list_around (InDefinitions loose) (BlockQuote kind) frames none stands = absurd stands
-list_around (InDefinitions loose) (ListItem columns) frames none stands = absurd stands
-list_around (InDefinitions loose) (FootnoteDefinition columns) frames none stands = absurd stands
+list_around frame c frames none stands = absurd stands
 
 list_frame_only : (options : Options) (b : ItemBody) (flags : ListFlags) (frame : Frame) → list_flags_of b ≡ Some flags → frame_of options b ≡ Some frame
     → (c : Container) → frame ≡ InContainer c → ⊥

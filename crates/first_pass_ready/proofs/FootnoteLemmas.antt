@@ -15,7 +15,7 @@ use Rattle.first_pass_tree.specs.declared.tree_index.TreeIndex.{TreeIndex}
 use Rattle.first_pass_tree.specs.Forest.{Forest, IsForest, with_body_at, body_at}
 use Rattle.first_pass_lines.specs.Places.{Place, offset}
 use Rattle.first_pass_grammar.specs.declared.kind.Container.{Container}
-use Rattle.first_pass_grammar.specs.declared.kind.Container.TheVariants.{BlockQuote, ListItem, FootnoteDefinition, Definition}
+use Rattle.first_pass_grammar.specs.declared.kind.Container.TheVariants.{FootnoteDefinition}
 use Rattle.first_pass_grammar.specs.Before.{Before}
 use Rattle.first_pass_grammar.specs.Blocks.{FootnoteMarker}
 use Rattle.first_pass_grammar.specs.Containers.{footnote_columns, in_footnote}
@@ -80,16 +80,13 @@ note_framed options (Some b) n h = cc
 -- if neither a list nor a footnote definition is innermost, the innermost container is no footnote definition
 outside : (options : Options) (nodes : List (ℕ × Item)) (s : List TreeIndex) (frames : List Frame) → AreOpen options nodes s frames → IsPlain frames
     → is_footnote (top_in nodes s) ≡ false → in_footnote (containers_of frames) ≡ false
-outside options nodes [] [] o plain h = refl
 outside options nodes [] (frame ∷ frames) o plain h = absurd o
 outside options nodes (ix ∷ s) [] o plain h = absurd o
-outside options nodes (ix ∷ s) (InContainer (BlockQuote kind) ∷ frames) o plain h = refl
-outside options nodes (ix ∷ s) (InContainer (ListItem n) ∷ frames) o plain h = refl
-outside options nodes (ix ∷ s) (InContainer (Definition n) ∷ frames) o plain h = refl
 outside options nodes (ix ∷ s) (InContainer (FootnoteDefinition n) ∷ frames) o plain h =
     absurd (true≢false (sym (note_framed options (body_at nodes ix.0) n o.0) ∙ h))
 outside options nodes (ix ∷ s) (InList byte loose ∷ frames) o plain h = absurd plain
 outside options nodes (ix ∷ s) (InDefinitions loose ∷ frames) o plain h = absurd plain
+outside options nodes s frames o plain h = refl
 
 -- no list is innermost, and the node around the innermost open node is before the last child of that
 abbrev IsLeft : Document → Tables → Forest Item → Bool → Place → List Place → Type 0

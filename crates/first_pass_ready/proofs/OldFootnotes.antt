@@ -110,18 +110,15 @@ continues_in : (options : Options) (nodes : List (ℕ × Item)) (s : List TreeIn
     → AreOpen options nodes s frames → HasDefined frames closed
     → (is_footnote (top_in nodes s) && (run && not (gfm_footnotes options))) ≡ false
     → ends_old_footnote (lvl frames (tail closed run)) ≡ false
-continues_in options nodes [] [] closed run o has h = refl
 continues_in options nodes [] (frame ∷ frames) closed run o has h = absurd o
 continues_in options nodes (ix ∷ s) [] closed run o has h = absurd o
-continues_in options nodes (ix ∷ s) (InContainer (BlockQuote kind) ∷ frames) closed run o has h = refl
-continues_in options nodes (ix ∷ s) (InContainer (ListItem n) ∷ frames) closed run o has h = refl
-continues_in options nodes (ix ∷ s) (InContainer (Definition n) ∷ frames) closed run o has h = refl
 continues_in options nodes (ix ∷ s) (InContainer (FootnoteDefinition n) ∷ frames) closed run o has h =
     ap (λ (t : Bool). (n == 0) && (run && not t)) (plain_not_open closed) ∙ old_by options (body_at nodes ix.0) n run o.0 h
 continues_in options nodes (ix ∷ s) (InList byte loose ∷ frames) closed run o has h = list_stays (in_old_footnote (containers_of frames)) run
 continues_in options nodes (ix ∷ s) (InDefinitions loose ∷ frames) closed run o has h =
     ap (λ (t : Bool). in_old_footnote (containers_of frames) && (run && not t)) (defined_open closed has)
     ∙ list_stays (in_old_footnote (containers_of frames)) run
+continues_in options nodes s frames closed run o has h = refl
 
 pub goes_on_at : (options : Options) (f : Forest Item) (frames : List Frame) (run : Bool) → AreOpen options f.nodes f.spine frames
     → ends_here options f run ≡ false → ends_old_footnote (lvl frames (tail (closed_in f) run)) ≡ false

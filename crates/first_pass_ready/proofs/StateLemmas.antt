@@ -186,12 +186,9 @@ framed_open options nodes ix rest (frame ∷ frames) o = (frame, o.0)
 -- the state beside the tree
 kept_by : (e : ℕ) (r : PassState) (ix : TreeIndex) (rest : List TreeIndex) (b : Option ItemBody)
     → (let q : PassState = popped_by r (closed_by r.tree e (ix ∷ rest)) ix b in (q.blank ≡ r.blank) × (r.begin_list_item ≡ None → q.begin_list_item ≡ None))
-kept_by e r ix rest None = (refl, λ none. none)
-kept_by e r ix rest (Some (ListBody flags list number)) = (refl, λ none. none)
-kept_by e r ix rest (Some (DefinitionList flags)) = (refl, λ none. none)
 kept_by e r ix rest (Some (ListItemBody columns)) = (refl, λ none. refl)
 kept_by e r ix rest (Some (DefinitionListDefinition columns)) = (refl, λ none. refl)
-kept_by e r ix rest (Some b) = (refl, λ none. none)
+kept_by e r ix rest b = (refl, λ none. none)
 
 keeps_by : (e : ℕ) (r : PassState) (ix : TreeIndex) (rest : List TreeIndex) (o : Option TreeIndex) → possible_title r.tree ≡ o → r.tree.spine ≡ ix ∷ rest
     → ((popped e r).blank ≡ r.blank) × (r.begin_list_item ≡ None → (popped e r).begin_list_item ≡ None)
@@ -419,23 +416,18 @@ module _ (e : ℕ) (r : PassState) (ix : TreeIndex) (rest : List TreeIndex) wher
   list_spine_by false = refl
 
   spine_by : (b : Option ItemBody) → (popped_by r (closed_by r.tree e (ix ∷ rest)) ix b).tree.spine ≡ rest
-  spine_by None = refl
   spine_by (Some (ListBody flags list number)) = list_spine_by (bit_and flags.0 1 == 1)
   spine_by (Some (DefinitionList flags)) = list_spine_by (bit_and flags.0 1 == 1)
-  spine_by (Some (ListItemBody columns)) = refl
-  spine_by (Some (DefinitionListDefinition columns)) = refl
-  spine_by (Some b) = refl
+  spine_by b = refl
 
 -- a body that is no container's changes to another that is none
 pub unnamed : (options : Options) (nodes : List (ℕ × Item)) (place : ℕ) (a b : ItemBody) → container_of options a ≡ None → container_of options b ≡ None
     → body_at nodes place ≡ Some a → (i : ℕ)
     → option_and_then (container_of options) (body_at (modify nodes place (λ x. record { start = x.start; «end» = x.«end»; body = b })) i)
     ≡ option_and_then (container_of options) (body_at nodes i)
-unnamed options [] place a b old new is i = refl
 unnamed options (n ∷ nodes) zero a b old new is zero = (let h : n.1.body ≡ a = cc in new ∙ sym (ap (container_of options) h ∙ old))
-unnamed options (n ∷ nodes) zero a b old new is (suc i) = refl
-unnamed options (n ∷ nodes) (suc place) a b old new is zero = refl
 unnamed options (n ∷ nodes) (suc place) a b old new is (suc i) = unnamed options nodes place a b old new is i
+unnamed options nodes place a b old new is w = refl
 
 module _ (e : ℕ) (r : PassState) (ix : TreeIndex) (rest : List TreeIndex) where
   -- a possible title that becomes a paragraph is no container, before or after

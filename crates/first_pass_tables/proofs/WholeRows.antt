@@ -2,7 +2,7 @@
 use Rattle.std.proofs.Common.{◌≡◌, ℕ, suc, ◌-◌, List, [], ◌∷◌, ◌++◌, map, refl, sym, ap, subst, ◌∙◌, arith}
 use Rattle.first_pass_items.specs.declared.item.Item.{Item}
 use Rattle.first_pass_items.specs.declared.item.ItemBody.{ItemBody}
-use Rattle.first_pass_items.specs.declared.item.ItemBody.TheVariants.{Table, TableHead, TableRow, TableCell}
+use Rattle.first_pass_items.specs.declared.item.ItemBody.TheVariants.{Table, TableHead}
 use Rattle.first_pass_tree.specs.Forest.{Forest}
 use Rattle.first_pass_tokens.specs.Braces.{no_braces}
 use Rattle.first_pass_tokens.specs.LineTokens.{Spot, spot}
@@ -28,9 +28,6 @@ shown_free : (m n : Names) (depth start «end» : ℕ) (b : ItemBody) (more : Li
     → (shown m depth start «end» b ≡ shown n depth start «end» b) × HasNoTable more
 unfolding HasNoTable
 shown_free m n depth start end (Table ix) more h = absurd h
-shown_free m n depth start end TableHead more h = (refl, h)
-shown_free m n depth start end TableRow more h = (refl, h)
-shown_free m n depth start end TableCell more h = (refl, h)
 shown_free m n depth start end b more h = (refl, h)
 
 marks_free : (m n : Names) (nodes : List (ℕ × Item)) → HasNoTable (marks n nodes) → marks m nodes ≡ marks n nodes

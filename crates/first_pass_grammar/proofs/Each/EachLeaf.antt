@@ -143,11 +143,8 @@ tag_before c (line ∷ lines) =
 
 first_before : (from there : Continues) → TaskBefore there → TaskBefore (after_first from there)
 first_before (Blanks e) there k = tt
-first_before Line there k = k
-first_before (AtPlace p Anything) there k = k
-first_before (AtPlace p OnlyALeaf) there k = k
-first_before (AtPlace p (TextOf marker)) there k = k
 first_before (AtPlace p (OnlyMark marker blanks)) there k = marker_before blanks
+first_before from there k = k
 
 onward_before : (left : Remaining) → TaskBefore (onward left).0
 onward_before (Lines lines) = tt

@@ -31,10 +31,8 @@ none_within texts (SynthesizeText ix) h = absurd (true≢false h)
 none_within texts _ h = tt
 
 ready_within : (texts : List CowStr) (p : Piece) → NamesNone p → PieceWithin texts p
-ready_within texts (Left n) h = tt
-ready_within texts (Begins dropped escaped) h = tt
 ready_within texts (Token dropped n body) h = none_within texts body h
-ready_within texts (Run n opens closes) h = tt
+ready_within texts p h = tt
 
 becomes_within : (texts : List CowStr) (b : MathBraces) (found : TokenStart) (p : Piece) → ReadyNamesNone found → MakesPiece texts b found p
     → PieceWithin texts p

@@ -167,10 +167,8 @@ beyond-again text (InFirst before) from to row h = h
 
 following-lead : (text : List ℕ) (w : Within) (at from to : ℕ) (x : Ranged) (row : Siblings)
     → IsLead text w at x → Fits text (beyond w) from to row → Fits text Elsewhere from to row
-following-lead text Elsewhere at from to x row l h = absurd l
-following-lead text InItem at from to x row l h = absurd l
 following-lead text (InText before) at from to x row l h = h
-following-lead text (InFirst before) at from to x row l h = absurd l
+following-lead text w at from to x row l h = absurd l
 
 -- a task list item marker may start from an earlier offset on
 fits-earlier_lead : (text : List ℕ) (a b from to : ℕ) (row : Siblings) → a ≤ b → Fits text (InText b) from to row → Fits text (InText a) from to row
@@ -204,10 +202,8 @@ item_by text false false false a b from to row more h = h
 
 below_earlier : (text : List ℕ) (w : Within) (a b : ℕ) (x : Ranged) (from to : ℕ) (row : Siblings) → a ≤ b
     → Fits text (below w b x) from to row → Fits text (below w a x) from to row
-below_earlier text Elsewhere a b x from to row more h = h
 below_earlier text InItem a b x from to row more h = item_by text x.item x.text_block x.definitions a b from to row more h
-below_earlier text (InText at) a b x from to row more h = h
-below_earlier text (InFirst at) a b x from to row more h = h
+below_earlier text w a b x from to row more h = h
 
 earlier_by : (text : List ℕ) (w : Within) (a b to : ℕ) (row : Siblings)
     → ((x : Ranged) → IsLead text w b x → ⊥) → a ≤ b → Fits text w b to row → Fits text w a to row

@@ -56,10 +56,6 @@ finish_of d [] [] w from lines [] forest tables are becomes = absurd becomes
 finish_of d [] [] w from lines (f ∷ []) forest tables (seq, e) (is, tables_are) =
     (f.blocks, seq, is ∙ ap (λ z. rendered 1 z w.nodes w.list (rows_of false w.before z f.blocks)) e, tables_are)
 finish_of d [] [] w from lines (f ∷ g ∷ more) forest tables are becomes = absurd are
-finish_of d [] (o ∷ os) w from lines further forest tables are becomes = becomes
-finish_of d (InContainer c ∷ frames) [] w from lines further forest tables are becomes = becomes
-finish_of d (InList byte loose ∷ frames) [] w from lines further forest tables are becomes = becomes
-finish_of d (InDefinitions loose ∷ frames) [] w from lines further forest tables are becomes = becomes
 finish_of d (InDefinitions loose ∷ frames) (o ∷ os) w from lines further forest tables are becomes =
     finish_of d frames os (record w { list = definitions_open o loose w.list }) from lines further forest tables are becomes
 finish_of d (InList byte loose ∷ frames) (o ∷ os) w from lines further forest tables are becomes =
@@ -78,6 +74,7 @@ finish_of d (InContainer c ∷ frames) (o ∷ os) w from lines (f ∷ further) f
           (subst (λ p. AreFurther d p now (onward mid).0 (onward mid).1 further) (sym (containers-loosened gap frames)) are)
           (subst (λ z. Becomes (InContainer c ∷ frames) (o ∷ os) w (further_to f.blocks z ∷ further) forest tables) is becomes),
     )
+finish_of d frames os w from lines further forest tables are becomes = becomes
 
 -- what finishes the open nodes has further parts that complete them
 of_finish : (d : Document) (frames : List Frame) (os : List ℕ) (w : Unfinished) (from : Continues) (lines : List Place) (forest : List (ℕ × Item))
@@ -85,10 +82,6 @@ of_finish : (d : Document) (frames : List Frame) (os : List ℕ) (w : Unfinished
     → (further : List Further) × AreFurther d (containers_of frames) w.before from lines further × Becomes frames os w further forest tables
 unfolding AreFurther Becomes Finish
 of_finish d [] [] w from lines forest tables (s, seq, is, tables_are) = (further_to s (length d.text) ∷ [], (seq, refl), (is, tables_are))
-of_finish d [] (o ∷ os) w from lines forest tables fin = absurd fin
-of_finish d (InContainer c ∷ frames) [] w from lines forest tables fin = absurd fin
-of_finish d (InList byte loose ∷ frames) [] w from lines forest tables fin = absurd fin
-of_finish d (InDefinitions loose ∷ frames) [] w from lines forest tables fin = absurd fin
 of_finish d (InDefinitions loose ∷ frames) (o ∷ os) w from lines forest tables fin =
     of_finish d frames os (record w { list = definitions_open o loose w.list }) from lines forest tables fin
 of_finish d (InList byte loose ∷ frames) (o ∷ os) w from lines forest tables fin =
@@ -103,6 +96,7 @@ of_finish d (InContainer c ∷ frames) (o ∷ os) w from lines forest tables (s,
     let are : AreFurther d (containers_of frames) now (onward mid).0 (onward mid).1 r.0 =
     subst (λ p. AreFurther d p now (onward mid).0 (onward mid).1 r.0) (containers-loosened gap frames) r.1 in
     (further_to s e ∷ r.0, (mid, seq, refl, are), r.2)
+of_finish d frames os w from lines forest tables fin = absurd fin
 
 -- the end of open nodes: the last child of the innermost one, and whether the blank lines after it include a counting
 -- one

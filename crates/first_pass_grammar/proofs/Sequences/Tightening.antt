@@ -159,14 +159,10 @@ tight_row d loose start (ATitle b) h = absurd h
 tight_row d loose start (ADefinition columns x) h = absurd h
 
 block_in : (loose : Bool) (w : What) → NoItem w → tight_in false loose w ≡ tight_in true loose w
-block_in loose (ALeaf b) h = refl
-block_in loose (AQuote kind x) h = refl
-block_in loose (AList byte number x) h = refl
 block_in loose (AnItem columns x) h = absurd h
-block_in loose (AFootnote index x) h = refl
-block_in loose (ADefinitionList t x) h = refl
 block_in loose (ATitle b) h = absurd h
 block_in loose (ADefinition columns x) h = absurd h
+block_in loose w h = refl
 
 -- the items of blocks in a tight list are those of the same blocks outside of one, with their paragraphs tightened
 tight_items : (d : ℕ) (r : Rows) → AreBlocks r → map (tightened d) (items_of d false r) ≡ items_of d true r

@@ -192,13 +192,11 @@ only_index ix = option_map (λ (at : HeadingIndex). record { 0 = 0 }) ix
 
 both_given : (m n : Names) (i j : Option HeadingIndex) (attributes : Option Attributes) → NamesAttributes m i attributes → NamesAttributes n j attributes
     → only_index i ≡ only_index j
-both_given m n None None None h k = refl
-both_given m n None None (Some attributes) h k = refl
 both_given m n None (Some j) None h k = absurd k
 both_given m n None (Some j) (Some attributes) h k = absurd h
 both_given m n (Some i) None None h k = absurd h
 both_given m n (Some i) None (Some attributes) h k = absurd k
-both_given m n (Some i) (Some j) attributes h k = refl
+both_given m n i j attributes h k = refl
 
 -- Items that differ only in their indices read alike if these name the same.
 indexed_alike : (m n : Names) (start «end» : ℕ) (body body' : ItemBody) → only_kind body ≡ only_kind body'

@@ -326,12 +326,6 @@ leaf_alike m n before b b' next next' own a =
 pub end_alike : (m n : Names) (quoted : Bool) (before : Before) (s t : Skeleton) → Alike m n s t → before_end quoted before s ≡ before_end quoted before t
 unfolding before_end
 end_alike m n quoted before Nil Nil a = refl
-end_alike m n quoted before Nil (Then leaf' next') a = absurd a
-end_alike m n quoted before Nil (Node head' e' kids' next') a = absurd a
-end_alike m n quoted before (Then leaf next) Nil a = absurd a
-end_alike m n quoted before (Then leaf next) (Node head' e' kids' next') a = absurd a
-end_alike m n quoted before (Node head e kids next) Nil a = absurd a
-end_alike m n quoted before (Node head e kids next) (Then leaf' next') a = absurd a
 end_alike m n quoted before (Then BlankLine next) (Then BlankLine next') a = end_alike m n quoted (after_blank quoted before) next next' a.1
 end_alike m n quoted before (Then BlankLine next) (Then (Block b') next') a = absurd a.0
 end_alike m n quoted before (Then (Block b) next) (Then BlankLine next') a = absurd a.0
@@ -343,18 +337,13 @@ end_alike m n quoted before (Node head e kids next) (Node head' e' kids' next') 
     end_alike m n quoted (after_container c (before_end (is_quote c) nothing kids)) next next' a.3
     ∙ ap (λ z. before_end quoted (after_container c z) next') (end_alike m n (is_quote c) nothing kids kids' a.2)
     ∙ ap (λ (z : Container). before_end quoted (after_container z (before_end (is_quote z) nothing kids')) next') (opened_alike head head' a.0.0)
+end_alike m n quoted before s t a = absurd a
 
 -- the rows of alike skeletons
 rows_alike : (m n : Names) (quoted : Bool) (before : Before) (last : ℕ) (s t : Skeleton) → Alike m n s t
     → AlikeRows m n (rows_of quoted before last s) (rows_of quoted before last t)
 unfolding rows_of
 rows_alike m n quoted before last Nil Nil a = tt
-rows_alike m n quoted before last Nil (Then leaf' next') a = absurd a
-rows_alike m n quoted before last Nil (Node head' e' kids' next') a = absurd a
-rows_alike m n quoted before last (Then leaf next) Nil a = absurd a
-rows_alike m n quoted before last (Then leaf next) (Node head' e' kids' next') a = absurd a
-rows_alike m n quoted before last (Node head e kids next) Nil a = absurd a
-rows_alike m n quoted before last (Node head e kids next) (Then leaf' next') a = absurd a
 rows_alike m n quoted before last (Then BlankLine next) (Then BlankLine next') a = rows_alike m n quoted (after_blank quoted before) last next next' a.1
 rows_alike m n quoted before last (Then BlankLine next) (Then (Block b') next') a = absurd a.0
 rows_alike m n quoted before last (Then (Block b) next) (Then BlankLine next') a = absurd a.0
@@ -384,6 +373,7 @@ rows_alike m n quoted before last (Node head e kids next) (Node head' e' kids' n
     (subst (λ z. AlikeRows m n rows z) (opener_alike last head head' row (inside_of c' kids') later a.0.0)
     (container_alike m n last head.opener (row_of head e before.counted) row (inside_of c kids) (inside_of c' kids') (after_of c inner next) later
     (head_alike m n head head' e before.counted a.0, own, all)))
+rows_alike m n quoted before last s t a = absurd a
 
 -- a footnote definition as it is read, given how its index is read
 abbrev footnote_shown : ℕ → ℕ → ℕ → List (ℕ × (Item × Option Named)) → List (ℕ × (Item × Option Named))
@@ -449,12 +439,6 @@ forest_alike m n quoted before depth last s t a = rows_read m n depth false _ _ 
 definitions_alike : (m n : Names) (s t : Skeleton) → Alike m n s t → definitions_of s ≡ definitions_of t
 unfolding definitions_of
 definitions_alike m n Nil Nil a = refl
-definitions_alike m n Nil (Then leaf' next') a = absurd a
-definitions_alike m n Nil (Node head' e' kids' next') a = absurd a
-definitions_alike m n (Then leaf next) Nil a = absurd a
-definitions_alike m n (Then leaf next) (Node head' e' kids' next') a = absurd a
-definitions_alike m n (Node head e kids next) Nil a = absurd a
-definitions_alike m n (Node head e kids next) (Then leaf' next') a = absurd a
 definitions_alike m n (Then BlankLine next) (Then BlankLine next') a = definitions_alike m n next next' a.1
 definitions_alike m n (Then BlankLine next) (Then (Block b') next') a = absurd a.0
 definitions_alike m n (Then (Block b) next) (Then BlankLine next') a = absurd a.0
@@ -462,21 +446,17 @@ definitions_alike m n (Then (Block b) next) (Then (Block b') next') a =
     ap (λ z. z ++ definitions_of next) a.0.3 ∙ ap (λ z. b'.definitions ++ z) (definitions_alike m n next next' a.1)
 definitions_alike m n (Node head e kids next) (Node head' e' kids' next') a =
     ap (λ z. z ++ definitions_of next) (definitions_alike m n kids kids' a.2) ∙ ap (λ z. definitions_of kids' ++ z) (definitions_alike m n next next' a.3)
+definitions_alike m n s t a = absurd a
 
 footnotes_alike : (m n : Names) (s t : Skeleton) → Alike m n s t → footnotes_of s ≡ footnotes_of t
 unfolding footnotes_of
 footnotes_alike m n Nil Nil a = refl
-footnotes_alike m n Nil (Then leaf' next') a = absurd a
-footnotes_alike m n Nil (Node head' e' kids' next') a = absurd a
-footnotes_alike m n (Then leaf next) Nil a = absurd a
-footnotes_alike m n (Then leaf next) (Node head' e' kids' next') a = absurd a
-footnotes_alike m n (Node head e kids next) Nil a = absurd a
-footnotes_alike m n (Node head e kids next) (Then leaf' next') a = absurd a
 footnotes_alike m n (Then leaf next) (Then leaf' next') a = footnotes_alike m n next next' a.1
 footnotes_alike m n (Node head e kids next) (Node head' e' kids' next') a =
     ap (λ z. z ++ (footnotes_of kids ++ footnotes_of next)) (label_alike head head' a.0.0)
     ∙ ap (λ z. label_of head'.opener ++ (z ++ footnotes_of next)) (footnotes_alike m n kids kids' a.2)
     ∙ ap (λ z. label_of head'.opener ++ (footnotes_of kids' ++ z)) (footnotes_alike m n next next' a.3)
+footnotes_alike m n s t a = absurd a
 
 pub told_alike : (m n : Names) (tables : Tables) (s t : Skeleton) → Alike m n s t → with_all_of tables s ≡ with_all_of tables t
 told_alike m n tables s t a =

@@ -347,11 +347,8 @@ ends_at_once d (Node head e' kids next) l from lines stop left e (inside, follow
 
 after_first_free : (from there : Continues) → HoldsNoIndex from → HoldsNoIndex there → HoldsNoIndex (after_first from there)
 after_first_free (Blanks e) there h k = tt
-after_first_free Line there h k = k
-after_first_free (AtPlace p Anything) there h k = k
-after_first_free (AtPlace p OnlyALeaf) there h k = k
-after_first_free (AtPlace p (TextOf marker)) there h k = k
 after_first_free (AtPlace p (OnlyMark marker blanks)) there h k = marker_free blanks
+after_first_free from there h k = k
 
 onward_free : (left : Remaining) → HoldsNoIndex (onward left).0
 onward_free (Lines lines) = tt

@@ -315,11 +315,8 @@ module _ (d : Document) (full : HeadsAreFull d) where
 
   after_first_plain : (from there : Continues) → PlainFrom d.text there → PlainFrom d.text (after_first from there)
   after_first_plain (Blanks e) there k = tt
-  after_first_plain Line there k = k
-  after_first_plain (AtPlace p Anything) there k = k
-  after_first_plain (AtPlace p OnlyALeaf) there k = k
-  after_first_plain (AtPlace p (TextOf marker)) there k = k
   after_first_plain (AtPlace p (OnlyMark marker blanks)) there k = marker_plain blanks
+  after_first_plain from there k = k
 
 -- each block of a sequence has whole tables, or no part of a table
 pub sequence_whole : (d : Document) (full : HeadsAreFull d) (s : Skeleton) (l : Level) (from : Continues) (lines : List Place) (left : Remaining)
