@@ -17,7 +17,7 @@ owed_by (suc o) r =
 pub owed_first : (r : Rest) → after_columns (indent (without_owed r)) (without_owed r) ≡ after_columns (indent r) r
 owed_first r = sym (owed_by r.owed r)
 
--- s is what follows the space or the tab with which r begins
+-- s is what follows one or more spaces or tabs with which r begins
 pub record TakesBlank (r s : Rest) : Type 0 where
   pub none : s.owed ≡ 0
   pub all : after_columns (indent s) s ≡ after_columns (indent r) r
@@ -48,6 +48,26 @@ blank_by (b ∷ bs) r s l o h = by (b == space) (b == tab) refl refl h
 
 pub takes_blank : (r s : Rest) → r.owed ≡ 0 → past_blank r ≡ Some s → TakesBlank r s
 takes_blank r s o h = blank_by r.left r s refl o h
+
+two_tabs : (r : Rest) (bs : List ℕ) → r.left ≡ tab ∷ tab ∷ bs → r.owed ≡ 0
+    → TakesBlank r (record { left = bs; taken = r.taken + 2; owed = 0; column = 0 })
+two_tabs r bs l o =
+    let t : Rest = record { left = tab ∷ bs; taken = r.taken + 1; owed = 0; column = 0 } in
+    let s : Rest = record { left = bs; taken = r.taken + 2; owed = 0; column = 0 } in
+    let next : record { left = bs; taken = r.taken + 1 + 1; owed = 0; column = 0 } ≡ s = grind arith in
+    let one = takes_blank r t o (rw l refl) in
+    let two = takes_blank t s refl (ap Some next) in
+    record { none = refl; all = two.all ∙ one.all; fewer = omega (arith, one.fewer, two.fewer) }
+
+-- s is what follows the four tabs with which r begins
+pub four_tabs : (r s : Rest) (bs : List ℕ) → r.left ≡ tab ∷ tab ∷ tab ∷ tab ∷ bs → r.owed ≡ 0
+    → s.left ≡ bs → s.taken ≡ r.taken + 4 → s.owed ≡ 0 → s.column ≡ 0 → TakesBlank r s
+four_tabs r s bs l o left taken owed column =
+    let t : Rest = record { left = tab ∷ tab ∷ bs; taken = r.taken + 2; owed = 0; column = 0 } in
+    let next : record { left = bs; taken = r.taken + 2 + 2; owed = 0; column = 0 } ≡ s = grind (arith, left, taken, owed, column) in
+    let one = two_tabs r (tab ∷ tab ∷ bs) l o in
+    let two = subst (TakesBlank t) next (two_tabs t bs refl refl) in
+    record { none = two.none; all = two.all ∙ one.all; fewer = omega (arith, one.fewer, two.fewer) }
 
 no_columns : (bs : List ℕ) (r : Rest) → past_blank_in r bs ≡ None → columns_of bs r.column ≡ 0
 no_columns [] r h = refl

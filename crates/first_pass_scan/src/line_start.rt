@@ -175,6 +175,7 @@ impl<'a> LineStart<'a> {
         ensures { self.new ≡ after_columns (indent self.old) self.old }
     {
         self.take_owed();
+        while self.take_four_tabs() {}
         while self.take_blank() {}
     }
 
@@ -438,6 +439,24 @@ impl<'a> LineStart<'a> {
             }
             Some(b'\t') => {
                 self.at += 1;
+                self.tab_start = self.at;
+                true
+            }
+            _ => false,
+        }
+    }
+
+    // Takes four tabs with all their columns, and returns whether they were next. No column may be owed.
+    #[inline(always)]
+    fn take_four_tabs(&mut self) -> bool
+        requires { self.old.owed ≡ 0 }
+        ensures none { self.new.owed ≡ 0 }
+        ensures all { after_columns (indent self.new) self.new ≡ after_columns (indent self.old) self.old }
+        ensures fewer { result ≡ true → indent self.new < indent self.old }
+    {
+        match rest_of(self.bytes, self.at) {
+            [b'\t', b'\t', b'\t', b'\t', ..] => {
+                self.at += 4;
                 self.tab_start = self.at;
                 true
             }
