@@ -148,10 +148,11 @@ is_bracket_at text at =
     (slice_index text at == less_than && not (slice_index text (at + 1) == backslash))
     || (slice_index text at == left_bracket || slice_index text at == right_bracket)
 
--- the byte at an offset is `!` with no `[` after it, `.` with no `.` after it, `-` with no `-` after it, or a backslash
--- with no ASCII punctuation after it: it begins no token (CommonMark 2.4, 6.4; smart punctuation: this project)
-abbrev pub is_single_mark_at : List ℕ → ℕ → Bool
-is_single_mark_at text at =
+-- The byte at an offset is `!` with no `[` after it, `.` with no `.` after it, `-` with no `-` after it, or a backslash
+-- with no ASCII punctuation after it. The piece is one byte of plain text (CommonMark 2.4, 6.4; smart punctuation: this
+-- project).
+abbrev pub is_plain_mark_at : List ℕ → ℕ → Bool
+is_plain_mark_at text at =
     (slice_index text at == exclamation_mark && not (slice_index text (at + 1) == left_bracket))
     || ((slice_index text at == full_stop && not (slice_index text (at + 1) == full_stop))
     || ((slice_index text at == hyphen && not (slice_index text (at + 1) == hyphen))

@@ -3,7 +3,7 @@
 ghost use Rattle.std.specs.Prelude.{◌≡◌, ◌||◌, ◌+◌, ◌<◌, ◌≤◌, ◌^◌, true, IfSome, is_some, length, slice_index, take, ℕ, List, IsCharBoundary, IsUtf8};
 ghost use Rattle.first_pass_items.specs.Bytes.{backslash, backquote, hyphen, full_stop, underscore};
 ghost use Rattle.first_pass_tokens.specs.Braces.{MathBraces};
-ghost use Rattle.first_pass_tokens.specs.Pieces.{content_in, IsReadyAt, is_bracket_at, is_single_mark_at, is_inside_word, is_solid_at, dollar_found, special_found, reference_found, dash_found, found_size, FoundSolid, special_piece, backslash_piece, backslash_piece_in, backquote_piece, is_delimiter, char_before, run_in, run_size, is_quote, quote_piece, dot_piece, run_piece, delimiter_piece, bracket_piece, run_at, size, EndsSolid};
+ghost use Rattle.first_pass_tokens.specs.Pieces.{content_in, IsReadyAt, is_bracket_at, is_plain_mark_at, is_inside_word, is_solid_at, dollar_found, special_found, reference_found, dash_found, found_size, FoundSolid, special_piece, backslash_piece, backslash_piece_in, backquote_piece, is_delimiter, char_before, run_in, run_size, is_quote, quote_piece, dot_piece, run_piece, delimiter_piece, bracket_piece, run_at, size, EndsSolid};
 
 use first_pass_entities::entity::scan_reference;
 use first_pass_flank::flank::{DelimiterRun, ends_with_pipe, first_char, last_char};
@@ -95,7 +95,7 @@ pub(crate) fn quick_piece(text: &[u8], content: Content<'_>, at: usize) -> Optio
     requires utf8 { IsUtf8 content.whole.now }
     requires front { text.now ≡ take (length text.now) content.whole.now }
     requires within { at < length text.now }
-    ensures some { is_some result ≡ (is_bracket_at text.now at || (is_single_mark_at text.now at
+    ensures some { is_some result ≡ (is_bracket_at text.now at || (is_plain_mark_at text.now at
         || is_inside_word text.now content.entry.start at)) }
     ensures value { IfSome result (λ piece. (b : MathBraces)
         → IsReadyAt (content_in text.now content.entry b) at piece) }
