@@ -1,6 +1,6 @@
-use Rattle.std.proofs.Common.{ℕ, bit_or, refl, arith}
+use Rattle.std.proofs.Common.{◌≡◌, ℕ, ◌+◌, ◌≤◌, List, length, map, replicate, bit_or, refl, arith}
 use Rattle.std.proofs.lemmas.Simd.{zip2_splat, length-chunk}
-use lib.Lanes.{chunk}
+use lib.Lanes.{chunk, zip2}
 use Rattle.first_pass_items.specs.Bytes.{line_feed, carriage_return, pipe}
 use Rattle.first_pass_lines.proofs.LaneLemmas.{joined, run_in}
 use Rattle.first_pass_lines.proofs.MaskLemmas.{mask_within}
@@ -8,27 +8,28 @@ use Rattle.first_pass_table_scan.specs.Pipes.{is_unpiped}
 use Rattle.first_pass_table_scan.proofs.LowestBits.{none_set, lowest_set, lowest_within}
 use Rattle.first_pass_table_scan.proofs.pipes.scan_unpiped.Goals as goal
 
+-- the 16 lanes of the mask, computed lane by lane
+lanes : (equal : ℕ → ℕ → ℕ) (bs : List ℕ) (at : ℕ) → at + 16 ≤ length bs
+    → let against : ℕ → List ℕ = λ b. zip2 equal (chunk at 16 bs) (replicate 16 b) in
+    zip2 bit_or (zip2 bit_or (against line_feed) (against carriage_return)) (against pipe)
+    ≡ map (λ x. bit_or (bit_or (equal x line_feed) (equal x carriage_return)) (equal x pipe)) (chunk at 16 bs)
+lanes equal bs at room =
+    let v = chunk at 16 bs in
+    let one = λ (b : ℕ). zip2_splat equal v 16 b (length-chunk at 16 bs room) in
+    joined bit_or _ _ v (joined bit_or _ _ v (one line_feed) (one carriage_return)) (one pipe)
+
 pub returns-then-mask-eq0-clause-run : goal.returns-then-mask-eq0-clause-run
 returns-then-mask-eq0-clause-run c =
-    let v = chunk c.args.at 16 c.args.bytes.now in
-    let long = length-chunk c.args.at 16 c.args.bytes.now c.requires in
     run_in is_unpiped c.args.bytes.now c.args.at 16 _ _ c.requires (omega arith) c.type_inv.bytes (none_set _ 16 c.if-mask-eq0.true) _
-    (joined bit_or _ _ v (joined bit_or _ _ v (zip2_splat {Y = ℕ} _ v 16 line_feed long) (zip2_splat {Y = ℕ} _ v 16 carriage_return long))
-    (zip2_splat {Y = ℕ} _ v 16 pipe long)) refl
+    (lanes _ c.args.bytes.now c.args.at c.requires) refl
 
 pub returns-else-mask-eq0-clause-within : goal.returns-else-mask-eq0-clause-within
 returns-else-mask-eq0-clause-within c =
-    let v = chunk c.args.at 16 c.args.bytes.now in
-    let long = length-chunk c.args.at 16 c.args.bytes.now c.requires in
     let within = mask_within is_unpiped c.args.bytes.now c.args.at 16 _ c.requires (omega arith) c.type_inv.bytes _
-    (joined bit_or _ _ v (joined bit_or _ _ v (zip2_splat {Y = ℕ} _ v 16 line_feed long) (zip2_splat {Y = ℕ} _ v 16 carriage_return long))
-    (zip2_splat {Y = ℕ} _ v 16 pipe long)) in
+    (lanes _ c.args.bytes.now c.args.at c.requires) in
     lowest_within _ 16 c.if-mask-eq0.false within (omega arith)
 
 pub returns-else-mask-eq0-clause-run : goal.returns-else-mask-eq0-clause-run
 returns-else-mask-eq0-clause-run c =
-    let v = chunk c.args.at 16 c.args.bytes.now in
-    let long = length-chunk c.args.at 16 c.args.bytes.now c.requires in
     run_in is_unpiped c.args.bytes.now c.args.at 16 _ _ c.requires (omega arith) c.type_inv.bytes (lowest_set _ 16 c.if-mask-eq0.false) _
-    (joined bit_or _ _ v (joined bit_or _ _ v (zip2_splat {Y = ℕ} _ v 16 line_feed long) (zip2_splat {Y = ℕ} _ v 16 carriage_return long))
-    (zip2_splat {Y = ℕ} _ v 16 pipe long)) refl
+    (lanes _ c.args.bytes.now c.args.at c.requires) refl
