@@ -7,7 +7,7 @@ use Rattle.std.proofs.lemmas.List.{drop_more, map-append, length-map, get_or-dro
 use Rattle.first_pass_items.specs.Bytes.{left_parenthesis, right_parenthesis, right_bracket, backslash}
 use Rattle.first_pass_lines.specs.Lines.{is_white_or_line_end}
 use Rattle.first_pass_links.specs.Escapes.{begins_escape}
-use Rattle.first_pass_links.specs.Destinations.{ends_run, closes_none, nesting_after, bare_len, longer}
+use Rattle.first_pass_links.specs.Destinations.{nesting_after, bare_len, longer}
 use Rattle.first_pass_links.specs.Labels.{is_bracket, begins_character, bytes_of, label_len, as_read, label_at}
 use Rattle.first_pass_links.specs.Plain.{is_ordinary, IsPlainLabel}
 use Rattle.first_pass_links.specs.Units.{part, read_of, left_at, kept_unit, Reads}
@@ -24,14 +24,8 @@ ArePlain bs at r = (k : ℕ) → k < r → is_ordinary (get_or bs (at + k) 0) �
 pub are_plain : (bs rest : List ℕ) (at r : ℕ) → rest ≡ drop at bs → ((k : ℕ) → k < r → is_ordinary (get_or rest k 0) ≡ true) → ArePlain bs at r
 are_plain bs rest at r e plain k below = ap is_ordinary (sym (get_or-drop at bs k 0)) ∙ ap (λ xs. is_ordinary (get_or xs k 0)) (sym e) ∙ plain k below
 
-plain_ends : (b : ℕ) → is_ordinary b ≡ true → ends_run b ≡ false
-plain_ends b h = grind (arith, nat_tests, h)
-
-plain_closes : (b n : ℕ) → is_ordinary b ≡ true → closes_none b n ≡ false
-plain_closes b n h = grind (arith, nat_tests, h)
-
-plain_nests : (b n : ℕ) → is_ordinary b ≡ true → nesting_after b n ≡ n
-plain_nests b n h = grind (arith, nat_tests, h)
+plain_runs : (b : ℕ) → is_ordinary b ≡ true → is_run_byte b ≡ true
+plain_runs b h = grind (arith, nat_tests, h)
 
 plain_backslash : (b : ℕ) → is_ordinary b ≡ true → (b == backslash) ≡ false
 plain_backslash b h = grind (arith, nat_tests, h)
@@ -53,10 +47,10 @@ run_plain_byte : (deepest nesting : ℕ) (bs : List ℕ) (at : ℕ) → at < len
     → longer (at + 1) (bare_len deepest nesting 0 (drop (at + 1) bs)) ≡ longer at (bare_len deepest nesting 0 (drop at bs))
 run_plain_byte deepest nesting bs at l plain bound =
     let b = get_or bs at 0 in
-    let same = plain_nests b nesting plain in
+    let f = plain_facts b nesting (plain_runs b plain) in
     let one : suc zero ≡ (if begins_escape (drop at bs) then 2 else 1) = rw (no_escape bs at l (plain_backslash b plain)) refl in
-    ap (λ n. longer (at + 1) (bare_len deepest n 0 (drop (at + 1) bs))) (sym same)
-    ∙ run_unit deepest nesting bs at 1 l one (plain_ends b plain) (plain_closes b nesting plain) (omega arith)
+    ap (λ n. longer (at + 1) (bare_len deepest n 0 (drop (at + 1) bs))) (sym f.2)
+    ∙ run_unit deepest nesting bs at 1 l one f.0 f.1 (let z = f.2 in omega arith)
 
 pub run_plain : (deepest nesting : ℕ) (bs : List ℕ) (at r : ℕ) → at + r ≤ length bs → ArePlain bs at r → nesting ≤ deepest
     → longer (at + r) (bare_len deepest nesting 0 (drop (at + r) bs)) ≡ longer at (bare_len deepest nesting 0 (drop at bs))

@@ -1,7 +1,8 @@
 use Rattle.std.proofs.Common.{◌≡◌, false, sym, ap, ◌∙◌, arith, if◌then◌else◌}
+use Rattle.std.proofs.lemmas.Bool.{ne_eqb}
 use Rattle.first_pass_links.specs.Escapes.{begins_escape}
-use Rattle.first_pass_links.proofs.PlainRuns.{are_plain, run_part}
-use Rattle.first_pass_links.proofs.Backslashes.{other_escapes_none, last_escapes_none, end_escapes_none, run_backslash}
+use Rattle.first_pass_links.proofs.PlainRuns.{are_plain, no_escape, run_part}
+use Rattle.first_pass_links.proofs.Backslashes.{last_escapes_none, end_escapes_none, run_backslash}
 use Rattle.first_pass_links.proofs.destination.text_len.Goals as goal
 use Rattle.first_pass_links.proofs.destination.text_len.Goals.{then-bytes-lt2-via-then-bytes-lt2, then-bytes-lt2-via-else-bytes-lt2+then-ends_run}
 
@@ -10,7 +11,7 @@ returns-then-bytes-ne92-clause-passed c =
     λ deepest nesting bound.
     let bs = c.args.bytes.now in
     run_part deepest nesting bs 1 c.plain_run.result c.requires.some c.requires.part
-    (ap (λ t. if t then 2 else 1) (sym (other_escapes_none bs c.requires.some c.if-bytes-ne92.true)))
+    (ap (λ t. if t then 2 else 1) (sym (no_escape bs 0 c.requires.some (ne_eqb _ _ c.if-bytes-ne92.true))))
     (omega (arith, c.plain_run.ensures.within, c.rest_of.ensures.whole))
     (are_plain bs _ 1 c.plain_run.result c.rest_of.ensures.value c.plain_run.ensures.plain) bound
 
