@@ -1,6 +1,7 @@
-use Rattle.std.proofs.Common.{Result, Ok, Err, OnErr, ◌≡◌, ℕ, min, nat_lt, ◌&&◌, ◌||◌, not, Bool, true, false, List, is_some, refl}
+use Rattle.std.proofs.Common.{◌≡◌, ℕ, min, nat_lt, ◌&&◌, ◌||◌, not, Bool, true, false, List, is_some, refl}
 use Rattle.std.proofs.Common.{sym, ap, ◌∙◌, arith, if◌then◌else◌}
 use Rattle.std.proofs.lemmas.Bool.Decides.{nat_tests}
+use Rattle.first_pass_items.proofs.ResultFacts.{on_err}
 use Rattle.first_pass_lines.specs.Lines.{at_line_end}
 use Rattle.first_pass_lines.specs.Rest.{Rest, indent}
 use Rattle.first_pass_scan.specs.LeafLines.{setext_underline}
@@ -82,11 +83,6 @@ returns-clause-value c =
     c.args.front.now.rest _ _ columns left)
     c.if-branch.false c.if-is_lazy_in_label.false
     (c.is_underline.ensures ∙ underline_at c.args.front.now.rest _ _ columns (c.left.ensures ∙ left))
-
--- a fact in case of an error
-on_err : {A E P : Type 0} (r : Result A E) → P → OnErr r P
-on_err (Ok x) p = tt
-on_err (Err e) p = p
 
 -- it fails only if a table may begin
 err_at : (around : Context) (r : Rest) (columns : ℕ) (bs : List ℕ)
