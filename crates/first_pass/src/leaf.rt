@@ -7,7 +7,6 @@ ghost use Rattle.first_pass.specs.Calls.{AddsAtxHeading, AddsParagraph, AddsRule
 ghost use Rattle.first_pass.specs.Views.{source_text};
 
 use crate::state::FirstPass;
-use first_pass_blocks::text;
 use first_pass_items::item::{HeadingLevel, Item};
 use first_pass_text::{heading, rule};
 use std::alloc::AllocError;
@@ -27,13 +26,7 @@ impl<'a> FirstPass<'a> {
         ensures { IfOk result (λ next. AddsParagraph self.old self.new start_ix tasklist_marker next) }
     {
         let pass = &mut self.pass;
-        let next = text::parse_text(
-            &pass.source,
-            &mut pass.state.tree,
-            &mut pass.allocs,
-            start_ix,
-            tasklist_marker,
-        )?;
+        let next = pass.parse_text(start_ix, tasklist_marker)?;
         pass.state.begin_list_item = None;
         Ok(next)
     }

@@ -9,14 +9,15 @@ use Rattle.first_pass_kinds.specs.declared.kinds.BlockStart.TheVariants.{Marked}
 use Rattle.first_pass_kinds.specs.declared.kinds.MarkedLeaf.{MarkedLeaf}
 use Rattle.first_pass_names.specs.TableEntries.{names_of, NamesMore}
 use Rattle.first_pass_blocks.specs.declared.state.BlockPass.{BlockPass}
-use Rattle.first_pass_blocks.specs.Views.{allocs_of, state_of, source_of, source_options, source_text, tree_of}
+use Rattle.first_pass_blocks.specs.Views.{allocs_of, front_of, state_of, source_of, source_options, source_text, tree_of}
 use Rattle.first_pass_order.specs.LeafBlocks.{AddsKind}
 
--- A pass added a leaf block. It reads the same text, earlier names are kept, no table entry changed, and no item is
--- still empty. The nodes of the block lie between any offset up to the place and the offset at which reading
--- continues. That offset is a character boundary after the line of the place.
+-- A pass added a leaf block. It reads the same text, earlier names are kept, neither a table entry nor the front of the
+-- next line changed, and no item is still empty. The nodes of the block lie between any offset up to the place and the
+-- offset at which reading continues. That offset is a character boundary after the line of the place.
 pub record AddsLeaf (old new : BlockPass) (p : Place) (kind : Kind) (next : ℕ) : Type 0 where
   pub source : source_of new ≡ source_of old
+  pub front : front_of new ≡ front_of old
   pub more : NamesMore (allocs_of old) (allocs_of new)
   pub begin_list_item : (state_of new).begin_list_item ≡ None
   pub block : AddsKind (document (source_text old) (source_options old) (names_of (allocs_of new))) p kind (state_of new).blank (tree_of old)

@@ -15,12 +15,13 @@ use Rattle.first_pass_lists.specs.Closing.{footnote_begun}
 use Rattle.first_pass_blocks.specs.declared.state.BlockPass.{BlockPass}
 use Rattle.first_pass_containers.specs.Positions.{InLine, IsNotBefore}
 use Rattle.first_pass_blocks.specs.Progress.{PassesTo}
-use Rattle.first_pass_blocks.specs.Views.{allocs_of, context_in, state_of, source_of, source_text, tree_of}
+use Rattle.first_pass_blocks.specs.Views.{allocs_of, context_in, front_of, state_of, source_of, source_text, tree_of}
 use Rattle.first_pass_containers.specs.FootnoteHeads.{head_read}
 
--- two passes have the same source, state, names and tables
+-- two passes have the same source, state, names, tables and front of the next line
 abbrev pub StaysSame : BlockPass → BlockPass → Type 0
-StaysSame old new = (source_of new ≡ source_of old) × (state_of new ≡ state_of old) × (allocs_of new ≡ allocs_of old)
+StaysSame old new =
+    (source_of new ≡ source_of old) × (state_of new ≡ state_of old) × (allocs_of new ≡ allocs_of old) × (front_of new ≡ front_of old)
 
 -- A footnote definition with this head is open, and starts at an offset. Its label is defined, and an index names it.
 -- The label is borrowed from the text if nothing in it changes (this project).

@@ -1,6 +1,7 @@
--- A pass that read a block (only private functions and `parse_block` cite this).
-use Rattle.std.specs.Prelude.{◌≡◌, ℕ, ◌≤◌, List, IsCharBoundary}
+-- A pass that read a block (of public calls, only `parse_block` and `parse_text` cite this).
+use Rattle.std.specs.Prelude.{◌≡◌, ℕ, ◌+◌, ◌<◌, ◌≤◌, List, length, drop, IsCharBoundary}
 use Rattle.first_pass_items.specs.declared.item.Item.{Item}
+use Rattle.first_pass_lines.specs.Lines.{line_len}
 use Rattle.first_pass_lines.specs.Places.{Place, line_end}
 use Rattle.first_pass_grammar.specs.Names.{Names, Extends, AreNamed}
 use Rattle.first_pass_grammar.specs.Leaves.{document}
@@ -10,18 +11,21 @@ use Rattle.first_pass_names.specs.TableEntries.{tables_of, names_of}
 use Rattle.first_pass_blocks.specs.Written.{TablesAreWritten}
 use Rattle.first_pass_open.specs.declared.source.Source.{Source}
 use Rattle.first_pass_blocks.specs.declared.state.BlockPass.{BlockPass}
-use Rattle.first_pass_blocks.specs.Views.{allocs_of, state_of, source_of, tree_of}
+use Rattle.first_pass_blocks.specs.Views.{allocs_of, front_of, state_of, source_of, source_text, tree_of}
+use Rattle.first_pass_kinds.specs.Fronts.{KnowsFront}
 use Rattle.first_pass_ready.specs.State.{Ready}
 use Rattle.first_pass_order.specs.Ordered.{IsReadFrom}
-use Rattle.first_pass_containers.specs.Positions.{Position, LeafAt, ReadyOn, OrderedOn, GrowsTo, GrowsFrom}
+use Rattle.first_pass_containers.specs.Positions.{Position, LineAt, InLine, LeafAt, IsInLine, ReadyOn, OrderedOn, GrowsTo, GrowsFrom}
 
 -- A pass over a source came from one position to another, in a line that begins at an offset or after that line. It
--- reads the same text, and names are kept. Under all names that extend the new ones: if the state began a derivation
--- at the first position, it begins one at the second. If it was in order, it still is, and it grew by at most four
--- nodes for each byte. If each index named an entry, each still does. If the entries of the tables were written in
--- the text, they still are. If each index named an entry, and all tables were whole with no row open, they still are.
+-- reads the same text, names are kept, and so is the front of the next line. Under all names that extend the new ones:
+-- if the state began a derivation at the first position, it begins one at the second. If it was in order, it still is,
+-- and it grew by at most four nodes for each byte. If each index named an entry, each still does. If the entries of the
+-- tables were written in the text, they still are. If each index named an entry, and all tables were whole with no row
+-- open, they still are.
 pub record PassesTo (over : Source) (line : ℕ) (old new : BlockPass) (from to : Position) : Type 0 where
   pub source : source_of new ≡ source_of old
+  pub front : front_of new ≡ front_of old
   pub names : Extends (names_of (allocs_of new)) (names_of (allocs_of old))
   pub ready : (more : Names) → Extends more (names_of (allocs_of new))
       → ReadyOn (document over.text.now over.options more) (tables_of (allocs_of old)) (state_of old) from
@@ -59,7 +63,18 @@ pub record ReadsBlockOf (over : Source) (old new : BlockPass) (far : ℕ) (from 
 abbrev pub ReadsBlock : BlockPass → BlockPass → ℕ → Position → ℕ → Type 0
 ReadsBlock old new far from next = ReadsBlockOf (source_of old) old new far from next
 
+-- A pass read the block at a place: for each pass that came from the start of a line to that place, this is the block
+-- of the line (this project).
+abbrev pub ReadsEntered : BlockPass → BlockPass → Place → ℕ → Type 0
+ReadsEntered old new p next = (first : BlockPass) (start : ℕ) → start < length (source_text first)
+    → IsInLine (source_text first) start (start + line_len (drop start (source_text first))) p
+    → PassesTo (source_of first) start first old (LineAt start) (InLine p) → ReadsBlock first new (1 + start) (LineAt start) next
+
 -- a pass read the leaf block that begins at a place: no container begins there, or the line follows the tag of a
 -- block quote
 abbrev pub ReadsLeaf : BlockPass → BlockPass → Place → ℕ → Type 0
 ReadsLeaf old new p next = ReadsBlock old new (line_end p) (LeafAt p) next
+
+-- if a pass knows a front, it is that of the line at an offset (this project)
+abbrev pub KnowsNext : BlockPass → ℕ → Type 0
+KnowsNext pass next = KnowsFront (source_of pass) (tree_of pass) next (front_of pass)

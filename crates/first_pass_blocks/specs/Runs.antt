@@ -12,7 +12,7 @@ use Rattle.first_pass_tree.specs.Forest.{in_table}
 use Rattle.first_pass_names.specs.TableEntries.{names_of, tables_of}
 use Rattle.first_pass_blocks.specs.Written.{TablesAreWritten}
 use Rattle.first_pass_blocks.specs.declared.state.BlockPass.{BlockPass}
-use Rattle.first_pass_blocks.specs.Views.{allocs_of, context_in, state_of, source_of, source_text, tree_of}
+use Rattle.first_pass_blocks.specs.Views.{allocs_of, context_in, front_of, state_of, source_of, source_text, tree_of}
 
 -- a place is not before another in the same line, or is in a later line
 abbrev pub IsLater : List ℕ → Place → Place → Type 0
@@ -43,6 +43,7 @@ pub record ReadsRun (text : List ℕ) (around : Context) (nested : Bool) (p : Pl
 -- were written in the text, they still are.
 pub record PutsDefinitions (old new : BlockPass) : Type 0 where
   pub source : source_of new ≡ source_of old
+  pub front : front_of new ≡ front_of old
   pub state : state_of new ≡ state_of old
   pub names : names_of (allocs_of new) ≡ names_of (allocs_of old)
   pub written : TablesAreWritten (source_text old) (allocs_of old) → TablesAreWritten (source_text old) (allocs_of new)

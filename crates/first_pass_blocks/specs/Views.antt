@@ -5,6 +5,7 @@ use Rattle.first_pass_items.specs.declared.option_set.Options.{Options}
 use Rattle.first_pass_tree.specs.Forest.{Forest}
 use Rattle.first_pass_names.specs.declared.items.Allocations.{Allocations}
 use Rattle.first_pass_open.specs.declared.source.Source.{Source}
+use Rattle.first_pass_kinds.specs.declared.next_front.NextFront.{NextFront}
 use Rattle.first_pass_lists.specs.declared.state.PassState.{PassState}
 use Rattle.first_pass_grammar.specs.Containers.{Context}
 use Rattle.first_pass_open.specs.Path.{context_of}
@@ -27,6 +28,10 @@ tree_of pass = pass.state.tree
 
 abbrev pub allocs_of : BlockPass → Allocations
 allocs_of pass = pass.allocs
+
+-- the front of the next unread line, if it is known (this project)
+abbrev pub front_of : BlockPass → NextFront
+front_of pass = pass.next_front
 
 -- the context in which a pass reads a line
 abbrev pub context_in : BlockPass → Context

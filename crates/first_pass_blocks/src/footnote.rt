@@ -3,7 +3,7 @@
 ghost use Rattle.std.specs.Prelude.{◌≡◌, ◌+◌, ◌<◌, None, IfOk, IfSome, IsUtf8, IsCharBoundary};
 ghost use Rattle.first_pass_lines.specs.Places.{IsPlaceOf};
 ghost use Rattle.first_pass_blocks.specs.OpenedFootnotes.{ReadsFootnote, TriesFootnote};
-ghost use Rattle.first_pass_blocks.specs.Views.{state_of, source_of, source_text};
+ghost use Rattle.first_pass_blocks.specs.Views.{front_of, state_of, source_of, source_text};
 
 use crate::state::BlockPass;
 use first_pass_containers::footnote::{footnote_mark, place_after_head};
@@ -47,6 +47,7 @@ impl<'a> BlockPass<'a> {
     pub fn parse_footnote(&mut self, start: usize) -> Result<Option<usize>, AllocError>
         requires boundary { IsCharBoundary (source_text self.old) start }
         ensures source { source_of self.new ≡ source_of self.old }
+        ensures front { front_of self.new ≡ front_of self.old }
         ensures head { IfOk result (λ size. ReadsFootnote self.old self.new start size) }
         ensures within { IfOk result (λ size. IfSome size (λ n.
             (3 < n) × IsCharBoundary (source_text self.old) (start + n))) }

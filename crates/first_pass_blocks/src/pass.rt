@@ -1,6 +1,6 @@
 //! The block pass: the lines of a text, one block after the other.
 
-ghost use Rattle.std.specs.Prelude.{◌≡◌, ◌<◌, ◌≤◌, ◌+◌, ◌*◌, [], length, None, IfOk, IsUtf8, IsCharBoundary};
+ghost use Rattle.std.specs.Prelude.{◌≡◌, ◌<◌, ◌≤◌, ◌+◌, ◌*◌, [], length, None, true, false, IfOk, IsUtf8, IsCharBoundary};
 ghost use Rattle.first_pass_lines.specs.Places.{offset, line_end, IsPlaceOf};
 ghost use Rattle.first_pass_grammar.specs.Leaves.{document};
 ghost use Rattle.first_pass_grammar.specs.Derivation.{no_tables, Derives, IsOnlyDerived};
@@ -17,23 +17,23 @@ ghost use Rattle.first_pass_grammar.specs.declared.kind.AfterMarker.TheVariants.
 ghost use Rattle.first_pass_ready.specs.State.{Ready};
 ghost use Rattle.first_pass_order.specs.Ordered.{IsReadTo};
 ghost use Rattle.first_pass_containers.specs.Positions.{LineAt, TaskAt, TaggedAt};
-ghost use Rattle.first_pass_blocks.specs.Progress.{ReadsBlock, ReadsLeaf};
+ghost use Rattle.first_pass_blocks.specs.Progress.{KnowsNext, ReadsBlock, ReadsEntered, ReadsLeaf};
 ghost use Rattle.first_pass_order.specs.Settled.{AreSettled};
 ghost use Rattle.first_pass_containers.specs.Starts.{IsAfterMarker};
 ghost use Rattle.first_pass_blocks.specs.Written.{AreFootnotesWritten};
-ghost use Rattle.first_pass_blocks.specs.Views.{allocs_of, state_of, source_options, source_text, tree_of};
+ghost use Rattle.first_pass_blocks.specs.Views.{allocs_of, front_of, state_of, source_options, source_text, tree_of};
 
 use crate::definition::RunEnd;
 use crate::state::BlockPass;
-use crate::text::parse_text;
 use first_pass_containers::containers::{
-    close_containers, enter_line, next_line_start, read_blank_lines,
+    close_containers, enter_known, enter_line, next_line_start, read_blank_lines,
 };
 use first_pass_grammar::AfterMarker;
 use first_pass_items::item::Item;
 use first_pass_items::option_set::Options;
 use first_pass_kinds::interrupt::scan_flowing_line;
 use first_pass_kinds::kinds::{BlockStart, kind_at};
+use first_pass_kinds::next_front::NextFront;
 use first_pass_lines::places::{next_line, rest_of};
 use first_pass_lists::state::PassState;
 use first_pass_metadata::metadata_search::MetadataEnds;
@@ -58,6 +58,7 @@ impl<'a> BlockPass<'a> {
         ensures root { IfOk result (λ pass. length (tree_of pass).nodes ≡ 1) }
         ensures named { IfOk result (λ pass. AreNamed (names_of (allocs_of pass)) (tree_of pass).nodes) }
         ensures tables { IfOk result (λ pass. HasWholeTables (names_of (allocs_of pass)) (tree_of pass)) }
+        ensures front { IfOk result (λ pass. (front_of pass).is_known ≡ false) }
     {
         // An estimate of the number of nodes: pages of memory that are never reached cost nothing. It stays under 32
         // MiB, since the C library maps a larger block anew in each pass.
@@ -74,6 +75,7 @@ impl<'a> BlockPass<'a> {
             },
             allocs: Allocations::new(alloc),
             metadata_ends: MetadataEnds::new(),
+            next_front: NextFront::new(text),
         })
     }
 
@@ -92,14 +94,54 @@ impl<'a> BlockPass<'a> {
     /// If each index in the nodes names an entry and no row of a table is open, whole tables stay whole: rows are only
     /// one level below a table, and cells only two levels below one. Each row has as many cells as its table has
     /// columns, and a table has at most 262,144 inserted cells (GFM 4.10, and this project).
+    ///
+    /// Afterwards the front of the next unread line may be known.
+    #[inline(always)]
     pub fn parse_block(&mut self, start_ix: usize) -> Result<usize, AllocError>
         requires within { start_ix < length (source_text self.old) }
         requires boundary { IsCharBoundary (source_text self.old) start_ix }
-        ensures { IfOk result (λ next. ReadsBlock self.old self.new (1 + start_ix) (LineAt start_ix) next) }
+        ensures block { IfOk result (λ next. ReadsBlock self.old self.new (1 + start_ix) (LineAt start_ix) next) }
+        ensures front { IfOk result (λ next. KnowsNext self.new next) }
     {
-        let Some(mut place) = enter_line(&mut self.state, &self.source, start_ix) else {
+        self.next_front.is_known = false;
+        let Some(place) = enter_line(&mut self.state, &self.source, start_ix) else {
             return Ok(next_line(self.source.text.as_bytes(), start_ix));
         };
+        let next = self.parse_entered(place)?;
+        Ok(next)
+    }
+
+    // Reads the block in the line at `start_ix`, whose front is known. Returns the same as `parse_block`.
+    #[inline(never)]
+    fn parse_known(&mut self, start_ix: usize) -> Result<usize, AllocError>
+        requires within { start_ix < length (source_text self.old) }
+        requires boundary { IsCharBoundary (source_text self.old) start_ix }
+        requires known { (front_of self.old).is_known ≡ true }
+        requires front { KnowsNext self.old start_ix }
+        ensures block { IfOk result (λ next. ReadsBlock self.old self.new (1 + start_ix) (LineAt start_ix) next) }
+        ensures front { IfOk result (λ next. KnowsNext self.new next) }
+    {
+        self.next_front.is_known = false;
+        let Some(place) = enter_known(&mut self.state, &self.source, start_ix, &self.next_front)
+        else {
+            return Ok(next_line(self.source.text.as_bytes(), start_ix));
+        };
+        let next = self.parse_entered(place)?;
+        Ok(next)
+    }
+
+    // Opens the containers that begin at a place after the prefixes of the open ones, and reads the block there. No
+    // front may be known. Returns the same as `parse_block`.
+    #[inline(always)]
+    fn parse_entered(&mut self, place: Place<'a>) -> Result<usize, AllocError>
+        requires utf8 { IsUtf8 (source_text self.old) }
+        requires place { IsPlaceOf (source_text self.old) place }
+        requires no_empty { (state_of self.old).begin_list_item ≡ None }
+        requires none { (front_of self.old).is_known ≡ false }
+        ensures block { IfOk result (λ next. ReadsEntered self.old self.new place.entry next) }
+        ensures front { IfOk result (λ next. KnowsNext self.new next) }
+    {
+        let mut place = place;
         match self.open_containers(&mut place)? {
             AfterMarker::OnLine => {
                 let next = self.parse_leaf(place)?;
@@ -123,7 +165,9 @@ impl<'a> BlockPass<'a> {
     fn parse_tagged(&mut self, start: usize) -> Result<usize, AllocError>
         requires boundary { IsCharBoundary (source_text self.old) start }
         requires no_empty { (state_of self.old).begin_list_item ≡ None }
-        ensures { IfOk result (λ next. ReadsBlock self.old self.new start (TaggedAt start) next) }
+        requires none { (front_of self.old).is_known ≡ false }
+        ensures block { IfOk result (λ next. ReadsBlock self.old self.new start (TaggedAt start) next) }
+        ensures front { IfOk result (λ next. KnowsNext self.new next) }
     {
         let bytes = rest_of(self.source.text.as_bytes(), start);
         match scan_flowing_line(&self.source, bytes, &self.state.tree)? {
@@ -140,19 +184,14 @@ impl<'a> BlockPass<'a> {
         requires utf8 { IsUtf8 (source_text self.old) }
         requires place { IsPlaceOf (source_text self.old) place }
         requires after { IsAfterMarker (TaskText marker) (state_of self.old) }
-        ensures { IfOk result (λ next.
+        ensures block { IfOk result (λ next.
             ReadsBlock self.old self.new (line_end place.entry) (TaskAt place.entry marker) next) }
+        ensures front { IfOk result (λ next. KnowsNext self.new next) }
     {
         self.source.recall_length();
         let mut place = place;
         scan_indentation(&mut place.rest);
-        let next = parse_text(
-            &self.source,
-            &mut self.state.tree,
-            &mut self.allocs,
-            place.offset(),
-            Some(marker),
-        )?;
+        let next = self.parse_text(place.offset(), Some(marker))?;
         Ok(next)
     }
 
@@ -162,7 +201,9 @@ impl<'a> BlockPass<'a> {
         requires utf8 { IsUtf8 (source_text self.old) }
         requires place { IsPlaceOf (source_text self.old) place }
         requires no_empty { (state_of self.old).begin_list_item ≡ None }
-        ensures { IfOk result (λ next. ReadsLeaf self.old self.new place.entry next) }
+        requires none { (front_of self.old).is_known ≡ false }
+        ensures block { IfOk result (λ next. ReadsLeaf self.old self.new place.entry next) }
+        ensures front { IfOk result (λ next. KnowsNext self.new next) }
     {
         self.source.recall_length();
         let mut following = place.copy();
@@ -184,8 +225,10 @@ impl<'a> BlockPass<'a> {
         requires utf8 { IsUtf8 (source_text self.old) }
         requires place { IsPlaceOf (source_text self.old) place }
         requires no_empty { (state_of self.old).begin_list_item ≡ None }
+        requires none { (front_of self.old).is_known ≡ false }
         requires found { IsFoundAt (source_options self.old) place found columns at }
-        ensures { IfOk result (λ next. ReadsLeaf self.old self.new place.entry next) }
+        ensures block { IfOk result (λ next. ReadsLeaf self.old self.new place.entry next) }
+        ensures front { IfOk result (λ next. KnowsNext self.new next) }
     {
         self.state.tree.recall_forest();
         match found {
@@ -223,9 +266,11 @@ impl<'a> BlockPass<'a> {
         requires utf8 { IsUtf8 (source_text self.old) }
         requires place { IsPlaceOf (source_text self.old) place }
         requires no_empty { (state_of self.old).begin_list_item ≡ None }
+        requires none { (front_of self.old).is_known ≡ false }
         requires kind { IsKind (source_options self.old) place.rest Paragraph }
         requires at { at ≡ offset (unindented place) }
-        ensures { IfOk result (λ next. ReadsLeaf self.old self.new place.entry next) }
+        ensures block { IfOk result (λ next. ReadsLeaf self.old self.new place.entry next) }
+        ensures front { IfOk result (λ next. KnowsNext self.new next) }
     {
         self.state.tree.recall_forest();
         match self.parse_definitions(place.line, at)? {
@@ -239,13 +284,7 @@ impl<'a> BlockPass<'a> {
                     return Ok(next);
                 }
                 self.state.finish_list(text);
-                let next = parse_text(
-                    &self.source,
-                    &mut self.state.tree,
-                    &mut self.allocs,
-                    text,
-                    None,
-                )?;
+                let next = self.parse_text(text, None)?;
                 Ok(next)
             }
         }
@@ -285,6 +324,9 @@ pub fn run_first_pass<'a>(
     let mut ix = 0;
     while ix < text.len() {
         ix = pass.parse_block(ix)?;
+        while pass.next_front.is_known && ix < text.len() {
+            ix = pass.parse_known(ix)?;
+        }
         ix = read_blank_lines(&pass.state, &pass.source, ix);
     }
     close_containers(&mut pass.state, 0, text.len());
@@ -293,6 +335,7 @@ pub fn run_first_pass<'a>(
         state,
         mut allocs,
         metadata_ends: _,
+        next_front: _,
     } = pass;
     let PassState { tree, .. } = state;
     allocs.sort_tables()?;

@@ -3,6 +3,7 @@
 ghost use Rattle.first_pass_metadata.specs.MetadataSearch.{IsKnownOf};
 ghost use Rattle.first_pass_metadata.proofs.KnownFacts.{known_prop};
 
+use first_pass_kinds::next_front::NextFront;
 use first_pass_lists::state::PassState;
 use first_pass_metadata::metadata_search::MetadataEnds;
 use first_pass_names::items::Allocations;
@@ -14,6 +15,8 @@ pub struct BlockPass<'a> {
     pub source: Source<'a>,
     pub state: PassState,
     pub allocs: Allocations<'a>,
+    /// The front of the next unread line, if the block before that line found it.
+    pub next_front: NextFront<'a>,
     /// The results of earlier searches for lines that close metadata.
     pub metadata_ends: MetadataEnds,
     ghost known: { IsKnownOf source.text.now metadata_ends } by { known_prop source.text.now metadata_ends },

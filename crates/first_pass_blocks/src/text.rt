@@ -10,15 +10,19 @@ ghost use Rattle.first_pass_grammar.specs.TableHeads.{headed_table};
 ghost use Rattle.first_pass_kinds.specs.TableHeads.{table_head_len};
 ghost use Rattle.first_pass_open.specs.Path.{context_of};
 ghost use Rattle.first_pass_open.specs.Between.{AddsBetween, MarkerIsInItem, MarkerBetween};
+ghost use Rattle.first_pass_lists.specs.Closing.{with_tree};
 ghost use Rattle.first_pass_containers.specs.TextsAdded.{AddsText};
+ghost use Rattle.first_pass_blocks.specs.Progress.{KnowsNext};
+ghost use Rattle.first_pass_blocks.specs.Views.{allocs_of, front_of, source_of, source_options, source_text, state_of, tree_of};
 
+use crate::state::BlockPass;
 use first_pass_items::item::{Item, ItemBody};
 use first_pass_kinds::table_start::{HeadedTable, scan_headed_table};
 use first_pass_names::items::Allocations;
 use first_pass_open::open_block::open_block;
 use first_pass_open::source::Source;
 use first_pass_tables::rows::{TableRows, parse_table};
-use first_pass_text::paragraph;
+use first_pass_text::paragraph::{TextStart, parse_paragraph};
 use first_pass_tree::forest::Tree;
 use std::alloc::AllocError;
 
@@ -56,36 +60,57 @@ fn append_table(
     Ok(next)
 }
 
-/// Appends the paragraph, setext heading or table that begins at the offset `start_ix` into the text to the innermost
-/// open node. With tables, a first line that heads a table begins one. Otherwise the block is a paragraph or a
-/// heading; the marker of its task list item, if it has one, is its first child. Returns the start of the next unread
-/// line, or the end of the text. Adds the alignments of a table or the attributes of a heading, and the texts that
-/// tokens name, to `allocs`. Fails only if an allocation fails (CommonMark 4.3, 4.8, GFM 4.10).
-pub fn parse_text<'a>(
-    source: &Source<'a>,
-    tree: &mut Tree<Item>,
-    allocs: &mut Allocations<'a>,
-    start_ix: usize,
-    tasklist_marker: Option<Item>,
-) -> Result<usize, AllocError>
-    requires boundary { IsCharBoundary source.now.text.now start_ix }
-    requires marker { IfSome tasklist_marker (λ x. is_text x.body ≡ false) }
-    ensures more { OnOk result (NamesMore allocs.old allocs.new) }
-    ensures block { IfOk result (λ next.
-        AddsText (document source.now.text.now source.now.options (names_of allocs.new)) start_ix tasklist_marker
-        tree.old tree.new next) }
-    ensures fits { IfOk result (λ next. MarkerIsInItem tree.old tasklist_marker → (from : ℕ)
-        → MarkerBetween source.now.text.now from start_ix tasklist_marker
-        → AddsBetween source.now.text.now from next tree.old tree.new) }
-{
-    match scan_headed_table(source, tree, start_ix)? {
-        Some(table) => {
-            let next = append_table(source, tree, allocs, start_ix, table)?;
-            Ok(next)
-        }
-        None => {
-            let next = paragraph::parse_paragraph(source, tree, allocs, start_ix, tasklist_marker)?;
-            Ok(next)
+impl<'a> BlockPass<'a> {
+    /// Appends the paragraph, setext heading or table that begins at the offset `start_ix` to the innermost open node.
+    /// With tables, a first line that heads a table begins one. Otherwise the block is a paragraph or a heading; the
+    /// marker of its task list item, if it has one, is its first child. Returns the start of the next unread line, or
+    /// the end of the text. Adds the alignments of a table or the attributes of a heading, and the texts that tokens
+    /// name, to the tables. Only this call may find the front of the next unread line. Fails only if an allocation
+    /// fails (CommonMark 4.3, 4.8, GFM 4.10).
+    #[inline(never)]
+    pub fn parse_text(
+        &mut self,
+        start_ix: usize,
+        tasklist_marker: Option<Item>,
+    ) -> Result<usize, AllocError>
+        requires boundary { IsCharBoundary (source_text self.old) start_ix }
+        requires marker { IfSome tasklist_marker (λ x. is_text x.body ≡ false) }
+        ensures source { source_of self.new ≡ source_of self.old }
+        ensures state { state_of self.new ≡ with_tree (state_of self.old) (tree_of self.new) }
+        ensures more { OnOk result (NamesMore (allocs_of self.old) (allocs_of self.new)) }
+        ensures block { IfOk result (λ next.
+            AddsText (document (source_text self.old) (source_options self.old) (names_of (allocs_of self.new)))
+            start_ix tasklist_marker (tree_of self.old) (tree_of self.new) next) }
+        ensures fits { IfOk result (λ next. MarkerIsInItem (tree_of self.old) tasklist_marker → (from : ℕ)
+            → MarkerBetween (source_text self.old) from start_ix tasklist_marker
+            → AddsBetween (source_text self.old) from next (tree_of self.old) (tree_of self.new)) }
+        ensures front { IfOk result (λ next. KnowsNext self.new next) }
+    {
+        self.next_front.is_known = false;
+        match scan_headed_table(&self.source, &self.state.tree, start_ix)? {
+            Some(table) => {
+                let next = append_table(
+                    &self.source,
+                    &mut self.state.tree,
+                    &mut self.allocs,
+                    start_ix,
+                    table,
+                )?;
+                Ok(next)
+            }
+            None => {
+                let next = parse_paragraph(
+                    &self.source,
+                    &mut self.state.tree,
+                    &mut self.allocs,
+                    TextStart {
+                        at: start_ix,
+                        marker: tasklist_marker,
+                    },
+                    &mut self.next_front,
+                )?;
+                Ok(next)
+            }
         }
     }
 }

@@ -3,6 +3,7 @@
 ghost use Rattle.std.specs.Prelude.{◌≡◌, ◌<◌, ◌≤◌, ◌-◌, length, None, OnOk, IsUtf8, IsCharBoundary, true};
 ghost use Rattle.first_pass_lines.specs.Places.{line_end, IsPlaceOf};
 ghost use Rattle.first_pass_open.specs.Path.{outer};
+ghost use Rattle.first_pass_kinds.specs.Fronts.{IsFrontAt};
 ghost use Rattle.first_pass_containers.specs.Entering.{all_popped, place_entered, ClosesAt, EntersLine};
 ghost use Rattle.first_pass_lists.specs.Closing.{footnote_ended};
 ghost use Rattle.first_pass_containers.specs.Positions.{LineAt, ReadsTo, may_define};
@@ -12,11 +13,12 @@ use crate::openers::{Opener, Start};
 use bitflags::Flags;
 use first_pass_grammar::AfterMarker;
 use first_pass_items::option_set::Options;
+use first_pass_kinds::next_front::NextFront;
 use first_pass_lines::lines::{begins, scan_blank_line};
 use first_pass_lines::places::next_line;
 use first_pass_lists::state::PassState;
 use first_pass_open::containers::nodes_to_quote;
-use first_pass_open::front::{scan_continued_past, scan_front};
+use first_pass_open::front::{Front, scan_continued_past, scan_front};
 use first_pass_open::open_block::append_item;
 use first_pass_open::place::Place;
 use first_pass_open::source::Source;
@@ -41,6 +43,7 @@ pub fn close_containers(state: &mut PassState, kept: usize, ix: usize)
 /// blank line is directly before, closes an innermost footnote definition in the old form. Returns the place after the
 /// prefixes of the open containers. If the rest of the line there is blank, reads the line and returns `None`
 /// (CommonMark 5, and this project).
+#[inline(always)]
 pub fn enter_line<'a>(
     state: &mut PassState,
     source: &Source<'a>,
@@ -52,17 +55,66 @@ pub fn enter_line<'a>(
     ensures value { result ≡ place_entered source.now state.old.tree start_ix }
     ensures entered { EntersLine source.now state.old state.new start_ix result }
 {
-    let front = scan_front(source, &state.tree, start_ix);
-    close_containers(state, front.continued, start_ix);
+    let Front {
+        continued,
+        continues_all: _,
+        rest,
+    } = scan_front(source, &state.tree, start_ix);
+    enter_front(state, source, start_ix, continued, rest)
+}
+
+/// The same as `enter_line`, where the front of the line is known. The open containers are not walked over again.
+#[inline(always)]
+pub fn enter_known<'a>(
+    state: &mut PassState,
+    source: &Source<'a>,
+    start_ix: usize,
+    next_front: &NextFront<'a>,
+) -> Option<Place<'a>>
+    requires within { start_ix < length source.now.text.now }
+    requires boundary { IsCharBoundary source.now.text.now start_ix }
+    requires front { IsFrontAt source.now state.old.tree start_ix next_front.now.continued next_front.now.rest }
+    ensures utf8 { IsUtf8 source.now.text.now }
+    ensures value { result ≡ place_entered source.now state.old.tree start_ix }
+    ensures entered { EntersLine source.now state.old state.new start_ix result }
+{
+    enter_front(
+        state,
+        source,
+        start_ix,
+        next_front.continued,
+        next_front.rest.copy(),
+    )
+}
+
+// The same as `enter_line`. The line continues the outermost `continued` open nodes, and `rest` follows their prefixes.
+#[inline(always)]
+fn enter_front<'a>(
+    state: &mut PassState,
+    source: &Source<'a>,
+    start_ix: usize,
+    continued: usize,
+    rest: LineStart<'a>,
+) -> Option<Place<'a>>
+    requires within { start_ix < length source.now.text.now }
+    requires boundary { IsCharBoundary source.now.text.now start_ix }
+    requires front { IsFrontAt source.now state.old.tree start_ix continued rest }
+    ensures utf8 { IsUtf8 source.now.text.now }
+    ensures value { result ≡ place_entered source.now state.old.tree start_ix }
+    ensures entered { EntersLine source.now state.old state.new start_ix result }
+{
+    // This call gives that the text is UTF-8.
+    let _ = source.text.as_bytes();
+    close_containers(state, continued, start_ix);
     end_old_footnote(state, source, start_ix);
-    if scan_blank_line(front.rest.left()).is_some() {
+    if scan_blank_line(rest.left()).is_some() {
         state.read_blank_line();
         return None;
     }
     state.finish_empty_list_item();
     Some(Place {
         line: start_ix,
-        rest: front.rest,
+        rest,
     })
 }
 

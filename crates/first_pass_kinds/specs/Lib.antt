@@ -1,5 +1,6 @@
 pub mod BlockStart
 pub mod Marks
+pub mod Fronts
 pub mod Memory
 pub mod NextLines
 pub mod Rests

@@ -1,6 +1,6 @@
 //! Which lines interrupt a paragraph or end a link reference definition, and the role of a line after paragraph text.
 
-ghost use Rattle.std.specs.Prelude.{◌≡◌, Bool, min, drop, is_some, nat_lt, ◌&&◌, ◌||◌, not, true, IfOk, IfSome, OnErr, OnOk, Some, None, if◌then◌else◌, IsUtf8, IsCharBoundary};
+ghost use Rattle.std.specs.Prelude.{◌≡◌, Bool, min, drop, is_some, nat_lt, ◌&&◌, ◌||◌, not, true, false, IfOk, IfSome, OnErr, OnOk, Some, None, if◌then◌else◌, IsUtf8, IsCharBoundary};
 ghost use Rattle.first_pass_items.specs.Bytes.{space, colon};
 ghost use Rattle.first_pass_items.specs.OptionWords.{has, definition_list};
 ghost use Rattle.first_pass_lines.specs.Lines.{begins, at_line_end};
@@ -16,10 +16,13 @@ ghost use Rattle.first_pass_grammar.specs.Definitions.{is_underline, crossed};
 ghost use Rattle.first_pass_open.specs.Path.{path_of, context_of, continued_to};
 ghost use Rattle.first_pass_kinds.specs.Marks.{begins_no_interruption_by_standard};
 ghost use Rattle.first_pass_kinds.specs.NextLines.{next_line_of};
+ghost use Rattle.first_pass_kinds.specs.Fronts.{IsFrontAt, KnowsFront};
+ghost use Rattle.first_pass_kinds.specs.declared.interrupt.NextLine.TheVariants.{NotText};
 ghost use Rattle.first_pass_kinds.specs.Memory.{may_head_table, line_may_head_table};
 ghost use Rattle.std.specs.Option.{option_map};
 
 use crate::kinds::html_kind;
+use crate::next_front::NextFront;
 use crate::table_start::interrupts_as_table;
 use bitflags::Flags;
 use first_pass_items::item::{HeadingLevel, Item};
@@ -203,13 +206,11 @@ fn scan_underline(rest: &LineStart<'_>, whole: bool, columns: usize) -> Option<H
     }
 }
 
-// How a line continues the open nodes, the columns of its indentation, and what follows them.
+// The front of a line, the columns of its indentation, and what follows them.
 #[derive(Drop)]
 struct UnindentedFront<'a> {
-    // How many of the open nodes the line continues, the outermost first.
-    continued: usize,
-    // Whether these are all open nodes.
-    continues_all: bool,
+    // The front, with the indentation.
+    front: Front<'a>,
     // Its columns of indentation, or 4 if there are more.
     columns: usize,
     // The rest of the text after those.
@@ -220,9 +221,10 @@ struct UnindentedFront<'a> {
 #[inline(always)]
 fn scan_unindented<'a>(source: &Source<'a>, tree: &Tree<Item>, start: usize) -> UnindentedFront<'a>
     requires { IsCharBoundary source.now.text.now start }
-    ensures whole { result.continues_all
+    ensures front { IsFrontAt source.now tree.now start result.front.continued result.front.rest }
+    ensures whole { result.front.continues_all
         ≡ is_some (after (path_of source.now.options tree.now) (line_rest (drop start source.now.text.now))) }
-    ensures kept { continued_to source.now.options tree.now result.continued
+    ensures kept { continued_to source.now.options tree.now result.front.continued
         ≡ continued (path_of source.now.options tree.now) (line_rest (drop start source.now.text.now)) }
     ensures columns { result.columns
         ≡ min 4 (indent (front (path_of source.now.options tree.now) (line_rest (drop start source.now.text.now)))) }
@@ -234,30 +236,56 @@ fn scan_unindented<'a>(source: &Source<'a>, tree: &Tree<Item>, start: usize) -> 
     ensures utf8 { IsUtf8 source.now.text.now }
 {
     let front = scan_front(source, tree, start);
-    let mut rest = front.rest;
+    let mut rest = front.rest.copy();
     let columns = scan_indentation(&mut rest);
     UnindentedFront {
-        continued: front.continued,
-        continues_all: front.continues_all,
+        front,
         columns,
         rest,
     }
+}
+
+// Records that the front of a line is that of the next unread line.
+#[inline(always)]
+fn set_front<'a>(next_front: &mut NextFront<'a>, found: UnindentedFront<'a>)
+    ensures known { next_front.new.is_known ≡ true }
+    ensures continued { next_front.new.continued ≡ found.entry.front.continued }
+    ensures rest { next_front.new.rest ≡ found.entry.front.rest }
+{
+    let UnindentedFront {
+        front,
+        columns: _,
+        rest: _,
+    } = found;
+    let Front {
+        continued,
+        continues_all: _,
+        rest,
+    } = front;
+    next_front.continued = continued;
+    next_front.rest = rest;
+    next_front.is_known = true;
 }
 
 /// Returns the role of a line that follows paragraph text. The line begins at the offset `start`. It is an underline
 /// only if it continues all open containers. It is no line of the paragraph text if it interrupts a paragraph. With
 /// definition lists, it is also none if it continues all open containers and begins with a `:` at fewer than four
 /// columns. Otherwise it is one more line, no matter which open containers it continues (CommonMark 4.3, 4.8, 5.1).
-/// Fails only if an allocation fails, which can happen only if the line may head a table.
+/// `next_front` has its front afterwards, or no front; it has one only if the line is no line of the text and no
+/// underline. Fails only if an allocation fails, which can happen only if the line may head a table.
 #[tactic(auto, unfolding(first_pass_grammar::specs::Kinds::interrupts, first_pass_grammar::specs::Kinds::underline_of))]
-pub fn scan_next_line(
-    source: &Source<'_>,
+pub fn scan_next_line<'a>(
+    source: &Source<'a>,
     start: usize,
     tree: &Tree<Item>,
+    next_front: &mut NextFront<'a>,
 ) -> Result<NextLine, AllocError>
-    requires { IsCharBoundary source.now.text.now start }
-    ensures value { IfOk result (λ next. next ≡ next_line_of (context_of source.now.options tree.now) start
+    requires boundary { IsCharBoundary source.now.text.now start }
+    requires none { next_front.old.is_known ≡ false }
+    ensures value { IfOk result (λ role. role ≡ next_line_of (context_of source.now.options tree.now) start
         (line_rest (drop start source.now.text.now))) }
+    ensures known { IfOk result (λ role. next_front.new.is_known ≡ true → role ≡ NotText) }
+    ensures front { OnOk result (KnowsFront source.now tree.now start next_front.new) }
     ensures place { OnOk result (IsPlaceOf source.now.text.now (unindented (place_at start
         (front (path_of source.now.options tree.now) (line_rest (drop start source.now.text.now)))))) }
     ensures utf8 { IsUtf8 source.now.text.now }
@@ -279,13 +307,15 @@ pub fn scan_next_line(
     if is_plain_front(text.rest.left()) {
         return Ok(NextLine::More(start + text.rest.bytes_scanned()));
     }
-    if let Some(level) = scan_underline(&text.rest, text.continues_all, text.columns) {
+    if let Some(level) = scan_underline(&text.rest, text.front.continues_all, text.columns) {
         return Ok(NextLine::Underline(level));
     }
-    if scan_paragraph_end(source, tree, &text.rest, text.columns, text.continued)? {
+    if scan_paragraph_end(source, tree, &text.rest, text.columns, text.front.continued)? {
+        set_front(next_front, text);
         return Ok(NextLine::NotText);
     }
     if ends_by_colon(&text, source.options) {
+        set_front(next_front, text);
         return Ok(NextLine::NotText);
     }
     Ok(NextLine::More(start + text.rest.bytes_scanned()))
@@ -296,9 +326,9 @@ pub fn scan_next_line(
 #[inline(always)]
 fn ends_by_colon(front: &UnindentedFront<'_>, options: Options) -> bool
     ensures { result ≡ (has options definition_list
-        && (front.now.continues_all && (nat_lt front.now.columns 4 && begins colon front.now.rest.left))) }
+        && (front.now.front.continues_all && (nat_lt front.now.columns 4 && begins colon front.now.rest.left))) }
 {
-    begins_definition(front.rest.left(), options) && front.continues_all && front.columns < 4
+    begins_definition(front.rest.left(), options) && front.front.continues_all && front.columns < 4
 }
 
 /// Returns the rest of the first line of `bytes` after its container prefixes and its indentation. The line follows a

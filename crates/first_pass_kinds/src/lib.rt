@@ -3,4 +3,5 @@
 
 pub mod interrupt;
 pub mod kinds;
+pub mod next_front;
 pub mod table_start;

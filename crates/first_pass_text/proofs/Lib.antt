@@ -1,4 +1,5 @@
 pub mod AttributeEnds
+pub mod ClosedFronts
 pub mod HeadingLemmas
 pub mod KeptBytes
 pub mod OrderHeading

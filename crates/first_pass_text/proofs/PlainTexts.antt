@@ -159,7 +159,7 @@ module _ {text : List ℕ} {options : Options} {read_names : Names} {start : ℕ
   abbrev read_lines : TextLines
   read_lines = given text end.next t.chain end.line_break
 
-  abbrev whole_chain : List Item
+  abbrev pub whole_chain : List Item
   whole_chain = marker_items marker ++ t.chain
 
   pub innermost : slice_get r.spine 0 ≡ Some ix

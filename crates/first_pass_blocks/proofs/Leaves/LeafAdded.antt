@@ -17,7 +17,7 @@ use Rattle.first_pass_scan.specs.LeafLines.{code_fence}
 use Rattle.first_pass_kinds.proofs.KindLemmas.{Says, kind_says}
 use Rattle.first_pass_open.proofs.PlaceLemmas.{all_keep, place_end}
 use Rattle.first_pass_blocks.specs.declared.state.BlockPass.{BlockPass}
-use Rattle.first_pass_blocks.specs.Views.{allocs_of, state_of, source_of, source_options, source_text, tree_of}
+use Rattle.first_pass_blocks.specs.Views.{allocs_of, front_of, state_of, source_of, source_options, source_text, tree_of}
 use Rattle.first_pass_blocks.specs.Adding.{AddsLeaf, IsFoundIn}
 use Rattle.first_pass_order.specs.LeafBlocks.{AddsKind}
 use Rattle.first_pass_containers.proofs.Order.OrderSteps.{unindented_later}
@@ -56,19 +56,20 @@ module _ (old new : BlockPass) (p : Place) (leaf : MarkedLeaf) (columns at next 
   line_read ends =
       let same = here in (omega arith, subst (IsCharBoundary (source_text old)) (sym ends) (place_end (source_text old) p f.utf8 f.place))
 
-  pub leaf_added : source_of new ≡ source_of old → NamesMore (allocs_of old) (allocs_of new)
+  pub leaf_added : source_of new ≡ source_of old → front_of new ≡ front_of old → NamesMore (allocs_of old) (allocs_of new)
       → (state_of new).begin_list_item ≡ (state_of old).begin_list_item
       → (state_of new).blank ≡ (state_of old).blank → (after_line_at (source_text old) at ≤ next) × IsCharBoundary (source_text old) next
       → ((from : ℕ) → from ≤ at → AddsBetween (source_text old) from next (tree_of old) (tree_of new))
       → AddsKind (document (source_text old) (source_options old) (names_of (allocs_of new))) p (marked_kind leaf) false (tree_of old) (tree_of new) next
       → AddsLeaf old new p (marked_kind leaf) next
-  leaf_added source more empty blank following fits block =
+  leaf_added source front more empty blank following fits block =
       let later = following.0 in
       let same = here in
       let at_is = f.found.at_is in
       let low = unindented_later (source_text old) p.line p.rest f.utf8 f.place in
       record {
         source = source;
+        front = front;
         more = more;
         begin_list_item = empty ∙ f.no_empty;
         block = subst (λ gap. AddsKind (document (source_text old) (source_options old) (names_of (allocs_of new))) p (marked_kind leaf) gap

@@ -13,21 +13,24 @@ use Rattle.first_pass_names.specs.declared.items.Allocations.{Allocations}
 use Rattle.first_pass_names.proofs.NameLemmas.{extends_equal, extends_both}
 use Rattle.first_pass_blocks.specs.Written.{TablesAreWritten}
 use Rattle.first_pass_open.specs.declared.source.Source.{Source}
+use Rattle.first_pass_metadata.specs.MetadataSearch.{IsKnownOf}
+use Rattle.first_pass_kinds.specs.declared.next_front.NextFront.{NextFront}
 use Rattle.first_pass_grammar.specs.declared.kind.AfterMarker.{AfterMarker}
 use Rattle.first_pass_blocks.specs.declared.state.BlockPass.{BlockPass}
 use Rattle.first_pass_containers.specs.Positions.{Position, LineAt, InLine, LeafAt, TaskAt, TaggedAt, IsNotBefore, ReadyOn, GrowsTo, GrowsFrom, ReadsTo, IsInLine}
 use Rattle.first_pass_blocks.specs.Progress.{PassesTo, ReadsBlockOf, ReadsBlock}
 use Rattle.first_pass_containers.specs.Starts.{last_at, IsAfterMarker}
-use Rattle.first_pass_blocks.specs.Views.{allocs_of, state_of, source_of, source_text, tree_of}
+use Rattle.first_pass_blocks.specs.Views.{allocs_of, front_of, state_of, source_of, source_text, tree_of}
 use Rattle.first_pass_containers.proofs.Order.OrderSteps.{line_later, place_before_end}
 
 -- a step of the state is a step of the pass
 pub passes_state : (over : Source) (line : ℕ) (old new : BlockPass) (p q : Position) → source_of new ≡ source_of old → allocs_of new ≡ allocs_of old
-    → ReadsTo over line (state_of old) (state_of new) p q → PassesTo over line old new p q
-passes_state over line old new p q source same step =
+    → front_of new ≡ front_of old → ReadsTo over line (state_of old) (state_of new) p q → PassesTo over line old new p q
+passes_state over line old new p q source same front step =
     let names = names_of (allocs_of old) in
     record {
       source = source;
+      front = front;
       names = extends_equal _ _ (ap names_of same);
       ready = λ more extends ready.
           subst (λ (z : Allocations). ReadyOn (document over.text.now over.options more) (tables_of z) (state_of new) q) (sym same)
@@ -44,6 +47,7 @@ pub passes_both : (over : Source) (line : ℕ) (a b c : BlockPass) (p q t : Posi
     → PassesTo over line a c p t
 passes_both over line a b c p q t one two = record {
   source = two.source ∙ one.source;
+  front = two.front ∙ one.front;
   names = extends_both (names_of (allocs_of c)) (names_of (allocs_of b)) (names_of (allocs_of a)) two.names one.names;
   ready = λ more extends h. two.ready more extends
       (one.ready more (extends_both more (names_of (allocs_of c)) (names_of (allocs_of b)) extends two.names) h);
@@ -81,6 +85,33 @@ opened_line start old mid new p q after here first from kept opens =
       steps = passes_both over start old mid new (LineAt start) (InLine p) (last_at q (line_end q) after) first
           (subst (λ (l : ℕ). PassesTo over l mid new (InLine p) (last_at q (line_end q) after)) line opens);
     }
+
+-- the same, where the state between is that of another pass over the same text
+pub opened_entered : (start : ℕ) (first old mid : BlockPass) (p q : Place) (after : AfterMarker)
+    → IsInLine (source_text first) start (start + line_len (drop start (source_text first))) p
+    → PassesTo (source_of first) start first old (LineAt start) (InLine p)
+    → IsNotBefore (source_text old) p q → IsAfterMarker after (state_of mid)
+    → PassesTo (source_of old) p.line old mid (InLine p) (last_at q (line_end q) after) → IsOpenedFrom (source_of first) start first mid q after
+opened_entered start first old mid p q after here steps from kept opens =
+    opened_line start first old mid p q after here steps (subst (λ (z : Source). IsNotBefore z.text.now p q) steps.source from) kept
+    (subst (λ (z : Source). PassesTo z p.line old mid (InLine p) (last_at q (line_end q) after)) steps.source opens)
+
+-- what a pass read does not depend on the front that it knew before
+pub front_forgotten : (over : Source) (old new : BlockPass) (front : NextFront) (known : IsKnownOf (source_text old) old.metadata_ends)
+    → (far : ℕ) (from : Position) (next : ℕ) → ReadsBlockOf over (record old { next_front = front; known = known }) new far from next
+    → ReadsBlockOf over old new far from next
+front_forgotten over old new front known far from next r = record {
+  source = r.source;
+  names = r.names;
+  later = r.later;
+  boundary = r.boundary;
+  ready = r.ready;
+  order = r.order;
+  node_bound = r.node_bound;
+  named = r.named;
+  written = r.written;
+  tables = r.tables;
+}
 
 -- a position is between two offsets
 abbrev pub IsBetween : ℕ → ℕ → Position → Type 0
@@ -127,14 +158,14 @@ block_read over old middle new start far next at steps r between later = record 
 }
 
 -- nothing follows the marker in its line
-pub line_ended : (over : Source) (old new : BlockPass) (start next : ℕ) → PassesTo over start old new (LineAt start) (LineAt next)
-    → IsCharBoundary over.text.now next → start < next → ReadsBlockOf over old new (1 + start) (LineAt start) next
-line_ended over old new start next steps boundary later =
+pub line_ended : (over : Source) (old new : BlockPass) (start far next : ℕ) → PassesTo over start old new (LineAt start) (LineAt next)
+    → IsCharBoundary over.text.now next → far ≤ next → start ≤ next → ReadsBlockOf over old new far (LineAt start) next
+line_ended over old new start far next steps boundary later on =
     let first = steps.node_bound (tree_of old).nodes (omega arith) in
     record {
       source = steps.source;
       names = steps.names;
-      later = omega arith;
+      later = later;
       boundary = boundary;
       ready = steps.ready;
       order = steps.order;
@@ -146,14 +177,14 @@ line_ended over old new start next steps boundary later =
 
 -- a line that is read as a whole
 pub line_passed : (old new : BlockPass) (start next : ℕ) → IsUtf8 (source_text old) → start < length (source_text old) → IsCharBoundary (source_text old) start
-    → source_of new ≡ source_of old → allocs_of new ≡ allocs_of old → next ≡ start + line_len (drop start (source_text old))
+    → source_of new ≡ source_of old → allocs_of new ≡ allocs_of old → front_of new ≡ front_of old → next ≡ start + line_len (drop start (source_text old))
     → ReadsTo (source_of old) start (state_of old) (state_of new) (LineAt start) (LineAt (start + line_len (drop start (source_text old))))
     → ReadsBlock old new (1 + start) (LineAt start) next
-line_passed old new start next u within begins source same next_is step =
+line_passed old new start next u within begins source same front next_is step =
     let text = source_text old in
     let e : ℕ = start + line_len (drop start text) in
     let boundary = subst (IsCharBoundary text) (sym next_is) (line_end_boundary text start u begins within) in
     let later = (line_later text start e next within refl (omega arith) boundary).0 in
-    line_ended (source_of old) old new start next
+    line_ended (source_of old) old new start (1 + start) next
     (subst (λ (n : ℕ). PassesTo (source_of old) start old new (LineAt start) (LineAt n)) (sym next_is)
-    (passes_state (source_of old) start old new (LineAt start) (LineAt e) source same step)) boundary later
+    (passes_state (source_of old) start old new (LineAt start) (LineAt e) source same front step)) boundary (omega arith) (omega arith)

@@ -9,8 +9,7 @@ use Rattle.first_pass_grammar.specs.Definitions.{LinkReference, reference_defini
 use Rattle.first_pass_grammar.specs.LinkRuns.{reference_places}
 use Rattle.first_pass_grammar.specs.Derivation.{Tables, no_tables}
 use Rattle.first_pass_names.specs.declared.items.Allocations.{Allocations}
-use Rattle.first_pass_names.specs.TableEntries.{Entries, entries, with_definition, AddsFootnote, tables_of, link_entry, footnote_label, refdefs_of}
-use Rattle.first_pass_names.specs.TableEntries.{footdefs_of}
+use Rattle.first_pass_names.specs.TableEntries.{Entries, entries, with_definition, AddsFootnote, tables_of, link_entry, footnote_label, refdefs_of, footdefs_of}
 use Rattle.first_pass_entities.specs.Texts.{Borrows}
 use Rattle.first_pass_items.specs.CowText.{text_of}
 use Rattle.first_pass_labels.specs.declared.label_table.FootnoteDef.{FootnoteDef}

@@ -14,7 +14,7 @@ use Rattle.first_pass_open.proofs.PlaceLemmas.{all_keep, line_start_end}
 use Rattle.first_pass_blocks.specs.declared.state.BlockPass.{BlockPass}
 use Rattle.first_pass_containers.specs.FootnoteHeads.{footnote_mark_at, head_read, after_head, IsAfterHead}
 use Rattle.first_pass_blocks.specs.OpenedFootnotes.{OpenedFootnote, TriesFootnote}
-use Rattle.first_pass_blocks.specs.Views.{context_in, state_of, source_of, source_text, tree_of}
+use Rattle.first_pass_blocks.specs.Views.{context_in, front_of, source_of, source_text, state_of, tree_of}
 use Rattle.first_pass_containers.proofs.Openings.HeadLemmas.{head_after_is, head_at_mark, line_after}
 use Rattle.first_pass_lists.proofs.NoEmptyItem.{footnote_begun_none}
 use Rattle.first_pass_blocks.proofs.Openings.FootnoteSteps.{passes_note}
@@ -45,9 +45,9 @@ pub record HeadFound (pass : BlockPass) (p : Place) (start n : ℕ) (head : ℕ 
 
 -- a footnote definition is open whose head was read
 pub footnote_opened : (old new : BlockPass) (p q : Place) (start n : ℕ) (head : ℕ × List ℕ) → IsStateAtPlace (source_text old) (state_of old) p
-    → source_of new ≡ source_of old → HeadFound old p start n head → IsRead old new start head n → IsAfterHead (source_of old) (start + n) q
-    → TriesFootnote old new p q true
-footnote_opened old new p q start n head is_at same found read following =
+    → (source_of new ≡ source_of old) × (front_of new ≡ front_of old) → HeadFound old p start n head → IsRead old new start head n
+    → IsAfterHead (source_of old) (start + n) q → TriesFootnote old new p q true
+footnote_opened old new p q start n head is_at kept found read following =
     let text : List ℕ = source_text old in
     let around : Context = context_in old in
     let gfm : Bool = gfm_footnotes (source_of old).options in
@@ -74,7 +74,7 @@ footnote_opened old new p q start n head is_at same found read following =
       (following.place, omega arith, omega arith, omega arith),
       omega arith,
       ap (λ r. r.begin_list_item) read.1.opened ∙ footnote_begun_none start read.1.index (state_of old),
-      passes_note old new p q head is_at same opens
+      passes_note old new p q head is_at kept.0 kept.1 opens
           (λ no_table. m.1 ∙ ap (λ (t : Bool). footnote_at t around (drop start text)) (sym no_table) ∙ found.here)
           (record { around = around; nested = nested; here = ap (λ (k : ℕ). footnote_at nested around (drop k text)) here ∙ found.here })
           following.place (omega arith)

@@ -26,7 +26,7 @@ use Rattle.first_pass_ready.specs.State.{ReadyAt}
 use Rattle.first_pass_containers.specs.Positions.{line_or, OrderedUpTo, OrderedIn, InLine}
 use Rattle.first_pass_blocks.specs.Progress.{PassesTo}
 use Rattle.first_pass_blocks.specs.OpenedFootnotes.{OpenedFootnote}
-use Rattle.first_pass_blocks.specs.Views.{allocs_of, state_of, source_of, source_text, tree_of}
+use Rattle.first_pass_blocks.specs.Views.{allocs_of, front_of, state_of, source_of, source_text, tree_of}
 use Rattle.first_pass_blocks.proofs.LinkDefinitions.WrittenLemmas.{footnote_written, HeadAt}
 use Rattle.first_pass_ready.proofs.FootnoteLemmas.{after_note, note_is_open}
 use Rattle.first_pass_containers.proofs.Order.OrderSteps.{line_or-below, ordered_on, ordered_note_in, top_begun, unindented_later}
@@ -37,7 +37,7 @@ use Rattle.first_pass_ready.proofs.BegunLemmas.{no_table}
 use Rattle.first_pass_containers.proofs.StateAt.{IsStateAtPlace}
 
 module _ (old new : BlockPass) (p q : Place) (head : ℕ × List ℕ) (is_at : IsStateAtPlace (source_text old) (state_of old) p)
-    (same : source_of new ≡ source_of old)
+    (same : source_of new ≡ source_of old) (front : front_of new ≡ front_of old)
     (opened : OpenedFootnote (offset (unindented p)) head old new)
     (begins : in_table (tree_of old).nodes (tree_of old).spine ≡ false → footnote_head_at (context_of (source_of old).options (tree_of old)) p ≡ Some head)
     (written : HeadAt (source_text old) (offset (unindented p)) head)
@@ -116,6 +116,7 @@ module _ (old new : BlockPass) (p q : Place) (head : ℕ × List ℕ) (is_at : I
   pub passes_note : IsCharBoundary text q.line → (line : ℕ) → line ≤ p.line → PassesTo (source_of old) line old new (InLine p) (InLine q)
   passes_note boundary line under = record {
     source = same;
+    front = front;
     names = more_names;
     ready = λ more extends ready. ready_then more extends ready;
     order = λ ordered. order_then ordered boundary;

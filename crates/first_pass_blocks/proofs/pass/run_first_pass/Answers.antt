@@ -1,18 +1,18 @@
-use Rattle.std.proofs.Common.{◌≡◌, ◌≤◌, inl, inr, ℕ, List, [], length, None, IsCharBoundary, arith, refl, sym, ap, ◌∙◌, subst}
+use Rattle.std.proofs.Common.{◌≡◌, ◌<◌, ◌≤◌, ◌+◌, inl, inr, ℕ, List, [], length, None, IsCharBoundary, arith, refl, sym, ap, ◌∙◌, subst}
 use Rattle.std.proofs.lemmas.Str.{IsCharBoundary-start, IsCharBoundary-end}
 use Rattle.first_pass_lines.proofs.LineFacts.{lines_at-end}
 use Rattle.first_pass_grammar.specs.Leaves.{document}
 use Rattle.first_pass_items.specs.declared.option_set.Options.{Options}
 use Rattle.first_pass_grammar.specs.Completion.{lines_from}
 use Rattle.first_pass_lists.specs.declared.state.PassState.{PassState}
-use Rattle.first_pass_open.specs.declared.source.Source.{Source}
 use Rattle.first_pass_order.specs.Ordered.{reached, IsReadTo, IsReadFrom}
 use Rattle.first_pass_ready.specs.State.{Ready}
-use Rattle.first_pass_names.specs.TableEntries.{Entries, entries, names_of, tables_in, tables_of}
+use Rattle.first_pass_names.specs.TableEntries.{Entries, names_of, tables_in, tables_of}
 use Rattle.first_pass_grammar.specs.Derivation.{Derives}
 use Rattle.first_pass_grammar.specs.Names.{AreNamed}
 use Rattle.first_pass_definitions.specs.Found.{AreWritten}
-use Rattle.first_pass_blocks.specs.Written.{AreFootnotesWritten, TablesAreWritten}
+use Rattle.first_pass_blocks.specs.Written.{AreFootnotesWritten}
+use Rattle.first_pass_blocks.proofs.LineByLine.PassRead.{block_more, lines_more}
 use Rattle.first_pass_blocks.proofs.LinkDefinitions.WrittenLemmas.{none_written}
 use Rattle.first_pass_grammar.proofs.Count.CountedNodes.{own_at_most}
 use Rattle.first_pass_order.proofs.InsertedCells.{all_nodes}
@@ -22,8 +22,9 @@ use Rattle.first_pass_order.proofs.SettledNodes.{derived_settled}
 use Rattle.first_pass_order.proofs.OrderLemmas.{ordered_whole}
 use Rattle.first_pass_open.proofs.FrontLemmas.{outer-none}
 use Rattle.first_pass_ready.proofs.StateLemmas.{ready_finish}
-use Rattle.first_pass_names.proofs.NameLemmas.{extends_both, extends_equal}
+use Rattle.first_pass_names.proofs.NameLemmas.{extends_equal}
 use Rattle.first_pass_blocks.proofs.pass.run_first_pass.Goals as goal
+use Rattle.first_pass_blocks.proofs.pass.run_first_pass.Goals.{After-drop-pass-2}
 
 pub loop-ix-init : goal.loop-ix-init
 loop-ix-init c = record {
@@ -38,44 +39,59 @@ loop-ix-init c = record {
   node_bound = (let root = c.in_ok-pass.ensures.root in let most = own_at_most None c.in_ok-pass.pass.state.tree.nodes in omega arith);
 }
 
-both_same : {t u : List ℕ} {o w : Options} → t ≡ u → o ≡ w → ◌≡◌ {A = List ℕ × Options} (t, o) (u, w)
-both_same a b = cc
+pub parse_block-requires : goal.parse_block-requires
+parse_block-requires c =
+    let text = c.loop-ix.invariant.same_text in
+    record {
+      within = subst (λ (t : List ℕ). c.loop-ix.ix < length t) (sym text) (omega arith);
+      boundary = subst (λ (t : List ℕ). IsCharBoundary t c.loop-ix.ix) (sym text) c.loop-ix.invariant.boundary;
+    }
+
+pub loop-pass-init : goal.loop-pass-init
+loop-pass-init c =
+    let ix = c.loop-ix.ix in
+    let one = c.in_ok-ix.ensures in
+    let later = one.block.later in
+    record {
+      read = block_more c.args.text.now c.args.options c.loop-ix.pass c.parse_block.new.self (1 + ix) ix c.in_ok-ix.ix c.loop-ix.invariant one.block
+          (omega arith);
+      front = one.front;
+      later = omega arith;
+    }
+
+pub parse_known-requires : goal.parse_known-requires
+parse_known-requires c =
+    let i = c.loop-pass.invariant in
+    let text = i.read.same_text in
+    record {
+      within = subst (λ (t : List ℕ). c.loop-pass.ix < length t) (sym text) (omega arith);
+      boundary = subst (λ (t : List ℕ). IsCharBoundary t c.loop-pass.ix) (sym text) i.read.boundary;
+      known = c.loop-pass-test.true;
+      front = i.front;
+    }
+
+pub loop-pass-preserved : goal.loop-pass-preserved
+loop-pass-preserved c =
+    let ix = c.loop-pass.ix in
+    let one = c.in_ok-ix-2.ensures in
+    let later = one.block.later in
+    record {
+      read = block_more c.args.text.now c.args.options c.loop-pass.pass c.parse_known.new.self (1 + ix) ix c.in_ok-ix-2.ix c.loop-pass.invariant.read one.block
+          (omega arith);
+      front = one.front;
+      later = (let before = c.loop-pass.invariant.later in omega arith);
+    }
 
 pub read_blank_lines-ix-requires : goal.read_blank_lines-ix-requires
-read_blank_lines-ix-requires c = subst (λ (z : Source). IsCharBoundary z.text.now c.in_ok-ix.ix) (sym c.in_ok-ix.ensures.source) c.in_ok-ix.ensures.boundary
+read_blank_lines-ix-requires c =
+    let i = c.loop-pass.invariant.read in
+    subst (λ (t : List ℕ). IsCharBoundary t c.loop-pass.ix) (sym i.same_text) i.boundary
 
 pub loop-ix-preserved : goal.loop-ix-preserved
 loop-ix-preserved c =
-    let i = c.loop-ix.invariant in
-    let e = c.in_ok-ix.ensures in
-    let pass = c.loop-ix.pass in
-    let new = c.parse_block.new.self in
-    let mid = c.in_ok-ix.ix in
-    let next = c.read_blank_lines-ix.result in
-    let more_lines = c.read_blank_lines-ix.ensures in
-    let before : PassState = pass.state in
-    let following : PassState = new.state in
-    let same_text : new.source.text.now ≡ c.args.text.now = ap (λ (z : Source). z.text.now) e.source ∙ i.same_text in
-    let same_options : new.source.options ≡ c.args.options = ap (λ (z : Source). z.options) e.source ∙ i.same_options in
-    record {
-      same_text = same_text;
-      same_options = same_options;
-      boundary = subst (λ t. IsCharBoundary t next) same_text more_lines.boundary;
-      ready = λ names more.
-          subst (λ (z : List ℕ × Options). Ready (document z.0 z.1 names) (tables_of new.allocs) following (lines_from z.0 mid)
-          → Ready (document z.0 z.1 names) (tables_of new.allocs) following (lines_from z.0 next)) (both_same same_text same_options)
-          (more_lines.read.ready names (tables_of new.allocs))
-          (subst (λ (z : List ℕ × Options). Ready (document z.0 z.1 names) (tables_of pass.allocs) before (lines_from z.0 c.loop-ix.ix)
-          → Ready (document z.0 z.1 names) (tables_of new.allocs) following (lines_from z.0 mid)) (both_same i.same_text i.same_options) (e.ready names more)
-          (i.ready names (extends_both names (names_of new.allocs) (names_of pass.allocs) more e.names)));
-      order = subst (λ (z : List ℕ × Options). IsReadFrom z.1 z.0 following mid → IsReadFrom z.1 z.0 following next)
-          (both_same same_text same_options) more_lines.read.order
-          (subst (λ (z : List ℕ × Options). IsReadFrom z.1 z.0 before c.loop-ix.ix → IsReadFrom z.1 z.0 following mid)
-          (both_same i.same_text i.same_options) e.order i.order);
-      named = e.named i.named;
-      written = subst (λ t. TablesAreWritten t pass.allocs → TablesAreWritten t new.allocs) i.same_text e.written i.written;
-      node_bound = (let read = i.node_bound in let grows = e.node_bound in let later = e.later in let on = more_lines.later in omega arith);
-    }
+    let more = c.read_blank_lines-ix.ensures in
+    lines_more c.args.text.now c.args.options c.loop-pass.pass c.loop-pass.ix c.read_blank_lines-ix.result c.loop-pass.invariant.read more.later more.boundary
+    more.read
 
 -- At the end of the text no block has ended at a blank line.
 at_end : (options : Options) (text : List ℕ) (r : PassState) (at : ℕ) → length text ≤ at → IsReadFrom options text r at → IsReadTo text r at
@@ -83,10 +99,10 @@ at_end options text r at past (inl o) = o
 at_end options text r at past (inr h) = (let within = h.0.within in absurd (omega arith))
 
 -- At the end of the text all containers are closed.
-all_closed : (c : goal.In_ok-sort_tables) → c.close_containers.new.state.tree.spine ≡ []
+all_closed : (c : After-drop-pass-2) → c.close_containers.new.state.tree.spine ≡ []
 all_closed c = c.close_containers.ensures.spine ∙ outer-none c.loop-ix.pass.state.tree.spine
 
-derived : (c : goal.In_ok-sort_tables)
+derived : (c : After-drop-pass-2)
     → Derives (document c.args.text.now c.args.options (names_of c.loop-ix.pass.allocs)) c.close_containers.new.state.tree.nodes
     (tables_of c.loop-ix.pass.allocs)
 derived c =
@@ -115,8 +131,7 @@ returns-clause-only c =
 
 pub returns-clause-tables : goal.returns-clause-tables
 returns-clause-tables c =
-    let names = names_of c.sort_tables.new.self in
-    let d = document c.args.text.now c.args.options names in
+    let d = document c.args.text.now c.args.options (names_of c.sort_tables.new.self) in
     derived_whole d c.close_containers.new.state.tree.nodes (tables_of c.sort_tables.new.self) (returns-clause-derived c)
 
 pub returns-clause-finished : goal.returns-clause-finished
@@ -124,8 +139,7 @@ returns-clause-finished c = all_closed c
 
 pub returns-clause-settled : goal.returns-clause-settled
 returns-clause-settled c =
-    let names = names_of c.loop-ix.pass.allocs in
-    let d = document c.args.text.now c.args.options names in
+    let d = document c.args.text.now c.args.options (names_of c.loop-ix.pass.allocs) in
     derived_settled d c.close_containers.new.state.tree.nodes (tables_of c.loop-ix.pass.allocs) (derived c)
 
 pub returns-clause-order : goal.returns-clause-order

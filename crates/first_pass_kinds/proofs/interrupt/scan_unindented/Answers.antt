@@ -6,10 +6,10 @@ use Rattle.first_pass_open.proofs.PlaceLemmas.{text_place}
 use Rattle.first_pass_kinds.proofs.interrupt.scan_unindented.Goals as goal
 
 pub returns-clause-columns : goal.returns-clause-columns
-returns-clause-columns c = c.scan_indentation-columns.ensures.columns ∙ ap (λ r. min 4 (indent r)) c.scan_front-front.ensures.front
+returns-clause-columns c = c.scan_indentation-columns.ensures.columns ∙ ap (λ r. min 4 (indent r)) (c.copy-rest.ensures ∙ c.scan_front-front.ensures.front)
 
 pub returns-clause-rest : goal.returns-clause-rest
-returns-clause-rest c = c.scan_indentation-columns.ensures.rest ∙ ap all_taken c.scan_front-front.ensures.front
+returns-clause-rest c = c.scan_indentation-columns.ensures.rest ∙ ap all_taken (c.copy-rest.ensures ∙ c.scan_front-front.ensures.front)
 
 pub returns-clause-place : goal.returns-clause-place
 returns-clause-place c =

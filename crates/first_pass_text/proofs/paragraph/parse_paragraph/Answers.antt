@@ -2,7 +2,7 @@ use Rattle.std.proofs.Common.{◌≡◌, ◌≤◌, ℕ, ◌+◌, [], length, dr
 use Rattle.std.specs.Option.{option_map}
 use Rattle.first_pass_items.specs.declared.item.Item.{Item}
 use Rattle.first_pass_items.specs.declared.item.HeadingLevel.{HeadingLevel}
-use Rattle.first_pass_tree.specs.Forest.{appended, pushed}
+use Rattle.first_pass_tree.specs.Forest.{Forest, appended, pushed}
 use Rattle.first_pass_tokens.specs.Braces.{no_braces}
 use Rattle.first_pass_tokens.specs.LineTokens.{spot}
 use Rattle.first_pass_grammar.specs.Completion.{lines_from}
@@ -12,24 +12,28 @@ use Rattle.first_pass_open.specs.Between.{line_end_at}
 use Rattle.first_pass_open.specs.OpenBlock.{with_child}
 use Rattle.first_pass_open.specs.Path.{path_of}
 use Rattle.first_pass_open.proofs.BlockLemmas.{marked_chain, opened_is}
-use Rattle.first_pass_open.proofs.PathLemmas.{open_are_in}
+use Rattle.first_pass_open.proofs.PathLemmas.{AreIn, open_are_in}
 use Rattle.first_pass_text.proofs.ParagraphLemmas.{path_of-paragraph}
 use Rattle.first_pass_lines.specs.Lines.{line_len}
 use Rattle.first_pass_names.specs.TableEntries.{names_of}
 use Rattle.first_pass_grammar.proofs.Names.MoreNames.{extends_both}
 use Rattle.first_pass_text.proofs.OrderPlain.{plain_fits}
-use Rattle.first_pass_text.proofs.PlainTexts.{StandsOpen, given, opened_item, innermost, its_item, text_open, closed_paragraph, heading_open, closed_heading}
+use Rattle.first_pass_text.proofs.PlainTexts.{StandsOpen, given, opened_item, innermost, its_item, whole_chain, text_open, closed_paragraph, heading_open, closed_heading}
+use Rattle.first_pass_kinds.specs.declared.next_front.NextFront.{NextFront}
+use Rattle.first_pass_kinds.specs.Fronts.{IsFrontAt}
+use Rattle.first_pass_open.proofs.FrontLemmas.{container_is}
+use Rattle.first_pass_text.proofs.ClosedFronts.{closed_front, same_paths, opened_inside}
 use Rattle.first_pass_text.proofs.paragraph.parse_paragraph.Goals as goal
 use Rattle.first_pass_text.proofs.paragraph.parse_paragraph.Goals.{In_ok-end}
 
 -- The paragraph is open, with its marker and the chain of its lines.
-stands_open : (c : In_ok-end) → StandsOpen c.args.source.now.text.now c.args.source.now.options (names_of c.append_text_lines.new.allocs) c.args.start_ix
-    c.args.tasklist_marker c.args.tree.now c.append_text_lines.new.tree c.in_ok-node_ix.node_ix c.in_ok-end.end
+stands_open : (c : In_ok-end) → StandsOpen c.args.source.now.text.now c.args.source.now.options (names_of c.append_text_lines.new.allocs) c.args.text.at
+    c.args.text.marker c.args.tree.now c.append_text_lines.new.tree c.in_ok-node_ix.node_ix c.in_ok-end.end
 stands_open c =
     let text = c.args.source.now.text.now in
     let options = c.args.source.now.options in
-    let start = c.args.start_ix in
-    let marker = c.args.tasklist_marker in
+    let start = c.args.text.at in
+    let marker = c.args.text.marker in
     let g = c.args.tree.now in
     let m = c.append_item.new.tree in
     let ix = c.in_ok-node_ix.node_ix in
@@ -70,9 +74,30 @@ returns-in_default-clause-block c =
 
 pub returns-in_default-clause-fits : goal.returns-in_default-clause-fits
 returns-in_default-clause-fits c =
-    plain_fits (document c.args.source.now.text.now c.args.source.now.options (names_of c.append_text_lines.new.allocs)) c.args.start_ix
-    c.args.tasklist_marker c.args.tree.now c.close_block.new.tree c.in_ok-end.end.next
+    plain_fits (document c.args.source.now.text.now c.args.source.now.options (names_of c.append_text_lines.new.allocs)) c.args.text.at
+    c.args.text.marker c.args.tree.now c.close_block.new.tree c.in_ok-end.end.next
     (returns-in_default-clause-block c) c.in_ok-end.ensures.utf8 c.requires.boundary
+
+pub returns-in_default-clause-front : goal.returns-in_default-clause-front
+returns-in_default-clause-front c = λ known.
+    let source = c.args.source.now in
+    let t = stands_open (goal.at.returns-in_default-clause-front c).In_ok-end in
+    let g = c.args.tree.now in
+    let filled = c.append_text_lines.new.tree in
+    let closed = c.close_block.new.tree in
+    let ix = c.in_ok-node_ix.node_ix in
+    let x : Item = opened_item c.args.text.at in
+    let found : NextFront = c.append_text_lines.new.next_front in
+    let block = returns-in_default-clause-block c in
+    let same = same_paths source.options g filled closed x ix (whole_chain t) block.items t.tree_is block.tree_is in
+    let there = open_are_in g.nodes g.spine c.recall_forest.ensures.opened in
+    let kept : IsFrontAt source filled c.in_ok-end.end.next found.continued found.rest =
+    c.in_ok-end.ensures.front (ap (λ (z : NextFront). z.is_known) (sym c.limit_to_open.ensures) ∙ known) in
+    let spine : closed.spine ≡ g.spine = ap (λ (z : Forest Item). z.spine) block.tree_is in
+    subst (λ (z : NextFront). IsFrontAt source closed c.in_ok-end.end.next z.continued z.rest) (sym c.limit_to_open.ensures)
+    (closed_front source filled closed ix (length g.nodes) (opened_inside g filled closed x ix (whole_chain t) block.items t.tree_is block.tree_is)
+    (container_is source.options filled.nodes ix x (its_item t)) (subst (AreIn (length g.nodes)) (sym spine) there) same
+    c.in_ok-end.end.next found.continued found.rest kept)
 
 pub make_heading-requires-clause-open : goal.make_heading-requires-clause-open
 make_heading-requires-clause-open c =
@@ -97,14 +122,14 @@ returns-clause-block c =
     closed_heading t (names_of c.make_heading.new.allocs) c.in_ok-make_heading.ensures.more.names c.in-Some.level c.is_by_backslash.result
     c.make_heading.new.tree c.append_last_backslash-2.new.tree
     c.is_by_backslash.ensures c.in_ok-make_heading.ensures.heading c.in_ok-append_last_backslash-2.ensures
-    c.close_block-2.new.tree c.next_line-following.result (sym c.in-Some.is)
-    (c.next_line-following.ensures.value ∙ ap (λ t. next + line_len (drop next t)) c.as_bytes.ensures.value)
+    c.close_block-2.new.tree c.next_line-next.result (sym c.in-Some.is)
+    (c.next_line-next.ensures.value ∙ ap (λ t. next + line_len (drop next t)) c.as_bytes.ensures.value)
     c.in_ok-end.ensures.utf8 c.close_block-2.ensures.tree
 
 pub returns-clause-fits : goal.returns-clause-fits
 returns-clause-fits c =
-    plain_fits (document c.args.source.now.text.now c.args.source.now.options (names_of c.make_heading.new.allocs)) c.args.start_ix
-    c.args.tasklist_marker c.args.tree.now c.close_block-2.new.tree c.next_line-following.result
+    plain_fits (document c.args.source.now.text.now c.args.source.now.options (names_of c.make_heading.new.allocs)) c.args.text.at
+    c.args.text.marker c.args.tree.now c.close_block-2.new.tree c.next_line-next.result
     (returns-clause-block c) c.in_ok-end.ensures.utf8 c.requires.boundary
 
 pub returns-clause-more : goal.returns-clause-more

@@ -60,6 +60,7 @@ returns c =
     c.in_ok-next.blank e.block in
     record {
       source = refl;
+      front = refl;
       more = e.more;
       begin_list_item = f.no_empty;
       block = code_added text options names p self.state.tree tree next _ i

@@ -27,7 +27,7 @@ returns c = λ p f.
     let tree = c.parse_fenced_code_block.new.tree in
     let i = all_keep text p.line p.rest f.utf8 f.place in
     let says = found_says self.source.options p leaf fence.indent c.args.at f.found in
-    leaf_added self _ p leaf fence.indent c.args.at next f refl e.more refl refl e.boundary
+    leaf_added self _ p leaf fence.indent c.args.at next f refl refl e.more refl refl e.boundary
     (fenced_between text self.source.options names self.state.tree tree c.args.at next f.utf8
     (found_boundary text p c.args.at f.utf8 f.place f.found.at_is) e.boundary.1.0 fence.indent fence.byte fence.count
     (fence_found self p fence.count fence.byte fence.indent c.args.at f) e.block)

@@ -30,6 +30,6 @@ returns c = λ p columns f.
     let tree = c.parse_atx_heading.new.tree in
     let i = all_keep text p.line p.rest f.utf8 f.place in
     let ends = e.block.end_is ∙ ends_here text options names p self.state.tree tree at next f.found.at_is i in
-    leaf_added self _ p leaf columns at next f refl e.more refl refl (line_read self self p leaf columns at next f ends)
+    leaf_added self _ p leaf columns at next f refl refl e.more refl refl (line_read self self p leaf columns at next f ends)
     (λ from low. e.fits from low (found_boundary text p at f.utf8 f.place f.found.at_is))
     (heading_added text options names p self.state.tree tree at next f.found.at_is i c.args.level e.block)

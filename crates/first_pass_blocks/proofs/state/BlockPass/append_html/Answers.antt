@@ -31,7 +31,7 @@ returns c = λ p f.
     let tree = c.parse_html_block_type_1_to_5.new.tree in
     let i = all_keep text p.line p.rest f.utf8 f.place in
     let until_is : html_end (drop 1 (all_taken p.rest).left) ≡ Some until = f.found.«end» in
-    leaf_added self _ p leaf c.args.columns at next f refl e.more refl refl e.boundary
+    leaf_added self _ p leaf c.args.columns at next f refl refl e.more refl refl e.boundary
     (to_end_between text options names self.state.tree tree at next f.utf8 (found_boundary text p at f.utf8 f.place f.found.at_is) e.boundary.1.0
     until c.args.columns e.block)
     (html_end_added text options names p self.state.tree tree at next f.found.at_is i until c.args.columns until_is

@@ -19,7 +19,7 @@ returns c = λ p columns f.
     let names = names_of c.parse_metadata_block.new.allocs in
     let tree = c.parse_metadata_block.new.tree in
     let i = all_keep text p.line p.rest f.utf8 f.place in
-    leaf_added self _ p (Metadata c.args.byte) columns c.args.at next f refl e.more refl refl e.boundary
+    leaf_added self _ p (Metadata c.args.byte) columns c.args.at next f refl refl e.more refl refl e.boundary
     (metadata_between text self.source.options names self.state.tree tree c.args.at next f.utf8
     (found_boundary text p c.args.at f.utf8 f.place f.found.at_is) e.boundary.1.0 c.args.byte
     (found_says self.source.options p (Metadata c.args.byte) columns c.args.at f.found) e.block)

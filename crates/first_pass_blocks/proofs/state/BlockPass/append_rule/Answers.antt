@@ -34,7 +34,7 @@ returns c = λ p columns f.
     let i = all_keep text p.line p.rest f.utf8 f.place in
     let ends = rule_end p at size (found_says options p leaf columns at f.found) f.found.at_is in
     let last = subst (IsCharBoundary text) (sym ends) (place_end text p f.utf8 f.place) in
-    leaf_added self _ p leaf columns at next f refl (record { names = extends_none names; entries = refl }) refl refl
+    leaf_added self _ p leaf columns at next f refl refl (record { names = extends_none names; entries = refl }) refl refl
     (line_read self self p leaf columns at next f (e.following ∙ ends))
     (λ from low. subst (λ n. AddsBetween text from n self.state.tree tree) (sym e.following)
     (e.fits text from low (found_boundary text p at f.utf8 f.place f.found.at_is) last))

@@ -12,6 +12,6 @@ pub returns-then-begins_no_container-clause-opened : goal.returns-then-begins_no
 returns-then-begins_no_container-clause-opened c =
     let self : BlockPass = c.args.self.now in
     let p : Place = c.args.place.now in
-    passes_state self.source p.line self self (InLine p) (LeafAt p) refl refl
+    passes_state self.source p.line self self (InLine p) (LeafAt p) refl refl refl
     (only_leaf self.source self.state p p.line
     (subst (λ (q : Place). BeginsNoContainer q.rest) c.place.view_is (c.begins_no_container.ensures c.if-begins_no_container.true)))

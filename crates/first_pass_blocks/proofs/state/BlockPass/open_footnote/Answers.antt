@@ -15,7 +15,7 @@ pub returns-in_default : goal.returns-in_default
 returns-in_default c =
     let self = c.args.self.now in
     let bare = no_mark (context_in self) c.args.place.now (sym c.footnote_mark.ensures.value ∙ c.in_default.is) in
-    ((refl, refl, refl), refl, λ no_table. bare)
+    ((refl, refl, refl, refl), refl, λ no_table. bare)
 
 -- the length of the head that was read
 read : (c : In-Some-2)
@@ -55,5 +55,5 @@ returns-in-Some-2 c =
     let source = c.parse_footnote.ensures.source in
     let following = subst (λ (z : Source). IsAfterHead z (c.in-Some.start + c.in-Some-2.size) c.place_after_head.result) source c.place_after_head.ensures in
     footnote_opened self new c.args.place.now c.place_after_head.result c.in-Some.start c.in-Some-2.size f.0
-    (record { utf8 = c.requires.utf8; place = c.requires.place; forest = c.recall_forest.ensures; none = c.requires.no_empty }) source
-    (record { mark = sym c.footnote_mark.ensures.value ∙ c.in-Some.is; here = f.1; some = r.0 }) f.2 following
+    (record { utf8 = c.requires.utf8; place = c.requires.place; forest = c.recall_forest.ensures; none = c.requires.no_empty })
+    (source, c.parse_footnote.ensures.front) (record { mark = sym c.footnote_mark.ensures.value ∙ c.in-Some.is; here = f.1; some = r.0 }) f.2 following

@@ -37,7 +37,7 @@ loop-self-init c =
     record {
       no_empty = c.requires.no_empty;
       here = (c.requires.place, omega arith, omega arith, omega arith);
-      opened = passes_state self.source first.line self self (InLine first) (InLine first) refl refl
+      opened = passes_state self.source first.line self self (InLine first) (InLine first) refl refl refl
           (reads_none self.source first.line self.state (InLine first));
     }
 
@@ -59,7 +59,7 @@ tried first old now mid p q t is here none opened tries =
     let kept = subst (λ (r : PassState). ReadsTo over first.line (state_of now) r (InLine p) (InLine p)) (sym same.1)
     (reads_none over first.line (state_of now) (InLine p)) in
     let steps = passes_both over first.line old now mid (InLine first) (InLine p) (InLine p) opened
-    (passes_state over first.line now mid (InLine p) (InLine p) same.0 same.2 kept) in
+    (passes_state over first.line now mid (InLine p) (InLine p) same.0 same.2 same.3 kept) in
     record {
       here = subst (IsNotBefore over.text.now first) (sym at) here;
       no_empty = ap (λ (r : PassState). r.begin_list_item) same.1 ∙ none;
@@ -127,7 +127,7 @@ ended_here first old mid new p q utf8 forest i none at same =
     let stays = no_start over (state_of mid) p utf8 i.here.0 forest i.no_empty first.line i.here.1 i.bare none in
     subst (λ (z : Place). PassesTo over first.line old new (InLine first) (LeafAt z)) (sym at)
     (passes_both over first.line old mid new (InLine first) (InLine p) (LeafAt p) i.opened
-    (passes_state over first.line mid new (InLine p) (LeafAt p) same.0 same.2
+    (passes_state over first.line mid new (InLine p) (LeafAt p) same.0 same.2 same.3
     (subst (λ (z : PassState). ReadsTo over first.line (state_of mid) z (InLine p) (LeafAt p)) (sym same.1) stays)))
 
 pub returns-in_default-clause-opened : goal.returns-in_default-clause-opened
@@ -137,7 +137,7 @@ returns-in_default-clause-opened c =
     let a = absent c.args.self.now.source c.open_footnote.new.self c.may_define-may_define.result p c.start_at.new.place c.start_at.result i.opened.source
     c.may_define-may_define.ensures
     c.in_default.is c.start_at.ensures in
-    ended_here c.args.place.now c.args.self.now c.open_footnote.new.self _ p _ c.requires.utf8 c.recall_forest.ensures i a.0 a.1 (refl, refl, refl)
+    ended_here c.args.place.now c.args.self.now c.open_footnote.new.self _ p _ c.requires.utf8 c.recall_forest.ensures i a.0 a.1 (refl, refl, refl, refl)
 
 -- a container begins
 record Found (over : Source) (now : BlockPass) (p new : Place) (told : Start) : Type 0 where
@@ -227,7 +227,7 @@ returns-in_default-after c =
       after = s.stands;
       place = s.here;
       opened = passes_both over first.line c.args.self.now c.open_footnote.new.self _ (InLine first) (InLine p) there i.opened
-          (passes_state over first.line c.open_footnote.new.self _ (InLine p) there refl refl opens);
+          (passes_state over first.line c.open_footnote.new.self _ (InLine p) there refl refl refl opens);
     }
 
 -- after a footnote definition or another container
@@ -258,7 +258,7 @@ nested c =
             no_empty = subst (λ (a : AfterMarker). IsAfterMarker a w.open_start.new.state) w.in-OnLine.is s.stands;
             less = subst (λ (z : Place). length new.rest.left < length z.rest.left) no.1 s.less;
             opened = passes_both over first.line old mid _ (InLine first) (InLine p) (InLine new) i.opened
-                (passes_state over first.line mid _ (InLine p) (InLine new) refl refl opens);
+                (passes_state over first.line mid _ (InLine p) (InLine new) refl refl refl opens);
           })
       | else-not-branch w ↦
           rw (w.self-is, w.place-is) (opens_note first old now mid here p _ w.if-not-branch.false l.here l.opened tries)
@@ -287,6 +287,6 @@ returns-then-begins_no_container-clause-opened c =
     let p : Place = c.if-not-branch.place in
     let n = nested (goal.at.returns-then-begins_no_container-clause-opened c).Joined-not-branch in
     passes_both over first.line c.args.self.now now now (InLine first) (InLine p) (LeafAt p) n.opened
-    (passes_state over first.line now now (InLine p) (LeafAt p) refl refl
+    (passes_state over first.line now now (InLine p) (LeafAt p) refl refl refl
     (only_leaf over now.state p first.line
     (subst (λ (q : Place). BeginsNoContainer q.rest) c.place-in-loop-self.view_is (c.begins_no_container.ensures c.if-begins_no_container.true))))

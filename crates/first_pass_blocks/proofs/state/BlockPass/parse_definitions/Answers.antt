@@ -19,7 +19,7 @@ returns-then-not-begins c =
     let h : begins left_bracket (drop c.args.at text) ≡ false = ap (begins left_bracket) (sym
     (c.rest_of.ensures.value ∙ ap (drop c.args.at) c.as_bytes.ensures.value)) ∙ sym c.begins.ensures.value ∙ c.if-not-begins.true in
     record {
-      kept = record { source = refl; state = refl; names = refl; written = λ h. h };
+      kept = record { source = refl; front = refl; state = refl; names = refl; written = λ h. h };
       run = λ p line at i.
           run_flows text around nested p p c.args.at (tables_of now.allocs) (tables_of now.allocs) (sym at)
           (λ plain. defined_none text around p i

@@ -3,10 +3,11 @@ use Rattle.first_pass_lines.specs.Places.{Place}
 use Rattle.first_pass_grammar.specs.Leaves.{document}
 use Rattle.first_pass_grammar.specs.Kinds.{unindented}
 use Rattle.first_pass_names.specs.TableEntries.{tables_of, names_of}
-use Rattle.first_pass_lists.specs.Closing.{is_after_definition, list_finished}
+use Rattle.first_pass_lists.specs.Closing.{is_after_definition, list_finished, with_tree}
 use Rattle.first_pass_lists.proofs.NoEmptyItem.{list_finished_none}
 use Rattle.first_pass_containers.proofs.LineByLine.EnteredLines.{list_finished_blank}
 use Rattle.first_pass_lists.specs.declared.state.PassState.{PassState}
+use Rattle.first_pass_kinds.specs.declared.next_front.NextFront.{NextFront}
 use Rattle.first_pass_blocks.specs.Views.{context_in}
 use Rattle.first_pass_open.specs.declared.source.Source.{Source}
 use Rattle.first_pass_open.proofs.PlaceLemmas.{all_keep}
@@ -24,8 +25,8 @@ use Rattle.first_pass_containers.proofs.StateAt.{IsStateAtPlace}
 pub parse_definitions-requires-clause-boundary : goal.parse_definitions-requires-clause-boundary
 parse_definitions-requires-clause-boundary c = found_boundary _ _ _ c.requires.utf8 c.requires.place c.requires.at
 
-pub returns-in-NextLine : goal.returns-in-NextLine
-returns-in-NextLine c =
+pub returns-in-NextLine-clause-block : goal.returns-in-NextLine-clause-block
+returns-in-NextLine-clause-block c =
     let self = c.args.self.now in
     let text = self.source.text.now in
     let p = c.args.place in
@@ -63,25 +64,29 @@ paragraph_boundary c =
 pub parse_possible_title-requires-clause-boundary : goal.parse_possible_title-requires-clause-boundary
 parse_possible_title-requires-clause-boundary c = paragraph_boundary (goal.at.parse_possible_title-requires-clause-boundary c).In-Paragraph
 
-pub returns-then-is_after_definition : goal.returns-then-is_after_definition
-returns-then-is_after_definition c =
+pub returns-then-is_after_definition-clause-block : goal.returns-then-is_after_definition-clause-block
+returns-then-is_after_definition-clause-block c =
     let self = c.args.self.now in
     let text = self.source.text.now in
     let p = c.args.place in
     let r : PassState = self.state in
     let mid = c.parse_definitions.new.self in
     let e = c.in_ok-line.ensures in
-    let run = run_before (goal.at.returns-then-is_after_definition c).In-Paragraph in
+    let run = run_before (goal.at.returns-then-is_after_definition-clause-block c).In-Paragraph in
     let here : IsStateAtPlace text r p =
     record { utf8 = c.requires.utf8; place = c.requires.place; forest = c.recall_forest.ensures; none = c.requires.no_empty } in
     run_title self mid _ p c.in-Paragraph.text c.in_ok-next-in-Paragraph.next here c.requires.kind (record { kept = e.kept; run = run })
-    (sym c.is_after_definition.ensures ∙ c.if-is_after_definition.true) c.in_ok-next-in-Paragraph.ensures
+    (sym c.is_after_definition.ensures ∙ c.if-is_after_definition.true) c.in_ok-next-in-Paragraph.ensures.title
+
+pub returns-in-NextLine-clause-front : goal.returns-in-NextLine-clause-front
+returns-in-NextLine-clause-front c = λ known.
+    let none = ap (λ (z : NextFront). z.is_known) c.in_ok-line.ensures.kept.front ∙ c.requires.none in cc
 
 pub parse_text-requires-clause-boundary : goal.parse_text-requires-clause-boundary
 parse_text-requires-clause-boundary c = paragraph_boundary (goal.at.parse_text-requires-clause-boundary c).In-Paragraph
 
-pub returns : goal.returns
-returns c =
+pub returns-clause-block : goal.returns-clause-block
+returns-clause-block c =
     let self = c.args.self.now in
     let text = self.source.text.now in
     let options = self.source.options in
@@ -90,15 +95,16 @@ returns c =
     let next = c.in_ok-next-in-Paragraph-2.next in
     let r : PassState = self.state in
     let mid = c.parse_definitions.new.self in
-    let names = names_of c.parse_text.new.allocs in
-    let tree = c.parse_text.new.tree in
+    let names = names_of c.parse_text.new.self.allocs in
+    let tree = c.parse_text.new.self.state.tree in
     let ended : PassState = c.finish_list-in-Paragraph.new.self in
     let e = c.in_ok-line.ensures in
     let f = c.in_ok-next-in-Paragraph-2.ensures in
-    let run = run_before (goal.at.returns c).In-Paragraph in
+    let run = run_before (goal.at.returns-clause-block c).In-Paragraph in
     let done : ended ≡ list_finished at r = c.finish_list-in-Paragraph.ensures ∙ ap (list_finished at) e.kept.state in
-    let none = ap (λ (z : PassState). z.begin_list_item) done ∙ list_finished_none at r in
-    let blank = ap (λ (z : PassState). z.blank) done ∙ list_finished_blank at r in
+    let is : c.parse_text.new.self.state ≡ with_tree ended tree = c.parse_text.ensures.state in
+    let none = ap (λ (z : PassState). z.begin_list_item) is ∙ ap (λ (z : PassState). z.begin_list_item) done ∙ list_finished_none at r in
+    let blank = ap (λ (z : PassState). z.blank) is ∙ ap (λ (z : PassState). z.blank) done ∙ list_finished_blank at r in
     let block : AddsText (document text options names) at None (list_finished at r).tree tree next =
     subst (λ (z : PassState). AddsText (document text options names) at None z.tree tree next) done
     (subst (λ (z : Source). AddsText (document z.text.now z.options names) at None ended.tree tree next) e.kept.source f.block) in
@@ -108,5 +114,5 @@ returns c =
     let after = ap (λ (z : PassState). is_after_definition z.tree) (sym e.kept.state) ∙ sym c.is_after_definition.ensures ∙ c.if-is_after_definition.false in
     let here : IsStateAtPlace text r p =
     record { utf8 = c.requires.utf8; place = c.requires.place; forest = c.recall_forest.ensures; none = c.requires.no_empty } in
-    run_text self mid _ p at next here c.requires.kind (record { kept = e.kept; run = run }) refl f.more
+    run_text self mid _ p at next here c.requires.kind (record { kept = e.kept; run = run }) c.parse_text.ensures.source f.more
     (plain_text self _ p at next here c.requires.kind after none blank block fits)

@@ -39,8 +39,8 @@ next_line-requires c =
     let l = ap length (c.as_bytes.ensures.value) in
     omega (arith, i.within)
 
-pub returns-in-Blank : goal.returns-in-Blank
-returns-in-Blank c =
+pub returns-in-Blank-clause-block : goal.returns-in-Blank-clause-block
+returns-in-Blank-clause-block c =
     let self = c.args.self.now in
     let text = self.source.text.now in
     let p = c.args.place in
@@ -81,8 +81,8 @@ parse_html_block_type_6_or_7-requires c = record {
       (kind_says c.args.self.now.source.options c.args.place.rest (kind_of c.args.found) c.requires.found.kind))).1;
 }
 
-pub returns-in_ok-next-in-HtmlToBlank : goal.returns-in_ok-next-in-HtmlToBlank
-returns-in_ok-next-in-HtmlToBlank c =
+pub returns-in_ok-next-in-HtmlToBlank-clause-block : goal.returns-in_ok-next-in-HtmlToBlank-clause-block
+returns-in_ok-next-in-HtmlToBlank-clause-block c =
     let self = c.args.self.now in
     let p = c.args.place in
     let old : PassState = self.state in
@@ -120,8 +120,8 @@ append_marked-requires c =
       no_empty = ap (λ (r : PassState). r.begin_list_item) rem ∙ list_finished_none p.line old;
     }
 
-pub returns-in_ok-next-in-Marked : goal.returns-in_ok-next-in-Marked
-returns-in_ok-next-in-Marked c =
+pub returns-in_ok-next-in-Marked-clause-block : goal.returns-in_ok-next-in-Marked-clause-block
+returns-in_ok-next-in-Marked-clause-block c =
     let self = c.args.self.now in
     let options = self.source.options in
     let p = c.args.place in
@@ -134,6 +134,7 @@ returns-in_ok-next-in-Marked c =
     let e = c.in_ok-next-in-Marked.ensures in
     let adds : AddsLeaf (record self { state = f }) new p (marked_kind leaf) next = record {
       source = e.source;
+      front = e.front;
       more = e.more;
       begin_list_item = e.begin_list_item;
       block = e.block;
@@ -141,7 +142,7 @@ returns-in_ok-next-in-Marked c =
       boundary = e.boundary;
       fits = e.fits;
     } in
-    leaf_read self new p (marked_kind leaf) next
+    let r = leaf_read self new p (marked_kind leaf) next
     (record { utf8 = c.requires.utf8; place = c.requires.place; forest = c.recall_forest.ensures; none = c.requires.no_empty })
     (record {
       is_kind = subst (IsKind options p.rest) (ap kind_of c.in-Marked.is) c.requires.found.kind;
@@ -149,4 +150,16 @@ returns-in_ok-next-in-Marked c =
       other = marked_other leaf;
       no_run = marked_no_run leaf;
     })
-    (subst (λ (r : PassState). AddsLeaf (record self { state = r }) new p (marked_kind leaf) next) rem adds)
+    (subst (λ (r : PassState). AddsLeaf (record self { state = r }) new p (marked_kind leaf) next) rem adds) in
+    record {
+      source = r.source;
+      names = r.names;
+      later = r.later;
+      boundary = r.boundary;
+      ready = r.ready;
+      order = r.order;
+      node_bound = r.node_bound;
+      named = r.named;
+      written = r.written;
+      tables = r.tables;
+    }

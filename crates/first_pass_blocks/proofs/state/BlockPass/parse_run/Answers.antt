@@ -25,6 +25,7 @@ use Rattle.first_pass_blocks.proofs.state.BlockPass.parse_run.Goals.{After-rest_
 pub loop-size-init : goal.loop-size-init
 loop-size-init c = record {
   same_source = refl;
+  same_front = refl;
   same_state = refl;
   same_names = refl;
   written = λ h. h;
@@ -42,7 +43,7 @@ returns c =
     let inv = c.loop-size.invariant in
     let none = none_here first now c.loop-size.at c.in_ok-size.field-0 inv.same_source inv.same_state c.in_ok-size.ensures.value c.in_default.is in
     record {
-      kept = record { source = inv.same_source; state = inv.same_state; names = inv.same_names; written = inv.written };
+      kept = record { source = inv.same_source; front = inv.same_front; state = inv.same_state; names = inv.same_names; written = inv.written };
       run = λ p line at i.
           let r = inv.so_far p line at i in
           run_flows text around nested p r.0 c.loop-size.at (tables_of first.allocs) (tables_of now.allocs) (sym r.2)
@@ -139,6 +140,7 @@ returns-in_default-rest c =
     record {
       kept = record {
         source = inv.same_source;
+        front = inv.same_front;
         state = inv.same_state;
         names = c.in_ok-define_link.ensures.names ∙ inv.same_names;
         written = one_more_written (goal.at.returns-in_default-rest c).After-rest_of;
@@ -166,6 +168,7 @@ loop-size-preserved c =
     ap (λ (z : Rest). next + z.taken) (sym goes.1) ∙ ap (λ n. next + n) (sym c.bytes_scanned.ensures) in
     record {
       same_source = inv.same_source;
+      same_front = inv.same_front;
       same_state = inv.same_state;
       same_names = c.in_ok-define_link.ensures.names ∙ inv.same_names;
       written = one_more_written (goal.at.loop-size-preserved c).After-rest_of;

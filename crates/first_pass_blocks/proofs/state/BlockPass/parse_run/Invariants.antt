@@ -11,6 +11,7 @@ use Rattle.first_pass_blocks.proofs.state.BlockPass.parse_run.Given as goal
 abbrev pub invariant-loop-size : goal.invariant-loop-size
 invariant-loop-size l = record {
   same_source : l.self.source ≡ l.fn.self.source;
+  same_front : l.self.next_front ≡ l.fn.self.next_front;
   same_state : l.self.state ≡ l.fn.self.state;
   same_names : names_of l.self.allocs ≡ names_of l.fn.self.allocs;
   written : TablesAreWritten l.fn.self.source.text.now l.fn.self.allocs → TablesAreWritten l.fn.self.source.text.now l.self.allocs;

@@ -1,5 +1,4 @@
-use Rattle.std.proofs.Common.{◌≡◌, IsUtf8, inl, inr, ℕ, ◌+◌, List, drop, Bool, Option, true, false, Some, None, refl, sym, subst, ◌∙◌, if◌then◌else◌, ap}
-use Rattle.std.proofs.Common.{arith}
+use Rattle.std.proofs.Common.{◌≡◌, IsUtf8, inl, inr, ℕ, ◌+◌, List, drop, Bool, Option, true, false, Some, None, refl, sym, subst, ◌∙◌, if◌then◌else◌, ap, arith}
 use Rattle.first_pass_lines.specs.Lines.{line_len}
 use Rattle.first_pass_lines.specs.Rest.{Rest}
 use Rattle.first_pass_lines.specs.Places.{Place, line_rest, place_at, line_end, IsPlaceOf}
@@ -35,8 +34,8 @@ its_by : (t : Bool) (r s : Rest) (found : Option Rest) → found ≡ Some s → 
 its_by true r s found some h = cc
 its_by false r s found some h = (refl, cc)
 
-pub returns-in-None : goal.returns-in-None
-returns-in-None c =
+pub returns-in-None-clause-block : goal.returns-in-None-clause-block
+returns-in-None-clause-block c =
     let self = c.args.self.now in
     let at = c.args.start in
     let text = self.source.text.now in
@@ -56,8 +55,8 @@ returns-in-None c =
       node_bound = omega arith;
     }
 
-pub returns-in_ok-next-in-Some : goal.returns-in_ok-next-in-Some
-returns-in_ok-next-in-Some c =
+pub returns-in_ok-next-in-Some-clause-block : goal.returns-in_ok-next-in-Some-clause-block
+returns-in_ok-next-in-Some-clause-block c =
     let self = c.args.self.now in
     let text = self.source.text.now in
     let at = c.args.start in
@@ -65,7 +64,7 @@ returns-in_ok-next-in-Some c =
     let path = path_of self.source.options self.state.tree in
     let p : Place = unindented (place_at at (front path (line_rest (drop at text)))) in
     let q : Place = place_at at c.in-Some.rest in
-    let e = c.in_ok-next-in-Some.ensures in
+    let e = c.in_ok-next-in-Some.ensures.block in
     let h = said _ (context_in self) text _ _ at c.as_bytes.ensures.value c.rest_of-bytes.ensures.value c.in_ok-scan_flowing_line.ensures.value in
     let its = its_by (is_ordinary_after_tag (context_in self) (line_rest (drop at text))) _ c.in-Some.rest _ c.in-Some.is h in
     let same : q ≡ p = ap (place_at at) its.1 in

@@ -1,9 +1,11 @@
-use Rattle.std.proofs.Common.{inl, ℕ, Some, refl, IsCharBoundary, sym, ap, subst, ◌∙◌, arith}
+use Rattle.std.proofs.Common.{◌≡◌, inl, ℕ, Some, refl, IsCharBoundary, sym, ap, subst, ◌∙◌, arith}
 use Rattle.first_pass_grammar.specs.Kinds.{all_taken, unindented}
 use Rattle.first_pass_grammar.specs.Leaves.{document}
 use Rattle.first_pass_grammar.specs.Completion.{lines_from}
 use Rattle.first_pass_open.specs.Between.{line_end_at, AddsBetween, MarkerBetween}
+use Rattle.first_pass_lists.specs.Closing.{with_tree}
 use Rattle.first_pass_lists.specs.declared.state.PassState.{PassState}
+use Rattle.first_pass_order.specs.Ordered.{IsReadTo}
 use Rattle.first_pass_ready.specs.State.{Ready}
 use Rattle.first_pass_open.proofs.PlaceLemmas.{all_keep, read_to}
 use Rattle.first_pass_order.proofs.CountLemmas.{block_count}
@@ -36,17 +38,18 @@ parse_text-requires-clause-boundary c =
 pub parse_text-requires-clause-marker : goal.parse_text-requires-clause-marker
 parse_text-requires-clause-marker c = task_is_no_text c.args.marker.body c.requires.after.0
 
-pub returns : goal.returns
-returns c =
+pub returns-clause-block : goal.returns-clause-block
+returns-clause-block c =
     let self = c.args.self.now in
     let text = self.source.text.now in
     let options = self.source.options in
     let p = c.args.place in
     let at = c.offset.result in
     let old : PassState = self.state in
-    let now = names_of c.parse_text.new.allocs in
-    let tree = c.parse_text.new.tree in
-    let new : PassState = record old { tree = tree } in
+    let now = names_of c.parse_text.new.self.allocs in
+    let tree = c.parse_text.new.self.state.tree in
+    let new : PassState = with_tree old tree in
+    let is : c.parse_text.new.self.state ≡ new = c.parse_text.ensures.state in
     let next = c.in_ok-next.next in
     let e = c.in_ok-next.ensures in
     let mark = c.requires.after.0 in
@@ -60,19 +63,21 @@ returns c =
     λ from stands. let b = stands.1 in let before = b.before in
     e.fits c.requires.after.2 from (stands.0, record { following = b.following; order = b.order; before = omega arith; starts = b.starts; ends = b.ends }) in
     record {
-      source = refl;
+      source = c.parse_text.ensures.source;
       names = e.more.names;
       later = omega arith;
       boundary = e.block.boundary;
       ready = λ names more ready. let d = document text options names in
-          subst (λ z. Ready d z new (lines_from text next)) (sym (ap tables_in e.more.entries))
+          subst (λ (r : PassState). Ready d (tables_of c.parse_text.new.self.allocs) r (lines_from text next)) (sym is)
+          (subst (λ z. Ready d z new (lines_from text next)) (sym (ap tables_in e.more.entries))
           (ready_text d (tables_of self.allocs) old new p next c.args.marker e.block.items mark (e.block.is_text names more (unindented p) i (sym there))
-          (record { tree_is = e.block.tree_is; none = none; blank = refl }) ready);
+          (record { tree_is = e.block.tree_is; none = none; blank = refl }) ready));
       named = λ h. block_added now (names_of self.allocs) old.tree tree e.block.items e.more.names e.block.tree_is
           (text_named (document text options now) _ (unindented p) (Some c.args.marker) _ _ (task_has_none c.args.marker.body mark)
           (e.block.is_text now (extends_none now) (unindented p) i (sym there))) h;
-      written = written_stay text self.allocs c.parse_text.new.allocs e.more.entries;
-      order = λ o. inl (ordered_text text old.tree new c.args.marker (offset p) next fits e.block.boundary.0 none o);
+      written = written_stay text self.allocs c.parse_text.new.self.allocs e.more.entries;
+      order = λ o. inl (subst (λ (r : PassState). IsReadTo text r next) (sym is)
+          (ordered_text text old.tree new c.args.marker (offset p) next fits e.block.boundary.0 none o));
       tables = λ h k. block_whole now (names_of self.allocs) old.tree tree e.block.items e.more.names e.block.tree_is
           (added_text_whole (document text options now) _ (unindented p) (Some c.args.marker) _ _ i (task_shows c.args.marker.body mark)
           (e.block.is_text now (extends_none now) (unindented p) i (sym there)))

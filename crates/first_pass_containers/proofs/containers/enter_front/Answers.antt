@@ -1,7 +1,8 @@
-use Rattle.std.proofs.Common.{◌≡◌, inl, ℕ, ◌+◌, Bool, true, false, drop, Option, Some, None, if◌then◌else◌, is_some, refl, sym, ap, subst, ◌∙◌, arith}
+use Rattle.std.proofs.Common.{◌≡◌, inl, ℕ, ◌+◌, Bool, true, false, drop, Option, Some, None, if◌then◌else◌, is_some, IsUtf8, refl, sym, ap, subst, ◌∙◌, arith}
 use Rattle.first_pass_lines.specs.Lines.{blank_len, line_len}
 use Rattle.first_pass_lines.specs.Rest.{Rest}
-use Rattle.first_pass_lines.specs.Places.{Place, place_at, line_end}
+use Rattle.first_pass_lines.specs.Places.{Place, line_rest, place_at, line_end}
+use Rattle.first_pass_open.proofs.FrontLemmas.{front_is}
 use Rattle.first_pass_grammar.specs.Leaves.{Document, document}
 use Rattle.first_pass_grammar.specs.Names.{Names}
 use Rattle.first_pass_grammar.specs.Derivation.{Tables}
@@ -21,12 +22,12 @@ use Rattle.first_pass_containers.proofs.Order.OrderSteps.{ordered_at_place}
 use Rattle.first_pass_ready.proofs.LineLemmas.{IsSettled, settled, at_line, blank_line_read, line_entered, line_kept}
 use Rattle.first_pass_lists.proofs.NoEmptyItem.{finished_none}
 use Rattle.first_pass_containers.proofs.Order.EndedLemmas.{ended_count, ended_named, ended_whole, ended_ordered, ended_unblank}
-use Rattle.first_pass_containers.proofs.containers.enter_line.Goals as goal
-use Rattle.first_pass_containers.proofs.containers.enter_line.Goals.{After-is_some}
+use Rattle.first_pass_containers.proofs.containers.enter_front.Goals as goal
+use Rattle.first_pass_containers.proofs.containers.enter_front.Goals.{After-is_some}
 
 -- the rest of the line, and whether it is blank
 abbrev left : After-is_some → Rest
-left c = c.scan_front-front.result.rest
+left c = c.args.rest
 
 blank : (c : After-is_some) → is_some (blank_len (left c).left) ≡ c.is_some.result
 blank c = ap (λ bs. is_some (blank_len bs)) (sym c.left.ensures) ∙ ap is_some (sym c.scan_blank_line.ensures.value) ∙ sym c.is_some.ensures
@@ -38,9 +39,9 @@ settled_line c names defined =
     let d : Document = document c.args.source.now.text.now c.args.source.now.options names in
     subst (λ (q : PassState). IsSettled d defined c.args.state.now q c.args.start_ix (left c)) (sym c.end_old_footnote.ensures)
     (settled d defined c.args.state.now c.close_containers.new.state c.args.start_ix (left c)
-    (at_line d defined c.args.state.now c.close_containers.new.state c.args.start_ix c.scan_front-front.result.continued (left c) c.requires.within
+    (at_line d defined c.args.state.now c.close_containers.new.state c.args.start_ix c.args.continued (left c) c.requires.within
     (record { spine = c.close_containers.ensures.spine; paths = c.close_containers.ensures.kept.paths; ready = c.close_containers.ensures.kept.ready })
-    c.scan_front-front.ensures.taken c.scan_front-front.ensures.stops))
+    c.requires.front.taken c.requires.front.stops))
 
 -- the place after the prefixes, for a rest that is blank or not
 abbrev entered_by : ℕ → Rest → Bool → Option Place
@@ -50,8 +51,11 @@ entered_by start r t = if t then None else Some (place_at start r)
 entered_is : (c : After-is_some) (t : Bool) → c.is_some.result ≡ t
     → entered_by c.args.start_ix (left c) t ≡ place_entered c.args.source.now c.args.state.now.tree c.args.start_ix
 entered_is c t is =
+    let source = c.args.source.now in
+    let f = c.args.state.now.tree in
     ap (entered_by c.args.start_ix (left c)) (sym (blank c ∙ is))
-    ∙ ap (λ (r : Rest). entered_by c.args.start_ix r (is_some (blank_len r.left))) c.scan_front-front.ensures.front
+    ∙ ap (λ (r : Rest). entered_by c.args.start_ix r (is_some (blank_len r.left))) (sym (front_is source.options f.nodes f.spine c.args.continued
+    (line_rest (drop c.args.start_ix source.text.now)) (left c) c.requires.front.within c.requires.front.taken c.requires.front.stops))
 
 pub returns-then-is_some-clause-value : goal.returns-then-is_some-clause-value
 returns-then-is_some-clause-value c = entered_is (goal.at.returns-then-is_some-clause-value c).After-is_some true c.if-is_some.true
@@ -82,14 +86,14 @@ returns-then-is_some-clause-entered c =
           subst (λ q. Ready d defined q (lines_from text (start + line_len (drop start text)))) (sym c.read_blank_line.ensures)
           (blank_line_read d defined _ now start _ (settled_line a names defined) (blank a ∙ c.if-is_some.true) ready);
       order = λ ordered. inl (subst (λ (q : PassState). IsReadTo text q (start + line_len (drop start text))) (sym c.read_blank_line.ensures)
-          (ordered_blank_line options text c.args.state.now now start c.scan_front-front.ensures.utf8 w
+          (ordered_blank_line options text c.args.state.now now start (subst IsUtf8 c.as_bytes.ensures.value c.as_bytes.ensures.utf8) w
           c.requires.boundary
           (λ o. subst (λ (q : PassState). IsReadTo text q start) (sym is)
           (ended_ordered options text start closed (omega arith) c.requires.boundary (kept.order text (omega arith) c.requires.boundary o)))
           (λ h uncounted. is ∙ ended_unblank options start c.args.state.now closed uncounted
-          (kept.all_kept (entered_whole options text c.args.state.now start c.scan_front-front.result.continued
-          _ (left a) refl c.scan_front-front.ensures.within c.scan_front-front.ensures.taken
-          c.scan_front-front.ensures.stops h).0)) ordered));
+          (kept.all_kept (entered_whole options text c.args.state.now start c.args.continued
+          _ (left a) refl c.requires.front.within c.requires.front.taken
+          c.requires.front.stops h).0)) ordered));
       node_bound = λ first grows. omega arith;
       named = λ names h. subst (AreReadNamed names) (sym c.read_blank_line.ensures) (blank_named names now
           (subst (AreReadNamed names) (sym is) (ended_named options names start closed (kept.named names h))));
@@ -115,8 +119,9 @@ returns-clause-entered c =
     let before = ap count is in
     let node_bound = ended_count options start closed in
     let first = kept.count in
-    let here = line_kept source.options text start c.scan_front-front.result.continued c.args.state.now.tree (left a) c.scan_front-front.ensures.utf8
-    c.requires.boundary c.scan_front-front.ensures.taken in (
+    let here = line_kept source.options text start c.args.continued c.args.state.now.tree (left a)
+    (subst IsUtf8 c.as_bytes.ensures.value c.as_bytes.ensures.utf8)
+    c.requires.boundary c.requires.front.taken in (
       (here.0, refl, here.1),
       ap (λ (q : PassState). q.begin_list_item) c.finish_empty_list_item.ensures ∙ finished_none now,
       record {
@@ -130,8 +135,8 @@ returns-clause-entered c =
             (ordered_other_line options text c.args.state.now now start
             (λ o. subst (λ (q : PassState). IsReadTo text q start) (sym is)
             (ended_ordered options text start closed (omega arith) c.requires.boundary (kept.order text (omega arith) c.requires.boundary o)))
-            (λ h. let some = (entered_whole source.options text c.args.state.now start c.scan_front-front.result.continued _ (left a)
-            refl c.scan_front-front.ensures.within c.scan_front-front.ensures.taken c.scan_front-front.ensures.stops h).1 in
+            (λ h. let some = (entered_whole source.options text c.args.state.now start c.args.continued _ (left a)
+            refl c.requires.front.within c.requires.front.taken c.requires.front.stops h).1 in
             let none = blank a ∙ c.if-is_some.false in cc) ordered));
         node_bound = λ first grows. omega arith;
         named = λ names h. subst (AreReadNamed names) (sym c.finish_empty_list_item.ensures) (empty_item_closed_named names now

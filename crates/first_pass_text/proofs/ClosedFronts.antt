@@ -1,0 +1,113 @@
+-- The front of the line after a paragraph is the same when the paragraph is closed.
+use Rattle.std.proofs.Common.{◌≡◌, inl, inr, ℕ, zero, suc, ◌+◌, ◌-◌, ◌<◌, ◌≤◌, min, List, [], ◌∷◌, ◌++◌, length, drop, None, sym, ap, ◌∙◌, subst, arith}
+use Rattle.std.proofs.Common.{length-append}
+use Rattle.std.proofs.Math.Nat.{min-eq_left, min-eq_right, min-le_right}
+use Rattle.std.proofs.lemmas.Bool.{cases_lt}
+use Rattle.first_pass_items.specs.declared.item.Item.{Item}
+use Rattle.first_pass_items.specs.declared.option_set.Options.{Options}
+use Rattle.first_pass_tree.specs.declared.tree_index.TreeIndex.{TreeIndex}
+use Rattle.first_pass_tree.specs.Forest.{Forest, appended, pushed, added, at_depth}
+use Rattle.first_pass_lines.specs.Rest.{Rest}
+use Rattle.first_pass_lines.specs.Places.{line_rest}
+use Rattle.first_pass_grammar.specs.Containers.{after}
+use Rattle.first_pass_tokens.specs.TreeTokens.{chained, leaves}
+use Rattle.first_pass_tokens.proofs.ChainLemmas.{chained-spine, chained-nodes}
+use Rattle.first_pass_open.specs.Path.{container_at, with_container, path_in, outer}
+use Rattle.first_pass_open.specs.declared.source.Source.{Source}
+use Rattle.first_pass_open.proofs.PathLemmas.{AreIn, AreIn-more, path_in-append}
+use Rattle.first_pass_open.proofs.FrontLemmas.{outer-all}
+use Rattle.first_pass_kinds.specs.Fronts.{IsFrontAt}
+
+AreIn-drop : (n k : ℕ) (spine : List TreeIndex) → AreIn n spine → AreIn n (drop k spine)
+AreIn-drop n zero spine a = a
+AreIn-drop n (suc k) [] a = tt
+AreIn-drop n (suc k) (ix ∷ spine) a = AreIn-drop n k spine a.1
+
+-- One more open node inside changes nothing of the outermost ones.
+outer-inside : (ix : TreeIndex) (spine : List TreeIndex) (m : ℕ) → m ≤ length spine → outer m (ix ∷ spine) ≡ outer m spine
+outer-inside ix spine m h =
+    let e : suc (length spine) - m ≡ suc (length spine - m) = omega arith in
+    ap (λ k. drop k (ix ∷ spine)) e
+
+-- two lists of nodes have the same containers at these indices
+abbrev HaveSamePaths : Options → ℕ → List (ℕ × Item) → List (ℕ × Item) → Type 0
+HaveSamePaths options n ns ms = (spine : List TreeIndex) → AreIn n spine → path_in options ns spine ≡ path_in options ms spine
+
+-- A node that is no container is closed, and the containers around it are the same before and after.
+module _ (source : Source) (t f : Forest Item) (ix : TreeIndex) (n : ℕ)
+    (opened : t.spine ≡ ix ∷ f.spine) (leaf : container_at source.options t.nodes ix ≡ None)
+    (there : AreIn n f.spine) (same : HaveSamePaths source.options n t.nodes f.nodes) where
+  same_path : (m : ℕ) → m ≤ length f.spine → path_in source.options t.nodes (outer m t.spine) ≡ path_in source.options f.nodes (outer m f.spine)
+  same_path m h =
+      ap (λ s. path_in source.options t.nodes (outer m s)) opened
+      ∙ ap (path_in source.options t.nodes) (outer-inside ix f.spine m h)
+      ∙ same (outer m f.spine) (AreIn-drop n (length f.spine - m) f.spine there)
+
+  whole_path : (m : ℕ) → m ≡ suc (length f.spine)
+      → path_in source.options t.nodes (outer m t.spine) ≡ path_in source.options f.nodes (outer (length f.spine) f.spine)
+  whole_path m all =
+      ap (λ k. path_in source.options t.nodes (outer k t.spine)) (all ∙ sym (ap length opened))
+      ∙ ap (path_in source.options t.nodes) (outer-all t.spine)
+      ∙ ap (path_in source.options t.nodes) opened
+      ∙ ap (λ o. with_container o (path_in source.options t.nodes f.spine)) leaf
+      ∙ same f.spine there
+      ∙ ap (path_in source.options f.nodes) (sym (outer-all f.spine))
+
+  abbrev limited : ℕ → ℕ
+  limited continued = min continued (length f.spine)
+
+  fewer_open : (start continued : ℕ) (rest : Rest) → IsFrontAt source t start continued rest → continued ≤ length f.spine
+      → IsFrontAt source f start (limited continued) rest
+  fewer_open start continued rest h low =
+      let line : Rest = line_rest (drop start source.text.now) in
+      let is : min continued (length f.spine) ≡ continued = min-eq_left low in
+      let longer : length t.spine ≡ suc (length f.spine) = ap length opened in
+      record {
+        within = min-le_right continued (length f.spine);
+        taken = ap (λ k. after (path_in source.options f.nodes (outer k f.spine)) line) is
+            ∙ ap (λ path. after path line) (sym (same_path continued low)) ∙ h.taken;
+        stops = λ m more within.
+            ap (λ path. after path line) (sym (same_path m within)) ∙ h.stops m (subst (λ k. k < m) is more) (omega arith);
+      }
+
+  all_open : (start continued : ℕ) (rest : Rest) → IsFrontAt source t start continued rest → length f.spine < continued
+      → IsFrontAt source f start (limited continued) rest
+  all_open start continued rest h more =
+      let line : Rest = line_rest (drop start source.text.now) in
+      let longer : length t.spine ≡ suc (length f.spine) = ap length opened in
+      let within = h.within in
+      let is : min continued (length f.spine) ≡ length f.spine = min-eq_right (omega arith) in
+      let all : continued ≡ suc (length f.spine) = omega arith in
+      record {
+        within = min-le_right continued (length f.spine);
+        taken = ap (λ k. after (path_in source.options f.nodes (outer k f.spine)) line) is
+            ∙ ap (λ path. after path line) (sym (whole_path continued all)) ∙ h.taken;
+        stops = λ m low high. (let past = subst (λ k. k < m) is low in absurd (omega arith));
+      }
+
+  pub closed_front : (start continued : ℕ) (rest : Rest) → IsFrontAt source t start continued rest → IsFrontAt source f start (limited continued) rest
+  closed_front start continued rest h = elim (cases_lt (length f.spine) continued) [
+    | inl more ↦ all_open start continued rest h more
+    | inr low ↦ fewer_open start continued rest h low
+  ]
+
+-- A block was added that may have been read as a paragraph with these nodes.
+pub same_paths : (options : Options) (g t f : Forest Item) (x : Item) (ix : TreeIndex) (chain : List Item) (block : List (ℕ × Item))
+    → t ≡ chained (pushed (appended g x) ix) chain → f ≡ added g block → HaveSamePaths options (length g.nodes) t.nodes f.nodes
+same_paths options g t f x ix chain block t_is f_is = λ spine a.
+    let p : Forest Item = pushed (appended g x) ix in
+    let node = (length g.spine + 1, x) ∷ [] in
+    let n : length (g.nodes ++ node) ≡ length g.nodes + 1 = length-append g.nodes node in
+    ap (λ (z : Forest Item). path_in options z.nodes spine) t_is
+    ∙ ap (λ ns. path_in options ns spine) (chained-nodes p chain)
+    ∙ path_in-append options (g.nodes ++ node) (at_depth (length p.spine + 1) (leaves chain)) spine
+    (AreIn-more (length g.nodes) (length (g.nodes ++ node)) spine (omega arith) a)
+    ∙ path_in-append options g.nodes node spine a
+    ∙ sym (path_in-append options g.nodes (at_depth (length g.spine + 1) block) spine a)
+    ∙ ap (λ (z : Forest Item). path_in options z.nodes spine) (sym f_is)
+
+pub opened_inside : (g t f : Forest Item) (x : Item) (ix : TreeIndex) (chain : List Item) (block : List (ℕ × Item))
+    → t ≡ chained (pushed (appended g x) ix) chain → f ≡ added g block → t.spine ≡ ix ∷ f.spine
+opened_inside g t f x ix chain block t_is f_is =
+    ap (λ (z : Forest Item). z.spine) t_is ∙ chained-spine (pushed (appended g x) ix) chain
+    ∙ ap (λ (z : Forest Item). ix ∷ z.spine) (sym f_is)
