@@ -1,15 +1,17 @@
 //! The table that a program reads, and the report that it writes.
 
-ghost use Rattle.std.specs.Prelude.{◌≡◌, ◌==◌, ◌⊎◌, IfOk, Ok, OnErr, if◌then◌else◌};
-ghost use Rattle.std.specs.Process.{exit_status};
+ghost use Rattle.std.specs.Prelude.{◌++◌};
+ghost use Rattle.first_pass_host.specs.Streams.{WritesText, stream_between};
+ghost use Rattle.first_pass_cases.specs.Tallies.{tally_line};
 
 use crate::fault::CasesFault;
-use crate::tally::{Tally, end_with};
+use crate::tally::Tally;
 use crate::texts::is_heading;
 use first_pass_host::fault::RunFault;
 use first_pass_host::input::read_whole;
 use first_pass_host::output::write_whole;
-use std::process::ExitCode;
+use std::alloc::Global;
+use std::io::Write;
 use std::str;
 
 /// Reads the whole table from standard input.
@@ -21,30 +23,20 @@ pub fn read_table(rt: &HostRuntime) -> Result<String, CasesFault> {
     }
 }
 
-/// Ends a run that made this report: writes the report and the line of the tally to standard output, and returns the
-/// status (see `end_with`). After a fault only the fault is written. The status is also 2 if a write or an allocation
-/// fails here.
-pub fn end_report(rt: &HostRuntime, report: &str, answer: Result<Tally, CasesFault>) -> ExitCode
-    ensures tally { IfOk answer (λ tally. (exit_status result ≡ (if tally.differ == 0 then 0 else 1))
-        ⊎ (exit_status result ≡ 2)) }
-    ensures fault { OnErr answer (exit_status result ≡ 2) }
-{
-    end_with(rt, written(rt, report, answer))
-}
-
-// Writes the report and the line of the tally, if there is no fault.
-fn written(
-    rt: &HostRuntime,
+/// Writes a report and the line of its tally. Returns `WriteFailed` if a write fails, and `OutOfMemory` if an
+/// allocation fails. After a fault, a beginning of the two may have been written.
+pub fn write_report<W: Write>(
+    alloc: Global,
     report: &str,
-    answer: Result<Tally, CasesFault>,
-) -> Result<Tally, CasesFault>
-    ensures { IfOk result (λ tally. answer ≡ Ok tally) }
+    tally: Tally,
+    output: &mut W,
+) -> Result<(), RunFault>
+    ensures { WritesText (report.now ++ tally_line tally)
+        (stream_between (W.contents output.old) (W.contents output.new)) result }
 {
-    let tally = answer?;
-    let mut output = rt.stdout();
-    write_whole(&mut output, report.as_bytes())?;
-    write_whole(&mut output, tally.line(rt.alloc())?.as_bytes())?;
-    Ok(tally)
+    write_whole(output, report.as_bytes())?;
+    let line = tally.line(alloc)?;
+    write_whole(output, line.as_bytes())
 }
 
 /// Compares the groups of lines of a table, except headings. `compare` gets a group and the number of its first line.

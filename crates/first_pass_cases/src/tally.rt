@@ -1,7 +1,8 @@
 //! The number of cases in a table, and how many of them differ.
 
-ghost use Rattle.std.specs.Prelude.{◌≡◌, ◌==◌, IfOk, OnErr, if◌then◌else◌};
+ghost use Rattle.std.specs.Prelude.{◌≡◌, ◌==◌, IfOk, OnErr, if◌then◌else◌, string_bytes};
 ghost use Rattle.std.specs.Process.{exit_status};
+ghost use Rattle.first_pass_cases.specs.Tallies.{tally_line};
 
 use crate::fault::CasesFault;
 use std::alloc::{AllocError, Global};
@@ -29,7 +30,9 @@ impl Tally {
     }
 
     /// Returns the line that ends a report.
-    pub fn line(self, alloc: Global) -> Result<String, AllocError> {
+    pub fn line(self, alloc: Global) -> Result<String, AllocError>
+        ensures { IfOk result (λ line. string_bytes line ≡ tally_line self) }
+    {
         let (cases, differ) = (self.cases, self.differ);
         format!(in alloc; "{cases} cases, {differ} differ\n")
     }

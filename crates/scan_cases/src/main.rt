@@ -35,11 +35,20 @@ mod texts;
 mod tokens;
 mod walks;
 
-use first_pass_cases::table::end_report;
+use first_pass_cases::fault::CasesFault;
+use first_pass_cases::table::write_report;
+use first_pass_cases::tally::{Tally, end_with};
 use std::process::ExitCode;
 
-fn main(rt: HostRuntime) -> ExitCode {
+// Compares the cases of the table, and writes the report if no fault comes before its end.
+fn run(rt: &HostRuntime) -> Result<Tally, CasesFault> {
     let mut report = String::new(rt.alloc());
-    let answer = table::compare(&rt, &mut report);
-    end_report(&rt, report.as_str(), answer)
+    let tally = table::compare(rt, &mut report)?;
+    write_report(rt.alloc(), report.as_str(), tally, &mut rt.stdout())?;
+    Ok(tally)
+}
+
+fn main(rt: HostRuntime) -> ExitCode {
+    let answer = run(&rt);
+    end_with(&rt, answer)
 }
