@@ -36,12 +36,35 @@ place_by : (k k' a a' b b' : ℕ) → k ≡ k' → a ≡ a' → b ≡ b'
     → ◌≡◌ {A = FlatPlace} (record { node = k; name = a; attribute = b }) (record { node = k'; name = a'; attribute = b' })
 place_by k k' a a' b b' e f g = cc
 
+-- the place after the first k nodes from a place on
+abbrev place_from : Names → FlatPlace → List (ℕ × Item) → ℕ → FlatPlace
+place_from names at nodes k = record {
+  node = at.node + k;
+  name = at.name + length (flat_map (name_by names) (take k nodes));
+  attribute = at.attribute + length (flat_map (attributes_by names) (take k nodes));
+}
+
+place_more : (names : Names) (at : FlatPlace) (nodes : List (ℕ × Item)) (k : ℕ) (n : ℕ × Item) → slice_get nodes k ≡ Some n
+    → place_from names at nodes (k + 1) ≡ place_after names n.1.body (place_from names at nodes k)
+place_more names at nodes k n here =
+    place_by _ _ _ _ _ _ (omega arith) (omega (arith, more_of (name_by names) nodes k n here)) (omega (arith, more_of (attributes_by names) nodes k n here))
+
+-- the place before a node, from the place after it
+place_back : (names : Names) (nodes : List (ℕ × Item)) (at before : FlatPlace) (n : ℕ × Item) → at ≡ place_from names first_place nodes at.node
+    → at ≡ place_after names n.1.body before → slice_get nodes before.node ≡ Some n → before ≡ place_from names first_place nodes before.node
+place_back names nodes at before n place_is at_is here =
+    let k_is : at.node ≡ before.node + 1 = ap (λ (p : FlatPlace). p.node) at_is in
+    let both : place_after names n.1.body before ≡ place_after names n.1.body (place_from names first_place nodes before.node) =
+    sym at_is ∙ place_is ∙ ap (place_from names first_place nodes) k_is ∙ place_more names first_place nodes before.node n here in
+    let name_at = ap (λ (p : FlatPlace). p.name) both in
+    let attribute_at = ap (λ (p : FlatPlace). p.attribute) both in
+    place_by before.node _ before.name _ before.attribute _ (omega arith) (omega arith) (omega arith)
+
 -- the records from a place on are written
 pub record AreFilled (names : Names) (nodes : List (ℕ × Item)) (flat : List FlatNode) (at : FlatPlace) : Type 0 where
   pub within : at.node ≤ length nodes
   pub room : length flat ≡ length nodes
-  pub name_is : at.name ≡ length (flat_map (name_by names) (take at.node nodes))
-  pub attribute_is : at.attribute ≡ length (flat_map (attributes_by names) (take at.node nodes))
+  pub place_is : at ≡ place_from names first_place nodes at.node
   pub written : drop at.node flat ≡ flat_nodes names at (drop at.node nodes)
   pub linked : AreLinked nodes flat at.node
 
@@ -54,8 +77,9 @@ none_filled names nodes flat at room last name attribute =
     record {
       within = omega arith;
       room = room;
-      name_is = name ∙ ap (λ l. length (flat_map (name_by names) l)) (sym whole);
-      attribute_is = attribute ∙ ap (λ l. length (flat_map (attributes_by names) l)) (sym whole);
+      place_is = place_by at.node _ at.name _ at.attribute _ (omega arith)
+          (let is = name ∙ ap (λ l. length (flat_map (name_by names) l)) (sym whole) in omega arith)
+          (let is = attribute ∙ ap (λ l. length (flat_map (attributes_by names) l)) (sym whole) in omega arith);
       written = drop_all at.node flat (omega arith) ∙ sym (ap (flat_nodes names at) none);
       linked = λ k n r h e f. let inside = slice_get_within nodes k n e in absurd (omega arith);
     }
@@ -97,12 +121,6 @@ one_filled names nodes flat at before n r f at_is here r_is =
     let k_is : at.node ≡ before.node + 1 = ap (λ (p : FlatPlace). p.node) at_is in
     let inside = slice_get_within nodes before.node n here in
     let room = f.room in
-    let more_names = more_of (name_by names) nodes before.node n here in
-    let more_attributes = more_of (attributes_by names) nodes before.node n here in
-    let names_so_far = f.name_is ∙ ap (λ k. length (flat_map (name_by names) (take k nodes))) k_is in
-    let attributes_so_far = f.attribute_is ∙ ap (λ k. length (flat_map (attributes_by names) (take k nodes))) k_is in
-    let name_at = ap (λ (p : FlatPlace). p.name) at_is in
-    let attribute_at = ap (λ (p : FlatPlace). p.attribute) at_is in
     let later : drop (before.node + 1) nodes ≡ drop at.node nodes = ap (λ k. drop k nodes) (sym k_is) in
     let rest : drop (before.node + 1) flat ≡ flat_nodes names (place_after names n.1.body before) (drop at.node nodes) =
     ap (λ k. drop k flat) (sym k_is) ∙ f.written ∙ ap (λ p. flat_nodes names p (drop at.node nodes)) at_is in
@@ -110,8 +128,7 @@ one_filled names nodes flat at before n r f at_is here r_is =
     record {
       within = omega arith;
       room = length-set flat before.node r ∙ room;
-      name_is = omega arith;
-      attribute_is = omega arith;
+      place_is = place_back names nodes at before n f.place_is at_is here;
       written =
           drop-set flat before.node r (omega arith) ∙ ap (λ l. r ∷ l) rest
           ∙ ap (λ x. x ∷ flat_nodes names (place_after names n.1.body before) (drop at.node nodes)) r_is
@@ -122,68 +139,40 @@ one_filled names nodes flat at before n r f at_is here r_is =
           (subst (AreLinked nodes flat) k_is f.linked);
     }
 
--- the place after the first k nodes from a place on
-place_from : Names → FlatPlace → List (ℕ × Item) → ℕ → FlatPlace
-place_from names at nodes zero = at
-place_from names at [] (suc k) = at
-place_from names at (x ∷ nodes) (suc k) = place_from names (place_after names x.1.body at) nodes k
-
-place_from_is : (names : Names) (at : FlatPlace) (nodes : List (ℕ × Item)) (k : ℕ) → k ≤ length nodes
-    → place_from names at nodes k
-    ≡ record {
-      node = at.node + k;
-      name = at.name + length (flat_map (name_by names) (take k nodes));
-      attribute = at.attribute + length (flat_map (attributes_by names) (take k nodes));
-    }
-unfolding place_from
-place_from_is names at nodes zero h = place_by _ _ _ _ _ _ (sym (add-zero at.node)) (sym (add-zero at.name)) (sym (add-zero at.attribute))
-place_from_is names at [] (suc k) h = absurd (omega arith)
-place_from_is names at (x ∷ nodes) (suc k) h =
-    let n = length-append (name_by names x) (flat_map (name_by names) (take k nodes)) in
-    let a = length-append (attributes_by names x) (flat_map (attributes_by names) (take k nodes)) in
-    place_from_is names (place_after names x.1.body at) nodes k (omega arith)
-    ∙ place_by _ _ _ _ _ _ (omega arith) (omega arith) (omega arith)
-
--- the record of a node
-record_at : (names : Names) (at : FlatPlace) (nodes : List (ℕ × Item)) (k : ℕ) (n : ℕ × Item) (d : FlatNode) → slice_get nodes k ≡ Some n
-    → get_or (flat_nodes names at nodes) k d ≡ flat_node names (place_from names at nodes k) n (drop (suc k) nodes)
-unfolding flat_nodes place_from
-record_at names at [] k n d e = cc
-record_at names at (x ∷ nodes) zero n d e = let is : x ≡ n = cc in ap (λ m. flat_node names at m nodes) is
-record_at names at (x ∷ nodes) (suc k) n d e = record_at names (place_after names x.1.body at) nodes k n d e
-
 pub records_counted : (names : Names) (at : FlatPlace) (nodes : List (ℕ × Item)) → length (flat_nodes names at nodes) ≡ length nodes
 unfolding flat_nodes
 records_counted names at [] = refl
 records_counted names at (x ∷ nodes) = ap suc (records_counted names (place_after names x.1.body at) nodes)
 
-short_at : (names : Names) (at : FlatPlace) (nodes : List (ℕ × Item)) (k : ℕ) (n : ℕ × Item) → slice_get nodes k ≡ Some n
-    → All IsShort (flat_nodes names at nodes) → IsShort (flat_node names (place_from names at nodes k) n (drop (suc k) nodes))
-short_at names at nodes k n e all =
-    let other = flat_node names at n nodes in
-    let inside = slice_get_within nodes k n e in
-    let count = records_counted names at nodes in
-    subst IsShort (record_at names at nodes k n other e) (all k other (omega arith))
+-- the record of a node
+record_at : (names : Names) (at : FlatPlace) (nodes : List (ℕ × Item)) (k : ℕ) (n : ℕ × Item) (d : FlatNode) → slice_get nodes k ≡ Some n
+    → get_or (flat_nodes names at nodes) k d ≡ flat_node names (place_from names at nodes k) n (drop (suc k) nodes)
+unfolding flat_nodes
+record_at names at [] k n d e = cc
+record_at names at (x ∷ nodes) zero n d e =
+    let is : x ≡ n = cc in
+    ap (λ m. flat_node names at m nodes) is
+    ∙ ap (λ p. flat_node names p n nodes) (place_by _ _ _ _ _ _ (sym (add-zero at.node)) (sym (add-zero at.name)) (sym (add-zero at.attribute)))
+record_at names at (x ∷ nodes) (suc k) n d e =
+    let name_length = length-append (name_by names x) (flat_map (name_by names) (take k nodes)) in
+    let attributes_length = length-append (attributes_by names x) (flat_map (attributes_by names) (take k nodes)) in
+    record_at names (place_after names x.1.body at) nodes k n d e
+    ∙ ap (λ p. flat_node names p n (drop (suc k) nodes)) (place_by _ _ _ _ _ _ (omega arith) (omega arith) (omega arith))
 
 -- if every record is short, so is the one that is written next
 pub short_before : (names : Names) (nodes : List (ℕ × Item)) (flat : List FlatNode) (at before : FlatPlace) (n : ℕ × Item)
     → AreFilled names nodes flat at → at ≡ place_after names n.1.body before → slice_get nodes before.node ≡ Some n
     → All IsShort (flat_nodes names first_place nodes) → IsShort (flat_node names before n (drop at.node nodes))
 short_before names nodes flat at before n f at_is here all =
-    let k_is : at.node ≡ before.node + 1 = ap (λ (p : FlatPlace). p.node) at_is in
+    let last : suc before.node ≡ at.node = (let k_is = ap (λ (p : FlatPlace). p.node) at_is in omega arith) in
     let inside = slice_get_within nodes before.node n here in
-    let more_names = more_of (name_by names) nodes before.node n here in
-    let more_attributes = more_of (attributes_by names) nodes before.node n here in
-    let names_so_far = f.name_is ∙ ap (λ k. length (flat_map (name_by names) (take k nodes))) k_is in
-    let attributes_so_far = f.attribute_is ∙ ap (λ k. length (flat_map (attributes_by names) (take k nodes))) k_is in
-    let name_at = ap (λ (p : FlatPlace). p.name) at_is in
-    let attribute_at = ap (λ (p : FlatPlace). p.attribute) at_is in
-    let is : place_from names first_place nodes before.node ≡ before =
-    place_from_is names first_place nodes before.node (omega arith)
-    ∙ place_by _ before.node _ before.name _ before.attribute (omega arith) (omega arith) (omega arith) in
-    let last : suc before.node ≡ at.node = omega arith in
-    subst (λ k. IsShort (flat_node names before n (drop k nodes))) last
-    (subst (λ p. IsShort (flat_node names p n (drop (suc before.node) nodes))) is (short_at names first_place nodes before.node n here all))
+    let count = records_counted names first_place nodes in
+    let other = flat_node names before n nodes in
+    let is : get_or (flat_nodes names first_place nodes) before.node other ≡ flat_node names before n (drop at.node nodes) =
+    record_at names first_place nodes before.node n other here
+    ∙ ap (λ p. flat_node names p n (drop (suc before.node) nodes)) (sym (place_back names nodes at before n f.place_is at_is here))
+    ∙ ap (λ k. flat_node names before n (drop k nodes)) last in
+    subst IsShort is (all before.node other (omega arith))
 
 -- the node that is written next
 here_before : (names : Names) (nodes : List (ℕ × Item)) (at before : FlatPlace) (n : ℕ × Item) → 0 < at.node → at.node ≤ length nodes
@@ -209,29 +198,13 @@ pub depth_kept : (names : Names) (nodes : List (ℕ × Item)) (flat new : List F
 depth_kept names nodes flat new at before n next f h w =
     ap (λ (o : Option (ℕ × Item)). unwrap_or (option_map (λ m. m.0) o) 0) (sym (here_before names nodes at before n h f.within w.place))
 
--- the place before the node that is written next
-place_there : (names : Names) (nodes : List (ℕ × Item)) (flat : List FlatNode) (at : FlatPlace) (n : ℕ × Item) → AreFilled names nodes flat at → 0 < at.node
-    → at
-    ≡ place_after names (get_or nodes (at.node - 1) n).1.body
-    (record {
-      node = at.node - 1;
-      name = length (flat_map (name_by names) (take (at.node - 1) nodes));
-      attribute = length (flat_map (attributes_by names) (take (at.node - 1) nodes));
-    })
-place_there names nodes flat at n f h =
-    let m = get_or nodes (at.node - 1) n in
-    let within = f.within in
-    let here : slice_get nodes (at.node - 1) ≡ Some m = slice_get-get_or nodes (at.node - 1) n (omega arith) in
-    let one : at.node ≡ (at.node - 1) + 1 = omega arith in
-    place_by _ _ _ _ _ _ one
-    (f.name_is ∙ ap (λ k. length (flat_map (name_by names) (take k nodes))) one ∙ more_of (name_by names) nodes (at.node - 1) m here)
-    (f.attribute_is ∙ ap (λ k. length (flat_map (attributes_by names) (take k nodes))) one ∙ more_of (attributes_by names) nodes (at.node - 1) m here)
-
 -- The next record isn't short.
 pub record_long : (names : Names) (nodes : List (ℕ × Item)) (flat : List FlatNode) (at : FlatPlace) (n : ℕ × Item) (next : ℕ) → AreFilled names nodes flat at
     → 0 < at.node → next ≡ at.node + deeper_before (get_or nodes (at.node - 1) n).0 (drop at.node nodes)
     → NeedsMoreBits names (get_or nodes (at.node - 1) n) next at → All IsShort (flat_nodes names first_place nodes) → ⊥
 record_long names nodes flat at n next f h next_is long all =
-    let e = place_there names nodes flat at n f h in
-    long _ (drop at.node nodes) e next_is
-    (short_before names nodes flat at _ (get_or nodes (at.node - 1) n) f e (here_before names nodes at _ n h f.within e) all)
+    let within = f.within in
+    let one : at.node ≡ (at.node - 1) + 1 = omega arith in
+    let here = slice_get-get_or nodes (at.node - 1) n (omega arith) in
+    let e = f.place_is ∙ ap (place_from names first_place nodes) one ∙ place_more names first_place nodes (at.node - 1) (get_or nodes (at.node - 1) n) here in
+    long _ (drop at.node nodes) e next_is (short_before names nodes flat at _ (get_or nodes (at.node - 1) n) f e (here_before names nodes at _ n h f.within e) all)

@@ -90,8 +90,8 @@ fn next_index(
 }
 
 // Writes the record of the node before a place, and returns the place before that node. Fails only if a number needs
-// more than 32 bits. The first three arms are for the kinds of most nodes: each has code of its own, in which most
-// values are constants.
+// more than 32 bits. Decides by the kind whether the node may name something. The first three arms are for the kinds of
+// most nodes: each has code of its own, in which most values are constants.
 #[inline(always)]
 fn fill_before(
     flat: &mut [FlatNode],
@@ -130,12 +130,7 @@ fn fill_before(
         | ItemBody::FencedCodeBlock(_)
         | ItemBody::FootnoteDefinition(_)
         | ItemBody::SynthesizeText(_)
-        | ItemBody::Table(_) => {
-            let before = place_before(after, body, allocs);
-            let named = named_range((before, after), body, allocs);
-            flat[before.node] = flat_node(node, next, named, values_of(body))?;
-            Ok(before)
-        }
+        | ItemBody::Table(_) => fill_named(flat, after, node, next, allocs),
         _ => fill_plain(flat, after, node, next, values_of(body)),
     }
 }
@@ -163,6 +158,30 @@ fn fill_plain(
         attribute: after.attribute,
     };
     flat[before.node] = flat_node(node, next, (after.name, 0), values)?;
+    Ok(before)
+}
+
+// The same as `fill_before`, for a node of any kind: it takes the range of what the node names.
+#[inline(always)]
+fn fill_named(
+    flat: &mut [FlatNode],
+    after: FlatPlace,
+    node: &(usize, Item),
+    next: usize,
+    allocs: &Allocations<'_>,
+) -> Result<FlatPlace, TooLong>
+    requires node { 0 < after.node }
+    requires room { after.node ≤ length flat.old }
+    requires name { length (name_of (names_of allocs.now) node.now.1.body) ≤ after.name }
+    requires attribute { length (attributes_of_body (names_of allocs.now) node.now.1.body) ≤ after.attribute }
+    ensures ok { IfOk result (λ before.
+        IsRecordWritten (names_of allocs.now) node.now next flat.old flat.new (before, after)) }
+    ensures long { IsErr result → NeedsMoreBits (names_of allocs.now) node.now next after }
+{
+    let body = &node.1.body;
+    let before = place_before(after, body, allocs);
+    let named = named_range((before, after), body, allocs);
+    flat[before.node] = flat_node(node, next, named, values_of(body))?;
     Ok(before)
 }
 
