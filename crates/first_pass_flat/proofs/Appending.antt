@@ -25,19 +25,14 @@ pub attributes_after : (at : ℕ) (xs ys : List OneAttribute)
 unfolding flat_attributes
 attributes_after at [] ys = ap (λ n. flat_attributes n ys) (sym (add-zero at))
 attributes_after at (x ∷ xs) ys =
-    ap (λ rest. flat_attribute at x ∷ rest)
-    (attributes_after (at + length (attribute_bytes x)) xs ys
-    ∙ ap (λ n. flat_attributes (at + length (attribute_bytes x)) xs ++ flat_attributes n ys) (two_runs at (attribute_bytes x) (flat_map attribute_bytes xs)))
+    rw (attributes_after (at + length (attribute_bytes x)) xs ys, two_runs at (attribute_bytes x) (flat_map attribute_bytes xs)) refl
 
 pub definitions_after : (at : ℕ) (xs ys : List LinkEntry)
     → flat_definitions at (xs ++ ys) ≡ flat_definitions at xs ++ flat_definitions (at + length (flat_map definition_bytes xs)) ys
 unfolding flat_definitions
 definitions_after at [] ys = ap (λ n. flat_definitions n ys) (sym (add-zero at))
 definitions_after at (x ∷ xs) ys =
-    ap (λ rest. flat_definition at x ∷ rest)
-    (definitions_after (at + length (definition_bytes x)) xs ys
-    ∙ ap (λ n. flat_definitions (at + length (definition_bytes x)) xs ++ flat_definitions n ys)
-    (two_runs at (definition_bytes x) (flat_map definition_bytes xs)))
+    rw (definitions_after (at + length (definition_bytes x)) xs ys, two_runs at (definition_bytes x) (flat_map definition_bytes xs)) refl
 
 -- lists that grow by two steps
 pub two_steps : {X : Type 0} → (a b c x y z : List X) → c ≡ b ++ y → b ≡ a ++ x → x ++ y ≡ z → c ≡ a ++ z

@@ -107,19 +107,16 @@ bodies v =
 pub body_from : ℕ → FlatValues → ItemBody
 body_from kind v = get_or (bodies v) kind Root
 
-two : {A B C : Type 0} (f : A → B → C) (a a' : A) (b b' : B) → a ≡ a' → b ≡ b' → f a b ≡ f a' b'
-two f a a' b b' e g = ap (λ x. f x b) e ∙ ap (λ y. f a' y) g
-
 pub body_kept : (body : ItemBody) → body_from (kind_number body) (values_of body) ≡ only_kind body
 unfolding body_from bodies
-body_kept (Heading level ix) = two Heading _ _ _ _ (level_kept level) (index_kept ix)
+body_kept (Heading level ix) = rw (level_kept level, index_kept ix) refl
 body_kept (BlockQuote kind) = ap BlockQuote (quote_kept kind)
 body_kept (MetadataBlock kind) = ap MetadataBlock (metadata_kept kind)
 body_kept (Text escaped) = ap Text (set_flag escaped)
 body_kept (HardBreak by_backslash) = ap HardBreak (set_flag by_backslash)
-body_kept (MaybeEmphasis left can_open can_close) = two (MaybeEmphasis left) _ _ _ _ (set_flag can_open) (set_flag can_close)
-body_kept (MaybeMath can_open can_close context) = two (λ x y. MaybeMath x y context) _ _ _ _ (set_flag can_open) (set_flag can_close)
-body_kept (MaybeSmartQuote byte can_open can_close) = two (MaybeSmartQuote byte) _ _ _ _ (set_flag can_open) (set_flag can_close)
+body_kept (MaybeEmphasis left can_open can_close) = rw (set_flag can_open, set_flag can_close) refl
+body_kept (MaybeMath can_open can_close context) = rw (set_flag can_open, set_flag can_close) refl
+body_kept (MaybeSmartQuote byte can_open can_close) = rw (set_flag can_open, set_flag can_close) refl
 body_kept (MaybeCode count escaped) = ap (MaybeCode count) (set_flag escaped)
 body_kept (MaybeLinkClose active) = ap MaybeLinkClose (set_flag active)
 body_kept (TaskListMarker checked) = ap TaskListMarker (set_flag checked)
@@ -172,15 +169,11 @@ unfolding keys_from
 keys_after [] keys = all_keys keys
 keys_after (c ∷ cs) keys = keys_after cs keys
 
-given_by : (id id' : Option (List ℕ)) (classes classes' : List (List ℕ)) (keys keys' : List (List ℕ × Option (List ℕ))) → id ≡ id' → classes ≡ classes'
-    → keys ≡ keys' → ◌≡◌ {A = Attributes} (record { id = id; classes = classes; attrs = keys }) (record { id = id'; classes = classes'; attrs = keys' })
-given_by id id' classes classes' keys keys' e f g = cc
-
 listed_kept : (id : Option (List ℕ)) (classes : List (List ℕ)) (keys : List (List ℕ × Option (List ℕ)))
     → attributes_from (listed (record { id = id; classes = classes; attrs = keys })) ≡ record { id = id; classes = classes; attrs = keys }
 unfolding attributes_from id_from classes_from keys_from
-listed_kept None classes keys = given_by _ _ _ _ _ _ (no_id classes keys) (all_classes classes keys) (keys_after classes keys)
-listed_kept (Some id) classes keys = given_by _ _ _ _ _ _ refl (all_classes classes keys) (keys_after classes keys)
+listed_kept None classes keys = rw (no_id classes keys, all_classes classes keys, keys_after classes keys) refl
+listed_kept (Some id) classes keys = rw (all_classes classes keys, keys_after classes keys) refl
 
 -- the name of a node, from its kind, the mark of its attribute block, its bytes and its attributes
 pub named_from : ℕ → ℕ → List ℕ → List OneAttribute → Option Named

@@ -4,8 +4,7 @@ use Rattle.std.proofs.Common.{Option, set, refl, sym, ap, subst, ◌∙◌, add-
 use Rattle.std.specs.List.{flat_map}
 use Rattle.std.specs.Option.{option_map}
 use Rattle.std.proofs.lemmas.Bool.{cases_eq}
-use Rattle.std.proofs.lemmas.Grind.{flat_map-append}
-use Rattle.std.proofs.lemmas.List.{append-nil, take_more, drop-set, drop_all, get_or-set_same, get_or-set_other, take_all}
+use Rattle.std.proofs.lemmas.List.{drop-set, drop_all, get_or-set_same, get_or-set_other, take_all}
 use Rattle.std.proofs.lemmas.Option.{slice_get_within, get_or_from_slice_get, slice_get-get_or}
 use Rattle.first_pass_items.specs.declared.item.Item.{Item}
 use Rattle.first_pass_grammar.specs.Names.{Names}
@@ -15,6 +14,7 @@ use Rattle.first_pass_flat.specs.Linked.{AreLinked, depth_at}
 use Rattle.first_pass_flat.specs.WrittenNodes.{IsRecordWritten, NeedsMoreBits}
 use Rattle.first_pass_flat.specs.declared.nodes.FlatPlace.{FlatPlace}
 use Rattle.first_pass_flat.specs.declared.records.FlatNode.{FlatNode}
+use Rattle.first_pass_flat.proofs.Appending.{flat_more}
 
 -- a list from an element on
 cut_at : {X : Type 0} (xs : List X) (k : ℕ) (x : X) → slice_get xs k ≡ Some x → drop k xs ≡ x ∷ drop (k + 1) xs
@@ -28,9 +28,7 @@ more_of : {X : Type 0} (f : ℕ × Item → List X) (nodes : List (ℕ × Item))
 more_of f nodes k n here =
     let inside = slice_get_within nodes k n here in
     let is : get_or nodes k n ≡ n = get_or_from_slice_get nodes k n n here in
-    ap (λ l. length (flat_map f l)) (take_more nodes k n inside ∙ ap (λ m. take k nodes ++ m ∷ []) is)
-    ∙ ap length (flat_map-append f (take k nodes) (n ∷ []) ∙ ap (λ l. flat_map f (take k nodes) ++ l) (append-nil (f n)))
-    ∙ length-append (flat_map f (take k nodes)) (f n)
+    ap length (sym (flat_more f nodes k n inside) ∙ ap (λ m. flat_map f (take k nodes) ++ f m) is) ∙ length-append (flat_map f (take k nodes)) (f n)
 
 place_by : (k k' a a' b b' : ℕ) → k ≡ k' → a ≡ a' → b ≡ b'
     → ◌≡◌ {A = FlatPlace} (record { node = k; name = a; attribute = b }) (record { node = k'; name = a'; attribute = b' })

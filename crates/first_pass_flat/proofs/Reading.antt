@@ -4,9 +4,7 @@ use Rattle.std.specs.Prelude.{is_some}
 use Rattle.std.specs.List.{flat_map}
 use Rattle.std.proofs.Math.Seq.{take-append_seam, drop-append_seam}
 use Rattle.first_pass_items.specs.declared.item.Item.{Item}
-use Rattle.first_pass_items.specs.declared.item.ItemBody.{ItemBody}
 use Rattle.first_pass_grammar.specs.Names.{Names, Named, AreNamed, read_nodes}
-use Rattle.first_pass_labels.specs.declared.label_table.LinkPlaces.{LinkPlaces}
 use Rattle.first_pass_grammar.specs.LinkTables.{LinkEntry}
 use Rattle.first_pass_grammar.specs.Derivation.{Tables}
 use Rattle.first_pass_flat.specs.Kinds.{flag}
@@ -56,22 +54,6 @@ pub bytes_after : List FlatNode → List ℕ → List ℕ
 bytes_after [] bytes = bytes
 bytes_after (r ∷ rs) bytes = bytes_after rs (drop (bytes_of r) bytes)
 
-pair_by : {A B : Type 0} (a a' : A) (b b' : B) → a ≡ a' → b ≡ b' → ◌≡◌ {A = A × B} (a, b) (a', b')
-pair_by a a' b b' e f = cc
-
-cons_by : {A : Type 0} (x x' : A) (xs xs' : List A) → x ≡ x' → xs ≡ xs' → x ∷ xs ≡ x' ∷ xs'
-cons_by x x' xs xs' e f = cc
-
-item_by : (start e : ℕ) (b b' : ItemBody) → b ≡ b'
-    → ◌≡◌ {A = Item} (record { start = start; «end» = e; body = b }) (record { start = start; «end» = e; body = b' })
-item_by start e b b' h = cc
-
-named_by : (kind second : ℕ) (b b' : List ℕ) (xs xs' : List OneAttribute) → b ≡ b' → xs ≡ xs' → named_from kind second b xs ≡ named_from kind second b' xs'
-named_by kind second b b' xs xs' e f = cc
-
-from_by : (rs : List FlatNode) (b b' : List ℕ) (xs xs' : List OneAttribute) → b ≡ b' → xs ≡ xs' → nodes_from rs b xs ≡ nodes_from rs b' xs'
-from_by rs b b' xs xs' e f = cc
-
 pub nodes_kept : (names : Names) (at : FlatPlace) (nodes : List (ℕ × Item)) (bytes : List ℕ) (xs : List OneAttribute) → AreNamed names nodes
     → nodes_from (flat_nodes names at nodes) (flat_map (name_by names) nodes ++ bytes) (flat_map (attributes_by names) nodes ++ xs) ≡ read_nodes names nodes
 unfolding flat_nodes nodes_from node_from values_in AreNamed
@@ -82,12 +64,12 @@ nodes_kept names at (n ∷ nodes) bytes xs h =
     let d = attributes_kept names n.1.body in
     let b = flat_map (name_by names) nodes in
     let a = flat_map (attributes_by names) nodes in
-    cons_by _ _ _ _
-    (pair_by _ _ _ _ refl
-    (pair_by _ _ _ _ (item_by _ _ _ _ (body_kept n.1.body))
-    (named_by _ _ _ _ _ _ (front _ (name_of names n.1.body) b bytes c) (front _ (attributes_of_body names n.1.body) a xs d) ∙ named_kept names n.1.body h.0)))
-    (from_by _ _ _ _ _ (after_front _ (name_of names n.1.body) b bytes c) (after_front _ (attributes_of_body names n.1.body) a xs d)
-    ∙ nodes_kept names more nodes bytes xs h.1)
+    let kind = body_kept n.1.body in
+    let name = front _ (name_of names n.1.body) b bytes c in
+    let attributes = front _ (attributes_of_body names n.1.body) a xs d in
+    let names_left = after_front _ (name_of names n.1.body) b bytes c in
+    let attributes_left = after_front _ (attributes_of_body names n.1.body) a xs d in
+    rw (kind, name, attributes, named_kept names n.1.body h.0, names_left, attributes_left, nodes_kept names more nodes bytes xs h.1) refl
 
 pub bytes_kept : (names : Names) (at : FlatPlace) (nodes : List (ℕ × Item)) (bytes : List ℕ)
     → bytes_after (flat_nodes names at nodes) (flat_map (name_by names) nodes ++ bytes) ≡ bytes
@@ -137,10 +119,6 @@ second_part a b c d = ap (λ l. take (length b) l) (beyond_first a b c d) ∙ fr
 beyond_second : (a b c d : List ℕ) → drop (length b) (drop (length a) (((a ++ b) ++ c) ++ d)) ≡ c ++ d
 beyond_second a b c d = ap (λ l. drop (length b) l) (beyond_first a b c d) ∙ after_front _ b c d refl
 
-attribute_by : (kind : ℕ) (name name' : List ℕ) (value value' : Option (List ℕ)) → name ≡ name' → value ≡ value'
-    → ◌≡◌ {A = OneAttribute} (record { kind = kind; name = name; value = value }) (record { kind = kind; name = name'; value = value' })
-attribute_by kind name name' value value' e f = cc
-
 pub attributes_back : (at : ℕ) (xs : List OneAttribute) (bytes : List ℕ)
     → attributes_read (flat_attributes at xs) (flat_map attribute_bytes xs ++ bytes) ≡ xs
 unfolding flat_attributes attributes_read attribute_from
@@ -148,11 +126,12 @@ attributes_back at [] bytes = refl
 attributes_back at (x ∷ xs) bytes =
     let v = unwrap_or x.value [] in
     let more = flat_map attribute_bytes xs in
-    cons_by _ _ _ _
-    (attribute_by x.kind _ _ _ _ (first_part x.name v more bytes)
-    (ap (text_from (flag (is_some x.value))) (second_part x.name v more bytes) ∙ text_kept x.value))
-    (ap (attributes_read (flat_attributes (at + length (attribute_bytes x)) xs)) (beyond_second x.name v more bytes)
-    ∙ attributes_back (at + length (attribute_bytes x)) xs bytes)
+    let name = first_part x.name v more bytes in
+    let value = ap (text_from (flag (is_some x.value))) (second_part x.name v more bytes) ∙ text_kept x.value in
+    let rest =
+    ap (attributes_read (flat_attributes (at + length (attribute_bytes x)) xs)) (beyond_second x.name v more bytes)
+    ∙ attributes_back (at + length (attribute_bytes x)) xs bytes in
+    rw (name, value, rest) refl
 
 pub after_attributes : (at : ℕ) (xs : List OneAttribute) (bytes : List ℕ)
     → left_by_attributes (flat_attributes at xs) (flat_map attribute_bytes xs ++ bytes) ≡ bytes
@@ -178,12 +157,6 @@ pub definitions_read : List FlatDefinition → List ℕ → List LinkEntry
 definitions_read [] bytes = []
 definitions_read (r ∷ rs) bytes =
     definition_from r bytes ∷ definitions_read rs (drop r.title_length (drop r.destination_length (drop r.label_length bytes)))
-
-definition_by : (label label' dest dest' : List ℕ) (title title' : Option (List ℕ)) (start e : ℕ) (places : LinkPlaces)
-    → label ≡ label' → dest ≡ dest' → title ≡ title'
-    → ◌≡◌ {A = LinkEntry} (record { label = label; dest = dest; title = title; start = start; «end» = e; places = places })
-    (record { label = label'; dest = dest'; title = title'; start = start; «end» = e; places = places })
-definition_by label label' dest dest' title title' start e places f g h = cc
 
 -- bytes in four parts
 four : (a b c d e : List ℕ) → (((a ++ b) ++ c) ++ d) ++ e ≡ ((a ++ b) ++ (c ++ d)) ++ e
@@ -211,11 +184,13 @@ definitions_back at [] bytes = refl
 definitions_back at (x ∷ es) bytes =
     let t = unwrap_or x.title [] in
     let more = flat_map definition_bytes es in
-    cons_by _ _ _ _
-    (definition_by _ _ _ _ _ _ x.start x.«end» x.places (label_part x.label x.dest t more bytes) (destination_part x.label x.dest t more bytes)
-    (ap (text_from (flag (is_some x.title))) (title_part x.label x.dest t more bytes) ∙ text_kept x.title))
-    (ap (definitions_read (flat_definitions (at + length (definition_bytes x)) es)) (beyond_title x.label x.dest t more bytes)
-    ∙ definitions_back (at + length (definition_bytes x)) es bytes)
+    let label = label_part x.label x.dest t more bytes in
+    let dest = destination_part x.label x.dest t more bytes in
+    let title = ap (text_from (flag (is_some x.title))) (title_part x.label x.dest t more bytes) ∙ text_kept x.title in
+    let rest =
+    ap (definitions_read (flat_definitions (at + length (definition_bytes x)) es)) (beyond_title x.label x.dest t more bytes)
+    ∙ definitions_back (at + length (definition_bytes x)) es bytes in
+    rw (label, dest, title, rest) refl
 
 -- the whole form read back
 attribute_list : FlatForm → List OneAttribute
@@ -249,10 +224,12 @@ tree_back : (names : Names) (nodes : List (ℕ × Item)) (tables : Tables) → A
     → tree_read (flat_form names nodes tables) ≡ read_nodes names nodes
 unfolding tree_read
 tree_back names nodes tables h =
-    from_by (flat_nodes names first_place nodes) _ _ _ _
-    (append_assoc (node_names names nodes) (flat_map attribute_bytes (flat_map (attributes_by names) nodes)) (flat_map definition_bytes (entries_of tables)))
-    (list_back names nodes tables ∙ sym (append-nil (flat_map (attributes_by names) nodes)))
-    ∙ nodes_kept names first_place nodes _ [] h
+    let attributes = flat_map (attributes_by names) nodes in
+    let definitions = flat_map definition_bytes (entries_of tables) in
+    let rs = flat_nodes names first_place nodes in
+    ap (λ bytes. nodes_from rs bytes (attribute_list (flat_form names nodes tables)))
+    (append_assoc (node_names names nodes) (flat_map attribute_bytes attributes) definitions)
+    ∙ ap (nodes_from rs _) (list_back names nodes tables ∙ sym (append-nil attributes)) ∙ nodes_kept names first_place nodes _ [] h
 
 entries_back : (names : Names) (nodes : List (ℕ × Item)) (tables : Tables) → entries_read (flat_form names nodes tables) ≡ entries_of tables
 unfolding entries_read
@@ -266,19 +243,12 @@ labels_kept : (labels : List (List ℕ)) → map (λ (e : LinkEntry). e.label) (
 labels_kept [] = refl
 labels_kept (x ∷ xs) = ap (λ l. x ∷ l) (labels_kept xs)
 
-tables_by : (links links' : List LinkEntry) (footnotes footnotes' : List (List ℕ)) → links ≡ links' → footnotes ≡ footnotes'
-    → ◌≡◌ {A = Tables} (record { links = links; footnotes = footnotes }) (record { links = links'; footnotes = footnotes' })
-tables_by links links' footnotes footnotes' e f = cc
-
 tables_back : (names : Names) (nodes : List (ℕ × Item)) (tables : Tables) → tables_read (flat_form names nodes tables) ≡ tables
 unfolding tables_read
 tables_back names nodes tables =
-    let es = entries_back names nodes tables in
-    tables_by _ _ _ _
-    (ap (take (length tables.links)) es ∙ take-append_seam tables.links (map label_entry tables.footnotes))
-    (ap (λ l. map (λ (e : LinkEntry). e.label) (drop (length tables.links) l)) es
-    ∙ ap (map (λ (e : LinkEntry). e.label)) (drop-append_seam tables.links (map label_entry tables.footnotes))
-    ∙ labels_kept tables.footnotes)
+    let links = take-append_seam tables.links (map label_entry tables.footnotes) in
+    let footnotes = drop-append_seam tables.links (map label_entry tables.footnotes) in
+    rw (entries_back names nodes tables, links, footnotes, labels_kept tables.footnotes) refl
 
 pub nodes_determined : DeterminesNodes
 nodes_determined m n f g t u named_f named_g e = sym (tree_back m f t named_f) ∙ ap tree_read e ∙ tree_back n g u named_g
