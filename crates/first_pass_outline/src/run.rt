@@ -7,7 +7,7 @@ ghost use Rattle.first_pass_outline.specs.Lines.{IsListed};
 use crate::lines::write_entries;
 use crate::outline::outline_text;
 use first_pass_host::fault::RunFault;
-use first_pass_run::report::{Input, Report, run_report};
+use first_pass_run::report::{Report, Subject, run_report};
 use std::alloc::Global;
 use std::io::{Read, Write};
 
@@ -17,9 +17,9 @@ pub struct ListedOutline;
 impl Report for ListedOutline {
     ghost says = { λ _ options text output. IsListed options text output };
 
-    fn write_report<W: Write>(&self, input: Input<'_>, output: &mut W) -> Result<(), RunFault> {
-        let entries = outline_text(input.alloc, input.text, input.options)?;
-        write_entries(input.alloc, entries.as_slice(), output)
+    fn write_report<W: Write>(&self, subject: Subject<'_>, output: &mut W) -> Result<(), RunFault> {
+        let entries = outline_text(subject.alloc, subject.text, subject.options)?;
+        write_entries(subject.alloc, entries.as_slice(), output)
     }
 }
 

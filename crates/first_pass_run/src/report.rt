@@ -15,7 +15,7 @@ use std::str;
 
 /// A text for a report, with the options to parse it under and the allocator.
 #[derive(Clone, Copy)]
-pub struct Input<'t> {
+pub struct Subject<'t> {
     pub alloc: Global,
     pub text: &'t str,
     pub options: Options,
@@ -28,11 +28,11 @@ pub trait Report {
 
     /// Writes the whole output for a text under its options. Returns `OutOfMemory` if an allocation fails, and
     /// `WriteFailed` if a write fails; nothing or a beginning of the output was written then.
-    fn write_report<W: Write>(&self, input: Input<'_>, output: &mut W) -> Result<(), RunFault>
-        ensures ok { OnOk result (WritesOutput (says self.now) input.entry.options input.entry.text.now
+    fn write_report<W: Write>(&self, subject: Subject<'_>, output: &mut W) -> Result<(), RunFault>
+        ensures ok { OnOk result (WritesOutput (says self.now) subject.entry.options subject.entry.text.now
             (stream_between (W.contents output.old) (W.contents output.new))) }
         ensures fault { IfErr result (λ fault.
-            LeavesReport (says self.now) fault input.entry.options input.entry.text.now
+            LeavesReport (says self.now) fault subject.entry.options subject.entry.text.now
             (stream_between (W.contents output.old) (W.contents output.new))) };
 }
 
@@ -76,12 +76,12 @@ fn report_bytes<P: Report, W: Write>(
 {
     match str::from_utf8(bytes) {
         Ok(text) => {
-            let input = Input {
+            let subject = Subject {
                 alloc,
                 text,
                 options,
             };
-            report.write_report(input, output)
+            report.write_report(subject, output)
         }
         Err(_) => Err(RunFault::NotUtf8),
     }

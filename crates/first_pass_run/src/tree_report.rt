@@ -4,7 +4,7 @@ ghost use Rattle.first_pass_host.specs.Streams.{WritesText, stream_between};
 ghost use Rattle.first_pass_names.specs.TableEntries.{names_of, tables_of};
 ghost use Rattle.first_pass_run.specs.TreeReports.{AreTreeLines, Lines};
 
-use crate::report::{Input, Report};
+use crate::report::{Report, Subject};
 use first_pass_host::fault::RunFault;
 use first_pass_items::item::Item;
 use first_pass_names::items::Allocations;
@@ -42,11 +42,11 @@ pub struct TreeReport<P, L>(pub P, pub L);
 impl<P: Parse, L: TreeLines> Report for TreeReport<P, L> {
     ghost says = { λ report options text output. AreTreeLines (L.lines report.1) options text output };
 
-    fn write_report<W: Write>(&self, input: Input<'_>, output: &mut W) -> Result<(), RunFault> {
-        let (tree, allocs) = self.0.parse(input.alloc, input.text, input.options)?;
+    fn write_report<W: Write>(&self, subject: Subject<'_>, output: &mut W) -> Result<(), RunFault> {
+        let (tree, allocs) = self.0.parse(subject.alloc, subject.text, subject.options)?;
         let parsed = Parsed {
-            alloc: input.alloc,
-            text: input.text,
+            alloc: subject.alloc,
+            text: subject.text,
             tree,
             allocs,
         };
