@@ -12,10 +12,10 @@ use Rattle.first_pass_tokens.proofs.PieceFacts.{is_markup}
 use Rattle.first_pass_grammar.specs.Before.{nothing}
 use Rattle.first_pass_grammar.specs.Derivation.{as_title, row_items, tight_in, items_of, Tables, Derives}
 use Rattle.first_pass_grammar.specs.Leaves.{Document}
-use Rattle.first_pass_grammar.specs.Rows.{What, ALeaf, AQuote, AList, AnItem, AFootnote, ADefinitionList, ATitle, ADefinition, Rows, End, OneOf, is_loose}
+use Rattle.first_pass_grammar.specs.Rows.{What, ALeaf, ATitle, Rows, End, OneOf, is_loose}
 use Rattle.first_pass_grammar.specs.Rows.{rows_of}
 use Rattle.first_pass_grammar.specs.WholeTables.{AreEachNode}
-use Rattle.first_pass_grammar.proofs.Each.EachLeaf.{HoldsOfBlocks, HoldsInBlocks, IsBlockOf}
+use Rattle.first_pass_grammar.proofs.Each.EachLeaf.{HoldsInBlocks, IsBlockOf, any_blocks}
 use Rattle.first_pass_grammar.proofs.Each.EachRow.{HoldsOfRow, HoldsOfEachRow, derived_rows, tight_nodes}
 use Rattle.first_pass_grammar.proofs.Each.EachCell.{deeper_nodes}
 use Rattle.first_pass_grammar.proofs.Names.TokensNamed.{NamesWithin}
@@ -43,19 +43,6 @@ inside_no_heading texts = record {
   task = λ checked. refl;
 }
 
-any_block : HoldsOfBlocks (λ body. Unit {0})
-any_block = record {
-  paragraph = tt;
-  heading = λ level index. tt;
-  table = λ index. tt;
-  indented = tt;
-  fenced = λ info. tt;
-  metadata = λ kind. tt;
-  html = tt;
-  rule = tt;
-  task = λ checked. tt;
-}
-
 -- none of the leading nodes that are deeper than this depth is a heading
 abbrev pub NoneBelow : ℕ → List (ℕ × Item) → Type 0
 NoneBelow depth [] = Unit {0}
@@ -66,14 +53,10 @@ abbrev pub NoneInside : List (ℕ × Item) → Type 0
 NoneInside [] = Unit {0}
 NoneInside (n ∷ nodes) = (IsNoHeading n.1.body ⊎ NoneBelow n.0 nodes) × NoneInside nodes
 
--- nodes of which the first is no deeper than this depth, and nodes of which the first is at least this deep
+-- nodes of which the first is no deeper than this depth
 abbrev BeginsBy : ℕ → List (ℕ × Item) → Type 0
 BeginsBy depth [] = Unit {0}
 BeginsBy depth (n ∷ nodes) = n.0 ≤ depth
-
-abbrev BeginsFrom : ℕ → List (ℕ × Item) → Type 0
-BeginsFrom depth [] = Unit {0}
-BeginsFrom depth (n ∷ nodes) = depth ≤ n.0
 
 begins_deeper : (a b : ℕ) (nodes : List (ℕ × Item)) → a ≤ b → BeginsBy a nodes → BeginsBy b nodes
 begins_deeper a b [] le h = tt
@@ -92,10 +75,9 @@ inside_both [] more h k = k
 inside_both (n ∷ nodes) more h k = (inl h.0, inside_both nodes more h.1 k)
 
 -- a block at a depth, before nodes of which the first is no deeper
-block_inside : (depth : ℕ) (items more : List (ℕ × Item)) → BeginsFrom depth items → (n : ℕ × Item) (kids : List (ℕ × Item)) → items ≡ n ∷ kids
-    → AreEachNode IsNoHeading kids → BeginsBy depth more → NoneInside more → NoneInside ((n ∷ kids) ++ more)
-block_inside depth items more from n kids is h by k =
-    let deep : depth ≤ n.0 = subst (BeginsFrom depth) is from in
+block_inside : (depth : ℕ) (n : ℕ × Item) (kids more : List (ℕ × Item)) → depth ≤ n.0 → AreEachNode IsNoHeading kids → BeginsBy depth more
+    → NoneInside more → NoneInside ((n ∷ kids) ++ more)
+block_inside depth n kids more deep h by k =
     (inr (none_both n.0 kids more h (none_begins n.0 more (begins_deeper depth n.0 more deep by))), inside_both kids more h k)
 
 tight_no_heading : (b : ItemBody) → IsNoHeading b → IsNoHeading (tight_body b)
@@ -107,12 +89,10 @@ leaf_inside : (depth : ℕ) (tight : Bool) (items more : List (ℕ × Item)) →
 leaf_inside depth true [] more h by k = k
 leaf_inside depth false [] more h by k = k
 leaf_inside depth true (x ∷ items) more h by k =
-    let kids : List (ℕ × Item) = map (tightened depth) (at_depth depth items) in
-    block_inside depth (tightened depth (depth + x.0, x.1) ∷ kids) more (omega arith) (tightened depth (depth + x.0, x.1)) kids refl
-    (tight_nodes IsNoHeading tight_no_heading depth (at_depth depth items) (deeper_nodes IsNoHeading depth items h.2)) by k
+    let kids = tight_nodes IsNoHeading tight_no_heading depth (at_depth depth items) (deeper_nodes IsNoHeading depth items h.2) in
+    block_inside depth (tightened depth (depth + x.0, x.1)) (map (tightened depth) (at_depth depth items)) more (omega arith) kids by k
 leaf_inside depth false (x ∷ items) more h by k =
-    block_inside depth ((depth + x.0, x.1) ∷ at_depth depth items) more (omega arith) (depth + x.0, x.1) (at_depth depth items) refl
-    (deeper_nodes IsNoHeading depth items h.2) by k
+    block_inside depth (depth + x.0, x.1) (at_depth depth items) more (omega arith) (deeper_nodes IsNoHeading depth items h.2) by k
 
 title_inside : (depth : ℕ) (items more : List (ℕ × Item)) → HasOneHeading items → NoneInside more → NoneInside (at_depth depth (as_title items) ++ more)
 title_inside depth [] more h k = k
@@ -125,25 +105,17 @@ row_inside : (depth : ℕ) (tight loose t : Bool) (start : ℕ) (w : What) (inne
 unfolding items_of
 row_inside depth tight loose t start (ALeaf block) End more own by k = leaf_inside depth tight block.items more own.0 by k
 row_inside depth tight loose t start (ALeaf block) (OneOf row inner next) more own by k = absurd own.1
-row_inside depth tight loose t start (AQuote kind e) inner more own by k = (inl refl, k)
-row_inside depth tight loose t start (AList byte number e) inner more own by k = (inl refl, k)
-row_inside depth tight loose t start (AnItem columns e) inner more own by k = (inl refl, k)
-row_inside depth tight loose t start (AFootnote index e) inner more own by k = (inl refl, k)
-row_inside depth tight loose t start (ADefinitionList there e) inner more own by k = (inl refl, k)
 row_inside depth tight loose t start (ATitle block) inner more own by k =
     title_inside depth block.items (items_of (suc depth) t inner ++ more) own.0 k
-row_inside depth tight loose t start (ADefinition columns e) inner more own by k = (inl refl, k)
+row_inside depth tight loose t start _ inner more own by k = (inl refl, k)
 
 -- rows begin at their own depth
-items_begin : (depth : ℕ) (items more : List (ℕ × Item)) → HasOneHeading items → BeginsBy depth more → BeginsBy depth (at_depth depth items ++ more)
-items_begin depth [] more h k = k
-items_begin depth (x ∷ items) more h k = omega (arith, h.0)
-
 leaf_begins : (depth : ℕ) (tight : Bool) (items more : List (ℕ × Item)) → HasOneHeading items → BeginsBy depth more
     → BeginsBy depth ((if tight then map (tightened depth) (at_depth depth items) else at_depth depth items) ++ more)
 leaf_begins depth true [] more h k = k
+leaf_begins depth false [] more h k = k
 leaf_begins depth true (x ∷ items) more h k = omega (arith, h.0)
-leaf_begins depth false items more h k = items_begin depth items more h k
+leaf_begins depth false (x ∷ items) more h k = omega (arith, h.0)
 
 title_begins : (depth : ℕ) (items more : List (ℕ × Item)) → HasOneHeading items → BeginsBy depth more
     → BeginsBy depth (at_depth depth (as_title items) ++ more)
@@ -155,14 +127,9 @@ row_begins : (depth : ℕ) (tight loose t : Bool) (start : ℕ) (w : What) (inne
 unfolding items_of
 row_begins depth tight loose t start (ALeaf block) End more own by = leaf_begins depth tight block.items more own.0 by
 row_begins depth tight loose t start (ALeaf block) (OneOf row inner next) more own by = absurd own.1
-row_begins depth tight loose t start (AQuote kind e) inner more own by = omega arith
-row_begins depth tight loose t start (AList byte number e) inner more own by = omega arith
-row_begins depth tight loose t start (AnItem columns e) inner more own by = omega arith
-row_begins depth tight loose t start (AFootnote index e) inner more own by = omega arith
-row_begins depth tight loose t start (ADefinitionList there e) inner more own by = omega arith
 row_begins depth tight loose t start (ATitle block) End more own by = title_begins depth block.items more own.0 by
 row_begins depth tight loose t start (ATitle block) (OneOf row inner next) more own by = absurd own.1
-row_begins depth tight loose t start (ADefinition columns e) inner more own by = omega arith
+row_begins depth tight loose t start _ inner more own by = omega arith
 
 regrouped : (a b c rest : List (ℕ × Item)) → a ++ (b ++ (c ++ rest)) ≡ (a ++ (b ++ c)) ++ rest
 regrouped a b c rest = ap (λ z. a ++ z) (sym (append_assoc b c rest)) ∙ sym (append_assoc a (b ++ c) rest)
@@ -197,6 +164,6 @@ rows_inside depth tight (OneOf row inner next) more h by k =
 pub derived_inside : (d : Document) (nodes : List (ℕ × Item)) (tables : Tables) → Derives d nodes tables → NoneInside nodes
 derived_inside d nodes tables h =
     let rows : Rows = rows_of false nothing (length d.text) h.skeleton in
-    let each = derived_rows (λ body. Unit {0}) IsNoHeading d nodes tables any_block (inside_no_heading d.names.texts) h in
+    let each = derived_rows (λ body. Unit {0}) IsNoHeading d nodes tables any_blocks (inside_no_heading d.names.texts) h in
     let all = rows_inside 1 false rows [] each tt tt in
     subst NoneInside (sym h.forest_is) (inl refl, subst NoneInside (append-nil (items_of 1 false rows)) all)

@@ -175,9 +175,7 @@ below_reaches (InFirst before) from x h le =
 
 beyond_reach : (within : Within) (from : ℕ) → reach (beyond within) from ≡ from
 beyond_reach Elsewhere from = refl
-beyond_reach InItem from = refl
-beyond_reach (InText before) from = refl
-beyond_reach (InFirst before) from = refl
+beyond_reach _ from = refl
 
 range_from : (text : List ℕ) (least from to : ℕ) (x : Ranged) → least ≤ from → IsBetween text from to x → IsRangeFrom text least x.start x.«end»
 range_from text least from to x le h =
@@ -216,9 +214,6 @@ module _ (names : Names) (text : List ℕ) where
         inner = between_from text (reach within from) (reach (below within from x) x.start) x.«end» (entries_of names f.kids) reaches.0 kids_in;
         after = subst (λ (z : ℕ). LieBetween text z to (entries_of names f.next)) beyond_is next_in;
       }) none
-  row_entries Elsewhere from to (Node x kids next) depth (n ∷ nodes) back (inr (lead, inner, after)) e none = absurd lead
-  row_entries InItem from to (Node x kids next) depth (n ∷ nodes) back (inr (lead, inner, after)) e none = absurd lead
-  row_entries (InFirst before) from to (Node x kids next) depth (n ∷ nodes) back (inr (lead, inner, after)) e none = absurd lead
   row_entries (InText before) from to (Node x kids next) depth (n ∷ nodes) back (inr (lead, inner, after)) e none =
       let (f, a, b) = split_row depth x kids next n nodes e in
       let apart : NoneInside (f.kids ++ f.next) = subst NoneInside f.is none.1 in
@@ -230,6 +225,7 @@ module _ (names : Names) (text : List ℕ) where
         inner = between_from text before x.start x.«end» (entries_of names f.kids) lead.1.following kids_in;
         after = between_from text x.«end» from to (entries_of names f.next) lead.1.before next_in;
       }) none
+  row_entries _ from to (Node x kids next) depth (n ∷ nodes) back (inr (lead, inner, after)) e none = absurd lead
 
 -- the entries of a derived tree
 pub derived_between : (d : Document) (nodes : List (ℕ × Item)) (tables : Tables) → Derives d nodes tables → IsOrdered d.text nodes
