@@ -204,5 +204,7 @@ record_long names nodes flat at n next f h next_is long all =
     let within = f.within in
     let one : at.node ≡ (at.node - 1) + 1 = omega arith in
     let here = slice_get-get_or nodes (at.node - 1) n (omega arith) in
-    let e = f.place_is ∙ ap (place_from names first_place nodes) one ∙ place_more names first_place nodes (at.node - 1) (get_or nodes (at.node - 1) n) here in
-    long _ (drop at.node nodes) e next_is (short_before names nodes flat at _ (get_or nodes (at.node - 1) n) f e (here_before names nodes at _ n h f.within e) all)
+    let e = f.place_is ∙ ap (place_from names first_place nodes) one
+    ∙ place_more names first_place nodes (at.node - 1) (get_or nodes (at.node - 1) n) here in
+    long _ (drop at.node nodes) e next_is
+    (short_before names nodes flat at _ (get_or nodes (at.node - 1) n) f e (here_before names nodes at _ n h f.within e) all)

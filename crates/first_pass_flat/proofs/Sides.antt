@@ -11,8 +11,8 @@ use Rattle.first_pass_attributes.specs.Attributes.{no_attributes}
 use Rattle.first_pass_grammar.specs.LinkTables.{LinkEntry}
 use Rattle.first_pass_grammar.specs.Names.{Names}
 use Rattle.first_pass_grammar.specs.Derivation.{Tables}
-use Rattle.first_pass_flat.specs.FlatAttributes.{attributes_at, attributes_by, attribute_bytes, flat_attributes, heading_index, listed}
-use Rattle.first_pass_flat.specs.FlatDefinitions.{definition_bytes, entries_of, flat_definitions, label_entry}
+use Rattle.first_pass_flat.specs.FlatAttributes.{attributes_at, attributes_by, attribute_bytes, heading_index, listed}
+use Rattle.first_pass_flat.specs.FlatDefinitions.{definition_bytes, flat_definitions, label_entry}
 use Rattle.first_pass_flat.specs.FlatForm.{node_names, tree_names}
 use Rattle.first_pass_flat.specs.Appended.{AppendsAttributes, AppendsDefinitions}
 use Rattle.first_pass_flat.specs.Side.{AreSideTables}
@@ -65,7 +65,6 @@ pub side_made : (names : Names) (nodes : List (ℕ × Item)) (tables : Tables) (
     → AttributesMade names nodes b → DefinitionsMade tables b.names.items d e → n ≡ length (node_names names nodes) → links ≡ length d.definitions.items
     → AreSideTables (record { attributes = b.attributes; definitions = e.definitions; links = links; names = e.names; node_names = n }) names nodes tables
 side_made names nodes tables b d e n links attributed defined n_is links_is =
-    let a = attributed.old in
     let h = attributed.appended in
     let c = defined.old in
     let both = definitions_more c d e tables.links (map label_entry tables.footnotes) defined.links defined.footnotes in
@@ -73,15 +72,9 @@ side_made names nodes tables b d e n links attributed defined n_is links_is =
     let b_names : b.names.items ≡ tree_names names nodes = h.names ∙ ap (λ x. x ++ flat_map attribute_bytes marks) attributed.names_are in
     let start : c.names.items ≡ tree_names names nodes = defined.names_are ∙ b_names in
     record {
-      attributes =
-          h.attributes ∙ ap (λ x. x ++ flat_attributes (length a.names.items) marks) attributed.none
-          ∙ ap (λ x. flat_attributes (length x) marks) attributed.names_are;
-      definitions =
-          both.definitions ∙ ap (λ x. x ++ flat_definitions (length c.names.items) (entries_of tables)) defined.none
-          ∙ ap (λ x. flat_definitions (length x) (entries_of tables)) start;
-      links =
-          links_is ∙ ap length (defined.links.definitions ∙ ap (λ x. x ++ flat_definitions (length c.names.items) tables.links) defined.none)
-          ∙ definitions_counted (length c.names.items) tables.links;
-      names_are = both.names ∙ ap (λ x. x ++ flat_map definition_bytes (entries_of tables)) start;
+      attributes = h.attributes ∙ rw (attributed.none, attributed.names_are) refl;
+      definitions = both.definitions ∙ rw (defined.none, start) refl;
+      links = links_is ∙ ap length defined.links.definitions ∙ rw defined.none (definitions_counted (length c.names.items) tables.links);
+      names_are = both.names ∙ rw start refl;
       node_names_are = n_is;
     }
