@@ -1,12 +1,20 @@
 -- The set bits of a mask, and the bytes that they stand for.
-use Rattle.std.proofs.Common.{◌≡◌, ◌⊎◌, inl, inr, ℕ, zero, suc, ◌+◌, ◌-◌, ◌/◌, ◌%◌, ◌^◌, ◌<◌, ◌≤◌, ◌==◌, ◌*◌, ◌||◌, Bool, true, false, List, slice_index, slice_index_or}
+use Rattle.std.proofs.Common.{◌≡◌, ◌⊎◌, inl, inr, ℕ, zero, suc, ◌+◌, ◌-◌, ◌/◌, ◌%◌, ◌^◌, ◌<◌, ◌≤◌, ◌==◌, ◌*◌, Bool, false, List, slice_index, Option, Some, None, IfSome, IfNone}
 use Rattle.std.proofs.Common.{subst, w64, bit_and, refl, sym, ap, ◌∙◌, arith, pow_pos}
-use Rattle.std.proofs.lemmas.Bool.{cases_lt, cases_eq, ne_eqb}
+use Rattle.std.proofs.lemmas.Bool.{cases_lt, cases_eq}
 use Rattle.std.proofs.lemmas.Nat.Bits.{bit_at_lowest, bit_at-suc, bit_at-lt, bit_at_and, bit_at_above, bit_at-trailing_zeros}
 use Rattle.std.proofs.lemmas.Nat.{div_below, pow-add}
 use Rattle.std.proofs.Math.Nat.{div-div-eq-div-mul}
 use Rattle.std.specs.Int.{bit_at, trailing_zeros}
-use Rattle.first_pass_walk.specs.Walk.{is_marked, is_passed, is_word_byte, AreWordStops, IsFirstStop, IsNextMarked, SparesWords}
+use Rattle.first_pass_walk.specs.Walk.{is_marked, is_passed, AreWordStops, IsFirstStop, IsNextMarked, SparesWords}
+
+pub if_some : {X : Type 0} {P Q : X → Type 0} (o : Option X) → ((x : X) → P x → Q x) → IfSome o P → IfSome o Q
+if_some None f h = tt
+if_some (Some x) f h = f x h
+
+pub if_none : {X P Q : Type 0} (o : Option X) → (P → Q) → IfNone o P → IfNone o Q
+if_none None f h = f h
+if_none (Some x) f h = tt
 
 -- Subtracting one from a number leaves all its set bits except the lowest.
 abbrev IsKeptOrLowest : ℕ → ℕ → Type 0
@@ -88,26 +96,27 @@ tail_stops bytes next last mask from to h =
     let there : last + s ≡ next = omega (arith, from) in
     subst (λ at. AreWordStops bytes at n (mask / 2 ^ s)) there (shifted bytes last s n mask (subst (λ m. AreWordStops bytes last m mask) whole h))
 
--- the places before an offset, and n places from there on
-pub unmarked : (lut : List Bool) (bytes : List ℕ) (ix next n : ℕ) → ((k : ℕ) → ix ≤ k → k < next → is_marked lut bytes k ≡ false)
-    → ((k : ℕ) → k < n → is_marked lut bytes (next + k) ≡ false) → (k : ℕ) → ix ≤ k → k < next + n → is_marked lut bytes k ≡ false
-unmarked lut bytes ix next n before after k from to =
+-- the places before an offset, and those from there on to another
+pub unmarked_from : (lut : List Bool) (bytes : List ℕ) (ix next to : ℕ) → ((k : ℕ) → ix ≤ k → k < next → is_marked lut bytes k ≡ false)
+    → ((k : ℕ) → next ≤ k → k < to → is_marked lut bytes k ≡ false) → (k : ℕ) → ix ≤ k → k < to → is_marked lut bytes k ≡ false
+unmarked_from lut bytes ix next to before after k from less =
     elim (cases_lt k next) [
       | inl h ↦ before k from h
-      | inr h ↦ let back : next + (k - next) ≡ k = omega arith in subst (λ j. is_marked lut bytes j ≡ false) back (after (k - next) (omega arith))
+      | inr h ↦ after k h less
     ]
 
--- a table that marks no NUL and no word byte
-pub spares_passed : (lut : List Bool) → slice_index_or lut 0 false ≡ false → SparesWords lut
-    → (b : ℕ) → is_passed b ≡ true → slice_index_or lut b false ≡ false
-spares_passed lut clear spares b h =
-    elim (cases_eq b 0) [
-      | inl same ↦ rw same clear
-      | inr other ↦ spares b (sym (ap (λ t. t || is_word_byte b) (ne_eqb b 0 other)) ∙ h)
-    ]
+-- the next marked byte from an offset on is the next from an earlier one, if none is between
+pub next_later : (lut : List Bool) (bytes : List ℕ) (ix next j : ℕ) → ix ≤ next → ((k : ℕ) → ix ≤ k → k < next → is_marked lut bytes k ≡ false)
+    → IsNextMarked lut bytes next j → IsNextMarked lut bytes ix j
+next_later lut bytes ix next j later before is = record {
+  from = omega (arith, later, is.from);
+  within = is.within;
+  marked = is.marked;
+  least = unmarked_from lut bytes ix next j before is.least;
+}
 
 module _ (lut : List Bool) (bytes : List ℕ) (at n mask : ℕ)
-    (spares : (b : ℕ) → is_passed b ≡ true → slice_index_or lut b false ≡ false) (stops : AreWordStops bytes at n mask) where
+    (spares : SparesWords lut) (stops : AreWordStops bytes at n mask) where
   -- no byte without a set bit is marked
   spared : (k : ℕ) → k < n → (bit_at mask k ≡ 1 → is_marked lut bytes (at + k) ≡ false) → is_marked lut bytes (at + k) ≡ false
   spared k less unless =
@@ -116,19 +125,20 @@ module _ (lut : List Bool) (bytes : List ℕ) (at n mask : ℕ)
         | inr set ↦ unless (omega (arith, set, bit_at-lt mask k))
       ]
 
-  pub none_marked : (ix : ℕ) → ((k : ℕ) → ix ≤ k → k < at → is_marked lut bytes k ≡ false)
-      → ((k : ℕ) → bit_at mask k ≡ 1 → is_marked lut bytes (at + k) ≡ false) → (k : ℕ) → ix ≤ k → k < at + n → is_marked lut bytes k ≡ false
-  none_marked ix before none = unmarked lut bytes ix at n before (λ k less. spared k less (none k))
+  pub none_marked : ((k : ℕ) → bit_at mask k ≡ 1 → is_marked lut bytes (at + k) ≡ false) → (k : ℕ) → at ≤ k → k < at + n → is_marked lut bytes k ≡ false
+  none_marked none k from less =
+      let back : at + (k - at) ≡ k = omega arith in
+      subst (λ j. is_marked lut bytes j ≡ false) back (spared (k - at) (omega arith) (none (k - at)))
 
-  pub first_is_next : (ix j : ℕ) → ix ≤ at → ((k : ℕ) → ix ≤ k → k < at → is_marked lut bytes k ≡ false)
-      → IsFirstStop lut bytes at mask j → IsNextMarked lut bytes ix j
-  first_is_next ix j from before first =
+  pub first_is_next : (j : ℕ) → IsFirstStop lut bytes at mask j → IsNextMarked lut bytes at j
+  first_is_next j first =
       let near : j - at < n = bit_below mask n (j - at) stops.within first.set in
       record {
-        from = omega (arith, from, first.from);
+        from = first.from;
         within = first.within;
         marked = first.marked;
-        least = λ k after less. unmarked lut bytes ix at (j - at) before
-            (λ i low. spared i (omega (arith, low, near)) (first.least i (omega (arith, low))))
-            k after (omega (arith, less, first.from));
+        least = λ k from less.
+            let back : at + (k - at) ≡ k = omega (arith, from) in
+            let low : at + (k - at) < j = omega (arith, less) in
+            subst (λ i. is_marked lut bytes i ≡ false) back (spared (k - at) (omega (arith, less, near, first.from)) (first.least (k - at) low));
       }

@@ -1,18 +1,19 @@
 -- Facts on the special bytes.
-use Rattle.std.proofs.Common.{◌≡◌, inl, inr, ℕ, ◌<◌, Bool, true, false, true≢false, ◌==◌, ◌&&◌, ◌||◌, List, ap, sym, refl, ◌∙◌, arith}
+use Rattle.std.proofs.Common.{◌≡◌, ◌⊎◌, inl, inr, ℕ, ◌<◌, nat_lt, Bool, true, false, true≢false, ◌==◌, ◌&&◌, ◌||◌, List, ap, sym, refl, ◌∙◌, arith}
 use Rattle.std.proofs.lemmas.Bool.{cases_eq, ne_eqb}
 use Rattle.std.proofs.lemmas.Bool.Decides.{nat_tests}
-use Rattle.first_pass_items.specs.Bytes.{line_feed, carriage_return, exclamation_mark, quotation_mark, dollar_sign, ampersand, apostrophe, asterisk, hyphen}
+use Rattle.first_pass_items.specs.Bytes.{space, line_feed, carriage_return, exclamation_mark, quotation_mark, dollar_sign, ampersand, apostrophe, asterisk, hyphen}
 use Rattle.first_pass_items.specs.Bytes.{full_stop, less_than, left_bracket, backslash, right_bracket, circumflex, underscore, backquote, left_brace, pipe}
 use Rattle.first_pass_items.specs.Bytes.{right_brace, tilde}
 use Rattle.first_pass_items.specs.declared.option_set.Options.{Options}
 use Rattle.first_pass_items.specs.OptionWords.{has}
-use Rattle.first_pass_walk.specs.Walk.{is_special, MarksSpecial, is_word_byte, SparesWords}
+use Rattle.first_pass_lines.specs.Lines.{is_line_end}
+use Rattle.first_pass_walk.specs.Walk.{is_special, MarksSpecial, is_passed, SparesWords}
 
--- a letter, a space or a byte beyond ASCII is none of these bytes, so the table of the special bytes does not mark it
-isnt_word : (b c : ℕ) → is_word_byte b ≡ true → is_word_byte c ≡ false → b == c ≡ false
-isnt_word b c h k = elim (cases_eq b c) [
-  | inl same ↦ absurd (true≢false (sym h ∙ ap is_word_byte same ∙ k))
+-- a byte with a property is none without it
+pub isnt : (has : ℕ → Bool) (b c : ℕ) → has b ≡ true → has c ≡ false → b == c ≡ false
+isnt has b c h k = elim (cases_eq b c) [
+  | inl same ↦ absurd (true≢false (sym h ∙ ap has same ∙ k))
   | inr other ↦ ne_eqb b c other
 ]
 
@@ -23,23 +24,46 @@ and_off false u e = refl
 or_off : (t u : Bool) → t ≡ false → u ≡ false → t || u ≡ false
 or_off t u e f = rw e f
 
-word_small : (b : ℕ) → is_word_byte b ≡ true → b < 256
-word_small b h = grind (arith, nat_tests, h)
+passed_small : (b : ℕ) → is_passed b ≡ true → b < 256
+passed_small b h = grind (arith, nat_tests, h)
 
-word_plain : (options : Options) (b : ℕ) → is_word_byte b ≡ true → is_special options b ≡ false
+-- A byte is not special if it differs from each byte that is not passed and is above a space or in a line ending.
+not_special : (options : Options) (b : ℕ) → ((c : ℕ) → is_passed c ≡ false → (is_line_end c || nat_lt space c) ≡ true → b == c ≡ false)
+    → is_special options b ≡ false
 unfolding is_special
-word_plain options b h =
-    or_off _ _ (rw (isnt_word b line_feed h refl) (rw (isnt_word b carriage_return h refl)
-    (rw (isnt_word b exclamation_mark h refl) (rw (isnt_word b ampersand h refl)
-    (rw (isnt_word b asterisk h refl) (rw (isnt_word b less_than h refl) (rw (isnt_word b left_bracket h refl)
-    (rw (isnt_word b backslash h refl) (rw (isnt_word b right_bracket h refl)
-    (rw (isnt_word b underscore h refl) (rw (isnt_word b backquote h refl) (refl)))))))))))) (or_off _ _ (and_off (has options 2) _ (isnt_word b pipe h refl))
-    (or_off _ _ (or_off _ _ (and_off (has options 8 || has options 16384) _ (isnt_word b tilde h refl))
-    (and_off (has options 8192) _ (isnt_word b circumflex h refl)))
-    (or_off _ _ (and_off (has options 1024) _ (rw (isnt_word b dollar_sign h refl)
-    (rw (isnt_word b left_brace h refl) (rw (isnt_word b right_brace h refl) (refl)))))
-    (and_off (has options 32) _ (rw (isnt_word b quotation_mark h refl)
-    (rw (isnt_word b apostrophe h refl) (rw (isnt_word b hyphen h refl) (rw (isnt_word b full_stop h refl) (refl)))))))))
+not_special options b h =
+    or_off _ _ (rw (h line_feed refl refl) (rw (h carriage_return refl refl)
+    (rw (h exclamation_mark refl refl) (rw (h ampersand refl refl)
+    (rw (h asterisk refl refl) (rw (h less_than refl refl) (rw (h left_bracket refl refl)
+    (rw (h backslash refl refl) (rw (h right_bracket refl refl)
+    (rw (h underscore refl refl) (rw (h backquote refl refl) (refl)))))))))))) (or_off _ _ (and_off (has options 2) _ (h pipe refl refl))
+    (or_off _ _ (or_off _ _ (and_off (has options 8 || has options 16384) _ (h tilde refl refl))
+    (and_off (has options 8192) _ (h circumflex refl refl)))
+    (or_off _ _ (and_off (has options 1024) _ (rw (h dollar_sign refl refl)
+    (rw (h left_brace refl refl) (rw (h right_brace refl refl) (refl)))))
+    (and_off (has options 32) _ (rw (h quotation_mark refl refl)
+    (rw (h apostrophe refl refl) (rw (h hyphen refl refl) (rw (h full_stop refl refl) (refl)))))))))
 
 pub spares_words : (options : Options) (lut : List Bool) → MarksSpecial lut options → SparesWords lut
-spares_words options lut m b h = m b (word_small b h) ∙ word_plain options b h
+spares_words options lut m b h = m b (passed_small b h) ∙ not_special options b (λ c k mark. isnt is_passed b c h k)
+
+-- a byte below a space that does not belong to a line ending
+isnt_low : (b c : ℕ) → b < 32 → is_line_end b ≡ false → (is_line_end c || nat_lt space c) ≡ true → b == c ≡ false
+isnt_low b c low other h = elim (cases_eq b c) [
+  | inl same ↦ absurd (true≢false (sym h ∙ ap (λ x. is_line_end x || nat_lt space x) (sym same) ∙ ap (λ t. t || nat_lt space b) other ∙ not_above b low))
+  | inr differs ↦ ne_eqb b c differs
+]
+  where
+    not_above : (b : ℕ) → b < 32 → nat_lt space b ≡ false
+    not_above b low = grind (arith, nat_tests, low)
+
+either : (t : Bool) → (t ≡ true) ⊎ (t ≡ false)
+either true = inl refl
+either false = inr refl
+
+-- of the special bytes, only those of a line ending are below a space
+pub low_special : (options : Options) (b : ℕ) → b < 32 → is_special options b ≡ true → is_line_end b ≡ true
+low_special options b low special = elim (either (is_line_end b)) [
+  | inl ends ↦ ends
+  | inr other ↦ absurd (true≢false (sym special ∙ not_special options b (λ c k h. isnt_low b c low other h)))
+]

@@ -86,9 +86,9 @@ pub record IsFirstStop (lut : List Bool) (bytes : List ℕ) (at mask j : ℕ) : 
   pub marked : is_marked lut bytes j ≡ true
   pub least : (k : ℕ) → at + k < j → bit_at mask k ≡ 1 → is_marked lut bytes (at + k) ≡ false
 
--- the table marks no letter, no space and no byte of a character beyond ASCII (this project)
+-- the table marks neither NUL nor a word byte (this project)
 abbrev pub SparesWords : List Bool → Type 0
-SparesWords lut = (b : ℕ) → is_word_byte b ≡ true → slice_index_or lut b false ≡ false
+SparesWords lut = (b : ℕ) → is_passed b ≡ true → slice_index_or lut b false ≡ false
 
 -- a table of marks, and the bytes of a walk with that table (this project)
 pub record Marking : Type 0 where

@@ -48,8 +48,8 @@ pub fn next_special(lut: &[bool; 256], bytes: &[u8], ix: usize) -> Option<usize>
 // The mask of 16 bytes each of which is a stop: a run of digits or of punctuation.
 const ALL_STOPS: u64 = 0xFFFF;
 
-/// Returns the same as `next_special`, but reads 16 bytes at a time. The table must not mark a letter, a space or a
-/// byte of a character beyond ASCII.
+/// Returns the same as `next_special`, but reads 16 bytes at a time. The table must not mark NUL, a letter, a space or
+/// a byte of a character beyond ASCII.
 #[inline(always)]
 pub fn next_special_in_words(lut: &[bool; 256], bytes: &[u8], ix: usize) -> Option<usize>
     requires { SparesWords lut.now }
@@ -57,8 +57,7 @@ pub fn next_special_in_words(lut: &[bool; 256], bytes: &[u8], ix: usize) -> Opti
     ensures none { IfNone result (NoneMarkedFrom lut.now bytes.now ix) }
 {
     let mut next = ix;
-    // A load of 16 bytes doesn't tell NUL from a space.
-    if lut[0] || bytes.len() < LANES {
+    if bytes.len() < LANES {
         return next_special(lut, bytes, next);
     }
     let last = bytes.len() - LANES;
@@ -68,14 +67,7 @@ pub fn next_special_in_words(lut: &[bool; 256], bytes: &[u8], ix: usize) -> Opti
             next += LANES;
             continue;
         }
-        if stops == ALL_STOPS {
-            match first_in_lanes(lut, bytes, next) {
-                Some(at) => return Some(at),
-                None => next += LANES,
-            }
-            continue;
-        }
-        match first_at_stops(lut, bytes, next, stops) {
+        match first_in_load(lut, bytes, next, stops) {
             Some(at) => return Some(at),
             None => next += LANES,
         }
@@ -86,6 +78,27 @@ pub fn next_special_in_words(lut: &[bool; 256], bytes: &[u8], ix: usize) -> Opti
     // Fewer than 16 bytes are left: one load has them and some bytes before them.
     let stops = word_stops(bytes, last) >> (next - last);
     first_at_stops(lut, bytes, next, stops)
+}
+
+// The offset of the first byte that is marked in the table, among the 16 from the offset `at` on. The mask `stops` is
+// that of these bytes, and not 0. In most texts, the first stop is marked.
+#[inline(always)]
+fn first_in_load(lut: &[bool; 256], bytes: &[u8], at: usize, stops: u64) -> Option<usize>
+    requires spares { SparesWords lut.now }
+    requires within { at + 16 ≤ length bytes.now }
+    requires stops { AreWordStops bytes.now at 16 stops }
+    requires some { 0 < stops }
+    ensures found { IfSome result (λ j. IsNextMarked lut.now bytes.now at j) }
+    ensures none { IfNone result ((k : ℕ) → at ≤ k → k < at + 16 → is_marked lut.now bytes.now k ≡ false) }
+{
+    let first = at + stops.trailing_zeros() as usize;
+    if lut[bytes[first] as usize] {
+        return Some(first);
+    }
+    if stops == ALL_STOPS {
+        return first_in_lanes(lut, bytes, at);
+    }
+    first_at_stops(lut, bytes, at, stops & (stops - 1))
 }
 
 // The offset of the first byte that is marked in the table, among those whose bits are set. The lowest bit is that of
