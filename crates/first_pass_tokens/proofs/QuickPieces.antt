@@ -1,14 +1,16 @@
--- The pieces that are known from a byte and those beside it.
+-- The pieces that `quick_piece` finds at once.
 use Rattle.std.proofs.Common.{◌≡◌, inl, inr, ℕ, ◌+◌, ◌<◌, ◌==◌, Bool, false, true, List, length, refl, sym, ap, ◌∙◌, arith, slice_index}
 use Rattle.std.proofs.lemmas.Bool.{cases_lt, eq-eqb}
 use Rattle.std.proofs.lemmas.Bool.Decides.{nat_tests}
 use Rattle.std.specs.Char.{is_ascii_punctuation}
-use Rattle.first_pass_items.specs.Bytes.{less_than, left_bracket, backslash, backquote, pipe, right_bracket, exclamation_mark, full_stop, hyphen}
+use Rattle.first_pass_items.specs.Bytes.{ampersand, dollar_sign, left_brace, right_brace, less_than, left_bracket, backslash, backquote, pipe, right_bracket, exclamation_mark, full_stop, hyphen}
 use Rattle.first_pass_items.specs.declared.item.ItemBody.TheVariants.{MaybeHtml, MaybeLinkOpen, MaybeLinkClose}
 use Rattle.first_pass_tokens.specs.declared.pieces.Piece.TheVariants.{Token, Left}
+use Rattle.first_pass_tokens.specs.declared.pieces.Piece.{Piece}
 use Rattle.first_pass_tokens.specs.declared.pieces.TokenStart.TheVariants.{Ready}
-use Rattle.first_pass_tokens.specs.Pieces.{Inline, special_found, special_piece, backslash_piece, backslash_piece_in, bracket_piece, dot_piece}
+use Rattle.first_pass_tokens.specs.Pieces.{Inline, is_delimiter, delimiter_piece, special_found, special_piece, backslash_piece, backslash_piece_in, bracket_piece, dot_piece}
 use Rattle.first_pass_tokens.specs.Pieces.{dash_found, dash_piece, run_at, IsReadyAt}
+use Rattle.first_pass_walk.proofs.WalkFacts.{isnt}
 use Rattle.first_pass_tokens.proofs.PieceFacts.{run_some, run_same}
 
 pub less_ready : (z : Inline) (at : ℕ) → slice_index z.text at ≡ less_than → (slice_index z.text (at + 1) == backslash) ≡ false
@@ -64,3 +66,11 @@ pub hyphen_ready : (z : Inline) (at : ℕ) → at < length z.text → slice_inde
     → IsReadyAt z at (Left 1)
 unfolding special_found dash_found dash_piece
 hyphen_ready z at within here other = let one = run_one z.text at hyphen within here other in rw here (rw one refl)
+
+-- the run of delimiters that begins with a byte
+pub delimiter_ready : (z : Inline) (at : ℕ) (piece : Piece) → is_delimiter (slice_index z.text at) ≡ true → piece ≡ delimiter_piece z at → IsReadyAt z at piece
+unfolding special_found special_piece
+delimiter_ready z at piece h is =
+    let no : (c : ℕ) → is_delimiter c ≡ false → slice_index z.text at == c ≡ false = λ c k. isnt is_delimiter (slice_index z.text at) c h k in
+    rw (no ampersand refl, no hyphen refl, no dollar_sign refl, no left_brace refl, no right_brace refl, no backslash refl, no backquote refl, h)
+    (ap Ready (sym is))

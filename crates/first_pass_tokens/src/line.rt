@@ -236,10 +236,11 @@ fn special_ends_at(text: &[u8], content: Content<'_>, at: usize) -> bool
     ensures { (b : MathBraces) → result ≡ content_ends_at (content_in text.now content.entry b) at }
 {
     let byte = text[at];
-    if is_pipe_in_row(byte, content.row) {
+    // Of the special bytes, only those of a line ending are below a space.
+    if byte < b' ' {
         return true;
     }
-    is_line_end(byte)
+    is_pipe_in_row(byte, content.row)
 }
 
 // Whether a byte of a content is a pipe, and the content is in a row.

@@ -1,6 +1,6 @@
 //! The pieces of the content of a line: the one that begins at an offset.
 
-ghost use Rattle.std.specs.Prelude.{◌≡◌, ◌||◌, ◌+◌, ◌<◌, ◌≤◌, ◌^◌, true, IfSome, is_some, length, slice_index, take, ℕ, List, IsCharBoundary, IsUtf8};
+ghost use Rattle.std.specs.Prelude.{◌≡◌, ◌||◌, ◌+◌, ◌<◌, ◌≤◌, ◌^◌, true, false, IfSome, is_some, length, slice_index, take, ℕ, List, IsCharBoundary, IsUtf8};
 ghost use Rattle.first_pass_items.specs.Bytes.{backslash, backquote, hyphen, full_stop, underscore};
 ghost use Rattle.first_pass_tokens.specs.Braces.{MathBraces};
 ghost use Rattle.first_pass_tokens.specs.Pieces.{content_in, IsReadyAt, is_bracket_at, is_plain_mark_at, is_inside_word, is_solid_at, dollar_found, special_found, reference_found, dash_found, found_size, FoundSolid, special_piece, backslash_piece, backslash_piece_in, backquote_piece, is_delimiter, char_before, run_in, run_size, is_quote, quote_piece, dot_piece, run_piece, delimiter_piece, bracket_piece, run_at, size, EndsSolid};
@@ -60,16 +60,18 @@ pub enum TokenStart {
     CloseBrace,
 }
 
-/// Returns the piece found at a special byte of a content: a reference (CommonMark 2.5), four or more hyphens with
-/// smart punctuation, a dollar sign or a brace with math, or a piece that needs nothing else (see `special_piece`).
-/// `at` is the offset of the byte into the whole text, and `text` is that text up to the end of the content.
+/// Returns the piece found at a special byte of a content that begins no run of delimiters; `quick_piece` finds those.
+/// It is a reference (CommonMark 2.5), four or more hyphens with smart punctuation, a dollar sign or a brace with
+/// math, or a piece that needs nothing else (see `special_piece`). `at` is the offset of the byte into the whole text,
+/// and `text` is that text up to the end of the content.
 #[inline(always)]
 #[tactic(auto, unfolding(crate::specs::Pieces::special_found))]
-pub fn special_found(text: &[u8], content: Content<'_>, at: usize) -> TokenStart
+pub(crate) fn special_found(text: &[u8], content: Content<'_>, at: usize) -> TokenStart
     requires utf8 { IsUtf8 content.whole.now }
     requires front { text.now ≡ take (length text.now) content.whole.now }
     requires within { at < length text.now }
     requires order { content.start ≤ at }
+    requires no_run { is_delimiter (slice_index text.now at) ≡ false }
     ensures value { (b : MathBraces) → result ≡ special_found (content_in text.now content.entry b) at }
     ensures fits { at + found_size result ≤ length text.now }
     ensures ends { FoundSolid text.now at result }
@@ -84,19 +86,20 @@ pub fn special_found(text: &[u8], content: Content<'_>, at: usize) -> TokenStart
     }
 }
 
-/// Returns the piece at a special byte that is known from this byte and those beside it: the token at `<` with no
-/// backslash after it, at `[` and at `]`, and plain text at `!` with no `[` after it, at `.` with no `.` after it, at
-/// `-` with no `-` after it, at a backslash with no ASCII punctuation after it, and at `_` between two ASCII letters or
-/// digits of the content. Returns `None` at any other byte. `special_found` finds the same piece, but tests many other
-/// bytes first.
+/// Returns the piece at a special byte that is found at once: the token at `<` with no backslash after it, at `[` and
+/// at `]`, plain text at `!` with no `[` after it, at `.` with no `.` after it, at `-` with no `-` after it and at a
+/// backslash with no ASCII punctuation after it, and the piece of the run at `*`, `_`, `~` and `^`. A `_` between two
+/// ASCII letters or digits of the content is plain text. Returns `None` at any other byte. `special_found` finds the
+/// same piece, but tests many other bytes first.
 #[inline(always)]
-#[tactic(auto, using(crate::proofs::QuickPieces::less_ready, crate::proofs::QuickPieces::left_ready, crate::proofs::QuickPieces::right_ready, crate::proofs::QuickPieces::exclamation_ready, crate::proofs::QuickPieces::stop_ready, crate::proofs::QuickPieces::hyphen_ready, crate::proofs::QuickPieces::backslash_ready, crate::proofs::InsideWords::inside_word_ready))]
+#[tactic(auto, using(crate::proofs::QuickPieces::less_ready, crate::proofs::QuickPieces::left_ready, crate::proofs::QuickPieces::right_ready, crate::proofs::QuickPieces::exclamation_ready, crate::proofs::QuickPieces::stop_ready, crate::proofs::QuickPieces::hyphen_ready, crate::proofs::QuickPieces::backslash_ready, crate::proofs::QuickPieces::delimiter_ready, crate::proofs::InsideWords::inside_word_ready))]
 pub(crate) fn quick_piece(text: &[u8], content: Content<'_>, at: usize) -> Option<Piece>
     requires utf8 { IsUtf8 content.whole.now }
     requires front { text.now ≡ take (length text.now) content.whole.now }
     requires within { at < length text.now }
+    requires order { content.start ≤ at }
     ensures some { is_some result ≡ (is_bracket_at text.now at || (is_plain_mark_at text.now at
-        || is_inside_word text.now content.entry.start at)) }
+        || is_delimiter (slice_index text.now at))) }
     ensures value { IfSome result (λ piece. (b : MathBraces)
         → IsReadyAt (content_in text.now content.entry b) at piece) }
     ensures fits { IfSome result (λ piece. at + size piece ≤ length text.now) }
@@ -111,6 +114,7 @@ pub(crate) fn quick_piece(text: &[u8], content: Content<'_>, at: usize) -> Optio
         b'-' if byte_at(text, at + 1) != b'-' => Some(Piece::Left(1)),
         b'\\' if !byte_at(text, at + 1).is_ascii_punctuation() => Some(Piece::Left(1)),
         b'_' if is_inside_word(text, content.start, at) => Some(Piece::Left(1)),
+        b'*' | b'_' | b'~' | b'^' => Some(delimiter_piece(text, content, at)),
         _ => None,
     }
 }
@@ -179,10 +183,9 @@ fn dash_found(text: &[u8], at: usize) -> TokenStart
 }
 
 // The piece at any other special byte of a content. `at` is its offset into the text `whole`, and `text` is that text
-// up to the end of the content. A run of `*`, `_`, `^` or at most two `~` that can open or close is a token for each
-// of them (CommonMark 6.2, GFM 6.5). A run of backquotes is a token of possible code (CommonMark 6.1). `<` with no
-// backslash after it is one of possible HTML or an autolink (6.5, 6.6). `[`, `]` and `![` are tokens of possible
-// links and images (6.3, 6.4). With smart punctuation, a quote is a token, and three full stops are a token of one
+// up to the end of the content. A run of backquotes is a token of possible code (CommonMark 6.1). `<` with no
+// backslash after it is one of possible HTML or an autolink (6.5, 6.6). `[`, `]` and `![` are tokens of possible links
+// and images (6.3, 6.4). With smart punctuation, a quote is a token, and three full stops are a token of one
 // character. A backslash before backquotes or other ASCII punctuation is dropped (2.4). In a table row, a backslash
 // before a pipe is dropped, and so are two of them (GFM 4.10). Any other byte is plain text.
 #[inline(always)]
@@ -192,6 +195,7 @@ fn special_piece(text: &[u8], content: Content<'_>, at: usize) -> Piece
     requires front { text.now ≡ take (length text.now) content.whole.now }
     requires within { at < length text.now }
     requires order { content.start ≤ at }
+    requires no_run { is_delimiter (slice_index text.now at) ≡ false }
     ensures value { (b : MathBraces) → result ≡ special_piece (content_in text.now content.entry b) at }
     ensures fits { at + size result ≤ length text.now }
     ensures ends { EndsSolid text.now at result }
@@ -199,7 +203,6 @@ fn special_piece(text: &[u8], content: Content<'_>, at: usize) -> Piece
     match text[at] {
         b'\\' => backslash_piece_in(text, at, content.row),
         b'`' => backquote_piece(text, at),
-        b'*' | b'_' | b'~' | b'^' => delimiter_piece(text, content, at),
         b'"' | b'\'' => quote_piece(text, content, at),
         b'.' => dot_piece(text, at),
         _ => bracket_piece(text, at),
@@ -269,7 +272,8 @@ fn backquote_piece(text: &[u8], at: usize) -> Piece
     Piece::Token(0, n, ItemBody::MaybeCode(n, false))
 }
 
-// The piece at a delimiter.
+// The piece at a delimiter. A run of `*`, `_`, `^` or at most two `~` that can open or close is a token for each of
+// them, and other runs are plain text (CommonMark 6.2, GFM 6.5).
 #[inline(always)]
 #[tactic(auto, unfolding(crate::specs::Pieces::delimiter_piece))]
 fn delimiter_piece(text: &[u8], content: Content<'_>, at: usize) -> Piece

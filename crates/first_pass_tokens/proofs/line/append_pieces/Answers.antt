@@ -1,4 +1,4 @@
-use Rattle.std.proofs.Common.{◌+◌, length, inl, refl, sym, ◌∙◌, ap, subst, arith}
+use Rattle.std.proofs.Common.{◌+◌, length, inl, refl, sym, ◌∙◌, ap, subst, arith, Bool, true, false, ◌||◌, ◌≡◌}
 use Rattle.first_pass_tokens.specs.Pieces.{Inline, content_in, size}
 use Rattle.first_pass_tokens.specs.Braces.{braces_after}
 use Rattle.first_pass_tokens.specs.LineTokens.{spot}
@@ -55,7 +55,7 @@ loop-at-preserved c =
       more = more_both texts c.loop-at.texts.items c.args.texts.now.items more c.loop-at.invariant.more;
     }
 
--- the same after a piece that is known from a byte and those beside it
+-- the same after a piece that is found at once
 pub loop-at-preserved-in-Some-quick_piece : goal.loop-at-preserved-in-Some-quick_piece
 loop-at-preserved-in-Some-quick_piece c =
     let z : Inline = content_in c.args.text.now c.args.content c.args.braces.now in
@@ -101,6 +101,14 @@ returns-clause-read c =
 
 pub special_found-found-requires-clause-front : goal.special_found-found-requires-clause-front
 special_found-found-requires-clause-front c = front_upto c.args.content.whole.now c.args.text.now c.args.content.«end» c.requires.front
+
+third_off : (t u v : Bool) → (t || (u || v)) ≡ false → v ≡ false
+third_off false false v h = h
+third_off false true v h = absurd cc
+third_off true u v h = absurd cc
+
+pub special_found-found-requires-clause-no_run : goal.special_found-found-requires-clause-no_run
+special_found-found-requires-clause-no_run c = third_off _ _ _ (sym c.in_default-quick_piece.ensures.some)
 
 pub next_special_in_words-requires : goal.next_special_in_words-requires
 next_special_in_words-requires c = spares_words c.args.content.options c.args.content.special.now c.requires.marks
