@@ -1,12 +1,14 @@
 //! Backslash escapes (CommonMark 2.4) and references (2.5) in a text, replaced by their characters.
 
-ghost use Rattle.std.specs.Prelude.{◌≡◌, ◌+◌, ◌<◌, ◌≤◌, ◌++◌, length, drop, unwrap_or, IfOk, IsOkAnd, OnOk, IfSome, IfNone, IsCharBoundary};
+ghost use Rattle.std.specs.Prelude.{◌≡◌, ◌==◌, ◌||◌, false, ◌+◌, ◌<◌, ◌≤◌, ◌++◌, length, drop, unwrap_or, IfOk, IsOkAnd, OnOk, IfSome, IfNone, IsCharBoundary};
 ghost use Rattle.std.specs.String.{string_bytes};
+ghost use Rattle.std.specs.Char.{is_ascii_digit};
+ghost use Rattle.first_pass_items.specs.Bytes.{small_x, capital_x};
 ghost use Rattle.first_pass_items.specs.CowText.{text_of};
 ghost use Rattle.first_pass_lines.specs.Lanes.{IsRunIn};
 ghost use Rattle.first_pass_links.specs.Escapes.{unescaped};
 ghost use Rattle.first_pass_links.specs.Plain.{is_unmarked};
-ghost use Rattle.first_pass_entities.specs.Entities.{entity_at};
+ghost use Rattle.first_pass_entities.specs.Entities.{entity_at, numeric_at};
 ghost use Rattle.first_pass_entities.specs.Texts.{Borrows, TakesNoMemory};
 ghost use Rattle.first_pass_links.specs.Changes.{change_at, IsChange};
 ghost use Rattle.first_pass_links.specs.Units.{part};
@@ -133,7 +135,8 @@ fn change_at(bytes: &[u8], in_table: bool) -> Option<(usize, char)>
     }
 }
 
-// The same for a reference. `scan_reference` is not inlined, and most bytes begin no reference.
+// The same for a reference. `scan_reference` is not inlined, and most bytes begin no reference. Nor is it called after
+// `&#` if no number can follow.
 #[inline(always)]
 #[tactic(auto, unfolding(first_pass_entities::specs::Entities::entity_at))]
 fn reference_at(bytes: &[u8]) -> Option<(usize, char)>
@@ -142,5 +145,28 @@ fn reference_at(bytes: &[u8]) -> Option<(usize, char)>
     if !begins(b'&', bytes) {
         return None;
     }
+    if begins(b'#', rest_of(bytes, 1)) && !may_begin_number(rest_of(bytes, 2)) {
+        return None;
+    }
     scan_reference(bytes)
+}
+
+// Returns `false` only if no number of a numeric reference begins here. Such a number begins with a digit, or with an
+// `x` or `X`.
+#[inline(always)]
+fn may_begin_number(bytes: &[u8]) -> bool
+    ensures { result ≡ false → numeric_at bytes.now ≡ None }
+{
+    if bytes.is_empty() {
+        return false;
+    }
+    begins_number(bytes[0])
+}
+
+// Whether a byte is a digit, or an `x` or `X`.
+#[inline(always)]
+fn begins_number(byte: u8) -> bool
+    ensures { result ≡ (is_ascii_digit byte || (byte == small_x || byte == capital_x)) }
+{
+    matches!(byte, b'0'..=b'9' | b'x' | b'X')
 }
