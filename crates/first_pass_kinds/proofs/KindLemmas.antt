@@ -79,11 +79,6 @@ pub kind_says : (options : Options) (r : Rest) (k : Kind) → IsKind options r k
 unfolding first_kind
 kind_says options r k h = says_by (is_blank_rest r) (nat_lt (indent r) 4) options r k refl refl h
 
--- the kind of a place that is blank
-pub blank_kind : (options : Options) (r : Rest) → is_blank_rest r ≡ true → IsKind options r Blank
-unfolding first_kind
-blank_kind options r h = let first : first_kind options r ≡ Some Blank = rw h refl in subst (λ o. IsKindBy r o Blank) (sym first) refl
-
 -- a rest that is not blank is indented code at four columns or more
 pub code_kind : (options : Options) (r : Rest) → is_blank_rest r ≡ false → nat_lt (indent r) 4 ≡ false → IsKind options r IndentedCode
 unfolding first_kind

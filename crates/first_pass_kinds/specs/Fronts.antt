@@ -9,8 +9,8 @@ use Rattle.first_pass_open.specs.Path.{path_in, outer}
 use Rattle.first_pass_open.specs.declared.source.Source.{Source}
 use Rattle.first_pass_kinds.specs.declared.next_front.NextFront.{NextFront}
 
--- The line at an offset continues so many open nodes of a tree, the outermost first, and no more. The rest is what
--- follows their prefixes in the line (CommonMark 5).
+-- The line at an offset continues this many open nodes of a tree, counted from the outermost, and no more. The rest is
+-- what follows their prefixes in the line (CommonMark 5).
 pub record IsFrontAt (source : Source) (f : Forest Item) (start continued : ℕ) (rest : Rest) : Type 0 where
   pub within : continued ≤ length f.spine
   pub taken : after (path_in source.options f.nodes (outer continued f.spine)) (line_rest (drop start source.text.now)) ≡ Some rest

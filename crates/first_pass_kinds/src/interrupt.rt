@@ -280,8 +280,7 @@ pub fn scan_next_line<'a>(
     tree: &Tree<Item>,
     next_front: &mut NextFront<'a>,
 ) -> Result<NextLine, AllocError>
-    requires boundary { IsCharBoundary source.now.text.now start }
-    requires none { next_front.old.is_known ≡ false }
+    requires { IsCharBoundary source.now.text.now start }
     ensures value { IfOk result (λ role. role ≡ next_line_of (context_of source.now.options tree.now) start
         (line_rest (drop start source.now.text.now))) }
     ensures known { IfOk result (λ role. next_front.new.is_known ≡ true → role ≡ NotText) }
@@ -293,6 +292,7 @@ pub fn scan_next_line<'a>(
         (line_rest (drop start source.now.text.now)) ≡ true) }
 {
     source.recall_length();
+    next_front.is_known = false;
     let bytes = rest_of(source.text.as_bytes(), start);
     // A line that begins with an ASCII letter or a non-ASCII byte has no bytes of a container prefix, and is no
     // underline and no interruption. It is one more line of the paragraph text, so no walk over the open containers is
@@ -324,11 +324,11 @@ pub fn scan_next_line<'a>(
 // Whether, with definition lists, a line with this front ends the paragraph text before it. It continues all open
 // containers, and a `:` begins its rest at fewer than four columns (this project).
 #[inline(always)]
-fn ends_by_colon(front: &UnindentedFront<'_>, options: Options) -> bool
+fn ends_by_colon(line: &UnindentedFront<'_>, options: Options) -> bool
     ensures { result ≡ (has options definition_list
-        && (front.now.front.continues_all && (nat_lt front.now.columns 4 && begins colon front.now.rest.left))) }
+        && (line.now.front.continues_all && (nat_lt line.now.columns 4 && begins colon line.now.rest.left))) }
 {
-    begins_definition(front.rest.left(), options) && front.front.continues_all && front.columns < 4
+    begins_definition(line.rest.left(), options) && line.front.continues_all && line.columns < 4
 }
 
 /// Returns the rest of the first line of `bytes` after its container prefixes and its indentation. The line follows a

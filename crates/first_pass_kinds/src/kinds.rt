@@ -2,6 +2,7 @@
 
 ghost use Rattle.std.specs.Prelude.{◌≡◌, ◌+◌, ◌≤◌, min, length, drop, Some, None, IfSome};
 ghost use Rattle.std.specs.Option.{option_map};
+ghost use Rattle.first_pass_lines.specs.Lines.{atx_level};
 ghost use Rattle.first_pass_lines.specs.Rest.{indent};
 ghost use Rattle.first_pass_lines.specs.Places.{IsPlaceOf};
 ghost use Rattle.first_pass_metadata.specs.MetadataSearch.{IsKnownOf};
@@ -70,16 +71,14 @@ pub fn html_kind(bytes: &[u8]) -> Option<BlockStart>
     None
 }
 
-// The thematic break, the ATX heading, the fenced code block or the paragraph that begins here.
+// The thematic break, the fenced code block or the paragraph that begins here. The bytes begin no ATX heading.
 fn later_kind(bytes: &[u8]) -> BlockStart
+    requires { atx_level bytes.now ≡ None }
     ensures kind { kind_of result ≡ later_kind bytes.now }
     ensures end { IsFoundWithCondition bytes.now result }
 {
     if let Some(size) = scan_hrule(bytes) {
         return BlockStart::Marked(MarkedLeaf::ThematicBreak(size));
-    }
-    if let Some(level) = scan_atx_heading(bytes) {
-        return BlockStart::Marked(MarkedLeaf::AtxHeading(level));
     }
     match scan_code_fence(bytes) {
         Some((count, byte)) => BlockStart::Marked(MarkedLeaf::FencedCode(count, byte)),
@@ -123,9 +122,6 @@ pub fn kind_at<'a>(
     ensures place { place.new ≡ unindented place.old }
     ensures known { IsKnownOf source.now.text.now ends.new }
 {
-    if place.rest.is_at_plain() {
-        return (BlockStart::Paragraph, 0);
-    }
     let blank = scan_blank_line(place.rest.left()).is_some();
     let columns = scan_indentation(&mut place.rest);
     if blank {

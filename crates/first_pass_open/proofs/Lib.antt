@@ -1,3 +1,4 @@
+pub mod BlankPlaces
 pub mod PathLemmas
 pub mod ContinuedLemmas
 pub mod FrontLemmas

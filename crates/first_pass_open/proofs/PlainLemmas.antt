@@ -10,7 +10,7 @@ use Rattle.first_pass_lines.specs.Rest.{Rest, next_column, indent, after_columns
 use Rattle.first_pass_lines.proofs.Columns.{all-none}
 use Rattle.first_pass_lines.specs.Plain.{begins_plain, begins_inert}
 use Rattle.first_pass_scan.proofs.ColumnFacts.{no_column}
-use Rattle.first_pass_scan.proofs.PlainFacts.{plain_indent, plain_after, inert_indent, inert_after, inert_quote, inert_item}
+use Rattle.first_pass_scan.proofs.PlainFacts.{plain_after, inert_indent, inert_after, inert_quote, inert_item}
 use Rattle.first_pass_grammar.specs.declared.kind.Container.{Container}
 use Rattle.first_pass_grammar.specs.declared.kind.Container.TheVariants.{BlockQuote, ListItem, FootnoteDefinition, Definition}
 use Rattle.first_pass_grammar.specs.Containers.{after, has_columns, or_shorter, prefix}
@@ -18,9 +18,6 @@ use Rattle.first_pass_grammar.specs.Kinds.{all_taken, item_at}
 
 pub plain_all : (r : Rest) → r.owed ≡ 0 → begins_plain r.left ≡ true → all_taken r ≡ r
 plain_all r o h = plain_after (indent r) r o h
-
-pub plain_few : (r : Rest) → r.owed ≡ 0 → begins_plain r.left ≡ true → 0 ≡ min 4 (indent r)
-plain_few r o h = rw (plain_indent r o h) refl
 
 pub inert_all : (r : Rest) → r.owed ≡ 0 → begins_inert r.left ≡ true → all_taken r ≡ r
 inert_all r o h = inert_after (indent r) r o h

@@ -35,7 +35,7 @@ use Rattle.first_pass_grammar.specs.Completion.{Closed, Frame, InContainer, InLi
 use Rattle.first_pass_grammar.proofs.Sequences.Finishes.{CompletesAt, Tail}
 use Rattle.first_pass_completion.proofs.Extending.{tail, lvl}
 use Rattle.first_pass_grammar.proofs.Sequences.Goings.{stops_blank}
-use Rattle.first_pass_kinds.proofs.KindLemmas.{blank_kind}
+use Rattle.first_pass_open.proofs.BlankPlaces.{blank_kind}
 use Rattle.first_pass_completion.proofs.States.{open_nodes}
 use Rattle.first_pass_completion.proofs.Completions.{counted_after, completes-enter, completes-blank_line, completes-only_blank}
 use Rattle.first_pass_open.specs.OpenBlock.{closed_by}

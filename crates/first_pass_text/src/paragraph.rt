@@ -90,7 +90,7 @@ pub struct TextStart {
     pub marker: Option<Item>,
 }
 
-// Where a node was closed, a front counts no more open nodes than are left.
+// The paragraph was closed, so the front may count only the nodes that are still open.
 #[inline(always)]
 fn limit_to_open(tree: &Tree<Item>, next_front: &mut NextFront<'_>)
     ensures { next_front.new ≡ record next_front.old {
@@ -113,7 +113,6 @@ pub fn parse_paragraph<'a>(
 ) -> Result<usize, AllocError>
     requires boundary { IsCharBoundary source.now.text.now text.at }
     requires marker { IfSome text.marker (λ x. is_text x.body ≡ false) }
-    requires none { next_front.old.is_known ≡ false }
     ensures more { OnOk result (NamesMore allocs.old allocs.new) }
     ensures block { IfOk result (λ next.
         AddsPlainText (document source.now.text.now source.now.options (names_of allocs.new)) text.at
@@ -156,7 +155,6 @@ fn append_text_lines<'a>(
 ) -> Result<TextEnd, AllocError>
     requires boundary { IsCharBoundary source.now.text.now start }
     requires apart { JoinsNone tree.old }
-    requires none { next_front.old.is_known ≡ false }
     ensures utf8 { OnOk result (IsUtf8 source.now.text.now) }
     ensures more { OnOk result (NamesMore allocs.old allocs.new) }
     ensures lines { IfOk result (λ end.

@@ -17,7 +17,7 @@ returns-then-is_plain_front-clause-value c =
 pub returns-then-is_plain_front-clause-place : goal.returns-then-is_plain_front-clause-place
 returns-then-is_plain_front-clause-place c =
     (text_place c.args.source.now.text.now c.args.start (path_of c.args.source.now.options c.args.tree.now)
-    (subst IsUtf8 c.as_bytes.ensures.value c.as_bytes.ensures.utf8) c.requires.boundary).0
+    (subst IsUtf8 c.as_bytes.ensures.value c.as_bytes.ensures.utf8) c.requires).0
 
 pub returns-then-is_some-clause-value : goal.returns-then-is_some-clause-value
 returns-then-is_some-clause-value c =
@@ -28,7 +28,7 @@ returns-then-is_some-clause-value c =
 pub returns-then-is_some-clause-place : goal.returns-then-is_some-clause-place
 returns-then-is_some-clause-place c =
     (text_place c.args.source.now.text.now c.args.start (path_of c.args.source.now.options c.args.tree.now)
-    (subst IsUtf8 c.as_bytes.ensures.value c.as_bytes.ensures.utf8) c.requires.boundary).0
+    (subst IsUtf8 c.as_bytes.ensures.value c.as_bytes.ensures.utf8) c.requires).0
 
 pub returns-then-is_plain_front-2-clause-value : goal.returns-then-is_plain_front-2-clause-value
 returns-then-is_plain_front-2-clause-value c =

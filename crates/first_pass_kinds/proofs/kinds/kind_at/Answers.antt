@@ -2,31 +2,15 @@ use Rattle.std.proofs.Common.{◌≡◌, ◌+◌, ◌≤◌, ℕ, drop, length, 
 use Rattle.std.specs.Option.{option_map}
 use Rattle.first_pass_lines.specs.Lines.{blank_len, atx_level}
 use Rattle.first_pass_lines.specs.Rest.{Rest}
-use Rattle.first_pass_lines.specs.Places.{place_at, IsPlaceOf}
+use Rattle.first_pass_lines.specs.Places.{IsPlaceOf}
 use Rattle.first_pass_grammar.specs.Kinds.{all_taken, html_kind, later_kind, metadata_at, IsKind}
 use Rattle.first_pass_kinds.specs.BlockStart.{kind_of, IsFoundWithCondition}
-use Rattle.first_pass_kinds.proofs.KindLemmas.{few_columns, many_columns, blank_kind, code_kind, AfterMetadata, ColumnsTaken, past_columns, found_early}
+use Rattle.first_pass_open.proofs.BlankPlaces.{blank_kind}
+use Rattle.first_pass_kinds.proofs.KindLemmas.{few_columns, many_columns, code_kind, AfterMetadata, ColumnsTaken, past_columns, found_early}
 use Rattle.first_pass_kinds.proofs.KindLemmas.{tag_found, tag_absent, metadata_here, html_here, tag_here, last_here, found_html}
-use Rattle.first_pass_open.proofs.PlainLemmas.{plain_all, plain_few}
-use Rattle.first_pass_kinds.proofs.PlainKinds.{plain_kind}
 use Rattle.first_pass_kinds.proofs.MarkBytes.{heading_kind}
 use Rattle.first_pass_kinds.proofs.kinds.kind_at.Goals as goal
 use Rattle.first_pass_kinds.proofs.kinds.kind_at.Goals.{After-bytes_scanned}
-
-pub returns-then-is_at_plain-clause-kind : goal.returns-then-is_at_plain-clause-kind
-returns-then-is_at_plain-clause-kind c =
-    rw (← c.place.view_is) (plain_kind c.args.source.now.options c.place.inside.rest (c.is_at_plain.ensures.owed c.if-is_at_plain.true)
-    (c.is_at_plain.ensures.plain c.if-is_at_plain.true))
-
-pub returns-then-is_at_plain-clause-columns : goal.returns-then-is_at_plain-clause-columns
-returns-then-is_at_plain-clause-columns c =
-    rw (← c.place.view_is)
-    (plain_few c.place.inside.rest (c.is_at_plain.ensures.owed c.if-is_at_plain.true) (c.is_at_plain.ensures.plain c.if-is_at_plain.true))
-
-pub returns-then-is_at_plain-clause-place : goal.returns-then-is_at_plain-clause-place
-returns-then-is_at_plain-clause-place c =
-    rw (← c.place.view_is) (ap (place_at c.place.inside.line)
-    (sym (plain_all c.place.inside.rest (c.is_at_plain.ensures.owed c.if-is_at_plain.true) (c.is_at_plain.ensures.plain c.if-is_at_plain.true))))
 
 pub returns-then-blank-clause-kind : goal.returns-then-blank-clause-kind
 returns-then-blank-clause-kind c =

@@ -1,4 +1,4 @@
-use Rattle.std.proofs.Common.{◌≡◌, ℕ, Bool, true, false, Option, ap, ◌<◌, ◌≤◌, length, refl, sym, subst, ◌∙◌, arith}
+use Rattle.std.proofs.Common.{◌≡◌, ℕ, Option, ap, ◌<◌, ◌≤◌, length, refl, sym, subst, ◌∙◌, arith}
 use Rattle.first_pass_names.specs.TableEntries.{no_names, names_of}
 use Rattle.first_pass_grammar.proofs.Names.MoreNames.{extends_none, extends_both}
 use Rattle.first_pass_tokens.specs.Braces.{MathBraces}
@@ -6,8 +6,6 @@ use Rattle.first_pass_tokens.specs.LineTokens.{spot}
 use Rattle.first_pass_items.specs.declared.item.Item.{Item}
 use Rattle.first_pass_items.specs.declared.item.HeadingLevel.{HeadingLevel}
 use Rattle.first_pass_tree.specs.Forest.{Forest}
-use Rattle.first_pass_kinds.specs.declared.interrupt.NextLine.{NextLine}
-use Rattle.first_pass_kinds.specs.declared.interrupt.NextLine.TheVariants.{More, NotText}
 use Rattle.first_pass_open.specs.OpenBlock.{with_child}
 use Rattle.first_pass_text.specs.Appends.{AppendsLines}
 use Rattle.first_pass_text.specs.declared.paragraph.TextEnd.{TextEnd}
@@ -27,11 +25,6 @@ ended_by : {d : Document} {start next : ℕ} {old new : Forest Item} {item now :
 ended_by {d} {start} {next} {old} {new} {item} {now} {underline} {end} e is h =
     subst (λ x. AppendsLines d start old new x) (sym (is ∙ ap (end_with next underline) e)) h
 
--- no front is known after one more line of the text
-unknown : (known : Bool) (role : NextLine) (at : ℕ) → role ≡ More at → (known ≡ true → role ≡ NotText) → known ≡ false
-unknown true role at is h = (let not = h refl in cc)
-unknown false role at is h = refl
-
 pub lines-init : goal.lines-init
 lines-init c = record {
   read =
@@ -40,11 +33,10 @@ lines-init c = record {
       (so_far_start d c.args.start c.args.tree.now c.requires.boundary);
   grown = extends_none (names_of c.args.allocs.now);
   entries = refl;
-  none = c.requires.none;
 }
 
-pub scan_next_line-requires-clause-boundary : goal.scan_next_line-requires-clause-boundary
-scan_next_line-requires-clause-boundary c =
+pub scan_next_line-requires : goal.scan_next_line-requires
+scan_next_line-requires c =
     next_boundary (document c.args.source.now.text.now c.args.source.now.options no_names) c.lines.ix c.in_ok-next.next c.lines.braces c.in_ok-next.line_break
     c.in_ok-next.ensures.utf8 c.lines.invariant.read.boundary c.in_ok-next.ensures.ends
 
@@ -86,7 +78,6 @@ lines-preserved c = record {
   grown =
       extends_both (names_of c.append_line.new.self) (names_of c.lines.allocs) (names_of c.args.allocs.now) c.in_ok-next.ensures.names c.lines.invariant.grown;
   entries = c.in_ok-next.ensures.entries ∙ c.lines.invariant.entries;
-  none = unknown _ _ c.in-More.at c.in-More.is c.in_ok-at.ensures.known;
 }
 
 pub returns-in-Underline-clause-lines : goal.returns-in-Underline-clause-lines

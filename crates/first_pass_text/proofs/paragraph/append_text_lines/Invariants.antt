@@ -1,4 +1,4 @@
-use Rattle.std.proofs.Common.{◌≡◌, ◌-◌, false, length}
+use Rattle.std.proofs.Common.{◌≡◌, ◌-◌, length}
 use Rattle.first_pass_names.specs.TableEntries.{entries, names_of}
 use Rattle.first_pass_grammar.specs.Names.{Extends}
 use Rattle.first_pass_tokens.specs.LineTokens.{spot}
@@ -12,7 +12,6 @@ invariant-lines l = record {
   read : LinesSoFar (document l.source.text.now l.source.options (names_of l.allocs)) l.start l.initial.tree l.tree (spot l.ix l.braces);
   grown : Extends (names_of l.allocs) (names_of l.initial.allocs);
   entries : entries l.allocs ≡ entries l.initial.allocs;
-  none : l.next_front.is_known ≡ false;
 }
 
 abbrev pub decreases-lines : goal.decreases-lines
