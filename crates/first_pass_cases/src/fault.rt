@@ -1,5 +1,9 @@
 //! The fault that ends a run over a table of cases before the table's end.
 
+ghost use Rattle.std.specs.Prelude.{◌≡◌};
+ghost use Rattle.first_pass_host.specs.declared.fault.RunFault.TheVariants.{OutOfMemory};
+ghost use Rattle.first_pass_cases.specs.declared.fault.CasesFault.TheVariants.{Run};
+
 use first_pass_host::fault::RunFault;
 use std::alloc::{AllocError, Global};
 
@@ -25,12 +29,16 @@ impl CasesFault {
 }
 
 impl From<AllocError> for CasesFault {
+    ghost from_gives = { λ _ fault. fault ≡ Run OutOfMemory };
+
     fn from(_error: AllocError) -> CasesFault {
         CasesFault::Run(RunFault::OutOfMemory)
     }
 }
 
 impl From<RunFault> for CasesFault {
+    ghost from_gives = { λ reason fault. fault ≡ Run reason };
+
     fn from(fault: RunFault) -> CasesFault {
         CasesFault::Run(fault)
     }

@@ -1,8 +1,9 @@
 //! The table that a program reads, and the report that it writes.
 
 ghost use Rattle.std.specs.Prelude.{◌++◌};
+ghost use Rattle.std.specs.Fn.{FnOnceReturnsAtMut};
 ghost use Rattle.first_pass_host.specs.Streams.{WritesText, stream_between};
-ghost use Rattle.first_pass_cases.specs.Tallies.{tally_line};
+ghost use Rattle.first_pass_cases.specs.Tallies.{ReportsCases, tally_line};
 
 use crate::fault::CasesFault;
 use crate::tally::Tally;
@@ -23,9 +24,27 @@ pub fn read_table(rt: &HostRuntime) -> Result<String, CasesFault> {
     }
 }
 
-/// Writes a report and the line of its tally. Returns `WriteFailed` if a write fails, and `OutOfMemory` if an
-/// allocation fails. After a fault, a beginning of the two may have been written.
-pub fn write_report<W: Write>(
+/// Compares the cases of a table, and then writes the report and the line of the tally. `compare` gets an empty report
+/// and appends to it. If it ends with a fault, nothing is written. Returns the tally, or the fault that ends the
+/// comparison or the writes: the result for `end_with`.
+pub fn compare_and_report<F, E, W>(alloc: Global, output: &mut W, compare: F) -> Result<Tally, E>
+where
+    F: FnOnce(&mut String) -> Result<Tally, E>,
+    E: From<RunFault> + Drop,
+    W: Write,
+    requires { F.IsAlwaysCallable compare }
+    ensures { ReportsCases (FnOnceReturnsAtMut F.FnOnce compare) E.from_gives
+        (stream_between (W.contents output.old) (W.contents output.new)) result }
+{
+    let mut report = String::new(alloc);
+    let tally = compare(&mut report)?;
+    write_report(alloc, report.as_str(), tally, output)?;
+    Ok(tally)
+}
+
+// Writes a report and the line of its tally. Returns `WriteFailed` if a write fails, and `OutOfMemory` if an allocation
+// fails. After a fault, a beginning of the two may have been written.
+fn write_report<W: Write>(
     alloc: Global,
     report: &str,
     tally: Tally,

@@ -1,8 +1,8 @@
 //! The number of cases in a table, and how many of them differ.
 
-ghost use Rattle.std.specs.Prelude.{◌≡◌, ◌==◌, IfOk, OnErr, if◌then◌else◌, string_bytes};
+ghost use Rattle.std.specs.Prelude.{◌≡◌, ◌==◌, IfOk, if◌then◌else◌, string_bytes};
 ghost use Rattle.std.specs.Process.{exit_status};
-ghost use Rattle.first_pass_cases.specs.Tallies.{tally_line};
+ghost use Rattle.first_pass_cases.specs.Tallies.{status_of, tally_line};
 
 use crate::fault::CasesFault;
 use std::alloc::{AllocError, Global};
@@ -52,8 +52,7 @@ pub fn append_place(report: &mut String, line: usize) -> Result<(), AllocError> 
 
 /// Ends a run: writes a fault to standard error and returns status 2, or returns the status of the tally.
 pub fn end_with(rt: &HostRuntime, answer: Result<Tally, CasesFault>) -> ExitCode
-    ensures tally { IfOk answer (λ tally. exit_status result ≡ (if tally.differ == 0 then 0 else 1)) }
-    ensures fault { OnErr answer (exit_status result ≡ 2) }
+    ensures { exit_status result ≡ status_of answer }
 {
     match answer {
         Ok(tally) => ExitCode::from(tally.status()),

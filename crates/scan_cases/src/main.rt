@@ -35,20 +35,12 @@ mod texts;
 mod tokens;
 mod walks;
 
-use first_pass_cases::fault::CasesFault;
-use first_pass_cases::table::write_report;
-use first_pass_cases::tally::{Tally, end_with};
+use first_pass_cases::table::compare_and_report;
+use first_pass_cases::tally::end_with;
 use std::process::ExitCode;
 
-// Compares the cases of the table, and writes the report if no fault comes before its end.
-fn run(rt: &HostRuntime) -> Result<Tally, CasesFault> {
-    let mut report = String::new(rt.alloc());
-    let tally = table::compare(rt, &mut report)?;
-    write_report(rt.alloc(), report.as_str(), tally, &mut rt.stdout())?;
-    Ok(tally)
-}
-
 fn main(rt: HostRuntime) -> ExitCode {
-    let answer = run(&rt);
-    end_with(&rt, answer)
+    let compare = |report: &mut String| table::compare(&rt, report);
+    let result = compare_and_report(rt.alloc(), &mut rt.stdout(), compare);
+    end_with(&rt, result)
 }
