@@ -1,6 +1,5 @@
 -- After each call, each index in the nodes names an entry, if each did before.
-use Rattle.std.proofs.Common.{◌≡◌, inl, inr, ℕ, zero, suc, ◌+◌, ◌-◌, ◌==◌, ◌&&◌, nat_lt, Bool, true, false, if◌then◌else◌, List, [], ◌∷◌, ◌++◌, length}
-use Rattle.std.proofs.Common.{length-append, take, drop, Option, Some, None, IfSome, IsSomeAnd, MatchOption, IsCharBoundary, sym, ap, subst, ◌∙◌, arith}
+use Rattle.std.proofs.Common.{◌≡◌, inl, inr, ℕ, zero, suc, ◌+◌, ◌-◌, ◌==◌, ◌&&◌, nat_lt, Bool, true, false, if◌then◌else◌, List, [], ◌∷◌, ◌++◌, length, length-append, take, drop, Option, Some, None, IfSome, IsSomeAnd, MatchOption, IsCharBoundary, sym, ap, subst, ◌∙◌, arith}
 use Rattle.std.proofs.lemmas.Bool.{cond_both}
 use Rattle.std.proofs.lemmas.Option.{slice_get_within}
 use Rattle.first_pass_items.specs.declared.item.HeadingLevel.{HeadingLevel}
@@ -24,8 +23,7 @@ use Rattle.first_pass_grammar.specs.RawLines.{AreColumns, range_text, range_html
 use Rattle.first_pass_grammar.specs.Tables.{AreCells, row_block, table_so_far, inserted, most_inserted, taking}
 use Rattle.first_pass_grammar.proofs.Each.EachToken.{AreEach, both_each, cell_each, heading_each, line_each, raw_each, range_text_each}
 use Rattle.first_pass_grammar.proofs.Names.MoreNames.{extends_none, extends_named}
-use Rattle.first_pass_grammar.proofs.Names.NamedItems.{HasEntry, IsNamed, block_named, each_named, html_is_free, lines_named, named_both, named_deeper}
-use Rattle.first_pass_grammar.proofs.Names.NamedItems.{named_modified, named_more, text_is_free, tokens_entered}
+use Rattle.first_pass_grammar.proofs.Names.NamedItems.{HasEntry, IsNamed, block_named, each_named, html_is_free, lines_named, named_both, named_deeper, named_modified, named_more, text_is_free, tokens_entered}
 use Rattle.first_pass_grammar.proofs.Each.EachCell.{both_nodes, cells_nodes, nodes_named, row_nodes, rows_nodes}
 use Rattle.first_pass_grammar.proofs.Names.TextsNamed.{given_entry, text_named}
 use Rattle.first_pass_names.specs.TableEntries.{names_of}

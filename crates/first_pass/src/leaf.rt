@@ -26,7 +26,7 @@ impl<'a> FirstPass<'a> {
         ensures { IfOk result (λ next. AddsParagraph self.old self.new start_ix tasklist_marker next) }
     {
         let pass = &mut self.pass;
-        let next = pass.parse_text(start_ix, tasklist_marker)?;
+        let next = pass.parse_text(start_ix, &tasklist_marker)?;
         pass.state.begin_list_item = None;
         Ok(next)
     }

@@ -7,3 +7,4 @@ pub mod RawFits
 pub mod RuleLemmas
 pub mod TextLemmas
 pub mod TextsAre
+pub mod TextsRead

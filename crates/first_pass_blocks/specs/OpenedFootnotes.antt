@@ -17,6 +17,7 @@ use Rattle.first_pass_containers.specs.Positions.{InLine, IsNotBefore}
 use Rattle.first_pass_blocks.specs.Progress.{PassesTo}
 use Rattle.first_pass_blocks.specs.Views.{allocs_of, context_in, front_of, state_of, source_of, source_text, tree_of}
 use Rattle.first_pass_containers.specs.FootnoteHeads.{head_read}
+use Rattle.first_pass_containers.specs.Starts.{FinishesNothing}
 
 -- two passes have the same source, state, names, tables and front of the next line
 abbrev pub StaysSame : BlockPass → BlockPass → Type 0
@@ -50,9 +51,10 @@ ReadsFootnote old new start size =
 abbrev pub NoHead : BlockPass → Place → Type 0
 NoHead pass p = in_table (tree_of pass).nodes (tree_of pass).spine ≡ false → footnote_head_at (context_in pass) p ≡ None
 
--- If a footnote definition begins at a place, it is open. Otherwise nothing changed (this project).
+-- If a footnote definition begins at a place, it is open, and the front is as before. Otherwise nothing changed (this
+-- project).
 abbrev pub TriesFootnote : BlockPass → BlockPass → Place → Place → Bool → Type 0
 TriesFootnote old new p q false = StaysSame old new × (q ≡ p) × NoHead old p
 TriesFootnote old new p q true =
-    IsNotBefore (source_text old) p q × (length q.rest.left < length p.rest.left) × ((state_of new).begin_list_item ≡ None)
+    IsNotBefore (source_text old) p q × (length q.rest.left < length p.rest.left) × (front_of new ≡ front_of old) × FinishesNothing (state_of new)
     × ((line : ℕ) → line ≤ p.line → PassesTo (source_of old) line old new (InLine p) (InLine q))

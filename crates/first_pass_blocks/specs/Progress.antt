@@ -18,14 +18,13 @@ use Rattle.first_pass_order.specs.Ordered.{IsReadFrom}
 use Rattle.first_pass_containers.specs.Positions.{Position, LineAt, InLine, LeafAt, IsInLine, ReadyOn, OrderedOn, GrowsTo, GrowsFrom}
 
 -- A pass over a source came from one position to another, in a line that begins at an offset or after that line. It
--- reads the same text, names are kept, and so is the front of the next line. Under all names that extend the new ones:
+-- reads the same text, and names are kept. Under all names that extend the new ones:
 -- if the state began a derivation at the first position, it begins one at the second. If it was in order, it still is,
 -- and it grew by at most four nodes for each byte. If each index named an entry, each still does. If the entries of the
 -- tables were written in the text, they still are. If each index named an entry, and all tables were whole with no row
 -- open, they still are.
 pub record PassesTo (over : Source) (line : ℕ) (old new : BlockPass) (from to : Position) : Type 0 where
   pub source : source_of new ≡ source_of old
-  pub front : front_of new ≡ front_of old
   pub names : Extends (names_of (allocs_of new)) (names_of (allocs_of old))
   pub ready : (more : Names) → Extends more (names_of (allocs_of new))
       → ReadyOn (document over.text.now over.options more) (tables_of (allocs_of old)) (state_of old) from

@@ -20,13 +20,14 @@ ghost use Rattle.first_pass_containers.specs.Positions.{LineAt, TaskAt, TaggedAt
 ghost use Rattle.first_pass_blocks.specs.Progress.{KnowsNext, ReadsBlock, ReadsEntered, ReadsLeaf};
 ghost use Rattle.first_pass_order.specs.Settled.{AreSettled};
 ghost use Rattle.first_pass_containers.specs.Starts.{IsAfterMarker};
+ghost use Rattle.first_pass_blocks.specs.Titles.{ReadsTextOrTitle};
 ghost use Rattle.first_pass_blocks.specs.Written.{AreFootnotesWritten};
 ghost use Rattle.first_pass_blocks.specs.Views.{allocs_of, front_of, state_of, source_options, source_text, tree_of};
 
 use crate::definition::RunEnd;
 use crate::state::BlockPass;
 use first_pass_containers::containers::{
-    close_containers, enter_known, enter_line, next_line_start, read_blank_lines,
+    begins_no_container, close_containers, enter_known, enter_line, read_blank_lines,
 };
 use first_pass_grammar::AfterMarker;
 use first_pass_items::item::Item;
@@ -107,7 +108,11 @@ impl<'a> BlockPass<'a> {
         let Some(place) = enter_line(&mut self.state, &self.source, start_ix) else {
             return Ok(next_line(self.source.text.as_bytes(), start_ix));
         };
-        let next = self.parse_entered(place)?;
+        if begins_no_container(&place.rest) {
+            let next = self.parse_leaf(place)?;
+            return Ok(next);
+        }
+        let next = self.parse_containers_apart(place)?;
         Ok(next)
     }
 
@@ -126,43 +131,17 @@ impl<'a> BlockPass<'a> {
         else {
             return Ok(next_line(self.source.text.as_bytes(), start_ix));
         };
-        let next = self.parse_entered(place)?;
-        Ok(next)
-    }
-
-    // Opens the containers that begin at a place after the prefixes of the open ones, and reads the block there. No
-    // front may be known. Returns the same as `parse_block`.
-    #[inline(always)]
-    fn parse_entered(&mut self, place: Place<'a>) -> Result<usize, AllocError>
-        requires utf8 { IsUtf8 (source_text self.old) }
-        requires place { IsPlaceOf (source_text self.old) place }
-        requires no_empty { (state_of self.old).begin_list_item ≡ None }
-        requires none { (front_of self.old).is_known ≡ false }
-        ensures block { IfOk result (λ next. ReadsEntered self.old self.new place.entry next) }
-        ensures front { IfOk result (λ next. KnowsNext self.new next) }
-    {
-        let mut place = place;
-        match self.open_containers(&mut place)? {
-            AfterMarker::OnLine => {
-                let next = self.parse_leaf(place)?;
-                Ok(next)
-            }
-            AfterMarker::TaskText(marker) => {
-                let next = self.parse_task_text(place, marker)?;
-                Ok(next)
-            }
-            AfterMarker::LineEnds(_) => Ok(next_line_start(&self.source, &place)),
-            AfterMarker::OnlyTag => {
-                let following = next_line_start(&self.source, &place);
-                let next = self.parse_tagged(following)?;
-                Ok(next)
-            }
+        if begins_no_container(&place.rest) {
+            let next = self.parse_leaf(place)?;
+            return Ok(next);
         }
+        let next = self.parse_containers(place)?;
+        Ok(next)
     }
 
     // Reads the line at `start`, after the tag of the innermost block quote, if it belongs to that quote. Returns the
     // start of the next unread line, like `parse_block`; `start` if the line is read like any other.
-    fn parse_tagged(&mut self, start: usize) -> Result<usize, AllocError>
+    pub(crate) fn parse_tagged(&mut self, start: usize) -> Result<usize, AllocError>
         requires boundary { IsCharBoundary (source_text self.old) start }
         requires no_empty { (state_of self.old).begin_list_item ≡ None }
         requires none { (front_of self.old).is_known ≡ false }
@@ -180,7 +159,11 @@ impl<'a> BlockPass<'a> {
     }
 
     // Reads the paragraph at a place after the marker of a task list item; returns the same as `parse_block`.
-    fn parse_task_text(&mut self, place: Place<'a>, marker: Item) -> Result<usize, AllocError>
+    pub(crate) fn parse_task_text(
+        &mut self,
+        place: Place<'a>,
+        marker: Item,
+    ) -> Result<usize, AllocError>
         requires utf8 { IsUtf8 (source_text self.old) }
         requires place { IsPlaceOf (source_text self.old) place }
         requires after { IsAfterMarker (TaskText marker) (state_of self.old) }
@@ -191,13 +174,34 @@ impl<'a> BlockPass<'a> {
         self.source.recall_length();
         let mut place = place;
         scan_indentation(&mut place.rest);
-        let next = self.parse_text(place.offset(), Some(marker))?;
+        let next = self.parse_text(place.offset(), &Some(marker))?;
         Ok(next)
     }
 
     // Reads the leaf block at a place at which no container begins, or in the line after a block quote's tag; returns
-    // the same as `parse_block`.
-    fn parse_leaf(&mut self, place: Place<'a>) -> Result<usize, AllocError>
+    // the same as `parse_block`. Only a text begins with a letter or a byte beyond ASCII, so most texts need neither a
+    // search for another leaf block nor a call of `parse_leaf_by_kind`.
+    #[inline(always)]
+    pub(crate) fn parse_leaf(&mut self, place: Place<'a>) -> Result<usize, AllocError>
+        requires utf8 { IsUtf8 (source_text self.old) }
+        requires place { IsPlaceOf (source_text self.old) place }
+        requires no_empty { (state_of self.old).begin_list_item ≡ None }
+        requires none { (front_of self.old).is_known ≡ false }
+        ensures block { IfOk result (λ next. ReadsLeaf self.old self.new place.entry next) }
+        ensures front { IfOk result (λ next. KnowsNext self.new next) }
+    {
+        self.source.recall_length();
+        self.state.tree.recall_forest();
+        if place.rest.is_at_plain() {
+            let next = self.parse_text_or_title(place.offset())?;
+            return Ok(next);
+        }
+        let next = self.parse_leaf_by_kind(place)?;
+        Ok(next)
+    }
+
+    // Does the same as `parse_leaf`, but always searches for the kind of the leaf block.
+    pub(crate) fn parse_leaf_by_kind(&mut self, place: Place<'a>) -> Result<usize, AllocError>
         requires utf8 { IsUtf8 (source_text self.old) }
         requires place { IsPlaceOf (source_text self.old) place }
         requires no_empty { (state_of self.old).begin_list_item ≡ None }
@@ -279,15 +283,27 @@ impl<'a> BlockPass<'a> {
                 Ok(next)
             }
             RunEnd::Paragraph(text) => {
-                if self.state.is_after_definition() {
-                    let next = self.parse_possible_title(text)?;
-                    return Ok(next);
-                }
-                self.state.finish_list(text);
-                let next = self.parse_text(text, None)?;
+                let next = self.parse_text_or_title(text)?;
                 Ok(next)
             }
         }
+    }
+
+    // Reads the paragraph, heading or table that begins at the offset `text`; right after a definition, a paragraph may
+    // be the next title of the definition list. Returns the start of the next unread line, or the end of the text.
+    #[inline(always)]
+    fn parse_text_or_title(&mut self, text: usize) -> Result<usize, AllocError>
+        requires { IsCharBoundary (source_text self.old) text }
+        ensures text { IfOk result (λ next. ReadsTextOrTitle self.old self.new text next) }
+        ensures front { IfOk result (λ next. KnowsNext self.new next) }
+    {
+        if self.state.is_after_definition() {
+            let next = self.parse_possible_title(text)?;
+            return Ok(next);
+        }
+        self.state.finish_list(text);
+        let next = self.parse_text(text, &None)?;
+        Ok(next)
     }
 }
 

@@ -71,18 +71,18 @@ impl<'a> BlockPass<'a> {
     pub fn parse_text(
         &mut self,
         start_ix: usize,
-        tasklist_marker: Option<Item>,
+        tasklist_marker: &Option<Item>,
     ) -> Result<usize, AllocError>
         requires boundary { IsCharBoundary (source_text self.old) start_ix }
-        requires marker { IfSome tasklist_marker (λ x. is_text x.body ≡ false) }
+        requires marker { IfSome tasklist_marker.now (λ x. is_text x.body ≡ false) }
         ensures source { source_of self.new ≡ source_of self.old }
         ensures state { state_of self.new ≡ with_tree (state_of self.old) (tree_of self.new) }
         ensures more { OnOk result (NamesMore (allocs_of self.old) (allocs_of self.new)) }
         ensures block { IfOk result (λ next.
             AddsText (document (source_text self.old) (source_options self.old) (names_of (allocs_of self.new)))
-            start_ix tasklist_marker (tree_of self.old) (tree_of self.new) next) }
-        ensures fits { IfOk result (λ next. MarkerIsInItem (tree_of self.old) tasklist_marker → (from : ℕ)
-            → MarkerBetween (source_text self.old) from start_ix tasklist_marker
+            start_ix tasklist_marker.now (tree_of self.old) (tree_of self.new) next) }
+        ensures fits { IfOk result (λ next. MarkerIsInItem (tree_of self.old) tasklist_marker.now → (from : ℕ)
+            → MarkerBetween (source_text self.old) from start_ix tasklist_marker.now
             → AddsBetween (source_text self.old) from next (tree_of self.old) (tree_of self.new)) }
         ensures front { IfOk result (λ next. KnowsNext self.new next) }
     {
@@ -105,7 +105,7 @@ impl<'a> BlockPass<'a> {
                     &mut self.allocs,
                     TextStart {
                         at: start_ix,
-                        marker: tasklist_marker,
+                        marker: *tasklist_marker,
                     },
                     &mut self.next_front,
                 )?;

@@ -45,7 +45,7 @@ impl<'a> BlockPass<'a> {
         ensures front { OnOk result ((front_of self.new).is_known ≡ false) }
     {
         let end = current_end(&self.state.tree);
-        let next = self.parse_text(text, None)?;
+        let next = self.parse_text(text, &None)?;
         // The calls below change the tree, so no front is kept.
         self.next_front.is_known = false;
         self.state.tree.recall_forest();

@@ -2,6 +2,7 @@
 pub mod EmptyItems
 pub mod HeadLemmas
 pub mod Indented
+pub mod JustOpened
 pub mod NoContainer
 pub mod OpenerLemmas
 pub mod StartFound

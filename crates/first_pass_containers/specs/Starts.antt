@@ -15,7 +15,7 @@ use Rattle.first_pass_lines.specs.Rest.{Rest, indent}
 use Rattle.first_pass_grammar.specs.Order.{is_task_marker}
 use Rattle.first_pass_grammar.specs.OpenOrder.{is_in_item}
 use Rattle.first_pass_grammar.specs.Kinds.{all_taken}
-use Rattle.first_pass_lists.specs.Closing.{begun, list_finished, list_continued, definition_begun}
+use Rattle.first_pass_lists.specs.Closing.{top_body, is_list, begun, list_finished, list_continued, definition_begun}
 use Rattle.first_pass_lists.specs.declared.list.ListMarker.{ListMarker}
 use Rattle.first_pass_lists.specs.declared.state.PassState.{PassState}
 use Rattle.first_pass_open.specs.OpenBlock.{with_child}
@@ -96,3 +96,10 @@ pub record BeginsNoContainer (r : Rest) : Type 0 where
   pub inert : begins_inert r.left ≡ true
   pub colon : begins colon r.left ≡ false
   pub bracket : begins left_bracket r.left ≡ false
+
+-- The innermost open node is no list, no item is empty, and no counting blank line is pending, as right after the marker
+-- of a container. A block that begins there ends no list, and is no title (this project).
+pub record FinishesNothing (r : PassState) : Type 0 where
+  pub none : r.begin_list_item ≡ None
+  pub blank : r.blank ≡ false
+  pub plain : is_list (top_body r.tree) ≡ false

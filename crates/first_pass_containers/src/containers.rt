@@ -168,11 +168,13 @@ fn end_old_footnote<'a>(state: &mut PassState, source: &Source<'a>, start_ix: us
 pub fn begins_no_container<'a>(rest: &LineStart<'a>) -> bool
     ensures { result ≡ true → BeginsNoContainer rest.now }
 {
-    rest.is_at_inert() && !begins(b':', rest.left()) && !begins(b'[', rest.left())
+    rest.is_at_plain()
+        || rest.is_at_inert() && !begins(b':', rest.left()) && !begins(b'[', rest.left())
 }
 
 /// Returns whether a `:` may begin a definition here: the options include definition lists, and a definition may follow
 /// the last block (this project).
+#[inline(always)]
 pub fn may_define(source: &Source<'_>, state: &PassState) -> bool
     ensures { result ≡ may_define source.now.options state.now.tree }
 {

@@ -5,7 +5,7 @@ ghost use Rattle.first_pass_lines.specs.Places.{IsPlaceOf};
 ghost use Rattle.first_pass_lines.specs.Rest.{indent, after_columns};
 ghost use Rattle.first_pass_grammar.specs.declared.kind.Container.TheVariants.{BlockQuote};
 ghost use Rattle.first_pass_grammar.specs.Containers.{at_rest, prefix};
-ghost use Rattle.first_pass_grammar.specs.Kinds.{all_taken, item_at, definition_marker_at};
+ghost use Rattle.first_pass_grammar.specs.Kinds.{all_taken, item_at, definition_marker_at, is_blank_rest};
 ghost use Rattle.first_pass_grammar.specs.Openers.{task_after, tag_after, after_quote, start_at};
 ghost use Rattle.first_pass_containers.specs.Starts.{marker_of, item_after, IsIndented, StartMatches};
 
@@ -59,12 +59,10 @@ pub fn start_at<'a>(source: &Source<'a>, place: &mut Place<'a>, may_define: bool
         return None;
     }
     if let Some(marker) = scan_item(&mut place.rest, &mark, columns) {
-        let task = scan_task(source, place);
-        let is_over = scan_blank_line(place.left()).is_some();
         return Some(Start {
             opener: Opener::Item(marker),
             start: before,
-            after: item_after(task, is_over),
+            after: scan_after_item(source, place),
         });
     }
     if let Some(indent) = scan_definition(&mut place.rest, &mark, columns, may_define) {
@@ -151,6 +149,28 @@ fn scan_task<'a>(source: &Source<'a>, place: &mut Place<'a>) -> Option<Item>
         end: place.offset(),
         body: ItemBody::TaskListMarker(checked),
     })
+}
+
+// What follows an item's marker, which ends at a place. Moves the place past a task list item marker, if there is one.
+// Most texts have no task list items: without the option, only a blank rest is sought.
+#[inline(always)]
+fn scan_after_item<'a>(source: &Source<'a>, place: &mut Place<'a>) -> AfterMarker
+    requires utf8 { IsUtf8 source.now.text.now }
+    requires place { IsPlaceOf source.now.text.now place.old }
+    ensures after { let task = task_after source.now.options place.old.line place.old.rest in
+        result ≡ item_after task.0 (is_blank_rest task.1) }
+    ensures place { place.new
+        ≡ at_rest place.old (task_after source.now.options place.old.line place.old.rest).1 }
+{
+    if source.options.contains(Options::ENABLE_TASKLISTS) {
+        let task = scan_task(source, place);
+        let is_over = scan_blank_line(place.left()).is_some();
+        return item_after(task, is_over);
+    }
+    if scan_blank_line(place.left()).is_some() {
+        return AfterMarker::LineEnds(None);
+    }
+    AfterMarker::OnLine
 }
 
 // Reads the list item marker here and returns it, if an item begins. The marker is at `mark`, after `columns` columns

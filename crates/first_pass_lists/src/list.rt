@@ -451,6 +451,7 @@ impl PassState {
     /// list continues, and a counting blank line directly before makes it loose. Otherwise calls `finish_list`, and
     /// opens a list with this byte and the number `index`. Both are at the offset `start`.
     #[tactic(auto, unfolding(crate::specs::Closing::list_continued))]
+    #[inline(always)]
     pub fn continue_list(&mut self, start: usize, ch: u8, index: u64) -> Result<(), AllocError>
         ensures { OnOk result (self.new ≡ list_continued start ch index self.old) }
     {
@@ -501,6 +502,7 @@ impl PassState {
 
     /// Opens the item of a marker at the offset `start`. `continue_list` decides whether it is in the innermost list
     /// or in a new one.
+    #[inline(always)]
     pub fn open_item(&mut self, start: usize, marker: ListMarker) -> Result<(), AllocError>
         ensures { OnOk result (self.new
             ≡ begun start (ListItemBody marker.indent) (list_continued start marker.byte marker.number self.old)) }

@@ -26,7 +26,7 @@ plain_inert : (b : ℕ) → is_plain b ≡ true → is_inert b ≡ true
 unfolding is_plain is_inert
 plain_inert b h = grind (arith, nat_tests, h)
 
-begins_both : (bs : List ℕ) → begins_plain bs ≡ true → begins_inert bs ≡ true
+pub begins_both : (bs : List ℕ) → begins_plain bs ≡ true → begins_inert bs ≡ true
 begins_both [] h = h
 begins_both (b ∷ bs) h = plain_inert b h
 

@@ -215,6 +215,7 @@ impl<'a> LineStart<'a> {
     /// bullet) and the columns that a line needs to continue the item. Returns `None`, and takes nothing, if a column
     /// is owed, no item begins here, or a thematic break is here. CommonMark 5.2.
     #[tactic(auto, unfolding(crate::specs::Markers::item_of))]
+    #[inline(always)]
     pub fn scan_list_marker_with_indent(&mut self, indent: usize) -> Option<(u8, u64, usize)>
         requires { indent ≤ 3 }
         ensures { MatchOption (item_of indent self.old) ((result ≡ None) × (self.new ≡ self.old)) (λ item.
@@ -302,6 +303,7 @@ impl<'a> LineStart<'a> {
 
     // Whether a thematic break is here. Nothing before `rule_free` is scanned again, so a series of markers is
     // scanned once.
+    #[inline(always)]
     fn is_at_rule(&mut self) -> bool
         ensures value { result ≡ is_some (hrule_len self.old.left) }
         ensures same { self.new ≡ self.old }

@@ -1,5 +1,5 @@
 -- A pass read a block, after its first line closed, continued and opened containers.
-use Rattle.std.proofs.Common.{◌≡◌, ℕ, ◌+◌, ◌<◌, ◌≤◌, List, length, drop, IsUtf8, IsCharBoundary, refl, sym, ap, subst, ◌∙◌, arith}
+use Rattle.std.proofs.Common.{◌≡◌, ℕ, ◌+◌, ◌<◌, ◌≤◌, false, List, Some, None, length, drop, IsUtf8, IsCharBoundary, refl, sym, ap, subst, ◌∙◌, arith}
 use Rattle.first_pass_items.specs.declared.item.Item.{Item}
 use Rattle.first_pass_lines.specs.Lines.{line_len}
 use Rattle.first_pass_lines.specs.Places.{Place, offset, line_end, IsPlaceOf}
@@ -13,24 +13,28 @@ use Rattle.first_pass_names.specs.declared.items.Allocations.{Allocations}
 use Rattle.first_pass_names.proofs.NameLemmas.{extends_equal, extends_both}
 use Rattle.first_pass_blocks.specs.Written.{TablesAreWritten}
 use Rattle.first_pass_open.specs.declared.source.Source.{Source}
-use Rattle.first_pass_metadata.specs.MetadataSearch.{IsKnownOf}
-use Rattle.first_pass_kinds.specs.declared.next_front.NextFront.{NextFront}
+use Rattle.first_pass_lists.specs.declared.state.PassState.{PassState}
 use Rattle.first_pass_grammar.specs.declared.kind.AfterMarker.{AfterMarker}
+use Rattle.first_pass_grammar.specs.declared.kind.AfterMarker.TheVariants.{OnLine, TaskText, LineEnds, OnlyTag}
 use Rattle.first_pass_blocks.specs.declared.state.BlockPass.{BlockPass}
-use Rattle.first_pass_containers.specs.Positions.{Position, LineAt, InLine, LeafAt, TaskAt, TaggedAt, IsNotBefore, ReadyOn, GrowsTo, GrowsFrom, ReadsTo, IsInLine}
-use Rattle.first_pass_blocks.specs.Progress.{PassesTo, ReadsBlockOf, ReadsBlock}
-use Rattle.first_pass_containers.specs.Starts.{last_at, IsAfterMarker}
+use Rattle.first_pass_containers.specs.Positions.{Position, LineAt, InLine, LeafAt, TaskAt, TaggedAt, IsNotBefore, ReadyOn, GrowsTo, GrowsFrom, ReadsTo}
+use Rattle.first_pass_containers.specs.Entering.{EntersLine}
+use Rattle.first_pass_kinds.specs.declared.next_front.NextFront.{NextFront}
+use Rattle.first_pass_blocks.specs.OpenedFootnotes.{StaysSame}
+use Rattle.first_pass_blocks.specs.Progress.{PassesTo, ReadsBlockOf, ReadsBlock, ReadsEntered, ReadsLeaf}
+use Rattle.first_pass_containers.specs.Starts.{last_at, BeginsNoContainer}
+use Rattle.first_pass_containers.proofs.Openings.NoContainer.{only_leaf}
+use Rattle.first_pass_containers.proofs.Openings.StartLemmas.{reads_none}
 use Rattle.first_pass_blocks.specs.Views.{allocs_of, front_of, state_of, source_of, source_text, tree_of}
 use Rattle.first_pass_containers.proofs.Order.OrderSteps.{line_later, place_before_end}
 
 -- a step of the state is a step of the pass
 pub passes_state : (over : Source) (line : ℕ) (old new : BlockPass) (p q : Position) → source_of new ≡ source_of old → allocs_of new ≡ allocs_of old
-    → front_of new ≡ front_of old → ReadsTo over line (state_of old) (state_of new) p q → PassesTo over line old new p q
-passes_state over line old new p q source same front step =
+    → ReadsTo over line (state_of old) (state_of new) p q → PassesTo over line old new p q
+passes_state over line old new p q source same step =
     let names = names_of (allocs_of old) in
     record {
       source = source;
-      front = front;
       names = extends_equal _ _ (ap names_of same);
       ready = λ more extends ready.
           subst (λ (z : Allocations). ReadyOn (document over.text.now over.options more) (tables_of z) (state_of new) q) (sym same)
@@ -47,7 +51,6 @@ pub passes_both : (over : Source) (line : ℕ) (a b c : BlockPass) (p q t : Posi
     → PassesTo over line a c p t
 passes_both over line a b c p q t one two = record {
   source = two.source ∙ one.source;
-  front = two.front ∙ one.front;
   names = extends_both (names_of (allocs_of c)) (names_of (allocs_of b)) (names_of (allocs_of a)) two.names one.names;
   ready = λ more extends h. two.ready more extends
       (one.ready more (extends_both more (names_of (allocs_of c)) (names_of (allocs_of b)) extends two.names) h);
@@ -58,61 +61,6 @@ passes_both over line a b c p q t one two = record {
   tables = λ h k. two.tables (one.named h) (one.tables h k);
 }
 
--- the position of reading after the containers that begin in a line, or where they continue, are open
-pub record IsOpenedFrom (over : Source) (start : ℕ) (old new : BlockPass) (q : Place) (after : AfterMarker) : Type 0 where
-  pub place : IsPlaceOf over.text.now q
-  pub begins : start ≤ offset q
-  pub ends : start + line_len (drop start over.text.now) ≤ line_end q
-  pub is_after : IsAfterMarker after (state_of new)
-  pub steps : PassesTo over start old new (LineAt start) (last_at q (line_end q) after)
-
--- the line is entered at a place, and the containers that begin in it are open
-pub opened_line : (start : ℕ) (old mid new : BlockPass) (p q : Place) (after : AfterMarker)
-    → IsInLine (source_text old) start (start + line_len (drop start (source_text old))) p → PassesTo (source_of old) start old mid (LineAt start) (InLine p)
-    → IsNotBefore (source_text old) p q → IsAfterMarker after (state_of new)
-    → PassesTo (source_of old) p.line mid new (InLine p) (last_at q (line_end q) after) → IsOpenedFrom (source_of old) start old new q after
-opened_line start old mid new p q after here first from kept opens =
-    let over : Source = source_of old in
-    let line = here.1 in
-    let stop = here.2 in
-    let low = from.2 in
-    let far = from.3 in
-    record {
-      place = from.0;
-      begins = omega (arith, line, low);
-      ends = omega (arith, stop, far);
-      is_after = kept;
-      steps = passes_both over start old mid new (LineAt start) (InLine p) (last_at q (line_end q) after) first
-          (subst (λ (l : ℕ). PassesTo over l mid new (InLine p) (last_at q (line_end q) after)) line opens);
-    }
-
--- the same, where the state between is that of another pass over the same text
-pub opened_entered : (start : ℕ) (first old mid : BlockPass) (p q : Place) (after : AfterMarker)
-    → IsInLine (source_text first) start (start + line_len (drop start (source_text first))) p
-    → PassesTo (source_of first) start first old (LineAt start) (InLine p)
-    → IsNotBefore (source_text old) p q → IsAfterMarker after (state_of mid)
-    → PassesTo (source_of old) p.line old mid (InLine p) (last_at q (line_end q) after) → IsOpenedFrom (source_of first) start first mid q after
-opened_entered start first old mid p q after here steps from kept opens =
-    opened_line start first old mid p q after here steps (subst (λ (z : Source). IsNotBefore z.text.now p q) steps.source from) kept
-    (subst (λ (z : Source). PassesTo z p.line old mid (InLine p) (last_at q (line_end q) after)) steps.source opens)
-
--- what a pass read does not depend on the front that it knew before
-pub front_forgotten : (over : Source) (old new : BlockPass) (front : NextFront) (known : IsKnownOf (source_text old) old.metadata_ends)
-    → (far : ℕ) (from : Position) (next : ℕ) → ReadsBlockOf over (record old { next_front = front; known = known }) new far from next
-    → ReadsBlockOf over old new far from next
-front_forgotten over old new front known far from next r = record {
-  source = r.source;
-  names = r.names;
-  later = r.later;
-  boundary = r.boundary;
-  ready = r.ready;
-  order = r.order;
-  node_bound = r.node_bound;
-  named = r.named;
-  written = r.written;
-  tables = r.tables;
-}
-
 -- a position is between two offsets
 abbrev pub IsBetween : ℕ → ℕ → Position → Type 0
 IsBetween low high (LineAt n) = (low ≤ n) × (n ≤ high)
@@ -121,9 +69,13 @@ IsBetween low high (LeafAt p) = (low ≤ offset p) × (offset p ≤ high)
 IsBetween low high (TaskAt p marker) = (low ≤ offset p) × (offset p ≤ high)
 IsBetween low high (TaggedAt n) = (low ≤ n) × (n ≤ high)
 
--- a place in a line that reading passes
-pub place_between : (start next : ℕ) (p : Place) → start ≤ offset p → line_end p ≤ next → (start ≤ offset p) × (offset p ≤ next)
-place_between start next p begins later = let before = place_before_end p in (begins, omega arith)
+-- so is the position after a marker in a line that reading passes
+last_between : (start next : ℕ) (q : Place) (after : AfterMarker) → start ≤ offset q → line_end q ≤ next
+    → IsBetween start next (last_at q (line_end q) after)
+last_between start next q OnLine low high = let before = place_before_end q in (low, omega arith)
+last_between start next q (TaskText marker) low high = let before = place_before_end q in (low, omega arith)
+last_between start next q (LineEnds marker) low high = let before = place_before_end q in (omega arith, high)
+last_between start next q OnlyTag low high = let before = place_before_end q in (omega arith, high)
 
 grows_both : (text : List ℕ) (line next : ℕ) (a b c : List (ℕ × Item)) (at : Position)
     → IsBetween line next at → GrowsTo text line a b at → GrowsFrom text at next b c → GrowsBy line next a c
@@ -157,6 +109,91 @@ block_read over old middle new start far next at steps r between later = record 
   tables = λ h k. r.tables (steps.named h) (steps.tables h k);
 }
 
+-- the containers that begin at a place are open, and the block after the last marker is read
+pub entered_read : (old mid new : BlockPass) (p q : Place) (after : AfterMarker) (next : ℕ) → IsNotBefore (source_text old) p q
+    → PassesTo (source_of old) p.line old mid (InLine p) (last_at q (line_end q) after)
+    → ReadsBlock mid new (line_end q) (last_at q (line_end q) after) next → ReadsEntered old new p next
+entered_read old mid new p q after next from opens read = λ first start within line steps.
+    let over : Source = source_of first in
+    let at : Position = last_at q (line_end q) after in
+    let on = line.1 in
+    let stop = line.2 in
+    let low = from.2 in
+    let far = from.3 in
+    let there = passes_both over start first old mid (LineAt start) (InLine p) at steps
+    (subst (λ (l : ℕ). PassesTo over l old mid (InLine p) at) on
+    (subst (λ (z : Source). PassesTo z p.line old mid (InLine p) at) steps.source opens)) in
+    let r = subst (λ (z : Source). ReadsBlockOf z mid new (line_end q) at next) there.source read in
+    let later = r.later in
+    block_read over first mid new start (line_end q) next at there r (last_between start next q after (omega (arith, on, low)) later)
+    (line_later over.text.now start _ next within refl (omega (arith, stop, far, later)) r.boundary).0
+
+-- A pass came from a place to a later one, or to the same. No item is empty, and no front is known.
+pub record ReachesPlace (first : Place) (old mid : BlockPass) (p : Place) : Type 0 where
+  pub no_empty : (state_of mid).begin_list_item ≡ None
+  pub none : (front_of mid).is_known ≡ false
+  pub here : IsNotBefore (source_text old) first p
+  pub opened : PassesTo (source_of old) first.line old mid (InLine first) (InLine p)
+
+-- the place is one of the text that the pass reads
+pub place_reached : (first : Place) (old mid : BlockPass) (p : Place) → IsUtf8 (source_text old) → ReachesPlace first old mid p
+    → IsUtf8 (source_text mid) × IsPlaceOf (source_text mid) p
+place_reached first old mid p utf8 r =
+    subst (λ (z : Source). IsUtf8 z.text.now × IsPlaceOf z.text.now p) (sym r.opened.source) (utf8, r.here.0)
+
+pub reached_start : (old : BlockPass) (p : Place) → (state_of old).begin_list_item ≡ None → (front_of old).is_known ≡ false → IsPlaceOf (source_text old) p
+    → ReachesPlace p old old p
+reached_start old p no_empty none place = record {
+  no_empty = no_empty;
+  none = none;
+  here = (place, omega arith, omega arith, omega arith);
+  opened = passes_state (source_of old) p.line old old (InLine p) (InLine p) refl refl (reads_none (source_of old) p.line (state_of old) (InLine p));
+}
+
+-- the same after a call that changed nothing
+pub reached_still : (first : Place) (old mid new : BlockPass) (p : Place) → StaysSame mid new → ReachesPlace first old mid p → ReachesPlace first old new p
+reached_still first old mid new p same r =
+    let over : Source = source_of old in
+    let kept = subst (λ (s : PassState). ReadsTo over first.line (state_of mid) s (InLine p) (InLine p)) (sym same.1)
+    (reads_none over first.line (state_of mid) (InLine p)) in
+    record {
+      no_empty = ap (λ (s : PassState). s.begin_list_item) same.1 ∙ r.no_empty;
+      none = ap (λ (f : NextFront). f.is_known) same.3 ∙ r.none;
+      here = r.here;
+      opened = passes_both over first.line old mid new (InLine first) (InLine p) (InLine p) r.opened
+          (passes_state over first.line mid new (InLine p) (InLine p) same.0 same.2 kept);
+    }
+
+-- no container begins at such a place, and the leaf block there is read
+pub leaf_reached : (first : Place) (old mid new : BlockPass) (p : Place) (next : ℕ) → ReachesPlace first old mid p
+    → ReadsTo (source_of old) first.line (state_of mid) (state_of mid) (InLine p) (LeafAt p) → ReadsLeaf mid new p next → ReadsEntered old new first next
+leaf_reached first old mid new p next r leaf = entered_read old mid new first p OnLine next r.here
+    (passes_both (source_of old) first.line old mid mid (InLine first) (InLine p) (LeafAt p) r.opened
+    (passes_state (source_of old) first.line mid mid (InLine p) (LeafAt p) refl refl leaf))
+
+-- a pass entered a line at a place, and knows no front
+pub record IsEntered (old mid : BlockPass) (start : ℕ) (p : Place) : Type 0 where
+  pub within : start < length (source_text old)
+  pub source : source_of mid ≡ source_of old
+  pub same : allocs_of mid ≡ allocs_of old
+  pub none : (front_of mid).is_known ≡ false
+  pub enters : EntersLine (source_of old) (state_of old) (state_of mid) start (Some p)
+
+-- and the block there is read
+pub line_read : (old mid new : BlockPass) (start next : ℕ) (p : Place) → IsEntered old mid start p → ReadsEntered mid new p next
+    → ReadsBlock old new (1 + start) (LineAt start) next
+line_read old mid new start next p here read =
+    read old start here.within here.enters.0
+    (passes_state (source_of old) start old mid (LineAt start) (InLine p) here.source here.same here.enters.2)
+
+-- the same where no container begins
+pub line_leaf_read : (old mid new : BlockPass) (start next : ℕ) (p : Place) → IsEntered old mid start p → BeginsNoContainer p.rest
+    → ReadsLeaf mid new p next → ReadsBlock old new (1 + start) (LineAt start) next
+line_leaf_read old mid new start next p here bare read =
+    let place = subst (λ (z : Source). IsPlaceOf z.text.now p) (sym here.source) here.enters.0.0 in
+    line_read old mid new start next p here (leaf_reached p mid mid new p next (reached_start mid p here.enters.1 here.none place)
+    (only_leaf (source_of mid) (state_of mid) p p.line bare) read)
+
 -- nothing follows the marker in its line
 pub line_ended : (over : Source) (old new : BlockPass) (start far next : ℕ) → PassesTo over start old new (LineAt start) (LineAt next)
     → IsCharBoundary over.text.now next → far ≤ next → start ≤ next → ReadsBlockOf over old new far (LineAt start) next
@@ -177,14 +214,14 @@ line_ended over old new start far next steps boundary later on =
 
 -- a line that is read as a whole
 pub line_passed : (old new : BlockPass) (start next : ℕ) → IsUtf8 (source_text old) → start < length (source_text old) → IsCharBoundary (source_text old) start
-    → source_of new ≡ source_of old → allocs_of new ≡ allocs_of old → front_of new ≡ front_of old → next ≡ start + line_len (drop start (source_text old))
+    → source_of new ≡ source_of old → allocs_of new ≡ allocs_of old → next ≡ start + line_len (drop start (source_text old))
     → ReadsTo (source_of old) start (state_of old) (state_of new) (LineAt start) (LineAt (start + line_len (drop start (source_text old))))
     → ReadsBlock old new (1 + start) (LineAt start) next
-line_passed old new start next u within begins source same front next_is step =
+line_passed old new start next u within begins source same next_is step =
     let text = source_text old in
     let e : ℕ = start + line_len (drop start text) in
     let boundary = subst (IsCharBoundary text) (sym next_is) (line_end_boundary text start u begins within) in
     let later = (line_later text start e next within refl (omega arith) boundary).0 in
     line_ended (source_of old) old new start (1 + start) next
     (subst (λ (n : ℕ). PassesTo (source_of old) start old new (LineAt start) (LineAt n)) (sym next_is)
-    (passes_state (source_of old) start old new (LineAt start) (LineAt e) source same front step)) boundary (omega arith) (omega arith)
+    (passes_state (source_of old) start old new (LineAt start) (LineAt e) source same step)) boundary (omega arith) (omega arith)

@@ -61,4 +61,4 @@ pub lines_more : (text : List ℕ) (options : Options) (pass : BlockPass) (ix ne
 lines_more text options pass ix next i later boundary e =
     block_more text options pass pass ix ix next i
     (line_ended (source_of pass) pass pass ix ix next
-    (passes_state (source_of pass) ix pass pass (LineAt ix) (LineAt next) refl refl refl e) boundary later later) later
+    (passes_state (source_of pass) ix pass pass (LineAt ix) (LineAt next) refl refl e) boundary later later) later

@@ -3,7 +3,8 @@ use Rattle.std.proofs.Common.{◌≡◌, inl, inr, ℕ, ◌+◌, ◌-◌, ◌<�
 use Rattle.std.proofs.Common.{length, drop, slice_index, Some, None, IsUtf8, IsCharBoundary, refl, sym, ap, subst, ◌∙◌, arith, append_assoc, append-nil}
 use Rattle.std.specs.Option.{option_map}
 use Rattle.std.proofs.lemmas.Bool.{cases_lt}
-use Rattle.first_pass_lines.specs.Lines.{is_line_end, line_len}
+use Rattle.first_pass_items.specs.Bytes.{left_bracket}
+use Rattle.first_pass_lines.specs.Lines.{begins, is_line_end, line_len}
 use Rattle.first_pass_lines.specs.Places.{Place, offset, line_place, place_at, line_rest, line_end, IsPlaceOf}
 use Rattle.first_pass_lines.proofs.LineFacts.{line_len-within, lines_at-line, lines_at-end}
 use Rattle.first_pass_open.proofs.PlaceLemmas.{text_place}
@@ -16,6 +17,7 @@ use Rattle.first_pass_grammar.specs.LinkRuns.{entry_of, link_definition_at, line
 use Rattle.first_pass_grammar.specs.Derivation.{Tables, with_definitions}
 use Rattle.first_pass_grammar.specs.Completion.{lines_from}
 use Rattle.first_pass_completion.proofs.Extending.{told-append}
+use Rattle.first_pass_definitions.proofs.Targets.{no_bracket}
 use Rattle.first_pass_blocks.specs.declared.definition.RunEnd.TheVariants.{NextLine, Paragraph}
 use Rattle.first_pass_blocks.specs.Runs.{ReadsRun}
 use Rattle.first_pass_containers.proofs.LinesBeyond.{lines_after_it}
@@ -172,3 +174,12 @@ run_flows text around nested p q at before now here none r = record {
   run = λ plain. subst (λ z. IsRun around p (lines_from text (line_end p)) z (FlowsOn q (lines_from text (line_end q)))) (append-nil r.definitions)
       (r.continues plain [] (FlowsOn q (lines_from text (line_end q))) (none plain, refl));
 }
+
+-- No definition begins without a `[`.
+pub run_is_empty : (text : List ℕ) (around : Context) (nested : Bool) (p : Place) (at : ℕ) (tables : Tables) → IsPlaceOf text p → at ≡ offset p
+    → begins left_bracket (drop at text) ≡ false → ReadsRun text around nested p tables tables (Paragraph at)
+run_is_empty text around nested p at tables i is other =
+    run_flows text around nested p p at tables tables is
+    (λ plain. defined_none text around p i
+    (ap (λ (n : ℕ). reference_definition_at false around (drop n text)) (sym is) ∙ no_bracket false around (drop at text) other))
+    (run_begun text around nested p tables i)

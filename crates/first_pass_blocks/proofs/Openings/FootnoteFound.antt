@@ -16,7 +16,8 @@ use Rattle.first_pass_containers.specs.FootnoteHeads.{footnote_mark_at, head_rea
 use Rattle.first_pass_blocks.specs.OpenedFootnotes.{OpenedFootnote, TriesFootnote}
 use Rattle.first_pass_blocks.specs.Views.{context_in, front_of, source_of, source_text, state_of, tree_of}
 use Rattle.first_pass_containers.proofs.Openings.HeadLemmas.{head_after_is, head_at_mark, line_after}
-use Rattle.first_pass_lists.proofs.NoEmptyItem.{footnote_begun_none}
+use Rattle.first_pass_containers.specs.Starts.{FinishesNothing}
+use Rattle.first_pass_containers.proofs.Openings.JustOpened.{footnote_just_opened}
 use Rattle.first_pass_blocks.proofs.Openings.FootnoteSteps.{passes_note}
 use Rattle.first_pass_containers.proofs.Order.OrderSteps.{unindented_later}
 use Rattle.first_pass_containers.proofs.StateAt.{IsStateAtPlace}
@@ -73,8 +74,9 @@ footnote_opened old new p q start n head is_at kept found read following =
     let far = line_after text (offset p) e (omega arith) in (
       (following.place, omega arith, omega arith, omega arith),
       omega arith,
-      ap (λ r. r.begin_list_item) read.1.opened ∙ footnote_begun_none start read.1.index (state_of old),
-      passes_note old new p q head is_at kept.0 kept.1 opens
+      kept.1,
+      subst FinishesNothing (sym read.1.opened) (footnote_just_opened start read.1.index (state_of old)),
+      passes_note old new p q head is_at kept.0 opens
           (λ no_table. m.1 ∙ ap (λ (t : Bool). footnote_at t around (drop start text)) (sym no_table) ∙ found.here)
           (record { around = around; nested = nested; here = ap (λ (k : ℕ). footnote_at nested around (drop k text)) here ∙ found.here })
           following.place (omega arith)

@@ -1,6 +1,5 @@
 -- A pass opened the footnote definition that begins at a place.
 use Rattle.std.proofs.Common.{drop, Some, ◌≡◌, ℕ, ◌+◌, ◌<◌, ◌≤◌, false, List, [], ◌∷◌, length, IsCharBoundary, sym, ap, subst, ◌∙◌, arith, length-append}
-use Rattle.first_pass_items.specs.declared.item.ItemBody.TheVariants.{FootnoteDefinition as FootnoteDefinitionBody}
 use Rattle.first_pass_items.specs.CowText.{text_of}
 use Rattle.first_pass_tree.specs.Forest.{in_table}
 use Rattle.first_pass_lines.specs.Places.{Place, offset, line_end, IsPlaceOf}
@@ -19,17 +18,18 @@ use Rattle.first_pass_names.specs.TableEntries.{tables_of, names_of}
 use Rattle.first_pass_names.proofs.NameLemmas.{extends_named, text_last}
 use Rattle.first_pass_open.specs.Path.{context_of}
 use Rattle.first_pass_open.proofs.PlaceLemmas.{all_keep}
-use Rattle.first_pass_lists.specs.Closing.{top_body, is_list, empty_item_closed, list_closed, footnote_left, gap_marked, footnote_begun}
+use Rattle.first_pass_lists.specs.Closing.{footnote_begun}
 use Rattle.first_pass_lists.specs.declared.state.PassState.{PassState}
 use Rattle.first_pass_blocks.specs.declared.state.BlockPass.{BlockPass}
 use Rattle.first_pass_ready.specs.State.{ReadyAt}
 use Rattle.first_pass_containers.specs.Positions.{line_or, OrderedUpTo, OrderedIn, InLine}
 use Rattle.first_pass_blocks.specs.Progress.{PassesTo}
 use Rattle.first_pass_blocks.specs.OpenedFootnotes.{OpenedFootnote}
-use Rattle.first_pass_blocks.specs.Views.{allocs_of, front_of, state_of, source_of, source_text, tree_of}
+use Rattle.first_pass_blocks.specs.Views.{allocs_of, state_of, source_of, source_text, tree_of}
 use Rattle.first_pass_blocks.proofs.LinkDefinitions.WrittenLemmas.{footnote_written, HeadAt}
 use Rattle.first_pass_ready.proofs.FootnoteLemmas.{after_note, note_is_open}
-use Rattle.first_pass_containers.proofs.Order.OrderSteps.{line_or-below, ordered_on, ordered_note_in, top_begun, unindented_later}
+use Rattle.first_pass_containers.proofs.Order.OrderSteps.{line_or-below, ordered_on, ordered_note_in, unindented_later}
+use Rattle.first_pass_containers.proofs.Openings.JustOpened.{footnote_just_opened}
 use Rattle.first_pass_order.proofs.CountLemmas.{note_count}
 use Rattle.first_pass_order.proofs.NamedLemmas.{note_named}
 use Rattle.first_pass_order.proofs.WholeKept.{note_whole, more_whole}
@@ -37,7 +37,7 @@ use Rattle.first_pass_ready.proofs.BegunLemmas.{no_table}
 use Rattle.first_pass_containers.proofs.StateAt.{IsStateAtPlace}
 
 module _ (old new : BlockPass) (p q : Place) (head : ℕ × List ℕ) (is_at : IsStateAtPlace (source_text old) (state_of old) p)
-    (same : source_of new ≡ source_of old) (front : front_of new ≡ front_of old)
+    (same : source_of new ≡ source_of old)
     (opened : OpenedFootnote (offset (unindented p)) head old new)
     (begins : in_table (tree_of old).nodes (tree_of old).spine ≡ false → footnote_head_at (context_of (source_of old).options (tree_of old)) p ≡ Some head)
     (written : HeadAt (source_text old) (offset (unindented p)) head)
@@ -95,12 +95,6 @@ module _ (old new : BlockPass) (p q : Place) (head : ℕ × List ℕ) (is_at : I
       let told' = subst (λ (z : Tables). ReadyAt d z now.tree now.blank (Inside q) (lines_from text (line_end q))) (sym opened.added) moved in
       subst (λ (z : PassState). ReadyAt d (tables_of (allocs_of new)) z.tree z.blank (Inside q) (lines_from text (line_end q))) (sym opened.opened) told'
 
-  top : is_list (top_body (footnote_begun start opened.index (state_of old)).tree) ≡ false
-  unfolding footnote_begun
-  top =
-      ap is_list (top_begun start (FootnoteDefinitionBody opened.index)
-      (gap_marked (footnote_left start (list_closed start (empty_item_closed (state_of old))))))
-
   order_then : OrderedIn text (tree_of old) p → IsCharBoundary text q.line → OrderedIn text (tree_of new) q
   order_then ordered boundary =
       let a : ℕ = line_or (tree_of old) p.line (offset p) in
@@ -110,13 +104,13 @@ module _ (old new : BlockPass) (p q : Place) (head : ℕ × List ℕ) (is_at : I
       let further : start ≤ offset q = (let l = later in omega arith) in (
         boundary,
         subst (λ (z : PassState). OrderedUpTo text z.tree (line_or z.tree q.line (offset q))) (sym opened.opened)
-            (ordered_on text (footnote_begun start opened.index (state_of old)).tree q.line start (offset q) top further place.within now),
+            (ordered_on text (footnote_begun start opened.index (state_of old)).tree q.line start (offset q)
+            (footnote_just_opened start opened.index (state_of old)).plain further place.within now),
       )
 
   pub passes_note : IsCharBoundary text q.line → (line : ℕ) → line ≤ p.line → PassesTo (source_of old) line old new (InLine p) (InLine q)
   passes_note boundary line under = record {
     source = same;
-    front = front;
     names = more_names;
     ready = λ more extends ready. ready_then more extends ready;
     order = λ ordered. order_then ordered boundary;

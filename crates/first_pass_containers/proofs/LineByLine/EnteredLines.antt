@@ -32,7 +32,7 @@ pub path_added : (options : Options) (f : Forest Item) (items : List (ℕ × Ite
 path_added options f items forest = path_in-append options f.nodes (at_depth (length f.spine + 1) items) f.spine (open_are_in f.nodes f.spine forest.opened)
 
 -- a new block leaves no counting blank line
-noted_blank : (r : PassState) (t : Bool) → r.blank ≡ t → (gap_marked r).blank ≡ false
+pub noted_blank : (r : PassState) (t : Bool) → r.blank ≡ t → (gap_marked r).blank ≡ false
 noted_blank r true is = rw is refl
 noted_blank r false is = rw is refl
 

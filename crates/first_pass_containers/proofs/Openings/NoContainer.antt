@@ -5,11 +5,12 @@ use Rattle.first_pass_items.specs.Bytes.{colon, left_bracket}
 use Rattle.first_pass_items.specs.OptionWords.{has, footnotes}
 use Rattle.first_pass_items.specs.declared.option_set.Options.{Options}
 use Rattle.first_pass_lines.specs.Lines.{begins}
+use Rattle.first_pass_lines.specs.Plain.{is_plain, begins_plain}
 use Rattle.first_pass_lines.specs.Rest.{Rest, indent}
 use Rattle.first_pass_lines.specs.Places.{Place, offset}
 use Rattle.first_pass_links.specs.Footnotes.{begins_footnote_mark}
 use Rattle.first_pass_scan.specs.Markers.{definition_of}
-use Rattle.first_pass_scan.proofs.PlainFacts.{inert_indent}
+use Rattle.first_pass_scan.proofs.PlainFacts.{begins_both, plain_begins, inert_indent}
 use Rattle.first_pass_grammar.specs.Containers.{Context}
 use Rattle.first_pass_grammar.specs.Footnotes.{footnote_head_at}
 use Rattle.first_pass_grammar.specs.Kinds.{all_taken, unindented, definition_marker_at}
@@ -21,6 +22,16 @@ use Rattle.first_pass_lists.specs.declared.state.PassState.{PassState}
 use Rattle.first_pass_containers.specs.Positions.{InLine, LeafAt, ReadsTo}
 use Rattle.first_pass_containers.specs.Starts.{BeginsNoContainer}
 use Rattle.first_pass_containers.proofs.Openings.HeadLemmas.{no_mark}
+
+-- no container begins with a plain byte
+pub plain_begins_none : (r : Rest) → r.owed ≡ 0 → begins_plain r.left ≡ true → BeginsNoContainer r
+unfolding is_plain
+plain_begins_none r owed plain = record {
+  owed = owed;
+  inert = begins_both r.left plain;
+  colon = plain_begins colon r.left plain refl;
+  bracket = plain_begins left_bracket r.left plain refl;
+}
 
 -- no footnote definition begins without a `[`
 no_bracket : (r q : Rest) → q ≡ r → begins left_bracket r.left ≡ false → begins_footnote_mark q.left ≡ false

@@ -70,11 +70,11 @@ kept_none : (t : Bool) (q : PassState) → q.begin_list_item ≡ None
 kept_none true q none = none
 kept_none false q none = none
 
-definition_none : (start columns : ℕ) (r : PassState) → r.begin_list_item ≡ None → (definition_begun start columns r).begin_list_item ≡ None
+pub definition_none : (start columns : ℕ) (r : PassState) → r.begin_list_item ≡ None → (definition_begun start columns r).begin_list_item ≡ None
 unfolding definition_begun
 definition_none start columns r none = kept_none r.blank (with_tree r (definitions_opened r.tree r.tree.current)) none
 
-definition_top : (start columns : ℕ) (r : PassState) → top_body (definition_begun start columns r).tree ≡ Some (DefinitionListDefinition columns)
+pub definition_top : (start columns : ℕ) (r : PassState) → top_body (definition_begun start columns r).tree ≡ Some (DefinitionListDefinition columns)
 unfolding definition_begun
 definition_top start columns r = top_begun start (DefinitionListDefinition columns) (list_kept (with_tree r (definitions_opened r.tree r.tree.current)))
 

@@ -5,7 +5,7 @@ use Rattle.first_pass_lines.specs.Lines.{blank_len}
 use Rattle.first_pass_lines.specs.Rest.{Rest}
 use Rattle.first_pass_lines.specs.Places.{Place, place_at, offset}
 use Rattle.first_pass_grammar.specs.Containers.{prefix}
-use Rattle.first_pass_grammar.specs.Kinds.{item_at, definition_marker_at, is_blank_rest, quote_start}
+use Rattle.first_pass_grammar.specs.Kinds.{item_at, definition_marker_at, quote_start}
 use Rattle.first_pass_grammar.specs.Openers.{Start as ContainerStart, item_start, definition_start, quote_begun, task_after, tag_after, after_quote}
 use Rattle.first_pass_grammar.specs.declared.kind.Container.TheVariants.{BlockQuote}
 use Rattle.first_pass_grammar.proofs.Sequences.OpenerFacts.{marker_where, start_item, start_definition, start_quote, start_none}
@@ -66,10 +66,10 @@ taken : (c : In-Some)
     → item_at c.place.inside.rest ≡ Some ((c.in-Some.marker.byte, c.in-Some.marker.number, c.in-Some.marker.indent), c.scan_item.new.line_start)
 taken c = item_found _ c.scan_item.result c.in-Some.marker c.place.inside.rest c.scan_item.new.line_start c.in-Some.is c.scan_item.ensures
 
-pub scan_task-task-requires-clause-place : goal.scan_task-task-requires-clause-place
-scan_task-task-requires-clause-place c =
+pub scan_after_item-requires-clause-place : goal.scan_after_item-requires-clause-place
+scan_after_item-requires-clause-place c =
     (item_keeps c.args.source.now.text.now c.place.inside.line c.place.inside.rest _ c.requires.utf8
-    (taken (goal.at.scan_task-task-requires-clause-place c).In-Some) (same_place _ _ _ c.place.view_is c.requires.place)).0
+    (taken (goal.at.scan_after_item-requires-clause-place c).In-Some) (same_place _ _ _ c.place.view_is c.requires.place)).0
 
 pub returns-in-Some : goal.returns-in-Some
 returns-in-Some c =
@@ -78,18 +78,14 @@ returns-in-Some c =
     let marker = c.in-Some.marker in
     let task : Option Item × Rest = task_after options c.place.inside.line c.scan_item.new.line_start in
     let start : ℕ → AfterMarker → Option Start = λ n after. Some (record { opener = ItemOpener marker; start = n; after = after }) in
-    let over : c.is_some-is_over.result ≡ is_blank_rest task.1 =
-    c.is_some-is_over.ensures ∙ ap is_some c.scan_blank_line.ensures.value
-    ∙ ap (λ (bs : List ℕ). is_some (blank_len bs)) (c.left.ensures ∙ ap (λ (q : Place). q.rest.left) c.scan_task-task.ensures.place) in
-    let after : c.item_after.result ≡ item_after task.0 (is_blank_rest task.1) =
-    c.item_after.ensures ∙ ap (λ (m : Option Item). item_after m c.is_some-is_over.result) c.scan_task-task.ensures.marker ∙ ap (item_after task.0) over in
     rw (← c.place.view_is) (matches _ _ _ _
     (start_item options c.args.may_define p ((marker.byte, marker.number, marker.indent), c.scan_item.new.line_start)
     (taken (goal.at.returns-in-Some c).In-Some)) (
       tells (item_start p (marker.byte, marker.number, marker.indent) task) _ _
-          (ap (λ (n : ℕ). start n c.item_after.result) (c.offset-before.ensures ∙ ap offset (sym c.place.view_is)) ∙ ap (start (offset p)) after)
+          (ap (λ (n : ℕ). start n c.scan_after_item.result) (c.offset-before.ensures ∙ ap offset (sym c.place.view_is))
+          ∙ ap (start (offset p)) c.scan_after_item.ensures.after)
           (record { opener = refl; start = refl; after = refl }),
-      c.scan_task-task.ensures.place,
+      c.scan_after_item.ensures.place,
     ))
 
 pub returns-in-Some-scan_definition : goal.returns-in-Some-scan_definition
@@ -104,12 +100,12 @@ returns-in-Some-scan_definition c =
     ap (λ (r : Rest). if c.args.may_define then definition_marker_at r else None) (sym item.1)
     ∙ definition_found _ c.scan_definition.result indent c.scan_item.new.line_start following c.in-Some-scan_definition.is c.scan_definition.ensures in
     let start : ℕ → AfterMarker → Option Start = λ n after. Some (record { opener = DefinitionOpener indent; start = n; after = after }) in
-    let over = c.is_some-is_over-in-Some-scan_definition.ensures ∙ ap is_some c.scan_blank_line-in-Some-scan_definition.ensures.value
-    ∙ ap (λ (bs : List ℕ). is_some (blank_len bs)) c.left-in-Some-scan_definition.ensures in
-    let after = c.item_after-in-Some-scan_definition.ensures ∙ ap (item_after None) over in
+    let over = c.is_some-is_over.ensures ∙ ap is_some c.scan_blank_line.ensures.value
+    ∙ ap (λ (bs : List ℕ). is_some (blank_len bs)) c.left.ensures in
+    let after = c.item_after.ensures ∙ ap (item_after None) over in
     rw (← c.place.view_is) (matches _ _ _ _ (start_definition options c.args.may_define p (indent, following) item.0 marker) (
       tells (definition_start p (indent, following)) _ _
-          (ap (λ (n : ℕ). start n c.item_after-in-Some-scan_definition.result) (c.offset-before.ensures ∙ ap offset (sym c.place.view_is))
+          (ap (λ (n : ℕ). start n c.item_after.result) (c.offset-before.ensures ∙ ap offset (sym c.place.view_is))
           ∙ ap (start (offset p)) after)
           (record { opener = refl; start = refl; after = refl }),
       refl,

@@ -1,13 +1,23 @@
-use Rattle.std.proofs.Common.{ap, ◌∙◌, arith}
-use Rattle.first_pass_lines.specs.Places.{offset}
-use Rattle.first_pass_grammar.specs.Kinds.{unindented}
-use Rattle.first_pass_open.proofs.PlaceLemmas.{all_keep}
+use Rattle.std.proofs.Common.{IsCharBoundary, sym, subst, arith, ℕ}
+use Rattle.first_pass_blocks.specs.declared.state.BlockPass.{BlockPass}
+use Rattle.first_pass_blocks.specs.Titles.{ReadsTextOrTitle}
+use Rattle.first_pass_blocks.proofs.Leaves.TextsRead.{IsAtPlain, plain_leaf}
 use Rattle.first_pass_blocks.proofs.state.BlockPass.parse_leaf.Goals as goal
 
 pub offset-requires : goal.offset-requires
 offset-requires c =
-    let p = c.args.place in
-    let i = all_keep c.args.self.now.source.text.now p.line p.rest c.requires.utf8 c.requires.place in
-    let e = ap offset (c.kind_at-columns.ensures.place ∙ ap unindented c.copy-following.ensures) in
+    let i = c.requires.place in
     let short = c.recall_length.ensures in
-    omega (arith, i.within, e)
+    omega (arith, i.within)
+
+pub parse_text_or_title-requires : goal.parse_text_or_title-requires
+parse_text_or_title-requires c = subst (IsCharBoundary c.args.self.now.source.text.now) (sym c.offset.ensures) c.requires.place.boundary
+
+pub returns-then-is_at_plain-clause-block : goal.returns-then-is_at_plain-clause-block
+returns-then-is_at_plain-clause-block c =
+    let self : BlockPass = c.args.self.now in
+    let next = c.in_ok-next.next in
+    plain_leaf self c.parse_text_or_title.new.self c.args.place next
+    (record { utf8 = c.requires.utf8; place = c.requires.place; forest = c.recall_forest.ensures; none = c.requires.no_empty })
+    (subst IsAtPlain c.place.view_is (c.is_at_plain.ensures.owed c.if-is_at_plain.true, c.is_at_plain.ensures.plain c.if-is_at_plain.true))
+    (subst (λ (n : ℕ). ReadsTextOrTitle self c.parse_text_or_title.new.self n next) c.offset.ensures c.in_ok-next.ensures.text)

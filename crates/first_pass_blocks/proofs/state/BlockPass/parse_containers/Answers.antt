@@ -1,0 +1,335 @@
+use Rattle.std.proofs.Common.{◌≡◌, ℕ, ◌<◌, Bool, true, false, length, Option, Some, None, MatchOption, IsSomeAnd, IsUtf8, IsCharBoundary, refl, sym, ap, subst, ◌∙◌, arith}
+use Rattle.first_pass_lines.specs.Places.{Place, offset, line_end, IsPlaceOf}
+use Rattle.first_pass_lines.proofs.PlaceFacts.{place_length}
+use Rattle.first_pass_tree.specs.Forest.{IsForest, in_table}
+use Rattle.first_pass_grammar.specs.Containers.{at_rest}
+use Rattle.first_pass_grammar.specs.Footnotes.{footnote_head_at}
+use Rattle.first_pass_grammar.specs.Openers.{Start as ContainerStart, start_at}
+use Rattle.first_pass_open.specs.Path.{context_of}
+use Rattle.first_pass_open.specs.declared.source.Source.{Source}
+use Rattle.first_pass_kinds.specs.declared.next_front.NextFront.{NextFront}
+use Rattle.first_pass_lists.specs.declared.state.PassState.{PassState}
+use Rattle.first_pass_grammar.specs.declared.kind.AfterMarker.{AfterMarker}
+use Rattle.first_pass_grammar.specs.declared.kind.AfterMarker.TheVariants.{OnLine, TaskText, LineEnds, OnlyTag}
+use Rattle.first_pass_containers.specs.declared.openers.Start.{Start}
+use Rattle.first_pass_blocks.specs.declared.state.BlockPass.{BlockPass}
+use Rattle.first_pass_blocks.specs.OpenedFootnotes.{StaysSame, TriesFootnote}
+use Rattle.first_pass_blocks.specs.Progress.{PassesTo}
+use Rattle.first_pass_blocks.specs.Titles.{ReadsTextOrTitle}
+use Rattle.first_pass_containers.specs.Positions.{Position, InLine, LeafAt, IsNotBefore, ReadsTo, may_define}
+use Rattle.first_pass_containers.specs.Starts.{StartMatches, start_opened, after_at, last_at, IsAfterMarker, FinishesNothing, BeginsNoContainer}
+use Rattle.first_pass_blocks.specs.Views.{state_of, source_of, tree_of, source_options, source_text}
+use Rattle.first_pass_blocks.proofs.Leaves.TextsRead.{IsAtPlain, plain_leaf, text_in_opened}
+use Rattle.first_pass_blocks.proofs.LineByLine.BlockRead.{passes_state, passes_both, entered_read, ReachesPlace, place_reached, reached_start, reached_still, leaf_reached}
+use Rattle.first_pass_containers.proofs.Openings.JustOpened.{start_just_opened}
+use Rattle.first_pass_containers.proofs.Openings.NoContainer.{only_leaf, plain_begins_none}
+use Rattle.first_pass_containers.proofs.Openings.StartLemmas.{start_opens, no_start, opened_start}
+use Rattle.first_pass_containers.proofs.Openings.StartFound.{start_found, start_missing}
+use Rattle.first_pass_blocks.proofs.state.BlockPass.parse_containers.Goals as goal
+use Rattle.first_pass_blocks.proofs.state.BlockPass.parse_containers.Goals.{Then-not-branch, In_ok-open_start, Joined-not-branch, in-OnLine, in_default-matches, then-not-branch+in-Some+in_ok-open_start+else-not-matches, else-not-branch}
+
+pub loop-place-init : goal.loop-place-init
+loop-place-init c =
+    reached_still c.args.place c.args.self.now c.args.self.now _ c.args.place (refl, refl, refl, refl)
+    (reached_start c.args.self.now c.args.place c.requires.no_empty c.requires.none c.requires.place)
+
+-- no footnote definition begins at the place, and the search for another container begins
+record IsTried (first : Place) (old mid : BlockPass) (p : Place) : Type 0 where
+  reached : ReachesPlace first old mid p
+  bare : in_table (tree_of mid).nodes (tree_of mid).spine ≡ false → footnote_head_at (context_of (source_options old) (tree_of mid)) p ≡ None
+
+tried : (first : Place) (old now mid : BlockPass) (p q : Place) (t : Bool) → t ≡ false → ReachesPlace first old now p → TriesFootnote now mid p q t
+    → IsTried first old mid q
+tried first old now mid p q t is r tries =
+    let over : Source = source_of old in
+    let no = subst (TriesFootnote now mid p q) is tries in
+    let same : StaysSame now mid = no.0 in
+    let at : q ≡ p = no.1 in
+    record {
+      reached = subst (ReachesPlace first old mid) (sym at) (reached_still first old now mid p same r);
+      bare = λ no_table.
+          ap (footnote_head_at (context_of over.options (tree_of mid))) at
+          ∙ ap (λ (s : PassState). footnote_head_at (context_of over.options s.tree) p) same.1
+          ∙ ap (λ (z : Source). footnote_head_at (context_of z.options (tree_of now)) p) (sym r.opened.source)
+          ∙ no.2 (ap (λ (s : PassState). in_table s.tree.nodes s.tree.spine) (sym same.1) ∙ no_table);
+    }
+
+-- one more container is open at the place, and less of its line is left
+record IsNested (first : Place) (old mid : BlockPass) (p q : Place) : Type 0 where
+  reached : ReachesPlace first old mid q
+  less : length q.rest.left < length p.rest.left
+  just : FinishesNothing (state_of mid)
+
+opens_note : (first : Place) (old now mid : BlockPass) (p q : Place) (t : Bool) → t ≡ true → ReachesPlace first old now p → TriesFootnote now mid p q t
+    → IsNested first old mid p q
+opens_note first old now mid p q t is r tries =
+    let yes = subst (TriesFootnote now mid p q) is tries in
+    let from = subst (λ (z : Source). IsNotBefore z.text.now p q) r.opened.source yes.0 in
+    let low = r.here.1 in
+    let later = r.here.2 in
+    let far = r.here.3 in
+    let line = from.1 in
+    let on = from.2 in
+    let stop = from.3 in
+    let steps = subst (λ (z : Source). PassesTo z first.line now mid (InLine p) (InLine q)) r.opened.source (yes.4 first.line low) in
+    record {
+      reached = record {
+        no_empty = yes.3.none;
+        none = ap (λ (f : NextFront). f.is_known) yes.2 ∙ r.none;
+        here = (from.0, omega arith, omega arith, omega arith);
+        opened = passes_both (source_of old) first.line old now mid (InLine first) (InLine p) (InLine q) r.opened steps;
+      };
+      less = yes.1;
+      just = yes.3;
+    }
+
+-- at the place of the search for another container
+at_place : (c : Then-not-branch) → IsTried c.args.place c.args.self.now c.open_footnote.new.self c.open_footnote.new.place
+at_place c =
+    tried c.args.place c.args.self.now c.loop-place.self c.open_footnote.new.self c.loop-place.place c.open_footnote.new.place
+    c.in_ok-open_footnote.field-0 c.if-not-branch.true c.loop-place.invariant c.in_ok-open_footnote.ensures
+
+-- whether a definition may begin at a place, from the results of the calls
+abbrev may_in : Source → BlockPass → Bool
+may_in over pass = may_define over.options (tree_of pass)
+
+-- what the search for a container returns
+abbrev IsSearched : Source → Bool → Place → Place → Option Start → Type 0
+IsSearched over may p new r =
+    MatchOption (start_at over.options may p) ((r ≡ None) × (new ≡ p)) (λ s. IsSomeAnd r (StartMatches s) × (new ≡ at_rest p s.rest))
+
+searched : (over : Source) (now : BlockPass) (may : Bool) (p new : Place) (r : Option Start) → source_of now ≡ over → may ≡ may_in (source_of now) now
+    → IsSearched (source_of now) may p new r → IsSearched over (may_in over now) p new r
+searched over now may p new r same is says =
+    subst (λ (z : Source). IsSearched z (may_in z now) p new r) same (subst (λ (t : Bool). IsSearched (source_of now) t p new r) is says)
+
+pub parse_leaf_by_kind-requires : goal.parse_leaf_by_kind-requires
+parse_leaf_by_kind-requires c =
+    let p : Place = c.open_footnote.new.place in
+    let i = at_place (goal.at.parse_leaf_by_kind-requires c).Then-not-branch in
+    let r = i.reached in
+    let a = start_missing _ _ p c.start_at.new.place c.in_default.is (searched c.args.self.now.source c.open_footnote.new.self
+    c.may_define-may_define.result p c.start_at.new.place c.start_at.result r.opened.source c.may_define-may_define.ensures c.start_at.ensures) in
+    let here = place_reached c.args.place c.args.self.now c.open_footnote.new.self p c.requires.utf8 r in
+    record { utf8 = here.0; place = subst (IsPlaceOf c.open_footnote.new.self.source.text.now) (sym a.1) here.1; no_empty = r.no_empty; none = r.none }
+
+-- no container begins there
+pub returns-in_default-clause-block : goal.returns-in_default-clause-block
+returns-in_default-clause-block c =
+    let over = c.args.self.now.source in
+    let first : Place = c.args.place in
+    let mid : BlockPass = c.open_footnote.new.self in
+    let p : Place = c.open_footnote.new.place in
+    let i = at_place (goal.at.returns-in_default-clause-block c).Then-not-branch in
+    let r = i.reached in
+    let a = start_missing _ _ p c.start_at.new.place c.in_default.is (searched over mid c.may_define-may_define.result p c.start_at.new.place
+    c.start_at.result r.opened.source c.may_define-may_define.ensures c.start_at.ensures) in
+    leaf_reached first c.args.self.now _ c.parse_leaf_by_kind.new.self c.start_at.new.place c.in_ok-next.next
+    (reached_still first c.args.self.now mid _ c.start_at.new.place (refl, refl, refl, refl) (subst (ReachesPlace first c.args.self.now mid) (sym a.1) r))
+    (subst (λ (q : Place). ReadsTo over first.line mid.state mid.state (InLine q) (LeafAt q)) (sym a.1)
+    (no_start over mid.state p c.requires.utf8 r.here.0 c.recall_forest.ensures r.no_empty first.line r.here.1 i.bare a.0))
+    c.in_ok-next.ensures.block
+
+-- a container begins
+abbrev IsFound : Source → BlockPass → Place → Place → Start → Type 0
+IsFound over now p new told =
+    (s : ContainerStart) × (start_at over.options (may_in over now) p ≡ Some s) × StartMatches s told × (new ≡ at_rest p s.rest)
+
+pub open_start-requires : goal.open_start-requires
+open_start-requires c =
+    let over = c.args.self.now.source in
+    let first : Place = c.args.place in
+    let p : Place = c.open_footnote.new.place in
+    let new : Place = c.start_at.new.place in
+    let i = at_place (goal.at.open_start-requires c).Then-not-branch in
+    let r = i.reached in
+    let f = start_found _ _ c.in-Some.start p new c.in-Some.is (searched over c.open_footnote.new.self c.may_define-may_define.result p new
+    c.start_at.result r.opened.source c.may_define-may_define.ensures c.start_at.ensures) in
+    let opens = start_opens over c.open_footnote.new.self.state p c.requires.utf8 r.here.0 c.recall_forest.ensures r.no_empty first.line r.here.1 i.bare
+    f.0 f.1 in
+    subst (λ (z : Source). IsPlaceOf z.text.now new) (sym r.opened.source)
+    (subst (λ (q : Place). IsPlaceOf over.text.now q) (sym f.3) opens.2.0)
+
+-- a container is open whose marker ends at the place
+record IsBegun (over : Source) (first : Place) (mid : BlockPass) (p new : Place) (after : AfterMarker) (q : PassState) : Type 0 where
+  stands : IsAfterMarker after q
+  less : length new.rest.left < length p.rest.left
+  here : IsNotBefore over.text.now first new
+  reads : ReadsTo over first.line (state_of mid) q (InLine p) (after_at new (line_end new) after)
+
+begun : (first : Place) (old mid : BlockPass) (p new : Place) (told : Start) (q : PassState) → IsUtf8 (source_text old) → IsForest (tree_of mid)
+    → IsTried first old mid p → IsFound (source_of old) mid p new told → q ≡ start_opened new.line told (line_end new) (state_of mid)
+    → IsBegun (source_of old) first mid p new told.after q
+begun first old mid p new told q utf8 forest i f opened =
+    let over : Source = source_of old in
+    let s = opened_start over (state_of mid) p utf8 i.reached.here.0 forest i.reached.no_empty first.line i.reached.here.1 i.bare f.0 new told q f.1
+    f.2 f.3 opened in
+    let line = s.2.1 in
+    let stop = s.2.2 in
+    let less = s.1 in
+    let at = place_length over.text.now p i.reached.here.0 in
+    let to = place_length over.text.now new s.2.0 in
+    let low = i.reached.here.1 in
+    let from = i.reached.here.2 in
+    let far = i.reached.here.3 in
+    record {
+      stands = s.0;
+      less = less;
+      here = (s.2.0, omega (arith, line, low), omega (arith, at, to, less, from), omega (arith, stop, far));
+      reads = subst (λ (e : ℕ). ReadsTo over first.line (state_of mid) q (InLine p) (after_at new e told.after)) (sym stop) s.3;
+    }
+
+-- a marker after which the line ends is the last
+last_is : (p : Place) (e : ℕ) (a : AfterMarker) → (a ≡ OnLine → ⊥) → after_at p e a ≡ last_at p e a
+last_is p e OnLine other = absurd (other refl)
+last_is p e (TaskText marker) other = refl
+last_is p e (LineEnds marker) other = refl
+last_is p e OnlyTag other = refl
+
+-- the container that was found is open
+at_marker : (c : In_ok-open_start) → IsTried c.args.place c.args.self.now c.open_footnote.new.self c.open_footnote.new.place
+    → IsBegun c.args.self.now.source c.args.place c.open_footnote.new.self c.open_footnote.new.place c.start_at.new.place c.in-Some.start.after
+    c.open_start.new.state
+at_marker c i =
+    let p : Place = c.open_footnote.new.place in
+    begun c.args.place c.args.self.now c.open_footnote.new.self p c.start_at.new.place c.in-Some.start c.open_start.new.state c.requires.utf8
+    c.recall_forest.ensures i
+    (start_found _ _ c.in-Some.start p c.start_at.new.place c.in-Some.is (searched c.args.self.now.source c.open_footnote.new.self
+    c.may_define-may_define.result p c.start_at.new.place c.start_at.result i.reached.opened.source c.may_define-may_define.ensures c.start_at.ensures))
+    c.in_ok-open_start.ensures
+
+pub parse_after_marker-requires : goal.parse_after_marker-requires
+parse_after_marker-requires c =
+    let at = goal.at.parse_after_marker-requires c in
+    let r = (at_place at.Then-not-branch).reached in
+    let s = at_marker at.In_ok-open_start (at_place at.Then-not-branch) in
+    record {
+      utf8 = subst (λ (z : Source). IsUtf8 z.text.now) (sym r.opened.source) c.requires.utf8;
+      place = subst (λ (z : Source). IsPlaceOf z.text.now c.start_at.new.place) (sym r.opened.source) s.here.0;
+      after = s.stands;
+      none = r.none;
+    }
+
+-- the last marker ends there
+pub returns-then-not-matches-clause-block : goal.returns-then-not-matches-clause-block
+returns-then-not-matches-clause-block c =
+    let over = c.args.self.now.source in
+    let first : Place = c.args.place in
+    let mid : BlockPass = c.open_footnote.new.self in
+    let p : Place = c.open_footnote.new.place in
+    let new : Place = c.start_at.new.place in
+    let after = c.in-Some.start.after in
+    let at = goal.at.returns-then-not-matches-clause-block c in
+    let i = at_place at.Then-not-branch in
+    let s = at_marker at.In_ok-open_start i in
+    let other : after ≡ OnLine → ⊥ = elim c.match-matches.branch [
+      | in-OnLine w ↦ (let a = w.matches-is in let b = c.if-not-matches.true in cc)
+      | in_default-matches w ↦ w.in_default-matches.not-OnLine
+    ] in
+    let there : Position = last_at new (line_end new) after in
+    let opens = subst (ReadsTo over first.line mid.state c.open_start.new.state (InLine p)) (last_is new (line_end new) after other) s.reads in
+    entered_read c.args.self.now _ c.parse_after_marker.new.self first new after c.in_ok-next-2.next s.here
+    (passes_both over first.line c.args.self.now mid _ (InLine first) (InLine p) there i.reached.opened
+    (passes_state over first.line mid _ (InLine p) there refl refl opens))
+    c.in_ok-next-2.ensures.block
+
+-- after a footnote definition or another container
+nested : (c : Joined-not-branch) → IsNested c.args.place c.args.self.now c.if-not-branch.self c.loop-place.place c.if-not-branch.place
+nested c =
+    let over = c.args.self.now.source in
+    let first : Place = c.args.place in
+    let old : BlockPass = c.args.self.now in
+    let now : BlockPass = c.loop-place.self in
+    let mid : BlockPass = c.open_footnote.new.self in
+    let here : Place = c.loop-place.place in
+    let p : Place = c.open_footnote.new.place in
+    let r = c.loop-place.invariant in
+    let tries = c.in_ok-open_footnote.ensures in
+    elim c.if-not-branch.branch [
+      | then-not-branch+in-Some+in_ok-open_start+else-not-matches w ↦
+          let new : Place = w.start_at.new.place in
+          let no = subst (TriesFootnote now mid here p) w.if-not-branch.true tries in
+          let i = tried first old now mid here p _ w.if-not-branch.true r tries in
+          let f = start_found _ _ w.in-Some.start p new w.in-Some.is (searched over mid w.may_define-may_define.result p new w.start_at.result
+          i.reached.opened.source w.may_define-may_define.ensures w.start_at.ensures) in
+          let s = begun first old mid p new w.in-Some.start w.open_start.new.state c.requires.utf8 w.recall_forest.ensures i f w.in_ok-open_start.ensures in
+          let on : w.in-Some.start.after ≡ OnLine = elim w.match-matches.branch [
+            | in-OnLine v ↦ v.in-OnLine.is
+            | in_default-matches v ↦ (let a = v.matches-is in let b = w.if-not-matches.false in cc)
+          ] in
+          let opens = subst (λ (a : AfterMarker). ReadsTo over first.line mid.state w.open_start.new.state (InLine p) (after_at new (line_end new) a)) on
+          s.reads in
+          let just = subst FinishesNothing (sym w.in_ok-open_start.ensures)
+          (start_just_opened new.line (line_end new) w.in-Some.start mid.state on i.reached.no_empty) in
+          rw (w.self-is, w.place-is) (record {
+            reached = record {
+              no_empty = just.none;
+              none = i.reached.none;
+              here = s.here;
+              opened = passes_both over first.line old mid _ (InLine first) (InLine p) (InLine new) i.reached.opened
+                  (passes_state over first.line mid _ (InLine p) (InLine new) refl refl opens);
+            };
+            less = subst (λ (z : Place). length new.rest.left < length z.rest.left) no.1 s.less;
+            just = just;
+          })
+      | else-not-branch w ↦ rw (w.self-is, w.place-is) (opens_note first old now mid here p _ w.if-not-branch.false r tries)
+    ]
+
+pub loop-place-smaller : goal.loop-place-smaller
+loop-place-smaller c = (nested (goal.at.loop-place-smaller c).Joined-not-branch).less
+
+pub loop-place-preserved : goal.loop-place-preserved
+loop-place-preserved c =
+    reached_still c.args.place c.args.self.now c.if-not-branch.self _ c.if-not-branch.place (refl, refl, refl, refl)
+    (nested (goal.at.loop-place-preserved c).Joined-not-branch).reached
+
+pub offset-requires : goal.offset-requires
+offset-requires c =
+    let i = (nested (goal.at.offset-requires c).Joined-not-branch).reached.here.0 in
+    let short = c.recall_length.ensures in
+    omega (arith, i.within)
+
+pub parse_text-requires-clause-boundary : goal.parse_text-requires-clause-boundary
+parse_text-requires-clause-boundary c =
+    let p : Place = c.if-not-branch.place in
+    let r = (nested (goal.at.parse_text-requires-clause-boundary c).Joined-not-branch).reached in
+    let here = place_reached c.args.place c.args.self.now c.if-not-branch.self p c.requires.utf8 r in
+    subst (IsCharBoundary c.if-not-branch.self.source.text.now) (sym c.offset.ensures) here.1.boundary
+
+-- the text that begins with a plain byte, in a container that was just opened
+pub returns-then-is_at_plain-clause-block : goal.returns-then-is_at_plain-clause-block
+returns-then-is_at_plain-clause-block c =
+    let first : Place = c.args.place in
+    let old : BlockPass = c.args.self.now in
+    let mid : BlockPass = c.if-not-branch.self in
+    let new : BlockPass = c.parse_text.new.self in
+    let p : Place = c.if-not-branch.place in
+    let next = c.in_ok-next-3.next in
+    let e = c.in_ok-next-3.ensures in
+    let n = nested (goal.at.returns-then-is_at_plain-clause-block c).Joined-not-branch in
+    let here = place_reached first old mid p c.requires.utf8 n.reached in
+    let plain = subst IsAtPlain c.place-in-loop-place.view_is
+    (c.is_at_plain.ensures.owed c.if-is_at_plain.true, c.is_at_plain.ensures.plain c.if-is_at_plain.true) in
+    let text : ReadsTextOrTitle mid new (offset p) next = subst (λ (at : ℕ). ReadsTextOrTitle mid new at next) c.offset.ensures
+    (text_in_opened mid new c.offset.result next n.just e.source e.more e.block (e.fits tt) e.state) in
+    leaf_reached first old mid new p next n.reached (only_leaf old.source mid.state p first.line (plain_begins_none p.rest plain.0 plain.1))
+    (plain_leaf mid new p next (record { utf8 = here.0; place = here.1; forest = c.recall_forest-in-loop-place.ensures; none = n.reached.no_empty }) plain
+    text)
+
+pub parse_leaf_by_kind-requires-then-begins_no_container : goal.parse_leaf_by_kind-requires-then-begins_no_container
+parse_leaf_by_kind-requires-then-begins_no_container c =
+    let r = (nested (goal.at.parse_leaf_by_kind-requires-then-begins_no_container c).Joined-not-branch).reached in
+    let here = place_reached c.args.place c.args.self.now c.if-not-branch.self c.if-not-branch.place c.requires.utf8 r in
+    record { utf8 = here.0; place = here.1; no_empty = r.no_empty; none = r.none }
+
+-- no container begins with the next byte
+pub returns-then-begins_no_container-clause-block : goal.returns-then-begins_no_container-clause-block
+returns-then-begins_no_container-clause-block c =
+    let mid : BlockPass = c.if-not-branch.self in
+    let p : Place = c.if-not-branch.place in
+    let n = nested (goal.at.returns-then-begins_no_container-clause-block c).Joined-not-branch in
+    leaf_reached c.args.place c.args.self.now _ c.parse_leaf_by_kind-then-begins_no_container.new.self p c.in_ok-next-4.next
+    (reached_still c.args.place c.args.self.now mid _ p (refl, refl, refl, refl) n.reached)
+    (only_leaf c.args.self.now.source mid.state p c.args.place.line
+    (subst (λ (q : Place). BeginsNoContainer q.rest) c.place-in-loop-place.view_is (c.begins_no_container.ensures c.if-begins_no_container.true)))
+    c.in_ok-next-4.ensures.block
