@@ -105,7 +105,7 @@ impl<'a> BlockPass<'a> {
                     &mut self.allocs,
                     TextStart {
                         at: start_ix,
-                        marker: *tasklist_marker,
+                        marker: tasklist_marker,
                     },
                     &mut self.next_front,
                 )?;

@@ -83,11 +83,11 @@ fn end_before(next: usize, held: Option<LineBreak>, underline: Option<HeadingLev
 
 /// The start of the text of a paragraph or a setext heading.
 #[derive(Clone, Copy, Drop)]
-pub struct TextStart {
+pub struct TextStart<'m> {
     /// The offset into the whole text at which it begins.
     pub at: usize,
     /// The task list item marker before it, if there is one.
-    pub marker: Option<Item>,
+    pub marker: &'m Option<Item>,
 }
 
 // The paragraph was closed, so the front may count only the nodes that are still open.
@@ -108,23 +108,23 @@ pub fn parse_paragraph<'a>(
     source: &Source<'a>,
     tree: &mut Tree<Item>,
     allocs: &mut Allocations<'a>,
-    text: TextStart,
+    text: TextStart<'_>,
     next_front: &mut NextFront<'a>,
 ) -> Result<usize, AllocError>
     requires boundary { IsCharBoundary source.now.text.now text.at }
-    requires marker { IfSome text.marker (λ x. is_text x.body ≡ false) }
+    requires marker { IfSome text.marker.now (λ x. is_text x.body ≡ false) }
     ensures more { OnOk result (NamesMore allocs.old allocs.new) }
     ensures block { IfOk result (λ next.
-        AddsPlainText (document source.now.text.now source.now.options (names_of allocs.new)) text.at
-        text.marker tree.old tree.new next) }
-    ensures fits { IfOk result (λ next. MarkerIsInItem tree.old text.marker → (from : ℕ)
-        → MarkerBetween source.now.text.now from text.at text.marker
+        AddsPlainText (document source.now.text.now source.now.options (names_of allocs.new)) text.entry.at
+        text.entry.marker.now tree.old tree.new next) }
+    ensures fits { IfOk result (λ next. MarkerIsInItem tree.old text.entry.marker.now → (from : ℕ)
+        → MarkerBetween source.now.text.now from text.entry.at text.entry.marker.now
         → AddsBetween source.now.text.now from next tree.old tree.new) }
     ensures front { IfOk result (λ next. KnowsFront source.now tree.new next next_front.new) }
 {
     tree.recall_forest();
     let node_ix = open_block(tree, text.at, ItemBody::Paragraph)?;
-    append_item(tree, text.marker)?;
+    append_item(tree, *text.marker)?;
     let end = append_text_lines(source, tree, allocs, text.at, next_front)?;
     let Some(level) = end.underline else {
         append_last_backslash(tree, end.line_break)?;

@@ -28,12 +28,12 @@ use Rattle.first_pass_text.proofs.paragraph.parse_paragraph.Goals.{In_ok-end}
 
 -- The paragraph is open, with its marker and the chain of its lines.
 stands_open : (c : In_ok-end) → StandsOpen c.args.source.now.text.now c.args.source.now.options (names_of c.append_text_lines.new.allocs) c.args.text.at
-    c.args.text.marker c.args.tree.now c.append_text_lines.new.tree c.in_ok-node_ix.node_ix c.in_ok-end.end
+    c.args.text.marker.now c.args.tree.now c.append_text_lines.new.tree c.in_ok-node_ix.node_ix c.in_ok-end.end
 stands_open c =
     let text = c.args.source.now.text.now in
     let options = c.args.source.now.options in
     let start = c.args.text.at in
-    let marker = c.args.text.marker in
+    let marker = c.args.text.marker.now in
     let g = c.args.tree.now in
     let m = c.append_item.new.tree in
     let ix = c.in_ok-node_ix.node_ix in
@@ -75,7 +75,7 @@ returns-in_default-clause-block c =
 pub returns-in_default-clause-fits : goal.returns-in_default-clause-fits
 returns-in_default-clause-fits c =
     plain_fits (document c.args.source.now.text.now c.args.source.now.options (names_of c.append_text_lines.new.allocs)) c.args.text.at
-    c.args.text.marker c.args.tree.now c.close_block.new.tree c.in_ok-end.end.next
+    c.args.text.marker.now c.args.tree.now c.close_block.new.tree c.in_ok-end.end.next
     (returns-in_default-clause-block c) c.in_ok-end.ensures.utf8 c.requires.boundary
 
 pub returns-in_default-clause-front : goal.returns-in_default-clause-front
@@ -129,7 +129,7 @@ returns-clause-block c =
 pub returns-clause-fits : goal.returns-clause-fits
 returns-clause-fits c =
     plain_fits (document c.args.source.now.text.now c.args.source.now.options (names_of c.make_heading.new.allocs)) c.args.text.at
-    c.args.text.marker c.args.tree.now c.close_block-2.new.tree c.next_line-next.result
+    c.args.text.marker.now c.args.tree.now c.close_block-2.new.tree c.next_line-next.result
     (returns-clause-block c) c.in_ok-end.ensures.utf8 c.requires.boundary
 
 pub returns-clause-more : goal.returns-clause-more
