@@ -47,7 +47,7 @@ few_taken r s four n less value after is =
     (few, is ∙ ap (λ (t : Rest). t.taken) (after ∙ all_columns_up_to 4 r (omega (arith, few))))
 
 -- a line that begins with another byte than the fence is no closing fence
-no_run : (bs : List ℕ) (byte count : ℕ) → 1 ≤ length bs → (slice_index_or bs 0 0 ≡ byte → ⊥) → 0 < count → closing_fence_len byte count bs ≡ None
+pub no_run : (bs : List ℕ) (byte count : ℕ) → 1 ≤ length bs → (slice_index_or bs 0 0 ≡ byte → ⊥) → 0 < count → closing_fence_len byte count bs ≡ None
 unfolding closing_fence_len
 no_run [] byte count filled other many = absurd (not-suc-le-zero filled)
 no_run (b ∷ bs) byte count filled other many =

@@ -5,3 +5,5 @@ pub mod IndentedLemmas
 pub mod MetadataLemmas
 pub mod RawLineLemmas
 pub mod RawOrder
+pub mod UnmarkedLines
+pub mod WholeLines

@@ -1,16 +1,17 @@
 -- The nodes that raw leaf blocks append to a tree: code, metadata and HTML.
-use Rattle.std.specs.Prelude.{◌≡◌, ℕ, ◌+◌, Bool, List, [], length, drop, Option, Some, None, ◌==◌, if◌then◌else◌}
+use Rattle.std.specs.Prelude.{◌≡◌, ℕ, zero, suc, ◌+◌, ◌<◌, ◌||◌, not, Bool, false, List, [], length, drop, Option, Some, None, ◌==◌, if◌then◌else◌}
+use Rattle.first_pass_items.specs.Bytes.{carriage_return}
 use Rattle.first_pass_items.specs.declared.option_set.Options.{Options}
 use Rattle.first_pass_items.specs.declared.item.Item.{Item}
 use Rattle.first_pass_tree.specs.Forest.{Forest, added}
 use Rattle.first_pass_html.specs.Ends.{BlockEnd}
 use Rattle.first_pass_lines.specs.Lines.{line_len}
-use Rattle.first_pass_lines.specs.Places.{Place, offset, line_rest}
+use Rattle.first_pass_lines.specs.Places.{Place, offset, line_rest, line_place}
 use Rattle.first_pass_tokens.specs.TreeTokens.{with_tokens, chained}
 use Rattle.first_pass_grammar.specs.declared.kind.Container.{Container}
 use Rattle.first_pass_grammar.specs.Names.{Names, Extends}
 use Rattle.first_pass_grammar.specs.Leaves.{Document, document}
-use Rattle.first_pass_grammar.specs.RawLines.{AreColumns, Ranges, range_text, range_html, IsRawLine, AreRawLines}
+use Rattle.first_pass_grammar.specs.RawLines.{AreColumns, Ranges, range_text, range_html, ends_with_both, IsRawLine, AreRawLines}
 use Rattle.first_pass_grammar.specs.CodeBlocks.{code_lines, last_is_blank, IsIndentedCode, fenced_lines, metadata_lines}
 use Rattle.first_pass_grammar.specs.Extents.{Extent, Verdict, extent, in_containers}
 use Rattle.first_pass_grammar.specs.Extents as Judged
@@ -78,6 +79,23 @@ said GoesOn p = Judged.GoesOn p
 said IsLast p = Judged.IsLast p
 said (Closes e) p = Judged.Closes e
 said (Stops e) p = Judged.Stops e
+
+-- a byte that is neither that of a fence nor `\r` (this project)
+abbrev pub is_unmarked : ℕ → ℕ → Bool
+is_unmarked fence_byte b = not (b == fence_byte || b == carriage_return)
+
+-- A line of code is whole if no container is around the block, the block continues with the line from its first byte, and
+-- the line does not end with `\r\n` (CommonMark 4.5, and this project).
+pub record IsWhole (kind : RawKind) (judge : Place → Place → Verdict) (text : List ℕ) (at : ℕ) : Type 0 where
+  pub code : kind ≡ Code
+  pub within : at < length text
+  pub goes_on : judge (line_place at (drop at text)) (line_place at (drop at text)) ≡ Judged.GoesOn (line_place at (drop at text))
+  pub not_both : ends_with_both text at (after_line_at text at) ≡ false
+
+-- From one offset up to another are this many whole lines (this project).
+unfoldable pub AreWhole : RawKind → (Place → Place → Verdict) → List ℕ → ℕ → ℕ → ℕ → Type 0
+AreWhole kind judge text zero from to = from ≡ to
+AreWhole kind judge text (suc lines) from to = IsWhole kind judge text from × AreWhole kind judge text lines (after_line_at text from) to
 
 -- The raw lines of an extent are appended after the nodes of a tree. The new items are still those lines if names are
 -- added.

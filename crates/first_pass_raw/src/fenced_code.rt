@@ -1,13 +1,14 @@
 //! Fenced code blocks (CommonMark 4.5).
 
 ghost use Rattle.std.specs.Prelude.{◌≡◌, ◌≤◌, ℕ, length, drop, true, None, Some, IfOk, OnOk, IsCharBoundary, IsUtf8};
+ghost use Rattle.std.specs.List.{prefix_len};
 ghost use Rattle.first_pass_lines.specs.Places.{place_at, IsPlaceOf};
 ghost use Rattle.first_pass_grammar.specs.Leaves.{document};
 ghost use Rattle.first_pass_open.specs.Path.{path_of};
 ghost use Rattle.first_pass_names.specs.TableEntries.{names_of, NamesMore};
 ghost use Rattle.first_pass_scan.specs.LeafLines.{code_fence};
 ghost use Rattle.first_pass_grammar.specs.CodeBlocks.{info_string, closing_fence_end, IsFencedCode};
-ghost use Rattle.first_pass_raw.specs.RawBlocks.{AddsRaw, fenced_after, after_line_at};
+ghost use Rattle.first_pass_raw.specs.RawBlocks.{AddsRaw, fenced_after, after_line_at, is_unmarked};
 
 use crate::extent::{JudgesLines, read_lines};
 use crate::raw_line::RawKind;
@@ -22,6 +23,7 @@ use first_pass_open::source::Source;
 use first_pass_scan::leaf_scan::scan_closing_code_fence;
 use first_pass_scan::line_start::LineStart;
 use first_pass_tree::forest::Tree;
+use memchr::{memchr2, memrchr};
 use std::alloc::AllocError;
 use std::ops::Range;
 
@@ -45,6 +47,19 @@ impl JudgesLines for Fence {
         RawKind::Code
     }
 
+    // The whole lines before the first that has the fence's byte or a `\r`. None if columns are removed from each line,
+    // or for a fence of no bytes, which a blank line would close.
+    fn whole_lines(&self, text: &[u8], start: usize) -> usize {
+        if self.indent != 0 || self.count == 0 {
+            return start;
+        }
+        let rest = rest_of(text, start);
+        match memrchr(b'\n', &rest[..unmarked_len(rest, self.byte)]) {
+            Some(at) => start + at + 1,
+            None => start,
+        }
+    }
+
     #[inline(always)]
     fn judge(&self, text: &str, line: &Range<usize>, line_start: &mut LineStart<'_>) -> Verdict {
         if let Some(end) = closing_fence(text, line.start, line_start.copy(), *self) {
@@ -57,6 +72,8 @@ impl JudgesLines for Fence {
 
 /// Appends the fenced code block whose fence begins at the offset `start_ix`. Returns the start of the next unread
 /// line, or the end of the text (CommonMark 4.5). Fails only if an allocation fails.
+// A call of its own, so that the code for other blocks keeps its registers.
+#[inline(never)]
 pub fn parse_fenced_code_block<'a>(
     source: &Source<'a>,
     tree: &mut Tree<Item>,
@@ -113,6 +130,17 @@ fn begins_otherwise(line_start: &LineStart<'_>, fence: Fence) -> bool
     match line_start.left() {
         [first, ..] => *first != fence.byte && 0 < fence.count && line_start.has_no_column(),
         [] => false,
+    }
+}
+
+// The number of bytes before the first that is the byte of the fence or `\r`.
+fn unmarked_len(bytes: &[u8], fence_byte: u8) -> usize
+    ensures value { result ≡ prefix_len (is_unmarked fence_byte) bytes.now }
+    ensures within { result ≤ length bytes.now }
+{
+    match memchr2(fence_byte, b'\r', bytes) {
+        Some(at) => at,
+        None => bytes.len(),
     }
 }
 

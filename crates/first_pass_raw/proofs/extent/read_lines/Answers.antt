@@ -1,27 +1,32 @@
-use Rattle.std.proofs.Common.{refl, sym, ap, ◌∙◌, arith}
+use Rattle.std.proofs.Common.{IsUtf8, refl, sym, ap, subst, ◌∙◌, arith}
 use Rattle.first_pass_lines.specs.Places.{place_at}
 use Rattle.first_pass_grammar.specs.Leaves.{document}
 use Rattle.first_pass_open.specs.Path.{path_of}
 use Rattle.first_pass_names.specs.TableEntries.{names_of}
 use Rattle.first_pass_open.proofs.PathLemmas.{open_are_in}
 use Rattle.first_pass_names.proofs.NameLemmas.{extends_none, extends_both}
-use Rattle.first_pass_raw.specs.RawBlocks.{range_of, extent_from}
-use Rattle.first_pass_raw.proofs.ExtentLemmas.{LineAppended, LineJudged, IsLineAt, lines_start, line_read, after_path, within_line, goes_by, read_end, read_left, read_stops}
+use Rattle.first_pass_raw.specs.RawBlocks.{range_of}
+use Rattle.first_pass_raw.proofs.ExtentLemmas.{ReadSoFar, LineAppended, LineJudged, IsLineAt, line_read, after_path, within_line, goes_by, read_end, read_left, read_stops}
 use Rattle.first_pass_raw.proofs.ExtentLemmas.{read_closes, read_last, read_more, line_as, lines_quotes}
+use Rattle.first_pass_raw.proofs.WholeLines.{whole_start}
 use Rattle.first_pass_raw.proofs.extent.read_lines.Goals as goal
 use Rattle.first_pass_raw.proofs.extent.read_lines.Goals.{After-next_line-next, After-judge-verdict, In_ok-append_raw_line}
 
 pub loop-ix-init : goal.loop-ix-init
-loop-ix-init g c = record {
-  later = omega arith;
-  boundary = c.requires.boundary;
-  names = extends_none (names_of c.args.allocs.now);
-  same_entries = refl;
-  read = lines_start (range_of (g.J.JudgesLines.kinds c.args.judge.now)) (document c.args.source.now.text.now c.args.source.now.options
-      (names_of c.args.allocs.now))
-      (extent_from c.args.source.now.text.now (path_of c.args.source.now.options c.args.tree.now) (g.J.JudgesLines.judges c.args.judge.now) c.args.start)
-      c.args.tree.now;
-}
+loop-ix-init g c =
+    let text = c.args.source.now.text.now in
+    let d = document text c.args.source.now.options (names_of c.args.allocs.now) in
+    let read = whole_start (g.J.JudgesLines.kinds c.args.judge.now) d (g.J.JudgesLines.judges c.args.judge.now) c.args.start c.args.tree.now
+    (subst IsUtf8 c.as_bytes.ensures.value c.as_bytes.ensures.utf8) c.requires.apart
+    (open_are_in c.args.tree.now.nodes c.args.tree.now.spine c.recall_forest.ensures.opened) c.requires.boundary
+    c.as_bytes.result.now c.in_ok-ix.ix c.as_bytes.ensures.value c.in_ok-ix.ensures.whole c.in_ok-ix.ensures.path in
+    record {
+      later = read.0;
+      boundary = read.1;
+      names = extends_none (names_of c.args.allocs.now);
+      same_entries = refl;
+      read = subst (ReadSoFar _ d _ c.args.start c.in_ok-ix.ix c.args.tree.now) (sym c.in_ok-ix.ensures.text) read.2;
+    }
 
 pub returns-in_default-clause-lines : goal.returns-in_default-clause-lines
 returns-in_default-clause-lines g c =
@@ -41,8 +46,8 @@ scan_continued_past-requires-clause-quotes g c =
 -- the line, up to the start of the next one
 line_here : (g : _) (c : After-next_line-next g) → IsLineAt c.args.source.now.text.now c.loop-ix.ix c.next_line-next.result
 line_here g c =
-    line_read c.args.source.now.text.now c.as_bytes.result.now c.loop-ix.ix _ c.scan_continued_past.ensures.utf8 c.loop-ix.invariant.boundary
-    c.loop-ix-test.true c.as_bytes.ensures.value c.next_line-next.ensures.value
+    line_read c.args.source.now.text.now c.as_bytes-in-loop-ix.result.now c.loop-ix.ix _ c.scan_continued_past.ensures.utf8 c.loop-ix.invariant.boundary
+    c.loop-ix-test.true c.as_bytes-in-loop-ix.ensures.value c.next_line-next.ensures.value
 
 pub judge-verdict-requires-clause-next : goal.judge-verdict-requires-clause-next
 judge-verdict-requires-clause-next g c =
@@ -63,8 +68,8 @@ judged g c = record {
   answer = c.judge-verdict.result;
   so_far = c.loop-ix.invariant.read;
   there = open_are_in c.args.tree.now.nodes c.args.tree.now.spine c.recall_forest.ensures.opened;
-  line = line_read c.args.source.now.text.now c.as_bytes.result.now c.loop-ix.ix _ c.scan_continued_past.ensures.utf8 c.loop-ix.invariant.boundary
-      c.loop-ix-test.true c.as_bytes.ensures.value c.next_line-next.ensures.value;
+  line = line_read c.args.source.now.text.now c.as_bytes-in-loop-ix.result.now c.loop-ix.ix _ c.scan_continued_past.ensures.utf8 c.loop-ix.invariant.boundary
+      c.loop-ix-test.true c.as_bytes-in-loop-ix.ensures.value c.next_line-next.ensures.value;
   taken = c.in-Some.ensures.value;
   is = c.judge-verdict.ensures.verdict;
 }

@@ -14,7 +14,7 @@ invariant-loop-ix g l = record {
   names : Extends (names_of l.allocs) (names_of l.initial.allocs);
   same_entries : entries l.allocs ≡ entries l.initial.allocs;
   read : ReadSoFar (range_of (g.J.JudgesLines.kinds l.judge)) (document l.source.text.now l.source.options (names_of l.allocs))
-      (g.J.JudgesLines.judges l.judge) l.start l.ix l.initial.tree l.tree;
+      (g.J.JudgesLines.judges l.judge) l.start l.ix l.fn.tree l.tree;
 }
 
 abbrev pub decreases-loop-ix : goal.decreases-loop-ix
