@@ -14,7 +14,7 @@ use Rattle.first_pass_order.specs.LeafBlocks.{AddsKind}
 
 -- A pass added a leaf block. It reads the same text, earlier names are kept, neither a table entry nor the front of the
 -- next line changed, and no item is still empty. The nodes of the block lie between any offset up to the place and the
--- offset at which reading continues. That offset is a character boundary after the line of the place.
+-- offset at which reading continues. That offset is a character boundary after the line of the place (CommonMark 4).
 pub record AddsLeaf (old new : BlockPass) (p : Place) (kind : Kind) (next : ℕ) : Type 0 where
   pub source : source_of new ≡ source_of old
   pub front : front_of new ≡ front_of old
@@ -27,7 +27,7 @@ pub record AddsLeaf (old new : BlockPass) (p : Place) (kind : Kind) (next : ℕ)
   pub fits : (from : ℕ) → from ≤ offset p → AddsBetween (source_text old) from next (tree_of old) (tree_of new)
 
 -- A leaf block that is recognised by its mark was found at a place, after these columns, at this offset. No
--- counting blank line is pending and no item is still empty, as before any new block.
+-- counting blank line is pending and no item is still empty, as before any new block (CommonMark 4, and this project).
 pub record IsFoundIn (pass : BlockPass) (p : Place) (leaf : MarkedLeaf) (columns at : ℕ) : Type 0 where
   pub utf8 : IsUtf8 (source_text pass)
   pub place : IsPlaceOf (source_text pass) p

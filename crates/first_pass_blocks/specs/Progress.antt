@@ -1,8 +1,8 @@
 -- A pass that read a block (of public calls, only `parse_block` and `parse_text` cite this).
-use Rattle.std.specs.Prelude.{◌≡◌, ℕ, ◌+◌, ◌<◌, ◌≤◌, List, length, drop, IsCharBoundary}
+use Rattle.std.specs.Prelude.{◌≡◌, ℕ, ◌+◌, ◌<◌, ◌≤◌, false, List, length, drop, None, IsUtf8, IsCharBoundary}
 use Rattle.first_pass_items.specs.declared.item.Item.{Item}
 use Rattle.first_pass_lines.specs.Lines.{line_len}
-use Rattle.first_pass_lines.specs.Places.{Place, line_end}
+use Rattle.first_pass_lines.specs.Places.{Place, line_end, IsPlaceOf}
 use Rattle.first_pass_grammar.specs.Names.{Names, Extends, AreNamed}
 use Rattle.first_pass_grammar.specs.Leaves.{document}
 use Rattle.first_pass_grammar.specs.Completion.{lines_from}
@@ -17,12 +17,20 @@ use Rattle.first_pass_ready.specs.State.{Ready}
 use Rattle.first_pass_order.specs.Ordered.{IsReadFrom}
 use Rattle.first_pass_containers.specs.Positions.{Position, LineAt, InLine, LeafAt, IsInLine, ReadyOn, OrderedOn, GrowsTo, GrowsFrom}
 
+-- A pass is at a place of its text, as before it reads a block there. No item is empty, and the front of the next line
+-- is not known (this project).
+pub record IsAtPlace (pass : BlockPass) (p : Place) : Type 0 where
+  pub utf8 : IsUtf8 (source_text pass)
+  pub place : IsPlaceOf (source_text pass) p
+  pub no_empty : (state_of pass).begin_list_item ≡ None
+  pub none : (front_of pass).is_known ≡ false
+
 -- A pass over a source came from one position to another, in a line that begins at an offset or after that line. It
 -- reads the same text, and names are kept. Under all names that extend the new ones:
 -- if the state began a derivation at the first position, it begins one at the second. If it was in order, it still is,
 -- and it grew by at most four nodes for each byte. If each index named an entry, each still does. If the entries of the
 -- tables were written in the text, they still are. If each index named an entry, and all tables were whole with no row
--- open, they still are.
+-- open, they still are (this project).
 pub record PassesTo (over : Source) (line : ℕ) (old new : BlockPass) (from to : Position) : Type 0 where
   pub source : source_of new ≡ source_of old
   pub names : Extends (names_of (allocs_of new)) (names_of (allocs_of old))
@@ -42,7 +50,7 @@ pub record PassesTo (over : Source) (line : ℕ) (old new : BlockPass) (from to 
 -- began a derivation at the position, it begins one where reading continues. If it was in order, it still is, and it
 -- has at most four more nodes for each byte. If each index named an entry, each still does. If the entries of the
 -- tables were written in the text, they still are. If each index named an entry, and all tables were whole with no
--- row open, they still are.
+-- row open, they still are (this project).
 pub record ReadsBlockOf (over : Source) (old new : BlockPass) (far : ℕ) (from : Position) (next : ℕ) : Type 0 where
   pub source : source_of new ≡ source_of old
   pub names : Extends (names_of (allocs_of new)) (names_of (allocs_of old))
@@ -58,7 +66,7 @@ pub record ReadsBlockOf (over : Source) (old new : BlockPass) (far : ℕ) (from 
   pub tables : AreNamed (names_of (allocs_of old)) (tree_of old).nodes → HasWholeTables (names_of (allocs_of old)) (tree_of old)
       → HasWholeTables (names_of (allocs_of new)) (tree_of new)
 
--- the same over the source of the old pass
+-- the same over the source of the old pass (this project)
 abbrev pub ReadsBlock : BlockPass → BlockPass → ℕ → Position → ℕ → Type 0
 ReadsBlock old new far from next = ReadsBlockOf (source_of old) old new far from next
 
@@ -70,7 +78,7 @@ ReadsEntered old new p next = (first : BlockPass) (start : ℕ) → start < leng
     → PassesTo (source_of first) start first old (LineAt start) (InLine p) → ReadsBlock first new (1 + start) (LineAt start) next
 
 -- a pass read the leaf block that begins at a place: no container begins there, or the line follows the tag of a
--- block quote
+-- block quote (CommonMark 4, and this project)
 abbrev pub ReadsLeaf : BlockPass → BlockPass → Place → ℕ → Type 0
 ReadsLeaf old new p next = ReadsBlock old new (line_end p) (LeafAt p) next
 

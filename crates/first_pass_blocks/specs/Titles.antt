@@ -24,7 +24,7 @@ pub record ReadsTitle (old new : BlockPass) (start next : ℕ) : Type 0 where
   pub state_is : state_of new ≡ title_read (current_end (tree_of old)) (with_tree (state_of old) read)
 
 -- A pass read the paragraph, heading or table whose text begins at an offset, not right after a definition. A list that
--- was innermost ends at that offset. The remaining lines begin at another offset.
+-- was innermost ends at that offset. The remaining lines begin at another offset (CommonMark 4.3, 4.8, GFM 4.10).
 pub record ReadsNewText (old new : BlockPass) (start next : ℕ) : Type 0 where
   pub after : is_after_definition (tree_of old) ≡ false
   pub source : source_of new ≡ source_of old
@@ -34,7 +34,9 @@ pub record ReadsNewText (old new : BlockPass) (start next : ℕ) : Type 0 where
   pub fits : (from : ℕ) → from ≤ start → AddsBetween (source_text old) from next (list_finished start (state_of old)).tree (tree_of new)
   pub state_is : state_of new ≡ with_tree (list_finished start (state_of old)) (tree_of new)
 
--- either of the two
+-- A pass read the paragraph, heading or table whose text begins at an offset. Right after a definition, a paragraph may
+-- be the next title of the definition list, and a heading or a table ends that list. Elsewhere a list that was innermost
+-- ends at the offset. The remaining lines begin at another offset (CommonMark 4.3, 4.8, GFM 4.10, and this project).
 abbrev pub ReadsTextOrTitle : BlockPass → BlockPass → ℕ → ℕ → Type 0
 ReadsTextOrTitle old new start next =
     ((is_after_definition (tree_of old) ≡ true) × ReadsTitle old new start next) ⊎ ReadsNewText old new start next

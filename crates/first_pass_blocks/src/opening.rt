@@ -1,8 +1,8 @@
 //! The containers that begin in a line (CommonMark 5).
 
-ghost use Rattle.std.specs.Prelude.{◌≡◌, None, false, IfOk, IsUtf8};
+ghost use Rattle.std.specs.Prelude.{◌≡◌, false, IfOk, IsUtf8};
 ghost use Rattle.first_pass_lines.specs.Places.{line_end, IsPlaceOf};
-ghost use Rattle.first_pass_blocks.specs.Progress.{KnowsNext, ReadsBlock, ReadsEntered};
+ghost use Rattle.first_pass_blocks.specs.Progress.{IsAtPlace, KnowsNext, ReadsBlock, ReadsEntered};
 ghost use Rattle.first_pass_containers.specs.Starts.{last_at, IsAfterMarker};
 ghost use Rattle.first_pass_blocks.specs.Views.{front_of, state_of, source_text};
 
@@ -19,10 +19,7 @@ impl<'a> BlockPass<'a> {
     /// Does the same as `parse_containers`, but is not inlined.
     #[inline(never)]
     pub(crate) fn parse_containers_apart(&mut self, place: Place<'a>) -> Result<usize, AllocError>
-        requires utf8 { IsUtf8 (source_text self.old) }
-        requires place { IsPlaceOf (source_text self.old) place }
-        requires no_empty { (state_of self.old).begin_list_item ≡ None }
-        requires none { (front_of self.old).is_known ≡ false }
+        requires { IsAtPlace self.old place }
         ensures block { IfOk result (λ next. ReadsEntered self.old self.new place.entry next) }
         ensures front { IfOk result (λ next. KnowsNext self.new next) }
     {
@@ -31,13 +28,10 @@ impl<'a> BlockPass<'a> {
     }
 
     /// Opens the containers that begin at a place, each in the one before, and reads the block after the last marker.
-    /// If no container begins there, reads the leaf block. No front may be known. Returns the same as `parse_block`.
+    /// If no container begins there, reads the leaf block. Returns the same as `parse_block`.
     #[inline(always)]
     pub(crate) fn parse_containers(&mut self, place: Place<'a>) -> Result<usize, AllocError>
-        requires utf8 { IsUtf8 (source_text self.old) }
-        requires place { IsPlaceOf (source_text self.old) place }
-        requires no_empty { (state_of self.old).begin_list_item ≡ None }
-        requires none { (front_of self.old).is_known ≡ false }
+        requires { IsAtPlace self.old place }
         ensures block { IfOk result (λ next. ReadsEntered self.old self.new place.entry next) }
         ensures front { IfOk result (λ next. KnowsNext self.new next) }
     {

@@ -17,7 +17,7 @@ ghost use Rattle.first_pass_grammar.specs.declared.kind.AfterMarker.TheVariants.
 ghost use Rattle.first_pass_ready.specs.State.{Ready};
 ghost use Rattle.first_pass_order.specs.Ordered.{IsReadTo};
 ghost use Rattle.first_pass_containers.specs.Positions.{LineAt, TaskAt, TaggedAt};
-ghost use Rattle.first_pass_blocks.specs.Progress.{KnowsNext, ReadsBlock, ReadsEntered, ReadsLeaf};
+ghost use Rattle.first_pass_blocks.specs.Progress.{IsAtPlace, KnowsNext, ReadsBlock, ReadsEntered, ReadsLeaf};
 ghost use Rattle.first_pass_order.specs.Settled.{AreSettled};
 ghost use Rattle.first_pass_containers.specs.Starts.{IsAfterMarker};
 ghost use Rattle.first_pass_blocks.specs.Titles.{ReadsTextOrTitle};
@@ -183,10 +183,7 @@ impl<'a> BlockPass<'a> {
     // search for another leaf block nor a call of `parse_leaf_by_kind`.
     #[inline(always)]
     pub(crate) fn parse_leaf(&mut self, place: Place<'a>) -> Result<usize, AllocError>
-        requires utf8 { IsUtf8 (source_text self.old) }
-        requires place { IsPlaceOf (source_text self.old) place }
-        requires no_empty { (state_of self.old).begin_list_item ≡ None }
-        requires none { (front_of self.old).is_known ≡ false }
+        requires { IsAtPlace self.old place }
         ensures block { IfOk result (λ next. ReadsLeaf self.old self.new place.entry next) }
         ensures front { IfOk result (λ next. KnowsNext self.new next) }
     {
@@ -202,10 +199,7 @@ impl<'a> BlockPass<'a> {
 
     // Does the same as `parse_leaf`, but always searches for the kind of the leaf block.
     pub(crate) fn parse_leaf_by_kind(&mut self, place: Place<'a>) -> Result<usize, AllocError>
-        requires utf8 { IsUtf8 (source_text self.old) }
-        requires place { IsPlaceOf (source_text self.old) place }
-        requires no_empty { (state_of self.old).begin_list_item ≡ None }
-        requires none { (front_of self.old).is_known ≡ false }
+        requires { IsAtPlace self.old place }
         ensures block { IfOk result (λ next. ReadsLeaf self.old self.new place.entry next) }
         ensures front { IfOk result (λ next. KnowsNext self.new next) }
     {
@@ -226,10 +220,7 @@ impl<'a> BlockPass<'a> {
         columns: usize,
         at: usize,
     ) -> Result<usize, AllocError>
-        requires utf8 { IsUtf8 (source_text self.old) }
-        requires place { IsPlaceOf (source_text self.old) place }
-        requires no_empty { (state_of self.old).begin_list_item ≡ None }
-        requires none { (front_of self.old).is_known ≡ false }
+        requires here { IsAtPlace self.old place }
         requires found { IsFoundAt (source_options self.old) place found columns at }
         ensures block { IfOk result (λ next. ReadsLeaf self.old self.new place.entry next) }
         ensures front { IfOk result (λ next. KnowsNext self.new next) }
@@ -267,10 +258,7 @@ impl<'a> BlockPass<'a> {
         place: Place<'a>,
         at: usize,
     ) -> Result<usize, AllocError>
-        requires utf8 { IsUtf8 (source_text self.old) }
-        requires place { IsPlaceOf (source_text self.old) place }
-        requires no_empty { (state_of self.old).begin_list_item ≡ None }
-        requires none { (front_of self.old).is_known ≡ false }
+        requires here { IsAtPlace self.old place }
         requires kind { IsKind (source_options self.old) place.rest Paragraph }
         requires at { at ≡ offset (unindented place) }
         ensures block { IfOk result (λ next. ReadsLeaf self.old self.new place.entry next) }

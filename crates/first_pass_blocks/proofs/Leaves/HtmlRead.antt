@@ -1,8 +1,8 @@
 -- A pass read an HTML block that a blank line ends, after it ended what a new block ends (CommonMark 4.6).
-use Rattle.std.proofs.Common.{◌≡◌, inl, ℕ, ◌≤◌, List, length, drop, IsUtf8, IsCharBoundary, refl, sym, ap, subst, ◌∙◌, arith, Bool}
+use Rattle.std.proofs.Common.{◌≡◌, inl, ℕ, ◌≤◌, length, IsCharBoundary, refl, sym, ap, subst, ◌∙◌, arith, Bool}
 use Rattle.first_pass_items.specs.declared.item.Item.{Item}
 use Rattle.first_pass_tree.specs.Forest.{Forest, IsForest}
-use Rattle.first_pass_lines.specs.Places.{Place, offset, line_end, IsPlaceOf}
+use Rattle.first_pass_lines.specs.Places.{Place, offset, line_end}
 use Rattle.first_pass_grammar.specs.Kinds.{HtmlToBlank, unindented}
 use Rattle.first_pass_grammar.specs.Extents.{Extent}
 use Rattle.first_pass_grammar.specs.Leaves.{document}
@@ -10,7 +10,7 @@ use Rattle.first_pass_grammar.specs.Completion.{lines_from}
 use Rattle.first_pass_names.specs.TableEntries.{tables_in, names_of, NamesMore}
 use Rattle.first_pass_open.specs.Path.{path_of}
 use Rattle.first_pass_open.proofs.PlaceLemmas.{all_keep}
-use Rattle.first_pass_raw.specs.RawBlocks.{IsPlaceAt, after_line_at, html_to_blank}
+use Rattle.first_pass_raw.specs.RawBlocks.{after_line_at, html_to_blank}
 use Rattle.first_pass_lists.specs.Closing.{top_body, is_list, list_finished, with_tree}
 use Rattle.first_pass_lists.specs.declared.state.PassState.{PassState}
 use Rattle.first_pass_kinds.proofs.KindLemmas.{kind_says}
@@ -23,7 +23,7 @@ use Rattle.first_pass_order.specs.Ordered.{AreNested}
 use Rattle.first_pass_containers.proofs.Leaves.FirstItems.{kind_silent}
 use Rattle.first_pass_blocks.proofs.LineByLine.BlankStops.{html_stops, read_stopped, ordered_stopped}
 use Rattle.first_pass_containers.proofs.LineByLine.EnteredLines.{path_added, list_finished_blank}
-use Rattle.first_pass_blocks.proofs.Leaves.KindBlocks.{AddsHtml, columns_are, html_blank_added, ready_kind}
+use Rattle.first_pass_blocks.proofs.Leaves.KindBlocks.{AddsHtml, block_stands, columns_are, html_blank_added, ready_kind}
 use Rattle.first_pass_blocks.proofs.Leaves.LeafAdded.{found_boundary}
 use Rattle.first_pass_containers.proofs.Leaves.LeafLemmas.{line_end_of}
 use Rattle.first_pass_lists.proofs.NoEmptyItem.{list_finished_none}
@@ -37,11 +37,6 @@ use Rattle.first_pass_containers.proofs.StateAt.{IsStateAtPlace}
 use Rattle.first_pass_order.specs.LeafBlocks.{AddsKind}
 use Rattle.first_pass_kinds.specs.BlockStart.{IsFoundAt}
 use Rattle.first_pass_kinds.specs.declared.kinds.BlockStart.TheVariants.{HtmlToBlank as FoundHtml}
-
--- the block's place, at the offset after the indentation
-pub html_stands : (text : List ℕ) (p : Place) (at : ℕ) → IsUtf8 text → IsPlaceOf text p → at ≡ offset (unindented p) → IsPlaceAt text at (unindented p)
-html_stands text p at u i at_is =
-    let j = all_keep text p.line p.rest u i in record { offset_is = sym at_is; left_is = j.left ∙ ap (λ n. drop n text) (sym at_is) }
 
 -- A pass added an HTML block that a blank line ends, after it ended what a new block ends. Reading continues at a character
 -- boundary after the first line of the block.
@@ -73,7 +68,7 @@ html_read old new p at columns next is_at forest_after found h =
     let j = all_keep text p.line p.rest u i in
     let low = unindented_later text p.line p.rest u i in
     let begins = found_boundary text p at u i at_is in
-    let there = html_stands text p at u i at_is in
+    let there = block_stands text p at u i at_is in
     let here : after_line_at text at ≡ line_end p = ap (after_line_at text) at_is ∙ line_end_of text p j in
     let following = h.following in
     let later = following.0 in

@@ -1,6 +1,7 @@
 -- An added leaf block is the one that its kind opens at its place.
 use Rattle.std.proofs.Common.{◌≡◌, ℕ, ◌+◌, ◌<◌, ◌≤◌, nat_lt, Bool, true, false, List, length, drop, Some, None, refl, sym, ap, subst, ◌∙◌, arith, min}
-use Rattle.std.proofs.Common.{if◌then◌else◌}
+use Rattle.std.proofs.Common.{IsUtf8, if◌then◌else◌}
+use Rattle.first_pass_open.proofs.PlaceLemmas.{all_keep}
 use Rattle.std.proofs.lemmas.Bool.Decides.{nat_tests}
 use Rattle.first_pass_items.specs.declared.option_set.Options.{Options}
 use Rattle.first_pass_items.specs.declared.item.Item.{Item}
@@ -70,14 +71,22 @@ code_added text options names p old new next blank place a =
       );
     }
 
+-- the block's place, at the offset after the indentation
+pub block_stands : (text : List ℕ) (p : Place) (at : ℕ) → IsUtf8 text → IsPlaceOf text p → at ≡ offset (unindented p) → IsPlaceAt text at (unindented p)
+block_stands text p at u i at_is =
+    let j = all_keep text p.line p.rest u i in record { offset_is = sym at_is; left_is = j.left ∙ ap (λ n. drop n text) (sym at_is) }
+
+-- an HTML block up to a blank line, at a place
+abbrev pub AddsHtml : List ℕ → Options → Names → ℕ → ℕ → Place → Forest Item → Forest Item → ℕ → Type 0
+AddsHtml text options names start columns p old new next =
+    let e : Extent = html_to_blank text (path_of options old) p in
+    AddsRaw (document text options names) (λ d. IsHtml d start columns e.places e.«end») e.left old new next
+
 -- the contract of a block at an offset, for the place there
 module _ (text : List ℕ) (options : Options) (names : Names) (p : Place) (old new : Forest Item) (at next : ℕ) (at_is : at ≡ offset (unindented p))
     (place : IsPlaceOf text (unindented p)) where
   pub ends_here : after_line_at text at ≡ line_end p
   ends_here = ap (after_line_at text) at_is ∙ line_end_of text p place
-
-  pub is_here : IsPlaceAt text at (unindented p)
-  is_here = record { offset_is = sym at_is; left_is = place.left ∙ ap (λ n. drop n text) (sym at_is) }
 
   -- metadata
   pub metadata_added : (byte : ℕ) → (
@@ -153,10 +162,7 @@ module _ (text : List ℕ) (options : Options) (names : Names) (p : Place) (old 
       }
 
   -- HTML up to a blank line
-  pub html_blank_added : (columns : ℕ) → columns ≡ indent p.rest
-      → (
-      let e : Extent = html_to_blank text (path_of options old) (unindented p) in
-      AddsRaw (document text options names) (λ d. IsHtml d at columns e.places e.«end») e.left old new next)
+  pub html_blank_added : (columns : ℕ) → columns ≡ indent p.rest → AddsHtml text options names at columns (unindented p) old new next
       → AddsKind (document text options names) p HtmlToBlank false old new next
   unfolding OpensAs
   html_blank_added columns width a =
@@ -248,35 +254,11 @@ ready_kind old new p kind next names here leaf extends a none ready =
 pub columns_are : (n m : ℕ) → n ≡ min 4 m → nat_lt m 4 ≡ true → (n ≡ m) × (n ≤ 3)
 columns_are n m is node_bound = let low : m < 4 = grind (arith, nat_tests, node_bound) in (omega arith, omega arith)
 
--- an HTML block up to a blank line, at a place
-abbrev pub AddsHtml : List ℕ → Options → Names → ℕ → ℕ → Place → Forest Item → Forest Item → ℕ → Type 0
-AddsHtml text options names start columns p old new next =
-    let e : Extent = html_to_blank text (path_of options old) p in
-    AddsRaw (document text options names) (λ d. IsHtml d start columns e.places e.«end») e.left old new next
-
--- a leaf block that begins with a mark is no paragraph
-pub marked_other : (leaf : MarkedLeaf) → is_paragraph (marked_kind leaf) ≡ false
-marked_other MarkedCode = refl
-marked_other (MarkedMetadata byte) = refl
-marked_other (MarkedHtml «end») = refl
-marked_other (MarkedBreak size) = refl
-marked_other (MarkedHeading level) = refl
-marked_other (MarkedFence count byte) = refl
-
--- nor link definitions
-pub marked_no_run : (leaf : MarkedLeaf) → is_run (marked_kind leaf) ≡ false
-marked_no_run MarkedCode = refl
-marked_no_run (MarkedMetadata byte) = refl
-marked_no_run (MarkedHtml «end») = refl
-marked_no_run (MarkedBreak size) = refl
-marked_no_run (MarkedHeading level) = refl
-marked_no_run (MarkedFence count byte) = refl
-
--- nor a blank line
-pub marked_some : (leaf : MarkedLeaf) → marked_kind leaf ≡ Blank → ⊥
-marked_some MarkedCode e = cc
-marked_some (MarkedMetadata byte) e = cc
-marked_some (MarkedHtml «end») e = cc
-marked_some (MarkedBreak size) e = cc
-marked_some (MarkedHeading level) e = cc
-marked_some (MarkedFence count byte) e = cc
+-- a leaf block that begins with a mark is such a block
+pub marked_leaf : (options : Options) (p : Place) (leaf : MarkedLeaf) → IsKind options p.rest (marked_kind leaf) → IsOtherLeaf options p (marked_kind leaf)
+marked_leaf options p MarkedCode kind = record { is_kind = kind; some = λ e. cc; other = refl; no_run = refl }
+marked_leaf options p (MarkedMetadata byte) kind = record { is_kind = kind; some = λ e. cc; other = refl; no_run = refl }
+marked_leaf options p (MarkedHtml «end») kind = record { is_kind = kind; some = λ e. cc; other = refl; no_run = refl }
+marked_leaf options p (MarkedBreak size) kind = record { is_kind = kind; some = λ e. cc; other = refl; no_run = refl }
+marked_leaf options p (MarkedHeading level) kind = record { is_kind = kind; some = λ e. cc; other = refl; no_run = refl }
+marked_leaf options p (MarkedFence count byte) kind = record { is_kind = kind; some = λ e. cc; other = refl; no_run = refl }

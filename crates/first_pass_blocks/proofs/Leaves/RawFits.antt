@@ -25,6 +25,7 @@ use Rattle.first_pass_grammar.specs.OpenOrder.{within_top}
 use Rattle.first_pass_grammar.specs.Order.{GrowsBy}
 use Rattle.first_pass_grammar.specs.Counting.{counted_nodes}
 use Rattle.first_pass_grammar.proofs.Order.Orders.{between-any}
+use Rattle.first_pass_blocks.proofs.Leaves.KindBlocks.{AddsHtml}
 use Rattle.first_pass_grammar.proofs.Count.CountedNodes.{own_added}
 
 -- a place at an offset that is a character boundary
@@ -87,9 +88,7 @@ module _ (text : List ℕ) (options : Options) (names : Names) (old new : Forest
             (record { from = from; to = next; following = low; before = before }));
       }
 
-  pub to_blank_between : (columns : ℕ) (p : Place) → IsPlaceAt text start p → (
-      let e : Extent = html_to_blank text (path_of options old) p in
-      AddsRaw (document text options names) (λ d. IsHtml d start columns e.places e.«end») e.left old new next)
+  pub to_blank_between : (columns : ℕ) (p : Place) → IsPlaceAt text start p → AddsHtml text options names start columns p old new next
       → (from : ℕ) → from ≤ start → AddsBetween text from (html_to_blank text (path_of options old) p).«end» old new
   to_blank_between columns p i a from low =
       let e : Extent = html_to_blank text (path_of options old) p in
@@ -103,9 +102,7 @@ module _ (text : List ℕ) (options : Options) (names : Names) (old new : Forest
       }
 
   -- up to the start of the remaining lines, at most four nodes of the tree's own are new for each byte
-  pub to_blank_few : (columns : ℕ) (p : Place) → IsPlaceAt text start p → (
-      let e : Extent = html_to_blank text (path_of options old) p in
-      AddsRaw (document text options names) (λ d. IsHtml d start columns e.places e.«end») e.left old new next)
+  pub to_blank_few : (columns : ℕ) (p : Place) → IsPlaceAt text start p → AddsHtml text options names start columns p old new next
       → (from : ℕ) → from ≤ start → from < next → GrowsBy from next old.nodes new.nodes
   to_blank_few columns p i a from low apart =
       let e : Extent = html_to_blank text (path_of options old) p in

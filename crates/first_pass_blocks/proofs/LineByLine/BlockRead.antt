@@ -1,5 +1,5 @@
 -- A pass read a block, after its first line closed, continued and opened containers.
-use Rattle.std.proofs.Common.{◌≡◌, ℕ, ◌+◌, ◌<◌, ◌≤◌, false, List, Some, None, length, drop, IsUtf8, IsCharBoundary, refl, sym, ap, subst, ◌∙◌, arith}
+use Rattle.std.proofs.Common.{◌≡◌, ℕ, ◌+◌, ◌<◌, ◌≤◌, Bool, false, List, Option, Some, None, length, drop, IsUtf8, IsCharBoundary, refl, sym, ap, subst, ◌∙◌, arith}
 use Rattle.first_pass_items.specs.declared.item.Item.{Item}
 use Rattle.first_pass_lines.specs.Lines.{line_len}
 use Rattle.first_pass_lines.specs.Places.{Place, offset, line_end, IsPlaceOf}
@@ -21,8 +21,10 @@ use Rattle.first_pass_containers.specs.Positions.{Position, LineAt, InLine, Leaf
 use Rattle.first_pass_containers.specs.Entering.{EntersLine}
 use Rattle.first_pass_kinds.specs.declared.next_front.NextFront.{NextFront}
 use Rattle.first_pass_blocks.specs.OpenedFootnotes.{StaysSame}
-use Rattle.first_pass_blocks.specs.Progress.{PassesTo, ReadsBlockOf, ReadsBlock, ReadsEntered, ReadsLeaf}
+use Rattle.first_pass_blocks.specs.Progress.{IsAtPlace, PassesTo, ReadsBlockOf, ReadsBlock, ReadsEntered, ReadsLeaf}
 use Rattle.first_pass_containers.specs.Starts.{last_at, BeginsNoContainer}
+use Rattle.first_pass_containers.proofs.StateAt.{IsStateAtPlace}
+use Rattle.first_pass_tree.specs.Forest.{IsForest}
 use Rattle.first_pass_containers.proofs.Openings.NoContainer.{only_leaf}
 use Rattle.first_pass_containers.proofs.Openings.StartLemmas.{reads_none}
 use Rattle.first_pass_blocks.specs.Views.{allocs_of, front_of, state_of, source_of, source_text, tree_of}
@@ -128,6 +130,10 @@ entered_read old mid new p q after next from opens read = λ first start within 
     block_read over first mid new start (line_end q) next at there r (last_between start next q after (omega (arith, on, low)) later)
     (line_later over.text.now start _ next within refl (omega (arith, stop, far, later)) r.boundary).0
 
+-- the state of a pass at a place
+pub state_at : {pass : BlockPass} {p : Place} → IsAtPlace pass p → IsForest (tree_of pass) → IsStateAtPlace (source_text pass) (state_of pass) p
+state_at at forest = record { utf8 = at.utf8; place = at.place; forest = forest; none = at.no_empty }
+
 -- A pass came from a place to a later one, or to the same. No item is empty, and no front is known.
 pub record ReachesPlace (first : Place) (old mid : BlockPass) (p : Place) : Type 0 where
   pub no_empty : (state_of mid).begin_list_item ≡ None
@@ -135,24 +141,22 @@ pub record ReachesPlace (first : Place) (old mid : BlockPass) (p : Place) : Type
   pub here : IsNotBefore (source_text old) first p
   pub opened : PassesTo (source_of old) first.line old mid (InLine first) (InLine p)
 
--- the place is one of the text that the pass reads
-pub place_reached : (first : Place) (old mid : BlockPass) (p : Place) → IsUtf8 (source_text old) → ReachesPlace first old mid p
-    → IsUtf8 (source_text mid) × IsPlaceOf (source_text mid) p
-place_reached first old mid p utf8 r =
-    subst (λ (z : Source). IsUtf8 z.text.now × IsPlaceOf z.text.now p) (sym r.opened.source) (utf8, r.here.0)
+pub place_reached : {first p : Place} {old mid : BlockPass} → IsUtf8 (source_text old) → ReachesPlace first old mid p → IsAtPlace mid p
+place_reached {p = p} utf8 r =
+    let here = subst (λ (z : Source). IsUtf8 z.text.now × IsPlaceOf z.text.now p) (sym r.opened.source) (utf8, r.here.0) in
+    record { utf8 = here.0; place = here.1; no_empty = r.no_empty; none = r.none }
 
-pub reached_start : (old : BlockPass) (p : Place) → (state_of old).begin_list_item ≡ None → (front_of old).is_known ≡ false → IsPlaceOf (source_text old) p
-    → ReachesPlace p old old p
-reached_start old p no_empty none place = record {
-  no_empty = no_empty;
-  none = none;
-  here = (place, omega arith, omega arith, omega arith);
-  opened = passes_state (source_of old) p.line old old (InLine p) (InLine p) refl refl (reads_none (source_of old) p.line (state_of old) (InLine p));
+pub reached_start : {pass : BlockPass} {p : Place} → IsAtPlace pass p → ReachesPlace p pass pass p
+reached_start {pass = pass} {p = p} at = record {
+  no_empty = at.no_empty;
+  none = at.none;
+  here = (at.place, omega arith, omega arith, omega arith);
+  opened = passes_state (source_of pass) p.line pass pass (InLine p) (InLine p) refl refl (reads_none (source_of pass) p.line (state_of pass) (InLine p));
 }
 
 -- the same after a call that changed nothing
-pub reached_still : (first : Place) (old mid new : BlockPass) (p : Place) → StaysSame mid new → ReachesPlace first old mid p → ReachesPlace first old new p
-reached_still first old mid new p same r =
+pub reached_still : {first p : Place} {old mid new : BlockPass} → ReachesPlace first old mid p → StaysSame mid new → ReachesPlace first old new p
+reached_still {first = first} {p = p} {old = old} {mid = mid} {new = new} r same =
     let over : Source = source_of old in
     let kept = subst (λ (s : PassState). ReadsTo over first.line (state_of mid) s (InLine p) (InLine p)) (sym same.1)
     (reads_none over first.line (state_of mid) (InLine p)) in
@@ -164,35 +168,51 @@ reached_still first old mid new p same r =
           (passes_state over first.line mid new (InLine p) (InLine p) same.0 same.2 kept);
     }
 
+-- a pass is the same as one that was made of its parts
+pub same_parts : (pass : BlockPass) → StaysSame pass pass
+same_parts pass = (refl, refl, refl, refl)
+
 -- no container begins at such a place, and the leaf block there is read
-pub leaf_reached : (first : Place) (old mid new : BlockPass) (p : Place) (next : ℕ) → ReachesPlace first old mid p
+pub leaf_reached : {first p : Place} {old mid new : BlockPass} {next : ℕ} → ReachesPlace first old mid p
     → ReadsTo (source_of old) first.line (state_of mid) (state_of mid) (InLine p) (LeafAt p) → ReadsLeaf mid new p next → ReadsEntered old new first next
-leaf_reached first old mid new p next r leaf = entered_read old mid new first p OnLine next r.here
+leaf_reached {first = first} {p = p} {old = old} {mid = mid} {new = new} {next = next} r leaf = entered_read old mid new first p OnLine next r.here
     (passes_both (source_of old) first.line old mid mid (InLine first) (InLine p) (LeafAt p) r.opened
     (passes_state (source_of old) first.line mid mid (InLine p) (LeafAt p) refl refl leaf))
 
--- a pass entered a line at a place, and knows no front
+-- a pass entered the line at an offset: it is at a place in it, and the block there is the block of the line
 pub record IsEntered (old mid : BlockPass) (start : ℕ) (p : Place) : Type 0 where
-  pub within : start < length (source_text old)
-  pub source : source_of mid ≡ source_of old
-  pub same : allocs_of mid ≡ allocs_of old
-  pub none : (front_of mid).is_known ≡ false
-  pub enters : EntersLine (source_of old) (state_of old) (state_of mid) start (Some p)
+  pub at : IsAtPlace mid p
+  pub reads : (new : BlockPass) (next : ℕ) → ReadsEntered mid new p next → ReadsBlock old new (1 + start) (LineAt start) next
 
--- and the block there is read
-pub line_read : (old mid new : BlockPass) (start next : ℕ) (p : Place) → IsEntered old mid start p → ReadsEntered mid new p next
-    → ReadsBlock old new (1 + start) (LineAt start) next
-line_read old mid new start next p here read =
-    read old start here.within here.enters.0
-    (passes_state (source_of old) start old mid (LineAt start) (InLine p) here.source here.same here.enters.2)
+-- the parts of a pass that matter after it entered a line, with whether a front is known
+abbrev Parts : Type 0
+Parts = Source × PassState × Allocations × Bool
 
--- the same where no container begins
-pub line_leaf_read : (old mid new : BlockPass) (start next : ℕ) (p : Place) → IsEntered old mid start p → BeginsNoContainer p.rest
+-- a pass has this state, the source and the tables of another pass, and knows no front
+abbrev pub HasState : BlockPass → PassState → BlockPass → Type 0
+HasState old now mid = ◌≡◌ {A = Parts} (source_of mid, state_of mid, allocs_of mid, (front_of mid).is_known) (source_of old, now, allocs_of old, false)
+
+-- a pass with the state after a line was entered is at a place in that line
+pub line_entered : (old : BlockPass) (now : PassState) (start : ℕ) (p : Place) (found : Option Place) → IsUtf8 (source_text old)
+    → start < length (source_text old) → found ≡ Some p → EntersLine (source_of old) (state_of old) now start found
+    → (mid : BlockPass) → HasState old now mid → IsEntered old mid start p
+line_entered old now start p found utf8 within is entered mid has =
+    let over : Source = source_of old in
+    let source = ap (λ (z : Parts). z.0) has in
+    let there = subst (EntersLine over (state_of old) now start) is entered in
+    let e = subst (λ (s : PassState). EntersLine over (state_of old) s start (Some p)) (sym (ap (λ (z : Parts). z.1) has)) there in
+    let here = subst (λ (z : Source). IsUtf8 z.text.now × IsPlaceOf z.text.now p) (sym source) (utf8, e.0.0) in
+    record {
+      at = record { utf8 = here.0; place = here.1; no_empty = e.1; none = ap (λ (z : Parts). z.3) has };
+      reads = λ new next read.
+          read old start within e.0 (passes_state over start old mid (LineAt start) (InLine p) source (ap (λ (z : Parts). z.2) has) e.2);
+    }
+
+-- where no container begins, the leaf block is the block of the line
+pub line_leaf_read : {old mid new : BlockPass} {start next : ℕ} {p : Place} → IsEntered old mid start p → BeginsNoContainer p.rest
     → ReadsLeaf mid new p next → ReadsBlock old new (1 + start) (LineAt start) next
-line_leaf_read old mid new start next p here bare read =
-    let place = subst (λ (z : Source). IsPlaceOf z.text.now p) (sym here.source) here.enters.0.0 in
-    line_read old mid new start next p here (leaf_reached p mid mid new p next (reached_start mid p here.enters.1 here.none place)
-    (only_leaf (source_of mid) (state_of mid) p p.line bare) read)
+line_leaf_read {mid = mid} {new = new} {next = next} {p = p} here bare read =
+    here.reads new next (leaf_reached (reached_start here.at) (only_leaf (source_of mid) (state_of mid) p p.line bare) read)
 
 -- nothing follows the marker in its line
 pub line_ended : (over : Source) (old new : BlockPass) (start far next : ℕ) → PassesTo over start old new (LineAt start) (LineAt next)

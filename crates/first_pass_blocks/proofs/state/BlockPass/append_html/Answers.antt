@@ -7,7 +7,7 @@ use Rattle.first_pass_kinds.specs.declared.kinds.MarkedLeaf.{MarkedLeaf}
 use Rattle.first_pass_kinds.specs.declared.kinds.MarkedLeaf.TheVariants.{HtmlToEnd}
 use Rattle.first_pass_open.proofs.PlaceLemmas.{all_keep}
 use Rattle.first_pass_blocks.proofs.Leaves.RawFits.{to_end_between}
-use Rattle.first_pass_blocks.proofs.Leaves.KindBlocks.{html_end_added, is_here, columns_are}
+use Rattle.first_pass_blocks.proofs.Leaves.KindBlocks.{html_end_added, block_stands, columns_are}
 use Rattle.first_pass_blocks.proofs.Leaves.LeafAdded.{found_says, found_boundary, leaf_added}
 use Rattle.first_pass_blocks.proofs.state.BlockPass.append_html.Goals as goal
 
@@ -36,4 +36,4 @@ returns c = λ p f.
     until c.args.columns e.block)
     (html_end_added text options names p self.state.tree tree at next f.found.at_is i until c.args.columns until_is
     (columns_are _ _ f.found.columns_are (found_says options p leaf c.args.columns at f.found)).0
-    (e.block (unindented p) (is_here text options names p self.state.tree tree at next f.found.at_is i)))
+    (e.block (unindented p) (block_stands text p at f.utf8 f.place f.found.at_is)))

@@ -1,9 +1,10 @@
-use Rattle.std.proofs.Common.{◌+◌, drop, Some, refl, subst, ap, ◌∙◌}
+use Rattle.std.proofs.Common.{◌+◌, drop, refl, subst, ap, ◌∙◌}
 use Rattle.first_pass_lines.specs.Lines.{line_len}
 use Rattle.first_pass_lines.specs.Places.{Place}
 use Rattle.first_pass_containers.specs.Entering.{EntersLine}
 use Rattle.first_pass_containers.specs.Starts.{BeginsNoContainer}
-use Rattle.first_pass_blocks.proofs.LineByLine.BlockRead.{line_passed, line_read, line_leaf_read}
+use Rattle.first_pass_blocks.specs.declared.state.BlockPass.{BlockPass}
+use Rattle.first_pass_blocks.proofs.LineByLine.BlockRead.{HasState, IsEntered, line_entered, line_passed, line_leaf_read}
 use Rattle.first_pass_blocks.proofs.state.BlockPass.parse_block.Goals as goal
 use Rattle.first_pass_blocks.proofs.state.BlockPass.parse_block.Goals.{In-Some}
 
@@ -15,29 +16,21 @@ returns-in_default-clause-block c =
     (c.next_line.ensures.value ∙ ap (λ bs. start + line_len (drop start bs)) c.as_bytes.ensures.value)
     (subst (EntersLine self.source self.state c.enter_line.new.state start) c.in_default.is c.enter_line.ensures.entered)
 
-entered : (c : In-Some) → EntersLine c.args.self.now.source c.args.self.now.state c.enter_line.new.state c.args.start_ix (Some c.in-Some.place)
-entered c = subst (EntersLine c.args.self.now.source c.args.self.now.state c.enter_line.new.state c.args.start_ix) c.in-Some.is c.enter_line.ensures.entered
+entered : (c : In-Some) (mid : BlockPass) → HasState c.args.self.now c.enter_line.new.state mid → IsEntered c.args.self.now mid c.args.start_ix c.in-Some.place
+entered c =
+    line_entered c.args.self.now _ c.args.start_ix c.in-Some.place _ c.enter_line.ensures.utf8 c.requires.within c.in-Some.is c.enter_line.ensures.entered
 
 pub parse_leaf-requires : goal.parse_leaf-requires
-parse_leaf-requires c =
-    let here = entered (goal.at.parse_leaf-requires c).In-Some in
-    record { utf8 = c.enter_line.ensures.utf8; place = here.0.0; no_empty = here.1; none = refl }
+parse_leaf-requires c = (entered (goal.at.parse_leaf-requires c).In-Some _ refl).at
 
 pub returns-then-begins_no_container-clause-block : goal.returns-then-begins_no_container-clause-block
 returns-then-begins_no_container-clause-block c =
-    let here = entered (goal.at.returns-then-begins_no_container-clause-block c).In-Some in
-    line_leaf_read c.args.self.now _ _ c.args.start_ix c.in_ok-next.next c.in-Some.place
-    (record { within = c.requires.within; source = refl; same = refl; none = refl; enters = here })
+    line_leaf_read (entered (goal.at.returns-then-begins_no_container-clause-block c).In-Some _ refl)
     (subst (λ (q : Place). BeginsNoContainer q.rest) c.place.view_is (c.begins_no_container.ensures c.if-begins_no_container.true))
     c.in_ok-next.ensures.block
 
 pub parse_containers_apart-requires : goal.parse_containers_apart-requires
-parse_containers_apart-requires c =
-    let here = entered (goal.at.parse_containers_apart-requires c).In-Some in
-    record { utf8 = c.enter_line.ensures.utf8; place = here.0.0; no_empty = here.1; none = refl }
+parse_containers_apart-requires c = (entered (goal.at.parse_containers_apart-requires c).In-Some _ refl).at
 
 pub returns-clause-block : goal.returns-clause-block
-returns-clause-block c =
-    let here = entered (goal.at.returns-clause-block c).In-Some in
-    line_read c.args.self.now _ _ c.args.start_ix c.in_ok-next-2.next c.in-Some.place
-    (record { within = c.requires.within; source = refl; same = refl; none = refl; enters = here }) c.in_ok-next-2.ensures.block
+returns-clause-block c = (entered (goal.at.returns-clause-block c).In-Some _ refl).reads _ _ c.in_ok-next-2.ensures.block

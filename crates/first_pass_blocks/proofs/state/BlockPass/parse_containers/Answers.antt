@@ -20,7 +20,7 @@ use Rattle.first_pass_containers.specs.Positions.{Position, InLine, LeafAt, IsNo
 use Rattle.first_pass_containers.specs.Starts.{StartMatches, start_opened, after_at, last_at, IsAfterMarker, FinishesNothing, BeginsNoContainer}
 use Rattle.first_pass_blocks.specs.Views.{state_of, source_of, tree_of, source_options, source_text}
 use Rattle.first_pass_blocks.proofs.Leaves.TextsRead.{IsAtPlain, plain_leaf, text_in_opened}
-use Rattle.first_pass_blocks.proofs.LineByLine.BlockRead.{passes_state, passes_both, entered_read, ReachesPlace, place_reached, reached_start, reached_still, leaf_reached}
+use Rattle.first_pass_blocks.proofs.LineByLine.BlockRead.{passes_state, passes_both, entered_read, state_at, ReachesPlace, place_reached, reached_start, reached_still, same_parts, leaf_reached}
 use Rattle.first_pass_containers.proofs.Openings.JustOpened.{start_just_opened}
 use Rattle.first_pass_containers.proofs.Openings.NoContainer.{only_leaf, plain_begins_none}
 use Rattle.first_pass_containers.proofs.Openings.StartLemmas.{start_opens, no_start, opened_start}
@@ -29,9 +29,7 @@ use Rattle.first_pass_blocks.proofs.state.BlockPass.parse_containers.Goals as go
 use Rattle.first_pass_blocks.proofs.state.BlockPass.parse_containers.Goals.{Then-not-branch, In_ok-open_start, Joined-not-branch, in-OnLine, in_default-matches, then-not-branch+in-Some+in_ok-open_start+else-not-matches, else-not-branch}
 
 pub loop-place-init : goal.loop-place-init
-loop-place-init c =
-    reached_still c.args.place c.args.self.now c.args.self.now _ c.args.place (refl, refl, refl, refl)
-    (reached_start c.args.self.now c.args.place c.requires.no_empty c.requires.none c.requires.place)
+loop-place-init c = reached_still (reached_start c.requires) (same_parts c.args.self.now)
 
 -- no footnote definition begins at the place, and the search for another container begins
 record IsTried (first : Place) (old mid : BlockPass) (p : Place) : Type 0 where
@@ -46,7 +44,7 @@ tried first old now mid p q t is r tries =
     let same : StaysSame now mid = no.0 in
     let at : q ≡ p = no.1 in
     record {
-      reached = subst (ReachesPlace first old mid) (sym at) (reached_still first old now mid p same r);
+      reached = subst (ReachesPlace first old mid) (sym at) (reached_still r same);
       bare = λ no_table.
           ap (footnote_head_at (context_of over.options (tree_of mid))) at
           ∙ ap (λ (s : PassState). footnote_head_at (context_of over.options s.tree) p) same.1
@@ -110,8 +108,8 @@ parse_leaf_by_kind-requires c =
     let r = i.reached in
     let a = start_missing _ _ p c.start_at.new.place c.in_default.is (searched c.args.self.now.source c.open_footnote.new.self
     c.may_define-may_define.result p c.start_at.new.place c.start_at.result r.opened.source c.may_define-may_define.ensures c.start_at.ensures) in
-    let here = place_reached c.args.place c.args.self.now c.open_footnote.new.self p c.requires.utf8 r in
-    record { utf8 = here.0; place = subst (IsPlaceOf c.open_footnote.new.self.source.text.now) (sym a.1) here.1; no_empty = r.no_empty; none = r.none }
+    place_reached c.requires.utf8 (reached_still (subst (ReachesPlace c.args.place c.args.self.now c.open_footnote.new.self) (sym a.1) r)
+    (same_parts c.open_footnote.new.self))
 
 -- no container begins there
 pub returns-in_default-clause-block : goal.returns-in_default-clause-block
@@ -124,8 +122,7 @@ returns-in_default-clause-block c =
     let r = i.reached in
     let a = start_missing _ _ p c.start_at.new.place c.in_default.is (searched over mid c.may_define-may_define.result p c.start_at.new.place
     c.start_at.result r.opened.source c.may_define-may_define.ensures c.start_at.ensures) in
-    leaf_reached first c.args.self.now _ c.parse_leaf_by_kind.new.self c.start_at.new.place c.in_ok-next.next
-    (reached_still first c.args.self.now mid _ c.start_at.new.place (refl, refl, refl, refl) (subst (ReachesPlace first c.args.self.now mid) (sym a.1) r))
+    leaf_reached (reached_still (subst (ReachesPlace first c.args.self.now mid) (sym a.1) r) (same_parts mid))
     (subst (λ (q : Place). ReadsTo over first.line mid.state mid.state (InLine q) (LeafAt q)) (sym a.1)
     (no_start over mid.state p c.requires.utf8 r.here.0 c.recall_forest.ensures r.no_empty first.line r.here.1 i.bare a.0))
     c.in_ok-next.ensures.block
@@ -280,8 +277,7 @@ loop-place-smaller c = (nested (goal.at.loop-place-smaller c).Joined-not-branch)
 
 pub loop-place-preserved : goal.loop-place-preserved
 loop-place-preserved c =
-    reached_still c.args.place c.args.self.now c.if-not-branch.self _ c.if-not-branch.place (refl, refl, refl, refl)
-    (nested (goal.at.loop-place-preserved c).Joined-not-branch).reached
+    reached_still (nested (goal.at.loop-place-preserved c).Joined-not-branch).reached (same_parts c.if-not-branch.self)
 
 pub offset-requires : goal.offset-requires
 offset-requires c =
@@ -291,10 +287,8 @@ offset-requires c =
 
 pub parse_text-requires-clause-boundary : goal.parse_text-requires-clause-boundary
 parse_text-requires-clause-boundary c =
-    let p : Place = c.if-not-branch.place in
     let r = (nested (goal.at.parse_text-requires-clause-boundary c).Joined-not-branch).reached in
-    let here = place_reached c.args.place c.args.self.now c.if-not-branch.self p c.requires.utf8 r in
-    subst (IsCharBoundary c.if-not-branch.self.source.text.now) (sym c.offset.ensures) here.1.boundary
+    subst (IsCharBoundary c.if-not-branch.self.source.text.now) (sym c.offset.ensures) (place_reached c.requires.utf8 r).place.boundary
 
 -- the text that begins with a plain byte, in a container that was just opened
 pub returns-then-is_at_plain-clause-block : goal.returns-then-is_at_plain-clause-block
@@ -307,20 +301,17 @@ returns-then-is_at_plain-clause-block c =
     let next = c.in_ok-next-3.next in
     let e = c.in_ok-next-3.ensures in
     let n = nested (goal.at.returns-then-is_at_plain-clause-block c).Joined-not-branch in
-    let here = place_reached first old mid p c.requires.utf8 n.reached in
     let plain = subst IsAtPlain c.place-in-loop-place.view_is
     (c.is_at_plain.ensures.owed c.if-is_at_plain.true, c.is_at_plain.ensures.plain c.if-is_at_plain.true) in
     let text : ReadsTextOrTitle mid new (offset p) next = subst (λ (at : ℕ). ReadsTextOrTitle mid new at next) c.offset.ensures
     (text_in_opened mid new c.offset.result next n.just e.source e.more e.block (e.fits tt) e.state) in
-    leaf_reached first old mid new p next n.reached (only_leaf old.source mid.state p first.line (plain_begins_none p.rest plain.0 plain.1))
-    (plain_leaf mid new p next (record { utf8 = here.0; place = here.1; forest = c.recall_forest-in-loop-place.ensures; none = n.reached.no_empty }) plain
-    text)
+    leaf_reached n.reached (only_leaf old.source mid.state p first.line (plain_begins_none p.rest plain.0 plain.1))
+    (plain_leaf mid new p next (state_at (place_reached c.requires.utf8 n.reached) c.recall_forest-in-loop-place.ensures) plain text)
 
 pub parse_leaf_by_kind-requires-then-begins_no_container : goal.parse_leaf_by_kind-requires-then-begins_no_container
 parse_leaf_by_kind-requires-then-begins_no_container c =
     let r = (nested (goal.at.parse_leaf_by_kind-requires-then-begins_no_container c).Joined-not-branch).reached in
-    let here = place_reached c.args.place c.args.self.now c.if-not-branch.self c.if-not-branch.place c.requires.utf8 r in
-    record { utf8 = here.0; place = here.1; no_empty = r.no_empty; none = r.none }
+    place_reached c.requires.utf8 (reached_still r (same_parts c.if-not-branch.self))
 
 -- no container begins with the next byte
 pub returns-then-begins_no_container-clause-block : goal.returns-then-begins_no_container-clause-block
@@ -328,8 +319,7 @@ returns-then-begins_no_container-clause-block c =
     let mid : BlockPass = c.if-not-branch.self in
     let p : Place = c.if-not-branch.place in
     let n = nested (goal.at.returns-then-begins_no_container-clause-block c).Joined-not-branch in
-    leaf_reached c.args.place c.args.self.now _ c.parse_leaf_by_kind-then-begins_no_container.new.self p c.in_ok-next-4.next
-    (reached_still c.args.place c.args.self.now mid _ p (refl, refl, refl, refl) n.reached)
+    leaf_reached (reached_still n.reached (same_parts mid))
     (only_leaf c.args.self.now.source mid.state p c.args.place.line
     (subst (λ (q : Place). BeginsNoContainer q.rest) c.place-in-loop-place.view_is (c.begins_no_container.ensures c.if-begins_no_container.true)))
     c.in_ok-next-4.ensures.block

@@ -16,10 +16,10 @@ use Rattle.first_pass_blocks.proofs.Leaves.TextsRead.{run_text_or_title}
 use Rattle.first_pass_blocks.specs.declared.definition.RunEnd.TheVariants.{Paragraph}
 use Rattle.first_pass_blocks.proofs.state.BlockPass.parse_definitions_or_text.Goals as goal
 use Rattle.first_pass_blocks.proofs.state.BlockPass.parse_definitions_or_text.Goals.{In-Paragraph}
-use Rattle.first_pass_containers.proofs.StateAt.{IsStateAtPlace}
+use Rattle.first_pass_blocks.proofs.LineByLine.BlockRead.{state_at}
 
 pub parse_definitions-requires-clause-boundary : goal.parse_definitions-requires-clause-boundary
-parse_definitions-requires-clause-boundary c = found_boundary _ _ _ c.requires.utf8 c.requires.place c.requires.at
+parse_definitions-requires-clause-boundary c = found_boundary _ _ _ c.requires.here.utf8 c.requires.here.place c.requires.at
 
 pub returns-in-NextLine-clause-block : goal.returns-in-NextLine-clause-block
 returns-in-NextLine-clause-block c =
@@ -29,13 +29,12 @@ returns-in-NextLine-clause-block c =
     let r : PassState = self.state in
     let mid = c.parse_definitions.new.self in
     let e = c.in_ok-line.ensures in
-    let i = all_keep text p.line p.rest c.requires.utf8 c.requires.place in
+    let i = all_keep text p.line p.rest c.requires.here.utf8 c.requires.here.place in
     let nested = in_table r.tree.nodes r.tree.spine in
     let run = subst (ReadsRun text (context_in self) nested (unindented p) (tables_of self.allocs) (tables_of mid.allocs)) c.in-NextLine.is
     (e.run (unindented p) (ap (λ (q : Place). q.line) (sym c.place.view_is)) (sym c.requires.at) i) in
-    let here : IsStateAtPlace text r p =
-    record { utf8 = c.requires.utf8; place = c.requires.place; forest = c.recall_forest.ensures; none = c.requires.no_empty } in
-    run_line self mid _ p c.in-NextLine.line c.in-NextLine.next here c.requires.kind (record { kept = e.kept; run = run }) refl refl
+    run_line self mid _ p c.in-NextLine.line c.in-NextLine.next (state_at c.requires.here c.recall_forest.ensures) c.requires.kind
+    (record { kept = e.kept; run = run }) refl refl
     (c.finish_list.ensures ∙ ap (list_finished c.in-NextLine.line) e.kept.state)
 
 -- the link reference definitions before a paragraph
@@ -49,7 +48,7 @@ run_before c =
     subst (ReadsRun text (context_in self) (in_table self.state.tree.nodes self.state.tree.spine) (unindented p) (tables_of self.allocs)
     (tables_of c.parse_definitions.new.self.allocs)) c.in-Paragraph.is
     (c.in_ok-line.ensures.run (unindented p) (ap (λ (q : Place). q.line) (sym c.place.view_is)) (sym c.requires.at)
-    (all_keep text p.line p.rest c.requires.utf8 c.requires.place))
+    (all_keep text p.line p.rest c.requires.here.utf8 c.requires.here.place))
 
 pub parse_text_or_title-requires : goal.parse_text_or_title-requires
 parse_text_or_title-requires c =
@@ -59,11 +58,11 @@ parse_text_or_title-requires c =
 
 pub returns-in-NextLine-clause-front : goal.returns-in-NextLine-clause-front
 returns-in-NextLine-clause-front c = λ known.
-    let none = ap (λ (z : NextFront). z.is_known) c.in_ok-line.ensures.kept.front ∙ c.requires.none in cc
+    let none = ap (λ (z : NextFront). z.is_known) c.in_ok-line.ensures.kept.front ∙ c.requires.here.none in cc
 
 pub returns-clause-block : goal.returns-clause-block
 returns-clause-block c =
     let run = run_before (goal.at.returns-clause-block c).In-Paragraph in
     run_text_or_title c.args.self.now c.parse_definitions.new.self _ c.args.place c.in-Paragraph.text c.in_ok-next-in-Paragraph.next
-    (record { utf8 = c.requires.utf8; place = c.requires.place; forest = c.recall_forest.ensures; none = c.requires.no_empty }) c.requires.kind
+    (state_at c.requires.here c.recall_forest.ensures) c.requires.kind
     (record { kept = c.in_ok-line.ensures.kept; run = run }) c.in_ok-next-in-Paragraph.ensures.text

@@ -13,14 +13,13 @@ use Rattle.first_pass_open.specs.Between.{line_end_at}
 use Rattle.first_pass_kinds.specs.BlockStart.{IsFoundAt, kind_of, marked_kind}
 use Rattle.first_pass_kinds.specs.declared.kinds.MarkedLeaf.{MarkedLeaf}
 use Rattle.first_pass_kinds.proofs.KindLemmas.{Says, kind_says}
-use Rattle.first_pass_blocks.specs.Adding.{AddsLeaf}
 use Rattle.first_pass_order.specs.Ordered.{IsReadTo}
 use Rattle.first_pass_containers.specs.Positions.{line_or}
 use Rattle.first_pass_ready.specs.State.{Ready}
 use Rattle.first_pass_order.proofs.CountLemmas.{count, blank_count}
 use Rattle.first_pass_containers.proofs.LineByLine.EnteredLines.{list_finished_blank}
-use Rattle.first_pass_blocks.proofs.Leaves.HtmlRead.{html_stands, html_read}
-use Rattle.first_pass_blocks.proofs.Leaves.KindBlocks.{marked_some, marked_other, marked_no_run, columns_are, AddsHtml}
+use Rattle.first_pass_blocks.proofs.Leaves.HtmlRead.{html_read}
+use Rattle.first_pass_blocks.proofs.Leaves.KindBlocks.{marked_leaf, block_stands, columns_are, AddsHtml}
 use Rattle.first_pass_blocks.proofs.Leaves.LeafAdded.{found_boundary}
 use Rattle.first_pass_containers.proofs.Leaves.LeafLemmas.{ready_blank_leaf, line_end_of}
 use Rattle.first_pass_blocks.proofs.Leaves.LeafRead.{leaf_read}
@@ -30,11 +29,12 @@ use Rattle.first_pass_order.proofs.OrderLemmas.{ordered_none}
 use Rattle.first_pass_order.proofs.PopOrder.{read_blank_read}
 use Rattle.first_pass_containers.proofs.Order.OrderSteps.{line_or-below, place_before_end}
 use Rattle.first_pass_order.proofs.WholeKept.{IsReadWhole, blank_whole}
+use Rattle.first_pass_blocks.proofs.LineByLine.BlockRead.{state_at}
 use Rattle.first_pass_blocks.proofs.state.BlockPass.parse_kind.Goals as goal
 
 pub next_line-requires : goal.next_line-requires
 next_line-requires c =
-    let i = all_keep c.args.self.now.source.text.now c.args.place.line c.args.place.rest c.requires.utf8 c.requires.place in
+    let i = all_keep c.args.self.now.source.text.now c.args.place.line c.args.place.rest c.requires.here.utf8 c.requires.here.place in
     let e = c.requires.found.at_is in
     let l = ap length (c.as_bytes.ensures.value) in
     omega (arith, i.within)
@@ -46,10 +46,10 @@ returns-in-Blank-clause-block c =
     let p = c.args.place in
     let old : PassState = self.state in
     let next = c.next_line.result in
-    let i = all_keep text p.line p.rest c.requires.utf8 c.requires.place in
+    let i = all_keep text p.line p.rest c.requires.here.utf8 c.requires.here.place in
     let ends : next ≡ line_end p = c.next_line.ensures.value ∙ ap (λ t. line_end_at t c.args.at) c.as_bytes.ensures.value
     ∙ ap (line_end_at text) c.requires.found.at_is ∙ line_end_of text p i in
-    let last = subst (IsCharBoundary text) (sym ends) (place_end text p c.requires.utf8 c.requires.place) in
+    let last = subst (IsCharBoundary text) (sym ends) (place_end text p c.requires.here.utf8 c.requires.here.place) in
     let from = line_or old.tree p.line (offset p) in
     let below : from ≤ offset p = line_or-below old.tree p.line (offset p) (omega arith) in
     let here = place_before_end p in
@@ -65,18 +65,18 @@ returns-in-Blank-clause-block c =
           subst (λ q. Ready d (tables_of self.allocs) q (lines_from text next)) (sym c.read_blank_line.ensures)
           (subst (λ n. Ready d (tables_of self.allocs) (blank_read old) (lines_from text n)) (sym ends)
           (ready_blank_leaf d (tables_of self.allocs) old p (lines_from text (line_end p))
-          (subst (IsKind self.source.options p.rest) (ap kind_of c.in-Blank.is) c.requires.found.kind) c.requires.no_empty ready));
+          (subst (IsKind self.source.options p.rest) (ap kind_of c.in-Blank.is) c.requires.found.kind) c.requires.here.no_empty ready));
       named = λ h. subst (AreReadNamed (names_of self.allocs)) (sym c.read_blank_line.ensures) (blank_named (names_of self.allocs) old h);
       written = λ h. h;
       order = λ o. inl (subst (λ (q : PassState). IsReadTo text q next) (sym c.read_blank_line.ensures)
-          (read_blank_read text old from next (omega arith) high (ordered_none text old from c.requires.no_empty (omega arith) o.1.0, o.1.1)));
+          (read_blank_read text old from next (omega arith) high (ordered_none text old from c.requires.here.no_empty (omega arith) o.1.0, o.1.1)));
       tables = λ h k. subst (IsReadWhole (names_of self.allocs)) (sym c.read_blank_line.ensures) (blank_whole (names_of self.allocs) old k);
       node_bound = omega arith;
     }
 
 pub parse_html_block_type_6_or_7-requires : goal.parse_html_block_type_6_or_7-requires
 parse_html_block_type_6_or_7-requires c = record {
-  boundary = found_boundary _ _ _ c.requires.utf8 c.requires.place c.requires.found.at_is;
+  boundary = found_boundary _ _ _ c.requires.here.utf8 c.requires.here.place c.requires.found.at_is;
   columns = (columns_are _ _ c.requires.found.columns_are (subst (Says c.args.place.rest) (ap kind_of c.in-HtmlToBlank.is)
       (kind_says c.args.self.now.source.options c.args.place.rest (kind_of c.args.found) c.requires.found.kind))).1;
 }
@@ -92,7 +92,7 @@ returns-in_ok-next-in-HtmlToBlank-clause-block c =
     let e = c.in_ok-next-in-HtmlToBlank.ensures in
     let tree = c.parse_html_block_type_6_or_7.new.tree in
     html_read self _ p c.args.at c.args.columns c.in_ok-next-in-HtmlToBlank.next
-    (record { utf8 = c.requires.utf8; place = c.requires.place; forest = c.recall_forest.ensures; none = c.requires.no_empty })
+    (state_at c.requires.here c.recall_forest.ensures)
     (subst (λ (z : PassState). IsForest z.tree) rem c.recall_forest-in-HtmlToBlank.ensures)
     (subst (λ x. IsFoundAt self.source.options p x c.args.columns c.args.at) c.in-HtmlToBlank.is c.requires.found)
     (record {
@@ -102,7 +102,7 @@ returns-in_ok-next-in-HtmlToBlank-clause-block c =
       following = e.boundary;
       block = subst (λ (z : PassState). AddsHtml self.source.text.now self.source.options (names_of c.parse_html_block_type_6_or_7.new.allocs) c.args.at
           c.args.columns (unindented p) z.tree tree c.in_ok-next-in-HtmlToBlank.next) rem
-          (e.block (unindented p) (html_stands self.source.text.now p c.args.at c.requires.utf8 c.requires.place c.requires.found.at_is));
+          (e.block (unindented p) (block_stands self.source.text.now p c.args.at c.requires.here.utf8 c.requires.here.place c.requires.found.at_is));
     })
 
 pub append_marked-requires : goal.append_marked-requires
@@ -113,8 +113,8 @@ append_marked-requires c =
     let f : PassState = c.finish_list-in-Marked.new.self in
     let rem : f ≡ list_finished p.line old = c.finish_list-in-Marked.ensures ∙ ap (λ (z : Place). list_finished z.line old) c.place-in-Marked.view_is in
     record {
-      utf8 = c.requires.utf8;
-      place = c.requires.place;
+      utf8 = c.requires.here.utf8;
+      place = c.requires.here.place;
       found = subst (λ x. IsFoundAt self.source.options p x c.args.columns c.args.at) c.in-Marked.is c.requires.found;
       not_blank = ap (λ (r : PassState). r.blank) rem ∙ list_finished_blank p.line old;
       no_empty = ap (λ (r : PassState). r.begin_list_item) rem ∙ list_finished_none p.line old;
@@ -129,10 +129,11 @@ returns-in_ok-next-in-Marked-clause-block c =
     let f : PassState = c.finish_list-in-Marked.new.self in
     let rem : f ≡ list_finished p.line old = c.finish_list-in-Marked.ensures ∙ ap (λ (z : Place). list_finished z.line old) c.place-in-Marked.view_is in
     let leaf : MarkedLeaf = c.in-Marked.leaf in
-    let new = c.append_marked.new.self in
     let next = c.in_ok-next-in-Marked.next in
     let e = c.in_ok-next-in-Marked.ensures in
-    let adds : AddsLeaf (record self { state = f }) new p (marked_kind leaf) next = record {
+    leaf_read self _ p (marked_kind leaf) next (state_at c.requires.here c.recall_forest.ensures)
+    (marked_leaf options p leaf (subst (IsKind options p.rest) (ap kind_of c.in-Marked.is) c.requires.found.kind))
+    (rw (sym rem) (record {
       source = e.source;
       front = e.front;
       more = e.more;
@@ -141,25 +142,4 @@ returns-in_ok-next-in-Marked-clause-block c =
       later = e.later;
       boundary = e.boundary;
       fits = e.fits;
-    } in
-    let r = leaf_read self new p (marked_kind leaf) next
-    (record { utf8 = c.requires.utf8; place = c.requires.place; forest = c.recall_forest.ensures; none = c.requires.no_empty })
-    (record {
-      is_kind = subst (IsKind options p.rest) (ap kind_of c.in-Marked.is) c.requires.found.kind;
-      some = marked_some leaf;
-      other = marked_other leaf;
-      no_run = marked_no_run leaf;
-    })
-    (subst (λ (r : PassState). AddsLeaf (record self { state = r }) new p (marked_kind leaf) next) rem adds) in
-    record {
-      source = r.source;
-      names = r.names;
-      later = r.later;
-      boundary = r.boundary;
-      ready = r.ready;
-      order = r.order;
-      node_bound = r.node_bound;
-      named = r.named;
-      written = r.written;
-      tables = r.tables;
-    }
+    }))

@@ -90,12 +90,13 @@ returns-in_ok-next-in-Some-clause-block c =
       node_bound = omega arith;
     }
 
-pub parse_leaf-requires-clause-place : goal.parse_leaf-requires-clause-place
-parse_leaf-requires-clause-place c =
+pub parse_leaf-requires : goal.parse_leaf-requires
+parse_leaf-requires c =
     let text = c.args.self.now.source.text.now in
     let at = c.args.start in
     let path = path_of c.args.self.now.source.options c.args.self.now.state.tree in
     let h = said _ (context_in c.args.self.now) text _ _ at c.as_bytes.ensures.value c.rest_of-bytes.ensures.value c.in_ok-scan_flowing_line.ensures.value in
     let its = its_by (is_ordinary_after_tag (context_in c.args.self.now) (line_rest (drop at text))) _ c.in-Some.rest _ c.in-Some.is h in
-    subst (λ r. IsPlaceOf text (place_at at r)) (sym its.1) (text_place text at path (subst IsUtf8 c.as_bytes.ensures.value c.as_bytes.ensures.utf8)
-    c.requires.boundary).0
+    let u = subst IsUtf8 c.as_bytes.ensures.value c.as_bytes.ensures.utf8 in
+    let place = subst (λ r. IsPlaceOf text (place_at at r)) (sym its.1) (text_place text at path u c.requires.boundary).0 in
+    record { utf8 = u; place = place; no_empty = c.requires.no_empty; none = c.requires.none }
