@@ -1,8 +1,7 @@
 -- The label that a footnote definition names is read from its range.
-use Rattle.std.proofs.Common.{◌≡◌, ℕ, ◌+◌, ◌-◌, ◌≤◌, ◌&&◌, Bool, true, false, nat_lt, List, [], ◌∷◌, length, drop, min, Option, Some, None, refl, sym, ap}
-use Rattle.std.proofs.Common.{subst, ◌∙◌, drop-drop, arith, if◌then◌else◌}
+use Rattle.std.proofs.Common.{◌≡◌, ℕ, ◌+◌, ◌-◌, ◌≤◌, ◌&&◌, true, false, nat_lt, List, [], ◌∷◌, length, drop, min, Option, Some, None, refl, sym, ap}
+use Rattle.std.proofs.Common.{subst, ◌∙◌, drop-drop, arith}
 use Rattle.std.specs.Option.{option_and_then}
-use Rattle.std.specs.declared.ops.Range.{Range}
 use Rattle.std.proofs.Math.Nat.{min-eq_right}
 use Rattle.std.proofs.lemmas.Bool.{and_parts, true≢false}
 use Rattle.std.proofs.lemmas.List.{length-drop}
@@ -21,59 +20,42 @@ use Rattle.first_pass_grammar.specs.Definitions.{prefix_crossed}
 use Rattle.first_pass_grammar.specs.Footnotes.{footnote_prefix, footnote_at, footnote_head_at, label_bytes, NamesLabel}
 use Rattle.first_pass_grammar.specs.Kinds.{unindented}
 use Rattle.first_pass_grammar.specs.Leaves.{Document, around}
+use Rattle.first_pass_places.specs.AttributePlaces.{range_of}
 use Rattle.first_pass_places.specs.FootnoteLabels.{label_range}
 use Rattle.first_pass_places.specs.NamePlaces.{NamesLabelAt}
 use Rattle.first_pass_places.proofs.LabelPlaces.{IsPlainPrefix, label_ends, plain_prefix}
-
-plain_if : (t : Bool) (prefix : List ℕ → Option ℕ) → IsPlainPrefix prefix → IsPlainPrefix (λ bs. if t then None else prefix bs)
-plain_if true prefix h bs n e = absurd (none-some n e)
-plain_if false prefix h bs n e = h bs n e
+use Rattle.first_pass_places.proofs.OptionFacts.{some_if, some_unless}
 
 footnote_plain : (around : Context) → IsPlainPrefix (footnote_prefix around)
-footnote_plain around = plain_if (gfm_footnotes around.options) (prefix_crossed true around) (plain_prefix true around)
-
-some_if : (t : Bool) (o : Option (ℕ × List ℕ)) (head : ℕ × List ℕ) → (if t then o else None) ≡ Some head → o ≡ Some head
-some_if true o head e = e
-some_if false o head e = absurd (none-some head e)
+footnote_plain around bs n e = plain_prefix true around bs n (some_unless (gfm_footnotes around.options) (prefix_crossed true around bs) n e)
 
 -- the label of a head
 label_of_head : (bs : List ℕ) (o : Option (ℕ × List ℕ)) (head : ℕ × List ℕ) → option_and_then (head_after bs) o ≡ Some head
     → (found : ℕ × List ℕ) × (o ≡ Some found) × (found.1 ≡ head.1)
 label_of_head bs None head e = absurd (none-some head e)
 label_of_head bs (Some found) head e =
-    let same = some_if (begins colon (drop found.0 bs)) (Some (found.0 + 3, found.1)) head e in
+    let same = (some_if (begins colon (drop found.0 bs)) (Some (found.0 + 3, found.1)) head e).1 in
     (found, refl, ap (λ (p : ℕ × List ℕ). p.1) (same_Some (found.0 + 3, found.1) head same))
 
 head_label : (prefix : List ℕ → Option ℕ) (bs : List ℕ) (head : ℕ × List ℕ) → footnote_head prefix false bs ≡ Some head
     → (found : ℕ × List ℕ) × (label_at prefix false (drop 2 bs) ≡ Some found) × (found.1 ≡ head.1)
 unfolding footnote_head
-head_label prefix bs head e = label_of_head (drop 2 bs) (label_at prefix false (drop 2 bs)) head (some_if (begins_footnote_mark bs) _ head e)
+head_label prefix bs head e = label_of_head (drop 2 bs) (label_at prefix false (drop 2 bs)) head (some_if (begins_footnote_mark bs) _ head e).1
 
 -- a head has two bytes or more
-test_if : (t : Bool) (o : Option (ℕ × List ℕ)) (head : ℕ × List ℕ) → (if t then o else None) ≡ Some head → t ≡ true
-test_if true o head e = refl
-test_if false o head e = absurd (none-some head e)
-
 two_bytes : (bs : List ℕ) → begins_footnote_mark bs ≡ true → 2 ≤ length bs
 two_bytes [] h = absurd (true≢false (sym h))
 two_bytes (b ∷ []) h = absurd (true≢false (sym (and_parts (begins left_bracket (b ∷ [])) (begins circumflex []) h).1))
 two_bytes (b ∷ c ∷ bs) h = omega arith
 
-head_long : (prefix : List ℕ → Option ℕ) (bs : List ℕ) (head : ℕ × List ℕ) → footnote_head prefix false bs ≡ Some head → 2 ≤ length bs
-unfolding footnote_head
-head_long prefix bs head e = two_bytes bs (test_if (begins_footnote_mark bs) _ head e)
-
 pub head_begins : (prefix : List ℕ → Option ℕ) (bs : List ℕ) (head : ℕ × List ℕ) → footnote_head prefix false bs ≡ Some head → begins_footnote_mark bs ≡ true
 unfolding footnote_head
-head_begins prefix bs head e = test_if (begins_footnote_mark bs) _ head e
+head_begins prefix bs head e = (some_if (begins_footnote_mark bs) _ head e).0
 
 pub head_here : (around : Context) (p : Place) (head : ℕ × List ℕ) → footnote_head_at around p ≡ Some head
     → footnote_head (footnote_prefix around) false (unindented p).rest.left ≡ Some head
 unfolding footnote_head_at
-head_here around p head e = some_if (has around.options footnotes && nat_lt (indent p.rest) 4) (footnote_at false around (unindented p).rest.left) head e
-
-abbrev range_of : ℕ → ℕ → Range ℕ
-range_of start «end» = record { start = start; «end» = «end» }
+head_here around p head e = (some_if (has around.options footnotes && nat_lt (indent p.rest) 4) (footnote_at false around (unindented p).rest.left) head e).1
 
 pub footnote_is_read : (d : Document) (path : List Container) (p : Place) (index : CowIndex) (head : ℕ × List ℕ)
     → (unindented p).rest.left ≡ drop (offset (unindented p)) d.text → footnote_head_at (around d path) p ≡ Some head
@@ -86,7 +68,7 @@ footnote_is_read d path p index head at is named =
     let rest : List ℕ = drop (start + 2) d.text in
     let begins_here : footnote_head prefix false (unindented p).rest.left ≡ Some head = head_here (around d path) p head is in
     let found = head_label prefix (unindented p).rest.left head begins_here in
-    let long = head_long prefix (unindented p).rest.left head begins_here in
+    let long = two_bytes (unindented p).rest.left (head_begins prefix (unindented p).rest.left head begins_here) in
     let fits : start + 2 ≤ length d.text = (let left = length-drop start d.text in omega (arith, long, ap length at, left)) in
     let from : min (length d.text) (start + 2) ≡ start + 2 = min-eq_right fits in
     let there : drop 2 (unindented p).rest.left ≡ rest = ap (drop 2) at ∙ drop-drop 2 start d.text in

@@ -1,8 +1,7 @@
 -- The attributes that a heading names are those of its block's range.
-use Rattle.std.proofs.Common.{◌≡◌, ℕ, ◌+◌, Bool, true, false, List, drop, Option, Some, None, refl, sym, ap, ◌∙◌, arith, if◌then◌else◌}
+use Rattle.std.proofs.Common.{◌≡◌, ℕ, ◌+◌, List, drop, Option, Some, None, refl, sym, ap, ◌∙◌, arith}
 use Rattle.std.specs.Option.{option_map}
 use Rattle.std.specs.List.{slice_range}
-use Rattle.std.proofs.lemmas.Option.{none-some}
 use Rattle.first_pass_items.specs.OptionWords.{has, heading_attributes}
 use Rattle.first_pass_items.specs.declared.item.HeadingIndex.{HeadingIndex}
 use Rattle.first_pass_items.specs.declared.item.HeadingLevel.{HeadingLevel}
@@ -18,14 +17,7 @@ use Rattle.first_pass_places.specs.AttributeBlockPlaces.{block_range}
 use Rattle.first_pass_places.specs.InfoStrings.{bytes_in}
 use Rattle.first_pass_places.specs.NamePlaces.{NamesAttributesIn, FirstIsReadFromText}
 use Rattle.first_pass_places.proofs.BlockPlaces.{found_between}
-
-braces_if : (t : Bool) (o : Option Braces) (block : Braces) → (if t then o else None) ≡ Some block → o ≡ Some block
-braces_if true o block e = e
-braces_if false o block e = absurd (none-some block e)
-
-braces_found : (options : Options) (bs : List ℕ) (block : Braces) → heading_attribute_block options bs ≡ Some block → attribute_block bs ≡ Some block
-unfolding heading_attribute_block
-braces_found options bs block e = braces_if (has options heading_attributes) (attribute_block bs) block e
+use Rattle.first_pass_places.proofs.OptionFacts.{some_if}
 
 -- a heading's index names the attributes of `inside`, if that has the bytes between the braces of the block in `bs`
 pub named_by : (names : Names) (options : Options) (index : Option HeadingIndex) (bs inside : List ℕ) (o : Option Braces)
@@ -33,10 +25,11 @@ pub named_by : (names : Names) (options : Options) (index : Option HeadingIndex)
     → ((block : Braces) → attribute_block bs ≡ Some block → inside ≡ slice_range bs (block.opening + 1) block.closing)
     → NamesAttributes names index (option_map (λ block. attributes_of (slice_range bs (block.opening + 1) block.closing)) o)
     → NamesAttributesIn names index inside
+unfolding heading_attribute_block
 named_by names options None bs inside o found same named = tt
 named_by names options (Some ix) bs inside None found same named = absurd named
 named_by names options (Some ix) bs inside (Some block) found same named =
-    named ∙ ap (λ l. Some (attributes_of l)) (sym (same block (braces_found options bs block found)))
+    named ∙ ap (λ l. Some (attributes_of l)) (sym (same block (some_if (has options heading_attributes) (attribute_block bs) block found).1))
 
 -- an ATX heading
 pub heading_is_read : (d : Document) (start : ℕ) (level : HeadingLevel) (index : Option HeadingIndex) (chain : List Item) (e : ℕ)

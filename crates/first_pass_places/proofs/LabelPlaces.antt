@@ -2,12 +2,12 @@
 -- have no bracket and no backslash.
 use Rattle.std.proofs.Common.{◌≡◌, ℕ, zero, suc, ◌+◌, ◌==◌, ◌&&◌, Bool, true, false, List, [], ◌∷◌, length, take, drop, slice_index, Option, Some, None}
 use Rattle.std.proofs.Common.{refl, sym, ap, subst, ◌∙◌, arith, inl, inr, if◌then◌else◌}
-use Rattle.std.specs.Option.{option_map, option_map_or}
+use Rattle.std.specs.Option.{option_map_or}
 use Rattle.std.specs.List.{list_all}
 use Rattle.std.specs.Char.{is_ascii_punctuation}
 use Rattle.std.proofs.lemmas.Bool.{and_parts, cases_Bool, true≢false}
 use Rattle.std.proofs.lemmas.Bool.Decides.{nat_tests}
-use Rattle.std.proofs.lemmas.Option.{none-some, same_Some}
+use Rattle.std.proofs.lemmas.Option.{same_Some}
 use Rattle.std.proofs.Math.Seq.{take-append_seam}
 use Rattle.first_pass_items.specs.Bytes.{backslash, right_bracket}
 use Rattle.first_pass_lines.specs.Lines.{begins, ends_line}
@@ -19,6 +19,7 @@ use Rattle.first_pass_links.proofs.Destinations.{second, upto-stop, upto-byte, u
 use Rattle.first_pass_grammar.specs.Containers.{Context, front}
 use Rattle.first_pass_grammar.specs.Definitions.{crossed, prefix_crossed}
 use Rattle.first_pass_grammar.proofs.Sequences.PrefixBytes.{is_prefix_byte, Skips, line_skips}
+use Rattle.first_pass_places.proofs.OptionFacts.{some_if, some_unless, some_mapped}
 
 -- a prefix that is left out of a label has only prefix bytes
 abbrev pub IsPlainPrefix : (List ℕ → Option ℕ) → Type 0
@@ -39,10 +40,6 @@ further at b n m whole size same is ends =
     ap (slice_index (offsets_of ((at, b) ∷ whole))) past
     ∙ is (ap (λ k. begins right_bracket (drop k (bytes_of ((at, b) ∷ whole)))) (sym past) ∙ ends) ∙ omega (arith, same)
 
--- the bracket is here
-here : (at b : ℕ) (whole : List (ℕ × ℕ)) → label_len (bytes_of ((at, b) ∷ whole)) ≡ 0 → IsEndAt at ((at, b) ∷ whole) 0
-here at b whole size ends = ap (slice_index (offsets_of ((at, b) ∷ whole))) size ∙ omega arith
-
 -- the joined text is empty
 nothing_begins : (n : ℕ) → begins right_bracket (drop n []) ≡ true → ⊥
 nothing_begins zero e = true≢false (sym e)
@@ -61,7 +58,7 @@ prefix_byte b h = (grind (arith, nat_tests, h), grind (arith, nat_tests, h))
 line_byte : (b : ℕ) (bs : List ℕ) → ends_line b bs ≡ true → ((b == backslash) ≡ false) × (is_bracket b ≡ false)
 line_byte b bs h = (grind (arith, nat_tests, h), grind (arith, nat_tests, h))
 
-bracket_byte : (b : ℕ) → is_bracket b ≡ true → (b == backslash) ≡ false
+pub bracket_byte : (b : ℕ) → is_bracket b ≡ true → (b == backslash) ≡ false
 bracket_byte b h = grind (arith, nat_tests, h)
 
 escape_byte : (b c : ℕ) (bs : List ℕ) → begins_escape (b ∷ c ∷ bs) ≡ true → (ends_line b (c ∷ bs) ≡ false) × (ends_line c bs ≡ false)
@@ -80,11 +77,7 @@ module _ (prefix : List ℕ → Option ℕ) (plain : IsPlainPrefix prefix) where
   unfolding joined
   joined_escape at b c bs h =
       let lines = escape_byte b c bs h in
-      ap (λ t. if t then option_map_or (λ n. (at, b) ∷ joined prefix (at + 1) n (c ∷ bs)) (prefix (c ∷ bs)) [] else (at, b) ∷ joined prefix (at + 1) 0 (c ∷ bs))
-      lines.0
-      ∙ ap (λ t. (at, b) ∷ (if t then option_map_or (λ n. (at + 1, c) ∷ joined prefix (at + 1 + 1) n bs) (prefix bs) []
-      else (at + 1, c) ∷ joined prefix (at + 1 + 1) 0 bs))
-      lines.1
+      rw (lines.0, lines.1) refl
 
   -- no escape begins in the joined text where none begins in the text
   first_by : (t : Bool) (o : Option ℕ) (b c at : ℕ) (f : ℕ → List (ℕ × ℕ)) (g : List (ℕ × ℕ)) (cs : List ℕ) → begins_escape (b ∷ c ∷ cs) ≡ false
@@ -119,7 +112,9 @@ module _ (prefix : List ℕ → Option ℕ) (plain : IsPlainPrefix prefix) where
   other_by true at b bs e h beyond =
       let whole : List (ℕ × ℕ) = joined prefix (at + 1) 0 bs in
       let none = no_escape b (bytes_of whole) (bracket_byte b e) in
-      subst (IsEndAt at ((at, b) ∷ whole)) (sym (upto-stop is_bracket b bs h e)) (here at b whole (upto-stop is_bracket b (bytes_of whole) none e))
+      let here : IsEndAt at ((at, b) ∷ whole) 0 =
+      (λ ends. ap (slice_index (offsets_of ((at, b) ∷ whole))) (upto-stop is_bracket b (bytes_of whole) none e) ∙ omega arith) in
+      subst (IsEndAt at ((at, b) ∷ whole)) (sym (upto-stop is_bracket b bs h e)) here
   other_by false at b bs e h beyond =
       let whole : List (ℕ × ℕ) = joined prefix (at + 1) 0 bs in
       further at b (label_len bs) (label_len (b ∷ bs)) whole
@@ -167,10 +162,6 @@ module _ (prefix : List ℕ → Option ℕ) (plain : IsPlainPrefix prefix) where
       pair_by (begins_escape (b ∷ c ∷ cs)) at b c cs refl (ends_at (at + 1 + 1) zero cs refl) (λ n k. ends_at (at + 1) n (c ∷ cs) k)
 
 -- the label that is found ends at the first bracket
-label_if : (t : Bool) (n : ℕ) (label : List ℕ) (found : ℕ × List ℕ) → (if t then Some (n, label) else None) ≡ Some found → (t ≡ true) × (n ≡ found.0)
-label_if true n label found e = (refl, ap (λ (p : ℕ × List ℕ). p.0) (same_Some (n, label) found e))
-label_if false n label found e = absurd (none-some found e)
-
 pub label_ends : (prefix : List ℕ → Option ℕ) → IsPlainPrefix prefix → (in_table : Bool) (bs : List ℕ) (found : ℕ × List ℕ)
     → label_at prefix in_table bs ≡ Some found → found.0 ≡ label_len bs + 1
 unfolding label_at
@@ -178,27 +169,21 @@ label_ends prefix plain in_table bs found e =
     let whole : List (ℕ × ℕ) = joined prefix 0 0 bs in
     let n : ℕ = label_len (bytes_of whole) in
     let label : List ℕ = take n (bytes_of whole) in
-    let is = label_if (begins right_bracket (drop n (bytes_of whole)) && is_label label) (slice_index (offsets_of whole) n + 1)
-    (as_read in_table label) found e in
+    let is = some_if (begins right_bracket (drop n (bytes_of whole)) && is_label label)
+    (Some (slice_index (offsets_of whole) n + 1, as_read in_table label)) found e in
+    let end : slice_index (offsets_of whole) n + 1 ≡ found.0 = ap (λ (p : ℕ × List ℕ). p.0) (same_Some _ found is.1) in
     let place = ends_at prefix plain 0 0 bs refl (and_parts (begins right_bracket (drop n (bytes_of whole))) (is_label label) is.0).0 in
-    omega (arith, is.1, place)
+    omega (arith, end, place)
 
 -- the prefixes of lines have only prefix bytes
-crossed_by : (t : Bool) (bs : List ℕ) (q s : Rest) → Skips (line_rest bs) q → (if t then None else Some q) ≡ Some s → Skips (line_rest bs) s
-crossed_by true bs q s h e = absurd (none-some s e)
-crossed_by false bs q s h e = subst (Skips (line_rest bs)) (same_Some q s e) h
-
-taken_by : (bs : List ℕ) (o : Option Rest) (n : ℕ) → ((s : Rest) → o ≡ Some s → Skips (line_rest bs) s) → option_map (λ (r : Rest). r.taken) o ≡ Some n
-    → list_all is_prefix_byte (take n bs) ≡ true
-taken_by bs None n f e = absurd (none-some n e)
-taken_by bs (Some s) n f e =
-    let skips = f s refl in
-    let size : n ≡ length skips.bytes = sym (same_Some s.taken n e) ∙ skips.taken ∙ omega arith in
-    ap (λ k. list_all is_prefix_byte (take k bs)) size ∙ ap (λ l. list_all is_prefix_byte (take (length skips.bytes) l)) skips.left
-    ∙ ap (list_all is_prefix_byte) (take-append_seam skips.bytes s.left) ∙ skips.plain
-
 pub plain_prefix : (in_label : Bool) (around : Context) → IsPlainPrefix (prefix_crossed in_label around)
 unfolding crossed
 plain_prefix in_label around bs n e =
-    taken_by bs (crossed in_label around (line_rest bs)) n
-    (λ s h. crossed_by _ bs (after_columns 4 (front around.path (line_rest bs))) s (line_skips around.path 4 (line_rest bs)) h) e
+    let found = some_mapped (λ (r : Rest). r.taken) (crossed in_label around (line_rest bs)) n e in
+    let s : Rest = found.0 in
+    let end : Rest = after_columns 4 (front around.path (line_rest bs)) in
+    let same = same_Some end s (some_unless _ (Some end) s found.1) in
+    let skips : Skips (line_rest bs) s = subst (Skips (line_rest bs)) same (line_skips around.path 4 (line_rest bs)) in
+    let size : n ≡ length skips.bytes = sym found.2 ∙ skips.taken ∙ omega arith in
+    ap (λ k. list_all is_prefix_byte (take k bs)) size ∙ ap (λ l. list_all is_prefix_byte (take (length skips.bytes) l)) skips.left
+    ∙ ap (list_all is_prefix_byte) (take-append_seam skips.bytes s.left) ∙ skips.plain

@@ -1,14 +1,13 @@
 pub mod BlockPlaces
-pub mod FootnoteEntries
 pub mod FootnotePlaces
+pub mod FootnoteRows
 pub mod FootnoteTables
 pub mod HeadingPlaces
 pub mod InfoFacts
 pub mod LabelPlaces
-pub mod LabelRows
 pub mod MarkedBlocks
 pub mod MarkedNodes
-pub mod NamedHeads
+pub mod OptionFacts
 pub mod PlacedWords
 pub mod RangeBoundaries
 pub mod SetextPlaces

@@ -1,17 +1,20 @@
 -- In a derived sequence, the first byte of each fenced code block that starts on a character boundary is ASCII. So is
--- the second byte of each footnote definition, the `^`.
-use Rattle.std.proofs.Common.{◌≡◌, ℕ, ◌+◌, nat_lt, Bool, true, false, List, [], ◌∷◌, length, Option, Some, None, MatchOption}
-use Rattle.std.proofs.Common.{IsCharBoundary, is_some, inl, inr, refl, sym, ap, subst, ◌∙◌, if◌then◌else◌}
+-- the second byte of each footnote definition, the `^`. The index of each footnote definition names its label.
+use Rattle.std.proofs.Common.{◌≡◌, ℕ, ◌+◌, Bool, true, false, List, [], ◌∷◌, length, Option, Some, None, MatchOption}
+use Rattle.std.proofs.Common.{arith, unwrap_or, IsCharBoundary, inl, inr, refl, sym, ap, subst, ◌∙◌, if◌then◌else◌}
+use Rattle.std.specs.Option.{option_map}
 use Rattle.std.proofs.lemmas.Bool.{true≢false}
 use Rattle.first_pass_items.specs.OptionWords.{has, tasklists, gfm_footnotes}
+use Rattle.first_pass_items.specs.CowText.{text_of}
+use Rattle.first_pass_items.specs.declared.cow_str.CowStr.{CowStr}
 use Rattle.first_pass_items.specs.declared.item.Alignment.{Alignment}
 use Rattle.first_pass_items.specs.declared.item.HeadingLevel.{HeadingLevel}
 use Rattle.first_pass_items.specs.declared.item.Item.{Item}
 use Rattle.first_pass_items.specs.declared.item.ItemBody.{ItemBody}
 use Rattle.first_pass_items.specs.declared.item.ItemBody.TheVariants.{TaskListMarker}
 use Rattle.first_pass_items.specs.declared.option_set.Options.{Options}
-use Rattle.first_pass_lines.specs.Rest.{Rest, indent}
-use Rattle.first_pass_lines.specs.Places.{Place, offset, start_of}
+use Rattle.first_pass_lines.specs.Rest.{Rest}
+use Rattle.first_pass_lines.specs.Places.{Place, offset, lines_at, start_of}
 use Rattle.first_pass_scan.specs.LeafLines.{hrule_len, code_fence}
 use Rattle.first_pass_lines.specs.Lines.{atx_level}
 use Rattle.first_pass_scan.specs.Markers.{task_of}
@@ -19,27 +22,30 @@ use Rattle.first_pass_links.specs.Footnotes.{begins_footnote_mark}
 use Rattle.first_pass_grammar.specs.declared.kind.AfterMarker.{AfterMarker}
 use Rattle.first_pass_grammar.specs.declared.kind.AfterMarker.TheVariants.{OnLine, TaskText, LineEnds, OnlyTag}
 use Rattle.first_pass_grammar.specs.declared.kind.Container.{Container}
-use Rattle.first_pass_grammar.specs.Blocks.{Leaf, Opener, QuoteMarker, ItemMarker, FootnoteMarker, DefinitionMarker, Head, opened, Skeleton, Nil, Then, Node}
+use Rattle.first_pass_grammar.specs.Before.{nothing}
+use Rattle.first_pass_grammar.specs.Blocks.{Leaf, Opener, FootnoteMarker, Head, opened, Skeleton, Nil, Then, Node}
 use Rattle.first_pass_grammar.specs.Containers.{Context, at_rest, front}
+use Rattle.first_pass_grammar.specs.Derivation.{Tables, Derives}
 use Rattle.first_pass_grammar.specs.Footnotes.{footnote_head_at, footnote_prefix, place_past}
 use Rattle.first_pass_grammar.specs.Kinds.{Kind, Blank, IndentedCode, Metadata, HtmlToEnd, HtmlToBlank, ThematicBreak, AtxHeading, FencedCode}
-use Rattle.first_pass_grammar.specs.Kinds.{LinkDefinitions, Paragraph, all_taken, unindented, is_blank_rest, heading_or, rule_or, fence_or, metadata_or}
-use Rattle.first_pass_grammar.specs.Kinds.{begins_html_to_end, begins_html_to_blank, metadata_at, first_kind, IsKindBy, IsKind}
+use Rattle.first_pass_grammar.specs.Kinds.{LinkDefinitions, Paragraph, all_taken, unindented, is_blank_rest, heading_or, rule_or, fence_or}
+use Rattle.first_pass_grammar.specs.Kinds.{first_kind, IsKindBy, IsKind}
 use Rattle.first_pass_grammar.specs.Leaves.{Document, around, TextLines}
-use Rattle.first_pass_grammar.specs.LinkRuns.{kind_in, link_definition_at, lines_beyond, Ended, FlowsOn}
+use Rattle.first_pass_grammar.specs.LinkRuns.{kind_in, lines_beyond, Ended, FlowsOn}
+use Rattle.first_pass_grammar.specs.Names.{text_named}
 use Rattle.first_pass_grammar.specs.Openers.{Start, start_at, task_after, tag_after}
 use Rattle.first_pass_grammar.specs.Skeleton.{Continues, Line, Blanks, AtPlace, Allowed, Anything, OnlyALeaf, TextOf, OnlyMark, after_marker, Opening}
 use Rattle.first_pass_grammar.specs.Skeleton.{OpensLeaf, OpensNode, OpensText, OpensRun, OpensAs, OpensBlockAt, next_is_blank, only_task, without_indent}
 use Rattle.first_pass_grammar.specs.Skeleton.{after_tag, opening_by, OpensBy, OpensFootnote, Opens, OpensIf, OpensAt, may_define, Level, level_in}
-use Rattle.first_pass_grammar.specs.Skeleton.{level_after_leaf, level_after, Remaining, Lines, InLine, onward, after_first, IsFirst, IsSequence}
+use Rattle.first_pass_grammar.specs.Skeleton.{level, level_after_leaf, level_after, Remaining, Lines, InLine, onward, after_first, IsFirst, IsSequence}
 use Rattle.first_pass_grammar.specs.TableHeads.{headed_table}
 use Rattle.first_pass_grammar.specs.Tables.{Taken, IsTable}
 use Rattle.first_pass_grammar.specs.Texts.{IsPlainText, IsText, IsUnderlined, plain_text, underline_first}
 use Rattle.first_pass_grammar.specs.WholeTables.{ShowsNothing}
-use Rattle.first_pass_grammar.proofs.Each.EachLeaf.{HoldsOfLeaf, IsTask, IsTaskItem, IsMark, task_mark}
+use Rattle.first_pass_grammar.proofs.Each.EachLeaf.{HoldsOfLeaf, HoldsOfEachLeaf, IsTask, IsTaskItem, IsMark, TaskBefore, task_mark}
 use Rattle.first_pass_grammar.proofs.Sequences.AfterMarkers.{HoldsAfter, after_task_holds, after_quote_holds}
 use Rattle.first_pass_grammar.proofs.Sequences.Goings.{BeginsAt, begins_at}
-use Rattle.first_pass_grammar.proofs.Sequences.LinesLeft.{text_left, beyond_at, place_after_at, head_at}
+use Rattle.first_pass_grammar.proofs.Sequences.LinesLeft.{lines_are_at, text_left, beyond_at, place_after_at, head_at}
 use Rattle.first_pass_grammar.proofs.Sequences.OpenerFacts.{start_cases}
 use Rattle.first_pass_grammar.proofs.Sequences.PlacesKept.{IsAt, AreAt, at_unindented, at_front, at_taken, at_quote, at_item, at_marker}
 use Rattle.first_pass_grammar.proofs.WholeTables.FullHeads.{heads_are_full}
@@ -58,37 +64,23 @@ abbrev pub FirstMarked : List ℕ → List (ℕ × Item) → Type 0
 FirstMarked text [] = Unit {0}
 FirstMarked text (x ∷ items) = IsMarked text x.1
 
--- a footnote definition that begins at this offset has an ASCII mark
-abbrev pub OpenerMarked : List ℕ → ℕ → Opener → Type 0
-OpenerMarked text start (QuoteMarker kind) = Unit {0}
-OpenerMarked text start (ItemMarker byte number columns) = Unit {0}
-OpenerMarked text start (FootnoteMarker columns index label) = IsAsciiAt text (start + 1)
-OpenerMarked text start (DefinitionMarker columns) = Unit {0}
+-- a footnote definition that begins at this offset has an ASCII mark, and its index names its label
+abbrev pub IsReadOpener : Document → ℕ → Opener → Type 0
+IsReadOpener d start (FootnoteMarker columns index label) = IsAsciiAt d.text (start + 1) × (text_named d.names index ≡ label)
+IsReadOpener d start _ = Unit {0}
 
--- each footnote definition in a sequence has one
-unfoldable pub AreMarkedHeads : List ℕ → Skeleton → Type 0
-AreMarkedHeads text Nil = Unit {0}
-AreMarkedHeads text (Then leaf next) = AreMarkedHeads text next
-AreMarkedHeads text (Node head e kids next) = OpenerMarked text head.start head.opener × AreMarkedHeads text kids × AreMarkedHeads text next
-
--- the first item of each leaf block in a sequence meets `IsMarked`
-unfoldable pub AreMarkedLeaves : List ℕ → Skeleton → Type 0
-AreMarkedLeaves text Nil = Unit {0}
-AreMarkedLeaves text (Then leaf next) = HoldsOfLeaf (FirstMarked text) leaf × AreMarkedLeaves text next
-AreMarkedLeaves text (Node head e kids next) = AreMarkedLeaves text kids × AreMarkedLeaves text next
+-- the same for each footnote definition in a sequence
+unfoldable pub AreReadHeads : Document → Skeleton → Type 0
+AreReadHeads d Nil = Unit {0}
+AreReadHeads d (Then leaf next) = AreReadHeads d next
+AreReadHeads d (Node head e kids next) = IsReadOpener d head.start head.opener × AreReadHeads d kids × AreReadHeads d next
 
 -- If blocks continue at a place, it is a place of the text; if a marker is given there, the marker is a task list item
 -- marker.
-abbrev TaskMay : Allowed → Type 0
-TaskMay Anything = Unit {0}
-TaskMay OnlyALeaf = Unit {0}
-TaskMay (TextOf marker) = IsTask marker.body
-TaskMay (OnlyMark marker blanks) = IsTask marker.body
-
 abbrev PlacedFrom : List ℕ → Continues → Type 0
 PlacedFrom text Line = Unit {0}
 PlacedFrom text (Blanks e) = Unit {0}
-PlacedFrom text (AtPlace p may) = IsAt text p × TaskMay may
+PlacedFrom text (AtPlace p may) = IsAt text p × TaskBefore (AtPlace p may)
 
 task_shows : (body : ItemBody) → IsTask body → ShowsNothing body
 task_shows (TaskListMarker checked) h = λ names depth start end. refl
@@ -98,16 +90,16 @@ task_marked : (body : ItemBody) (text : List ℕ) (start : ℕ) → IsTask body 
 task_marked (TaskListMarker checked) text start h b = b
 task_marked body text start h b = absurd (true≢false (sym h))
 
-plain_may : (may : Allowed) → TaskMay may → PlainMay may
-plain_may Anything h = tt
-plain_may OnlyALeaf h = tt
-plain_may (TextOf marker) h = task_shows marker.body h
-plain_may (OnlyMark marker blanks) h = task_shows marker.body h
+plain_may : (p : Place) (may : Allowed) → TaskBefore (AtPlace p may) → PlainMay may
+plain_may p Anything h = tt
+plain_may p OnlyALeaf h = tt
+plain_may p (TextOf marker) h = task_shows marker.body h
+plain_may p (OnlyMark marker blanks) h = task_shows marker.body h
 
 plain_from : (text : List ℕ) (from : Continues) → PlacedFrom text from → PlainFrom text from
 plain_from text Line h = tt
 plain_from text (Blanks e) h = tt
-plain_from text (AtPlace p may) h = (h.0, plain_may may h.1)
+plain_from text (AtPlace p may) h = (h.0, plain_may p may h.1)
 
 onward_placed : (text : List ℕ) (left : Remaining) → PlainFrom text (onward left).0 → PlacedFrom text (onward left).0
 onward_placed text (Lines lines) h = tt
@@ -128,30 +120,13 @@ first_placed text (AtPlace p (OnlyMark marker blanks)) there k = marker_placed t
 first_placed text from there k = k
 
 -- the kind of a fenced code block has a code fence
-if_kind : (t : Bool) (count byte : ℕ) → (if t then LinkDefinitions else Paragraph) ≡ FencedCode count byte → ⊥
-if_kind true count byte h = cc
-if_kind false count byte h = cc
-
 fence_in : (around : Context) (p : Place) (kind : Kind) (count byte : ℕ) → kind_in around p kind ≡ FencedCode count byte → kind ≡ FencedCode count byte
-fence_in around p Paragraph count byte h = absurd (if_kind (is_some (link_definition_at around (unindented p))) count byte h)
+fence_in around p Paragraph count byte h = absurd (grind (arith, h))
 fence_in around p kind count byte h = h
-
-no_first_by : (t u v w : Bool) (m : Option ℕ) (count byte : ℕ)
-    → (if t then Some Blank
-    else (if u then metadata_or m (if v then Some HtmlToEnd else (if w then Some HtmlToBlank else None)) else Some IndentedCode))
-    ≡ Some (FencedCode count byte) → ⊥
-no_first_by true u v w m count byte h = cc
-no_first_by false false v w m count byte h = cc
-no_first_by false true v w (Some mark) count byte h = cc
-no_first_by false true true w None count byte h = cc
-no_first_by false true false true None count byte h = cc
-no_first_by false true false false None count byte h = cc
 
 no_first : (options : Options) (r : Rest) (count byte : ℕ) → first_kind options r ≡ Some (FencedCode count byte) → ⊥
 unfolding first_kind
-no_first options r count byte h =
-    no_first_by (is_blank_rest r) (nat_lt (indent r) 4) (begins_html_to_end (all_taken r).left) (begins_html_to_blank (all_taken r).left)
-    (metadata_at (indent r) options (all_taken r).left) count byte h
+no_first options r count byte h = grind (arith, h)
 
 last_by : (rule : Option ℕ) (level : Option HeadingLevel) (fence : Option (ℕ × ℕ)) (count byte : ℕ)
     → FencedCode count byte ≡ rule_or rule (heading_or level (fence_or fence Paragraph)) → (found : ℕ × ℕ) × (fence ≡ Some found)
@@ -170,7 +145,7 @@ fence_by options r None count byte e (inr (none, is)) =
 module _ (d : Document) where
   abbrev IsOpened : Opening → Type 0
   IsOpened (OpensLeaf leaf there left) = HoldsOfLeaf (FirstMarked d.text) leaf × PlacedFrom d.text there × AreAt d.text left
-  IsOpened (OpensNode head inside following) = OpenerMarked d.text head.start head.opener × PlacedFrom d.text inside × AreAt d.text following
+  IsOpened (OpensNode head inside following) = IsReadOpener d head.start head.opener × PlacedFrom d.text inside × AreAt d.text following
 
   -- a paragraph, a setext heading or a table
   ended_first : (start : ℕ) (marker : Option Item) (l : TextLines) (t : Taken) (o : Option (ℕ × HeadingLevel))
@@ -211,18 +186,13 @@ module _ (d : Document) where
       → AreAt d.text lines → WholeOpening d o → OpensAs d path p lines kind o → IsOpened o
   unfolding OpensAs
   kind_opened path p lines Blank o fence h whole e = leaf_opened _ _ o e tt whole
-  kind_opened path p lines IndentedCode o fence h whole (items, is, e) =
-      leaf_opened _ _ o e (subst (FirstMarked d.text) (sym is.items_are) (λ b. b)) whole
-  kind_opened path p lines (Metadata byte) o fence h whole (items, is, e) =
-      leaf_opened _ _ o e (subst (FirstMarked d.text) (sym is.items_are) (λ b. b)) whole
-  kind_opened path p lines HtmlToEnd o fence h whole (until, found, (items, is, e)) =
-      leaf_opened _ _ o e (subst (FirstMarked d.text) (sym is.items_are) (λ b. b)) whole
-  kind_opened path p lines HtmlToBlank o fence h whole (items, is, e) =
-      leaf_opened _ _ o e (subst (FirstMarked d.text) (sym is.items_are) (λ b. b)) whole
+  kind_opened path p lines IndentedCode o fence h whole (items, is, e) = leaf_opened _ _ o e (rw is.items_are (λ b. b)) whole
+  kind_opened path p lines (Metadata byte) o fence h whole (items, is, e) = leaf_opened _ _ o e (rw is.items_are (λ b. b)) whole
+  kind_opened path p lines HtmlToEnd o fence h whole (until, found, (items, is, e)) = leaf_opened _ _ o e (rw is.items_are (λ b. b)) whole
+  kind_opened path p lines HtmlToBlank o fence h whole (items, is, e) = leaf_opened _ _ o e (rw is.items_are (λ b. b)) whole
   kind_opened path p lines (ThematicBreak size) o fence h whole e = leaf_opened _ _ o e (λ b. b) whole
   kind_opened path p lines (AtxHeading level) o fence h whole (index, chain, stop, is, e) = leaf_opened _ _ o e (λ b. b) whole
-  kind_opened path p lines (FencedCode count byte) o fence h whole (items, is, e) =
-      leaf_opened _ _ o e (subst (FirstMarked d.text) (sym is.items_are) (λ b. fence count byte refl)) whole
+  kind_opened path p lines (FencedCode count byte) o fence h whole (items, is, e) = leaf_opened _ _ o e (rw is.items_are (λ b. fence count byte refl)) whole
   kind_opened path p lines LinkDefinitions o fence h whole opens = run_opened path p lines o whole opens
   kind_opened path p lines Paragraph o fence h whole opens = text_opened path p lines None o h opens
 
@@ -231,7 +201,7 @@ module _ (d : Document) where
   fence_here path p kind count byte i is e =
       let same : kind ≡ FencedCode count byte = fence_in (around d path) p kind count byte e in
       let found = fence_by d.options p.rest (first_kind d.options p.rest) count byte refl (subst (IsKind d.options p.rest) same is) in
-      ascii_fence d.text (offset (unindented p)) found.0.0 found.0.1 (sym (ap code_fence (at_unindented d.text p i)) ∙ found.1)
+      ascii_fence d.text (offset (unindented p)) found.0 (sym (ap code_fence (at_unindented d.text p i)) ∙ found.1)
 
   block_opened : (path : List Container) (p : Place) (lines : List Place) (o : Opening) → IsAt d.text p → AreAt d.text lines
       → OpensBlockAt d path p lines o → IsOpened o
@@ -255,12 +225,12 @@ module _ (d : Document) where
   if_opened true o o' h k = h
   if_opened false o o' h k = k
 
-  without_marked : (start : ℕ) (opener : Opener) → OpenerMarked d.text start opener → OpenerMarked d.text start (without_indent opener)
-  without_marked start (FootnoteMarker columns index label) h = h
-  without_marked start opener h = tt
+  without_read : (start : ℕ) (opener : Opener) → IsReadOpener d start opener → IsReadOpener d start (without_indent opener)
+  without_read start (FootnoteMarker columns index label) h = h
+  without_read start opener h = tt
 
   container_opened : (path : List Container) (head : Head) (inside : Place) (lines : List Place) (after : AfterMarker)
-      → OpenerMarked d.text head.start head.opener → HoldsAfter IsTaskItem after → IsAt d.text inside → AreAt d.text lines
+      → IsReadOpener d head.start head.opener → HoldsAfter IsTaskItem after → IsAt d.text inside → AreAt d.text lines
       → IsOpened (opening_by d path head inside lines after)
   container_opened path head inside lines OnLine m task i h = (m, (i, tt), h)
   container_opened path head inside lines (TaskText marker) m task i h = (m, (i, task), h)
@@ -269,12 +239,12 @@ module _ (d : Document) where
       if_opened (next_is_blank (opened head.opener ∷ path) lines)
       (OpensNode (record head { opener = without_indent head.opener }) (only_task marker inside blanks) lines)
       (OpensNode head (only_task marker inside None) lines)
-      (without_marked head.start head.opener m, alone_placed d.text marker inside blanks task i, h) (m, alone_placed d.text marker inside None task i, h)
+      (without_read head.start head.opener m, alone_placed d.text marker inside blanks task i, h) (m, alone_placed d.text marker inside None task i, h)
   container_opened path head inside lines OnlyTag m task i h =
       let there = tag_opened (around d (opened head.opener ∷ path)) lines h in (m, there.0, there.1)
 
   abbrev IsStart : Place → Start → Type 0
-  IsStart p s = OpenerMarked d.text s.head.start s.head.opener × HoldsAfter IsTaskItem s.after × IsAt d.text (at_rest p s.rest)
+  IsStart p s = IsReadOpener d s.head.start s.head.opener × HoldsAfter IsTaskItem s.after × IsAt d.text (at_rest p s.rest)
 
   start_is : (may : Bool) (p : Place) → IsAt d.text p → (s : Start) → start_at d.options may p ≡ Some s → IsStart p s
   start_is may p i =
@@ -307,12 +277,13 @@ module _ (d : Document) where
       (place_after_at d.text size (unindented p) (at_unindented d.text p i)) (beyond_at d.text (offset q) lines h) in
       let begins = head_begins (footnote_prefix (around d l.path)) (unindented p).rest.left (size, label) (head_here (around d l.path) p (size, label) is) in
       let mark = ascii_footnote d.text (offset (unindented p)) (sym (ap begins_footnote_mark (at_unindented d.text p i)) ∙ begins) in
-      subst IsOpened (sym e) (mark, (there.0, tt), there.1)
+      let name : text_named d.names index ≡ label = ap (λ (o : Option CowStr). unwrap_or (option_map text_of o) []) named.at ∙ named.text in
+      subst IsOpened (sym e) ((mark, name), (there.0, tt), there.1)
 
   any_opened : (l : Level) (p : Place) (lines : List Place) (o : Opening) → IsAt d.text p → AreAt d.text lines → Opens d l p lines o → IsOpened o
   any_opened l p lines o i h opens = head_opened l p lines (footnote_head_at (around d l.path) p) o refl i h opens
 
-  allowed_opened : (l : Level) (may : Allowed) (p : Place) (lines : List Place) (o : Opening) → TaskMay may → IsAt d.text p → AreAt d.text lines
+  allowed_opened : (l : Level) (may : Allowed) (p : Place) (lines : List Place) (o : Opening) → TaskBefore (AtPlace p may) → IsAt d.text p → AreAt d.text lines
       → OpensIf d l may p lines o → IsOpened o
   allowed_opened l Anything p lines o task i h opens = any_opened l p lines o i h opens
   allowed_opened l OnlyALeaf p lines o task i h opens = block_opened l.path p lines o i h opens
@@ -337,9 +308,9 @@ module _ (d : Document) where
       at_opened l from lines f.place f.following o placed h (begins_at d.options l from lines f.place f.following f.begins) f.opens
 
   -- each block of a sequence
-  pub marked_blocks : (s : Skeleton) (l : Level) (from : Continues) (lines : List Place) (left : Remaining) → PlacedFrom d.text from → AreAt d.text lines
-      → IsSequence d s l from lines left → AreMarkedLeaves d.text s × AreMarkedHeads d.text s
-  unfolding IsSequence AreMarkedLeaves AreMarkedHeads
+  marked_blocks : (s : Skeleton) (l : Level) (from : Continues) (lines : List Place) (left : Remaining) → PlacedFrom d.text from → AreAt d.text lines
+      → IsSequence d s l from lines left → HoldsOfEachLeaf (FirstMarked d.text) s × AreReadHeads d s
+  unfolding IsSequence HoldsOfEachLeaf AreReadHeads
   marked_blocks Nil l from lines left placed h ends = (tt, tt)
   marked_blocks (Then leaf next) l from lines left placed h (there, mid, first, more) =
       let one = first_opened l from lines (OpensLeaf leaf there mid) placed h first in
@@ -353,3 +324,9 @@ module _ (d : Document) where
       let rest = marked_blocks next (level_after l head kids) (after_first from (onward mid).0) (onward mid).1 left
       (first_placed d.text from (onward mid).0 (onward_placed d.text mid after.0)) after.1 more in
       ((below.0, rest.0), (one.0, below.1, rest.1))
+
+-- the blocks of a derived tree
+pub derived_blocks : (d : Document) (nodes : List (ℕ × Item)) (tables : Tables) (h : Derives d nodes tables)
+    → HoldsOfEachLeaf (FirstMarked d.text) h.skeleton × AreReadHeads d h.skeleton
+derived_blocks d nodes tables h =
+    marked_blocks d h.skeleton (level [] nothing) Line (lines_at 0 d.text) (Lines []) tt (lines_are_at d.text) h.sequence

@@ -1,20 +1,20 @@
 -- The attributes that `attributes_from_places` reads at the ranges from `attribute_ranges` are those of the words of
 -- the block.
-use Rattle.std.proofs.Common.{◌≡◌, ℕ, suc, ◌+◌, ◌-◌, ◌<◌, ◌≤◌, ◌==◌, ◌||◌, not, cond, Bool, true, false, nat_lt, List, [], ◌∷◌, ◌++◌, All, length}
+use Rattle.std.proofs.Common.{◌≡◌, ℕ, suc, ◌+◌, ◌-◌, ◌<◌, ◌≤◌, ◌==◌, cond, Bool, true, false, nat_lt, List, [], ◌∷◌, ◌++◌, All, length}
 use Rattle.std.proofs.Common.{take, drop, map, filter, position, slice_index, Option, Some, None, refl, sym, ap, subst, ◌∙◌, arith, inl, inr, if◌then◌else◌}
 use Rattle.std.specs.List.{slice_range, slice_split, onto_first}
 use Rattle.std.specs.Option.{option_map_or}
 use Rattle.std.specs.declared.ops.Range.{Range}
-use Rattle.std.proofs.lemmas.Bool.{cases_lt, eqb-true, le-ltb, lt-ltb, ltb-false, ltb-true, ne_eqb}
+use Rattle.std.proofs.lemmas.Bool.{cases_Bool, eqb-true, le-ltb, ltb-false, ltb-true, ne_eqb}
+use Rattle.std.proofs.lemmas.Bool.Decides.{nat_tests}
 use Rattle.std.proofs.lemmas.List.{drop-drop, drop-take, take-append-drop, take-take}
 use Rattle.std.proofs.lemmas.List.Elements.{All-head, All-tail, filter_passes}
 use Rattle.std.proofs.lemmas.List.Quantifiers.{position-Some}
 use Rattle.first_pass_items.specs.Bytes.{number_sign, full_stop, equals_sign}
 use Rattle.first_pass_items.specs.declared.item.Item.{Item}
 use Rattle.first_pass_lines.specs.Lines.{begins}
-use Rattle.first_pass_attributes.specs.Attributes.{Attributes, is_between_words, is_attribute_word, words, marked, gives_key, key_and_value, last_or}
+use Rattle.first_pass_attributes.specs.Attributes.{is_between_words, is_attribute_word, words, marked, gives_key, key_and_value}
 use Rattle.first_pass_attributes.specs.Attributes.{no_attributes, with_words, attributes_of}
-use Rattle.first_pass_places.specs.declared.attributes.AttributeKind.{AttributeKind}
 use Rattle.first_pass_places.specs.declared.attributes.AttributeKind.TheVariants.{Id, Class, Key}
 use Rattle.first_pass_places.specs.declared.attributes.AttributeRanges.{AttributeRanges}
 use Rattle.first_pass_places.specs.AttributeBlockPlaces.{attribute_block_range}
@@ -70,11 +70,9 @@ id_same text range places ws is same =
     let order = is.order in
     let name = later_bytes text range.start range.«end» 1 (omega (arith, order)) in
     record {
-      ids = ap (λ (l : List ℕ). l ∷ ids_at text places) name ∙ ap (λ (ls : List (List ℕ)). drop 1 word ∷ ls) same.ids
-          ∙ sym (ap (λ t. map (drop 1) (cond t (word ∷ filter (begins number_sign) ws) (filter (begins number_sign) ws))) is.begins_sign);
-      classes = same.classes ∙ sym (ap (λ t. map (drop 1) (cond t (word ∷ filter (begins full_stop) ws) (filter (begins full_stop) ws))) is.begins_stop);
-      keys = same.keys
-          ∙ sym (ap (λ t. map key_and_value (cond (not (t || begins full_stop word)) (word ∷ filter gives_key ws) (filter gives_key ws))) is.begins_sign);
+      ids = rw is.begins_sign (ap (λ (l : List ℕ). l ∷ ids_at text places) name ∙ ap (λ (ls : List (List ℕ)). drop 1 word ∷ ls) same.ids);
+      classes = rw is.begins_stop same.classes;
+      keys = rw is.begins_sign same.keys;
     }
 
 -- a class
@@ -84,12 +82,10 @@ class_same text range places ws is same =
     let word : List ℕ = bytes_in text range in
     let order = is.order in
     let name = later_bytes text range.start range.«end» 1 (omega (arith, order)) in
-    let no_key : gives_key word ≡ false = ap (λ t. not (t || begins full_stop word)) is.begins_sign ∙ ap not is.begins_stop in
     record {
-      ids = same.ids ∙ sym (ap (λ t. map (drop 1) (cond t (word ∷ filter (begins number_sign) ws) (filter (begins number_sign) ws))) is.begins_sign);
-      classes = ap (λ (l : List ℕ). l ∷ classes_at text places) name ∙ ap (λ (ls : List (List ℕ)). drop 1 word ∷ ls) same.classes
-          ∙ sym (ap (λ t. map (drop 1) (cond t (word ∷ filter (begins full_stop) ws) (filter (begins full_stop) ws))) is.begins_stop);
-      keys = same.keys ∙ sym (ap (λ t. map key_and_value (cond t (word ∷ filter gives_key ws) (filter gives_key ws))) no_key);
+      ids = rw is.begins_sign same.ids;
+      classes = rw is.begins_stop (ap (λ (l : List ℕ). l ∷ classes_at text places) name ∙ ap (λ (ls : List (List ℕ)). drop 1 word ∷ ls) same.classes);
+      keys = rw (is.begins_sign, is.begins_stop) same.keys;
     }
 
 -- a key, with or without a value
@@ -121,19 +117,11 @@ key_same text range places ws is same =
     let word : List ℕ = bytes_in text range in
     let place : AttributeRanges = key_place text range in
     let kind : place.kind ≡ Key = kind_by range (position (λ b. b == equals_sign) word) in
-    let a_key : gives_key word ≡ true = ap (λ t. not (t || begins full_stop word)) is.begins_sign ∙ ap not is.begins_stop in
-    let ids : List AttributeRanges = filter (λ p. is_id p.kind) places in
-    let classes : List AttributeRanges = filter (λ p. is_class p.kind) places in
-    let keys : List AttributeRanges = filter (λ p. is_key p.kind) places in
     record {
-      ids = ap (λ (k : AttributeKind). map (name_at text) (cond (is_id k) (place ∷ ids) ids)) kind ∙ same.ids
-          ∙ sym (ap (λ t. map (drop 1) (cond t (word ∷ filter (begins number_sign) ws) (filter (begins number_sign) ws))) is.begins_sign);
-      classes = ap (λ (k : AttributeKind). map (name_at text) (cond (is_class k) (place ∷ classes) classes)) kind ∙ same.classes
-          ∙ sym (ap (λ t. map (drop 1) (cond t (word ∷ filter (begins full_stop) ws) (filter (begins full_stop) ws))) is.begins_stop);
-      keys = ap (λ (k : AttributeKind). map (key_at text) (cond (is_key k) (place ∷ keys) keys)) kind
-          ∙ ap (λ (x : List ℕ × Option (List ℕ)). x ∷ keys_at text places) (pair_is text range)
-          ∙ ap (λ (xs : List (List ℕ × Option (List ℕ))). key_and_value word ∷ xs) same.keys
-          ∙ sym (ap (λ t. map key_and_value (cond t (word ∷ filter gives_key ws) (filter gives_key ws))) a_key);
+      ids = rw (kind, is.begins_sign) same.ids;
+      classes = rw (kind, is.begins_stop) same.classes;
+      keys = rw (kind, is.begins_sign, is.begins_stop) (ap (λ (x : List ℕ × Option (List ℕ)). x ∷ keys_at text places) (pair_is text range)
+          ∙ ap (λ (xs : List (List ℕ × Option (List ℕ))). key_and_value word ∷ xs) same.keys);
     }
 
 -- one word more
@@ -142,9 +130,7 @@ more_by : (text : List ℕ) (range : Range ℕ) (places : List AttributeRanges) 
     → AreSame text ((if t then place_of Id (range_of (range.start + 1) range.«end»)
     else (if v then place_of Class (range_of (range.start + 1) range.«end») else key_place text range)) ∷ places) (bytes_in text range ∷ ws)
 more_by text range places ws true true is e f same =
-    let sign = eqb-true (slice_index text range.start) number_sign e in
-    let stop = eqb-true (slice_index text range.start) full_stop f in
-    absurd (omega (arith, sign, stop))
+    absurd (omega (arith, eqb-true (slice_index text range.start) number_sign e, eqb-true (slice_index text range.start) full_stop f))
 more_by text range places ws true false is e f same = id_same text range places ws is same
 more_by text range places ws false true is e f same = class_same text range places ws is same
 more_by text range places ws false false is e f same = key_same text range places ws is same
@@ -167,10 +153,9 @@ all_same : (text : List ℕ) (ranges : List (Range ℕ)) → All (λ range. is_w
     → AreSame text (map (attribute_place text) ranges) (map (bytes_in text) ranges)
 all_same text [] h = record { ids = refl; classes = refl; keys = refl }
 all_same text (range ∷ ranges) h =
-    let first = All-head (λ r. is_word_range r ≡ true) range ranges h in
-    let later = All-tail (λ r. is_word_range r ≡ true) range ranges h in
-    more_same text range (map (attribute_place text) ranges) (map (bytes_in text) ranges) (ltb-true (range.start + 1) range.«end» first)
-    (all_same text ranges later)
+    let first = ltb-true (range.start + 1) range.«end» (All-head (λ r. is_word_range r ≡ true) range ranges h) in
+    let later = all_same text ranges (All-tail (λ r. is_word_range r ≡ true) range ranges h) in
+    more_same text range (map (attribute_place text) ranges) (map (bytes_in text) ranges) first later
 
 -- parts of a text follow one another from an offset on, with a byte between two parts
 abbrev AreAt : List ℕ → ℕ → List (List ℕ) → Type 0
@@ -199,10 +184,7 @@ chosen f range part ranges parts true e h = ap (λ (l : List ℕ). l ∷ map f r
 chosen f range part ranges parts false e h = h
 
 shifted : (at n : ℕ) → nat_lt (at + 1) (at + n) ≡ nat_lt 1 n
-shifted at n = elim (cases_lt 1 n) as (λ _. nat_lt (at + 1) (at + n) ≡ nat_lt 1 n) [
-  | inl less ↦ lt-ltb (at + 1) (at + n) (omega (arith, less)) ∙ sym (lt-ltb 1 n less)
-  | inr past ↦ le-ltb (at + 1) (at + n) (omega (arith, past)) ∙ sym (le-ltb 1 n past)
-]
+shifted at n = grind (arith, nat_tests)
 
 ranges_have : (text : List ℕ) (at : ℕ) (parts : List (List ℕ)) → AreAt text at parts
     → map (bytes_in text) (filter is_word_range (ranges_from at parts)) ≡ filter is_attribute_word parts
@@ -217,35 +199,22 @@ ranges_have text at (part ∷ parts) h =
     ∙ chosen (bytes_in text) range part ranges (filter is_attribute_word parts) (is_attribute_word part) bytes (ranges_have text (at + n + 1) parts h.1)
 
 -- dropping empty parts first does not change which words have two bytes or more
-kept_by : (t u : Bool) (part : List ℕ) (parts rest : List (List ℕ)) → (t ≡ false → u ≡ false) → is_attribute_word part ≡ u
-    → filter is_attribute_word parts ≡ filter is_attribute_word rest
-    → filter is_attribute_word (cond t (part ∷ parts) parts) ≡ cond u (part ∷ filter is_attribute_word rest) (filter is_attribute_word rest)
-kept_by true u part parts rest none e h =
-    ap (λ v. cond v (part ∷ filter is_attribute_word parts) (filter is_attribute_word parts)) e
-    ∙ ap (λ (ls : List (List ℕ)). cond u (part ∷ ls) ls) h
-kept_by false u part parts rest none e h =
-    h ∙ sym (ap (λ v. cond v (part ∷ filter is_attribute_word rest) (filter is_attribute_word rest)) (none refl))
+filter_twice : (p q : List ℕ → Bool) → ((x : List ℕ) → q x ≡ false → p x ≡ false) → (xs : List (List ℕ)) → filter p (filter q xs) ≡ filter p xs
+filter_twice p q none [] = refl
+filter_twice p q none (x ∷ xs) = elim (cases_Bool (q x)) as (λ _. filter p (filter q (x ∷ xs)) ≡ filter p (x ∷ xs)) [
+  | inl kept ↦ rw kept (ap (λ (l : List (List ℕ)). cond (p x) (x ∷ l) l) (filter_twice p q none xs))
+  | inr dropped ↦ rw (dropped, none x dropped) (filter_twice p q none xs)
+]
 
 some_long : (n : ℕ) → nat_lt 0 n ≡ false → nat_lt 1 n ≡ false
 some_long n e = let none = ltb-false 0 n e in le-ltb 1 n (omega (arith, none))
 
-long_words : (parts : List (List ℕ)) → filter is_attribute_word (filter (λ part. nat_lt 0 (length part)) parts) ≡ filter is_attribute_word parts
-long_words [] = refl
-long_words (part ∷ parts) =
-    kept_by (nat_lt 0 (length part)) (is_attribute_word part) part (filter (λ p. nat_lt 0 (length p)) parts) parts (some_long (length part)) refl
-    (long_words parts)
-
 -- the attributes of the words
-abbrev attributes_from : List (List ℕ) → List (List ℕ) → List (List ℕ × Option (List ℕ)) → Attributes
-attributes_from ids classes keys = record { id = last_or None ids; classes = classes; attrs = keys }
-
 same_attributes : (text : List ℕ) (places : List AttributeRanges) (ws : List (List ℕ)) → AreSame text places ws
     → attributes_from_places text places ≡ with_words no_attributes ws
 unfolding with_words
 same_attributes text places ws same =
-    ap (λ (ids : List (List ℕ)). attributes_from ids (classes_at text places) (keys_at text places)) same.ids
-    ∙ ap (λ (classes : List (List ℕ)). attributes_from (marked number_sign ws) classes (keys_at text places)) same.classes
-    ∙ ap (λ (keys : List (List ℕ × Option (List ℕ))). attributes_from (marked number_sign ws) (marked full_stop ws) keys) same.keys
+    rw (same.ids, same.classes, same.keys) refl
 
 block_attributes : (text : List ℕ) (block : Range ℕ) → attributes_from_places text (places_in text block) ≡ attributes_of (bytes_in text block)
 unfolding attributes_of words word_ranges
@@ -260,7 +229,8 @@ block_attributes text block =
     let same : AreSame text (map (attribute_place text) ranges) ws =
     subst (AreSame text (map (attribute_place text) ranges)) (ranges_have text block.start parts at)
     (all_same text ranges (filter_passes is_word_range (ranges_from block.start parts))) in
-    same_attributes text (map (attribute_place text) ranges) ws same ∙ ap (with_words no_attributes) (sym (long_words parts))
+    let long = filter_twice is_attribute_word (λ part. nat_lt 0 (length part)) (λ part. some_long (length part)) parts in
+    same_attributes text (map (attribute_place text) ranges) ws same ∙ ap (with_words no_attributes) (sym long)
 
 -- the attributes of a heading
 pub placed_attributes : (text : List ℕ) (x : Item) (block : Range ℕ) → attribute_block_range text x ≡ Some block

@@ -1,6 +1,6 @@
 -- In a text in UTF-8, both ends of the range of an info string, a label or attributes are on character boundaries.
 use Rattle.std.proofs.Common.{◌≡◌, ℕ, zero, suc, ◌+◌, ◌-◌, ◌<◌, ◌≤◌, ◌==◌, not, Bool, true, false, List, [], ◌∷◌, All, length, take, drop, min, reverse, get_or}
-use Rattle.std.proofs.Common.{◌&&◌, nat_le, slice_index, Option, Some, None, IfSome, IsUtf8, IsCharBoundary, refl, sym, ap, subst, ◌∙◌, arith, inl, inr}
+use Rattle.std.proofs.Common.{slice_index, Option, Some, None, IfSome, IsUtf8, IsCharBoundary, refl, sym, ap, subst, ◌∙◌, arith, inl, inr}
 use Rattle.std.proofs.Common.{if◌then◌else◌}
 use Rattle.std.specs.List.{prefix_len, suffix_len}
 use Rattle.std.specs.declared.ops.Range.{Range}
@@ -8,10 +8,9 @@ use Rattle.std.proofs.lemmas.Bool.{and_parts, cases_lt, eqb-true, not-false}
 use Rattle.std.proofs.lemmas.Bool.Decides.{nat_tests}
 use Rattle.std.proofs.lemmas.List.{drop-drop, get_or-drop, get_or-reverse, get_or-take, length-drop, length-reverse, length-take, length-take-le}
 use Rattle.std.proofs.lemmas.List.Elements.{All-cons, All-nil}
-use Rattle.std.proofs.lemmas.List.Sums.{prefix_len_passes, prefix_len_stops, suffix_len-le-length}
-use Rattle.std.proofs.lemmas.Option.{none-some}
+use Rattle.std.proofs.lemmas.List.Sums.{prefix_len_stops, suffix_len-le-length}
 use Rattle.std.proofs.lemmas.Str.{IsCharBoundary-after_ascii, IsCharBoundary-before_ascii, IsCharBoundary-end}
-use Rattle.first_pass_items.specs.Bytes.{left_bracket, circumflex, backquote, left_brace, right_brace, tilde, ascii_end}
+use Rattle.first_pass_items.specs.Bytes.{left_bracket, circumflex, left_brace, right_brace, ascii_end}
 use Rattle.first_pass_items.specs.declared.item.CowIndex.{CowIndex}
 use Rattle.first_pass_items.specs.declared.item.Item.{Item}
 use Rattle.first_pass_items.specs.declared.item.ItemBody.{ItemBody}
@@ -20,7 +19,7 @@ use Rattle.first_pass_lines.specs.Lines.{is_white, is_white_or_line_end, begins,
 use Rattle.first_pass_lines.specs.Places.{line_place}
 use Rattle.first_pass_lines.proofs.LineFacts.{line_len-fits}
 use Rattle.first_pass_lines.proofs.PlaceFacts.{line_end_boundary, line_is_place, prefix_keeps, white_keeps}
-use Rattle.first_pass_scan.specs.LeafLines.{run_len, has_backquote, code_fence}
+use Rattle.first_pass_scan.specs.LeafLines.{run_len, code_fence}
 use Rattle.first_pass_links.specs.Destinations.{unescaped_upto}
 use Rattle.first_pass_links.specs.Escapes.{begins_escape}
 use Rattle.first_pass_links.specs.Footnotes.{begins_footnote_mark}
@@ -31,52 +30,47 @@ use Rattle.first_pass_places.specs.FootnoteLabels.{label_range}
 use Rattle.first_pass_places.specs.InfoStrings.{fence_end, info_range}
 use Rattle.first_pass_places.specs.NamePlaces.{HasWholeStart, HasNameOnBoundaries, HaveWholeStarts, name_range, name_range_by}
 use Rattle.first_pass_places.specs.RangeEnds.{IsAsciiAt, EndsAreBoundaries}
-use Rattle.first_pass_places.proofs.BlockPlaces.{is_in, part_at, part_short}
-use Rattle.first_pass_places.proofs.InfoFacts.{begins_with, trimmed_length}
+use Rattle.first_pass_places.proofs.BlockPlaces.{part_at, last_passes}
+use Rattle.first_pass_places.proofs.InfoFacts.{begins_with, fence_is, trimmed_length}
 
--- an offset before an ASCII byte, or at the end of the text, is a character boundary
-ascii_between : (text : List ℕ) (at : ℕ) → at ≤ length text → IsAsciiAt text at → IsCharBoundary text at
-ascii_between text at within small = (within, λ less big. omega (arith, small, big))
+-- the first byte after an offset
+first_at : (text : List ℕ) (start : ℕ) → slice_index (drop start text) 0 ≡ slice_index text start
+first_at text start = let same : start + 0 ≡ start = omega arith in get_or-drop start text 0 0 ∙ ap (slice_index text) same
 
 -- a code fence begins with ASCII
-first_by : (t v : Bool) (o p : Option (ℕ × ℕ)) (bs : List ℕ) (fence : ℕ × ℕ) → begins backquote bs ≡ t → begins tilde bs ≡ v
-    → (if t then o else (if v then p else None)) ≡ Some fence → slice_index bs 0 < ascii_end
-first_by true v o p bs fence a b h = let byte = begins_with backquote bs a in omega (arith, byte)
-first_by false true o p bs fence a b h = let byte = begins_with tilde bs b in omega (arith, byte)
-first_by false false o p bs fence a b h = absurd (none-some fence h)
-
-pub ascii_fence : (text : List ℕ) (start count byte : ℕ) → code_fence (drop start text) ≡ Some (count, byte) → IsAsciiAt text start
-unfolding code_fence
-ascii_fence text start count byte h =
-    let bs : List ℕ = drop start text in
-    let m : ℕ = run_len backquote bs in
-    let n : ℕ = run_len tilde bs in
-    let small : slice_index bs 0 < ascii_end =
-    first_by (begins backquote bs) (begins tilde bs) (if nat_le 3 m && not (has_backquote (drop m bs)) then Some (m, backquote) else None)
-    (if nat_le 3 n then Some (n, tilde) else None) bs (count, byte) refl refl h in
-    let same : start + 0 ≡ start = omega arith in
-    let here : slice_index bs 0 ≡ slice_index text start = get_or-drop start text 0 0 ∙ ap (slice_index text) same in
+pub ascii_fence : (text : List ℕ) (start : ℕ) (fence : ℕ × ℕ) → code_fence (drop start text) ≡ Some fence → IsAsciiAt text start
+ascii_fence text start fence h =
+    let here = first_at text start in
+    let small = (fence_is (drop start text) fence h).ascii in
     omega (arith, small, here)
+
+-- before and after an ASCII byte in a part of a text
+pub around_ascii : (text : List ℕ) (start n k : ℕ) → IsUtf8 text → k < length (take n (drop start text)) → slice_index (take n (drop start text)) k < ascii_end
+    → IsCharBoundary text (start + k) × IsCharBoundary text (start + k + 1)
+around_ascii text start n k u less small =
+    let cut = length-take n (drop start text) in
+    let rest = length-drop start text in
+    let read = part_at text start n k (omega (arith, less, cut)) in
+    let within : start + k < length text = omega (arith, less, cut, rest) in
+    let ascii : slice_index text (start + k) < ascii_end = omega (arith, read, small) in
+    (IsCharBoundary-before_ascii text (start + k) within ascii, IsCharBoundary-after_ascii text (start + k) u within ascii)
 
 -- the second byte of the `[^` of a footnote definition is ASCII
 pub ascii_footnote : (text : List ℕ) (start : ℕ) → begins_footnote_mark (drop start text) ≡ true → IsAsciiAt text (start + 1)
 ascii_footnote text start h =
     let rest : List ℕ = drop 1 (drop start text) in
     let byte : circumflex ≡ slice_index rest 0 = begins_with circumflex rest (and_parts (begins left_bracket (drop start text)) (begins circumflex rest) h).1 in
-    let same : start + 1 + 0 ≡ start + 1 = omega arith in
-    let here : slice_index rest 0 ≡ slice_index text (start + 1) =
-    ap (λ l. slice_index l 0) (drop-drop 1 start text) ∙ get_or-drop (start + 1) text 0 0 ∙ ap (slice_index text) same in
+    let here : slice_index rest 0 ≡ slice_index text (start + 1) = ap (λ l. slice_index l 0) (drop-drop 1 start text) ∙ first_at text (start + 1) in
     omega (arith, byte, here)
 
 -- the end of a code fence whose byte is ASCII
 fence_between : (text : List ℕ) (start : ℕ) → IsUtf8 text → start ≤ length text → IsAsciiAt text start → IsCharBoundary text (fence_end text start)
 fence_between text start u within small =
     let c : ℕ = slice_index (drop start text) 0 in
-    let same : start + 0 ≡ start = omega arith in
-    let here : c ≡ slice_index text start = get_or-drop start text 0 0 ∙ ap (slice_index text) same in
+    let here : c ≡ slice_index text start = first_at text start in
     let ascii : (k : ℕ) → (k == c) ≡ true → k < ascii_end = λ k h. let e = eqb-true k c h in omega (arith, e, here, small) in
     let e : start + (0 + run_len c (drop start text)) ≡ fence_end text start = omega arith in
-    let b = ascii_between text start within small in
+    let b : IsCharBoundary text start = (within, λ less big. omega (arith, small, big)) in
     subst (IsCharBoundary text) e (prefix_keeps (λ k. k == c) ascii text (line_place start (drop start text)) u (line_is_place text start b)).boundary
 
 -- the white space after it
@@ -84,15 +78,6 @@ white_between : (text : List ℕ) (at : ℕ) → IsUtf8 text → IsCharBoundary 
 white_between text at u b =
     let e : at + (0 + prefix_len is_white (drop at text)) ≡ at + prefix_len is_white (drop at text) = omega arith in
     subst (IsCharBoundary text) e (white_keeps text (line_place at (drop at text)) u (line_is_place text at b)).boundary
-
--- the first of the bytes at the end that pass a test
-first_of_last : (p : ℕ → Bool) (xs : List ℕ) → 0 < suffix_len p xs → p (slice_index xs (length xs - suffix_len p xs)) ≡ true
-first_of_last p xs some =
-    let n : ℕ = suffix_len p xs in
-    let fits : n ≤ length xs = suffix_len-le-length p xs in
-    let place : length xs - 1 - (n - 1) ≡ length xs - n = omega arith in
-    let read : get_or (reverse xs) (n - 1) 0 ≡ slice_index xs (length xs - n) = get_or-reverse xs (n - 1) 0 (omega arith) ∙ ap (slice_index xs) place in
-    ap p (sym read) ∙ prefix_len_passes p (reverse xs) (n - 1) 0 (omega arith)
 
 white_is_ascii : (b : ℕ) → is_white_or_line_end b ≡ true → b < ascii_end
 white_is_ascii b h = grind (arith, nat_tests, h)
@@ -116,18 +101,14 @@ trimmed_between text at u b =
     let line : List ℕ = take m (drop at text) in
     let w : ℕ = suffix_len is_white_or_line_end line in
     let size : length (trimmed line) ≡ m - w = trimmed_length (drop at text) in
-    let fits : m ≤ length (drop at text) = line_len-fits (drop at text) in
-    let whole : length line ≡ m = length-take-le m (drop at text) fits in
+    let whole : length line ≡ m = length-take-le m (drop at text) (line_len-fits (drop at text)) in
     let short : w ≤ length line = suffix_len-le-length is_white_or_line_end line in
-    let rest : length (drop at text) ≡ length text - at = length-drop at text in
     elim (cases_lt 0 w) as (λ _. IsCharBoundary text (at + length (trimmed line))) [
       | inl some ↦ (
           let k : ℕ = length line - w in
-          let low : k < m = omega (arith, whole, short, some) in
-          let read : slice_index line k ≡ slice_index text (at + k) = part_at text at m k low in
-          let small = white_is_ascii (slice_index text (at + k)) (ap is_white_or_line_end (sym read) ∙ first_of_last is_white_or_line_end line some) in
+          let small = white_is_ascii (slice_index line k) (last_passes is_white_or_line_end line k (omega arith) (omega (arith, short, some))) in
           let e : at + k ≡ at + length (trimmed line) = omega (arith, size, whole) in
-          subst (IsCharBoundary text) e (IsCharBoundary-before_ascii text (at + k) (omega (arith, low, fits, rest)) small))
+          subst (IsCharBoundary text) e (around_ascii text at m k u (omega (arith, short, some)) small).0)
       | inr none ↦ (
           let e : at + m ≡ at + length (trimmed line) = omega (arith, size, none) in
           subst (IsCharBoundary text) e (line_between text at u b))
@@ -215,17 +196,14 @@ last_at c bs n e =
     (omega (arith, size), eqb-true (slice_index bs n) c (not-false (slice_index bs n == c) (ap other (sym read) ∙ stop)))
 
 -- before the last `}` of a part of a text
-before_brace : (text : List ℕ) (start n : ℕ) → IsCharBoundary text start → (m : ℕ) → upto_last right_brace (take n (drop start text)) ≡ m
+before_brace : (text : List ℕ) (start n : ℕ) → IsUtf8 text → IsCharBoundary text start → (m : ℕ) → upto_last right_brace (take n (drop start text)) ≡ m
     → IsCharBoundary text (start + (m - 1))
-before_brace text start n b zero e = let same : start ≡ start + (0 - 1) = omega arith in subst (IsCharBoundary text) same b
-before_brace text start n b (suc k) e =
+before_brace text start n u b zero e = let same : start ≡ start + (0 - 1) = omega arith in subst (IsCharBoundary text) same b
+before_brace text start n u b (suc k) e =
     let last = last_at right_brace (take n (drop start text)) k e in
-    let less = last.0 in
-    let short = part_short text start n in
-    let here : slice_index text (start + k) ≡ right_brace = sym (part_at text start n k (omega (arith, less, short))) ∙ last.1 in
+    let byte = last.1 in
     let same : start + k ≡ start + (suc k - 1) = omega arith in
-    let there = is_in text (start + k) right_brace here (omega arith) in
-    subst (IsCharBoundary text) same (IsCharBoundary-before_ascii text (start + k) there (omega (arith, here)))
+    subst (IsCharBoundary text) same (around_ascii text start n k u last.0 (omega (arith, byte))).0
 
 -- after the last `{` in the first bytes of a part of a text
 after_brace : (text : List ℕ) (start n j : ℕ) → IsUtf8 text → IsCharBoundary text start → (m : ℕ)
@@ -235,14 +213,11 @@ after_brace text start n j u b (suc k) e =
     let part : List ℕ = take n (drop start text) in
     let last = last_at left_brace (take j part) k e in
     let less = last.0 in
+    let byte = last.1 in
     let cut = length-take j part in
-    let short = part_short text start n in
-    let read : slice_index (take j part) k ≡ slice_index text (start + k) =
-    get_or-take j part k 0 (omega (arith, less, cut)) ∙ part_at text start n k (omega (arith, less, cut, short)) in
-    let here : slice_index text (start + k) ≡ left_brace = sym read ∙ last.1 in
+    let read : slice_index (take j part) k ≡ slice_index part k = get_or-take j part k 0 (omega (arith, less, cut)) in
     let same : start + k + 1 ≡ start + suc k = omega arith in
-    let there = is_in text (start + k) left_brace here (omega arith) in
-    subst (IsCharBoundary text) same (IsCharBoundary-after_ascii text (start + k) u there (omega (arith, here)))
+    subst (IsCharBoundary text) same (around_ascii text start n k u (omega (arith, less, cut)) (omega (arith, read, byte))).1
 
 -- the block of a heading
 block_between : (text : List ℕ) (start e : ℕ) → IsUtf8 text → IsCharBoundary text start → EndsAreBoundaries text (block_range text start e)
@@ -251,7 +226,7 @@ block_between text start e u b =
     let n : ℕ = e - start in
     let part : List ℕ = take n (drop start text) in
     let closing : ℕ = upto_last right_brace part - 1 in
-    (after_brace text start n closing u b (upto_last left_brace (take closing part)) refl, before_brace text start n b (upto_last right_brace part) refl)
+    (after_brace text start n closing u b (upto_last left_brace (take closing part)) refl, before_brace text start n u b (upto_last right_brace part) refl)
 
 range_if : (text : List ℕ) (t : Bool) (range : Range ℕ) → EndsAreBoundaries text range
     → IfSome (if t then Some range else None) (λ r. EndsAreBoundaries text r)
@@ -273,7 +248,7 @@ pub name_between : (text : List ℕ) (x : Item) (found : Option (Range ℕ)) →
     → IsUtf8 text → HasWholeStart x.body text x.start → IfSome found (λ range. EndsAreBoundaries text range)
 name_between text x found is order within u mark =
     let starts : x.start ≤ length text = omega (arith, order, within) in
-    subst (λ (o : Option (Range ℕ)). IfSome o (λ range. EndsAreBoundaries text range)) (sym is) (name_by x.body text x u starts mark)
+    rw is (name_by x.body text x u starts mark)
 
 -- what each of these nodes names
 pub names_between : (text : List ℕ) (nodes : List (ℕ × Item)) → IsUtf8 text → HaveWholeStarts text nodes

@@ -3,13 +3,13 @@ use Rattle.std.proofs.Common.{◌≡◌, inl, inr, ℕ, zero, suc, ◌+◌, ◌-
 use Rattle.std.proofs.Common.{slice_index, Option, Some, None, MatchOption, IfSome, is_some, refl, sym, ap, subst, ◌∙◌, arith, if◌then◌else◌}
 use Rattle.std.specs.Option.{option_map}
 use Rattle.std.specs.List.{slice_range, prefix_len}
-use Rattle.std.proofs.lemmas.Bool.{cases_lt, eqb-true, true≢false}
+use Rattle.std.proofs.lemmas.Bool.{cases_lt, eqb-true}
 use Rattle.std.proofs.lemmas.Bool.Decides.{nat_tests}
-use Rattle.std.proofs.lemmas.List.{drop-drop, get_or-drop, length-append, length-drop}
+use Rattle.std.proofs.lemmas.List.{drop-drop, length-append, length-drop}
 use Rattle.std.proofs.lemmas.List.Sums.{AllPass-from_list_all, prefix_len_passes, prefix_len-le-length}
 use Rattle.std.proofs.Math.ListN.{get_or-append}
-use Rattle.std.proofs.lemmas.Option.{none-some, same_Some}
-use Rattle.first_pass_items.specs.Bytes.{line_feed, carriage_return, hyphen, equals_sign, right_brace}
+use Rattle.std.proofs.lemmas.Option.{none-some}
+use Rattle.first_pass_items.specs.Bytes.{hyphen, equals_sign, right_brace}
 use Rattle.first_pass_items.specs.declared.item.HeadingLevel.{HeadingLevel}
 use Rattle.first_pass_items.specs.declared.item.HeadingLevel.TheVariants.{H1, H2}
 use Rattle.first_pass_items.specs.declared.item.Item.{Item}
@@ -36,10 +36,12 @@ use Rattle.first_pass_grammar.proofs.Sequences.PlacesKept.{IsAt, at_front}
 use Rattle.first_pass_places.specs.AttributeBlockPlaces.{block_range}
 use Rattle.first_pass_places.specs.InfoStrings.{bytes_in}
 use Rattle.first_pass_places.specs.NamePlaces.{FirstIsReadFromText}
-use Rattle.first_pass_places.proofs.BlockPlaces.{AreBraces, found_braces, found_between, is_in, part_short}
+use Rattle.first_pass_places.proofs.BlockPlaces.{block_within, found_between, part_short}
 use Rattle.first_pass_places.proofs.HeadingPlaces.{named_by}
 use Rattle.first_pass_grammar.proofs.Sequences.PrefixBytes.{is_prefix_byte, Skips, line_skips}
-use Rattle.first_pass_places.proofs.TokenBraces.{HasNoBrace, both_none, nothing_none, Reaches, reach_further, tokens_end, line_reaches, later_end}
+use Rattle.first_pass_places.proofs.TokenBraces.{HasNoBrace, both_none, none_from, nothing_none, Reaches, reach_further, tokens_end, line_reaches, later_end}
+use Rattle.first_pass_places.proofs.TokenBraces.{white_none}
+use Rattle.first_pass_places.proofs.OptionFacts.{some_if, some_mapped}
 
 -- if a line begins with `n` bytes of content, its length is `n` plus the length of what is left of it
 content_run : (n : ℕ) (bs : List ℕ) → n ≤ length bs → ((k : ℕ) → k < n → is_content (slice_index bs k) ≡ true) → line_len bs ≡ n + line_len (drop n bs)
@@ -54,9 +56,6 @@ prefix_content b h = grind (arith, nat_tests, h)
 
 prefix_none : (b : ℕ) → is_prefix_byte b ≡ true → (b == right_brace) ≡ false
 prefix_none b h = grind (arith, nat_tests, h)
-
-white_none : (b : ℕ) → is_white b ≡ true → (b == right_brace) ≡ false
-white_none b h = grind (arith, nat_tests, h)
 
 -- the place in a line of a text after the prefixes of containers and the indentation
 pub record IsAfterPrefix (text : List ℕ) (at to : ℕ) : Type 0 where
@@ -76,26 +75,19 @@ skipped text at r s within left none skips =
     (λ k low. ap (λ (l : List ℕ). is_prefix_byte (slice_index l k)) parts ∙ ap is_prefix_byte (get_or-append skips.bytes s.left 0 k low)
     ∙ AllPass-from_list_all is_prefix_byte skips.bytes skips.plain k 0 low) in
     let long = content_run n (drop at text) (omega (arith, size)) (λ k low. prefix_content (slice_index (drop at text) k) (byte k low)) in
-    let there : drop n (drop at text) ≡ drop (at + n) text = drop-drop n at text in
     let all : IsAfterPrefix text at (at + n) = record {
       order = omega arith;
       within = omega (arith, size, rest);
-      none = λ k low high.
-          let j : ℕ = k - at in
-          let on : at + j ≡ k = omega arith in
-          ap (λ i. slice_index text i == right_brace) (sym on) ∙ ap (λ b. b == right_brace) (sym (get_or-drop at text j 0))
-          ∙ prefix_none (slice_index (drop at text) j) (byte j (omega arith));
-      line = (let same = ap line_len there in omega (arith, long, same));
+      none = none_from text at n (λ j low. prefix_none (slice_index (drop at text) j) (byte j low));
+      line = (let same = ap line_len (drop-drop n at text) in omega (arith, long, same));
     } in
     subst (λ k. IsAfterPrefix text at (at + k)) (sym count) all
 
 prefix_place : (text : List ℕ) (path : List Container) (at : ℕ) (line : Place) → at ≤ length text → line ≡ line_place at (drop at text)
     → IsAfterPrefix text at (offset (unindented (at_rest line (front path line.rest))))
 prefix_place text path at line within is =
-    let here : Place = line_place at (drop at text) in
-    let r : Rest = here.rest in
-    subst (λ (p : Place). IsAfterPrefix text at (offset (unindented (at_rest p (front path p.rest))))) (sym is)
-    (skipped text at r (all_taken (front path r)) within refl refl (line_skips path (indent (front path r)) r))
+    let r : Rest = (line_place at (drop at text)).rest in
+    rw is (skipped text at r (all_taken (front path r)) within refl refl (line_skips path (indent (front path r)) r))
 
 prefix_left : (text : List ℕ) (path : List Container) (at : ℕ) (line : Place) → line ≡ line_place at (drop at text)
     → (all_taken (front path line.rest)).left ≡ drop (offset (unindented (at_rest line (front path line.rest)))) text
@@ -103,13 +95,6 @@ prefix_left text path at line is =
     let here : Place = line_place at (drop at text) in
     let same : at ≡ at + 0 = omega arith in
     at_front text path line (subst (IsAt text) (sym is) (ap (λ n. drop n text) same))
-
-abbrev head_or : Place → List Place → Place
-head_or p [] = p
-head_or p (q ∷ qs) = q
-
-some_line : (line : Place) (lines : List Place) → line ∷ lines ≡ [] → ⊥
-some_line line lines e = cc
 
 -- the first of the lines from an offset on
 first_line : (text : List ℕ) (at : ℕ) (line : Place) (lines : List Place) → line ∷ lines ≡ lines_from text at
@@ -119,8 +104,8 @@ first_line text at line lines e = elim (cases_lt at (length text)) [
       let here : Place = line_place at (drop at text) in
       let more : List Place = lines_from text (at + line_len (drop at text)) in
       let same : line ∷ lines ≡ here ∷ more = e ∙ lines_at-line text at inside in
-      (inside, ap (λ (l : List Place). head_or line l) same, ap (λ (l : List Place). drop 1 l) same))
-  | inr past ↦ absurd (some_line line lines (e ∙ lines_at-end text at past))
+      (inside, (cc), ap (λ (l : List Place). drop 1 l) same))
+  | inr past ↦ absurd (let none : line ∷ lines ≡ [] = e ∙ lines_at-end text at past in cc)
 ]
 
 -- the lines of a text are read up to an offset, and no closing brace is between the end of their chain and that offset
@@ -186,88 +171,52 @@ lines_read d path start p chain (line ∷ lines) l within left h (tokens, answer
     lines_read d path start there (add_break answer.1 (add_tokens chain tokens)) lines l past.within (first.2 ∙ ap (lines_from d.text) (sym past.line)) all more
 
 -- the bytes of an underline
-eol_second : (t : Bool) (bs : List ℕ) (n k : ℕ) → begins line_feed bs ≡ t → (if t then 2 else 1) ≡ n → suc k < n → (slice_index bs k == right_brace) ≡ false
-eol_second true [] n k e f low = absurd (true≢false (sym e))
-eol_second true (b ∷ bs) n zero e f low = ap (λ c. c == right_brace) (eqb-true b line_feed e)
-eol_second true (b ∷ bs) n (suc k) e f low = absurd (omega (arith, f))
-eol_second false bs n k e f low = absurd (omega (arith, f))
-
-eol_by : (t u : Bool) (b : ℕ) (bs : List ℕ) (n k : ℕ) → (b == line_feed) ≡ t → (b == carriage_return) ≡ u
-    → (if t then Some 1 else (if u then Some (if begins line_feed bs then 2 else 1) else None)) ≡ Some n → k < n
-    → (slice_index (b ∷ bs) k == right_brace) ≡ false
-eol_by true u b bs n zero e f h low = ap (λ c. c == right_brace) (eqb-true b line_feed e)
-eol_by true u b bs n (suc k) e f h low = absurd (let one = same_Some 1 n h in omega (arith, one))
-eol_by false true b bs n zero e f h low = ap (λ c. c == right_brace) (eqb-true b carriage_return f)
-eol_by false true b bs n (suc k) e f h low = eol_second (begins line_feed bs) bs n k refl (same_Some _ n h) low
-eol_by false false b bs n k e f h low = absurd (none-some n h)
-
 eol_none : (bs : List ℕ) (n k : ℕ) → eol_len bs ≡ Some n → k < n → (slice_index bs k == right_brace) ≡ false
-eol_none [] n k h low = absurd (let zero_is = same_Some 0 n h in omega (arith, zero_is))
-eol_none (b ∷ bs) n k h low = eol_by (b == line_feed) (b == carriage_return) b bs n k refl refl h low
+eol_none [] n k h low = refl
+eol_none (b ∷ bs) n zero h low = grind (arith, nat_tests, h)
+eol_none (b ∷ []) n (suc k) h low = refl
+eol_none (b ∷ c ∷ bs) n (suc zero) h low = grind (arith, nat_tests, h, low)
+eol_none (b ∷ c ∷ bs) n (suc (suc k)) h low = absurd (grind (arith, nat_tests, h, low))
 
-longer_by : (m n : ℕ) (o : Option ℕ) → option_map (λ k. m + k) o ≡ Some n → (j : ℕ) × (o ≡ Some j) × (m + j ≡ n)
-longer_by m n None h = absurd (none-some n h)
-longer_by m n (Some j) h = (j, refl, same_Some (m + j) n h)
-
-drop_none : (bs : List ℕ) (m n k : ℕ) → ((j : ℕ) → j < m → (slice_index bs j == right_brace) ≡ false)
-    → ((j : ℕ) → j < n → (slice_index (drop m bs) j == right_brace) ≡ false) → k < m + n → (slice_index bs k == right_brace) ≡ false
-drop_none bs m n k first second low = elim (cases_lt k m) as (λ _. (slice_index bs k == right_brace) ≡ false) [
-  | inl less ↦ first k less
-  | inr more ↦ (
-      let j : ℕ = k - m in
-      let on : m + j ≡ k = omega arith in
-      ap (λ i. slice_index bs i == right_brace) (sym on) ∙ ap (λ b. b == right_brace) (sym (get_or-drop m bs j 0)) ∙ second j (omega arith))
-]
-
-blank_none : (bs : List ℕ) (n k : ℕ) → blank_len bs ≡ Some n → k < n → (slice_index bs k == right_brace) ≡ false
-blank_none bs n k h low =
+blank_none : (bs : List ℕ) (n : ℕ) → blank_len bs ≡ Some n → HasNoBrace bs 0 n
+blank_none bs n h =
     let w : ℕ = prefix_len is_white bs in
-    let rest = longer_by w n (eol_len (drop w bs)) h in
-    drop_none bs w rest.0 k (λ j less. white_none (slice_index bs j) (prefix_len_passes is_white bs j 0 less))
-    (λ j less. eol_none (drop w bs) rest.0 j rest.1 less)
-    (omega (arith, rest.2))
+    let rest = some_mapped (λ k. w + k) (eol_len (drop w bs)) n h in
+    let first : HasNoBrace bs 0 w = (λ k low less. white_none (slice_index bs k) (prefix_len_passes is_white bs k 0 less)) in
+    let second = none_from bs w rest.0 (λ j less. eol_none (drop w bs) rest.0 j rest.1 less) in
+    subst (HasNoBrace bs 0) rest.2 (both_none bs 0 w (w + rest.0) first second)
 
 -- a line without a closing brace
-pub record IsPlainLine (bs : List ℕ) : Type 0 where
-  pub none : (k : ℕ) → k < line_len bs → (slice_index bs k == right_brace) ≡ false
+abbrev IsPlainLine : List ℕ → Type 0
+IsPlainLine bs = HasNoBrace bs 0 (line_len bs)
 
 run_plain : (c : ℕ) (bs : List ℕ) (n : ℕ) → is_content c ≡ true → (c == right_brace) ≡ false → underline_len c bs ≡ Some n → IsPlainLine bs
 run_plain c bs n content other h =
     let m : ℕ = run_len c bs in
-    let rest = longer_by m n (blank_len (drop m bs)) h in
+    let rest = some_mapped (λ k. m + k) (blank_len (drop m bs)) n h in
     let is : (k : ℕ) → k < m → slice_index bs k ≡ c = λ k less. eqb-true (slice_index bs k) c (prefix_len_passes (λ b. b == c) bs k 0 less) in
     let long = content_run m bs (prefix_len-le-length (λ b. b == c) bs) (λ k less. ap is_content (is k less) ∙ content) in
     let end = line_len-blank (drop m bs) rest.0 rest.1 in
-    record {
-      none = λ k low. drop_none bs m rest.0 k (λ j less. ap (λ b. b == right_brace) (is j less) ∙ other) (λ j less. blank_none (drop m bs) rest.0 j rest.1 less)
-          (omega (arith, long, end));
-    }
-
-mapped_some : (level : HeadingLevel) (o : Option ℕ) (found : ℕ × HeadingLevel) → option_map (λ n. (n, level)) o ≡ Some found → (n : ℕ) × (o ≡ Some n)
-mapped_some level None found h = absurd (none-some found h)
-mapped_some level (Some n) found h = (n, refl)
+    let whole : m + rest.0 ≡ line_len bs = omega (arith, long, end) in
+    let first : HasNoBrace bs 0 m = (λ k low less. ap (λ b. b == right_brace) (is k less) ∙ other) in
+    let blank = blank_none (drop m bs) rest.0 rest.1 in
+    let second = none_from bs m rest.0 (λ j less. blank j (omega arith) less) in
+    subst (HasNoBrace bs 0) whole (both_none bs 0 m (m + rest.0) first second)
 
 level_by : (t u : Bool) (bs : List ℕ) (found : ℕ × HeadingLevel)
     → (if t then option_map (λ n. (n, H1)) (underline_len equals_sign bs)
     else (if u then option_map (λ n. (n, H2)) (underline_len hyphen bs) else None)) ≡ Some found → IsPlainLine bs
-level_by true u bs found h = let n = mapped_some H1 (underline_len equals_sign bs) found h in run_plain equals_sign bs n.0 refl refl n.1
-level_by false true bs found h = let n = mapped_some H2 (underline_len hyphen bs) found h in run_plain hyphen bs n.0 refl refl n.1
+level_by true u bs found h = let n = some_mapped (λ (n : ℕ). (n, H1)) (underline_len equals_sign bs) found h in run_plain equals_sign bs n.0 refl refl n.1
+level_by false true bs found h = let n = some_mapped (λ (n : ℕ). (n, H2)) (underline_len hyphen bs) found h in run_plain hyphen bs n.0 refl refl n.1
 level_by false false bs found h = absurd (none-some found h)
 
-underline_plain : (bs : List ℕ) (found : ℕ × HeadingLevel) → setext_underline bs ≡ Some found → IsPlainLine bs
-unfolding setext_underline
-underline_plain bs found h = level_by (begins equals_sign bs) (begins hyphen bs) bs found h
-
-some_if : (t : Bool) (o : Option (ℕ × HeadingLevel)) (found : ℕ × HeadingLevel) → (if t then o else None) ≡ Some found → o ≡ Some found
-some_if true o found e = e
-some_if false o found e = absurd (none-some found e)
-
 underline_here : (path : List Container) (r : Rest) (found : ℕ × HeadingLevel) → underline_of path r ≡ Some found → IsPlainLine (all_taken (front path r)).left
-unfolding underline_of
+unfolding underline_of setext_underline
 underline_here path r found h =
-    underline_plain (all_taken (front path r)).left found
-    (some_if (nat_lt (indent (front path r)) 4) (setext_underline (all_taken (front path r)).left) found
-    (some_if (is_some (after path r)) (underline_left (front path r)) found h))
+    let bs : List ℕ = (all_taken (front path r)).left in
+    level_by (begins equals_sign bs) (begins hyphen bs) bs found
+    (some_if (nat_lt (indent (front path r)) 4) (setext_underline bs) found
+    (some_if (is_some (after path r)) (underline_left (front path r)) found h).1).1
 
 -- no closing brace is in the line of an underline
 underline_none : (text : List ℕ) (path : List Container) (at : ℕ) (left : List Place) (found : ℕ × HeadingLevel) → underline_first path left ≡ Some found
@@ -282,15 +231,12 @@ underline_none text path at (line ∷ lines) found h within is =
     let there = prefix_left text path at line first.1 in
     let size : ℕ = line_len (drop next text) in
     let whole : IsPlainLine (drop next text) = subst IsPlainLine there plain in
+    let bytes = none_from text next size (λ j less. whole j (omega arith) less) in
     let fits = line_len-fits (drop next text) in
     let rest = length-drop next text in
     let end : start_of (length text) lines ≡ next + size =
     ap (start_of (length text)) first.2 ∙ ap (λ n. start_of (length text) (lines_from text n)) (sym past.line)
     ∙ start_of-lines text (next + size) (let w = past.within in omega (arith, fits, rest)) in
-    let bytes : HasNoBrace text next (next + size) = (λ k low high.
-    let j : ℕ = k - next in
-    let on : next + j ≡ k = omega arith in
-    ap (λ i. slice_index text i == right_brace) (sym on) ∙ ap (λ b. b == right_brace) (sym (get_or-drop next text j 0)) ∙ whole.none j (omega arith)) in
     let order = past.order in
     (omega (arith, end), subst (HasNoBrace text at) (sym end) (both_none text at next (next + size) past.none bytes))
 
@@ -312,9 +258,8 @@ block_is d path start marker l found block before read underline is =
     let end : ℕ = start_of (length d.text) (drop 1 l.left) in
     let last : ℕ = chain_end start (marker_items marker ++ l.chain) in
     let m : ℕ = last - start in
-    let are : AreBraces (heading_bytes d start marker l) block.opening block.closing = found_braces (heading_bytes d start marker l) block is in
     let short = part_short d.text start m in
-    let some = is_in (heading_bytes d start marker l) block.closing right_brace are.closes (omega arith) in
+    let some = block_within (heading_bytes d start marker l) block is in
     let same : last ≡ chain_end start l.chain = marked_end start marker l.chain before (omega arith) in
     let under = underline_none d.text path read.to l.left found underline read.within read.left in
     let order = read.reaches.order in

@@ -1,12 +1,12 @@
 -- In a line, no closing brace follows the last token.
 use Rattle.std.proofs.Common.{◌≡◌, ℕ, zero, suc, ◌+◌, ◌-◌, ◌%◌, ◌<◌, ◌≤◌, ◌==◌, ◌&&◌, ◌||◌, Bool, true, false, nat_lt, nat_le, min, List, [], ◌∷◌, length, drop}
-use Rattle.std.proofs.Common.{get_or, slice_index, Option, refl, sym, ap, subst, ◌∙◌, arith, inl, inr, if◌then◌else◌}
-use mathlib.Core.List.{reverse}
+use Rattle.std.proofs.Common.{slice_index, Option, refl, sym, ap, subst, ◌∙◌, arith, inl, inr, if◌then◌else◌}
 use Rattle.std.specs.List.{slice_range, suffix_len}
-use Rattle.std.proofs.lemmas.Bool.{and_parts, cases_lt, eqb-true, true≢false}
+use Rattle.std.proofs.lemmas.Bool.{and_parts, cases_lt, eqb-true}
 use Rattle.std.proofs.lemmas.Bool.Decides.{nat_tests}
-use Rattle.std.proofs.lemmas.List.{get_or-drop, get_or-take, get_or_past, get_or-reverse, length-take, length-drop}
-use Rattle.std.proofs.lemmas.List.Sums.{prefix_len_passes, suffix_len-le-length}
+use Rattle.std.proofs.Math.Bool.{or-false}
+use Rattle.std.proofs.lemmas.List.{get_or-drop, get_or_past, length-take, length-drop}
+use Rattle.std.proofs.lemmas.List.Sums.{suffix_len-le-length}
 use Rattle.first_pass_items.specs.Bytes.{line_feed, carriage_return, backslash, right_brace}
 use Rattle.first_pass_items.specs.declared.cow_str.CowStr.{CowStr}
 use Rattle.first_pass_items.specs.declared.item.Item.{Item}
@@ -23,6 +23,7 @@ use Rattle.first_pass_tokens.proofs.LineLemmas.{piece_of, pieces_reach as pieces
 use Rattle.first_pass_tokens.proofs.ChainLemmas.{add_text-none, add_text-some}
 use Rattle.first_pass_tokens.proofs.PieceFacts.{IsPieceAt}
 use Rattle.first_pass_grammar.specs.Headings.{chain_end}
+use Rattle.first_pass_places.proofs.BlockPlaces.{part_at, last_passes}
 
 -- no closing brace is in the bytes of a text from one offset up to another
 abbrev pub HasNoBrace : List ℕ → ℕ → ℕ → Type 0
@@ -36,6 +37,13 @@ both_none text a b c h k n low high = elim (cases_lt n b) as (λ _. (slice_index
 
 pub nothing_none : (text : List ℕ) (a b : ℕ) → b ≤ a → HasNoBrace text a b
 nothing_none text a b h n low high = absurd (omega arith)
+
+-- from an offset on
+pub none_from : (text : List ℕ) (at n : ℕ) → ((j : ℕ) → j < n → (slice_index (drop at text) j == right_brace) ≡ false) → HasNoBrace text at (at + n)
+none_from text at n h k low high =
+    let j : ℕ = k - at in
+    let on : at + j ≡ k = omega arith in
+    ap (λ i. slice_index text i == right_brace) (sym on) ∙ ap (λ b. b == right_brace) (sym (get_or-drop at text j 0)) ∙ h j (omega arith)
 
 pub byte_none : (text : List ℕ) (n c : ℕ) → slice_index text n ≡ c → (c == right_brace) ≡ false → (slice_index text n == right_brace) ≡ false
 byte_none text n c e h = ap (λ b. b == right_brace) e ∙ h
@@ -80,10 +88,8 @@ text_reaches : (text : List ℕ) (s from m to : ℕ) (escaped : Bool) (chain : L
     → m ≤ to → HasNoBrace text m to → (m ≤ from → Reaches text s chain to) → Reaches text s (add_text from m escaped chain) to
 text_reaches text s from m to escaped chain within none short =
     elim (cases_lt from m) as (λ _. Reaches text s (add_text from m escaped chain) to) [
-      | inl some ↦
-          subst (λ (l : List Item). Reaches text s l to) (sym (add_text-some from m escaped chain some))
-          (token_reaches text s to chain (text_token from m escaped) within none)
-      | inr empty ↦ subst (λ (l : List Item). Reaches text s l to) (sym (add_text-none from m escaped chain empty)) (short empty)
+      | inl some ↦ rw (add_text-some from m escaped chain some) (token_reaches text s to chain (text_token from m escaped) within none)
+      | inr empty ↦ rw (add_text-none from m escaped chain empty) (short empty)
     ]
 
 -- the tokens of a run
@@ -136,21 +142,14 @@ passes_at p text start end k order inside low high =
     let cut = length-take (end - start) (drop start text) in
     let rest = length-drop start text in
     let short = suffix_len-le-length p xs in
-    let j : ℕ = length xs - 1 - (k - start) in
+    let j : ℕ = k - start in
     let ahead : start ≤ k = omega arith in
-    let few : k - start < length xs = omega arith in
-    let back : length xs - 1 - j ≡ k - start = omega arith in
-    let on : start + (k - start) ≡ k = omega arith in
-    let there : get_or (reverse xs) j 0 ≡ slice_index text k =
-    get_or-reverse xs j 0 (omega arith) ∙ ap (slice_index xs) back ∙ get_or-take (end - start) (drop start text) (k - start) 0 (omega arith)
-    ∙ get_or-drop start text (k - start) 0 ∙ ap (slice_index text) on in
-    ap p (sym there) ∙ prefix_len_passes p (reverse xs) j 0 (omega arith)
+    let on : start + j ≡ k = omega arith in
+    let there : slice_index xs j ≡ slice_index text k = part_at text start (end - start) j (omega arith) ∙ ap (slice_index text) on in
+    ap p (sym there) ∙ last_passes p xs j (omega arith) (omega arith)
 
-white_none : (b : ℕ) → is_white b ≡ true → (b == right_brace) ≡ false
+pub white_none : (b : ℕ) → is_white b ≡ true → (b == right_brace) ≡ false
 white_none b h = grind (arith, nat_tests, h)
-
-backslash_none : (b : ℕ) → (b == backslash) ≡ true → (b == right_brace) ≡ false
-backslash_none b h = grind (arith, nat_tests, h)
 
 line_end_none : (b : ℕ) → is_line_end b ≡ true → (b == right_brace) ≡ false
 line_end_none b h = grind (arith, nat_tests, h)
@@ -168,20 +167,12 @@ unfolding breaks_by_backslash backslashes_at_end blanks_at_end
 tail_by true s end order is k low high =
     let odd = (and_parts (backslashes_at_end s end % 2 == 1) (nat_lt (end + line_end_len s end) (length s.text)) is).0 in
     let one : backslashes_at_end s end % 2 ≡ 1 = eqb-true (backslashes_at_end s end % 2) 1 odd in
-    unless_past s.text k (λ inside. backslash_none (slice_index s.text k)
-    (passes_at (λ b. b == backslash) s.text s.start end k order inside (omega arith) high))
+    unless_past s.text k (λ inside. byte_none s.text k backslash
+    (eqb-true (slice_index s.text k) backslash (passes_at (λ b. b == backslash) s.text s.start end k order inside (omega arith) high)) refl)
 tail_by false s end order is k low high =
     unless_past s.text k (λ inside. white_none (slice_index s.text k) (passes_at is_white s.text s.start end k order inside low high))
 
-line_tail : (s : Inline) (end : ℕ) → s.start ≤ end → HasNoBrace s.text (text_end s end) end
-unfolding text_end
-line_tail s end order = tail_by (breaks_by_backslash s end) s end order refl
-
 -- the line ending
-or_false : (a b : Bool) → b ≡ false → (a || b) ≡ true → a ≡ true
-or_false true b h e = refl
-or_false false b h e = absurd (true≢false (sym e ∙ h))
-
 two_by : (t : Bool) (text : List ℕ) (end : ℕ) → is_line_end (slice_index text end) ≡ true
     → ((slice_index text end == carriage_return) && (slice_index text (end + 1) == line_feed)) ≡ t → HasNoBrace text end (end + (if t then 2 else 1))
 two_by true text end ends two k low high = elim (cases_lt k (end + 1)) as (λ _. (slice_index text k == right_brace) ≡ false) [
@@ -201,26 +192,22 @@ ending_by : (t : Bool) (s : Inline) (end : ℕ) → nat_le (length s.text) end �
 ending_by true s end is row ended = nothing_none s.text end (end + 0) (omega arith)
 ending_by false s end is row ended =
     let no_cell : ends_cell s (slice_index s.text end) ≡ false = rw row refl in
-    two_by ((slice_index s.text end == carriage_return) && (slice_index s.text (end + 1) == line_feed)) s.text end
-    (or_false (is_line_end (slice_index s.text end)) (ends_cell s (slice_index s.text end)) no_cell ended) refl
-
-ending_none : (s : Inline) (end : ℕ) → s.row ≡ false → content_ends_at s end ≡ true → HasNoBrace s.text end (end + line_end_len s end)
-unfolding content_ends_at line_end_len
-ending_none s end row ended = ending_by (nat_le (length s.text) end) s end refl row ended
+    let line = sym (or-false (is_line_end (slice_index s.text end))) ∙ ap (λ t. is_line_end (slice_index s.text end) || t) (sym no_cell) ∙ ended in
+    two_by ((slice_index s.text end == carriage_return) && (slice_index s.text (end + 1) == line_feed)) s.text end line refl
 
 -- in a line, no closing brace follows the last token
 pub line_reaches : (texts : List CowStr) (s : Inline) (tokens : List Item) (answer : ℕ × Option Item) (after : MathBraces) (e : ℕ)
     → AreLineTokens texts s tokens answer after → e ≤ s.start → HasNoBrace s.text e s.start → Reaches s.text e tokens answer.0
+unfolding text_end content_ends_at line_end_len
 line_reaches texts s tokens answer after e line order none =
     let end : ℕ = line.content_end in
     let stop : ℕ = text_end s end in
     let to : Spot = spot end after in
     let forward = pieces_order texts s s.start s.braces line.pieces to line.division.divided in
     let whole : Reaches s.text e (add_pieces stop s.start line.pieces []) end =
-    pieces_reach texts s e stop s.start s.braces line.pieces to [] (line_tail s end forward) line.division.divided
+    pieces_reach texts s e stop s.start s.braces line.pieces to [] (tail_by (breaks_by_backslash s end) s end forward refl) line.division.divided
     (record { order = order; none = none }) in
     let past : answer.0 ≡ end + line_end_len s end = ap (λ (a : ℕ × Option Item). a.0) line.answer_is in
     let all = reach_further s.text e end (end + line_end_len s end) (add_pieces stop s.start line.pieces []) (omega arith)
-    (ending_none s end line.no_cell line.division.ended) whole in
-    subst (λ n. Reaches s.text e tokens n) (sym past)
-    (subst (λ (l : List Item). Reaches s.text e l (end + line_end_len s end)) (sym line.tokens_are) all)
+    (ending_by (nat_le (length s.text) end) s end refl line.no_cell line.division.ended) whole in
+    rw (past, line.tokens_are) all

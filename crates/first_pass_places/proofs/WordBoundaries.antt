@@ -1,6 +1,6 @@
 -- In a text in UTF-8, the name and the value of an attribute begin and end on character boundaries.
 use Rattle.std.proofs.Common.{◌≡◌, ℕ, zero, suc, ◌+◌, ◌-◌, ◌<◌, ◌≤◌, ◌==◌, not, Bool, true, false, List, [], ◌∷◌, ◌++◌, All, length, drop, position}
-use Rattle.std.proofs.Common.{slice_index, slice_index_or, Option, Some, None, IfSome, IsUtf8, IsCharBoundary, refl, sym, ap, subst, ◌∙◌, arith, inl, inr}
+use Rattle.std.proofs.Common.{slice_index, slice_index_or, Option, Some, None, IfSome, IsUtf8, IsCharBoundary, refl, subst, arith, inl, inr}
 use Rattle.std.proofs.Common.{if◌then◌else◌}
 use Rattle.std.specs.List.{prefix_len, slice_range}
 use Rattle.std.specs.Option.{option_map_or}
@@ -10,7 +10,7 @@ use Rattle.std.proofs.lemmas.List.{length-drop, length-take}
 use Rattle.std.proofs.lemmas.List.Elements.{All-append, All-cons, All-filter, All-map, All-nil, All-same}
 use Rattle.std.proofs.lemmas.List.Quantifiers.{position-Some}
 use Rattle.std.proofs.lemmas.List.Sums.{prefix_len-le-length}
-use Rattle.std.proofs.lemmas.Str.{IsCharBoundary-after_ascii, IsCharBoundary-before_ascii}
+use Rattle.std.proofs.lemmas.Str.{IsCharBoundary-after_ascii}
 use Rattle.first_pass_items.specs.Bytes.{number_sign, full_stop, equals_sign, ascii_end}
 use Rattle.first_pass_items.specs.declared.item.Item.{Item}
 use Rattle.first_pass_attributes.specs.Attributes.{is_between_words}
@@ -21,8 +21,8 @@ use Rattle.first_pass_places.specs.AttributePlaces.{range_of, is_word_range, wor
 use Rattle.first_pass_places.specs.AttributePlaces.{attribute_place, places_in, attribute_ranges}
 use Rattle.first_pass_places.specs.InfoStrings.{bytes_in}
 use Rattle.first_pass_places.specs.RangeEnds.{EndsAreBoundaries, HasWholeCharacters}
-use Rattle.first_pass_places.proofs.BlockPlaces.{is_in, part_at, part_short}
-use Rattle.first_pass_places.proofs.RangeBoundaries.{attributes_between}
+use Rattle.first_pass_places.proofs.BlockPlaces.{is_in}
+use Rattle.first_pass_places.proofs.RangeBoundaries.{around_ascii, attributes_between}
 use Rattle.first_pass_places.proofs.WordPlaces.{next_word, no_words}
 
 -- a word ends on a character boundary, and the next word begins on one
@@ -37,12 +37,8 @@ word_end text from end n u stop order size =
     let whole : length bs ≡ end - from = (let cut = length-take (end - from) (drop from text) in omega (arith, cut, rest, within)) in
     elim (cases_lt n (length bs)) as (λ _. IsCharBoundary text (from + n) × (from + n + 1 ≤ end → IsCharBoundary text (from + n + 1))) [
       | inl less ↦ (
-          let low : n < end - from = omega (arith, less, whole) in
-          let read : slice_index bs n ≡ slice_index text (from + n) = part_at text from (end - from) n low in
-          let small : slice_index text (from + n) < ascii_end =
-          separator_is_ascii (slice_index text (from + n)) (ap is_between_words (sym read) ∙ stops bs n size less) in
-          let there : from + n < length text = omega (arith, low, within) in
-          (IsCharBoundary-before_ascii text (from + n) there small, λ more. IsCharBoundary-after_ascii text (from + n) u there small))
+          let ends = around_ascii text from (end - from) n u less (separator_is_ascii (slice_index bs n) (stops bs n size less)) in
+          (ends.0, λ more. ends.1))
       | inr past ↦ (
           let e : end ≡ from + n = omega (arith, past, whole, fits, size, order) in
           (subst (IsCharBoundary text) e stop, λ more. absurd (omega (arith, e, more))))
@@ -62,26 +58,17 @@ words_between (suc fuel) text from end u few stop start =
           (All-cons (EndsAreBoundaries text) (range_of from (from + n)) [] (start (omega (arith, less)), ends.0) (All-nil (EndsAreBoundaries text))) in
           let later = words_between fuel text (from + n + 1) end u (omega (arith, few)) stop ends.1 in
           All-same (EndsAreBoundaries text) (word_ranges text from end) (word_range from (from + n) ++ word_ranges text (from + n + 1) end)
-          (next_word text from end less stop.0)
+          (next_word text from end n less stop.0 refl)
           (All-append (EndsAreBoundaries text) (word_range from (from + n)) (word_ranges text (from + n + 1) end) first later))
       | inr past ↦ All-same (EndsAreBoundaries text) (word_ranges text from end) [] (no_words text from end past) (All-nil (EndsAreBoundaries text))
     ]
 
--- a byte of ASCII in a word
-mark_there : (text : List ℕ) (range : Range ℕ) (k c : ℕ) → IsUtf8 text → slice_index text (range.start + k) ≡ c → 0 < c → c < ascii_end
-    → IsCharBoundary text (range.start + k) × IsCharBoundary text (range.start + k + 1)
-mark_there text range k c u here some small =
-    let there = is_in text (range.start + k) c here some in
-    let ascii : slice_index text (range.start + k) < ascii_end = omega (arith, here, small) in
-    (IsCharBoundary-before_ascii text (range.start + k) there ascii, IsCharBoundary-after_ascii text (range.start + k) u there ascii)
-
+-- after the sign of an id or a class
 after_mark : (text : List ℕ) (range : Range ℕ) (c : ℕ) → IsUtf8 text → EndsAreBoundaries text range → (slice_index text range.start == c) ≡ true
     → 0 < c → c < ascii_end → EndsAreBoundaries text (range_of (range.start + 1) range.«end»)
 after_mark text range c u h e some small =
-    let same : range.start + 0 ≡ range.start = omega arith in
-    let next : range.start + 0 + 1 ≡ range.start + 1 = omega arith in
-    let here = ap (slice_index text) same ∙ eqb-true (slice_index text range.start) c e in
-    (subst (IsCharBoundary text) next (mark_there text range 0 c u here some small).1, h.1)
+    let here = eqb-true (slice_index text range.start) c e in
+    (IsCharBoundary-after_ascii text range.start u (is_in text range.start c here some) (omega (arith, here, small)), h.1)
 
 key_by : (text : List ℕ) (range : Range ℕ) (o : Option ℕ) → IsUtf8 text → EndsAreBoundaries text range
     → position (λ b. b == equals_sign) (bytes_in text range) ≡ o
@@ -89,11 +76,8 @@ key_by : (text : List ℕ) (range : Range ℕ) (o : Option ℕ) → IsUtf8 text 
 key_by text range None u h e = (h, tt)
 key_by text range (Some at) u h e =
     let found = position-Some (λ b. b == equals_sign) (bytes_in text range) at 0 e in
-    let less = found.0 in
-    let short = part_short text range.start (range.«end» - range.start) in
-    let read = part_at text range.start (range.«end» - range.start) at (omega (arith, less, short)) in
-    let here : slice_index text (range.start + at) ≡ equals_sign = sym read ∙ eqb-true (slice_index (bytes_in text range) at) equals_sign found.1 in
-    let ends = mark_there text range at equals_sign u here (omega arith) (omega arith) in
+    let byte = eqb-true (slice_index (bytes_in text range) at) equals_sign found.1 in
+    let ends = around_ascii text range.start (range.«end» - range.start) at u found.0 (omega (arith, byte)) in
     ((h.0, ends.0), (ends.1, h.1))
 
 place_by : (text : List ℕ) (range : Range ℕ) (t v : Bool) → IsUtf8 text → EndsAreBoundaries text range

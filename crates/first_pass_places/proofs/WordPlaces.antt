@@ -1,5 +1,5 @@
 -- The ranges of words, one after the other.
-use Rattle.std.proofs.Common.{◌≡◌, ℕ, ◌+◌, ◌-◌, ◌<◌, ◌≤◌, not, List, [], ◌∷◌, ◌++◌, length, filter, take, drop, refl, sym}
+use Rattle.std.proofs.Common.{◌≡◌, ℕ, ◌+◌, ◌-◌, ◌<◌, ◌≤◌, not, List, [], ◌∷◌, ◌++◌, length, filter, take, drop, sym}
 use Rattle.std.proofs.Common.{map, Option, Some, ap, ◌∙◌, arith, inl, inr}
 use Rattle.std.specs.List.{slice_range, slice_split, prefix_len}
 use Rattle.std.specs.Option.{option_map_or}
@@ -16,26 +16,19 @@ use Rattle.first_pass_places.specs.AttributeBlockPlaces.{attribute_block_range}
 use Rattle.first_pass_places.specs.AttributePlaces.{range_of, is_word_range, word_range, ranges_from, word_ranges, attribute_place, places_in, attribute_ranges}
 
 -- an empty range has no words
-no_word_range : (at : ℕ) → word_range at (at + 0) ≡ []
-no_word_range at = grind (arith, nat_tests)
-
 pub no_words : (text : List ℕ) (from end : ℕ) → end ≤ from → word_ranges text from end ≡ []
 unfolding word_ranges
 no_words text from end h =
     let zero_is : end - from ≡ 0 = omega arith in
-    ap (λ n. filter is_word_range (ranges_from from (slice_split is_between_words (take n (drop from text))))) zero_is ∙ no_word_range from
-
-filter_first : (x : Range ℕ) (xs : List (Range ℕ)) → filter is_word_range (x ∷ xs) ≡ filter is_word_range (x ∷ []) ++ filter is_word_range xs
-filter_first x xs = filter-append is_word_range (x ∷ []) xs
+    rw zero_is (grind (arith, nat_tests))
 
 -- the first word, and those after it
-pub next_word : (text : List ℕ) (from end : ℕ) → from < end → end ≤ length text
-    → let n : ℕ = prefix_len (λ b. not (is_between_words b)) (slice_range text from end) in
-    word_ranges text from end ≡ word_range from (from + n) ++ word_ranges text (from + n + 1) end
+pub next_word : (text : List ℕ) (from end n : ℕ) → from < end → end ≤ length text
+    → n ≡ prefix_len (λ b. not (is_between_words b)) (slice_range text from end)
+    → word_ranges text from end ≡ word_range from (from + n) ++ word_ranges text (from + n + 1) end
 unfolding word_ranges
-next_word text from end order within =
+next_word text from end n order within is =
     let bs : List ℕ = slice_range text from end in
-    let n : ℕ = prefix_len in_word bs in
     let fits = prefix_len-le-length in_word bs in
     let rest = length-drop from text in
     let whole : length bs ≡ end - from = (let cut = length-take (end - from) (drop from text) in omega (arith, cut, rest)) in
@@ -48,13 +41,13 @@ next_word text from end order within =
           let following : later ≡ slice_range text (from + n + 1) end =
           ap (λ m. drop (n + 1) (take m (drop from text))) (sym ahead) ∙ drop-take (n + 1) (end - (from + n + 1)) (drop from text)
           ∙ ap (take (end - (from + n + 1))) (drop-drop (n + 1) from text ∙ ap (λ m. drop m text) on) in
-          ap (λ l. filter is_word_range (ranges_from from l)) (split-next bs n refl less)
+          ap (λ l. filter is_word_range (ranges_from from l)) (split-next bs n is less)
           ∙ ap (λ m. filter is_word_range (range_of from (from + m) ∷ ranges_from (from + m + 1) (slice_split is_between_words later))) size
-          ∙ filter_first (range_of from (from + n)) (ranges_from (from + n + 1) (slice_split is_between_words later))
+          ∙ filter-append is_word_range (range_of from (from + n) ∷ []) (ranges_from (from + n + 1) (slice_split is_between_words later))
           ∙ ap (λ l. word_range from (from + n) ++ filter is_word_range (ranges_from (from + n + 1) (slice_split is_between_words l))) following)
       | inr past ↦ (
           let all : n ≡ length bs = omega (arith, past, fits) in
-          ap (λ l. filter is_word_range (ranges_from from l)) (split-last bs n refl all)
+          ap (λ l. filter is_word_range (ranges_from from l)) (split-last bs n is all)
           ∙ ap (λ m. filter is_word_range (range_of from (from + m) ∷ [])) size
           ∙ sym (append-nil (word_range from (from + n)))
           ∙ ap (λ l. word_range from (from + n) ++ l) (sym (no_words text (from + n + 1) end (omega (arith, whole)))))

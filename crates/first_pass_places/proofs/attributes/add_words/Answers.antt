@@ -17,8 +17,7 @@ loop-from-preserved c =
     let first : List (Range ℕ) = word_range from next in
     let rest : List (Range ℕ) = word_ranges text (next + 1) end in
     let words : word_ranges text from end ≡ first ++ rest =
-    next_word text from end c.loop-from-test.true c.requires
-    ∙ ap (λ n. word_range from (from + n) ++ word_ranges text (from + n + 1) end) (sym c.scan_word.ensures.value) in
+    next_word text from end c.scan_word.result c.loop-from-test.true c.requires c.scan_word.ensures.value in
     let size = ap length words ∙ length-append first rest in
     let fewer = c.loop-from.invariant.fewer in
     record {
@@ -37,8 +36,7 @@ returns-in_err-add_word-clause-err c =
     let next : ℕ = from + c.scan_word.result in
     let rest : List (Range ℕ) = word_ranges text (next + 1) end in
     let words : word_ranges text from end ≡ word_range from next ++ rest =
-    next_word text from end c.loop-from-test.true c.requires
-    ∙ ap (λ n. word_range from (from + n) ++ word_ranges text (from + n + 1) end) (sym c.scan_word.ensures.value) in
+    next_word text from end c.scan_word.result c.loop-from-test.true c.requires c.scan_word.ensures.value in
     let size = ap length words ∙ length-append (word_range from next) rest in
     let one = one_word_range from next c.in_err-add_word.ensures.err in
     let fewer = c.loop-from.invariant.fewer in

@@ -1,8 +1,6 @@
-use Rattle.std.proofs.Common.{ℕ, List, All, sym, ap, subst, ◌∙◌}
+use Rattle.std.proofs.Common.{ap, ◌∙◌}
 use Rattle.std.proofs.lemmas.Result.{IfOk-weaker}
-use Rattle.first_pass_places.specs.declared.attributes.AttributeRanges.{AttributeRanges}
 use Rattle.first_pass_places.specs.AttributePlaces.{attribute_ranges}
-use Rattle.first_pass_places.specs.RangeEnds.{HasWholeCharacters}
 use Rattle.first_pass_places.proofs.WordBoundaries.{places_between}
 use Rattle.first_pass_places.proofs.attributes.attribute_ranges.Goals as goal
 
@@ -13,8 +11,8 @@ returns-clause-value c =
 
 pub returns-clause-boundary : goal.returns-clause-boundary
 returns-clause-boundary c =
-    let text : List ℕ = c.args.text.now in
     λ first. IfOk-weaker c.attribute_ranges_in.result _ _
-    (λ places e. subst (λ (l : List AttributeRanges). All (HasWholeCharacters text) l)
-    (sym (e ∙ ap (λ bs. attribute_ranges bs c.args.heading.now) c.as_bytes.ensures.value)) (places_between text c.args.heading.now c.utf8.text first))
+    (λ places e.
+    let is = e ∙ ap (λ bs. attribute_ranges bs c.args.heading.now) c.as_bytes.ensures.value in
+    rw is (places_between c.args.text.now c.args.heading.now c.utf8.text first))
     c.attribute_ranges_in.ensures.value

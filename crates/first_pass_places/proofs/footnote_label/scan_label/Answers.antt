@@ -1,9 +1,8 @@
-use Rattle.std.proofs.Common.{◌≡◌, ℕ, ◌==◌, true, false, sym, ap, ◌∙◌, arith, if◌then◌else◌}
-use Rattle.std.proofs.lemmas.Bool.Decides.{nat_tests}
-use Rattle.first_pass_items.specs.Bytes.{backslash}
+use Rattle.std.proofs.Common.{sym, ap, ◌∙◌, arith, if◌then◌else◌}
 use Rattle.first_pass_links.specs.Escapes.{begins_escape}
 use Rattle.first_pass_links.specs.Labels.{is_bracket}
 use Rattle.first_pass_links.proofs.Destinations.{upto_unit, upto_stopped, upto_ended}
+use Rattle.first_pass_places.proofs.LabelPlaces.{bracket_byte}
 use Rattle.first_pass_places.proofs.footnote_label.scan_label.Goals as goal
 
 pub loop-at-preserved : goal.loop-at-preserved
@@ -17,13 +16,10 @@ loop-at-preserved c =
     let passed = c.loop-at.invariant.passed in
     record { within = omega arith; passed = u ∙ passed }
 
-no_backslash : (b : ℕ) → is_bracket b ≡ true → (b == backslash) ≡ false
-no_backslash b h = grind (arith, nat_tests, h)
-
 pub returns-else-not-is_bracket-clause-value : goal.returns-else-not-is_bracket-clause-value
 returns-else-not-is_bracket-clause-value c =
     let s = sym c.is_bracket.ensures ∙ c.if-not-is_bracket.false in
-    let e = upto_stopped is_bracket c.args.bytes.now c.loop-at.at c.loop-at-test.true s (no_backslash _ s) in
+    let e = upto_stopped is_bracket c.args.bytes.now c.loop-at.at c.loop-at-test.true s (bracket_byte _ s) in
     let passed = c.loop-at.invariant.passed in
     omega arith
 

@@ -5,7 +5,7 @@ use Rattle.first_pass_items.proofs.ResultFacts.{on_err}
 use Rattle.first_pass_labels.specs.LabelTables.{with_first, with_all}
 use Rattle.first_pass_names.specs.TableEntries.{names_of}
 use Rattle.first_pass_places.specs.FootnoteNodes.{label_with_index}
-use Rattle.first_pass_places.proofs.FootnoteEntries.{no_footnote, one_label}
+use Rattle.first_pass_places.proofs.FootnoteTables.{no_footnote, one_label}
 use Rattle.first_pass_places.proofs.footnotes.add_footnote.Goals as goal
 
 pub returns-in_default-clause-value : goal.returns-in_default-clause-value

@@ -1,14 +1,11 @@
-use Rattle.std.proofs.Common.{take, sym, subst}
 use Rattle.std.proofs.lemmas.List.{take_all}
 use Rattle.first_pass_items.proofs.ResultFacts.{on_err}
 use Rattle.first_pass_names.specs.TableEntries.{names_of}
-use Rattle.first_pass_places.specs.FootnoteNodes.{AreFirstFootnotes}
-use Rattle.first_pass_places.proofs.FootnoteEntries.{label_among, none_first, next_node, some_labels}
+use Rattle.first_pass_places.proofs.FootnoteTables.{label_among, none_first, next_node, some_labels}
 use Rattle.first_pass_places.proofs.footnotes.footnote_nodes.Goals as goal
 
 pub loop-index-init : goal.loop-index-init
-loop-index-init c =
-    subst (AreFirstFootnotes (names_of c.args.allocs.now) (take 0 c.args.nodes.now)) (sym c.new-table.ensures) (none_first (names_of c.args.allocs.now))
+loop-index-init c = rw c.new-table.ensures (none_first (names_of c.args.allocs.now))
 
 pub loop-index-preserved : goal.loop-index-preserved
 loop-index-preserved c =
@@ -23,13 +20,10 @@ returns-in_err-add_footnote-clause-err c =
 
 pub returns-clause-value : goal.returns-clause-value
 returns-clause-value c =
-    subst (AreFirstFootnotes (names_of c.args.allocs.now) c.args.nodes.now) (sym c.sort.ensures.same)
-    (subst (λ l. AreFirstFootnotes (names_of c.args.allocs.now) l c.loop-index.table) (take_all c.loop-index.index c.args.nodes.now c.loop-index-test.false)
-    c.loop-index.invariant)
+    rw c.sort.ensures.same (rw (take_all c.loop-index.index c.args.nodes.now c.loop-index-test.false) at c.loop-index.invariant)
 
 pub returns-in_err-sort-clause-err : goal.returns-in_err-sort-clause-err
 returns-in_err-sort-clause-err c =
     on_err c.from_residual-in_err-sort.result
     (some_labels (names_of c.args.allocs.now) c.args.nodes.now c.loop-index.table c.in_err-sort.ensures.err
-    (subst (λ l. AreFirstFootnotes (names_of c.args.allocs.now) l c.loop-index.table) (take_all c.loop-index.index c.args.nodes.now c.loop-index-test.false)
-    c.loop-index.invariant))
+    (rw (take_all c.loop-index.index c.args.nodes.now c.loop-index-test.false) at c.loop-index.invariant))

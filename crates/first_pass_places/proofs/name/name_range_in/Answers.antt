@@ -1,23 +1,16 @@
-use Rattle.std.proofs.Common.{ℕ, Some, sym, ap, ◌∙◌}
-use Rattle.std.specs.declared.ops.Range.{Range}
-use Rattle.first_pass_items.specs.declared.item.ItemBody.{ItemBody}
-use Rattle.first_pass_places.specs.NamePlaces.{name_range_by}
+use Rattle.std.proofs.Common.{Some, sym, refl, ◌∙◌}
 use Rattle.first_pass_places.proofs.RangeBoundaries.{name_between, other_name}
 use Rattle.first_pass_places.proofs.name.name_range_in.Goals as goal
 
 pub returns-in-FencedCodeBlock-clause-boundary : goal.returns-in-FencedCodeBlock-clause-boundary
 returns-in-FencedCodeBlock-clause-boundary c =
     name_between c.args.text.now c.args.node.now (Some c.info_range.result)
-    (ap (λ (range : Range ℕ). Some range) c.info_range.ensures.value
-    ∙ sym (ap (λ (body : ItemBody). name_range_by body c.args.text.now c.args.node.now) c.in-FencedCodeBlock.is))
-    c.requires.order c.requires.within
+    (rw (c.info_range.ensures.value, c.in-FencedCodeBlock.is) refl) c.requires.order c.requires.within
 
 pub returns-in-FootnoteDefinition-clause-boundary : goal.returns-in-FootnoteDefinition-clause-boundary
 returns-in-FootnoteDefinition-clause-boundary c =
     name_between c.args.text.now c.args.node.now (Some c.label_range.result)
-    (ap (λ (range : Range ℕ). Some range) c.label_range.ensures.value
-    ∙ sym (ap (λ (body : ItemBody). name_range_by body c.args.text.now c.args.node.now) c.in-FootnoteDefinition.is))
-    c.requires.order c.requires.within
+    (rw (c.label_range.ensures.value, c.in-FootnoteDefinition.is) refl) c.requires.order c.requires.within
 
 pub returns-in_default-clause-boundary : goal.returns-in_default-clause-boundary
 returns-in_default-clause-boundary c =

@@ -1,0 +1,297 @@
+-- The footnote definitions among the nodes of a derived tree are those of its sequence, in the order of the text.
+use Rattle.std.proofs.Common.{◌≡◌, ℕ, suc, Bool, true, false, List, [], ◌∷◌, ◌++◌, length, map, Option, Some, None, refl, sym, ap, ◌∙◌, append_assoc}
+use Rattle.std.proofs.Common.{if◌then◌else◌}
+use Rattle.std.specs.Option.{option_map, option_map_or}
+use Rattle.std.proofs.lemmas.Bool.{false≢true}
+use Rattle.std.proofs.lemmas.List.{map-append}
+use Rattle.first_pass_items.specs.declared.cow_str.CowStr.{CowStr}
+use Rattle.first_pass_items.specs.declared.item.CowIndex.{CowIndex}
+use Rattle.first_pass_items.specs.declared.item.Item.{Item}
+use Rattle.first_pass_items.specs.declared.item.ItemBody.{ItemBody}
+use Rattle.first_pass_items.specs.declared.item.ItemBody.TheVariants.{FencedCodeBlock, FootnoteDefinition, Paragraph}
+use Rattle.first_pass_tree.specs.Forest.{at_depth}
+use Rattle.first_pass_tree.specs.Tight.{tight_body, tightened}
+use Rattle.first_pass_lines.specs.Places.{lines_at}
+use Rattle.first_pass_tokens.proofs.PieceFacts.{is_markup}
+use Rattle.first_pass_grammar.specs.Before.{Before, nothing, after_blank, after_block, after_container, before_end, begins_paragraph}
+use Rattle.first_pass_grammar.specs.Blocks.{LeafBlock, BlankLine, Block, Opener, QuoteMarker, ItemMarker, FootnoteMarker, DefinitionMarker, label_of, opened}
+use Rattle.first_pass_grammar.specs.Blocks.{Skeleton, Nil, Then, Node}
+use Rattle.first_pass_grammar.specs.Containers.{is_quote}
+use Rattle.first_pass_grammar.specs.Derivation.{as_title, row_items, tight_in, items_of, footnotes_of, Tables, Derives}
+use Rattle.first_pass_grammar.specs.Leaves.{Document}
+use Rattle.first_pass_grammar.specs.Names.{text_named}
+use Rattle.first_pass_grammar.specs.Rows.{What, ALeaf, AFootnote, ATitle, Row, Rows, End, OneOf, gapped}
+use Rattle.first_pass_grammar.specs.Rows.{is_loose, Joins, ItemsOf, DefinitionsTo, end_of_row, continues_list, items_after, list_after, what_of, row_of}
+use Rattle.first_pass_grammar.specs.Rows.{container_row, row_of_leaf, Definitions, definitions_of_row, apart_after, is_untitled, is_run_row, definitions_first}
+use Rattle.first_pass_grammar.specs.Rows.{titled, gap_before, rows_of}
+use Rattle.first_pass_grammar.specs.Skeleton.{Line, level, Lines}
+use Rattle.first_pass_grammar.specs.WholeTables.{AreEachNode}
+use Rattle.first_pass_grammar.proofs.Each.EachCell.{deeper_nodes}
+use Rattle.first_pass_grammar.proofs.Each.EachLeaf.{HoldsOfBlocks, HoldsInBlocks, IsBlockOf, HoldsOfEachLeaf, each_leaf}
+use Rattle.first_pass_grammar.proofs.Each.EachRow.{IsEnd, HoldsOfRow, HoldsOfEachRow, each_row, tight_nodes}
+use Rattle.first_pass_grammar.proofs.Names.TokensNamed.{NamesWithin}
+use Rattle.first_pass_places.proofs.MarkedBlocks.{IsReadOpener, AreReadHeads, derived_blocks}
+
+-- the start and the index of each footnote definition among nodes, rows or blocks
+abbrev pub Footnotes : Type 0
+Footnotes = List (ℕ × CowIndex)
+
+abbrev pub footnote_in : ℕ → ItemBody → Footnotes
+footnote_in start (FootnoteDefinition ix) = (start, ix) ∷ []
+footnote_in start _ = []
+
+abbrev pub node_footnotes : List (ℕ × Item) → Footnotes
+node_footnotes [] = []
+node_footnotes (n ∷ nodes) = footnote_in n.1.start n.1.body ++ node_footnotes nodes
+
+abbrev pub what_footnotes : ℕ → What → Footnotes
+what_footnotes start (AFootnote index e) = (start, index) ∷ []
+what_footnotes start _ = []
+
+abbrev pub row_footnotes : Rows → Footnotes
+row_footnotes End = []
+row_footnotes (OneOf row inner next) = what_footnotes row.start row.what ++ (row_footnotes inner ++ row_footnotes next)
+
+abbrev pub opener_footnotes : ℕ → Opener → Footnotes
+opener_footnotes start (FootnoteMarker columns index label) = (start, index) ∷ []
+opener_footnotes start _ = []
+
+unfoldable pub sequence_footnotes : Skeleton → Footnotes
+sequence_footnotes Nil = []
+sequence_footnotes (Then leaf next) = sequence_footnotes next
+sequence_footnotes (Node head e kids next) = opener_footnotes head.start head.opener ++ (sequence_footnotes kids ++ sequence_footnotes next)
+
+both_footnotes : (nodes more : List (ℕ × Item)) → node_footnotes (nodes ++ more) ≡ node_footnotes nodes ++ node_footnotes more
+both_footnotes [] more = refl
+both_footnotes (n ∷ nodes) more =
+    ap (λ (l : Footnotes). footnote_in n.1.start n.1.body ++ l) (both_footnotes nodes more)
+    ∙ sym (append_assoc (footnote_in n.1.start n.1.body) (node_footnotes nodes) (node_footnotes more))
+
+-- a body that is no footnote definition, and one that is no fenced code block either
+abbrev pub IsSilent : ItemBody → Type 0
+IsSilent (FootnoteDefinition ix) = ⊥
+IsSilent _ = Unit {0}
+
+abbrev pub IsPlain : ItemBody → Type 0
+IsPlain (FootnoteDefinition ix) = ⊥
+IsPlain (FencedCodeBlock ix) = ⊥
+IsPlain _ = Unit {0}
+
+silent_body : (start : ℕ) (body : ItemBody) → IsSilent body → footnote_in start body ≡ []
+silent_body start (FootnoteDefinition ix) h = absurd h
+silent_body start body h = refl
+
+silent_nodes : (nodes : List (ℕ × Item)) → AreEachNode IsSilent nodes → node_footnotes nodes ≡ []
+silent_nodes [] h = refl
+silent_nodes (n ∷ nodes) h = ap (λ (l : Footnotes). l ++ node_footnotes nodes) (silent_body n.1.start n.1.body h.0) ∙ silent_nodes nodes h.1
+
+plain_silent : (body : ItemBody) → IsPlain body → IsSilent body
+plain_silent (FootnoteDefinition ix) h = absurd h
+plain_silent body h = tt
+
+plain_nodes : (nodes : List (ℕ × Item)) → AreEachNode IsPlain nodes → AreEachNode IsSilent nodes
+plain_nodes [] h = tt
+plain_nodes (n ∷ nodes) h = (plain_silent n.1.body h.0, plain_nodes nodes h.1)
+
+-- No node of a leaf block is a footnote definition, and only its first may be a fenced code block.
+blocks_silent : HoldsOfBlocks IsSilent
+blocks_silent = record {
+  paragraph = tt;
+  heading = λ level index. tt;
+  table = λ index. tt;
+  indented = tt;
+  fenced = λ info. tt;
+  metadata = λ kind. tt;
+  html = tt;
+  rule = tt;
+  task = λ checked. tt;
+}
+
+markup_plain : (texts : List CowStr) (body : ItemBody) → is_markup body ≡ true → NamesWithin texts body → IsPlain body
+markup_plain texts (FencedCodeBlock ix) h k = absurd (false≢true h)
+markup_plain texts (FootnoteDefinition ix) h k = absurd (false≢true h)
+markup_plain texts _ h k = tt
+
+within_plain : (texts : List CowStr) → HoldsInBlocks texts IsPlain
+within_plain texts = record {
+  tokens = record { text = λ escaped. tt; soft = tt; hard = λ by_backslash. tt; markup = markup_plain texts };
+  raw = record { html = tt; columns = λ ix. tt };
+  head = tt;
+  row = tt;
+  cell = tt;
+  task = λ checked. tt;
+}
+
+abbrev pub IsLeafBlock : List (ℕ × Item) → Type 0
+IsLeafBlock items = IsBlockOf IsSilent IsPlain items
+
+pub derived_leaves : (d : Document) (nodes : List (ℕ × Item)) (tables : Tables) (h : Derives d nodes tables) → HoldsOfEachLeaf IsLeafBlock h.skeleton
+derived_leaves d nodes tables h =
+    each_leaf IsSilent IsPlain d blocks_silent (within_plain d.names.texts) h.skeleton (level [] nothing) Line (lines_at 0 d.text) (Lines []) tt h.sequence
+
+block_silent : (items : List (ℕ × Item)) → IsLeafBlock items → AreEachNode IsSilent items
+block_silent [] h = tt
+block_silent (x ∷ items) h = (h.1, plain_nodes items h.2)
+
+title_silent : (items : List (ℕ × Item)) → AreEachNode IsSilent items → AreEachNode IsSilent (as_title items)
+title_silent [] h = tt
+title_silent (x ∷ items) h = (tt, h.1)
+
+tight_silent : (body : ItemBody) → IsSilent body → IsSilent (tight_body body)
+tight_silent Paragraph h = tt
+tight_silent body h = h
+
+-- the nodes of rows have the footnote definitions of the rows
+row_nodes : (depth : ℕ) (tight loose : Bool) (start : ℕ) (w : What) (inner : Rows) → HoldsOfRow IsLeafBlock w inner
+    → node_footnotes (row_items depth tight loose start w) ≡ what_footnotes start w
+row_nodes depth true loose start (ALeaf block) inner h =
+    silent_nodes (map (tightened depth) (at_depth depth block.items))
+    (tight_nodes IsSilent tight_silent depth (at_depth depth block.items) (deeper_nodes IsSilent depth block.items (block_silent block.items h.0)))
+row_nodes depth false loose start (ALeaf block) inner h =
+    silent_nodes (at_depth depth block.items) (deeper_nodes IsSilent depth block.items (block_silent block.items h.0))
+row_nodes depth tight loose start (ATitle block) inner h =
+    silent_nodes (at_depth depth (as_title block.items))
+    (deeper_nodes IsSilent depth (as_title block.items) (title_silent block.items (block_silent block.items h.0)))
+row_nodes depth tight loose start w inner h = refl
+
+rows_nodes : (depth : ℕ) (tight : Bool) (rows : Rows) → HoldsOfEachRow IsLeafBlock rows → node_footnotes (items_of depth tight rows) ≡ row_footnotes rows
+unfolding HoldsOfEachRow items_of
+rows_nodes depth tight End h = refl
+rows_nodes depth tight (OneOf row inner next) h =
+    let own : List (ℕ × Item) = row_items depth tight (is_loose inner) row.start row.what in
+    let below : List (ℕ × Item) = items_of (suc depth) (tight_in tight (is_loose inner) row.what) inner in
+    let beside : List (ℕ × Item) = items_of depth tight next in
+    let all = both_footnotes own (below ++ beside) in
+    let more = both_footnotes below beside in
+    let first = row_nodes depth tight (is_loose inner) row.start row.what inner h.0 in
+    let second = rows_nodes (suc depth) (tight_in tight (is_loose inner) row.what) inner h.1 in
+    let third = rows_nodes depth tight next h.2 in
+    cc
+
+-- items in a list keep their order
+gapped_footnotes : (gap : Bool) (rows : Rows) → row_footnotes (gapped gap rows) ≡ row_footnotes rows
+gapped_footnotes gap End = refl
+gapped_footnotes gap (OneOf row inner next) = refl
+
+no_join : (joins : Joins) (start : ℕ) (w : What) → continues_list joins w ≡ true → what_footnotes start w ≡ []
+no_join (ItemsOf byte) start (AFootnote index e) h = absurd (false≢true h)
+no_join (DefinitionsTo until) start (AFootnote index e) h = absurd (false≢true h)
+no_join joins start w h = refl
+
+joined_by : (t : Bool) (joins : Joins) (row : Row) (inner next : Rows) → continues_list joins row.what ≡ t
+    → row_footnotes (if t then gapped row.gap inner else End) ++ row_footnotes (if t then next else OneOf row inner next) ≡ row_footnotes (OneOf row inner next)
+joined_by true joins row inner next e = rw (gapped_footnotes row.gap inner, no_join joins row.start row.what e) refl
+joined_by false joins row inner next e = refl
+
+joined_footnotes : (joins : Joins) (rows : Rows) → row_footnotes (items_after joins rows) ++ row_footnotes (list_after joins rows) ≡ row_footnotes rows
+joined_footnotes joins End = refl
+joined_footnotes joins (OneOf row inner next) = joined_by (continues_list joins row.what) joins row inner next refl
+
+-- the rows of a list that a container begins
+list_footnotes : (a b : Footnotes) (joins : Joins) (next : Rows)
+    → (a ++ (b ++ row_footnotes (items_after joins next))) ++ row_footnotes (list_after joins next) ≡ a ++ (b ++ row_footnotes next)
+list_footnotes a b joins next = simp append_assoc (ap (λ (l : Footnotes). a ++ (b ++ l)) (joined_footnotes joins next))
+
+container_footnotes : (last : ℕ) (opener : Opener) (row : Row) (inner next : Rows)
+    → row_footnotes (container_row last opener row inner next) ≡ what_footnotes row.start row.what ++ (row_footnotes inner ++ row_footnotes next)
+container_footnotes last (QuoteMarker kind) row inner next = refl
+container_footnotes last (ItemMarker byte number columns) row inner next =
+    list_footnotes (what_footnotes row.start row.what) (row_footnotes inner) (ItemsOf byte) next
+container_footnotes last (FootnoteMarker columns index label) row inner next = refl
+container_footnotes last (DefinitionMarker columns) row inner next =
+    list_footnotes (what_footnotes row.start row.what) (row_footnotes inner) (DefinitionsTo (end_of_row row.what last)) next
+
+-- the definitions that a title takes in, and then the rows beside them, have the footnote definitions of all rows
+abbrev HaveSame : Rows → Option Definitions → Type 0
+HaveSame rows None = Unit {0}
+HaveSame rows (Some ds) = row_footnotes ds.items ++ row_footnotes ds.beside ≡ row_footnotes rows
+
+end_footnotes : (rows : Rows) → IsEnd rows → row_footnotes rows ≡ []
+end_footnotes End h = refl
+end_footnotes (OneOf row inner next) h = absurd h
+
+untitled_silent : (start : ℕ) (w : What) → is_untitled w ≡ true → what_footnotes start w ≡ []
+untitled_silent start (AFootnote index e) h = absurd (false≢true h)
+untitled_silent start w h = refl
+
+run_silent : (start : ℕ) (w : What) (inner : Rows) → is_run_row w ≡ true → HoldsOfRow IsLeafBlock w inner
+    → (what_footnotes start w ≡ []) × (row_footnotes inner ≡ [])
+run_silent start (ALeaf block) inner h own = (refl, end_footnotes inner own.1)
+run_silent start w inner h own = absurd (false≢true h)
+
+first_by : (t u : Bool) (row : Row) (inner next : Rows) (o : Option Definitions) → is_untitled row.what ≡ t → is_run_row row.what ≡ u
+    → HoldsOfRow IsLeafBlock row.what inner → HaveSame next o
+    → HaveSame (OneOf row inner next) (if t then definitions_of_row row inner next else (if u then option_map (apart_after row inner) o else None))
+first_by true u row inner next o e f own h = rw (gapped_footnotes row.gap inner, untitled_silent row.start row.what e) refl
+first_by false true row inner next None e f own h = tt
+first_by false true row inner next (Some ds) e f own h = (let none = run_silent row.start row.what inner f own in rw (none.0, none.1) h)
+first_by false false row inner next o e f own h = tt
+
+first_same : (rows : Rows) → HoldsOfEachRow IsLeafBlock rows → HaveSame rows (definitions_first rows)
+unfolding HoldsOfEachRow definitions_first
+first_same End h = tt
+first_same (OneOf row inner next) h =
+    first_by (is_untitled row.what) (is_run_row row.what) row inner next (definitions_first next) refl refl h.0 (first_same next h.2)
+
+titled_footnotes : (t : Bool) (block : LeafBlock) (gap : Bool) (next : Rows) (o : Option Definitions) → HaveSame next o
+    → row_footnotes (option_map_or (titled block gap) (if t then o else None) (OneOf (row_of_leaf block gap) End next)) ≡ row_footnotes next
+titled_footnotes true block gap next None h = refl
+titled_footnotes true block gap next (Some ds) h = h
+titled_footnotes false block gap next o h = refl
+
+-- the rows of a sequence have its footnote definitions
+head_footnotes : (start : ℕ) (opener : Opener) (e : ℕ) → what_footnotes start (what_of opener e) ≡ opener_footnotes start opener
+head_footnotes start (FootnoteMarker columns index label) e = refl
+head_footnotes start opener e = refl
+
+pub rows_same : (quoted : Bool) (before : Before) (last : ℕ) (s : Skeleton) → HoldsOfEachLeaf IsLeafBlock s
+    → row_footnotes (rows_of quoted before last s) ≡ sequence_footnotes s
+unfolding HoldsOfEachLeaf rows_of sequence_footnotes
+rows_same quoted before last Nil h = refl
+rows_same quoted before last (Then BlankLine next) h = rows_same quoted (after_blank quoted before) last next h.1
+rows_same quoted before last (Then (Block block) next) h =
+    let rows : Rows = rows_of quoted (after_block before block) last next in
+    let holds = each_row IsLeafBlock quoted (after_block before block) last next h.1 in
+    titled_footnotes (begins_paragraph block.items) block (gap_before before block) rows (definitions_first rows) (first_same rows holds)
+    ∙ rows_same quoted (after_block before block) last next h.1
+rows_same quoted before last (Node head e kids next) h =
+    let quote : Bool = is_quote (opened head.opener) in
+    let there : Before = after_container (opened head.opener) (before_end quote nothing kids) in
+    let all = container_footnotes last head.opener (row_of head e before.counted) (rows_of quote nothing e kids) (rows_of quoted there last next) in
+    let first = head_footnotes head.start head.opener e in
+    let second = rows_same quote nothing e kids h.0 in
+    let third = rows_same quoted there last next h.1 in
+    cc
+
+-- the labels of a sequence are those that the indices of its footnote definitions name
+abbrev pub labels_named : Document → Footnotes → List (List ℕ)
+labels_named d footnotes = map (λ (f : ℕ × CowIndex). text_named d.names f.1) footnotes
+
+opener_label : (d : Document) (start : ℕ) (opener : Opener) → IsReadOpener d start opener → labels_named d (opener_footnotes start opener) ≡ label_of opener
+opener_label d start (FootnoteMarker columns index label) h = ap (λ (l : List ℕ). l ∷ []) h.1
+opener_label d start opener h = refl
+
+sequence_labels : (d : Document) (s : Skeleton) → AreReadHeads d s → labels_named d (sequence_footnotes s) ≡ footnotes_of s
+unfolding AreReadHeads sequence_footnotes footnotes_of
+sequence_labels d Nil h = refl
+sequence_labels d (Then leaf next) h = sequence_labels d next h
+sequence_labels d (Node head e kids next) h =
+    let name = λ (f : ℕ × CowIndex). text_named d.names f.1 in
+    let below : Footnotes = sequence_footnotes kids in
+    let beside : Footnotes = sequence_footnotes next in
+    let all = map-append name (opener_footnotes head.start head.opener) (below ++ beside) in
+    let more = map-append name below beside in
+    let first = opener_label d head.start head.opener h.0 in
+    let second = sequence_labels d kids h.1 in
+    let third = sequence_labels d next h.2 in
+    cc
+
+-- the nodes of a derived tree
+pub derived_labels : (d : Document) (nodes : List (ℕ × Item)) (tables : Tables) (h : Derives d nodes tables)
+    → labels_named d (node_footnotes nodes) ≡ footnotes_of h.skeleton
+derived_labels d nodes tables h =
+    let rows : Rows = rows_of false nothing (length d.text) h.skeleton in
+    let leaves = derived_leaves d nodes tables h in
+    let holds = each_row IsLeafBlock false nothing (length d.text) h.skeleton leaves in
+    ap (labels_named d) (ap node_footnotes h.forest_is ∙ rows_nodes 1 false rows holds ∙ rows_same false nothing (length d.text) h.skeleton leaves)
+    ∙ sequence_labels d h.skeleton (derived_blocks d nodes tables h).1
