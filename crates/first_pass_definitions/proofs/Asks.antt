@@ -1,9 +1,9 @@
 -- When reading a definition needs memory.
-use Rattle.std.proofs.Common.{◌≡◌, ◌⊎◌, inl, inr, ℕ, zero, suc, ◌+◌, ◌<◌, ◌==◌, ◌||◌, Bool, true, false, List, drop, Option}
+use Rattle.std.proofs.Common.{◌≡◌, ◌⊎◌, inl, inr, ℕ, zero, suc, ◌+◌, ◌<◌, ◌==◌, Bool, true, false, List, drop, Option}
 use Rattle.std.proofs.Common.{Some, None, Result, is_some, IsSomeAnd, IsCharBoundary, refl, sym, ap, subst, ◌∙◌, arith}
 use Rattle.std.specs.Borrow.{Bor}
 use Rattle.std.specs.declared.alloc.AllocError.{AllocError}
-use Rattle.std.proofs.lemmas.Bool.{cases_Bool}
+use Rattle.std.proofs.lemmas.Bool.{cases_Bool, or_right}
 use Rattle.std.proofs.lemmas.List.{drop-drop}
 use Rattle.first_pass_items.specs.Bytes.{colon, left_bracket}
 use Rattle.first_pass_links.specs.Labels.{label_at, CanErr, ErrsAfter, IsRewritten, HasNoBracket}
@@ -16,69 +16,55 @@ use Rattle.first_pass_items.specs.OptionWords.{gfm_footnotes}
 use Rattle.first_pass_links.specs.Footnotes.{begins_footnote_mark}
 use Rattle.first_pass_grammar.specs.Containers.{Context}
 use Rattle.first_pass_grammar.specs.Definitions.{title_prefix, title_at, title_after, title_beyond, alone_after, space_at, target_at}
-use Rattle.first_pass_grammar.specs.Definitions.{deepest_nesting, prefix_crossed, LinkReference, reference_definition_at}
+use Rattle.first_pass_grammar.specs.Definitions.{deepest_nesting, prefix_crossed, reference_definition_at}
 use Rattle.first_pass_kinds.specs.Memory.{line_may_head_table}
 use Rattle.first_pass_labels.specs.declared.label_table.LinkDef.{LinkDef}
 use Rattle.first_pass_labels.specs.declared.label_table.LinkPlaces.{LinkPlaces}
 use Rattle.first_pass_definitions.specs.Reading.{stops_title_line, goes_on_at}
 use Rattle.first_pass_items.specs.declared.cow_str.CowStr.{CowStr}
-use Rattle.first_pass_definitions.proofs.Targets.{shifted, IsLabelAnswer, IsReferenceAnswer, label_found, IsTitleRead, read_to, IsDest, space_found}
-use Rattle.first_pass_definitions.proofs.Targets.{dest_found, TargetFound}
+use Rattle.first_pass_definitions.proofs.Targets.{IsLabelAnswer, IsReferenceAnswer, IsTitleRead, read_to, IsDest, space_found, drop_to}
+use Rattle.first_pass_definitions.proofs.Targets.{TargetFound}
+use Rattle.first_pass_definitions.proofs.Spaces.{shifted}
+use Rattle.first_pass_definitions.proofs.OptionFacts.{and_some, map_some, matched}
 use Rattle.first_pass_definitions.specs.Memory.{LabelAsks, TargetAsks, ReferenceAsks, AfterAsks, PartsAsk, line_asks, text_asks, after_asks, MeetsTable}
-
-or_true : (b : Bool) → (b || true) ≡ true
-or_true true = refl
-or_true false = refl
-
-prefix_asks : (f : ℕ → ℕ) (b : Bool) (next : ℕ) (o : Option ℕ) → option_map f o ≡ Some next → (is_some o || b) ≡ true
-prefix_asks f b next None h = cc
-prefix_asks f b next (Some n) h = refl
 
 further_asks : (around : Context) (bs : List ℕ) (n next : ℕ) (o : Option ℕ)
     → option_and_then (λ e. option_map (λ k. n + e + k) (title_prefix around (drop (n + e) bs))) o ≡ Some next
     → option_map_or (λ e. line_asks around (drop (n + e) bs)) o false ≡ true
-further_asks around bs n next None h = cc
-further_asks around bs n next (Some e) h =
-    prefix_asks (λ k. n + e + k) (line_may_head_table around (line_rest (drop (n + e) bs))) next (title_prefix around (drop (n + e) bs)) h
+further_asks around bs n next o h =
+    let e = and_some (λ e. option_map (λ k. n + e + k) (title_prefix around (drop (n + e) bs))) o next h in
+    let k = map_some (λ k. n + e.0 + k) (title_prefix around (drop (n + e.0) bs)) next e.2 in
+    rw e.1 (rw k.1 refl)
 
 table_asks : (around : Context) (bs : List ℕ) (n : ℕ) (o : Option ℕ)
     → option_map_or (λ e. line_may_head_table around (line_rest (drop (n + e) bs))) o false ≡ true
     → option_map_or (λ e. line_asks around (drop (n + e) bs)) o false ≡ true
 table_asks around bs n None h = h
-table_asks around bs n (Some e) h = ap (λ b. is_some (title_prefix around (drop (n + e) bs)) || b) h ∙ or_true (is_some (title_prefix around (drop (n + e) bs)))
+table_asks around bs n (Some e) h = or_right (is_some (title_prefix around (drop (n + e) bs))) (line_may_head_table around (line_rest (drop (n + e) bs))) h
 
-text_asks_at : (around : Context) (close n : ℕ) (bs : List ℕ) → n ≡ unescaped_upto (stops_title_line close) 0 bs
-    → option_map_or (λ e. line_asks around (drop (n + e) bs)) (eol_len (drop n bs)) false ≡ true → text_asks around close bs ≡ true
+-- A line ending at which a title may need memory follows its first line. After a later line, it is known already.
+asks_at : (around : Context) (close from stop : ℕ) (bs : List ℕ)
+    → (0 < from → text_asks around close bs ≡ true) → stop ≡ from + unescaped_upto (stops_title_line close) 0 (drop from bs)
+    → option_map_or (λ e. line_asks around (drop (stop + e) bs)) (eol_len (drop stop bs)) false ≡ true → text_asks around close bs ≡ true
 unfolding text_asks
-text_asks_at around close n bs e h = subst (λ (m : ℕ). option_map_or (λ k. line_asks around (drop (m + k) bs)) (eol_len (drop m bs)) false ≡ true) e h
-
-first_stop : (close from stop : ℕ) (bs : List ℕ)
-    → from ≡ 0 → stop ≡ from + unescaped_upto (stops_title_line close) 0 (drop from bs) → stop ≡ unescaped_upto (stops_title_line close) 0 bs
-first_stop close from stop bs z e =
-    let k : from + unescaped_upto (stops_title_line close) 0 (drop from bs) ≡ 0 + unescaped_upto (stops_title_line close) 0 (drop 0 bs) =
-    ap (λ n. n + unescaped_upto (stops_title_line close) 0 (drop n bs)) z in
-    omega arith
+asks_at around close zero stop bs f e h =
+    let first : stop ≡ unescaped_upto (stops_title_line close) 0 bs = omega (arith, e) in
+    subst (λ (m : ℕ). option_map_or (λ k. line_asks around (drop (m + k) bs)) (eol_len (drop m bs)) false ≡ true) first h
+asks_at around close (suc from) stop bs f e h = f (omega arith)
 
 -- the title continues after its first line
 pub goes_asks : (around : Context) (close from stop next : ℕ) (bs : List ℕ)
     → (0 < from → text_asks around close bs ≡ true) → stop ≡ from + unescaped_upto (stops_title_line close) 0 (drop from bs)
-    → goes_on_at (title_prefix around) bs stop ≡ Some next → (from ≡ 0) ⊎ (0 < from) → text_asks around close bs ≡ true
-goes_asks around close from stop next bs f e h (inl z) =
-    text_asks_at around close stop bs (first_stop close from stop bs z e) (further_asks around bs stop next (eol_len (drop stop bs)) h)
-goes_asks around close from stop next bs f e h (inr l) = f l
+    → goes_on_at (title_prefix around) bs stop ≡ Some next → text_asks around close bs ≡ true
+goes_asks around close from stop next bs f e h =
+    asks_at around close from stop bs f e (further_asks around bs stop next (eol_len (drop stop bs)) h)
 
 -- or a line follows that may head a table
 pub meets_asks : (around : Context) (close from stop : ℕ) (bs : List ℕ)
     → (0 < from → text_asks around close bs ≡ true) → stop ≡ from + unescaped_upto (stops_title_line close) 0 (drop from bs)
-    → option_map_or (λ e. line_may_head_table around (line_rest (drop (stop + e) bs))) (eol_len (drop stop bs)) false ≡ true → (from ≡ 0) ⊎ (0 < from)
+    → option_map_or (λ e. line_may_head_table around (line_rest (drop (stop + e) bs))) (eol_len (drop stop bs)) false ≡ true
     → text_asks around close bs ≡ true
-meets_asks around close from stop bs f e h (inl z) =
-    text_asks_at around close stop bs (first_stop close from stop bs z e) (table_asks around bs stop (eol_len (drop stop bs)) h)
-meets_asks around close from stop bs f e h (inr l) = f l
-
-pub none_or_some : (n : ℕ) → (n ≡ 0) ⊎ (0 < n)
-none_or_some zero = inl refl
-none_or_some (suc n) = inr (omega arith)
+meets_asks around close from stop bs f e h = asks_at around close from stop bs f e (table_asks around bs stop (eol_len (drop stop bs)) h)
 
 -- a label
 pub label_asks : (around : Context) (prefix : List ℕ → Option ℕ) (t u : Bool) (bs : List ℕ) (post : Bor (List ℕ) → Result (Option ℕ) AllocError → Type 0)
@@ -111,17 +97,15 @@ pub dest_asks : (around : Context) (text : List ℕ) (start at lines n : ℕ) (b
     → AfterAsks around (drop start text)
 dest_asks around text start at lines n b h k a =
     let s = space_found (space_at around (drop start text)) start at lines h in
-    let d = dest_found (destination_at deepest_nesting (drop at text)) n b k in
-    let i = s.2 in
-    let j = d.2 in
-    let there : drop at text ≡ drop s.0.0 (drop start text) = ap (λ m. drop m text) s.2 ∙ sym (drop-drop s.0.0 start text) in
-    let sum : at + n ≡ start + (s.0.0 + d.0.0) = omega arith in
+    let d = matched _ (destination_at deepest_nesting (drop at text)) k in
+    let size = d.says.0 in
+    let there = s.2 in
     record {
       space = s.0;
       space_is = s.1;
-      dest = d.0;
-      dest_is = ap (destination_at deepest_nesting) (sym there) ∙ d.1;
-      asks = ap (after_asks around) (drop-drop (s.0.0 + d.0.0) start text ∙ ap (λ m. drop m text) (sym sum)) ∙ a;
+      dest = d.value;
+      dest_is = ap (destination_at deepest_nesting) (drop_to text start s.0.0 at there) ∙ d.is;
+      asks = ap (after_asks around) (drop_to text start (s.0.0 + d.value.0) (at + n) (omega arith)) ∙ a;
     }
 
 pub parts_ask : (around : Context) (text : List ℕ) (start : ℕ) (to : ℕ × LinkPlaces) (b : Bor (List ℕ)) (title : Option CowStr) (t u : Bool)
@@ -144,11 +128,8 @@ title_crowded around text at start k len title h r b =
     let s = space_found (space_at around (drop at text)) at start k h in
     let bs = drop at text in
     let there = s.2 in
-    let read : IsTitleRead (title_at around (drop s.0.0 bs)) (read_to len title) =
-    subst (λ xs. IsTitleRead (title_at around xs) (read_to len title)) (ap (λ n. drop n text) there ∙ sym (drop-drop s.0.0 at text)) r in
-    let crowded : is_some (blank_len (drop (s.0.0 + len) bs)) ≡ false =
-    ap (λ xs. is_some (blank_len xs)) (drop-drop (s.0.0 + len) at text ∙ ap (λ n. drop n text) (let z : at + (s.0.0 + len) ≡ start + len = omega arith in z))
-    ∙ b in
+    let read = subst (λ xs. IsTitleRead (title_at around xs) (read_to len title)) (sym (drop_to text at s.0.0 start there)) r in
+    let crowded = ap (λ xs. is_some (blank_len xs)) (drop_to text at (s.0.0 + len) (start + len) (omega arith)) ∙ b in
     ap (option_and_then (title_beyond around bs)) s.1 ∙ elim (cases_Bool (s.0.0 == 0)) [
       | inl e ↦ rw e refl
       | inr e ↦ rw e (alone_none bs s.0.0 len title (title_at around (drop s.0.0 bs)) read crowded)
@@ -163,22 +144,21 @@ pub ask_target : (t : Bool) (around : Context) (text : List ℕ) (start n : ℕ)
     → IsLabelAnswer (label_at (prefix_crossed true around) t (drop (start + 1) text)) (Some (n, label)) → begins colon (drop (start + 1 + n) text) ≡ true
     → TargetAsks t around (drop (start + 1 + n + 1) text) → ReferenceAsks t around (drop start text)
 ask_target t around text start n label b h k a =
-    let l = label_found (label_at (prefix_crossed true around) t (drop (start + 1) text)) n label h in
+    let l = matched _ (label_at (prefix_crossed true around) t (drop (start + 1) text)) h in
     let bs = drop 1 (drop start text) in
     let there : bs ≡ drop (start + 1) text = drop-drop 1 start text in
-    let same = l.2 in
-    let at_colon : drop l.0.0 bs ≡ drop (start + 1 + n) text =
-    ap (drop l.0.0) there ∙ drop-drop l.0.0 (start + 1) text ∙ ap (λ m. drop (start + 1 + m) text) (sym same) in
-    let target : drop (l.0.0 + 1) bs ≡ drop (start + 1 + n + 1) text =
-    ap (drop (l.0.0 + 1)) there ∙ drop-drop (l.0.0 + 1) (start + 1) text
-    ∙ ap (λ m. drop m text) (let z : start + 1 + (l.0.0 + 1) ≡ start + 1 + n + 1 = omega arith in z)
-    in
-    (b, inr (inl (l.0, ap (label_at (prefix_crossed true around) t) there ∙ l.1, ap (begins colon) at_colon ∙ k, subst (TargetAsks t around) (sym target) a)))
-
-reference_some : (t : Bool) (start : ℕ) (o : Option LinkReference) (found : ℕ × CowStr × LinkDef) → IsReferenceAnswer t start o (Some found) → is_some o ≡ true
-reference_some t start None found h = cc
-reference_some t start (Some r) found h = refl
+    let same = l.says.0 in
+    let at_colon = ap (drop l.value.0) there ∙ drop_to text (start + 1) l.value.0 (start + 1 + n) (omega arith) in
+    let target = ap (drop (l.value.0 + 1)) there ∙ drop_to text (start + 1) (l.value.0 + 1) (start + 1 + n + 1) (omega arith) in (
+      b,
+      inr (inl (
+        l.value,
+        ap (label_at (prefix_crossed true around) t) there ∙ l.is,
+        ap (begins colon) at_colon ∙ k,
+        subst (TargetAsks t around) (sym target) a,
+      )),
+    )
 
 pub ask_key : (t : Bool) (around : Context) (text : List ℕ) (start : ℕ) (found : ℕ × CowStr × LinkDef) → begins left_bracket (drop start text) ≡ true
     → IsReferenceAnswer t start (reference_definition_at t around (drop start text)) (Some found) → ReferenceAsks t around (drop start text)
-ask_key t around text start found b h = (b, inr (inr (reference_some t start (reference_definition_at t around (drop start text)) found h)))
+ask_key t around text start found b h = (b, inr (inr (ap is_some (matched _ (reference_definition_at t around (drop start text)) h).is)))

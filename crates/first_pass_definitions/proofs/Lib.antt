@@ -1,3 +1,4 @@
+pub mod OptionFacts
 pub mod Titles
 pub mod Spaces
 pub mod Places

@@ -1,10 +1,11 @@
 -- Places in the rest of a text.
 use Rattle.std.proofs.Common.{◌≡◌, ℕ, ◌+◌, ◌-◌, ◌<◌, ◌≤◌, ◌==◌, Bool, true, false, List, ◌∷◌, length, drop, Option, Some, None, Result, Ok, Err, IfOk, []}
-use Rattle.std.proofs.Common.{IfSome, IsCharBoundary, refl, sym, ap, subst, ◌∙◌, arith, length-drop, if◌then◌else◌}
+use Rattle.std.proofs.Common.{IfSome, IsCharBoundary, refl, sym, ap, subst, ◌∙◌, arith, length-drop}
 use Rattle.std.specs.declared.alloc.AllocError.{AllocError}
 use Rattle.std.proofs.lemmas.Bool.{eqb-true}
+use Rattle.std.proofs.lemmas.Bool.Decides.{nat_tests}
 use Rattle.std.proofs.lemmas.List.{drop-drop, get_or-drop}
-use Rattle.first_pass_items.specs.Bytes.{line_feed, carriage_return}
+use Rattle.first_pass_items.specs.Bytes.{line_feed}
 use Rattle.first_pass_lines.specs.Lines.{begins, eol_len, blank_len}
 use Rattle.first_pass_lines.specs.Rest.{Rest}
 use Rattle.first_pass_lines.specs.Places.{place_at, IsPlaceOf}
@@ -55,18 +56,9 @@ pub some_left : (xs : List ℕ) → blank_len xs ≡ None → 0 < length xs
 some_left [] h = cc
 some_left (b ∷ bs) h = omega arith
 
-abbrev ended : ℕ → Option ℕ
-ended n = Some n
-
-eol_some_by : (t u v : Bool) (e : ℕ) → (if t then ended 1 else (if u then ended (if v then 2 else 1) else None)) ≡ Some e → 0 < e
-eol_some_by true u v e h = let k : 1 ≡ e = cc in omega arith
-eol_some_by false true true e h = let k : 2 ≡ e = cc in omega arith
-eol_some_by false true false e h = let k : 1 ≡ e = cc in omega arith
-eol_some_by false false v e h = cc
-
 eol_some : (xs : List ℕ) (e : ℕ) → eol_len xs ≡ Some e → 0 < length xs → 0 < e
 eol_some [] e h l = absurd (omega arith)
-eol_some (b ∷ bs) e h l = eol_some_by (b == line_feed) (b == carriage_return) (begins line_feed bs) e h
+eol_some (b ∷ bs) e h l = grind (arith, nat_tests, h)
 
 -- A line ending has a byte if something follows it.
 pub later_by : (bytes : List ℕ) (at e n : ℕ) → 0 < length (drop (at + e + n) bytes) → eol_len (drop at bytes) ≡ Some e → at < at + e + n

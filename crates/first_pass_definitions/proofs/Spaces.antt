@@ -1,10 +1,11 @@
 -- White space, and the places after it.
-use Rattle.std.proofs.Common.{◌≡◌, inl, inr, ℕ, ◌+◌, Bool, true, false, List, [], length, drop, Option, Some, None, IsUtf8, IsCharBoundary, refl, sym, ap}
+use Rattle.std.proofs.Common.{◌≡◌, inl, inr, ℕ, ◌+◌, Bool, true, false, List, length, drop, Option, Some, None, IsUtf8, IsCharBoundary, refl, sym, ap}
 use Rattle.std.proofs.Common.{subst, ◌∙◌, arith, if◌then◌else◌}
 use Rattle.std.specs.List.{prefix_len}
 use Rattle.std.specs.Option.{option_map, option_and_then}
 use Rattle.std.proofs.lemmas.Bool.{cases_lt}
 use Rattle.std.proofs.lemmas.List.{drop-drop, drop_all}
+use Rattle.std.proofs.lemmas.Option.{same_Some}
 use Rattle.first_pass_lines.specs.Lines.{is_white, eol_len, at_line_end}
 use Rattle.first_pass_lines.specs.Rest.{Rest}
 use Rattle.first_pass_lines.specs.Places.{line_rest, line_place, place_at, IsPlaceOf}
@@ -20,13 +21,13 @@ white_past text s u b =
     let e : s + (0 + prefix_len is_white (drop s text)) ≡ s + prefix_len is_white (drop s text) = omega arith in
     subst (IsCharBoundary text) e p.boundary
 
-past_end : (xs : List ℕ) (e : ℕ) → xs ≡ [] → eol_len xs ≡ Some e → e ≡ 0
-past_end xs e h k = let z : Some 0 ≡ Some e = ap eol_len (sym h) ∙ k in cc
-
 pub eol_after : (text : List ℕ) (s e : ℕ) → IsUtf8 text → IsCharBoundary text s → eol_len (drop s text) ≡ Some e → IsCharBoundary text (s + e)
 eol_after text s e u b h = elim (cases_lt s (length text)) [
   | inl some ↦ subst (λ k. IsCharBoundary text (s + k)) (line_len-eol (drop s text) e h) (line_end_boundary text s u b some)
-  | inr none ↦ (let z = past_end (drop s text) e (drop_all s text none) h in let k : s ≡ s + e = omega arith in subst (IsCharBoundary text) k b)
+  | inr none ↦ (
+      let z = same_Some 0 e (ap eol_len (sym (drop_all s text none)) ∙ h) in
+      let k : s ≡ s + e = omega arith in
+      subst (IsCharBoundary text) k b)
 ]
 
 -- after the white space after a place
@@ -36,7 +37,7 @@ place_white text line n r u i h =
     let b = white_past text (line + r.taken) u i.boundary in subst (λ k. IsCharBoundary text (line + r.taken + k)) (sym h) b
 
 -- white space at an offset, up to an offset
-abbrev shifted : ℕ → Option (ℕ × ℕ) → Option (ℕ × ℕ)
+abbrev pub shifted : ℕ → Option (ℕ × ℕ) → Option (ℕ × ℕ)
 shifted s o = option_map (λ (x : ℕ × ℕ). (s + x.0, x.1)) o
 
 space_is : (around : Context) (bs : List ℕ) (n : ℕ) (o : Option ℕ) → prefix_len is_white bs ≡ n → eol_len (drop n bs) ≡ o

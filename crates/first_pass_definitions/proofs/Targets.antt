@@ -6,6 +6,7 @@ use Rattle.std.specs.Option.{option_map, option_and_then, option_map_or}
 use Rattle.std.specs.List.{list_any}
 use Rattle.std.proofs.lemmas.Bool.Decides.{nat_tests}
 use Rattle.std.proofs.lemmas.List.{drop-drop}
+use Rattle.std.proofs.lemmas.Option.{some_pair_parts}
 use Rattle.std.proofs.lemmas.Str.{IsCharBoundary-after_ascii}
 use Rattle.first_pass_items.specs.Bytes.{colon, left_bracket, ascii_end}
 use Rattle.first_pass_items.specs.declared.cow_str.CowStr.{CowStr}
@@ -18,10 +19,12 @@ use Rattle.first_pass_links.specs.Labels.{label_at}
 use Rattle.first_pass_entities.specs.Texts.{Borrows}
 use Rattle.first_pass_links.proofs.Destinations.{first_byte}
 use Rattle.first_pass_grammar.specs.Containers.{Context}
-use Rattle.first_pass_grammar.specs.Definitions.{prefix_crossed, space_at, title_at, alone_after, title_beyond, title_after, after_destination}
+use Rattle.first_pass_grammar.specs.Definitions.{prefix_crossed, space_at, title_at, alone_after, title_after, after_destination}
 use Rattle.first_pass_grammar.specs.Definitions.{deepest_nesting, Target, target_of, target_from, target_at, LinkReference, reference_definition_of, reference_definition_after}
 use Rattle.first_pass_grammar.specs.Definitions.{reference_definition_at, title_distance}
 use Rattle.first_pass_grammar.specs.LinkRuns.{places_of}
+use Rattle.first_pass_definitions.proofs.Spaces.{shifted}
+use Rattle.first_pass_definitions.proofs.OptionFacts.{matched, unmatched, map_none}
 use Rattle.first_pass_definitions.specs.Reading.{IsReadText, IsReadTitle}
 use Rattle.first_pass_definitions.specs.Found.{IsUnescaped, HasTitle, IsDefinition, IsTarget, IsReference}
 
@@ -48,25 +51,21 @@ IsTitleRead o answer = MatchOption o (answer ≡ None) (λ t. IsSomeAnd answer (
 abbrev pub read_to : ℕ → CowStr → Option (ℕ × CowStr)
 read_to len title = Some (len, title)
 
-abbrev pub space_to : ℕ → ℕ → Option (ℕ × ℕ)
-space_to start lines = Some (start, lines)
+-- results for white space
+pub space_found : (o : Option (ℕ × ℕ)) (start at lines : ℕ) → Some (at, lines) ≡ shifted start o → (s : ℕ × ℕ) × (o ≡ Some s) × (at ≡ start + s.0)
+space_found None start at lines h = cc
+space_found (Some s) start at lines h = (s, refl, (some_pair_parts at (start + s.0) lines s.1 h).0)
 
-no_title : (len : ℕ) (title : CowStr) → read_to len title ≡ None → ⊥
-no_title len title h = cc
-
-no_space_to : (start k : ℕ) → space_to start k ≡ None → ⊥
-no_space_to start k h = cc
-
-space_is : (start k at m n : ℕ) → space_to start k ≡ space_to (at + m) n → start ≡ at + m
-space_is start k at m n h = ap (λ (o : Option (ℕ × ℕ)). option_map_or (λ (s : ℕ × ℕ). s.0) o 0) h
+-- the bytes from an offset in the rest of a text on
+pub drop_to : (text : List ℕ) (at n m : ℕ) → m ≡ at + n → drop n (drop at text) ≡ drop m text
+drop_to text at n m e = drop-drop n at text ∙ ap (λ k. drop k text) (sym e)
 
 read_by : (bs : List ℕ) (at n len : ℕ) (title : CowStr) (o : Option (ℕ × List ℕ)) → IsTitleRead o (read_to len title)
     → (list_any is_line_end (text_of title) ≡ false → Borrows (text_of title) title) → is_some (blank_len (drop (n + len) bs)) ≡ true
     → IsTitleAfter at n (option_and_then (alone_after n bs) o) (Some (at + n, at + n + len, title))
-read_by bs at n len title None h borrows blank = absurd (no_title len title h)
+read_by bs at n len title None h borrows blank = cc
 read_by bs at n len title (Some t) h borrows blank =
-    let same : n + len ≡ n + t.0 = ap (λ k. n + k) h.0 in
-    let alone : is_some (blank_len (drop (n + t.0) bs)) ≡ true = subst (λ k. is_some (blank_len (drop k bs)) ≡ true) same blank in
+    let alone : is_some (blank_len (drop (n + t.0) bs)) ≡ true = subst (λ k. is_some (blank_len (drop (n + k) bs)) ≡ true) h.0 blank in
     let far : at + n + len ≡ at + (n + t.0) = (let e : len ≡ t.0 = h.0 in omega arith) in
     rw alone (far, record { value = h.1; borrowed = subst (λ xs. list_any is_line_end xs ≡ false → Borrows xs title) h.1 borrows }, refl)
 
@@ -81,109 +80,61 @@ pub record TitleRead (around : Context) (text : List ℕ) (start len : ℕ) (tit
   pub borrows : list_any is_line_end (text_of title) ≡ false → Borrows (text_of title) title
   pub blank : is_some (blank_len (drop (start + len) text)) ≡ true
 
-space_read_by : (around : Context) (text : List ℕ) (at start k len : ℕ) (title : CowStr) (o : Option (ℕ × ℕ))
-    → space_to start k ≡ option_map (λ s. (at + s.0, s.1)) o → (start ≡ at → ⊥) → TitleRead around text start len title
-    → IsTitleAfter at (white_len o) (option_and_then (title_beyond around (drop at text)) o) (Some (start, start + len, title))
-space_read_by around text at start k len title None is apart t = absurd (no_space_to start k is)
-space_read_by around text at start k len title (Some s) is apart t =
-    let there : start ≡ at + s.0 = space_is start k at s.0 s.1 is in
-    let some : (s.0 == 0) ≡ false = none_at s.0 start at there apart in
-    let following : IsTitleRead (title_at around (drop s.0 (drop at text))) (read_to len title) =
-    subst (λ bs. IsTitleRead (title_at around bs) (read_to len title)) (ap (λ n. drop n text) there ∙ sym (drop-drop s.0 at text)) t.read in
-    let rest : is_some (blank_len (drop (s.0 + len) (drop at text))) ≡ true =
-    subst (λ bs. is_some (blank_len bs) ≡ true) (ap (λ n. drop n text) (let e = there in omega arith) ∙ sym (drop-drop (s.0 + len) at text)) t.blank in
-    rw some (subst (λ e. IsTitleAfter at s.0 (option_and_then (alone_after s.0 (drop at text)) (title_at around (drop s.0 (drop at text))))
-    (Some (e, e + len, title))) (sym there)
-    (read_by (drop at text) at s.0 len title (title_at around (drop s.0 (drop at text))) following t.borrows rest))
-
 -- the title after a destination and white space, with a blank rest of its line after it
 pub title_read : (around : Context) (text : List ℕ) (at start k len : ℕ) (title : CowStr)
-    → space_to start k ≡ option_map (λ s. (at + s.0, s.1)) (space_at around (drop at text)) → (start ≡ at → ⊥) → TitleRead around text start len title
+    → Some (start, k) ≡ shifted at (space_at around (drop at text)) → (start ≡ at → ⊥) → TitleRead around text start len title
     → IsTitleAfter at (white_len (space_at around (drop at text))) (title_after around (drop at text)) (Some (start, start + len, title))
-title_read around text at start k len title is = space_read_by around text at start k len title (space_at around (drop at text)) is
+title_read around text at start k len title is apart t =
+    let s = space_found (space_at around (drop at text)) at start k is in
+    let there : start ≡ at + s.0.0 = s.2 in
+    let bs = drop at text in
+    let read = subst (λ xs. IsTitleRead (title_at around xs) (read_to len title)) (sym (drop_to text at s.0.0 start there)) t.read in
+    let rest = subst (λ xs. is_some (blank_len xs) ≡ true) (sym (drop_to text at (s.0.0 + len) (start + len) (omega arith))) t.blank in
+    rw s.1 (rw (none_at s.0.0 start at there apart) (subst
+    (λ e. IsTitleAfter at s.0.0 (option_and_then (alone_after s.0.0 bs) (title_at around (drop s.0.0 bs))) (Some (e, e + len, title))) (sym there)
+    (read_by bs at s.0.0 len title (title_at around (drop s.0.0 bs)) read t.borrows rest)))
 
 abbrev distance_after : Context → List ℕ → ℕ
 distance_after around bs = white_len (space_at around bs)
-
-titled_by : (around : Context) (bs : List ℕ) (o : Option (ℕ × List ℕ)) (d : Option (ℕ × Option (List ℕ))) (at start e : ℕ) (title : CowStr)
-    → IsTitleAfter at (distance_after around bs) o (Some (start, e, title))
-    → IsFurther around bs at (option_map_or (λ (t : ℕ × List ℕ). Some (t.0, Some t.1)) o d) (Some (start, e, Some title))
-titled_by around bs None d at start e title h = cc
-titled_by around bs (Some t) d at start e title h = h
 
 pub titled : (around : Context) (bs : List ℕ) (at start e : ℕ) (title : CowStr)
     → IsTitleAfter at (distance_after around bs) (title_after around bs) (Some (start, e, title))
     → IsFurther around bs at (after_destination around bs) (Some (start, e, Some title))
 unfolding after_destination
-titled around bs at start e title h = titled_by around bs (title_after around bs) _ at start e title h
-
-untitled_by : (o : Option (ℕ × List ℕ)) (at distance : ℕ) → IsTitleAfter at distance o None → o ≡ None
-untitled_by None at distance h = refl
-untitled_by (Some t) at distance h = absurd h
+titled around bs at start e title h = let t = matched _ (title_after around bs) h in rw t.is t.says
 
 pub alone : (around : Context) (bs : List ℕ) (at : ℕ) → IsTitleAfter at (distance_after around bs) (title_after around bs) None
     → is_some (blank_len bs) ≡ true → IsFurther around bs at (after_destination around bs) (Some (at, at, None))
 unfolding after_destination
-alone around bs at h k = rw (untitled_by (title_after around bs) at (distance_after around bs) h) (rw k (omega arith, tt, omega arith))
+alone around bs at h k = rw (unmatched _ (title_after around bs) h) (rw k (omega arith, tt, omega arith))
 
 pub not_alone : (around : Context) (bs : List ℕ) (at : ℕ) → IsTitleAfter at (distance_after around bs) (title_after around bs) None
     → is_some (blank_len bs) ≡ false → IsFurther around bs at (after_destination around bs) None
 unfolding after_destination
-not_alone around bs at h k = rw (untitled_by (title_after around bs) at (distance_after around bs) h) (rw k refl)
-
-further_found : (around : Context) (bs : List ℕ) (o : Option (ℕ × Option (List ℕ))) (at start e : ℕ) (title : Option CowStr)
-    → IsFurther around bs at o (Some (start, e, title))
-    → (f : ℕ × Option (List ℕ)) × (o ≡ Some f) × (e ≡ at + f.0) × IsReadTitle f.1 title × (start ≡ at + title_distance around bs f.1)
-further_found around bs None at start e title h = cc
-further_found around bs (Some f) at start e title h = (f, refl, h.0, h.1, h.2)
-
-further_none : (around : Context) (bs : List ℕ) (o : Option (ℕ × Option (List ℕ))) (at : ℕ) → IsFurther around bs at o None → o ≡ None
-further_none around bs None at h = refl
-further_none around bs (Some f) at h = absurd h
+not_alone around bs at h k = rw (unmatched _ (title_after around bs) h) (rw k refl)
 
 -- results for destinations
 abbrev pub IsDest : Option (ℕ × List ℕ) → Option (ℕ × Bor (List ℕ)) → Type 0
 IsDest o answer = MatchOption o (answer ≡ None) (λ dest. IsSomeAnd answer (λ found. (found.0 ≡ dest.0) × (found.1.now ≡ dest.1)))
 
-pub dest_found : (o : Option (ℕ × List ℕ)) (n : ℕ) (text : Bor (List ℕ)) → IsDest o (Some (n, text))
-    → (d : ℕ × List ℕ) × (o ≡ Some d) × (n ≡ d.0) × (text.now ≡ d.1)
-dest_found None n text h = cc
-dest_found (Some d) n text h = (d, refl, h.0, h.1)
-
-dest_none : (o : Option (ℕ × List ℕ)) → IsDest o None → o ≡ None
-dest_none None h = refl
-dest_none (Some d) h = absurd h
-
--- results for white space
-abbrev pub shifted : ℕ → Option (ℕ × ℕ) → Option (ℕ × ℕ)
-shifted start o = option_map (λ (s : ℕ × ℕ). (start + s.0, s.1)) o
-
-pub space_found : (o : Option (ℕ × ℕ)) (start at lines : ℕ) → Some (at, lines) ≡ shifted start o → (s : ℕ × ℕ) × (o ≡ Some s) × (at ≡ start + s.0)
-space_found None start at lines h = cc
-space_found (Some s) start at lines h = (s, refl, ap (λ (o : Option (ℕ × ℕ)). option_map_or (λ (p : ℕ × ℕ). p.0) o 0) h)
-
-space_none : (o : Option (ℕ × ℕ)) (start : ℕ) → None ≡ shifted start o → o ≡ None
-space_none None start h = refl
-space_none (Some s) start h = cc
-
 -- the target step by step
 pub no_space : (around : Context) (text : List ℕ) (start : ℕ) → None ≡ shifted start (space_at around (drop start text))
     → target_at around (drop start text) ≡ None
 unfolding target_at
-no_space around text start h = rw (space_none (space_at around (drop start text)) start h) refl
+no_space around text start h = rw (map_none (λ (s : ℕ × ℕ). (start + s.0, s.1)) (space_at around (drop start text)) (sym h)) refl
 
 at_dest : (around : Context) (text : List ℕ) (start at : ℕ) (s : ℕ × ℕ) → space_at around (drop start text) ≡ Some s → at ≡ start + s.0
     → target_at around (drop start text) ≡ option_and_then (target_from around s.0 (drop at text)) (destination_at deepest_nesting (drop at text))
 unfolding target_at
 at_dest around text start at s e h =
-    rw e (ap (λ xs. option_and_then (target_from around s.0 xs) (destination_at deepest_nesting xs)) (drop-drop s.0 start text ∙ ap (λ k. drop k text) (sym h)))
+    rw e (ap (λ xs. option_and_then (target_from around s.0 xs) (destination_at deepest_nesting xs)) (drop_to text start s.0 at h))
 
 pub no_dest : (around : Context) (text : List ℕ) (start at lines : ℕ) → Some (at, lines) ≡ shifted start (space_at around (drop start text))
     → IsDest (destination_at deepest_nesting (drop at text)) None → target_at around (drop start text) ≡ None
 no_dest around text start at lines h k =
     let s = space_found (space_at around (drop start text)) start at lines h in
     at_dest around text start at s.0 s.1 s.2
-    ∙ ap (option_and_then (target_from around s.0.0 (drop at text))) (dest_none (destination_at deepest_nesting (drop at text)) k)
+    ∙ ap (option_and_then (target_from around s.0.0 (drop at text))) (unmatched _ (destination_at deepest_nesting (drop at text)) k)
 
 after_dest : (around : Context) (text : List ℕ) (start at n : ℕ) (s : ℕ × ℕ) (d : ℕ × List ℕ) → space_at around (drop start text) ≡ Some s
     → at ≡ start + s.0 → destination_at deepest_nesting (drop at text) ≡ Some d → n ≡ d.0
@@ -197,10 +148,9 @@ pub no_further : (around : Context) (text : List ℕ) (start at lines n : ℕ) (
     → IsFurther around (drop (at + n) text) (at + n) (after_destination around (drop (at + n) text)) None → target_at around (drop start text) ≡ None
 no_further around text start at lines n b h k f =
     let s = space_found (space_at around (drop start text)) start at lines h in
-    let d = dest_found (destination_at deepest_nesting (drop at text)) n b k in
-    after_dest around text start at n s.0 d.0 s.1 s.2 d.1 d.2
-    ∙ ap (option_map (target_of around (drop (at + n) text) s.0.0 d.0))
-    (further_none around (drop (at + n) text) (after_destination around (drop (at + n) text)) (at + n) f)
+    let d = matched _ (destination_at deepest_nesting (drop at text)) k in
+    after_dest around text start at n s.0 d.value s.1 s.2 d.is d.says.0
+    ∙ ap (option_map (target_of around (drop (at + n) text) s.0.0 d.value)) (unmatched _ (after_destination around (drop (at + n) text)) f)
 
 -- places by the offsets of the destination and the title
 abbrev pub placed : ℕ → ℕ → ℕ → ℕ → LinkPlaces
@@ -231,28 +181,23 @@ pub target_found : (around : Context) (text : List ℕ) (start at lines n : ℕ)
     → TargetFound around text start (found.1, placed start at (at + n) found.0) b found.2
 target_found around text start at lines n b (from, e, title) h k f =
     let s = space_found (space_at around (drop start text)) start at lines h in
-    let d = dest_found (destination_at deepest_nesting (drop at text)) n b k in
+    let d = matched _ (destination_at deepest_nesting (drop at text)) k in
     let following = drop (at + n) text in
-    let r = further_found around following (after_destination around following) (at + n) from e title f in
-    let i = s.2 in
-    let j = d.2 in
-    let l = r.2 in
-    let m = r.4 in
-    let far : ℕ = title_distance around following r.0.1 in
+    let r = matched _ (after_destination around following) f in
+    let there = s.2 in
+    let size = d.says.0 in
+    let more = r.says.0 in
+    let gap = r.says.2 in
+    let past : ℕ = s.0.0 + d.value.0 in
+    let far : ℕ = title_distance around following r.value.1 in
     record {
-      size = s.0.0 + d.0.0 + r.0.0;
-      target = record {
-        dest = d.0.1;
-        title = r.0.1;
-        dest_start = s.0.0;
-        dest_end = s.0.0 + d.0.0;
-        title_start = s.0.0 + d.0.0 + far;
-      };
-      is = after_dest around text start at n s.0 d.0 s.1 s.2 d.1 d.2 ∙ ap (option_map (target_of around following s.0.0 d.0)) r.1;
+      size = past + r.value.0;
+      target = record { dest = d.value.1; title = r.value.1; dest_start = s.0.0; dest_end = past; title_start = past + far };
+      is = after_dest around text start at n s.0 d.value s.1 s.2 d.is d.says.0 ∙ ap (option_map (target_of around following s.0.0 d.value)) r.is;
       end_is = omega arith;
-      places_are = placed_same start at (start + s.0.0) (at + n) (start + (s.0.0 + d.0.0)) from (start + (s.0.0 + d.0.0 + far)) i (omega arith) (omega arith);
-      dest_is = d.3;
-      title_is = r.3;
+      places_are = placed_same start at (start + s.0.0) (at + n) (start + past) from (start + (past + far)) there (omega arith) (omega arith);
+      dest_is = d.says.1;
+      title_is = r.says.1;
     }
 
 abbrev pub IsTargetAnswer : Bool → ℕ → ℕ → Option (ℕ × Target) → Option (ℕ × LinkDef) → Type 0
@@ -292,21 +237,12 @@ at_label in_table around text start h =
 abbrev pub IsLabelAnswer : Option (ℕ × List ℕ) → Option (ℕ × CowStr) → Type 0
 IsLabelAnswer o answer = MatchOption o (answer ≡ None) (λ label. IsSomeAnd answer (λ found. (found.0 ≡ label.0) × (text_of found.1 ≡ label.1)))
 
-pub label_found : (o : Option (ℕ × List ℕ)) (n : ℕ) (text : CowStr) → IsLabelAnswer o (Some (n, text))
-    → (l : ℕ × List ℕ) × (o ≡ Some l) × (n ≡ l.0) × (text_of text ≡ l.1)
-label_found None n text h = cc
-label_found (Some l) n text h = (l, refl, h.0, h.1)
-
-label_none : (o : Option (ℕ × List ℕ)) → IsLabelAnswer o None → o ≡ None
-label_none None h = refl
-label_none (Some l) h = absurd h
-
 pub no_label : (in_table : Bool) (around : Context) (text : List ℕ) (start : ℕ) → begins left_bracket (drop start text) ≡ true
     → IsLabelAnswer (label_at (prefix_crossed true around) in_table (drop (start + 1) text)) None
     → reference_definition_at in_table around (drop start text) ≡ None
 no_label in_table around text start h k =
     at_label in_table around text start h ∙ ap (option_and_then (reference_definition_after around (drop (start + 1) text)))
-    (label_none (label_at (prefix_crossed true around) in_table (drop (start + 1) text)) k)
+    (unmatched _ (label_at (prefix_crossed true around) in_table (drop (start + 1) text)) k)
 
 colon_by : (t : Bool) (in_table : Bool) (around : Context) (text : List ℕ) (start n : ℕ) (l : ℕ × List ℕ) → begins left_bracket (drop start text) ≡ true
     → label_at (prefix_crossed true around) in_table (drop (start + 1) text) ≡ Some l → n ≡ l.0
@@ -315,9 +251,8 @@ colon_by : (t : Bool) (in_table : Bool) (around : Context) (text : List ℕ) (st
     ≡ (if t then option_map (reference_definition_of l) (target_at around (drop (start + 1 + n + 1) text))
     else None)
 colon_by t in_table around text start n l h k e f =
-    let a : drop l.0 (drop (start + 1) text) ≡ drop (start + 1 + n) text = drop-drop l.0 (start + 1) text ∙ ap (λ m. drop (start + 1 + m) text) (sym e) in
-    let i : start + 1 + (l.0 + 1) ≡ start + 1 + n + 1 = omega arith in
-    let b : drop (l.0 + 1) (drop (start + 1) text) ≡ drop (start + 1 + n + 1) text = drop-drop (l.0 + 1) (start + 1) text ∙ ap (λ m. drop m text) i in
+    let a = drop_to text (start + 1) l.0 (start + 1 + n) (omega arith) in
+    let b = drop_to text (start + 1) (l.0 + 1) (start + 1 + n + 1) (omega arith) in
     at_label in_table around text start h ∙ ap (option_and_then (reference_definition_after around (drop (start + 1) text))) k
     ∙ rw (ap (begins colon) a ∙ f) (rw b refl)
 
@@ -325,12 +260,8 @@ pub no_colon : (in_table : Bool) (around : Context) (text : List ℕ) (start n :
     → IsLabelAnswer (label_at (prefix_crossed true around) in_table (drop (start + 1) text)) (Some (n, label))
     → begins colon (drop (start + 1 + n) text) ≡ false → reference_definition_at in_table around (drop start text) ≡ None
 no_colon in_table around text start n label h k f =
-    let l = label_found (label_at (prefix_crossed true around) in_table (drop (start + 1) text)) n label k in
-    colon_by false in_table around text start n l.0 h l.1 l.2 f
-
-target_none : (in_table : Bool) (from start : ℕ) (o : Option (ℕ × Target)) → IsTargetAnswer in_table from start o None → o ≡ None
-target_none in_table from start None h = refl
-target_none in_table from start (Some t) h = absurd h
+    let l = matched _ (label_at (prefix_crossed true around) in_table (drop (start + 1) text)) k in
+    colon_by false in_table around text start n l.value h l.is l.says.0 f
 
 pub no_target : (in_table : Bool) (around : Context) (text : List ℕ) (start n : ℕ) (label : CowStr) → begins left_bracket (drop start text) ≡ true
     → IsLabelAnswer (label_at (prefix_crossed true around) in_table (drop (start + 1) text)) (Some (n, label))
@@ -338,9 +269,9 @@ pub no_target : (in_table : Bool) (around : Context) (text : List ℕ) (start n 
     → IsTargetAnswer in_table start (start + 1 + n + 1) (target_at around (drop (start + 1 + n + 1) text)) None
     → reference_definition_at in_table around (drop start text) ≡ None
 no_target in_table around text start n label h k f t =
-    let l = label_found (label_at (prefix_crossed true around) in_table (drop (start + 1) text)) n label k in
-    colon_by true in_table around text start n l.0 h l.1 l.2 f
-    ∙ ap (option_map (reference_definition_of l.0)) (target_none in_table start (start + 1 + n + 1) (target_at around (drop (start + 1 + n + 1) text)) t)
+    let l = matched _ (label_at (prefix_crossed true around) in_table (drop (start + 1) text)) k in
+    colon_by true in_table around text start n l.value h l.is l.says.0 f
+    ∙ ap (option_map (reference_definition_of l.value)) (unmatched _ (target_at around (drop (start + 1 + n + 1) text)) t)
 
 abbrev pub IsReferenceAnswer : Bool → ℕ → Option LinkReference → Option (ℕ × CowStr × LinkDef) → Type 0
 IsReferenceAnswer in_table start o answer = MatchOption o (answer ≡ None) (λ reference. IsSomeAnd answer (IsReference in_table start reference))
@@ -368,10 +299,10 @@ pub is_reference : (in_table : Bool) (around : Context) (text : List ℕ) (start
     → IsTargetAnswer in_table start (start + 1 + n + 1) (target_at around (drop (start + 1 + n + 1) text)) (Some (m, definition))
     → IsReferenceAnswer in_table start (reference_definition_at in_table around (drop start text)) (Some (n + 2 + m, label, definition))
 is_reference in_table around text start n m label definition h k f t =
-    let l = label_found (label_at (prefix_crossed true around) in_table (drop (start + 1) text)) n label k in
-    let e = colon_by true in_table around text start n l.0 h l.1 l.2 f in
+    let l = matched _ (label_at (prefix_crossed true around) in_table (drop (start + 1) text)) k in
+    let e = colon_by true in_table around text start n l.value h l.is l.says.0 f in
     subst (λ o. IsReferenceAnswer in_table start o (Some (n + 2 + m, label, definition))) (sym e)
-    (reference_by in_table start n m l.0 label definition (target_at around (drop (start + 1 + n + 1) text)) l.2 l.3 t)
+    (reference_by in_table start n m l.value label definition (target_at around (drop (start + 1 + n + 1) text)) l.says.0 l.says.1 t)
 
 -- after an ASCII byte
 pub after_byte : (byte : ℕ) (text : List ℕ) (at : ℕ) → byte < ascii_end → IsUtf8 text → begins byte (drop at text) ≡ true → IsCharBoundary text (at + 1)

@@ -22,18 +22,15 @@ colon_is c =
 
 pub returns-in_default-clause-value : goal.returns-in_default-clause-value
 returns-in_default-clause-value c =
-    let e = no_label _ (context_of c.args.source.now.options c.args.tree.now) c.args.source.now.text.now c.args.start c.requires.bracket
-    (rw c.in_default.is at c.in_ok-label_len.ensures.value) in
-    rw e refl
+    rw (no_label _ (context_of c.args.source.now.options c.args.tree.now) c.args.source.now.text.now c.args.start c.requires.bracket
+    (rw c.in_default.is at c.in_ok-label_len.ensures.value)) refl
 
 pub returns-then-not-begins-clause-value : goal.returns-then-not-begins-clause-value
 returns-then-not-begins-clause-value c =
-    let e =
-    no_colon _ (context_of c.args.source.now.options c.args.tree.now) c.args.source.now.text.now c.args.start c.in-Some.label_len c.in-Some.label
+    rw (no_colon _ (context_of c.args.source.now.options c.args.tree.now) c.args.source.now.text.now c.args.start c.in-Some.label_len c.in-Some.label
     c.requires.bracket
     (rw c.in-Some.is at c.in_ok-label_len.ensures.value)
-    (colon_is (goal.at.returns-then-not-begins-clause-value c).After-begins ∙ c.if-not-begins.true) in
-    rw e refl
+    (colon_is (goal.at.returns-then-not-begins-clause-value c).After-begins ∙ c.if-not-begins.true)) refl
 
 pub scan_refdef-requires : goal.scan_refdef-requires
 scan_refdef-requires c =
@@ -43,12 +40,10 @@ scan_refdef-requires c =
 
 pub returns-in_default-2-clause-value : goal.returns-in_default-2-clause-value
 returns-in_default-2-clause-value c =
-    let e =
-    no_target _ (context_of c.args.source.now.options c.args.tree.now) c.args.source.now.text.now c.args.start c.in-Some.label_len c.in-Some.label
+    rw (no_target _ (context_of c.args.source.now.options c.args.tree.now) c.args.source.now.text.now c.args.start c.in-Some.label_len c.in-Some.label
     c.requires.bracket
     (rw c.in-Some.is at c.in_ok-label_len.ensures.value)
-    (colon_is (goal.at.returns-in_default-2-clause-value c).After-begins ∙ c.if-not-begins.false) (rw c.in_default-2.is at c.in_ok-len.ensures.value) in
-    rw e refl
+    (colon_is (goal.at.returns-in_default-2-clause-value c).After-begins ∙ c.if-not-begins.false) (rw c.in_default-2.is at c.in_ok-len.ensures.value)) refl
 
 pub returns-clause-value : goal.returns-clause-value
 returns-clause-value c =

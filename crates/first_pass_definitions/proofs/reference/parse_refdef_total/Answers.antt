@@ -10,6 +10,5 @@ pub returns-then-not-begins-clause-value : goal.returns-then-not-begins-clause-v
 returns-then-not-begins-clause-value c =
     let h : begins left_bracket (drop c.args.start c.args.source.now.text.now) ≡ false = ap (begins left_bracket) (sym
     (c.rest_of.ensures.value ∙ ap (drop c.args.start) c.as_bytes.ensures.value)) ∙ sym c.begins.ensures.value ∙ c.if-not-begins.true in
-    let e = no_bracket (in_table c.args.tree.now.nodes c.args.tree.now.spine) (context_of c.args.source.now.options c.args.tree.now)
-    (drop c.args.start c.args.source.now.text.now) h in
-    rw e refl
+    rw (no_bracket (in_table c.args.tree.now.nodes c.args.tree.now.spine) (context_of c.args.source.now.options c.args.tree.now)
+    (drop c.args.start c.args.source.now.text.now) h) refl

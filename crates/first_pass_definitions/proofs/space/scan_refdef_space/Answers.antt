@@ -11,48 +11,40 @@ of_text : {A : Type 0} (f : List ℕ → A) (text bytes rest : List ℕ) (s : �
 of_text f text bytes rest s x h i j = h ∙ ap f (i ∙ ap (drop s) j)
 
 module _ (g : After-scan_eol) where
-  text : List ℕ
+  abbrev text : List ℕ
   text = g.args.source.now.text.now
 
   is_text : IsUtf8 text
-  unfolding text
   is_text = subst IsUtf8 g.as_bytes-bytes.ensures.value g.as_bytes-bytes.ensures.utf8
 
   white_is : g.scan_whitespace_no_nl.result ≡ prefix_len is_white (drop g.args.start text)
-  unfolding text
   white_is =
       of_text (prefix_len is_white) g.args.source.now.text.now _ _ _ _ g.scan_whitespace_no_nl.ensures.value g.rest_of.ensures.value
       g.as_bytes-bytes.ensures.value
 
   eol_is : g.scan_eol.result ≡ eol_len (drop (g.args.start + g.scan_whitespace_no_nl.result) text)
-  unfolding text
   eol_is = of_text eol_len g.args.source.now.text.now _ _ _ _ g.scan_eol.ensures.value g.rest_of-2.ensures.value g.as_bytes-bytes.ensures.value
 
   white_place : IsCharBoundary text (g.args.start + g.scan_whitespace_no_nl.result)
-  unfolding text
   white_place =
       subst (λ n. IsCharBoundary g.args.source.now.text.now (g.args.start + n)) (sym white_is)
       (white_past g.args.source.now.text.now g.args.start is_text g.requires)
 
 pub returns-in_default-clause-value : goal.returns-in_default-clause-value
-unfolding text
 returns-in_default-clause-value c =
     let at = (goal.at.returns-in_default-clause-value c).After-scan_eol in
     space_plain (context_of c.args.source.now.options c.args.tree.now) c.args.source.now.text.now c.args.start c.scan_whitespace_no_nl.result (white_is at)
     (sym (eol_is at) ∙ c.in_default.is)
 
 pub returns-in_default-clause-place : goal.returns-in_default-clause-place
-unfolding text
 returns-in_default-clause-place c = white_place (goal.at.returns-in_default-clause-place c).After-scan_eol
 
 pub scan_line_crossed-requires : goal.scan_line_crossed-requires
-unfolding text
 scan_line_crossed-requires c =
     let at = (goal.at.scan_line_crossed-requires c).After-scan_eol in
     eol_after c.args.source.now.text.now _ c.in-Some.line_end (is_text at) (white_place at) (sym (eol_is at) ∙ c.in-Some.is)
 
 pub returns-in_default-2-clause-value : goal.returns-in_default-2-clause-value
-unfolding text
 returns-in_default-2-clause-value c =
     let at = (goal.at.returns-in_default-2-clause-value c).After-scan_eol in
     space_stops (context_of c.args.source.now.options c.args.tree.now) c.args.source.now.text.now c.args.start c.scan_whitespace_no_nl.result c.in-Some.line_end
@@ -77,7 +69,6 @@ module _ (g : After-is_some) where
       g.args.source.now.text.now)) g.bytes_scanned.ensures
 
 pub returns-then-is_some-clause-value : goal.returns-then-is_some-clause-value
-unfolding text
 returns-then-is_some-clause-value c =
     let at = (goal.at.returns-then-is_some-clause-value c).After-scan_eol in
     let last = (goal.at.returns-then-is_some-clause-value c).After-is_some in
@@ -89,7 +80,6 @@ returns-then-is_some-clause-value c =
     (sym (ends_is last) ∙ sym c.is_some.ensures ∙ c.if-is_some.true)
 
 pub returns-clause-value : goal.returns-clause-value
-unfolding text
 returns-clause-value c =
     let at = (goal.at.returns-clause-value c).After-scan_eol in
     let last = (goal.at.returns-clause-value c).After-is_some in
@@ -102,7 +92,6 @@ returns-clause-value c =
     (sym (ends_is last) ∙ sym c.is_some.ensures ∙ c.if-is_some.false)
 
 pub returns-clause-place : goal.returns-clause-place
-unfolding text
 returns-clause-place c =
     let at = (goal.at.returns-clause-place c).After-scan_eol in
     let last = (goal.at.returns-clause-place c).After-is_some in

@@ -11,23 +11,20 @@ use Rattle.first_pass_definitions.proofs.target.scan_refdef.Goals.{In-Some-2}
 
 pub returns-in_default-clause-value : goal.returns-in_default-clause-value
 returns-in_default-clause-value c =
-    let e =
-    no_space (context_of c.args.source.now.options c.args.tree.now) c.args.source.now.text.now c.args.start
-    (sym c.in_default.is ∙ c.in_ok-dest_start.ensures.value) in
-    rw e refl
+    rw (no_space (context_of c.args.source.now.options c.args.tree.now) c.args.source.now.text.now c.args.start
+    (sym c.in_default.is ∙ c.in_ok-dest_start.ensures.value)) refl
 
 pub returns-in_default-scan_link_dest-clause-value : goal.returns-in_default-scan_link_dest-clause-value
 returns-in_default-scan_link_dest-clause-value c =
-    let e = no_dest (context_of c.args.source.now.options c.args.tree.now) c.args.source.now.text.now c.args.start c.in-Some.dest_start c.in-Some.field-0-1
-    (sym c.in-Some.is ∙ c.in_ok-dest_start.ensures.value) c.in_default-scan_link_dest.ensures.value in
-    rw e refl
+    rw (no_dest (context_of c.args.source.now.options c.args.tree.now) c.args.source.now.text.now c.args.start c.in-Some.dest_start c.in-Some.field-0-1
+    (sym c.in-Some.is ∙ c.in_ok-dest_start.ensures.value) c.in_default-scan_link_dest.ensures.value) refl
 
 pub returns-in_default-2-clause-value : goal.returns-in_default-2-clause-value
 returns-in_default-2-clause-value c =
-    let e = no_further (context_of c.args.source.now.options c.args.tree.now) c.args.source.now.text.now c.args.start c.in-Some.dest_start c.in-Some.field-0-1
+    rw (no_further (context_of c.args.source.now.options c.args.tree.now) c.args.source.now.text.now c.args.start c.in-Some.dest_start c.in-Some.field-0-1
     c.in-Some-scan_link_dest.dest_len c.in-Some-scan_link_dest.dest
-    (sym c.in-Some.is ∙ c.in_ok-dest_start.ensures.value) c.in-Some-scan_link_dest.ensures.value (rw c.in_default-2.is at c.in_ok-title_start.ensures.value) in
-    rw e refl
+    (sym c.in-Some.is ∙ c.in_ok-dest_start.ensures.value) c.in-Some-scan_link_dest.ensures.value
+    (rw c.in_default-2.is at c.in_ok-title_start.ensures.value)) refl
 
 -- the parts of the target are found
 found : (c : In-Some-2) → TargetFound (context_of c.args.source.now.options c.args.tree.now) c.args.source.now.text.now c.args.start

@@ -29,10 +29,9 @@ pub returns-then-is_none-clause-value : goal.returns-then-is_none-clause-value
 returns-then-is_none-clause-value c =
     let text = c.args.source.now.text.now in
     let around = context_of c.args.source.now.options c.args.tree.now in
-    let e =
-    title_crowded around text c.args.at c.in-Some.start c.in-Some.field-0-1 c.in-Some-2.len c.in-Some-2.title (sym c.in-Some.is ∙ c.in_ok-start.ensures.value)
+    rw (title_crowded around text c.args.at c.in-Some.start c.in-Some.field-0-1 c.in-Some-2.len c.in-Some-2.title
+    (sym c.in-Some.is ∙ c.in_ok-start.ensures.value)
     (subst (λ bs. IsTitleRead (title_at around bs) (read_to c.in-Some-2.len c.in-Some-2.title)) c.range_from.ensures.value
     (subst (IsTitleRead (title_at around c.range_from.result.now)) c.in-Some-2.is c.in_ok-len.ensures.value))
     (subst (λ bs. is_some (blank_len bs) ≡ false) (c.rest_of.ensures.value ∙ ap (drop (c.in-Some.start + c.in-Some-2.len)) c.as_bytes.ensures.value)
-    (subst (λ o. is_some o ≡ false) c.scan_blank_line.ensures.value c.if-is_none.ensures)) in
-    rw e refl
+    (subst (λ o. is_some o ≡ false) c.scan_blank_line.ensures.value c.if-is_none.ensures))) refl

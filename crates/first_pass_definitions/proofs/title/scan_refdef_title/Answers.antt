@@ -9,10 +9,9 @@ use Rattle.first_pass_definitions.proofs.title.scan_refdef_title.Goals.{In-Some}
 
 pub returns-in_default-clause-value : goal.returns-in_default-clause-value
 returns-in_default-clause-value c =
-    let e = title_none (context_of c.args.source.now.options c.args.tree.now) c.args.text.now
+    rw (title_none (context_of c.args.source.now.options c.args.tree.now) c.args.text.now
     (c.in_default.ensures.value ∙ ap (λ xs. option_and_then title_end (slice_get xs 0))
-    c.as_bytes-bytes.ensures.value) in
-    rw e refl
+    c.as_bytes-bytes.ensures.value)) refl
 
 first_is : (c : In-Some) → Some c.in-Some.close ≡ option_and_then title_end (slice_get c.args.text.now 0)
 first_is c = c.in-Some.ensures.value ∙ ap (λ xs. option_and_then title_end (slice_get xs 0)) c.as_bytes-bytes.ensures.value

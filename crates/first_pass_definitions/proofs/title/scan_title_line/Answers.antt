@@ -2,7 +2,7 @@ use Rattle.std.proofs.Common.{◌+◌, sym, ap, ◌∙◌, arith, if◌then◌el
 use Rattle.first_pass_links.specs.Escapes.{begins_escape}
 use Rattle.first_pass_links.proofs.Destinations.{upto_unit, upto_stopped, upto_ended}
 use Rattle.first_pass_definitions.specs.Reading.{stops_title_line}
-use Rattle.first_pass_definitions.proofs.Titles.{stop-plain, are_text, upto_text}
+use Rattle.first_pass_definitions.proofs.Titles.{stop_low, are_text, upto_text}
 use Rattle.first_pass_definitions.proofs.title.scan_title_line.Goals as goal
 
 pub loop-at-preserved : goal.loop-at-preserved
@@ -25,7 +25,7 @@ loop-at-preserved c =
 pub returns-else-not-stops_title_line-clause-value : goal.returns-else-not-stops_title_line-clause-value
 returns-else-not-stops_title_line-clause-value c =
     let s = sym c.stops_title_line.ensures ∙ c.if-not-stops_title_line.false in
-    let e = upto_stopped (stops_title_line c.args.close) c.args.bytes.now c.loop-at.at c.loop-at-test.true s (stop-plain c.args.close _ c.requires s) in
+    let e = upto_stopped (stops_title_line c.args.close) c.args.bytes.now c.loop-at.at c.loop-at-test.true s (stop_low c.args.close _ c.requires s).0 in
     let passed = c.loop-at.invariant.passed in
     omega arith
 

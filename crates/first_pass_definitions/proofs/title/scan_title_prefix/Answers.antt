@@ -1,4 +1,4 @@
-use Rattle.std.proofs.Common.{◌≡◌, ℕ, ◌-◌, false, length, drop, is_some, IsCharBoundary, sym, ap, subst, ◌∙◌, arith}
+use Rattle.std.proofs.Common.{◌≡◌, ℕ, ◌-◌, length, drop, IsCharBoundary, sym, ap, subst, ◌∙◌, arith}
 use Rattle.first_pass_lines.proofs.OptionFacts.{none_is}
 use Rattle.first_pass_lines.specs.Lines.{blank_len}
 use Rattle.first_pass_lines.specs.Rest.{Rest}

@@ -15,7 +15,7 @@ use Rattle.std.specs.Option.{option_map_or}
 use Rattle.first_pass_lines.specs.Places.{line_rest}
 use Rattle.first_pass_kinds.specs.Memory.{line_may_head_table}
 use Rattle.first_pass_definitions.proofs.Titles.{TitleLine, after_nothing, whole_title, stop_place, title_found, no_title, title_further, any_last, closes-low}
-use Rattle.first_pass_definitions.proofs.Asks.{goes_asks, meets_asks, none_or_some}
+use Rattle.first_pass_definitions.proofs.Asks.{goes_asks, meets_asks}
 use Rattle.first_pass_definitions.proofs.title.scan_title_text.Goals as goal
 use Rattle.first_pass_definitions.proofs.title.scan_title_text.Goals.{After-begins}
 
@@ -59,11 +59,9 @@ line_of c = record { closes = c.requires.close; title = c.loop-bytes.invariant.t
 pub returns-then-begins-clause-value : goal.returns-then-begins-clause-value
 returns-then-begins-clause-value c =
     let at = (goal.at.returns-then-begins-clause-value c).After-begins in
-    let e =
-    title_found (title_prefix (context_of c.args.source.now.options c.args.tree.now)) c.args.close c.loop-bytes.from
+    rw (title_found (title_prefix (context_of c.args.source.now.options c.args.tree.now)) c.args.close c.loop-bytes.from
     (c.loop-bytes.from + c.scan_title_line.result)
-    (string_bytes c.loop-bytes.written) c.args.text.now (line_of at) (sym (stop_is at) ∙ c.if-begins.true) in
-    rw e (refl, c.in_ok-finish.ensures.value)
+    (string_bytes c.loop-bytes.written) c.args.text.now (line_of at) (sym (stop_is at) ∙ c.if-begins.true)) (refl, c.in_ok-finish.ensures.value)
 
 pub returns-then-begins-clause-fits : goal.returns-then-begins-clause-fits
 returns-then-begins-clause-fits c =
@@ -82,10 +80,9 @@ returns-in_default-clause-value c =
     let at = (goal.at.returns-in_default-clause-value c).After-begins in
     let k = sym c.in_default.is ∙ c.in_ok-next.ensures.value ∙ ap (λ xs. goes_on_at (title_prefix (context_of c.args.source.now.options c.args.tree.now)) xs
     (c.loop-bytes.from + c.scan_title_line.result)) c.as_bytes-bytes.ensures.value in
-    let e =
-    no_title (title_prefix (context_of c.args.source.now.options c.args.tree.now)) c.args.close c.loop-bytes.from (c.loop-bytes.from + c.scan_title_line.result)
-    (string_bytes c.loop-bytes.written) c.args.text.now (line_of at) (sym (stop_is at) ∙ c.if-begins.false) k in
-    rw e refl
+    rw (no_title (title_prefix (context_of c.args.source.now.options c.args.tree.now)) c.args.close c.loop-bytes.from
+    (c.loop-bytes.from + c.scan_title_line.result)
+    (string_bytes c.loop-bytes.written) c.args.text.now (line_of at) (sym (stop_is at) ∙ c.if-begins.false) k) refl
 
 pub loop-bytes-preserved : goal.loop-bytes-preserved
 loop-bytes-preserved c =
@@ -109,7 +106,7 @@ loop-bytes-preserved c =
       nothing = λ h. absurd (omega arith);
       lines = λ l. ap (list_any is_line_end) written ∙ any_last (string_bytes c.loop-bytes.written ++ part text c.loop-bytes.from stop);
       asked = λ l. goes_asks (context_of c.args.source.now.options c.args.tree.now) c.args.close c.loop-bytes.from stop c.in-Some.next text
-          c.loop-bytes.invariant.asked (line_stops at) (sym k) (none_or_some c.loop-bytes.from);
+          c.loop-bytes.invariant.asked (line_stops at) (sym k);
       title = rw written (title_further (title_prefix (context_of c.args.source.now.options c.args.tree.now)) c.args.close c.loop-bytes.from stop
           c.in-Some.next (string_bytes c.loop-bytes.written) text (line_of at) (omega arith) k plain);
     }
@@ -123,8 +120,7 @@ returns-in_err-next-clause-err c =
     on_err c.from_residual-in_err-next.result
     (meets_asks around c.args.close c.loop-bytes.from stop c.args.text.now c.loop-bytes.invariant.asked (line_stops at)
     (subst (λ (bs : List ℕ). option_map_or (λ e. line_may_head_table around (line_rest (drop (stop + e) bs))) (eol_len (drop stop bs)) false ≡ true)
-    c.as_bytes-bytes.ensures.value c.in_err-next.ensures.err)
-    (none_or_some c.loop-bytes.from))
+    c.as_bytes-bytes.ensures.value c.in_err-next.ensures.err))
 
 pub returns-in_err-push_str-clause-err : goal.returns-in_err-push_str-clause-err
 returns-in_err-push_str-clause-err c =
@@ -133,7 +129,7 @@ returns-in_err-push_str-clause-err c =
     let stop : ℕ = c.loop-bytes.from + c.scan_title_line.result in
     let k = sym c.in-Some.is ∙ c.in_ok-next.ensures.value ∙ ap (λ xs. goes_on_at (title_prefix around) xs stop) c.as_bytes-bytes.ensures.value in
     on_err c.from_residual-in_err-push_str.result (goes_asks around c.args.close c.loop-bytes.from stop c.in-Some.next c.args.text.now
-    c.loop-bytes.invariant.asked (line_stops at) (sym k) (none_or_some c.loop-bytes.from))
+    c.loop-bytes.invariant.asked (line_stops at) (sym k))
 
 pub returns-in_err-push-clause-err : goal.returns-in_err-push-clause-err
 returns-in_err-push-clause-err c =
@@ -142,4 +138,4 @@ returns-in_err-push-clause-err c =
     let stop : ℕ = c.loop-bytes.from + c.scan_title_line.result in
     let k = sym c.in-Some.is ∙ c.in_ok-next.ensures.value ∙ ap (λ xs. goes_on_at (title_prefix around) xs stop) c.as_bytes-bytes.ensures.value in
     on_err c.from_residual-in_err-push.result (goes_asks around c.args.close c.loop-bytes.from stop c.in-Some.next c.args.text.now c.loop-bytes.invariant.asked
-    (line_stops at) (sym k) (none_or_some c.loop-bytes.from))
+    (line_stops at) (sym k))
