@@ -14,7 +14,7 @@ use Rattle.first_pass_lines.specs.Places.{Place, line_place}
 use Rattle.first_pass_lines.proofs.LineFacts.{lines_at-line, lines_at-end, line_len-within}
 use Rattle.first_pass_lines.proofs.PlaceFacts.{line_end_boundary}
 use Rattle.first_pass_tokens.specs.Braces.{MathBraces, no_braces}
-use Rattle.first_pass_tokens.specs.LineTokens.{Spot, spot}
+use Rattle.first_pass_tokens.specs.LineTokens.{spot}
 use Rattle.first_pass_grammar.specs.declared.kind.Container.{Container}
 use Rattle.first_pass_grammar.specs.Names.{Names, Extends}
 use Rattle.first_pass_grammar.specs.Leaves.{Document, document, around}
@@ -23,26 +23,15 @@ use Rattle.first_pass_grammar.specs.Tables.{AreCells, inserted, row_block, row_t
 use Rattle.first_pass_grammar.specs.Tables.{most_inserted}
 use Rattle.first_pass_grammar.proofs.Count.RowsWithRoom.{is_row, with_row, RowsWithRoom, counted, are_rows}
 use Rattle.first_pass_grammar.proofs.Names.MoreNames.{extends_both}
-use Rattle.first_pass_grammar.proofs.Order.RowEnds.{row_ends_at_place}
 use Rattle.first_pass_grammar.proofs.Names.TextsMore.{cells_more}
 use Rattle.first_pass_open.specs.OpenBlock.{IsJustPushed, closed_by}
 use Rattle.first_pass_open.specs.Path.{path_of, path_in}
 use Rattle.first_pass_open.proofs.PathLemmas.{AreIn, path_in-append}
-use Rattle.first_pass_open.proofs.PlaceLemmas.{line_start_end}
 use Rattle.first_pass_tables.specs.Appends.{with_below, AddsHead, keeps_row, OpenTable, so_far, ReadsRow, ReadsRowLine, AppendsRows}
 use Rattle.first_pass_tables.specs.RowsRead.{AppendsBody}
 use Rattle.first_pass_tables.proofs.BodySoFar.{BodySoFar}
-use Rattle.first_pass_tables.proofs.RowPlaces.{begins_row, row_within}
+use Rattle.first_pass_tables.proofs.RowPlaces.{row_line, row_within}
 use Rattle.first_pass_items.specs.declared.option_set.Options.{Options}
-
--- a row ends at the end of its line
-row_line : (d : Document) (path : List Container) (n : ℕ) (start : Spot) (cells : List (List (ℕ × Item))) (stop : Spot) → IsUtf8 d.text
-    → IsCharBoundary d.text n
-    → row_text (around d path) (line_place n (drop n d.text)) ≡ Some start.at → AreCells d start cells stop → stop.at ≡ n + line_len (drop n d.text)
-row_line d path n start cells stop utf8 boundary h are =
-    let b = begins_row d.text (around d path) n start.at utf8 boundary h in
-    row_ends_at_place d b.place start.braces cells stop b.stands (subst (λ k. AreCells d (spot k start.braces) cells stop) b.start_is are) ∙ b.ends
-    ∙ line_start_end d.text n
 
 -- more nodes after an open node's own open and close nothing
 pub same_path : (options : Options) (f g : Forest Item) (more : List (ℕ × Item))
@@ -73,30 +62,16 @@ row_more d path table at row more within next_is has is rest =
     subst (λ lines. AreRows d path table lines t) (sym (lines_at-line d.text at within ∙ ap (λ n. line_place at (drop at d.text) ∷ lines_from d.text n)
     (sym next_is))) all
 
--- no row, before the remaining lines
-row_none_by : (d : Document) (path : List Container) (table : TableSoFar) (line : Place) (lines : List Place) → row_text (around d path) line ≡ None
-    → AreRows d path table (line ∷ lines) (taking [] (line ∷ lines))
-unfolding RowsWithRoom
-row_none_by d path table line lines h = are_rows d path table (line ∷ lines) (taking [] (line ∷ lines)) (inl (h, refl))
-
-row_over_by : (d : Document) (path : List Container) (table : TableSoFar) (row : FoundRow) (line : Place) (lines : List Place)
-    → HasCells d path line table.braces row → is_row table row.cells ≡ false → AreRows d path table (line ∷ lines) (taking [] (line ∷ lines))
-unfolding RowsWithRoom
-row_over_by d path table row line lines has is = are_rows d path table (line ∷ lines) (taking [] (line ∷ lines)) (inr (row, has, inl (is, refl)))
-
-rows_none : (d : Document) (path : List Container) (table : TableSoFar) → AreRows d path table [] (taking [] [])
-unfolding RowsWithRoom
-rows_none d path table = are_rows d path table [] (taking [] []) refl
-
--- no line is left, or one is
-left_by : (d : Document) (path : List Container) (table : TableSoFar) (at : ℕ)
-    → AreRows d path table (line_place at (drop at d.text) ∷ lines_from d.text (at + line_len (drop at d.text)))
-    (taking [] (line_place at (drop at d.text) ∷ lines_from d.text (at + line_len (drop at d.text))))
+-- no row: no line is left, or the next one is none
+left_by : (d : Document) (path : List Container) (table : TableSoFar) (at : ℕ) → (let lines : List Place = line_place at (drop at d.text)
+    ∷ lines_from d.text (at + line_len (drop at d.text)) in RowsWithRoom d path table lines (taking [] lines))
     → AreRows d path table (lines_from d.text at) (taking [] (lines_from d.text at))
+unfolding RowsWithRoom
 left_by d path table at h =
     elim (cases_lt at (length d.text)) [
-      | inl within ↦ subst (λ lines. AreRows d path table lines (taking [] lines)) (sym (lines_at-line d.text at within)) h
-      | inr past ↦ subst (λ lines. AreRows d path table lines (taking [] lines)) (sym (lines_at-end d.text at past)) (rows_none d path table)
+      | inl within ↦ subst (λ lines. AreRows d path table lines (taking [] lines)) (sym (lines_at-line d.text at within)) (are_rows d path table _ _ h)
+      | inr past ↦ subst (λ lines. AreRows d path table lines (taking [] lines)) (sym (lines_at-end d.text at past))
+          (are_rows d path table [] (taking [] []) refl)
     ]
 
 -- no row is read yet
@@ -166,11 +141,8 @@ module _ (d : Document) (before : Names) (columns start : ℕ) (old now new : Op
         omega arith,
       )
 
-  no_row : (next : ℕ) (ix : TreeIndex) → ◌≡◌ {A = Option (ℕ × TreeIndex)} (Some (next, ix)) None → ⊥
-  no_row next ix e = none-some (next, ix) (sym e)
-
   pub body_more : (next : ℕ) (ix : TreeIndex) → ReadsRowLine d columns at now new (Some (next, ix)) → BodySoFar d columns start old new next × (at < next)
-  body_more next ix (inl (none, answer, same)) = absurd (no_row next ix answer)
+  body_more next ix (inl (none, answer, same)) = absurd (none-some (next, ix) (sym answer))
   body_more next ix (inr (begin, h, r)) = more_by next begin ix h r
 
   -- before a line that is no row
@@ -188,19 +160,16 @@ module _ (d : Document) (before : Names) (columns start : ℕ) (old now new : Op
   }
 
   pub body_over : ReadsRowLine d columns at now new None → AppendsBody d columns start old new.tree at
+  unfolding RowsWithRoom
   body_over (inl (none, answer, same)) =
       over_by (ap (λ (t : OpenTable). t.tree) same) (left_by d (path_of d.options old.tree) (so_far columns now) at
-      (row_none_by d (path_of d.options old.tree) (so_far columns now) (line_place at (drop at d.text)) (lines_from d.text (at + line_len (drop at d.text)))
-      (subst (λ path. row_text (around d path) (line_place at (drop at d.text)) ≡ None) path_is none)))
+      (inl (subst (λ path. row_text (around d path) (line_place at (drop at d.text)) ≡ None) path_is none, refl)))
   body_over (inr (begin, h, r)) =
       let a = r.adds in
       let row : FoundRow = record { start = begin; cells = r.cells; row_end = r.row_end; after = r.after } in
-      let has : HasCells d (path_of d.options old.tree) (line_place at (drop at d.text)) now.braces row =
-      record { begins = begins begin h; are_cells = r.are_cells } in
+      let is = is_row_of (is_some now.tree.current) false (so_far columns now) r.cells (some_by now.tree.current s.some) a.0 in
       over_by (ap (λ (t : OpenTable). t.tree) a.1) (left_by d (path_of d.options old.tree) (so_far columns now) at
-      (row_over_by d (path_of d.options old.tree) (so_far columns now) row (line_place at (drop at d.text))
-      (lines_from d.text (at + line_len (drop at d.text))) has
-      (is_row_of (is_some now.tree.current) false (so_far columns now) r.cells (some_by now.tree.current s.some) a.0)))
+      (inr (row, record { begins = begins begin h; are_cells = r.are_cells }, inl (is, refl))))
 
 -- The table is closed after its rows.
 closed_as : (f g : Forest Item) (e : ℕ) (ix : TreeIndex) (rest s : List TreeIndex) → f.nodes ≡ g.nodes → s ≡ ix ∷ rest → closed_by f e s ≡ closed_by g e s

@@ -1,5 +1,5 @@
 -- A line that begins with a pipe ends no table.
-use Rattle.std.proofs.Common.{◌≡◌, ◌&&◌, ◌||◌, ℕ, true, false, true≢false, List, [], ◌∷◌, is_some, None, refl, sym, ap, ◌∙◌, subst}
+use Rattle.std.proofs.Common.{◌≡◌, ◌&&◌, ◌||◌, ℕ, true, false, true≢false, List, [], ◌∷◌, refl, sym, ap, ◌∙◌, subst}
 use Rattle.std.proofs.Math.Bool.{and-false}
 use Rattle.std.proofs.lemmas.Bool.{eqb-true}
 use Rattle.first_pass_items.specs.Bytes.{pipe}
@@ -7,23 +7,14 @@ use Rattle.first_pass_items.specs.declared.option_set.Options.{Options}
 use Rattle.first_pass_items.specs.OptionWords.{has, footnotes}
 use Rattle.first_pass_lines.specs.Lines.{begins}
 use Rattle.first_pass_links.specs.Footnotes.{footnote_head}
-use Rattle.first_pass_grammar.specs.Kinds.{interrupts_with}
 use Rattle.first_pass_grammar.specs.Tables.{interrupts_row}
 use Rattle.first_pass_kinds.specs.Marks.{cannot_interrupt_by_standard}
 use Rattle.first_pass_kinds.proofs.MarkBytes.{unmarked_interrupts}
 
-no_block : (bs : List ℕ) → interrupts_with false (pipe ∷ bs) ≡ false
-unfolding cannot_interrupt_by_standard
-no_block bs = unmarked_interrupts false (pipe ∷ bs) refl
-
-no_footnote : (bs : List ℕ) → is_some (footnote_head (λ further. None) true (pipe ∷ bs)) ≡ false
-unfolding footnote_head
-no_footnote bs = refl
-
 no_end : (options : Options) (bs : List ℕ) → interrupts_row options (pipe ∷ bs) ≡ false
+unfolding cannot_interrupt_by_standard footnote_head
 no_end options bs =
-    ap (λ t. t || (has options footnotes && is_some (footnote_head (λ further. None) true (pipe ∷ bs)))) (no_block bs)
-    ∙ ap (λ t. has options footnotes && t) (no_footnote bs) ∙ and-false (has options footnotes)
+    ap (λ t. t || (has options footnotes && false)) (unmarked_interrupts false (pipe ∷ bs) refl) ∙ and-false (has options footnotes)
 
 pub pipe_ends_no_table : (options : Options) (bs : List ℕ) → begins pipe bs ≡ true → interrupts_row options bs ≡ false
 pipe_ends_no_table options [] h = absurd (true≢false (sym h))

@@ -1,10 +1,11 @@
 -- The cells of a row, read one after the other.
-use Rattle.std.proofs.Common.{◌≡◌, ℕ, ◌+◌, ◌≤◌, ◌<◌, ◌==◌, ◌&&◌, ◌||◌, Bool, true, false, List, [], ◌∷◌, ◌++◌, length, drop, slice_index, Option, Some, None}
+use Rattle.std.proofs.Common.{◌≡◌, ℕ, ◌+◌, ◌≤◌, ◌<◌, ◌==◌, Bool, true, false, List, [], ◌∷◌, ◌++◌, length, drop, slice_index, Option, Some, None}
 use Rattle.std.proofs.Common.{is_some, inl, inr, refl, sym, ap, subst, ◌∙◌, arith, append_assoc, if◌then◌else◌}
-use Rattle.std.proofs.lemmas.Bool.{cases_lt, lt-leb}
+use Rattle.std.proofs.lemmas.Bool.{cases_lt, lt-leb, or_from, and_right}
+use Rattle.std.proofs.lemmas.Bool.Decides.{nat_tests}
 use Rattle.std.proofs.lemmas.List.{append-nil, length-append, at_drop_all, at_drop_more}
 use Rattle.std.proofs.lemmas.Option.{none-some}
-use Rattle.first_pass_items.specs.Bytes.{pipe, line_feed, carriage_return}
+use Rattle.first_pass_items.specs.Bytes.{pipe}
 use Rattle.first_pass_items.specs.OptionWords.{has, tables}
 use Rattle.first_pass_items.specs.declared.item.Item.{Item}
 use Rattle.first_pass_tree.specs.Forest.{Forest, at_depth, added}
@@ -27,9 +28,6 @@ pub side_more : (blocks more : List (List (ℕ × Item))) → side_by_side (bloc
 side_more [] more = refl
 side_more (block ∷ blocks) more =
     ap (λ (items : List (ℕ × Item)). block ++ items) (side_more blocks more) ∙ sym (append_assoc block (side_by_side blocks) (side_by_side more))
-
-side_one : (block : List (ℕ × Item)) → side_by_side (block ∷ []) ≡ block
-side_one block = append-nil block
 
 -- The next cell of a row, searched for from an offset on: its start, and the start of its content.
 pub record CellPlace (d : Document) (at : ℕ) : Type 0 where
@@ -72,13 +70,8 @@ none_read d start f within =
     }
 
 -- if no line ends here, the byte here is none of a line ending
-no_end : (t u : Bool) (n : ℕ) → (if t then Some 1 else (if u then Some n else None)) ≡ None → (t || u) ≡ false
-no_end true u n h = absurd (none-some 1 (sym h))
-no_end false true n h = absurd (none-some n (sym h))
-no_end false false n h = refl
-
 byte_no_end : (b : ℕ) (bs : List ℕ) → eol_len (b ∷ bs) ≡ None → is_line_end b ≡ false
-byte_no_end b bs h = no_end (b == line_feed) (b == carriage_return) (if begins line_feed bs then 2 else 1) h
+byte_no_end b bs h = grind (arith, nat_tests, h)
 
 runs_on : (text : List ℕ) (at : ℕ) → eol_len (drop at text) ≡ None → (at < length text) × (is_line_end (slice_index text at) ≡ false)
 runs_on text at none =
@@ -87,17 +80,13 @@ runs_on text at none =
       | inr past ↦ absurd (none-some 0 (sym none ∙ at_drop_all eol_len text at past))
     ]
 
-none_of : (h x y z : Bool) → x ≡ false → y ≡ false → z ≡ false → (x || (y || (h && z))) ≡ false
-none_of true x y z a b c = rw (a, b, c)
-none_of false x y z a b c = rw (a, b)
-
 -- a cell that begins with neither a line ending nor a pipe has a byte
 not_empty : (d : Document) (text : Spot) → eol_len (drop text.at d.text) ≡ None → (slice_index d.text text.at == pipe) ≡ false
     → content_ends_at (cell_content d text) text.at ≡ false
 unfolding content_ends_at
 not_empty d text none other =
     let on = runs_on d.text text.at none in
-    none_of (has d.options tables) _ _ _ (lt-leb (length d.text) text.at on.0) on.1 other
+    or_from _ _ (lt-leb (length d.text) text.at on.0) (or_from _ _ on.1 (and_right (has d.options tables) _ other))
 
 -- a cell ends after the start of the search for it
 further : (d : Document) (at : ℕ) (p : CellPlace d at) (braces : MathBraces) (stop : Spot) (tokens : List Item) (t : Bool)
@@ -164,7 +153,7 @@ cell_read d start at count p stop old tree new b none adds =
         go_on = one_more d b.before start at stop far.cells adds.tokens b.grown far.go_on here is;
         nodes = more-added old tree new (side_by_side far.cells) block far.nodes far.spine tree_is
             ∙ ap (λ (items : List (ℕ × Item)). old.nodes ++ at_depth (length old.spine + 1) items)
-            (ap (λ (items : List (ℕ × Item)). side_by_side far.cells ++ items) (sym (side_one block)) ∙ sym (side_more far.cells (block ∷ [])));
+            (ap (λ (items : List (ℕ × Item)). side_by_side far.cells ++ items) (sym (append-nil block)) ∙ sym (side_more far.cells (block ∷ [])));
         spine = ap (λ (f : Forest Item). f.spine) adds.tree_is ∙ far.spine;
         none = λ h. absurd (none-some _ (sym h ∙ ap (λ (f : Forest Item). f.current) adds.tree_is));
         later = omega arith;

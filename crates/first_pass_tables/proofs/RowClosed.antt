@@ -1,5 +1,5 @@
 -- A row is opened, its cells and the inserted ones are added, and it is closed, or dropped again.
-use Rattle.std.proofs.Common.{◌≡◌, ℕ, ◌+◌, ◌-◌, ◌&&◌, ◌||◌, not, Bool, true, nat_lt, nat_le, zero, suc, List, [], ◌∷◌, ◌++◌, length, take, replicate, Option}
+use Rattle.std.proofs.Common.{◌≡◌, ℕ, ◌+◌, ◌-◌, true, zero, suc, List, [], ◌∷◌, ◌++◌, length, take, replicate, Option}
 use Rattle.std.proofs.Common.{Some, None, is_some, IsSome, MatchOption, slice_get, refl, sym, ap, subst, ◌∙◌, append_assoc}
 use Rattle.std.proofs.lemmas.List.{length-append}
 use Rattle.std.specs.Option.{option_map}
@@ -97,26 +97,17 @@ module _ {d : Document} {columns : ℕ} {start : Spot} {body : ItemBody} {old : 
       } in
       new_is ∙ ap (closed_by full o.stop.at) spine_of_row ∙ block-built old x (λ (y : Item). record y { «end» = o.stop.at }) cells place closed calls
 
--- the numbers of a row's cells and of the missing ones decide whether it is kept
-pub same_test : (following : Bool) (columns most count missing : ℕ) (cells : List (List (ℕ × Item))) → count ≡ length cells → missing ≡ inserted columns cells
-    → ((not following || nat_lt 0 count) && nat_le missing most) ≡ keeps_row following columns most cells
-same_test following columns most count missing cells count_is missing_is =
-    ap (λ (n : ℕ). (not following || nat_lt 0 n) && nat_le missing most) count_is
-    ∙ ap (λ (n : ℕ). (not following || nat_lt 0 (length cells)) && nat_le n most) missing_is
-
-same_spine : (s v w : List TreeIndex) (i j : TreeIndex) → s ≡ i ∷ v → s ≡ j ∷ w → w ≡ v
-same_spine s v w i j a b = cc
-
-no_spine : (s v : List TreeIndex) (i : TreeIndex) → s ≡ i ∷ v → s ≡ [] → ⊥
-no_spine s v i a b = cc
-
 -- the row is closed, and about to be dropped
 pub row_after : {d : Document} {columns : ℕ} {start : Spot} {body : ItemBody} {old : Forest Item} (o : OpenRow d columns start body old) (back : Forest Item)
     (r : Option TreeIndex)
     → MatchOption r ((o.read.spine ≡ []) × (back ≡ o.read)) (λ ix. (o.read.spine ≡ ix ∷ back.spine) × (back ≡ popped o.read ix back.spine)) → HasMore old back
 row_after {d} {columns} {start} {body} {old} o back None h =
-    absurd (no_spine o.read.spine old.spine (row_place old) (o.adds.spine ∙ ap (λ (f : Forest Item). f.spine) o.opened_is) h.0)
+    let row_open = o.adds.spine ∙ ap (λ (f : Forest Item). f.spine) o.opened_is in
+    let none = h.0 in
+    cc
 row_after {d} {columns} {start} {body} {old} o back (Some ix) h =
+    let row_open = o.adds.spine ∙ ap (λ (f : Forest Item). f.spine) o.opened_is in
+    let popped_is = h.0 in
     let x = begun_item start.at body in
     let rest = at_depth (length o.opened.spine + 1) (side_by_side (take columns o.adds.cells)) in
     record {
@@ -124,7 +115,7 @@ row_after {d} {columns} {start} {body} {old} o back (Some ix) h =
       rest = rest;
       nodes = ap (λ (f : Forest Item). f.nodes) h.1 ∙ o.adds.nodes ∙ ap (λ (f : Forest Item). f.nodes ++ rest) o.opened_is
           ∙ append_assoc old.nodes ((length old.spine + 1, x) ∷ []) rest;
-      spine = same_spine o.read.spine old.spine back.spine (row_place old) ix (o.adds.spine ∙ ap (λ (f : Forest Item). f.spine) o.opened_is) h.0;
+      spine = cc;
     }
 
 -- the row is read

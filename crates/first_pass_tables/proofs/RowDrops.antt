@@ -1,6 +1,7 @@
 -- The nodes after the last child of the innermost open node are dropped; and a row with the cells that are kept.
-use Rattle.std.proofs.Common.{◌≡◌, Bool, true, false, ℕ, ◌+◌, ◌<◌, List, [], ◌∷◌, ◌++◌, length, take, Option, Some, None, IfSome, slice_get, refl, sym, ap}
+use Rattle.std.proofs.Common.{◌≡◌, ℕ, ◌+◌, ◌<◌, List, [], ◌∷◌, ◌++◌, length, take, Option, Some, None, IfSome, slice_get, refl, sym, ap, inl, inr}
 use Rattle.std.proofs.Common.{subst, ◌∙◌, arith}
+use Rattle.std.proofs.lemmas.Bool.{cases_Bool}
 use Rattle.std.proofs.lemmas.List.{length-append, length-map, append-nil}
 use Rattle.std.proofs.Math.Seq.{take-append_seam}
 use Rattle.first_pass_items.specs.declared.item.Item.{Item}
@@ -140,18 +141,16 @@ same_dropped f g new h n more is =
     let back = is ∙ dropped f g h n more in
     (ap (λ (t : Forest Item). t.nodes) back, ap (λ (t : Forest Item). t.spine) back)
 
-ended_by : (d : Document) (most : ℕ) (start : Spot) (old new : Forest Item) (read : CellsRead) (after : MathBraces) (t : Bool) → read.ended ≡ t
-    → length d.text < most
-    → AppendsSome d most start old new (read, after) → AreAllAppended d start old new (spot read.at after) read.count
-ended_by d most start old new read after true is short some = some.all is
-ended_by d most start old new read after false is short some =
-    let first = some.first is in
-    let later = first.0.later in
-    let within = first.0.within in
-    let full = first.1 in
-    absurd (omega arith)
-
 -- a row has fewer cells than the text has bytes
 pub ended_within : (d : Document) (most : ℕ) (start : Spot) (old new : Forest Item) (read : CellsRead) (after : MathBraces) → length d.text < most
     → AppendsSome d most start old new (read, after) → AreAllAppended d start old new (spot read.at after) read.count
-ended_within d most start old new read after short some = ended_by d most start old new read after read.ended refl short some
+ended_within d most start old new read after short some =
+    elim (cases_Bool read.ended) [
+      | inl is ↦ some.all is
+      | inr is ↦
+          let first = some.first is in
+          let later = first.0.later in
+          let within = first.0.within in
+          let full = first.1 in
+          absurd (omega arith)
+    ]

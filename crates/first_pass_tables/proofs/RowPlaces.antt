@@ -1,5 +1,5 @@
 -- The start of a row's text, and the parts that do not change while rows are added.
-use Rattle.std.proofs.Common.{◌≡◌, ◌⊎◌, inl, inr, ℕ, ◌+◌, ◌<◌, Bool, true, false, true≢false, List, length, drop, Option, []}
+use Rattle.std.proofs.Common.{◌≡◌, ◌⊎◌, inl, inr, ℕ, ◌+◌, ◌<◌, ◌≤◌, arith, Bool, true, false, true≢false, List, length, drop, Option, []}
 use Rattle.std.proofs.Common.{Some, None, IsUtf8, IsCharBoundary, refl, sym, ap, subst, ◌∙◌, if◌then◌else◌}
 use Rattle.std.specs.Option.{option_map, option_and_then}
 use Rattle.std.proofs.lemmas.Bool.{cases_lt}
@@ -11,9 +11,15 @@ use Rattle.first_pass_lines.proofs.Columns.{after-none}
 use Rattle.first_pass_lines.proofs.PlaceFacts.{line_is_place, columns_line_end}
 use Rattle.first_pass_grammar.specs.Containers.{Context, at_rest, after}
 use Rattle.first_pass_grammar.specs.Kinds.{all_taken, unindented}
-use Rattle.first_pass_grammar.specs.Tables.{interrupts_row, row_text}
+use Rattle.first_pass_items.specs.declared.item.Item.{Item}
+use Rattle.first_pass_lines.specs.Lines.{line_len}
+use Rattle.first_pass_tokens.specs.LineTokens.{Spot, spot}
+use Rattle.first_pass_grammar.specs.declared.kind.Container.{Container}
+use Rattle.first_pass_grammar.specs.Leaves.{Document, around}
+use Rattle.first_pass_grammar.specs.Tables.{AreCells, interrupts_row, row_text}
+use Rattle.first_pass_grammar.proofs.Order.RowEnds.{row_ends_at_place}
 use Rattle.first_pass_open.proofs.PathLemmas.{after-end}
-use Rattle.first_pass_open.proofs.PlaceLemmas.{after_keeps, all_keep, ends_past}
+use Rattle.first_pass_open.proofs.PlaceLemmas.{after_keeps, all_keep, ends_past, line_start_end}
 
 -- the place at which the text of a row begins
 pub record BeginsRow (text : List ℕ) (around : Context) (n start : ℕ) : Type 0 where
@@ -21,7 +27,7 @@ pub record BeginsRow (text : List ℕ) (around : Context) (n start : ℕ) : Type
   pub start_is : start ≡ offset place
   pub stands : IsPlaceOf text place
   pub ends : line_end place ≡ line_end (line_place n (drop n text))
-  pub goes : interrupts_row around.options place.rest.left ≡ false
+  pub following : n ≤ start
 
 -- the start of a row's text at a place, if there is one
 abbrev row_in : Options → Place → Option ℕ
@@ -38,17 +44,27 @@ begins_by text around n start None utf8 boundary e h = absurd (none-some start h
 begins_by text around n start (Some r) utf8 boundary e h =
     let k = after_keeps text n around.path (line_rest (drop n text)) r utf8 e (line_is_place text n boundary) in
     let s = row_by (interrupts_row around.options (unindented (place_at n r)).rest.left) (offset (unindented (place_at n r))) start h in
+    let there = s.1 in
     record {
       place = unindented (place_at n r);
       start_is = s.1;
       stands = all_keep text n r utf8 k.0;
       ends = columns_line_end (indent r) (place_at n r) ∙ k.1;
-      goes = s.0;
+      following = omega arith;
     }
 
 pub begins_row : (text : List ℕ) (around : Context) (n start : ℕ)
     → IsUtf8 text → IsCharBoundary text n → row_text around (line_place n (drop n text)) ≡ Some start → BeginsRow text around n start
 begins_row text around n start utf8 boundary h = begins_by text around n start (after around.path (line_rest (drop n text))) utf8 boundary refl h
+
+-- a row ends at the end of its line
+pub row_line : (d : Document) (path : List Container) (n : ℕ) (start : Spot) (cells : List (List (ℕ × Item))) (stop : Spot) → IsUtf8 d.text
+    → IsCharBoundary d.text n
+    → row_text (around d path) (line_place n (drop n d.text)) ≡ Some start.at → AreCells d start cells stop → stop.at ≡ n + line_len (drop n d.text)
+row_line d path n start cells stop utf8 boundary h are =
+    let b = begins_row d.text (around d path) n start.at utf8 boundary h in
+    row_ends_at_place d b.place start.braces cells stop b.stands (subst (λ k. AreCells d (spot k start.braces) cells stop) b.start_is are) ∙ b.ends
+    ∙ line_start_end d.text n
 
 -- the place of the text in a line that continues the path
 pub text_stands : (text : List ℕ) (n at : ℕ) (r s : Rest)
@@ -81,9 +97,6 @@ module _ (text : List ℕ) (around : Context) (n at : ℕ) (o : Option Rest) (r 
   row_goes h = sym (value_is ∙ ap (λ b. if b then None else Some at) h)
 
 -- a row has a line in the text
-none_left : all_taken (line_rest []) ≡ line_rest []
-none_left = after-none (indent (line_rest [])) (line_rest []) refl
-
 begin_by : (around : Context) (n start : ℕ) (o : Option Rest) → (o ≡ None) ⊎ (o ≡ Some (line_rest []))
     → option_and_then (row_in around.options) (option_map (place_at n) o) ≡ Some start → ⊥
 begin_by around n start None h e = cc
@@ -91,7 +104,8 @@ begin_by around n start (Some r) (inl none) e = cc
 begin_by around n start (Some r) (inr some) e =
     let same : r ≡ line_rest [] = cc in
     let over : interrupts_row around.options (all_taken r).left ≡ true =
-    ap (λ z. interrupts_row around.options (all_taken z).left) same ∙ ap (λ (z : Rest). interrupts_row around.options z.left) none_left in
+    ap (λ z. interrupts_row around.options (all_taken z).left) same ∙ ap (λ (z : Rest). interrupts_row around.options z.left)
+    (after-none (indent (line_rest [])) (line_rest []) refl) in
     let stops = row_by (interrupts_row around.options (all_taken r).left) (offset (unindented (place_at n r))) start e in
     true≢false (sym over ∙ stops.0)
 

@@ -26,7 +26,8 @@ use Rattle.first_pass_open.specs.Path.{path_of}
 use Rattle.first_pass_open.specs.Between.{line_end_at, AddsBetween}
 use Rattle.first_pass_tables.specs.Appends.{OpenTable, ReadsRow, ReadsRowLine, AppendsRows, ClosesBetween}
 use Rattle.first_pass_tables.proofs.CellsFit.{between-order, between-join, between-wider, row_fits}
-use Rattle.first_pass_tables.proofs.RowsFit.{row_place, HeadAndBody, RowsBetween, rows_fit}
+use Rattle.first_pass_tables.proofs.RowPlaces.{begins_row}
+use Rattle.first_pass_tables.proofs.RowsFit.{HeadAndBody, RowsBetween, rows_fit}
 
 -- a row fits at any place after an offset before it
 row_fits_after : (d : Document) (body : ItemBody) (columns : ℕ) (p : Spot) (cells : List (List (ℕ × Item))) (to : Spot) (w : Within) (from : ℕ)
@@ -79,8 +80,8 @@ pub line_row_ends : (d : Document) (columns n : ℕ) (old new : OpenTable) (answ
 line_row_ends d columns n old new answer utf8 boundary (inl (none, is, same)) =
     subst (λ (o : Option (ℕ × TreeIndex)). IfSome o (λ r. r.0 ≤ length d.text)) (sym is) tt
 line_row_ends d columns n old new answer utf8 boundary (inr (start, begins, r)) =
-    let p = row_place d.text (around d (path_of d.options old.tree)) n start utf8 boundary begins in
-    row_ends d columns start old new answer (subst (λ (k : ℕ). k ≤ length d.text) (sym p.start_is) p.is.within) r
+    let p = begins_row d.text (around d (path_of d.options old.tree)) n start utf8 boundary begins in
+    row_ends d columns start old new answer (subst (λ (k : ℕ). k ≤ length d.text) (sym p.start_is) p.stands.within) r
 
 pub line_row_none : (d : Document) (columns n : ℕ) (old new : OpenTable) (answer : Option (ℕ × TreeIndex))
     → ReadsRowLine d columns n old new answer → answer ≡ None → new.tree ≡ old.tree

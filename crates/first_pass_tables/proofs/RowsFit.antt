@@ -1,63 +1,23 @@
 -- The rows of a table's body are in order between the first of its lines and the first line that is no row of it.
-use Rattle.std.proofs.Common.{◌≡◌, inl, inr, ℕ, ◌+◌, ◌-◌, ◌*◌, ◌<◌, ◌≤◌, Bool, true, false, List, [], ◌∷◌, ◌++◌, length, drop, Option, Some, None, nat_lt}
-use Rattle.std.proofs.Common.{nat_le, IsUtf8, IsCharBoundary, refl, sym, ap, subst, ◌∙◌, arith, if◌then◌else◌}
-use Rattle.std.specs.Option.{option_map, option_and_then}
+use Rattle.std.proofs.Common.{◌≡◌, inl, inr, ℕ, ◌+◌, ◌-◌, ◌*◌, ◌<◌, ◌≤◌, List, [], ◌∷◌, ◌++◌, length, drop, None, nat_lt}
+use Rattle.std.proofs.Common.{nat_le, IsUtf8, IsCharBoundary, sym, ap, subst, ◌∙◌, arith}
 use Rattle.std.proofs.lemmas.Bool.{cases_lt, and_parts, ltb-true}
-use Rattle.std.proofs.lemmas.Option.{none-some, same_Some}
 use Rattle.first_pass_items.specs.declared.item.Item.{Item}
 use Rattle.first_pass_items.specs.declared.item.ItemBody.TheVariants.{TableRow}
 use Rattle.first_pass_lines.specs.Lines.{line_len}
-use Rattle.first_pass_lines.specs.Rest.{Rest, indent}
-use Rattle.first_pass_lines.specs.Places.{Place, line_rest, line_place, place_at, offset, line_end, IsPlaceOf, start_of}
+use Rattle.first_pass_lines.specs.Places.{Place, line_place, start_of}
 use Rattle.first_pass_lines.proofs.LineFacts.{lines_at-line, lines_at-end}
-use Rattle.first_pass_lines.proofs.PlaceFacts.{line_is_place, columns_line_end, start_of-lines}
+use Rattle.first_pass_lines.proofs.PlaceFacts.{start_of-lines}
 use Rattle.first_pass_tokens.specs.LineTokens.{Spot, spot}
 use Rattle.first_pass_grammar.specs.declared.kind.Container.{Container}
 use Rattle.first_pass_grammar.specs.Completion.{lines_from}
-use Rattle.first_pass_grammar.specs.Containers.{Context, at_rest, after}
 use Rattle.first_pass_grammar.specs.Counting.{counted_nodes}
-use Rattle.first_pass_grammar.specs.Kinds.{unindented}
 use Rattle.first_pass_grammar.specs.Leaves.{Document, around}
-use Rattle.first_pass_grammar.specs.Tables.{AreCells, inserted, row_block, interrupts_row, row_text, Taken, taking, TableSoFar, AreRows}
+use Rattle.first_pass_grammar.specs.Tables.{AreCells, inserted, row_block, row_text, Taken, taking, TableSoFar, AreRows}
 use Rattle.first_pass_grammar.proofs.Count.RowsWithRoom.{with_row, RowsWithRoom, counted}
 use Rattle.first_pass_grammar.proofs.Count.CountedNodes.{own_at_most, own_join}
-use Rattle.first_pass_grammar.proofs.Order.RowEnds.{row_ends_at_place}
-use Rattle.first_pass_open.proofs.PlaceLemmas.{all_keep, after_keeps, line_start_end}
+use Rattle.first_pass_tables.proofs.RowPlaces.{begins_row, row_line}
 use Rattle.first_pass_tables.proofs.CellsFit.{AreBetween, OneRow, between-none, between-order, between-join, between-wider, some_cells, row_boundary, row_fits}
-
--- the start of a row's text in its line
-pub record RowPlace (text : List ℕ) (n start : ℕ) : Type 0 where
-  pub place : Place
-  pub start_is : start ≡ offset place
-  pub is : IsPlaceOf text place
-  pub ends : line_end place ≡ n + line_len (drop n text)
-  pub following : n ≤ start
-
-uninterrupted : (t : Bool) (m start : ℕ) → (if t then None else Some m) ≡ Some start → m ≡ start
-uninterrupted true m start h = absurd (none-some start h)
-uninterrupted false m start h = same_Some m start h
-
-row_by : (text : List ℕ) (c : Context) (n start : ℕ) (o : Option Rest) → IsUtf8 text → IsCharBoundary text n
-    → after c.path (line_rest (drop n text)) ≡ o
-    → option_and_then (λ (p : Place). if interrupts_row c.options (unindented p).rest.left then None else Some (offset (unindented p)))
-    (option_map (at_rest (line_place n (drop n text))) o) ≡ Some start
-    → RowPlace text n start
-row_by text c n start None utf8 boundary e h = absurd (none-some start h)
-row_by text c n start (Some r) utf8 boundary e h =
-    let k = after_keeps text n c.path (line_rest (drop n text)) r utf8 e (line_is_place text n boundary) in
-    let p : Place = unindented (place_at n r) in
-    let same = uninterrupted (interrupts_row c.options p.rest.left) (offset p) start h in
-    record {
-      place = p;
-      start_is = sym same;
-      is = all_keep text n r utf8 k.0;
-      ends = columns_line_end (indent r) (place_at n r) ∙ k.1 ∙ line_start_end text n;
-      following = omega arith;
-    }
-
-pub row_place : (text : List ℕ) (c : Context) (n start : ℕ) → IsUtf8 text → IsCharBoundary text n
-    → row_text c (line_place n (drop n text)) ≡ Some start → RowPlace text n start
-row_place text c n start utf8 boundary h = row_by text c n start (after c.path (line_rest (drop n text))) utf8 boundary refl h
 
 -- the first of the lines from an offset on, and the others
 first_line : (text : List ℕ) (n : ℕ) (line : Place) (lines : List Place) → line ∷ lines ≡ lines_from text n
@@ -133,10 +93,10 @@ counted_fit d path table (line ∷ lines) n t utf8 boundary is (inr (row, has, i
     let ended : Spot = spot row.row_end row.after in
     let are = has.are_cells in
     let first = first_line d.text n line lines is in
-    let p = row_place d.text (around d path) n start utf8 boundary (ap (row_text (around d path)) (sym first.0) ∙ has.begins) in
-    let starts : IsCharBoundary d.text start = subst (IsCharBoundary d.text) (sym p.start_is) p.is.boundary in
-    let ends : row.row_end ≡ n + line_len (drop n d.text) =
-    row_ends_at_place d p.place table.braces cells ended p.is (subst (λ (k : ℕ). AreCells d (spot k table.braces) cells ended) p.start_is are) ∙ p.ends in
+    let here = ap (row_text (around d path)) (sym first.0) ∙ has.begins in
+    let p = begins_row d.text (around d path) n start utf8 boundary here in
+    let starts : IsCharBoundary d.text start = subst (IsCharBoundary d.text) (sym p.start_is) p.stands.boundary in
+    let ends = row_line d path n begin cells ended utf8 boundary here are in
     let further = counted_fit d path (with_row table row) lines row.row_end more utf8 (row_boundary d begin cells ended utf8 starts are)
     (first.1 ∙ ap (lines_from d.text) (sym ends)) rest in
     let some = ltb-true 0 (length cells) (and_parts (nat_lt 0 (length cells)) (nat_le (inserted table.columns cells) table.room) kept).0 in

@@ -1,4 +1,4 @@
-use Rattle.std.proofs.Common.{rules, not, ◌&&◌, ◌||◌, nat_lt, nat_le, ◌≡◌, ℕ, ◌-◌, Bool, Option, IfSome, is_some, ◌+◌, refl, sym, ap, subst, ◌∙◌}
+use Rattle.std.proofs.Common.{rules, ◌≡◌, ℕ, ◌-◌, Option, IfSome, is_some, ◌+◌, refl, sym, ap, subst, ◌∙◌}
 use Rattle.std.specs.Option.{option_map}
 use Rattle.first_pass_items.specs.declared.item.Item.{Item}
 use Rattle.first_pass_items.specs.declared.item.ItemBody.TheVariants.{TableRow}
@@ -10,15 +10,10 @@ use Rattle.first_pass_grammar.specs.Leaves.{document}
 use Rattle.first_pass_grammar.specs.Tables.{most_inserted}
 use Rattle.first_pass_tables.specs.Appends.{keeps_row, open_table, without_after}
 use Rattle.first_pass_tables.proofs.RowDrops.{current_is_child, dropped}
-use Rattle.first_pass_tables.proofs.RowClosed.{OpenRow, row_place, row_opened, row_is_open, row_closed, same_test, row_after, row_read}
+use Rattle.first_pass_tables.proofs.RowClosed.{OpenRow, row_place, row_opened, row_is_open, row_closed, row_after, row_read}
 use Rattle.first_pass_tables.proofs.RowsAdded.{row_between}
 use Rattle.first_pass_tables.proofs.row.parse_table_row_inner.Goals as goal
 use Rattle.first_pass_tables.proofs.row.parse_table_row_inner.Goals.{After-is_kept, In_ok-end}
-
--- the test of a row, with the number of cells that may be inserted
-kept_by : (kept following : Bool) (count missing some : ℕ) {most : ℕ} → kept ≡ ((not following || nat_lt 0 count) && nat_le missing some) → some ≡ most
-    → kept ≡ ((not following || nat_lt 0 count) && nat_le missing most)
-kept_by kept following count missing some value same = value ∙ ap (λ n. (not following || nat_lt 0 count) && nat_le missing n) same
 
 pub append_cells-requires-clause-fresh : goal.append_cells-requires-clause-fresh
 append_cells-requires-clause-fresh c =
@@ -45,10 +40,8 @@ kept_is c =
     let missing_is = c.saturating_sub-missing.ensures ∙ ap (λ (n : ℕ). c.args.wanted.most - n) adds.count in
     let following : c.is_some.result ≡ is_some c.args.tree.now.current =
     c.is_some.ensures ∙ ap (λ (o : Option TreeIndex). is_some o) c.cur-before.ensures in
-    let test = same_test c.is_some.result c.args.wanted.most most c.in_ok-end.count c.saturating_sub-missing.result adds.cells adds.count missing_is in
-    let kept = kept_by c.is_kept.result c.is_some.result c.in_ok-end.count c.saturating_sub-missing.result c.saturating_sub-most.result
-    c.is_kept.ensures.value c.saturating_sub-most.ensures in
-    ap (λ (t : Bool). keeps_row t c.args.wanted.most most adds.cells) (sym following) ∙ sym test ∙ sym kept
+    let test = c.is_kept.ensures.value in
+    cc (adds.count, c.saturating_sub-most.ensures)
 
 pub close_block-requires : goal.close_block-requires
 close_block-requires c =

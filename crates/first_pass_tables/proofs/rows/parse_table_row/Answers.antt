@@ -2,13 +2,13 @@ use Rattle.std.proofs.Common.{ℕ, Option, IfSome, IsCharBoundary, sym, subst, �
 use Rattle.first_pass_names.specs.TableEntries.{names_of}
 use Rattle.first_pass_names.proofs.NameLemmas.{extends_none}
 use Rattle.first_pass_open.specs.Path.{context_of}
-use Rattle.first_pass_tables.proofs.RowsFit.{row_place}
+use Rattle.first_pass_tables.proofs.RowPlaces.{begins_row}
 use Rattle.first_pass_tables.proofs.rows.parse_table_row.Goals as goal
 
 pub returns-clause-fits : goal.returns-clause-fits
 returns-clause-fits c = λ from low.
     let text = c.args.source.now.text.now in
-    let place = row_place text (context_of c.args.source.now.options c.args.tree.now) c.args.wanted.start c.in-Some.at c.scan_row_text.ensures.utf8
+    let place = begins_row text (context_of c.args.source.now.options c.args.tree.now) c.args.wanted.start c.in-Some.at c.scan_row_text.ensures.utf8
     c.requires.boundary
     (sym c.scan_row_text.ensures.value ∙ c.in-Some.is) in
     let following = place.following in
