@@ -1,3 +1,2 @@
 -- How a line is entered, and how blank lines follow each other.
-pub mod BlankLines
 pub mod EnteredLines

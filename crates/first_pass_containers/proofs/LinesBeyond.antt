@@ -1,24 +1,18 @@
 -- The lines after the line in which something ends: a link reference definition, or the head of a footnote definition.
-use Rattle.std.proofs.Common.{◌≡◌, inl, inr, ℕ, zero, suc, ◌+◌, ◌-◌, ◌<◌, ◌≤◌, ◌==◌, ◌||◌, ◌&&◌, not, Bool, true, false, cond, nat_lt, List, [], ◌∷◌, length}
-use Rattle.std.proofs.Common.{drop, slice_index, refl, sym, ap, ◌∙◌, arith, if◌then◌else◌}
+use Rattle.std.proofs.Common.{◌≡◌, inl, inr, ℕ, zero, suc, ◌+◌, ◌-◌, ◌<◌, ◌≤◌, Bool, true, false, cond, nat_lt, List, [], ◌∷◌, length}
+use Rattle.std.proofs.Common.{drop, slice_index, refl, sym, ap, ◌∙◌, arith}
 use Rattle.std.proofs.lemmas.Bool.{cases_lt, true≢false}
 use Rattle.std.proofs.lemmas.Bool.Decides.{nat_tests}
 use Rattle.std.proofs.lemmas.List.{drop-drop, drop_all, get_or-drop, length-drop}
-use Rattle.first_pass_items.specs.Bytes.{line_feed, carriage_return}
-use Rattle.first_pass_lines.specs.Lines.{begins, is_line_end, ends_line, line_len}
-use Rattle.first_pass_lines.specs.Places.{Place, offset, line_place, line_end, IsPlaceOf}
+use Rattle.first_pass_lines.specs.Lines.{is_line_end, ends_line, line_len}
+use Rattle.first_pass_lines.specs.Places.{Place, offset, line_end, IsPlaceOf}
 use Rattle.first_pass_lines.proofs.LineFacts.{line_len-none, line_len-step, line_len-some, line_len-inside, line_len-within, lines_at-line, lines_at-end}
 use Rattle.first_pass_grammar.specs.LinkRuns.{lines_beyond}
 use Rattle.first_pass_grammar.specs.Completion.{lines_from}
 
 -- the last byte of a line before another line is its line ending
-either : (x y z : Bool) → (x || (y && not z)) ≡ true → (x || y) ≡ true
-either true y z h = refl
-either false true z h = refl
-either false false z h = h
-
 ends_by : (b : ℕ) (bs : List ℕ) → ends_line b bs ≡ true → is_line_end b ≡ true
-ends_by b bs h = either (b == line_feed) (b == carriage_return) (begins line_feed bs) h
+ends_by b bs h = grind (arith, h)
 
 last_by : (b : ℕ) (bs : List ℕ) (n : ℕ) (t : Bool) → ends_line b bs ≡ t → cond t 1 (line_len bs + 1) ≡ suc n → n < length bs
     → ((m : ℕ) → line_len bs ≡ suc m → suc m < length bs → is_line_end (slice_index bs m) ≡ true) → is_line_end (slice_index (b ∷ bs) n) ≡ true
@@ -32,20 +26,14 @@ last_is_end (b ∷ bs) n is more =
     last_by b bs n (ends_line b bs) refl (sym (line_len-step b bs) ∙ is) (omega arith) (λ m here further. last_is_end bs m here further)
 
 -- no line that begins after an offset is left out
-kept_by : (e l : ℕ) (line : Place) (lines : List Place) (t : Bool) → t ≡ false → (if t then lines_beyond e lines else line ∷ lines) ≡ line ∷ lines
-kept_by e l line lines t is = rw is refl
-
-left_out : (e : ℕ) (line : Place) (lines : List Place) (t : Bool) → t ≡ true → (if t then lines_beyond e lines else line ∷ lines) ≡ lines_beyond e lines
-left_out e line lines t is = rw is refl
-
 kept_lines : (text : List ℕ) (e l : ℕ) → e ≤ l → lines_beyond e (lines_from text l) ≡ lines_from text l
 unfolding lines_beyond
 kept_lines text e l low =
     elim (cases_lt l (length text)) [
       | inl within ↦ (let first = lines_at-line text l within in
           let no_less : nat_lt l e ≡ false = grind (arith, nat_tests, low) in
-          ap (lines_beyond e) first ∙ kept_by e l (line_place l (drop l text)) (lines_from text (l + line_len (drop l text))) (nat_lt l e) no_less ∙ sym first)
-      | inr past ↦ (let none : lines_from text l ≡ [] = lines_at-end text l past in ap (lines_beyond e) none ∙ sym none)
+          rw (first, no_less) refl)
+      | inr past ↦ (let none : lines_from text l ≡ [] = lines_at-end text l past in rw none refl)
     ]
 
 one_left_out : (text : List ℕ) (e l : ℕ)
@@ -54,7 +42,7 @@ unfolding lines_beyond
 one_left_out text e l low within =
     let first = lines_at-line text l (omega arith) in
     let less : nat_lt l e ≡ true = grind (arith, nat_tests, low) in
-    ap (lines_beyond e) first ∙ left_out e (line_place l (drop l text)) (lines_from text (l + line_len (drop l text))) (nat_lt l e) less
+    rw (first, less) refl
 
 -- if no line ends between two offsets, the line that is read from either has the same end
 same_line_end : (text : List ℕ) (a e : ℕ) → a < e → e ≤ length text → e ≤ a + line_len (drop a text) → is_line_end (slice_index text (e - 1)) ≡ false

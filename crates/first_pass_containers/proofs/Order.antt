@@ -1,4 +1,2 @@
--- How order and the number of nodes are kept. Other properties are in `first_pass_order`.
-pub mod CountSteps
-pub mod EndedLemmas
+-- How order is kept. Other properties are in `first_pass_order`.
 pub mod OrderSteps

@@ -1,3 +1,201 @@
--- The laws on ready states. Other lemmas on ready states are in `first_pass_ready`.
-pub mod ReadyCompleted
-pub mod ReadyWhole
+-- The laws on ready states: one can be completed, and already has whole tables. Other lemmas on ready states are in
+-- `first_pass_ready`.
+use Rattle.std.proofs.Common.{◌≡◌, ℕ, Bool, true, false, List, [], ◌∷◌, length, map, slice_get, Option, Some, None, refl, sym, ap, ◌∙◌, subst, arith, zero}
+use Rattle.std.proofs.Common.{suc}
+use Rattle.std.specs.Option.{option_and_then}
+use Rattle.std.proofs.lemmas.Option.{same_Some, none-some}
+use Rattle.first_pass_items.specs.declared.item.Item.{Item}
+use Rattle.first_pass_items.specs.declared.item.ItemBody.{ItemBody}
+use Rattle.first_pass_tree.specs.declared.tree_index.TreeIndex.{TreeIndex}
+use Rattle.first_pass_tree.specs.Forest.{Forest, body_at, with_body_at}
+use Rattle.first_pass_lines.specs.Places.{Place}
+use Rattle.first_pass_grammar.specs.Names.{Names, Extends, AreNamed}
+use Rattle.first_pass_grammar.specs.Leaves.{Document, document}
+use Rattle.first_pass_grammar.specs.Derivation.{Tables}
+use Rattle.first_pass_grammar.specs.Skeleton.{Continues, Line, Blanks, next_is_blank}
+use Rattle.first_pass_grammar.specs.Completion.{NoList, Unfinished, Frame, last_of, Completes, CanGoOn, lines_from, InContainer}
+use Rattle.first_pass_grammar.proofs.Names.MoreNames.{extends_none}
+use Rattle.first_pass_exists.proofs.Completed.{line_goes_on, completion_derives}
+use Rattle.first_pass_open.specs.Path.{container_of, with_container, path_in, path_of}
+use Rattle.first_pass_lists.specs.declared.state.PassState.{PassState}
+use Rattle.first_pass_ready.specs.State.{AreOpen, ReadyAt, ReadyBeforeLine, ReadyInItem, ReadyEmpty, ReadyWith, Ready, closed_in, body_without_indent}
+use Rattle.first_pass_ready.specs.State.{top_without_indent, frame_of, frame_at, StaysReady}
+use Rattle.first_pass_containers.specs.Completed.{CompletedAt, CompletedBeforeLine, CompletedInItem, CompletedWith, IsCompleted}
+use Rattle.first_pass_tree.proofs.BodyLemmas.{body-changed}
+use Rattle.first_pass_grammar.specs.declared.kind.Container.{Container}
+use Rattle.first_pass_ready.proofs.ItemBodies.{item_body, columns_are, item_is, item_path, without_indent_is, item_container, item_frame}
+use Rattle.first_pass_ready.proofs.OpenLemmas.{open_path}
+use Rattle.first_pass_items.specs.declared.option_set.Options.{Options}
+use Rattle.first_pass_items.specs.declared.item.ItemBody.TheVariants.{BlockQuote as BlockQuoteBody, List as ListBody, ListItem as ListItemBody}
+use Rattle.first_pass_items.specs.declared.item.ItemBody.TheVariants.{FootnoteDefinition as FootnoteDefinitionBody, DefinitionList, DefinitionListDefinition}
+use Rattle.first_pass_grammar.specs.WholeTables.{marks, ShowsNothing, AreWholeTables}
+use Rattle.first_pass_grammar.proofs.Sequences.LinesLeft.{lines_from_at}
+use Rattle.first_pass_grammar.proofs.Sequences.PlacesKept.{AreAt}
+use Rattle.first_pass_completion.proofs.SilentNodes.{IsSilent, AreSilent, marks_modified}
+use Rattle.first_pass_order.proofs.WholeBefore.{completed_whole, whole_already}
+use Rattle.first_pass_grammar.proofs.WholeTables.WholeBlocks.{PlainFrom}
+use Rattle.first_pass_grammar.proofs.WholeTables.WholeForests.{whole_same}
+
+-- an open node is a container or a list, and has no part of a table
+frame_silent : (options : Options) (b : ItemBody) (frame : Frame) → frame_of options b ≡ Some frame → ShowsNothing b
+frame_silent options (BlockQuoteBody kind) frame h = λ names depth start end. refl
+frame_silent options (ListItemBody columns) frame h = λ names depth start end. refl
+frame_silent options (FootnoteDefinitionBody label) frame h = λ names depth start end. refl
+frame_silent options (DefinitionListDefinition columns) frame h = λ names depth start end. refl
+frame_silent options (ListBody flags byte number) frame h = λ names depth start end. refl
+frame_silent options (DefinitionList flags) frame h = λ names depth start end. refl
+frame_silent options b frame h = absurd (none-some frame h)
+
+open_silent : (options : Options) (nodes : List (ℕ × Item)) (i : ℕ) (frame : Frame) → frame_at options nodes i ≡ Some frame → IsSilent nodes i
+open_silent options [] i frame h = absurd (none-some frame h)
+open_silent options (n ∷ nodes) zero frame h = frame_silent options n.1.body frame h
+open_silent options (n ∷ nodes) (suc i) frame h = open_silent options nodes i frame h
+
+all_silent : (options : Options) (nodes : List (ℕ × Item)) (spine : List TreeIndex) (frames : List Frame) → AreOpen options nodes spine frames
+    → AreSilent nodes (map (λ (ix : TreeIndex). ix.0) spine)
+all_silent options nodes [] [] o = tt
+all_silent options nodes (ix ∷ spine) (frame ∷ frames) o = (open_silent options nodes ix.0 frame o.0, all_silent options nodes spine frames o.1)
+all_silent options nodes spine frames o = absurd o
+
+-- the frames of open nodes are unique
+open_length : (options : Options) (nodes : List (ℕ × Item)) (spine : List TreeIndex) (frames : List Frame) → AreOpen options nodes spine frames
+    → length frames ≡ length (map (λ (ix : TreeIndex). ix.0) spine)
+open_length options nodes [] [] o = refl
+open_length options nodes (ix ∷ spine) (frame ∷ frames) o = let l = open_length options nodes spine frames o.1 in omega arith
+open_length options nodes spine frames o = absurd o
+
+open_once : (options : Options) (nodes : List (ℕ × Item)) (spine : List TreeIndex) (frames others : List Frame)
+    → AreOpen options nodes spine frames → AreOpen options nodes spine others
+    → frames ≡ others
+open_once options nodes [] [] [] o p = refl
+open_once options nodes [] [] (other ∷ others) o p = absurd p
+open_once options nodes [] (frame ∷ frames) others o p = absurd o
+open_once options nodes (ix ∷ spine) [] others o p = absurd o
+open_once options nodes (ix ∷ spine) (frame ∷ frames) [] o p = absurd p
+open_once options nodes (ix ∷ spine) (frame ∷ frames) (other ∷ others) o p =
+    let first : frame ≡ other = same_Some frame other (sym o.0 ∙ p.0) in
+    let rest = open_once options nodes spine frames others o.1 p.1 in
+    cc
+
+abbrev unfinished_of : Tables → Forest Item → List Frame → Bool → Unfinished
+unfinished_of defined tree frames run = record {
+  nodes = tree.nodes;
+  list = NoList (closed_in tree);
+  before = record { last = last_of frames (closed_in tree); counted = run };
+  defined = defined;
+}
+
+-- under names that extend the present ones
+abbrev IsWholeOnce : Names → List (ℕ × Item) → Type 0
+IsWholeOnce names nodes = (more : Names) × Extends more names × AreWholeTables more nodes
+
+-- a state that can be completed; if lines of the text follow, its tables are whole
+abbrev AlsoWhole : Document → List Place → List (ℕ × Item) → Type 0 → Type 0
+AlsoWhole d lines nodes Completed = Completed × (AreAt d.text lines → IsWholeOnce d.names nodes)
+
+-- ready at a place, under all names
+abbrev AlwaysReady : Document → Tables → Forest Item → Bool → Continues → List Place → Type 0
+AlwaysReady d defined tree run from lines = (more : Names) → Extends more d.names → ReadyAt (document d.text d.options more) defined tree run from lines
+
+completed_at : (d : Document) (defined : Tables) (tree : Forest Item) (run : Bool) (from : Continues) (lines : List Place)
+    → CanGoOn (path_of d.options tree) from → PlainFrom d.text from
+    → AlwaysReady d defined tree run from lines → AlsoWhole d lines tree.nodes (CompletedAt d defined tree run from lines)
+completed_at d defined tree run from lines can plain ready =
+    let now = ready d.names (extends_none d.names) in
+    let places : List ℕ = map (λ (ix : TreeIndex). ix.0) tree.spine in
+    let unfinished : Unfinished = unfinished_of defined tree now.frames run in
+    let always : (more : Names) → Extends more d.names → Completes (document d.text d.options more) now.frames places unfinished from lines =
+    λ more x.
+    let at_last = ready more x in
+    subst (λ z. Completes (document d.text d.options more) z places (unfinished_of defined tree z run) from lines)
+    (open_once d.options tree.nodes tree.spine at_last.frames now.frames at_last.are_open now.are_open) at_last.completes in
+    let inside = subst (λ z. CanGoOn z from) (open_path d.options tree.nodes tree.spine now.frames now.are_open) can in
+    let size = open_length d.options tree.nodes tree.spine now.frames now.are_open in
+    let done = completion_derives d now.frames places unfinished from lines size inside always in
+    let silent = all_silent d.options tree.nodes tree.spine now.frames now.are_open in (
+      record { frames = now.frames; are_open = now.are_open; completion = done.0; derives = done.1 },
+      λ at. (
+        done.0.names,
+        done.0.extends,
+        completed_whole d now.frames places unfinished from lines plain at silent now.silent done.0 done.1,
+      ),
+    )
+
+-- an item that takes only blank lines has no part of a table
+item_shows : (b : ItemBody) (n : ℕ) → ShowsNothing (item_body b n)
+item_shows (DefinitionListDefinition columns) n = λ names depth start end. refl
+item_shows b n = λ names depth start end. refl
+
+-- an empty item or definition is a container
+item_goes_on : (options : Options) (f : Forest Item) (ix : TreeIndex) (rest : List TreeIndex) (b : ItemBody) (n : ℕ) (from : Continues) → f.spine ≡ ix ∷ rest
+    → body_at f.nodes ix.0 ≡ Some (item_body b n) → CanGoOn (path_of options f) from
+item_goes_on options f ix rest b n from spine item =
+    let path : List Container = path_in options f.nodes rest in
+    subst (λ (s : List TreeIndex). CanGoOn (path_in options f.nodes s) from) (sym spine)
+    (subst (λ (o : Option Container). CanGoOn (with_container o path) from)
+    (sym (ap (option_and_then (container_of options)) item ∙ item_path options b n)) tt)
+
+module _ (d : Document) (defined : Tables) (r : PassState) (lines : List Place) (e : ℕ) (empty : ReadyEmpty d defined r e lines) where
+  top_is : (b : ItemBody) × (body_at r.tree.nodes empty.place.0 ≡ Some (item_body b empty.columns))
+  top_is =
+      let c = columns_are (body_at r.tree.nodes empty.place.0) empty.columns empty.item in (c.0, c.1 ∙ ap (λ z. Some z) (sym (item_is c.0 empty.columns c.2)))
+
+  continues : (from : Continues) → CanGoOn (path_of d.options r.tree) from
+  continues from = item_goes_on d.options r.tree empty.place empty.outer top_is.0 empty.columns from empty.spine top_is.1
+
+  zero_is : top_without_indent r.tree ≡ with_body_at r.tree empty.place (item_body top_is.0 0)
+  zero_is =
+      ap (λ (s : List TreeIndex). body_without_indent r.tree (option_and_then (λ (ix : TreeIndex). body_at r.tree.nodes ix.0) (slice_get s 0))) empty.spine
+      ∙ rw top_is.1 (without_indent_is r.tree empty.place empty.outer top_is.0 empty.columns empty.spine)
+
+  zero_goes_on : CanGoOn (path_of d.options (top_without_indent r.tree)) (Blanks e)
+  zero_goes_on =
+      let now : ItemBody = item_body top_is.0 0 in
+      let body = body-changed r.tree.nodes empty.place.0 (λ x. record { start = x.start; «end» = x.«end»; body = now }) (item_body top_is.0 empty.columns) now
+      top_is.1 (λ x h. refl) in
+      subst (λ f. CanGoOn (path_of d.options f) (Blanks e)) (sym zero_is)
+      (item_goes_on d.options (with_body_at r.tree empty.place now) empty.place empty.outer top_is.0 0 (Blanks e) empty.spine body)
+
+  without_indent_shows : (names : Names) → marks names (top_without_indent r.tree).nodes ≡ marks names r.tree.nodes
+  without_indent_shows names =
+      ap (λ (f : Forest Item). marks names f.nodes) zero_is
+      ∙ marks_modified names r.tree.nodes empty.place.0 (λ x. record { start = x.start; «end» = x.«end»; body = item_body top_is.0 0 })
+      (λ x k. item_shows top_is.0 0)
+      (open_silent d.options r.tree.nodes empty.place.0 (InContainer (item_container top_is.0 empty.columns))
+      (ap (option_and_then (frame_of d.options)) top_is.1 ∙ item_frame d.options top_is.0 empty.columns))
+
+  before_line : (t : Bool) → ((more : Names) → Extends more d.names → ReadyBeforeLine (document d.text d.options more) defined r.tree e lines t)
+      → AlsoWhole d lines r.tree.nodes (CompletedBeforeLine d defined r.tree e lines t)
+  before_line true ready =
+      let zero : Forest Item = top_without_indent r.tree in
+      let done = completed_at d defined zero false (Blanks e) lines zero_goes_on tt ready in (
+        done.0,
+        λ at. let (more, extends, whole) = done.1 at in
+            (more, extends, whole_same more zero.nodes r.tree.nodes (sym (without_indent_shows more)) whole),
+      )
+  before_line false ready = completed_at d defined r.tree false Line lines (line_goes_on (path_of d.options r.tree)) tt ready
+
+  in_item : (blank : Bool)
+      → ((more : Names) → Extends more d.names → ReadyInItem (document d.text d.options more) defined r.tree e lines blank)
+      → AlsoWhole d lines r.tree.nodes (CompletedInItem d defined r.tree e lines blank)
+  in_item true ready = completed_at d defined r.tree true (Blanks e) lines (continues (Blanks e)) tt ready
+  in_item false ready = before_line (next_is_blank (path_of d.options r.tree) lines) ready
+
+ready_with : (d : Document) (defined : Tables) (r : PassState) (lines : List Place) (o : Option ℕ)
+    → ((more : Names) → Extends more d.names → ReadyWith (document d.text d.options more) defined r lines o)
+    → AlsoWhole d lines r.tree.nodes (CompletedWith d defined r lines o)
+ready_with d defined r lines None ready = completed_at d defined r.tree r.blank Line lines (line_goes_on (path_of d.options r.tree)) tt ready
+ready_with d defined r lines (Some e) ready =
+    in_item d defined r lines e (ready d.names (extends_none d.names)) r.blank (λ more x. let empty = ready more x in empty.ready)
+
+pub ready_completed : (d : Document) (defined : Tables) (r : PassState) (lines : List Place)
+    → ((more : Names) → Extends more d.names → Ready (document d.text d.options more) defined r lines) → IsCompleted d defined r lines
+unfolding Ready IsCompleted
+ready_completed d defined r lines ready = (ready_with d defined r lines r.begin_list_item ready).0
+
+pub ready_whole : (d : Document) (defined : Tables) (r : PassState) (start : ℕ)
+    → StaysReady d defined r (lines_from d.text start) → AreNamed d.names r.tree.nodes → AreWholeTables d.names r.tree.nodes
+unfolding Ready
+ready_whole d defined r start ready named =
+    let (more, extends, whole) = (ready_with d defined r (lines_from d.text start) r.begin_list_item ready).1 (lines_from_at d.text start) in
+    whole_already more d.names r.tree.nodes extends named whole

@@ -1,9 +1,9 @@
 -- A leaf block is read at a place where no container begins.
-use Rattle.std.proofs.Common.{◌≡◌, inl, inr, ℕ, suc, ◌+◌, Bool, true, false, ◌&&◌, not, is_some, if◌then◌else◌, List, [], ◌∷◌, ◌++◌, append-nil, length}
+use Rattle.std.proofs.Common.{◌≡◌, inl, inr, ℕ, suc, ◌+◌, Bool, true, false, ◌&&◌, if◌then◌else◌, List, [], ◌∷◌, ◌++◌, append-nil, length}
 use Rattle.std.proofs.Common.{map, Option, Some, None, refl, sym, ap, subst, ◌∙◌, arith}
 use Rattle.first_pass_items.specs.declared.item.Item.{Item}
 use Rattle.first_pass_items.specs.declared.item.ItemBody.{ItemBody}
-use Rattle.first_pass_items.specs.declared.item.ItemBody.TheVariants.{BlockQuote as BlockQuoteBody, List as ListBody, DefinitionList}
+use Rattle.first_pass_items.specs.declared.item.ItemBody.TheVariants.{List as ListBody, DefinitionList}
 use Rattle.first_pass_items.specs.OptionWords.{has, definition_list}
 use Rattle.first_pass_tree.specs.declared.tree_index.TreeIndex.{TreeIndex}
 use Rattle.first_pass_tree.specs.Forest.{Forest, IsForest, added, at_depth}
@@ -14,13 +14,13 @@ use Rattle.first_pass_lines.proofs.PlaceFacts.{columns_line_end}
 use Rattle.first_pass_grammar.specs.Before.{begins_paragraph, is_run}
 use Rattle.first_pass_grammar.specs.Derivation.{Tables, with_definitions}
 use Rattle.first_pass_grammar.specs.LinkTables.{LinkEntry, with_links}
-use Rattle.first_pass_grammar.specs.LinkRuns.{link_definition_at, kind_in, Beyond, Ended, FlowsOn, IsRun}
+use Rattle.first_pass_grammar.specs.LinkRuns.{kind_in, Beyond, Ended, FlowsOn, IsRun}
 use Rattle.first_pass_grammar.specs.Order.{is_task_marker}
 use Rattle.first_pass_grammar.specs.Rows.{is_paragraph}
 use Rattle.std.proofs.lemmas.Bool.{true≢false}
 use Rattle.first_pass_grammar.specs.declared.kind.Container.{Container}
 use Rattle.first_pass_grammar.specs.Containers.{Context}
-use Rattle.first_pass_grammar.specs.Kinds.{Kind, Blank, ThematicBreak, LinkDefinitions, Paragraph, unindented, IsKind}
+use Rattle.first_pass_grammar.specs.Kinds.{Kind, Blank, ThematicBreak, Paragraph, unindented, IsKind}
 use Rattle.first_pass_grammar.specs.Leaves.{Document, around, rule_block}
 use Rattle.first_pass_grammar.specs.Blocks.{BlankLine, LeafBlock, Block, run_block, flowing_block, block_at, leaf_block}
 use Rattle.first_pass_grammar.specs.Openers.{start_at}
@@ -29,7 +29,7 @@ use Rattle.first_pass_grammar.specs.Skeleton.{OpensBlockAt, OpensBy, Opens, Leve
 use Rattle.first_pass_grammar.specs.Tables.{taking}
 use Rattle.first_pass_grammar.specs.Texts.{IsText}
 use Rattle.first_pass_grammar.specs.Footnotes.{footnote_head_at}
-use Rattle.first_pass_grammar.specs.Completion.{lines_from, Closed, OtherClosed, ParagraphAt, DefinitionClosed, TitleAt, Frame, containers_of, AreBelow}
+use Rattle.first_pass_grammar.specs.Completion.{lines_from, Closed, DefinitionClosed, Frame, containers_of, AreBelow}
 use Rattle.first_pass_grammar.specs.Completion.{IsPlain}
 use Rattle.first_pass_grammar.specs.WholeTables.{AreEachNode, ShowsNothing, SilentClosed}
 use Rattle.first_pass_grammar.proofs.Sequences.Finishes.{Tail, CompletesAt}
@@ -42,7 +42,7 @@ use Rattle.first_pass_grammar.proofs.WholeTables.TableMarks.{tokens_show}
 use Rattle.first_pass_completion.proofs.States.{open_nodes}
 use Rattle.first_pass_completion.proofs.Titles.{closed_after}
 use Rattle.first_pass_open.specs.Between.{line_end_at}
-use Rattle.first_pass_lists.specs.Closing.{top_body, top_end, is_list, is_definition_list, possible_title, is_after_definition, list_finished}
+use Rattle.first_pass_lists.specs.Closing.{top_body, is_list, is_definition_list, possible_title, is_after_definition, list_finished}
 use Rattle.first_pass_lists.specs.Closing.{blank_read_by, blank_read}
 use Rattle.first_pass_lists.specs.declared.state.PassState.{PassState}
 use Rattle.first_pass_open.specs.Path.{path_of, context_of}
@@ -58,9 +58,11 @@ use Rattle.first_pass_kinds.proofs.KindLemmas.{kind_says}
 use Rattle.first_pass_ready.proofs.StateLemmas.{ready_plain}
 use Rattle.first_pass_ready.proofs.FinishLemmas.{EndsListAt, plain_by, OpensOther, ready_finished}
 use Rattle.first_pass_ready.proofs.EnterLemmas.{ready_blank}
-use Rattle.first_pass_containers.proofs.Openings.TagLemmas.{finishes_nothing, quote_counts}
+use Rattle.first_pass_containers.specs.Starts.{FinishesNothing}
+use Rattle.first_pass_containers.proofs.Openings.JustOpened.{finishes_none}
+use Rattle.first_pass_containers.proofs.Openings.TagLemmas.{quote_counts}
+use Rattle.std.proofs.Math.Bool.{and-true}
 use Rattle.first_pass_order.proofs.WholeKept.{task_shows}
-use Rattle.first_pass_items.specs.declared.item.BlockQuoteKind.{BlockQuoteKind}
 use Rattle.first_pass_containers.proofs.Openings.StartLemmas.{mark_by}
 
 -- The end of the line at an offset is that of the line of its place.
@@ -84,40 +86,23 @@ no_container d f run p lines k o bare no_start kind opens =
 -- a leaf block that is no paragraph ends any list at the place that it gives
 pub kind_away : (top : Option ItemBody) (closed : Closed) (at : ℕ) (block : LeafBlock) (left : List Place) → is_paragraph block.kind ≡ false
     → begins_paragraph block.items ≡ false → leaf_closes block ≡ at → EndsListAt at top closed (OpensLeaf (Block block) Line left)
-kind_away None closed at block left other begins closes = tt
 kind_away (Some (ListBody flags list number)) closed at block left other begins closes = closes
 kind_away (Some (DefinitionList flags)) (DefinitionClosed e blanks) at block left other begins closes =
     (begins, ap (λ (t : Bool). if t then e else leaf_closes block) other ∙ closes)
-kind_away (Some (DefinitionList flags)) OtherClosed at block left other begins closes = tt
-kind_away (Some (DefinitionList flags)) (ParagraphAt place) at block left other begins closes = tt
-kind_away (Some (DefinitionList flags)) (TitleAt e place) at block left other begins closes = tt
-kind_away (Some b) closed at block left other begins closes = tt
+kind_away top closed at block left other begins closes = tt
 
 -- any leaf block does so unless it is right after a definition
 items_away : (top : Option ItemBody) (closed : Closed) (at : ℕ) (block : LeafBlock) (left : List Place) → is_definition_list top ≡ false
     → leaf_closes block ≡ at → EndsListAt at top closed (OpensLeaf (Block block) Line left)
-items_away None closed at block left none closes = tt
 items_away (Some (ListBody flags list number)) closed at block left none closes = closes
 items_away (Some (DefinitionList flags)) closed at block left none closes = cc
-items_away (Some b) closed at block left none closes = tt
-
-title_away : (f : Forest Item) (title : TreeIndex) (at : ℕ) (o : Opening) → possible_title f ≡ Some title → EndsListAt at (top_body f) (closed_in f) o
-title_away f title at o is =
-    let t = title_is f title is in
-    subst (λ z. EndsListAt at (top_body f) z o) (sym t.closed) (subst (λ z. EndsListAt at z (TitleAt (top_end f) title.0) o) (sym t.top) tt)
-
-and_left : (a : Bool) → (a && true) ≡ a
-and_left true = refl
-and_left false = refl
+items_away top closed at block left none closes = tt
 
 text_by : (f : Forest Item) (o : Option TreeIndex) (at : ℕ) (block : LeafBlock) (left : List Place) → possible_title f ≡ o
     → is_after_definition f ≡ false → leaf_closes block ≡ at → EndsListAt at (top_body f) (closed_in f) (OpensLeaf (Block block) Line left)
 text_by f None at block left is after closes =
-    let none : is_definition_list (top_body f) ≡ false =
-    sym (and_left (is_definition_list (top_body f)))
-    ∙ ap (λ (o : Option TreeIndex). is_definition_list (top_body f) && not (is_some o)) (sym is) ∙ after in
-    items_away (top_body f) (closed_in f) at block left none closes
-text_by f (Some title) at block left is after closes = title_away f title at (OpensLeaf (Block block) Line left) is
+    items_away (top_body f) (closed_in f) at block left (rw (is, and-true) at after) closes
+text_by f (Some title) at block left is after closes = let t = title_is f title is in rw (t.closed, t.top) tt
 
 pub text_away : (f : Forest Item) (at : ℕ) (block : LeafBlock) (left : List Place) → is_after_definition f ≡ false → leaf_closes block ≡ at
     → EndsListAt at (top_body f) (closed_in f) (OpensLeaf (Block block) Line left)
@@ -136,10 +121,6 @@ record IsRead (d : Document) (defined : Tables) (f : Forest Item) (block : LeafB
       CompletesAt d (with_definitions defined block.definitions) (tail (closed_after (length f.nodes) block (closed_in f)) block.gap) frames
       (f.nodes ++ at_depth (suc (length os)) block.items) os Line left)
 
-begun_after : (place : ℕ) (block : LeafBlock) (closed : Closed) → is_run block.kind ≡ false → closed_after place block closed ≡ begun_at place block.items
-begun_after place block closed other =
-    ap (λ (t : Bool). if begins_paragraph block.items then ParagraphAt place else (if t then closed else OtherClosed)) other
-
 -- the items of a block, added
 block_ready : (d : Document) (defined : Tables) (f : Forest Item) (block : LeafBlock) (left : List Place) → is_run block.kind ≡ false
     → IsRead d defined f block left → ReadyAt d (with_definitions defined block.definitions) (added f block.items) block.gap Line left
@@ -150,7 +131,7 @@ block_ready d defined f block left other is =
     let o = open_added d f block.items is.frames is.below is.are_open in
     let last : closed_in g ≡ begun_at (length f.nodes) block.items = closed_added f block.items (no_list_added d f block.items is.frames is.plain o) in
     let after : Closed = closed_after (length f.nodes) block (closed_in f) in
-    let same : after ≡ closed_in g = begun_after (length f.nodes) block (closed_in f) other ∙ sym last in
+    let same : after ≡ closed_in g = rw other (sym last) in
     record {
       frames = is.frames;
       are_open = o;
@@ -221,11 +202,12 @@ lazy_read d defined r p lines left at block shows opens none lazy =
       completes = completes-leaf d (open_nodes defined frames f.nodes os) (closed_in f) (AtPlace p OnlyALeaf) lines left block plain (λ path mid. refl) tt
           first ready.completes;
     } in
-    subst (λ (z : PassState). IsRead d defined z.tree block left) (sym (finishes_nothing at r lazy.kind lazy.quote lazy.blank none)) is
+    let ends : FinishesNothing r = record { none = none; blank = lazy.blank; plain = ap is_list lazy.quote } in
+    subst (λ (z : PassState). IsRead d defined z.tree block left) (sym (finishes_none at r ends)) is
 
 -- a block that is not read as a paragraph is none
 begins_by : (block : LeafBlock) (t : Bool) → begins_paragraph block.items ≡ t → OwnParagraph block → is_paragraph block.kind ≡ false → t ≡ false
-begins_by block true begins own other = absurd (true≢false (sym (own.kind begins) ∙ other))
+begins_by block true begins own other = sym (own.kind begins) ∙ other
 begins_by block false begins own other = refl
 
 leaf_read_by : (d : Document) (defined : Tables) (r : PassState) (p : Place) (left : List Place) (at : ℕ) (block : LeafBlock)
@@ -274,11 +256,7 @@ pub ready_added : (d : Document) (defined : Tables) (r new : PassState) (p : Pla
 ready_added d defined r new p left at block other b now ready =
     let known : Tables = with_definitions defined block.definitions in
     let is = leaf_is_read d defined r p left at block b ready in
-    ready_plain d known new left now.none (subst (λ t. ReadyAt d known new.tree t Line left) (sym now.blank)
-    (subst (λ z. ReadyAt d known z block.gap Line left) (sym now.tree_is) (block_ready d defined (list_finished at r).tree block left other is)))
-
-kind_blank_is : (r : PassState) (b : Option ItemBody) (kind : Option BlockQuoteKind) → b ≡ Some (BlockQuoteBody kind) → blank_read_by r b ≡ r
-kind_blank_is r b kind is = ap (blank_read_by r) is
+    ready_plain d known new left now.none (rw (now.blank, now.tree_is) (block_ready d defined (list_finished at r).tree block left other is))
 
 -- a blank line at the place of a leaf
 pub ready_blank_leaf : (d : Document) (defined : Tables) (r : PassState) (p : Place) (lines : List Place)
@@ -307,7 +285,7 @@ ready_blank_leaf d defined r p lines kind none (inr lazy) =
       completes = subst (λ z. CompletesAt d defined (tail (closed_in f) z) frames f.nodes os Line lines) counts
           (completes-blank d defined t frames f.nodes os (AtPlace p OnlyALeaf) lines lines (λ path mid. refl) first ready.completes);
     } in
-    subst (λ q. Ready d defined q lines) (sym (kind_blank_is r (top_body r.tree) lazy.kind lazy.quote))
+    subst (λ q. Ready d defined q lines) (sym (ap (blank_read_by r) lazy.quote))
     (ready_plain d defined r lines none (subst (λ t. ReadyAt d defined f t Line lines) (sym lazy.blank) now))
 
 -- a thematic break
@@ -315,9 +293,7 @@ pub opens_rule : (d : Document) (path : List Container) (p : Place) (at next siz
     → OpensAs d path p (lines_from d.text (line_end p)) (ThematicBreak size)
     (OpensLeaf (leaf_block (ThematicBreak size) p (rule_block at size) false) Line (lines_from d.text next))
 unfolding OpensAs
-opens_rule d path p at next size at_is next_is =
-    ap (λ k. OpensLeaf (leaf_block (ThematicBreak size) p (rule_block k size) false) Line (lines_from d.text next)) at_is
-    ∙ ap (λ n. OpensLeaf (leaf_block (ThematicBreak size) p (rule_block (offset (unindented p)) size) false) Line (lines_from d.text n)) next_is
+opens_rule d path p at next size at_is next_is = rw (at_is, next_is) refl
 
 -- a paragraph, heading or table, after a task list item marker or not, is the one that opens at its place
 opens_text : (d : Document) (path : List Container) (p : Place) (next : ℕ) (marker : Option Item) (items : List (ℕ × Item))
@@ -340,22 +316,12 @@ pub kind_in_other : (around : Context) (p : Place) (kind : Kind) → is_paragrap
 kind_in_other around p Paragraph h = absurd (true≢false h)
 kind_in_other around p kind h = refl
 
--- so does a paragraph without a definition before it
-kind_in_text : (around : Context) (p : Place) → link_definition_at around (unindented p) ≡ None → kind_in around p Paragraph ≡ Paragraph
-kind_in_text around p none = ap (λ (x : Option LinkEntry). if is_some x then LinkDefinitions else Paragraph) none
-
--- the same after a definition
-kind_in_run : (around : Context) (p : Place) (x : LinkEntry) → link_definition_at around (unindented p) ≡ Some x → kind_in around p Paragraph ≡ LinkDefinitions
-kind_in_run around p x some = ap (λ (x : Option LinkEntry). if is_some x then LinkDefinitions else Paragraph) some
-
 -- the opening after link reference definitions, or after none
 pub text_opens : (d : Document) (path : List Container) (p : Place) (lines : List Place) (xs : List LinkEntry) (b : Beyond) (o : Opening)
     → IsRun (around d path) (unindented p) lines xs b → OpensBeyond d path xs b o → OpensAs d path p lines (kind_in (around d path) p Paragraph) o
 unfolding IsRun OpensAs OpensRun OpensText
-text_opens d path p lines [] b o (none, is) opens =
-    subst (λ k. OpensAs d path p lines k o) (sym (kind_in_text (around d path) p none)) (subst (λ z. OpensBeyond d path [] z o) is opens)
-text_opens d path p lines (x ∷ xs) b o (here, more) opens =
-    subst (λ k. OpensAs d path p lines k o) (sym (kind_in_run (around d path) p x here)) (x ∷ xs, b, (here, more), opens)
+text_opens d path p lines [] b o (none, is) opens = rw none (subst (λ z. OpensBeyond d path [] z o) is opens)
+text_opens d path p lines (x ∷ xs) b o (here, more) opens = rw here (x ∷ xs, b, (here, more), opens)
 
 -- the paragraph, heading or table at a place, after link reference definitions or none
 pub opens_flow : (d : Document) (path : List Container) (q : Place) (next : ℕ) (xs : List LinkEntry) (items : List (ℕ × Item))
@@ -384,8 +350,7 @@ ready_ended d defined r p q next xs forest kind run none ready =
     } in
     let is = leaf_is_read d defined r p left q.line block begins ready in
     ready_plain d (with_definitions defined xs) now left (list_finished_none q.line r)
-    (subst (λ t. ReadyAt d (with_definitions defined xs) now.tree t Line left) (sym (list_finished_blank q.line r))
-    (run_ready d defined now.tree q xs left is))
+    (rw (list_finished_blank q.line r) (run_ready d defined now.tree q xs left is))
 
 -- after the text of a task list item
 pub ready_text : (d : Document) (defined : Tables) (r new : PassState) (p : Place) (next : ℕ) (marker : Item) (items : List (ℕ × Item))
@@ -418,7 +383,5 @@ ready_text d defined r new p next marker items mark is result text =
           opens ready.completes;
     } in
     let now : ReadyAt d (with_definitions defined []) (added f items) false Line left = block_ready d defined f block left refl read in
-    ready_plain d defined new left result.none
-    (subst (λ t. ReadyAt d defined new.tree t Line left) (sym (result.blank ∙ text.blank))
-    (subst (λ z. ReadyAt d defined z false Line left) (sym result.tree_is)
-    (subst (λ z. ReadyAt d z (added f items) false Line left) (told_none defined) now)))
+    ready_plain d defined new left result.none (rw (result.blank ∙ text.blank, result.tree_is)
+    (subst (λ z. ReadyAt d z (added f items) false Line left) (told_none defined) now))

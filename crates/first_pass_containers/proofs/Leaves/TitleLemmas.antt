@@ -10,7 +10,7 @@ use Rattle.first_pass_items.specs.declared.item.ItemBody.TheVariants.{MaybeDefin
 use Rattle.first_pass_items.specs.declared.item.BlockQuoteKind.{BlockQuoteKind}
 use Rattle.first_pass_items.specs.declared.item.ListFlags.{ListFlags}
 use Rattle.first_pass_tree.specs.declared.tree_index.TreeIndex.{TreeIndex}
-use Rattle.first_pass_tree.specs.Forest.{Forest, IsForest, added, at_depth, body_at, item_at, modify, with_body_at, with_end}
+use Rattle.first_pass_tree.specs.Forest.{Forest, IsForest, added, at_depth, body_at, item_at}
 use Rattle.first_pass_lines.specs.Places.{Place, offset, line_end, IsPlaceOf}
 use Rattle.first_pass_grammar.specs.Before.{begins_paragraph}
 use Rattle.first_pass_grammar.specs.Blocks.{LeafBlock, Block, flowing_block}
@@ -19,7 +19,7 @@ use Rattle.first_pass_grammar.specs.Kinds.{Paragraph, unindented, IsKind}
 use Rattle.first_pass_grammar.specs.LinkRuns.{FlowsOn, IsRun, kind_in}
 use Rattle.first_pass_grammar.specs.LinkTables.{LinkEntry}
 use Rattle.first_pass_grammar.specs.Leaves.{Document}
-use Rattle.first_pass_grammar.specs.Skeleton.{Level, Line, Inside, Opening, OpensLeaf, OpensAs, Opens}
+use Rattle.first_pass_grammar.specs.Skeleton.{Level, Line, Inside, OpensLeaf, OpensAs, Opens}
 use Rattle.first_pass_grammar.specs.Completion.{lines_from, ended, DefinitionClosed, TitleAt, Frame, InDefinitions, AreBelow}
 use Rattle.first_pass_grammar.specs.WholeTables.{AreEachNode, ShowsNothing, SilentFrom, SilentClosed}
 use Rattle.first_pass_items.specs.declared.option_set.Options.{Options}
@@ -33,8 +33,8 @@ use Rattle.first_pass_grammar.proofs.Each.EachCell.{deeper_nodes}
 use Rattle.first_pass_grammar.proofs.WholeTables.TableMarks.{tokens_show}
 use Rattle.first_pass_grammar.proofs.Sequences.Tightening.{modify-append}
 use Rattle.first_pass_completion.proofs.States.{open_nodes}
-use Rattle.first_pass_completion.proofs.TitleNodes.{as_possible}
 use Rattle.first_pass_tree.proofs.BodyLemmas.{body-kept}
+use Rattle.first_pass_tree.proofs.Blocks.{modify-at}
 use Rattle.first_pass_open.specs.Path.{path_of, context_of}
 use Rattle.first_pass_open.proofs.PathLemmas.{AreIn, get_front, open_are_in}
 use Rattle.first_pass_lists.specs.Closing.{with_tree, top_body, top_end, title_by, is_after_definition, title_begun}
@@ -116,23 +116,12 @@ module _ (f : Forest Item) (x : ℕ × Item) (items : List (ℕ × Item)) (e : �
   abbrev kept : Forest Item
   kept = record { nodes = ended f.nodes ix.0 e ++ title_nodes; spine = f.spine; current = Some (record { 0 = length f.nodes }) }
 
-  kept_nodes : (nodes more : List (ℕ × Item)) (n : ℕ × Item)
-      → modify (nodes ++ n ∷ more) (length nodes) (λ (y : Item). record { start = y.start; «end» = y.«end»; body = MaybeDefinitionListTitle })
-      ≡ nodes ++ (n.0, record { start = n.1.start; «end» = n.1.«end»; body = MaybeDefinitionListTitle }) ∷ more
-  kept_nodes [] more n = refl
-  kept_nodes (m ∷ nodes) more n = ap (λ z. m ∷ z) (kept_nodes nodes more n)
-
   kept_is : (r : PassState) → title_begun e (with_tree r (added f (x ∷ items))) ≡ record r { tree = kept; blank = false }
   unfolding title_begun ended
   kept_is r =
-      let c : TreeIndex = record { 0 = length f.nodes } in
-      let end_at : Item → Item = λ (y : Item). record { start = y.start; «end» = e; body = y.body } in
-      let tree_of : List (ℕ × Item) → Forest Item = λ ns. record { nodes = ns; spine = f.spine; current = Some c } in
-      let read : PassState → Forest Item → PassState = λ q h. record q { tree = h; blank = false } in
-      ap (λ (s : List TreeIndex). read r (with_end (with_body_at (added f (x ∷ items)) c MaybeDefinitionListTitle) e (slice_get s 0))) spine
-      ∙ ap (λ ns. read r (tree_of (modify ns ix.0 end_at)))
-      (kept_nodes f.nodes (at_depth (length f.spine + 1) items) (length f.spine + 1 + x.0, x.1))
-      ∙ ap (λ ns. read r (tree_of ns)) (modify-append f.nodes title_nodes ix.0 end_at low)
+      let title : Item → Item = λ y. record { start = y.start; «end» = y.«end»; body = MaybeDefinitionListTitle } in
+      let k : ℕ = length f.spine + 1 in
+      rw (modify-at f.nodes (at_depth k items) (k + x.0, x.1) (length f.nodes) title refl, spine, modify-append) refl
 
   inside : (i : ℕ) → i < length f.nodes → i < length (ended f.nodes ix.0 e)
   inside i h = let n = length-ended f.nodes ix.0 e in omega arith
@@ -140,16 +129,14 @@ module _ (f : Forest Item) (x : ℕ × Item) (items : List (ℕ × Item)) (e : �
   kept_top : (flags : ListFlags) → body_at f.nodes ix.0 ≡ Some (DefinitionList flags) → top_body kept ≡ Some (DefinitionList flags)
   unfolding ended
   kept_top flags body =
-      ap (λ (s : List TreeIndex). option_and_then (λ (ix : TreeIndex). body_at kept.nodes ix.0) (slice_get s 0)) spine
-      ∙ ap (option_map (λ n. n.1.body)) (get_front (ended f.nodes ix.0 e) title_nodes ix.0 (inside ix.0 low))
-      ∙ body-kept f.nodes ix.0 ix.0 (λ y. record { start = y.start; «end» = e; body = y.body }) (λ y. refl) ∙ body
+      let within : ix.0 < length (ended f.nodes ix.0 e) = inside ix.0 low in
+      rw (spine, get_front) (body-kept f.nodes ix.0 ix.0 (λ y. record { start = y.start; «end» = e; body = y.body }) (λ y. refl) ∙ body)
 
   kept_end : top_end kept ≡ e
   unfolding ended
   kept_end =
-      ap (λ (s : List TreeIndex). option_map_or (λ (y : Item). y.«end») (option_and_then (item_at kept) (slice_get s 0)) 0) spine
-      ∙ ap (λ o. option_map_or (λ (y : Item). y.«end») (option_map (λ n. n.1) o) 0) (get_front (ended f.nodes ix.0 e) title_nodes ix.0 (inside ix.0 low))
-      ∙ end_of f.nodes ix.0 e low
+      let within : ix.0 < length (ended f.nodes ix.0 e) = inside ix.0 low in
+      rw (spine, get_front) (end_of f.nodes ix.0 e low)
 
   kept_closed : (flags : ListFlags) → body_at f.nodes ix.0 ≡ Some (DefinitionList flags) → closed_in kept ≡ TitleAt e (length f.nodes)
   kept_closed flags body =
@@ -186,18 +173,13 @@ module _ (f : Forest Item) (x : ℕ × Item) (items : List (ℕ × Item)) (e : �
       let now : Tables = with_definitions defined o.block.definitions in
       let k' = completes-reended d (open_nodes defined frames f.nodes os) t loose ix.0 e (Inside p) lines tt
       (subst (λ (s : List TreeIndex). CompletesAt d defined t here f.nodes (map (λ (i : TreeIndex). i.0) s) (Inside p) lines) spine k) in
-      let done = completes-possible_title d (open_nodes defined frames (ended f.nodes ix.0 e) os) (record { place = ix.0; «end» = e; loose = loose }) blanks run
-      p lines left o.block o.begins o.opens k' in
+      let done = completes-possible_title d (open_nodes defined frames (ended f.nodes ix.0 e) os) (record { place = ix.0; «end» = e; loose = loose }) blanks
+      run p lines left o.block o.begins o.opens k' in
       let deep : suc (suc (length os)) ≡ length f.spine + 1 =
       (let n = length-map rest (λ (i : TreeIndex). i.0) in let m = ap (λ (s : List TreeIndex). length s) spine in omega arith) in
-      subst
-      (λ (s : List TreeIndex). CompletesAt d now (tail (TitleAt e (length f.nodes)) o.block.gap) here kept.nodes (map (λ (i : TreeIndex). i.0) s) Line left)
-      (sym spine)
-      (subst (λ n. CompletesAt d now (tail (TitleAt e n) o.block.gap) here kept.nodes (ix.0 ∷ os) Line left) (length-ended f.nodes ix.0 e)
-      (subst (λ n. CompletesAt d now (tail (TitleAt e (length (ended f.nodes ix.0 e))) o.block.gap) here
-      (ended f.nodes ix.0 e ++ (n + x.0, title_item) ∷ at_depth n items) (ix.0 ∷ os) Line left) deep
-      (subst (λ z. CompletesAt d now (tail (TitleAt e (length (ended f.nodes ix.0 e))) o.block.gap) here
-      (ended f.nodes ix.0 e ++ at_depth (suc (suc (length os))) (as_possible z)) (ix.0 ∷ os) Line left) o.is done)))
+      rw (spine, ← length-ended f.nodes ix.0 e) (subst (λ n. CompletesAt d now (tail (TitleAt e (length (ended f.nodes ix.0 e))) o.block.gap) here
+      (ended f.nodes ix.0 e ++ (n + x.0, title_item) ∷ at_depth n items) (ix.0 ∷ os) Line left)
+      (deep ∙ ap (λ (s : List TreeIndex). length s + 1) spine) (rw o.is at done))
 
 -- a ready state with a possible title
 module _ (d : Document) (defined : Tables) (r : PassState) (p : Place) (lines left : List Place) (block : LeafBlock) (x : ℕ × Item) (items : List (ℕ × Item))
@@ -273,8 +255,7 @@ module _ (d : Document) (defined : Tables) (r : PassState) (p q : Place) (at nex
       → Ready d (with_definitions defined xs) (title_begun (current_end r.tree) (with_tree r (added r.tree items))) (lines_from d.text next)
   ready_kept begins ready =
       let t = text_flat d (path_of d.options r.tree) q (lines_from d.text (line_end q)) _ (text q place (sym at_is)) in
-      subst (λ z. Ready d (with_definitions defined xs) (title_begun (current_end r.tree) (with_tree r (added r.tree z))) (lines_from d.text next)) (sym t.is)
-      (kept_by t.first t.more t.is begins ready)
+      rw t.is (kept_by t.first t.more t.is begins ready)
 
 -- a heading or a table ends the list where its last definition ends
 pub away_left : (r : PassState) (q : Place) (xs : List LinkEntry) (items : List (ℕ × Item)) (left : List Place) → is_after_definition r.tree ≡ true
@@ -283,7 +264,4 @@ pub away_left : (r : PassState) (q : Place) (xs : List LinkEntry) (items : List 
 away_left r q xs items left after other =
     let b = past_definition r.tree after in
     let last = after_last r.tree b in
-    let e : ℕ = current_end r.tree in
-    let o : Opening = OpensLeaf (Block (flowing_block q xs items)) Line left in
-    subst (λ z. EndsListAt e (top_body r.tree) z o) (sym last.1)
-    (subst (λ z. EndsListAt e z (DefinitionClosed e last.0) o) (sym (after_top r.tree b)) (other, refl))
+    rw (last.1, after_top r.tree b) (other, refl)

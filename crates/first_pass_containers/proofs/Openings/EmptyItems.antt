@@ -1,5 +1,5 @@
 -- An item or a definition whose line ends after its markers is opened.
-use Rattle.std.proofs.Common.{◌≡◌, ℕ, ◌+◌, ◌<◌, Bool, true, false, List, [], ◌∷◌, ◌++◌, length, map, slice_get, Option, Some, None}
+use Rattle.std.proofs.Common.{◌≡◌, ℕ, ◌+◌, ◌<◌, Bool, true, false, List, [], ◌∷◌, ◌++◌, length, map, Option, Some, None}
 use Rattle.std.proofs.Common.{refl, sym, ap, subst, ◌∙◌, arith, if◌then◌else◌, length-append}
 use Rattle.std.specs.Option.{option_map, option_and_then}
 use Rattle.first_pass_items.specs.declared.item.Item.{Item}
@@ -28,7 +28,8 @@ use Rattle.first_pass_grammar.proofs.Sequences.Tightening.{modify-append}
 use Rattle.first_pass_open.specs.OpenBlock.{with_child}
 use Rattle.first_pass_open.specs.Path.{container_of, with_container, path_in, path_of}
 use Rattle.first_pass_open.proofs.PathLemmas.{get_front}
-use Rattle.first_pass_lists.specs.Closing.{top_body, is_list, is_definition_list, may_begin_definition, list_continued, list_kept, with_tree, definitions_opened}
+use Rattle.first_pass_lists.specs.Closing.{top_body, is_list, is_definition_list, may_begin_definition, list_continued, list_kept, with_tree}
+use Rattle.first_pass_lists.specs.Closing.{definitions_opened}
 use Rattle.first_pass_lists.specs.Closing.{definition_begun}
 use Rattle.first_pass_lists.specs.declared.state.PassState.{PassState}
 use Rattle.first_pass_ready.specs.State.{closed_in, item_columns, body_without_indent, top_without_indent, ReadyAt, ReadyBeforeLine, ReadyInItem}
@@ -37,6 +38,8 @@ use Rattle.first_pass_ready.proofs.ClosedIn.{level_of, closed_at_body, no_paragr
 use Rattle.first_pass_ready.proofs.ItemBodies.{item_body, item_container, item_columns_of, item_path, without_indent_is}
 use Rattle.first_pass_ready.proofs.OpenLemmas.{open_below, frame-append, get_end}
 use Rattle.first_pass_ready.proofs.PopLemmas.{ready_as}
+use Rattle.first_pass_ready.proofs.EnterLemmas.{path_below}
+use Rattle.first_pass_containers.proofs.Order.OrderSteps.{marked_open}
 use Rattle.first_pass_ready.proofs.BegunLemmas.{depth_of, with_open, top_opened, IsBegun, plain_open}
 use Rattle.first_pass_ready.proofs.DefinitionOpened.{list_class, definition_is_open}
 use Rattle.first_pass_containers.proofs.Openings.OpenerLemmas.{item_is_open, ContainerBegins, begins_open}
@@ -55,10 +58,7 @@ IsNoParagraph marker = (x : Item) → marker ≡ Some x → is_paragraph_body x.
 -- a task list item marker with nothing after it, in the innermost open node, which is no list
 marked_top : (f : Forest Item) (x : Item) (ix : TreeIndex) (rest : List TreeIndex) → f.spine ≡ ix ∷ rest → ix.0 < length f.nodes
     → top_body (with_child f (Some x)) ≡ top_body f
-marked_top f x ix rest spine within =
-    ap (λ (s : List TreeIndex). option_and_then (λ (i : TreeIndex). body_at (appended f x).nodes i.0) (slice_get s 0)) spine
-    ∙ ap (option_map (λ (n : ℕ × Item). n.1.body)) (get_front f.nodes ((length f.spine + 1, x) ∷ []) ix.0 within)
-    ∙ sym (ap (λ (s : List TreeIndex). option_and_then (λ (i : TreeIndex). body_at f.nodes i.0) (slice_get s 0)) spine)
+marked_top f x ix rest spine within = rw (spine, get_front) refl
 
 -- an innermost open node, which is no list, and those around it
 record InnermostItem (f : Forest Item) : Type 0 where
@@ -98,16 +98,6 @@ marked_body : (f : Forest Item) (marker : Option Item) (i : ℕ) (b : ItemBody)
     → i < length f.nodes → body_at f.nodes i ≡ Some b → body_at (with_child f marker).nodes i ≡ Some b
 marked_body f None i b h is = is
 marked_body f (Some x) i b h is = ap (option_map (λ (n : ℕ × Item). n.1.body)) (get_front f.nodes ((length f.spine + 1, x) ∷ []) i h) ∙ is
-
-path_below : (options : Options) (nodes other : List (ℕ × Item)) (n : ℕ) (spine : List TreeIndex)
-    → ((i : ℕ) → i < n → body_at other i ≡ body_at nodes i) → AreBelow n (map (λ (i : TreeIndex). i.0) spine)
-    → path_in options other spine ≡ path_in options nodes spine
-path_below options nodes other n [] same below = refl
-path_below options nodes other n (ix ∷ spine) same below =
-    let b : ix.0 < n = below.0 in
-    ap (λ o. with_container (option_and_then (container_of options) o) (path_in options other spine)) (same ix.0 b)
-    ∙ ap (with_container (option_and_then (container_of options) (body_at nodes ix.0)))
-    (path_below options nodes other ix.0 spine (λ i h. same i (omega arith)) below.1)
 
 marked_path : (options : Options) (f : Forest Item) (marker : Option Item)
     → AreBelow (length f.nodes) (map (λ (i : TreeIndex). i.0) f.spine) → path_of options (with_child f marker) ≡ path_of options f
@@ -150,11 +140,6 @@ module _ (b : ItemBody) (g : Forest Item) (start : ℕ) where
       modify-append (with_columns n).nodes more (length g.nodes) change (let l = longer n in omega arith)
       ∙ ap (λ z. z ++ more) (modify-at g.nodes [] (length g.spine + 1, node_of start 0 (item_body b n)) (length g.nodes) change refl)
 
-  marked_item : (n : ℕ) (marker : Option Item) → top_body (with_child (with_columns n) marker) ≡ Some (item_body b n)
-  marked_item n None = top_opened g (node_of start 0 (item_body b n))
-  marked_item n (Some y) = marked_top (with_columns n) y place g.spine refl (let l = longer n in omega arith)
-      ∙ top_opened g (node_of start 0 (item_body b n))
-
   named_marked : (n : ℕ) (marker : Option Item) → with_body_at (with_child (with_columns n) marker) place (item_body b 0) ≡ with_child (with_columns 0) marker
   named_marked n None = ap (λ ns. record (with_columns n) { nodes = ns }) (modify-at g.nodes [] (length g.spine + 1, node_of start 0 (item_body b n))
       (length g.nodes) (λ x. record { start = x.start; «end» = x.«end»; body = item_body b 0 }) refl)
@@ -166,7 +151,7 @@ module _ (b : ItemBody) (g : Forest Item) (start : ℕ) where
 
   without_indent_marked : (n : ℕ) (marker : Option Item) → top_without_indent (with_child (with_columns n) marker) ≡ with_child (with_columns 0) marker
   without_indent_marked n marker =
-      ap (body_without_indent (with_child (with_columns n) marker)) (marked_item n marker)
+      ap (body_without_indent (with_child (with_columns n) marker)) (marked_open g (node_of start 0 (item_body b n)) marker)
       ∙ without_indent_is (with_child (with_columns n) marker) place g.spine b n (marked_spine (with_columns n) marker) ∙ named_marked n marker
 
 -- the state after the markers of an empty item
@@ -177,9 +162,6 @@ in_item : (d : Document) (defined : Tables) (f : Forest Item) (e : ℕ) (lines :
     → blank ≡ false → next_is_blank (path_of d.options f) lines ≡ t → ReadyBeforeLine d defined f e lines t → ReadyInItem d defined f e lines blank
 in_item d defined f e lines t true none is ready = cc
 in_item d defined f e lines t false none is ready = subst (ReadyBeforeLine d defined f e lines) (sym is) ready
-
-none_blank : (blank : Bool) (columns : ℕ) → blank ≡ false → blank ≡ true → columns ≡ 0
-none_blank blank columns none some = cc
 
 -- if the next line is blank too, the item takes only blank lines
 abbrev columns_by : Bool → ℕ → ℕ
@@ -209,7 +191,7 @@ module _ (d : Document) (defined : Tables) (b : ItemBody) (g : Forest Item) (sta
         item = ap (option_and_then item_columns)
             (marked_body full marker (length g.nodes) (item_body b columns) within (top_opened g (node_of start 0 (item_body b columns))))
             ∙ item_columns_of b columns;
-        none = none_blank q.blank columns blank;
+        none = λ some. cc;
         ready = in_item d defined (with_child full marker) e lines t q.blank blank (ap (λ z. next_is_blank z lines) path_is ∙ next) ready;
       })
 

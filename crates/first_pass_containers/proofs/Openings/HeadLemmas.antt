@@ -1,13 +1,14 @@
 -- The place where blocks continue after the head of a footnote definition, and the contents of a head that is read.
 use Rattle.std.proofs.Common.{◌≡◌, ℕ, ◌+◌, ◌-◌, ◌<◌, ◌≤◌, nat_lt, Bool, true, false, List, [], ◌∷◌, length, drop, Option, Some, None, is_some, IsUtf8}
 use Rattle.std.proofs.Common.{IsCharBoundary, slice_index, refl, sym, ap, subst, ◌∙◌, arith, length-drop, if◌then◌else◌, inl, inr, ◌&&◌}
-use Rattle.std.proofs.lemmas.Bool.{eqb-true, cases_lt}
+use Rattle.std.proofs.lemmas.Bool.{cases_lt}
 use Rattle.std.proofs.lemmas.List.{drop-drop, get_or-drop}
 use Rattle.std.specs.List.{prefix_len}
 use Rattle.first_pass_items.specs.Bytes.{colon}
 use Rattle.first_pass_items.specs.OptionWords.{gfm_footnotes, has, footnotes}
 use Rattle.first_pass_lines.specs.Rest.{indent}
 use Rattle.first_pass_links.specs.Labels.{label_at}
+use Rattle.first_pass_links.proofs.Destinations.{first_byte}
 use Rattle.first_pass_links.specs.Footnotes.{begins_footnote_mark, head_after, footnote_head}
 use Rattle.first_pass_grammar.specs.Leaves.{Document}
 use Rattle.first_pass_grammar.specs.LinkRuns.{lines_beyond}
@@ -22,21 +23,14 @@ use Rattle.first_pass_lines.proofs.PlaceFacts.{place_length, columns_line_end, b
 use Rattle.first_pass_open.proofs.PlaceLemmas.{all_keep, line_start_end}
 use Rattle.first_pass_grammar.specs.Kinds.{unindented, is_blank_rest}
 use Rattle.first_pass_grammar.specs.Completion.{lines_from}
-use Rattle.first_pass_grammar.specs.Footnotes.{place_past, past_head, footnote_prefix, footnote_at, footnote_head_at}
+use Rattle.first_pass_grammar.specs.Footnotes.{place_past, past_head, footnote_at, footnote_head_at}
 use Rattle.first_pass_containers.specs.FootnoteHeads.{head_read, blank_before_more, head_end, after_head, footnote_mark_at}
 use Rattle.first_pass_grammar.proofs.Order.RowEnds.{white_content}
 use Rattle.first_pass_grammar.specs.Containers.{Context}
 
-after_last : (q : Place) (lines : List Place) → lines ≡ [] → past_head false q lines ≡ (q, lines)
-after_last q [] h = refl
-after_last q (line ∷ lines) h = cc
-
 after_some : (q : Place) (lines : List Place) → is_blank_rest q.rest ≡ false → past_head false q lines ≡ (q, lines)
 after_some q [] h = refl
 after_some q (line ∷ lines) h = rw h refl
-
-past_blank : (q line : Place) (rest : List Place) → is_blank_rest q.rest ≡ true → past_head false q (line ∷ rest) ≡ (line, rest)
-past_blank q line rest h = rw h refl
 
 -- blocks continue at an offset after a head that ends at another
 abbrev pub ContinuesAt : Bool → List ℕ → ℕ → ℕ → Type 0
@@ -60,17 +54,15 @@ continues_next text e n u b blank more =
     let next : line_end there ≡ e + n + line_len (drop (e + n) text) = line_start_end text (e + n) in
     let lines : lines_from text (line_end here) ≡ there ∷ lines_from text (line_end there) =
     ap (lines_from text) stop ∙ lines_at-line text (e + n) more ∙ ap (λ k. there ∷ lines_from text k) (sym next) in (
-      ap (past_head false here) lines ∙ past_blank here there (lines_from text (line_end there)) (ap is_some blank),
+      rw (lines, ap is_some blank) refl,
       omega arith,
       subst (λ k. IsCharBoundary text (e + k)) size (line_end_boundary text e u b (omega arith)),
     )
 
 continues_by : (text : List ℕ) (e skip : ℕ) (o : Option ℕ) (t : Bool) → IsUtf8 text → IsCharBoundary text e → blank_len (drop e text) ≡ o
     → nat_lt (unwrap_or o 0) (length (drop e text)) ≡ t → skip ≡ (if t then unwrap_or o 0 else 0) → ContinuesAt false text e (e + skip)
-continues_by text e skip None true u b blank less is =
-    continues_here false text e skip b is (after_some (head_end text e) _ (ap is_some blank))
-continues_by text e skip None false u b blank less is =
-    continues_here false text e skip b is (after_some (head_end text e) _ (ap is_some blank))
+continues_by text e skip None t u b blank less is =
+    continues_here false text e skip b (grind (arith, is)) (after_some (head_end text e) _ (ap is_some blank))
 continues_by text e skip (Some n) true u b blank less is =
     let size : length (drop e text) ≡ length text - e = length-drop e text in
     let low : n < length (drop e text) = grind (arith, nat_tests, less) in
@@ -81,7 +73,7 @@ continues_by text e skip (Some n) false u b blank less is =
     let all : line_len (drop e text) ≡ n = line_len-blank (drop e text) n blank in
     let past : length text ≤ line_end (head_end text e) = (let stop = line_start_end text e in let w = b.0 in omega arith) in
     continues_here false text e skip b is
-    (after_last (head_end text e) (lines_from text (line_end (head_end text e))) (lines_at-end text (line_end (head_end text e)) past))
+    (rw (lines_at-end text (line_end (head_end text e)) past) refl)
 
 pub continues : (gfm : Bool) (text : List ℕ) (e skip : ℕ) → IsUtf8 text → IsCharBoundary text e
     → skip ≡ (if gfm then 0 else blank_before_more (drop e text)) → ContinuesAt gfm text e (e + skip)
@@ -90,10 +82,6 @@ continues false text e skip u b is =
     continues_by text e skip (blank_len (drop e text)) (nat_lt (unwrap_or (blank_len (drop e text)) 0) (length (drop e text))) u b refl refl is
 
 -- a head ends with its colon, which is no line ending
-first_byte : (c : ℕ) (bs : List ℕ) → begins c bs ≡ true → (slice_index bs 0 ≡ c) × (0 < length bs)
-first_byte c [] h = cc
-first_byte c (b ∷ bs) h = (eqb-true b c h, omega arith)
-
 colon_by : (bs : List ℕ) (n : ℕ) (text : List ℕ) (head : ℕ × List ℕ) (t : Bool) → begins colon (drop n (drop 2 bs)) ≡ t
     → (if t then Some (n + 3, text) else None) ≡ Some head → (3 ≤ head.0) × (head.0 ≤ length bs) × (slice_index bs (head.0 - 1) ≡ colon)
 colon_by bs n text head false h is = cc
@@ -101,10 +89,10 @@ colon_by bs n text head true h is =
     let same : (n + 3, text) ≡ head = cc in
     let size : n + 3 ≡ head.0 = ap (λ (z : ℕ × List ℕ). z.0) same in
     let rest : drop n (drop 2 bs) ≡ drop (2 + n) bs = drop-drop n 2 bs in
-    let f = first_byte colon (drop (2 + n) bs) (ap (begins colon) (sym rest) ∙ h) in
-    let long : length (drop (2 + n) bs) ≡ length bs - (2 + n) = length-drop (2 + n) bs in
-    let there : (2 + n) + 0 ≡ head.0 - 1 = omega arith in
-    (omega arith, omega arith, ap (slice_index bs) (sym there) ∙ sym (get_or-drop (2 + n) bs 0 0) ∙ f.0)
+    let f = first_byte colon bs (2 + n) (ap (begins colon) (sym rest) ∙ h) in
+    let low = f.0 in
+    let there : 2 + n ≡ head.0 - 1 = omega arith in
+    (omega arith, omega arith, ap (slice_index bs) (sym there) ∙ f.1)
 
 head_by : (bs : List ℕ) (label : Option (ℕ × List ℕ)) (head : ℕ × List ℕ) (t : Bool)
     → (if t then option_and_then (head_after (drop 2 bs)) label else None) ≡ Some head
@@ -176,42 +164,20 @@ head_after_is d p prefix nested head n u at is n_is =
     ∙ ap (past_head gfm (head_end text e)) left ∙ after_by gfm text e
     ∙ ap (after_head gfm text) (read_later gfm (offset h) head.0 (drop e text) ∙ ap (λ (k : ℕ). offset h + k) (sym n_is))
 
-no_mark_by : (t u v : Bool) (n : ℕ) (o : Option (ℕ × List ℕ)) → (if t && (u && v) then Some n else None) ≡ None
-    → (if t && u then (if v then o else None) else None) ≡ None
-no_mark_by true true true n o h = cc
-no_mark_by true true false n o h = refl
-no_mark_by true false v n o h = refl
-no_mark_by false u v n o h = refl
-
 -- without a `[^` none begins
 pub no_mark : (around : Context) (p : Place) → footnote_mark_at around.options p ≡ None → footnote_head_at around p ≡ None
 unfolding footnote_head_at footnote_head
-no_mark around p h =
-    no_mark_by (has around.options footnotes) (nat_lt (indent p.rest) 4) (begins_footnote_mark (unindented p).rest.left) (offset (unindented p))
-    (option_and_then (head_after (drop 2 (unindented p).rest.left)) (label_at (footnote_prefix around) false (drop 2 (unindented p).rest.left))) h
-
-marked_by : (t u v : Bool) (at n : ℕ) → (if t && (u && v) then Some at else None) ≡ Some n → (at ≡ n) × ((t && u) ≡ true)
-marked_by true true true at n h = let same : at ≡ n = cc in (same, refl)
-marked_by true true false at n h = cc
-marked_by true false v at n h = cc
-marked_by false u v at n h = cc
-
-if_true : (t : Bool) (o : Option (ℕ × List ℕ)) → t ≡ true → (if t then o else None) ≡ o
-if_true true o h = refl
-if_true false o h = cc
+no_mark around p h = grind (arith, h)
 
 -- with a `[^`, the bytes there decide whether one begins
 pub head_at_mark : (text : List ℕ) (around : Context) (p : Place) (n : ℕ) → IsPlaceOf text (unindented p) → footnote_mark_at around.options p ≡ Some n
     → (offset (unindented p) ≡ n) × (footnote_head_at around p ≡ footnote_at false around (drop n text)) × ((unindented p).rest.left ≡ drop n text)
 unfolding footnote_head_at
 head_at_mark text around p n i h =
-    let m = marked_by (has around.options footnotes) (nat_lt (indent p.rest) 4) (begins_footnote_mark (unindented p).rest.left) (offset (unindented p)) n h in
-    let left : (unindented p).rest.left ≡ drop n text = i.left ∙ ap (λ (k : ℕ). drop k text) m.0 in (
-      m.0,
-      if_true (has around.options footnotes && nat_lt (indent p.rest) 4) (footnote_at false around (unindented p).rest.left) m.1
-          ∙ ap (footnote_at false around) left,
-      left,
-    )
+    let at : offset (unindented p) ≡ n = grind (arith, h) in
+    let few : (has around.options footnotes && nat_lt (indent p.rest) 4) ≡ true = grind (arith, h) in
+    let left : (unindented p).rest.left ≡ drop n text = i.left ∙ ap (λ (k : ℕ). drop k text) at in
+    (at, rw (few, left) refl, left)
 
 -- a later offset is not in an earlier line
 pub line_after : (text : List ℕ) (s e : ℕ) → s ≤ e → s + line_len (drop s text) ≤ e + line_len (drop e text)

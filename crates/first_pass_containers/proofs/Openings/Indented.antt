@@ -33,9 +33,6 @@ quote_owed zero r s h = quote_byte r s r.left h
 quote_owed (suc o) r s h =
     let t : (suc o == 0) ≡ false = grind (arith, nat_tests) in ap (λ t. if t then past_quote_byte r r.left else None) t
 
-no_quote : (r s : Rest) → next_column r ≡ Some s → past_quote r ≡ None
-no_quote r s h = quote_owed r.owed r s h
-
 -- a line without a column has no indentation
 byte_none : (r : Rest) (bs : List ℕ) (n : ℕ) → column_of_byte r bs ≡ None → columns_of bs n ≡ 0
 byte_none r [] n h = refl
@@ -48,7 +45,7 @@ owed_none (suc o) r h = cc
 -- after a number of columns, if there are more
 left_by : (r : Rest) (o : Option Rest) → 0 < indent r → next_column r ≡ o → past_quote r ≡ None
 left_by r None more e = let n : indent r ≡ 0 = owed_none r.owed r e in absurd (omega arith)
-left_by r (Some s) more e = no_quote r s e
+left_by r (Some s) more e = quote_owed r.owed r s e
 
 more_by : (k : ℕ) (r : Rest) (o : Option Rest) → suc k < indent r → next_column r ≡ o
     → ((s : Rest) → k < indent s → past_quote (after_columns k s) ≡ None) → past_quote (after_columns (suc k) r) ≡ None
@@ -98,20 +95,13 @@ unfolding prefix
 quote_read r mark n i = ap (λ q. option_map (after_columns 1) (past_quote q)) (quote_mark r mark n i)
 
 -- what the call that takes a block quote marker says of the prefix
-taken_none : (o : Option Rest) (t : Bool) (old new : Rest) → t ≡ false
-    → MatchOption o ((t ≡ false) × (new ≡ old)) (λ next. (t ≡ true) × (new ≡ after_columns 1 next)) → option_map (after_columns 1) o ≡ None
-taken_none None t old new is h = refl
-taken_none (Some s) t old new is h = cc
+taken_by : (o : Option Rest) (t : Bool) (old new : Rest)
+    → MatchOption o ((t ≡ false) × (new ≡ old)) (λ next. (t ≡ true) × (new ≡ after_columns 1 next))
+    → option_map (after_columns 1) o ≡ (if t then Some new else None)
+taken_by None t old new h = rw h.0 refl
+taken_by (Some s) t old new h = rw (h.0, h.1) refl
 
-taken_some : (o : Option Rest) (t : Bool) (old new : Rest) → t ≡ true
-    → MatchOption o ((t ≡ false) × (new ≡ old)) (λ next. (t ≡ true) × (new ≡ after_columns 1 next)) → option_map (after_columns 1) o ≡ Some new
-taken_some None t old new is h = cc
-taken_some (Some s) t old new is h = ap Some (sym h.1)
-
-pub quote_none : (r mark new : Rest) (n : ℕ) (t : Bool) → IsIndented r mark n → t ≡ false
-    → MatchOption (past_quote mark) ((t ≡ false) × (new ≡ mark)) (λ next. (t ≡ true) × (new ≡ after_columns 1 next)) → prefix (BlockQuote None) r ≡ None
-quote_none r mark new n t i is h = quote_read r mark n i ∙ taken_none (past_quote mark) t mark new is h
-
-pub quote_some : (r mark new : Rest) (n : ℕ) (t : Bool) → IsIndented r mark n → t ≡ true
-    → MatchOption (past_quote mark) ((t ≡ false) × (new ≡ mark)) (λ next. (t ≡ true) × (new ≡ after_columns 1 next)) → prefix (BlockQuote None) r ≡ Some new
-quote_some r mark new n t i is h = quote_read r mark n i ∙ taken_some (past_quote mark) t mark new is h
+pub quote_taken : (r mark new : Rest) (n : ℕ) (t : Bool) → IsIndented r mark n
+    → MatchOption (past_quote mark) ((t ≡ false) × (new ≡ mark)) (λ next. (t ≡ true) × (new ≡ after_columns 1 next))
+    → prefix (BlockQuote None) r ≡ (if t then Some new else None)
+quote_taken r mark new n t i h = quote_read r mark n i ∙ taken_by (past_quote mark) t mark new h

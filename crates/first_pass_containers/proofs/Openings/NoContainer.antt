@@ -34,25 +34,19 @@ plain_begins_none r owed plain = record {
 }
 
 -- no footnote definition begins without a `[`
-no_bracket : (r q : Rest) → q ≡ r → begins left_bracket r.left ≡ false → begins_footnote_mark q.left ≡ false
-no_bracket r q same h = rw (same, h) refl
-
-unmarked : (t u v : Bool) (n : ℕ) → v ≡ false → (if t && (u && v) then Some n else None) ≡ None
-unmarked t u v n h = rw (h, and-false u, and-false t) refl
+no_bracket : (r q : Rest) (t u : Bool) (n : ℕ) → q ≡ r → begins left_bracket r.left ≡ false
+    → (if t && (u && begins_footnote_mark q.left) then Some n else None) ≡ None
+no_bracket r q t u n same h = rw (same, h, and-false u, and-false t) refl
 
 pub no_footnote : (around : Context) (p : Place) → BeginsNoContainer p.rest → footnote_head_at around p ≡ None
 no_footnote around p h =
-    no_mark around p (unmarked (has around.options footnotes) (nat_lt (indent p.rest) 4) _ (offset (unindented p))
-    (no_bracket p.rest (all_taken p.rest) (inert_all p.rest h.owed h.inert) h.bracket))
+    no_mark around p (no_bracket p.rest (all_taken p.rest) (has around.options footnotes) (nat_lt (indent p.rest) 4) (offset (unindented p))
+    (inert_all p.rest h.owed h.inert) h.bracket)
 
 -- and no definition without a `:`
-no_colon : (n : ℕ) (r : Rest) → begins colon r.left ≡ false → definition_of n r ≡ None
-unfolding definition_of
-no_colon n r h = rw (h, and-false) refl
-
 no_definition : (r : Rest) → BeginsNoContainer r → definition_marker_at r ≡ None
-unfolding definition_marker_at
-no_definition r h = rw (inert_indent r h.owed h.inert) (no_colon 0 r h.colon)
+unfolding definition_marker_at definition_of
+no_definition r h = rw (inert_indent r h.owed h.inert, h.colon, and-false) refl
 
 no_marker : (may : Bool) (p : Place) → BeginsNoContainer p.rest → marker_where may p ≡ None
 no_marker true p h = no_definition p.rest h

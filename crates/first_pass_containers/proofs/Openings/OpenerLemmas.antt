@@ -2,6 +2,7 @@
 use Rattle.std.proofs.Common.{◌≡◌, ℕ, suc, ◌+◌, ◌==◌, Bool, true, false, ◌||◌, List, [], ◌∷◌, ◌++◌, length, map, slice_get, Option, Some, None}
 use Rattle.std.proofs.Common.{MatchOption, refl, sym, ap, subst, ◌∙◌, arith, if◌then◌else◌, append_assoc, length-append}
 use Rattle.std.proofs.lemmas.Bool.Decides.{nat_tests}
+use Rattle.std.proofs.Math.Bool.{or-false}
 use Rattle.std.specs.Option.{option_and_then}
 use Rattle.first_pass_items.specs.declared.item.Item.{Item}
 use Rattle.first_pass_items.specs.declared.item.ItemBody.{ItemBody}
@@ -24,7 +25,7 @@ use Rattle.first_pass_grammar.specs.OpenOrder.{is_in_item}
 use Rattle.first_pass_grammar.specs.Openers.{item_head, item_start, after_task, quote_head, quote_begun, definition_head, definition_start, Start, start_at}
 use Rattle.first_pass_grammar.specs.Skeleton.{Continues, Inside, AtPlace, TextOf, Opening, OpensNode, Opens, Level, may_define, opening_of, after_tag}
 use Rattle.first_pass_grammar.specs.Derivation.{Tables, node_of, list_flags}
-use Rattle.first_pass_grammar.specs.Completion.{Closed, OtherClosed, ParagraphAt, DefinitionClosed, TitleAt, lines_from, Frame, InContainer, InList}
+use Rattle.first_pass_grammar.specs.Completion.{Closed, DefinitionClosed, lines_from, Frame, InContainer, InList}
 use Rattle.first_pass_grammar.specs.Completion.{InDefinitions, containers_of, IsPlain}
 use Rattle.first_pass_completion.proofs.Completions.{fresh}
 use Rattle.first_pass_completion.proofs.ContainerSteps.{completes-quote, completes-list, completes-item}
@@ -33,11 +34,12 @@ use Rattle.first_pass_grammar.proofs.Sequences.Finishes.{CompletesAt}
 use Rattle.first_pass_completion.proofs.Flags.{completes-reflag_list}
 use Rattle.first_pass_completion.proofs.States.{open_nodes}
 use Rattle.first_pass_open.specs.Path.{path_in, path_of}
-use Rattle.first_pass_lists.specs.Closing.{loosened_at, loosened_by, top_body, may_begin_definition, is_list, is_list_of, empty_item_closed_by, empty_item_closed}
+use Rattle.first_pass_lists.specs.Closing.{loosened_at, loosened_by, top_body, may_begin_definition, is_list, is_list_of, empty_item_closed_by}
+use Rattle.first_pass_lists.specs.Closing.{empty_item_closed}
 use Rattle.first_pass_lists.specs.Closing.{list_finished, loosened_top, list_kept, begun, list_continued, definition_begun}
 use Rattle.first_pass_lists.specs.declared.list.ListMarker.{ListMarker}
 use Rattle.first_pass_lists.specs.declared.state.PassState.{PassState}
-use Rattle.first_pass_containers.specs.Positions.{ReadyOn, ReadyText, ReadyTagged}
+use Rattle.first_pass_containers.specs.Positions.{ReadyOn, ReadyTagged}
 use Rattle.first_pass_containers.specs.Starts.{marker_of, after_at, IsAfterMarker}
 use Rattle.first_pass_ready.specs.State.{frame_of, AreOpen, closed_in, ReadyAt}
 use Rattle.first_pass_ready.proofs.ClosedIn.{items_no_container, items_no_definitions, level_of, open_level}
@@ -48,20 +50,12 @@ use Rattle.first_pass_ready.proofs.BegunLemmas.{opened_too, depth_of, with_open,
 use Rattle.first_pass_ready.proofs.DefinitionOpened.{definition_is_open}
 use Rattle.first_pass_lists.proofs.NoEmptyItem.{item_opened}
 
-or_false : (a : Bool) → (a || false) ≡ a
-or_false true = refl
-or_false false = refl
-
 -- the opening of a quote opens a block, and ends any list at its line
 quote_away : (b : Option ItemBody) (closed : Closed) (p : Place) (kind : Option BlockQuoteKind) (following : List Place) (inside : Continues)
     → EndsListAt p.line b closed (OpensNode (quote_head p kind) inside following)
-quote_away None closed p kind following inside = tt
 quote_away (Some (ListBody flags list number)) closed p kind following inside = (refl, refl)
-quote_away (Some (DefinitionList flags)) OtherClosed p kind following inside = tt
-quote_away (Some (DefinitionList flags)) (ParagraphAt at) p kind following inside = tt
 quote_away (Some (DefinitionList flags)) (DefinitionClosed e blanks) p kind following inside = (refl, refl)
-quote_away (Some (DefinitionList flags)) (TitleAt e at) p kind following inside = tt
-quote_away (Some b) closed p kind following inside = tt
+quote_away b closed p kind following inside = tt
 
 -- the opening there, over the frames
 finished_opens : (d : Document) (defined : Tables) (old new : PassState) (p : Place) (lines : List Place) (opening : Opening)
@@ -141,20 +135,15 @@ ready_tagged d defined r p lines inside kind b =
       kind = Some kind;
       quote = top_opened (list_finished p.line r).tree (node_of (quote_start p) 0 (BlockQuoteBody (Some kind)));
       blank = now.blank;
-      ready = subst (λ z. ReadyAt d defined q.tree false (after_tag (around d z) lines).0 (after_tag (around d z) lines).1) (sym now.is_begun.path_is)
-          now.is_begun.ready;
+      ready = rw now.is_begun.path_is now.is_begun.ready;
     }
 
 -- the opening of an item opens a block. It ends a list of another byte, or a definition list, where the item starts.
 item_away : (b : Option ItemBody) (closed : Closed) (p : Place) (byte number columns : ℕ) (inside : Continues) (lines : List Place)
     → is_list_of byte b ≡ false → EndsListAt (offset p) b closed (OpensNode (item_head p byte number columns) inside lines)
-item_away None closed p byte number columns inside lines other = tt
 item_away (Some (ListBody flags list n)) closed p byte number columns inside lines other = (refl, other)
-item_away (Some (DefinitionList flags)) OtherClosed p byte number columns inside lines other = tt
-item_away (Some (DefinitionList flags)) (ParagraphAt at) p byte number columns inside lines other = tt
 item_away (Some (DefinitionList flags)) (DefinitionClosed e blanks) p byte number columns inside lines other = (refl, refl)
-item_away (Some (DefinitionList flags)) (TitleAt e at) p byte number columns inside lines other = tt
-item_away (Some b) closed p byte number columns inside lines other = tt
+item_away b closed p byte number columns inside lines other = tt
 
 -- The innermost open node is a list.
 record InnermostList (f : Forest Item) : Type 0 where
@@ -240,12 +229,11 @@ module _ (d : Document) (defined : Tables) (r : PassState) (p : Place) (lines : 
       (open_below d.options r.tree.nodes _ ix.0 rest frames (λ i h. ap (option_and_then (frame_of d.options)) (body-other r.tree.nodes ix.0 i change h))
       k.below.1 o.1) in (
         (loose_frame d.options r.tree ix body l.flags (InList b loose) l.body refl o.0, outer, refl),
-        subst (λ z. CompletesAt d defined (tail (closed_in r.tree) true) (InList b loose ∷ frames) z (ix.0 ∷ map (λ i. i.0) rest) (Inside p) lines) (sym nodes)
-            (completes-reflag_list d (open_nodes defined frames r.tree.nodes (map (λ i. i.0) rest)) (tail (closed_in r.tree) true) b loose ix.0
+        rw nodes (completes-reflag_list d (open_nodes defined frames r.tree.nodes (map (λ i. i.0) rest)) (tail (closed_in r.tree) true) b loose ix.0
             (Inside p) lines k),
         loosened_spine r.tree ix (body_at r.tree.nodes ix.0) ∙ l.spine,
       )
-  goes_on_as false l b loose frames o k = ((o.0 ∙ ap (λ z. Some (InList b z)) (sym (or_false loose)), o.1, refl), k, l.spine)
+  goes_on_as false l b loose frames o k = ((o.0 ∙ ap (λ z. Some (InList b z)) (sym (or-false loose)), o.1, refl), k, l.spine)
 
   item_by : (run : Bool) (l : InnermostList r.tree) (frames : List Frame) → l.byte ≡ byte → AreOpen d.options r.tree.nodes (l.list ∷ l.rest) frames
       → Opens d (lvl frames (tail (closed_in r.tree) run)) p lines opening
@@ -303,8 +291,7 @@ module _ (d : Document) (defined : Tables) (r : PassState) (p : Place) (lines : 
       (subst (λ z. CompletesAt d defined (tail (closed_in r.tree) r.blank) ready.frames r.tree.nodes (map (λ (i : TreeIndex). i.0) z) (Inside p) lines) spine
       ready.completes) in
       record {
-        is_begun = subst (λ (z : Forest Item). IsBegun d defined (with_open z item) (ListItem columns) inside lines (path_of d.options r.tree))
-            (sym kept.0) done;
+        is_begun = rw kept.0 done;
         blank = kept.1;
         none = kept.2;
       }
@@ -321,17 +308,14 @@ module _ (d : Document) (defined : Tables) (r : PassState) (p : Place) (lines : 
   unfolding list_continued empty_item_closed
   item_is_open =
       let same : empty_item_closed_by r r.begin_list_item ≡ r = ap (empty_item_closed_by r) may.none in
-      subst (λ q. ItemIsOpen (begun (offset p) (ListItemBody columns)
-      (if is_list_of byte (top_body q.tree) then list_kept q else begun (offset p) (ListBody (list_flags true) byte number) (list_finished (offset p) q))))
-      (sym same)
-      (item_is_open_by (is_list_of byte (top_body r.tree)) refl)
+      rw same (item_is_open_by (is_list_of byte (top_body r.tree)) refl)
 
 -- the marker of a list item that was read
 pub item_found : (o : Option ((ℕ × ℕ × ℕ) × Rest)) (found : Option ListMarker) (m : ListMarker) (old new : Rest) → found ≡ Some m
     → MatchOption o ((found ≡ None) × (new ≡ old)) (λ item. (found ≡ Some (marker_of item.0)) × (new ≡ item.1)) → o ≡ Some ((m.byte, m.number, m.indent), new)
-item_found None found m old new e h = (let z : None ≡ Some m = sym h.0 ∙ e in cc)
-item_found (Some item) found m old new e h = (let z : Some (marker_of item.0) ≡ Some m = sym h.0 ∙ e in let w : marker_of item.0 ≡ m = cc in
-    ap (λ (k : ListMarker). Some ((k.byte, k.number, k.indent), item.1)) w ∙ ap (λ (q : Rest). Some ((m.byte, m.number, m.indent), q)) (sym h.1))
+item_found None found m old new e h = cc
+item_found (Some (item, rest)) found m old new e h =
+    let told : Some (marker_of item) ≡ Some m = sym h.0 ∙ e in let same : marker_of item ≡ m = cc in rw (← same, h.1) refl
 
 pub item_absent : (o : Option ((ℕ × ℕ × ℕ) × Rest)) (found : Option ListMarker) (old new : Rest)
     → found ≡ None → MatchOption o ((found ≡ None) × (new ≡ old)) (λ item. (found ≡ Some (marker_of item.0)) × (new ≡ item.1)) → (o ≡ None) × (new ≡ old)
@@ -372,10 +356,6 @@ ready_item d defined r p lines byte number columns marker rest b some =
     )
 
 -- a definition with something after its marker
-on_line : (d : Document) (path : List Container) (p : Place) (lines : List Place) (columns : ℕ) (rest : Rest) → is_blank_rest rest ≡ false
-    → opening_of d path p lines (definition_start p (columns, rest)) ≡ OpensNode (definition_head p columns) (Inside (at_rest p rest)) lines
-on_line d path p lines columns rest h = rw h refl
-
 pub ready_definition : (d : Document) (defined : Tables) (r : PassState) (p : Place) (lines : List Place) (columns : ℕ) (rest : Rest)
     → ContainerBegins d defined r p lines (definition_start p (columns, rest)) → may_begin_definition r.tree ≡ true → is_blank_rest rest ≡ false
     → (let q : PassState = definition_begun (offset p) columns r in ReadyAt d defined q.tree q.blank (Inside (at_rest p rest)) lines)
@@ -384,8 +364,7 @@ ready_definition d defined r p lines columns rest b takes some =
     let from : Continues = Inside (at_rest p rest) in
     let l : Level = level_of d.options r.tree r.blank in
     let opens : Opens d l p lines (OpensNode (definition_head p columns) from lines) =
-    subst (Opens d l p lines) (on_line d (path_of d.options r.tree) p lines columns rest some)
-    (begins_open d defined r p lines (definition_start p (columns, rest)) b) in
+    rw some at (begins_open d defined r p lines (definition_start p (columns, rest)) b) in
     let now = definition_is_open d defined r p lines lines columns from b.may takes opens in
     subst (λ t. ReadyAt d defined q.tree t from lines) (sym now.blank) now.is_begun.ready
 
@@ -398,8 +377,5 @@ after_opened (Some x) q mark none inside = (mark x refl, none, inside)
 pub ready_after : (d : Document) (defined : Tables) (r : PassState) (p : Place) (e : ℕ) (marker : Option Item) → line_end p ≡ e
     → (r.blank ≡ false) × (now : ReadyAt d defined r.tree false (past_task marker p) (lines_from d.text e)) × IsPlain now.frames
     → ReadyOn d defined r (after_at p e (after_task marker))
-ready_after d defined r p e None ends (blank, ready, plain) =
-    subst (λ (n : ℕ). ReadyAt d defined r.tree r.blank (Inside p) (lines_from d.text n)) (sym ends)
-    (subst (λ t. ReadyAt d defined r.tree t (Inside p) (lines_from d.text e)) (sym blank) ready)
-ready_after d defined r p e (Some x) ends (blank, ready, plain) =
-    subst (λ (n : ℕ). ReadyText d defined r x p (lines_from d.text n)) (sym ends) (record { blank = blank; ready = ready; plain = plain })
+ready_after d defined r p e None ends (blank, ready, plain) = rw (ends, blank) ready
+ready_after d defined r p e (Some x) ends (blank, ready, plain) = rw ends (record { blank = blank; ready = ready; plain = plain })

@@ -1,9 +1,9 @@
 -- The container that begins at a place, from the results of the calls.
-use Rattle.std.proofs.Common.{◌≡◌, ℕ, Bool, true, false, List, Option, Some, None, MatchOption, IsSomeAnd, refl, sym, ap, subst, ◌∙◌}
+use Rattle.std.proofs.Common.{◌≡◌, ℕ, Bool, true, false, Option, Some, None, MatchOption, IsSomeAnd, refl, sym, ap, subst, ◌∙◌}
 use Rattle.first_pass_items.specs.declared.option_set.Options.{Options}
 use Rattle.std.specs.Option.{option_map}
 use Rattle.first_pass_lines.specs.Rest.{Rest, after_columns}
-use Rattle.first_pass_lines.specs.Places.{Place, IsPlaceOf}
+use Rattle.first_pass_lines.specs.Places.{Place}
 use Rattle.first_pass_grammar.specs.declared.kind.Container.TheVariants.{BlockQuote}
 use Rattle.first_pass_grammar.specs.Containers.{prefix, at_rest}
 use Rattle.first_pass_grammar.specs.Kinds.{item_at}
@@ -15,7 +15,6 @@ use Rattle.first_pass_containers.specs.declared.openers.Opener.{Opener}
 use Rattle.first_pass_containers.specs.declared.openers.Opener.TheVariants.{Quote, Item as ItemOpener, Definition as DefinitionOpener}
 use Rattle.first_pass_containers.specs.Starts.{marker_of, OpenerMatches, StartMatches}
 use Rattle.first_pass_grammar.specs.Blocks.{Opener as ContainerOpener, QuoteMarker, ItemMarker, FootnoteMarker, DefinitionMarker}
-use Rattle.first_pass_grammar.specs.declared.kind.AfterMarker.{AfterMarker}
 
 -- the result of the call that finds the container at a place
 pub start_found : (o : Option Start) (found : Option FoundStart) (t : FoundStart) (old new : Place) → found ≡ Some t
@@ -41,28 +40,18 @@ opener_is (FootnoteMarker columns index label) t h = absurd h
 opener_is (DefinitionMarker columns) t h = h
 
 pub start_is : (s : Start) (t : FoundStart) → StartMatches s t → t ≡ start_told s
-start_is s t h =
-    let told : Opener → ℕ → AfterMarker → FoundStart = λ opener start after. record { opener = opener; start = start; after = after } in
-    ap (λ (o : Opener). told o t.start t.after) (opener_is s.head.opener t.opener h.opener)
-    ∙ ap (λ (n : ℕ). told (opener_found s.head.opener) n t.after) h.start ∙ ap (told (opener_found s.head.opener) s.head.start) h.after
+start_is s t h = rw (← opener_is s.head.opener t.opener h.opener, ← h.start, ← h.after) refl
 
 pub start_missing : (o : Option Start) (found : Option FoundStart) (old new : Place) → found ≡ None
     → MatchOption o ((found ≡ None) × (new ≡ old)) (λ s. IsSomeAnd found (StartMatches s) × (new ≡ at_rest old s.rest)) → (o ≡ None) × (new ≡ old)
 start_missing None found old new e h = (refl, h.1)
 start_missing (Some s) found old new e h = absurd (subst (λ f. IsSomeAnd f (StartMatches s)) e h.0)
 
-pub matches : {A : Type 0} (N : Type 0) (P : A → Type 0) (o : Option A) (s : A) → o ≡ Some s → P s → MatchOption o N P
-matches N P o s is h = subst (λ x. MatchOption x N P) (sym is) h
-
-pub matches_none : {A : Type 0} (N : Type 0) (P : A → Type 0) (o : Option A) → o ≡ None → N → MatchOption o N P
-matches_none N P o is h = subst (λ x. MatchOption x N P) (sym is) h
-
 -- the marker of a definition that was read
 pub definition_found : (o : Option (ℕ × Rest)) (found : Option ℕ) (n : ℕ) (old new : Rest) → found ≡ Some n
     → MatchOption o ((found ≡ None) × (new ≡ old)) (λ marker. (found ≡ Some marker.0) × (new ≡ marker.1)) → o ≡ Some (n, new)
-definition_found None found n old new e h = (let z : None ≡ Some n = sym h.0 ∙ e in cc)
-definition_found (Some marker) found n old new e h = (let z : Some marker.0 ≡ Some n = sym h.0 ∙ e in let w : marker.0 ≡ n = cc in
-    ap (λ (k : ℕ). Some (k, marker.1)) w ∙ ap (λ (q : Rest). Some (n, q)) (sym h.1))
+definition_found None found n old new e h = cc
+definition_found (Some (columns, rest)) found n old new e h = cc
 
 pub definition_absent : (o : Option (ℕ × Rest)) (found : Option ℕ) (old new : Rest)
     → found ≡ None → MatchOption o ((found ≡ None) × (new ≡ old)) (λ marker. (found ≡ Some marker.0) × (new ≡ marker.1)) → (o ≡ None) × (new ≡ old)
@@ -89,6 +78,3 @@ pub may_if : (options : Options) (may : Bool) (p : Place) (marker : ℕ × Rest)
     → start_at options may p ≡ Some (definition_start p marker) → may ≡ true
 may_if options true p marker item begins = refl
 may_if options false p marker item begins = absurd (none_begins options p marker (prefix (BlockQuote None) p.rest) refl item begins)
-
-pub same_place : (text : List ℕ) (p q : Place) → p ≡ q → IsPlaceOf text q → IsPlaceOf text p
-same_place text p q same i = subst (IsPlaceOf text) (sym same) i

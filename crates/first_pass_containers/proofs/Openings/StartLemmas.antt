@@ -45,13 +45,16 @@ use Rattle.first_pass_order.proofs.NamedLemmas.{item_named, definition_named, qu
 use Rattle.first_pass_order.proofs.WholeKept.{item_whole, quote_whole, child_whole}
 use Rattle.first_pass_order.proofs.DefinitionsWhole.{definition_whole}
 use Rattle.first_pass_order.proofs.CountLemmas.{item_count, definition_count, quote_count, child_count, left_before, offset_before, mark_shorter}
-use Rattle.first_pass_containers.proofs.Order.CountSteps.{container_count}
+use Rattle.first_pass_containers.proofs.LineByLine.EnteredLines.{noted}
+use Rattle.first_pass_grammar.specs.Order.{GrowsBy}
+use Rattle.first_pass_containers.specs.Positions.{GrowsTo}
 use Rattle.first_pass_containers.proofs.Order.OrderSteps.{offset_later, upto_later, ordered_on, top_begun, ordered_item, ordered_definition_in, ordered_quote}
 use Rattle.first_pass_containers.proofs.Order.OrderSteps.{mark_stands, ordered_container, ordered_empty_item, quote_stands, place_before_end, NewBlock}
-use Rattle.first_pass_containers.proofs.Order.OrderSteps.{stands_later}
+use Rattle.first_pass_containers.proofs.Order.OrderSteps.{stands_between}
 use Rattle.first_pass_ready.proofs.ClosedIn.{takes_same}
-use Rattle.first_pass_containers.proofs.Openings.OpenerLemmas.{ready_item, ready_definition, ready_quote, ready_tagged, after_opened, ready_after, ContainerBegins}
-use Rattle.first_pass_containers.proofs.Openings.EmptyItems.{IsNoParagraph, empty_item_read, ready_empty_item, ready_empty_definition}
+use Rattle.first_pass_containers.proofs.Openings.OpenerLemmas.{ready_item, ready_definition, ready_quote, ready_tagged, after_opened, ready_after}
+use Rattle.first_pass_containers.proofs.Openings.OpenerLemmas.{ContainerBegins}
+use Rattle.first_pass_containers.proofs.Openings.EmptyItems.{empty_item_read, ready_empty_item, ready_empty_definition}
 use Rattle.first_pass_grammar.specs.Skeleton.{Inside}
 use Rattle.first_pass_containers.specs.declared.openers.Start.{Start as FoundStart}
 use Rattle.first_pass_open.specs.Between.{MarkerBetween}
@@ -61,18 +64,19 @@ pub mark_by : (b : ItemBody) → is_task_marker b ≡ true → is_paragraph_body
 mark_by ParagraphBody h = cc
 mark_by b h = refl
 
-no_paragraph : (marker : Option Item) → ((x : Item) → marker ≡ Some x → is_task_marker x.body ≡ true) → IsNoParagraph marker
-no_paragraph marker task x some = mark_by x.body (task x some)
+-- the number of nodes that are added with an item with something after its markers, which end at two offsets
+container_count : (text : List ℕ) (line mid e : ℕ) (q : Place) (first new : List (ℕ × Item)) (marker : Option Item)
+    → GrowsBy line mid first new → line ≤ mid → MarkerBetween text mid (offset q) marker → ((x : Item) → marker ≡ Some x → mid < offset q)
+    → GrowsTo text line first new (after_at q e (after_task marker))
+container_count text line mid e q first new None grows order stands before = (let later : mid ≤ offset q = stands in omega arith)
+container_count text line mid e q first new (Some x) grows order stands before =
+    record { from = mid; grows = grows; order = order; stands = stands; before = before x refl }
 
 -- no item is empty after a definition is opened
-kept_none : (t : Bool) (q : PassState) → q.begin_list_item ≡ None
-    → (if t then record q { tree = loosened_top q.tree q.tree.spine; blank = false } else q).begin_list_item ≡ None
-kept_none true q none = none
-kept_none false q none = none
-
 pub definition_none : (start columns : ℕ) (r : PassState) → r.begin_list_item ≡ None → (definition_begun start columns r).begin_list_item ≡ None
 unfolding definition_begun
-definition_none start columns r none = kept_none r.blank (with_tree r (definitions_opened r.tree r.tree.current)) none
+definition_none start columns r none =
+    let q : PassState = with_tree r (definitions_opened r.tree r.tree.current) in (noted q (loosened_top q.tree q.tree.spine) q.blank refl).1 ∙ none
 
 pub definition_top : (start columns : ℕ) (r : PassState) → top_body (definition_begun start columns r).tree ≡ Some (DefinitionListDefinition columns)
 unfolding definition_begun
@@ -132,15 +136,12 @@ module _ (source : Source) (r : PassState) (p : Place) (utf8 : IsUtf8 source.tex
     abbrev opened_item : PassState
     opened_item = item_opened (offset p) byte number columns r
 
-    task : (marker : Option Item) → marker ≡ (task_after source.options p.line following).0 → task_after source.options p.line following ≡ (marker, rest)
-    task marker same = ap (λ (o : Option Item). (o, rest)) (sym same)
-
     begins_with : (names : Names) (defined : Tables) (marker : Option Item) → marker ≡ (task_after source.options p.line following).0
         → ReadyAt (doc names) defined r.tree r.blank (Inside p) (lines_from text (line_end p))
         → ContainerBegins (doc names) defined r p (lines_from text (line_end p)) (item_start p (byte, number, columns) (marker, rest))
     begins_with names defined marker same =
         begins_as names defined (item_start p (byte, number, columns) (marker, rest))
-        (begins ∙ ap (λ t. Some (item_start p (byte, number, columns) t)) (task marker same))
+        (begins ∙ ap (λ (o : Option Item). Some (item_start p (byte, number, columns) (o, rest))) (sym same))
 
     is_task : (marker : Option Item) → marker ≡ (task_after source.options p.line following).0 → (x : Item) → marker ≡ Some x → is_task_marker x.body ≡ true
     is_task marker same x some = mark_is_task source.options p.line following x (sym same ∙ some)
@@ -208,12 +209,13 @@ module _ (source : Source) (r : PassState) (p : Place) (utf8 : IsUtf8 source.tex
           record {
             ready = λ names defined ready.
                 ready_empty_item (doc names) defined r p (lines_from text e) (marker_of (byte, number, columns)) marker rest e
-                (begins_with names defined marker same ready) (no_paragraph marker (is_task marker same))
+                (begins_with names defined marker same ready) (λ x some. mark_by x.body (is_task marker same x some))
                 (record { blank = over; next = start_of-lines text e ends.0 });
             order = λ ordered.
                 inl (ordered_empty_item text (offset p) e (ListItemBody columns) (list_continued (offset p) byte number r) marker opened_item.blank refl ends
                 (ordered_item text r p.line (offset p) byte number columns (omega arith) at.within at.boundary none ordered.1)
-                (stands_later text (offset p) (offset (at_rest p rest)) e marker (omega (arith, there, j.1)) (task_stands (offset p) marker same mark)));
+                (stands_between text (offset p) (offset p) (offset (at_rest p rest)) e marker (omega arith) (omega (arith, there, j.1))
+                (task_stands (offset p) marker same mark)));
             node_bound = λ first grows.
                 let two = item_count (offset p) byte number columns r in
                 let one = child_count opened_item.tree marker in
@@ -265,9 +267,7 @@ module _ (source : Source) (r : PassState) (p : Place) (utf8 : IsUtf8 source.tex
           (j.0, refl, j.1),
           record {
             ready = λ names defined ready.
-                subst (λ (n : ℕ). ReadyAt (doc names) defined (opened_quote None).tree
-                (opened_quote None).blank (Inside (at_rest p inside)) (lines_from text n))
-                (sym j.1) (ready_quote (doc names) defined r p (lines_from text (line_end p)) inside (begins_kind names defined None tag ready));
+                rw j.1 (ready_quote (doc names) defined r p (lines_from text (line_end p)) inside (begins_kind names defined None tag ready));
             order = λ ordered. (
               ordered.0,
               ordered_on text (opened_quote None).tree p.line (quote_start p) (offset (at_rest p inside))
@@ -322,8 +322,7 @@ module _ (source : Source) (r : PassState) (p : Place) (utf8 : IsUtf8 source.tex
           (j.0, refl, j.1),
           record {
             ready = λ names defined ready.
-                subst (λ (n : ℕ). ReadyAt (doc names) defined opened_definition.tree opened_definition.blank (Inside (at_rest p rest)) (lines_from text n))
-                (sym j.1) (ready_definition (doc names) defined r p (lines_from text (line_end p)) columns rest
+                rw j.1 (ready_definition (doc names) defined r p (lines_from text (line_end p)) columns rest
                 (begins_as names defined (definition_start p (columns, rest)) begins ready) takes some);
             order = λ ordered.
                 ordered_container source.options text opened_definition (offset p) (line_end p) (at_rest p rest) None

@@ -1,5 +1,5 @@
 -- A block quote with a tag: what it ends, the blank lines that it counts, and the line after its tag.
-use Rattle.std.proofs.Common.{◌≡◌, inl, inr, ℕ, ◌+◌, nat_lt, ◌&&◌, Bool, true, false, List, [], ◌∷◌, length, drop, slice_get, Option, Some, None, refl}
+use Rattle.std.proofs.Common.{◌≡◌, inl, inr, ℕ, ◌+◌, Bool, true, false, List, [], ◌∷◌, length, drop, slice_get, Option, Some, None, refl}
 use Rattle.std.proofs.Common.{sym, ap, subst, ◌∙◌, if◌then◌else◌}
 use Rattle.std.proofs.lemmas.Bool.{cases_lt}
 use Rattle.std.specs.Option.{option_and_then}
@@ -8,21 +8,19 @@ use Rattle.first_pass_items.specs.declared.item.BlockQuoteKind.{BlockQuoteKind}
 use Rattle.first_pass_items.specs.declared.item.ItemBody.TheVariants.{BlockQuote as BlockQuoteBody}
 use Rattle.first_pass_items.specs.declared.option_set.Options.{Options}
 use Rattle.first_pass_tree.specs.declared.tree_index.TreeIndex.{TreeIndex}
-use Rattle.first_pass_tree.specs.Forest.{Forest, body_at}
-use Rattle.first_pass_lines.specs.Rest.{indent}
+use Rattle.first_pass_tree.specs.Forest.{body_at}
 use Rattle.first_pass_lines.specs.Lines.{line_len}
-use Rattle.first_pass_lines.specs.Places.{Place, line_rest, line_place, place_at}
+use Rattle.first_pass_lines.specs.Places.{Place, line_rest, place_at}
 use Rattle.first_pass_lines.proofs.LineFacts.{lines_at-line, lines_at-end}
 use Rattle.first_pass_grammar.specs.Derivation.{Tables}
-use Rattle.first_pass_grammar.specs.Containers.{Context, at_rest, front}
+use Rattle.first_pass_grammar.specs.Containers.{Context, front}
 use Rattle.first_pass_grammar.specs.declared.kind.Container.TheVariants.{BlockQuote}
-use Rattle.first_pass_grammar.specs.Kinds.{Continued, continued, unindented, interrupts, is_ordinary_after_tag}
+use Rattle.first_pass_grammar.specs.Kinds.{unindented, interrupts, is_ordinary_after_tag}
 use Rattle.first_pass_grammar.specs.Leaves.{Document}
 use Rattle.first_pass_grammar.specs.Skeleton.{Continues, Line, AtPlace, OnlyALeaf, after_tag}
-use Rattle.first_pass_grammar.specs.Completion.{lines_from, Closed, OtherClosed, ParagraphAt, DefinitionClosed, TitleAt, Frame, InContainer}
+use Rattle.first_pass_grammar.specs.Completion.{lines_from, Closed, OtherClosed, ParagraphAt, Frame, InContainer}
 use Rattle.first_pass_completion.proofs.Extending.{tail}
 use Rattle.first_pass_completion.proofs.Completions.{counted_after}
-use Rattle.first_pass_lists.specs.Closing.{top_body, is_list, popped, empty_item_closed_by, empty_item_closed, list_closed, gap_tree, gap_marked, list_finished}
 use Rattle.first_pass_lists.specs.declared.state.PassState.{PassState}
 use Rattle.first_pass_open.specs.Path.{path_of, context_of}
 use Rattle.first_pass_ready.specs.State.{frame_of, AreOpen, ReadyAt, Ready}
@@ -31,28 +29,12 @@ use Rattle.first_pass_open.proofs.PathLemmas.{front-end}
 use Rattle.first_pass_open.proofs.PlaceLemmas.{ends_past}
 use Rattle.first_pass_ready.proofs.StateLemmas.{ready_plain}
 
-left_none : (at : ℕ) (r : PassState) (t : Bool) → t ≡ false → (if t then popped at r else r) ≡ r
-left_none at r t is = rw is refl
-
-noted_none : (r : PassState) (f : Forest Item) (t : Bool) → t ≡ false → (if t then record r { tree = f; blank = false } else r) ≡ r
-noted_none r f t is = rw is refl
-
--- If a block quote is innermost, no item is empty and no blank line was read, a new block ends nothing.
-pub finishes_nothing : (at : ℕ) (r : PassState) (kind : Option BlockQuoteKind)
-    → top_body r.tree ≡ Some (BlockQuoteBody kind) → r.blank ≡ false → r.begin_list_item ≡ None → list_finished at r ≡ r
-unfolding list_finished empty_item_closed
-finishes_nothing at r kind quote blank none =
-    let item : empty_item_closed_by r r.begin_list_item ≡ r = ap (empty_item_closed_by r) none in
-    let left : list_closed at r ≡ r = left_none at r (is_list (top_body r.tree)) (ap is_list quote) in
-    ap (λ q. gap_marked (list_closed at q)) item ∙ ap gap_marked left ∙ noted_none r (gap_tree r.tree r.tree.spine) r.blank blank
-
--- a blank line directly in it does not count
+-- a blank line directly in a block quote does not count
 counts_quoted : (kind : Option BlockQuoteKind) (frames : List Frame) (closed : Closed)
     → counted_after (InContainer (BlockQuote kind) ∷ frames) (tail closed false) ≡ false
 counts_quoted kind frames OtherClosed = refl
 counts_quoted kind frames (ParagraphAt place) = refl
-counts_quoted kind frames (DefinitionClosed e blanks) = refl
-counts_quoted kind frames (TitleAt e place) = refl
+counts_quoted kind frames closed = refl
 
 pub quote_counts : (options : Options) (nodes : List (ℕ × Item)) (s : List TreeIndex) (frames : List Frame) (kind : Option BlockQuoteKind) (closed : Closed)
     → option_and_then (λ (ix : TreeIndex). body_at nodes ix.0) (slice_get s 0) ≡ Some (BlockQuoteBody kind) → AreOpen options nodes s frames
@@ -65,19 +47,9 @@ quote_counts options nodes (ix ∷ s) (frame ∷ frames) kind closed quote o =
     ap (λ f. counted_after (f ∷ frames) (tail closed false)) (sym same) ∙ counts_quoted kind frames closed
 
 -- At the end of the text no line belongs to it.
-end_by : (around : Context) (c : Continued) → (nat_lt (indent (line_rest [])) 4 && interrupts around c (line_rest [])) ≡ true
-unfolding interrupts
-end_by around c = refl
-
 pub tag_end : (around : Context) → is_ordinary_after_tag around (line_rest []) ≡ true
-tag_end around =
-    ap (λ r. nat_lt (indent r) 4 && interrupts around (continued around.path (line_rest [])) r) (front-end around.path)
-    ∙ end_by around (continued around.path (line_rest []))
-
-tag_by : (around : Context) (line : Place) (lines : List Place) (t : Bool) → is_ordinary_after_tag around line.rest ≡ t
-    → after_tag around (line ∷ lines) ≡ (if t then (Line, line ∷ lines)
-    else (AtPlace (unindented (at_rest line (front around.path line.rest))) OnlyALeaf, lines))
-tag_by around line lines t is = rw is refl
+unfolding interrupts
+tag_end around = rw (front-end around.path) refl
 
 -- the place where blocks continue after its tag, in the line at an offset
 tag_line : (around : Context) (text : List ℕ) (at : ℕ) (t : Bool) → is_ordinary_after_tag around (line_rest (drop at text)) ≡ t
@@ -86,17 +58,10 @@ tag_line : (around : Context) (text : List ℕ) (at : ℕ) (t : Bool) → is_ord
     else (AtPlace (unindented (place_at at (front around.path (line_rest (drop at text))))) OnlyALeaf, lines_from text (at + line_len (drop at text)))))
 tag_line around text at t is =
     elim (cases_lt at (length text)) [
-      | inl within ↦ (
-          let first = lines_at-line text at within in
-          ap (after_tag around) first ∙ tag_by around (line_place at (drop at text)) (lines_from text (at + line_len (drop at text))) t is
-          ∙ ap (λ z. if t then (Line, z)
-          else (AtPlace (unindented (place_at at (front around.path (line_rest (drop at text))))) OnlyALeaf, lines_from text (at + line_len (drop at text))))
-          (sym first))
+      | inl within ↦ let first = lines_at-line text at within in rw (first, is) refl
       | inr past ↦ (let none : lines_from text at ≡ [] = lines_at-end text at past in
           let over : t ≡ true = sym is ∙ ap (λ bs. is_ordinary_after_tag around (line_rest bs)) (ends_past text at past) ∙ tag_end around in
-          ap (after_tag around) none ∙ ap (λ z. (Line, z)) (sym none) ∙ ap (λ u. if u then (Line, lines_from text at)
-          else (AtPlace (unindented (place_at at (front around.path (line_rest (drop at text))))) OnlyALeaf, lines_from text (at + line_len (drop at text))))
-          (sym over))
+          rw (none, over) refl)
     ]
 
 -- the line after its tag, if it is read like any other

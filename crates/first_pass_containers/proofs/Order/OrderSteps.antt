@@ -23,7 +23,8 @@ use Rattle.first_pass_grammar.specs.Openers.{task_by, task_after, after_task}
 use Rattle.first_pass_grammar.specs.Derivation.{node_of}
 use Rattle.first_pass_grammar.specs.OpenOrder.{IsOrderedTo}
 use Rattle.first_pass_open.specs.OpenBlock.{with_child}
-use Rattle.first_pass_lists.specs.Closing.{state_with, top_body, is_list, is_item, may_begin_definition, empty_item_closed_by, empty_item_closed, list_finished, begun}
+use Rattle.first_pass_lists.specs.Closing.{state_with, top_body, is_list, is_item, may_begin_definition, empty_item_closed_by, empty_item_closed}
+use Rattle.first_pass_lists.specs.Closing.{list_finished, begun}
 use Rattle.first_pass_lists.specs.Closing.{list_continued, definition_begun, footnote_begun}
 use Rattle.first_pass_lists.specs.declared.state.PassState.{PassState}
 use Rattle.first_pass_containers.specs.Positions.{line_or, OrderedUpTo, OrderedIn, OrderedText, OrderedOn}
@@ -31,7 +32,7 @@ use Rattle.first_pass_containers.specs.Starts.{after_at}
 use Rattle.first_pass_order.specs.Ordered.{reached, AreNested, CanClose, IsOrderedAt, IsReadTo}
 use Rattle.first_pass_open.specs.Between.{AddsBetween, MarkerBetween}
 use Rattle.first_pass_open.proofs.PathLemmas.{get_front}
-use Rattle.first_pass_ready.proofs.OpenLemmas.{get_end}
+use Rattle.first_pass_ready.proofs.BegunLemmas.{with_open, top_opened}
 use Rattle.first_pass_open.proofs.PlaceLemmas.{all_keep, task_keeps, option_on, quote_less}
 use Rattle.first_pass_lists.proofs.NoEmptyItem.{list_finished_none, list_continued_none, item_opened}
 use Rattle.first_pass_order.proofs.OrderLemmas.{ordered_later, ordered_appended, ordered_added, ordered_begun, ordered_none}
@@ -54,22 +55,19 @@ pub upto_later : (text : List ℕ) (f : Forest Item) (a b : ℕ) → a ≤ b →
 upto_later text f a b low high (o, c) =
     (ordered_later text f a b low high o, record { nested = c.nested; last = c.last; title = title_later text f a b low c.title })
 
-by_list : (t : Bool) (text : List ℕ) (f : Forest Item) (line at : ℕ)
+-- order up to the start of a line is order up to a place in it, or up to that start
+ordered_in_line : (t : Bool) (text : List ℕ) (f : Forest Item) (line at : ℕ)
     → line ≤ at → at ≤ length text → OrderedUpTo text f line → OrderedUpTo text f (if t then line else at)
-by_list true text f line at low high o = o
-by_list false text f line at low high o = upto_later text f line at low high o
-
--- order up to the start of a line is order up to a place in it
-pub ordered_in_line : (text : List ℕ) (f : Forest Item) (line at : ℕ)
-    → line ≤ at → at ≤ length text → OrderedUpTo text f line → OrderedUpTo text f (line_or f line at)
-ordered_in_line text f line at low high o = by_list (is_list (top_body f)) text f line at low high o
+ordered_in_line true text f line at low high o = o
+ordered_in_line false text f line at low high o = upto_later text f line at low high o
 
 -- the same at a place in the line, which begins at a character boundary
 pub ordered_at_place : (text : List ℕ) (f : Forest Item) (start : ℕ) (p : Place) → p.line ≡ start → IsCharBoundary text start → IsPlaceOf text p
     → OrderedUpTo text f start → OrderedIn text f p
 ordered_at_place text f start p line boundary i o =
     let within = i.within in
-    (subst (IsCharBoundary text) (sym line) boundary, ordered_in_line text f p.line (offset p) (omega arith) within (subst (OrderedUpTo text f) (sym line) o))
+    let o' = ordered_in_line (is_list (top_body f)) text f p.line (offset p) (omega arith) within (subst (OrderedUpTo text f) (sym line) o) in
+    (subst (IsCharBoundary text) (sym line) boundary, o')
 
 -- an offset after the start of a line that is before the end of the text
 pub line_later : (text : List ℕ) (start far next : ℕ)
@@ -80,13 +78,9 @@ line_later text start far next within ends later boundary =
     let high = boundary.0 in
     (omega arith, omega arith)
 
-or_below : (t : Bool) (line at : ℕ) → line ≤ at → (if t then line else at) ≤ at
-or_below true line at h = h
-or_below false line at h = omega arith
-
 -- not after the place
 pub line_or-below : (f : Forest Item) (line at : ℕ) → line ≤ at → line_or f line at ≤ at
-line_or-below f line at h = or_below (is_list (top_body f)) line at h
+line_or-below f line at h = grind arith
 
 line_or-list : (f : Forest Item) (line at : ℕ) → is_list (top_body f) ≡ true → line_or f line at ≤ line
 line_or-list f line at h = (let e : line_or f line at ≡ line = rw h refl in omega arith)
@@ -97,25 +91,21 @@ pub ordered_on : (text : List ℕ) (f : Forest Item) (line a at : ℕ)
 ordered_on text f line a at none low high o =
     subst (OrderedUpTo text f) (let e : at ≡ line_or f line at = rw none refl in e) (upto_later text f a at low high o)
 
-none_reached : (o : Option ℕ) (at : ℕ) → o ≡ None → reached o at ≡ at
-none_reached o at none = ap (λ z. reached z at) none
-
 -- the state is in order if no item is empty
 pub ordered_tree : (text : List ℕ) (r : PassState) (at : ℕ) → r.begin_list_item ≡ None → IsOrderedAt text r at → IsOrderedTo text r.tree at
-ordered_tree text r at none o = subst (IsOrderedTo text r.tree) (none_reached r.begin_list_item at none) o.ordered
+ordered_tree text r at none o = subst (IsOrderedTo text r.tree) (ap (λ z. reached z at) none) o.ordered
 
 -- the innermost open node after one is opened
 pub top_begun : (start : ℕ) (body : ItemBody) (r : PassState) → top_body (begun start body r).tree ≡ Some body
-top_begun start body r = get_end r.tree.nodes (length r.tree.spine + 1, node_of start 0 body) [] (length r.tree.nodes) refl
+top_begun start body r = top_opened r.tree (node_of start 0 body)
 
 -- the same with a task list item marker in that node
-pub top_marked : (start : ℕ) (body : ItemBody) (r : PassState) (marker : Option Item) → top_body (with_child (begun start body r).tree marker) ≡ Some body
-top_marked start body r None = top_begun start body r
-top_marked start body r (Some x) =
-    let f : Forest Item = (begun start body r).tree in
-    let more : length f.nodes ≡ length r.tree.nodes + 1 = length-append r.tree.nodes ((length r.tree.spine + 1, node_of start 0 body) ∷ []) in
-    let within : length r.tree.nodes < length f.nodes = omega arith in
-    ap (option_map (λ (n : ℕ × Item). n.1.body)) (get_front f.nodes ((length f.spine + 1, x) ∷ []) (length r.tree.nodes) within) ∙ top_begun start body r
+pub marked_open : (g : Forest Item) (x : Item) (marker : Option Item) → top_body (with_child (with_open g x) marker) ≡ Some x.body
+marked_open g x None = top_opened g x
+marked_open g x (Some y) =
+    let f : Forest Item = with_open g x in
+    let within : length g.nodes < length f.nodes = omega (arith, length-append g.nodes ((length g.spine + 1, x) ∷ [])) in
+    ap (option_map (λ (n : ℕ × Item). n.1.body)) (get_front f.nodes ((length f.spine + 1, y) ∷ []) (length g.nodes) within) ∙ top_opened g x
 
 -- an item is opened at a place in a line
 pub ordered_item : (text : List ℕ) (r : PassState) (line start byte number columns : ℕ)
@@ -165,11 +155,10 @@ ordered_finished text r line at e start b =
     let same : empty_item_closed_by r r.begin_list_item ≡ r = ap (empty_item_closed_by r) b.none in
     let on : IsOrderedAt text (list_finished e r) start = elim b.ends [
       | inl (is, first) ↦
-          subst (λ z. IsOrderedAt text (list_finished z r) start) (sym is)
-          (ordered_list_finished text r a line start c.title (omega arith) (omega arith) high first
+          rw is (ordered_list_finished text r a line start c.title (omega arith) (omega arith) high first
           (λ h. line_or-list r.tree line at (sym (ap (λ (q : PassState). is_list (top_body q.tree)) same) ∙ h)) before)
-      | inr is ↦ subst (λ z. IsOrderedAt text (list_finished z r) start) (sym is)
-          (ordered_list_finished text r a start start c.title (omega arith) (omega arith) high b.boundary (λ h. omega arith) before)
+      | inr is ↦
+          rw is (ordered_list_finished text r a start start c.title (omega arith) (omega arith) high b.boundary (λ h. omega arith) before)
     ] in
     (on, outside_closes text (list_finished e r) start (list_finished_outside e r c.nested))
 
@@ -207,12 +196,13 @@ pub mark_stands : (text : List ℕ) (options : Options) (line : ℕ) (r : Rest) 
 mark_stands text options line r from u i low =
     mark_by text line r (if has options 16 then task_of r else None) from u (λ task h. option_on (has options 16) (task_of r) task h) i low
 
--- a marker that is before an offset is before a later one
-pub stands_later : (text : List ℕ) (from a b : ℕ) (marker : Option Item) → a ≤ b → MarkerBetween text from a marker → MarkerBetween text from b marker
-stands_later text from a b None low h = (let t : from ≤ a = h in let later : from ≤ b = omega arith in later)
-stands_later text from a b (Some x) low h =
-    (let m : x.«end» ≤ a = h.1.before in
-    (h.0, record { following = h.1.following; order = h.1.order; before = omega arith; starts = h.1.starts; ends = h.1.ends }))
+-- a marker that is between two offsets is between any before and after them
+pub stands_between : (text : List ℕ) (a b c e : ℕ) (marker : Option Item) → a ≤ b → c ≤ e → MarkerBetween text b c marker → MarkerBetween text a e marker
+stands_between text a b c e None low high h = let t : b ≤ c = h in let wider : a ≤ e = omega arith in wider
+stands_between text a b c e (Some x) low high h =
+    let first : b ≤ x.start = h.1.following in
+    let last : x.«end» ≤ c = h.1.before in
+    (h.0, record { following = omega arith; order = h.1.order; before = omega arith; starts = h.1.starts; ends = h.1.ends })
 
 -- an item with something after its markers
 pub ordered_container : (options : Options) (text : List ℕ) (q : PassState) (start e : ℕ) (p : Place) (marker : Option Item)
@@ -244,7 +234,10 @@ ordered_empty_item text start next body r marker blank item boundary (o, c) stan
         ordered = marked_by text f start next marker boundary.0 o stands;
         later = omega arith;
         within = boundary.0;
-        innermost = λ e is. (ap is_item (top_marked start body r marker) ∙ item, let same : next ≡ e = cc in subst (IsCharBoundary text) same boundary);
+        innermost = λ e is. (
+          ap is_item (marked_open r.tree (node_of start 0 body) marker) ∙ item,
+          let same : next ≡ e = cc in subst (IsCharBoundary text) same boundary,
+        );
       },
       tree_closes text (with_child f marker) next outside.0 outside.1,
     )
@@ -280,13 +273,6 @@ block_ordered text old new at start next o low fits within none =
     let low' : e ≤ at = before in
     ordered_block text old.tree new e next (fits e (omega arith)) within none o.ordered
 
--- a marker that may be after an offset may be after an earlier one
-stands_earlier : (text : List ℕ) (a b to : ℕ) (marker : Option Item) → a ≤ b → MarkerBetween text b to marker → MarkerBetween text a to marker
-stands_earlier text a b to None low h = (let t : b ≤ to = h in omega arith)
-stands_earlier text a b to (Some x) low h =
-    (let m : b ≤ x.start = h.1.following in
-    (h.0, record { following = omega arith; order = h.1.order; before = h.1.before; starts = h.1.starts; ends = h.1.ends }))
-
 -- the same for a paragraph, after a task list item marker or not
 pub text_ordered : (text : List ℕ) (old new : PassState) (at start next : ℕ) (marker : Option Item) → IsOrderedAt text old at
     → MarkerBetween text at start marker
@@ -294,21 +280,18 @@ pub text_ordered : (text : List ℕ) (old new : PassState) (at start next : ℕ)
     → IsOrderedAt text new next
 text_ordered text old new at start next marker o stands fits within none =
     let e : ℕ = reached old.begin_list_item at in
-    ordered_block text old.tree new e next (fits e (stands_earlier text e at start marker o.later stands)) within none o.ordered
-
-quote_start_before : (r s : Rest) → prefix (BlockQuote None) r ≡ Some s → length s.left < length (after_columns 3 r).left
-unfolding prefix
-quote_start_before r s is = quote_less (after_columns 3 r) s (past_quote (after_columns 3 r)) refl is
+    ordered_block text old.tree new e next (fits e (stands_between text e at start start marker o.later (omega arith) stands)) within none o.ordered
 
 -- the start of a block quote is between the place where it begins and the place inside it
 pub quote_stands : (text : List ℕ) (line at : ℕ) (r s : Rest)
     → IsUtf8 text → prefix (BlockQuote None) r ≡ Some s → IsPlaceOf text (place_at line r) → IsPlaceOf text (place_at line s) → at ≡ (after_columns 3 r).taken
     → (offset (place_at line r) ≤ line + at) × (line + at ≤ offset (place_at line s)) × IsCharBoundary text (line + at)
+unfolding prefix
 quote_stands text line at r s u is i j at_is =
     let q : Rest = after_columns 3 r in
     let k = columns_keep text 3 (place_at line r) u i in
     let a = offset_later text line r q i k (columns_shorter 3 r) in
-    let less = quote_start_before r s is in
+    let less = quote_less q s (past_quote q) refl is in
     let b = offset_later text line q s k j (omega arith) in
     (omega arith, omega arith, subst (λ n. IsCharBoundary text (line + n)) (sym at_is) k.boundary)
 

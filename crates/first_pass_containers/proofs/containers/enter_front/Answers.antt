@@ -1,29 +1,68 @@
 use Rattle.std.proofs.Common.{◌≡◌, inl, ℕ, ◌+◌, Bool, true, false, drop, Option, Some, None, if◌then◌else◌, is_some, IsUtf8, refl, sym, ap, subst, ◌∙◌, arith}
+use Rattle.std.proofs.Common.{inr, ◌≤◌, List, length, IsCharBoundary}
 use Rattle.first_pass_lines.specs.Lines.{blank_len, line_len}
 use Rattle.first_pass_lines.specs.Rest.{Rest}
-use Rattle.first_pass_lines.specs.Places.{Place, line_rest, place_at, line_end}
+use Rattle.first_pass_lines.specs.Places.{Place, line_rest, place_at}
 use Rattle.first_pass_open.proofs.FrontLemmas.{front_is}
 use Rattle.first_pass_grammar.specs.Leaves.{Document, document}
 use Rattle.first_pass_grammar.specs.Names.{Names}
 use Rattle.first_pass_grammar.specs.Derivation.{Tables}
-use Rattle.first_pass_grammar.specs.Skeleton.{Inside}
-use Rattle.first_pass_grammar.specs.Completion.{lines_from}
-use Rattle.first_pass_lists.specs.Closing.{empty_item_closed, footnote_ended}
+use Rattle.first_pass_lists.specs.Closing.{footnote_ended, is_footnote, popped, top_body}
 use Rattle.first_pass_lists.specs.declared.state.PassState.{PassState}
 use Rattle.first_pass_order.specs.Ordered.{IsReadTo}
 use Rattle.first_pass_containers.specs.Entering.{place_entered}
 use Rattle.first_pass_containers.specs.Positions.{OrderedUpTo}
-use Rattle.first_pass_ready.specs.State.{Ready, ReadyAt}
-use Rattle.first_pass_order.proofs.NamedLemmas.{AreReadNamed, blank_named, empty_item_closed_named}
-use Rattle.first_pass_order.proofs.WholeKept.{IsReadWhole, blank_whole, empty_item_closed_whole}
-use Rattle.first_pass_order.proofs.CountLemmas.{count, empty_item_closed_count, blank_count}
+use Rattle.first_pass_order.proofs.NamedLemmas.{AreReadNamed, blank_named, empty_item_closed_named, popped_named}
+use Rattle.first_pass_order.proofs.WholeKept.{IsReadWhole, blank_whole, empty_item_closed_whole, popped_plain_whole}
+use Rattle.first_pass_order.proofs.CountLemmas.{count, empty_item_closed_count, blank_count, popped_count}
 use Rattle.first_pass_containers.proofs.LineByLine.EnteredLines.{entered_whole, ordered_blank_line, ordered_other_line}
 use Rattle.first_pass_containers.proofs.Order.OrderSteps.{ordered_at_place}
 use Rattle.first_pass_ready.proofs.LineLemmas.{IsSettled, settled, at_line, blank_line_read, line_entered, line_kept}
 use Rattle.first_pass_lists.proofs.NoEmptyItem.{finished_none}
-use Rattle.first_pass_containers.proofs.Order.EndedLemmas.{ended_count, ended_named, ended_whole, ended_ordered, ended_unblank}
+use Rattle.first_pass_items.specs.declared.option_set.Options.{Options}
+use Rattle.first_pass_grammar.specs.Containers.{in_old_footnote}
+use Rattle.first_pass_open.specs.Path.{path_of}
+use Rattle.first_pass_ready.proofs.OldFootnotes.{ended_as, in_old}
+use Rattle.first_pass_order.proofs.Nests.{note_untitled}
+use Rattle.first_pass_order.proofs.PopOrder.{read_popped}
 use Rattle.first_pass_containers.proofs.containers.enter_front.Goals as goal
 use Rattle.first_pass_containers.proofs.containers.enter_front.Goals.{After-is_some}
+
+-- ---- a footnote definition in the old form that ends at a line: names, whole tables, order and the number of nodes
+
+-- a property of the state that holds before and after the innermost open node is closed, holds here
+ended_holds : (options : Options) (e : ℕ) (r : PassState) (P : PassState → Type 0) → P r
+    → (is_footnote (top_body r.tree) ≡ true → P (popped e r)) → P (footnote_ended options e r)
+ended_holds options e r P here closed = elim (ended_as options e r) [
+  | inl stays ↦ subst P (sym stays.0) here
+  | inr left ↦ subst P (sym left.0) (closed left.3)
+]
+
+ended_count : (options : Options) (e : ℕ) (r : PassState) → count (footnote_ended options e r) ≤ count r
+ended_count options e r = ended_holds options e r (λ q. count q ≤ count r) (omega arith) (λ note. popped_count e (count r) r (omega arith))
+
+ended_named : (options : Options) (names : Names) (e : ℕ) (r : PassState) → AreReadNamed names r → AreReadNamed names (footnote_ended options e r)
+ended_named options names e r h = ended_holds options e r (AreReadNamed names) h (λ note. popped_named names e r h)
+
+ended_whole : (options : Options) (names : Names) (e : ℕ) (r : PassState) → IsReadWhole names r → IsReadWhole names (footnote_ended options e r)
+ended_whole options names e r h =
+    ended_holds options e r (IsReadWhole names) h (λ note. popped_plain_whole names e r (note_untitled r.tree note) h)
+
+ended_ordered : (options : Options) (text : List ℕ) (e : ℕ) (r : PassState) → e ≤ length text → IsCharBoundary text e → IsReadTo text r e
+    → IsReadTo text (footnote_ended options e r) e
+ended_ordered options text e r within boundary h =
+    let here : e ≤ e = omega arith in
+    ended_holds options e r (λ q. IsReadTo text q e) h (λ note. read_popped text r e e here within boundary h)
+
+-- without a counting blank line, nothing ends if a footnote definition in the old form is innermost
+ended_unblank : (options : Options) (e : ℕ) (old closed : PassState) → (in_old_footnote (path_of options old.tree) ≡ true → old.blank ≡ false)
+    → closed ≡ old → footnote_ended options e closed ≡ old
+ended_unblank options e old closed none same = rw same (elim (ended_as options e old) [
+  | inl stays ↦ stays.0
+  | inr left ↦ (let both = sym left.2 ∙ none (in_old options old left.1 left.3) in cc)
+])
+
+-- ---- the line that is entered
 
 -- the rest of the line, and whether it is blank
 abbrev left : After-is_some → Rest
@@ -83,22 +122,18 @@ returns-then-is_some-clause-entered c =
     record {
       ready = λ names defined ready.
           let d : Document = document text source.options names in
-          subst (λ q. Ready d defined q (lines_from text (start + line_len (drop start text)))) (sym c.read_blank_line.ensures)
-          (blank_line_read d defined _ now start _ (settled_line a names defined) (blank a ∙ c.if-is_some.true) ready);
+          rw c.read_blank_line.ensures (blank_line_read d defined _ now start _ (settled_line a names defined) (blank a ∙ c.if-is_some.true) ready);
       order = λ ordered. inl (subst (λ (q : PassState). IsReadTo text q (start + line_len (drop start text))) (sym c.read_blank_line.ensures)
           (ordered_blank_line options text c.args.state.now now start (subst IsUtf8 c.as_bytes.ensures.value c.as_bytes.ensures.utf8) w
           c.requires.boundary
-          (λ o. subst (λ (q : PassState). IsReadTo text q start) (sym is)
-          (ended_ordered options text start closed (omega arith) c.requires.boundary (kept.order text (omega arith) c.requires.boundary o)))
+          (λ o. rw is (ended_ordered options text start closed (omega arith) c.requires.boundary (kept.order text (omega arith) c.requires.boundary o)))
           (λ h uncounted. is ∙ ended_unblank options start c.args.state.now closed uncounted
           (kept.all_kept (entered_whole options text c.args.state.now start c.args.continued
           _ (left a) refl c.requires.front.within c.requires.front.taken
           c.requires.front.stops h).0)) ordered));
       node_bound = λ first grows. omega arith;
-      named = λ names h. subst (AreReadNamed names) (sym c.read_blank_line.ensures) (blank_named names now
-          (subst (AreReadNamed names) (sym is) (ended_named options names start closed (kept.named names h))));
-      tables = λ names h. subst (IsReadWhole names) (sym c.read_blank_line.ensures) (blank_whole names now
-          (subst (IsReadWhole names) (sym is) (ended_whole options names start closed (kept.tables names h))));
+      named = λ names h. rw c.read_blank_line.ensures (blank_named names now (rw is (ended_named options names start closed (kept.named names h))));
+      tables = λ names h. rw c.read_blank_line.ensures (blank_whole names now (rw is (ended_whole options names start closed (kept.tables names h))));
     }
 
 pub returns-clause-entered : goal.returns-clause-entered
@@ -127,21 +162,19 @@ returns-clause-entered c =
       record {
         ready = λ names defined ready.
             let d : Document = document text source.options names in
-            subst (λ (q : PassState). ReadyAt d defined q.tree q.blank (Inside p) (lines_from text (line_end p))) (sym c.finish_empty_list_item.ensures)
-            (subst (λ n. ReadyAt d defined (empty_item_closed now).tree (empty_item_closed now).blank (Inside p) (lines_from text n)) (sym here.1)
-            (line_entered d defined _ now start _ (settled_line a names defined) (blank a ∙ c.if-is_some.false) ready));
+            rw (c.finish_empty_list_item.ensures, here.1)
+            (line_entered d defined _ now start _ (settled_line a names defined) (blank a ∙ c.if-is_some.false) ready);
         order = λ ordered. ordered_at_place text _ start p refl c.requires.boundary here.0
             (subst (λ (q : PassState). OrderedUpTo text q.tree start) (sym c.finish_empty_list_item.ensures)
             (ordered_other_line options text c.args.state.now now start
-            (λ o. subst (λ (q : PassState). IsReadTo text q start) (sym is)
-            (ended_ordered options text start closed (omega arith) c.requires.boundary (kept.order text (omega arith) c.requires.boundary o)))
+            (λ o. rw is (ended_ordered options text start closed (omega arith) c.requires.boundary (kept.order text (omega arith) c.requires.boundary o)))
             (λ h. let some = (entered_whole source.options text c.args.state.now start c.args.continued _ (left a)
             refl c.requires.front.within c.requires.front.taken c.requires.front.stops h).1 in
             let none = blank a ∙ c.if-is_some.false in cc) ordered));
         node_bound = λ first grows. omega arith;
-        named = λ names h. subst (AreReadNamed names) (sym c.finish_empty_list_item.ensures) (empty_item_closed_named names now
-            (subst (AreReadNamed names) (sym is) (ended_named options names start closed (kept.named names h))));
-        tables = λ names h. subst (IsReadWhole names) (sym c.finish_empty_list_item.ensures) (empty_item_closed_whole names now
-            (subst (IsReadWhole names) (sym is) (ended_whole options names start closed (kept.tables names h))));
+        named = λ names h.
+            rw c.finish_empty_list_item.ensures (empty_item_closed_named names now (rw is (ended_named options names start closed (kept.named names h))));
+        tables = λ names h.
+            rw c.finish_empty_list_item.ensures (empty_item_closed_whole names now (rw is (ended_whole options names start closed (kept.tables names h))));
       },
     )

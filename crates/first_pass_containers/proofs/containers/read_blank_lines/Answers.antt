@@ -4,7 +4,7 @@ use Rattle.first_pass_lines.specs.Lines.{blank_len, line_len}
 use Rattle.first_pass_lines.proofs.PlaceFacts.{line_end_boundary}
 use Rattle.first_pass_containers.specs.Positions.{LineAt, ReadsTo}
 use Rattle.first_pass_ready.proofs.OldFootnotes.{ends_here}
-use Rattle.first_pass_containers.proofs.LineByLine.BlankLines.{one_read}
+use Rattle.first_pass_containers.proofs.LineByLine.EnteredLines.{one_read}
 use Rattle.first_pass_containers.proofs.containers.read_blank_lines.Goals as goal
 use Rattle.first_pass_containers.proofs.containers.read_blank_lines.Goals.{else-is_in_footnote-via-else-is_in_footnote}
 use Rattle.first_pass_containers.proofs.containers.read_blank_lines.Goals.{else-is_in_footnote-via-then-is_in_footnote+else-not-has_gfm_footnotes}

@@ -4,28 +4,19 @@ use Rattle.first_pass_lines.specs.Places.{Place, line_rest, place_at, line_end, 
 use Rattle.first_pass_lines.proofs.PlaceFacts.{line_is_place}
 use Rattle.first_pass_grammar.specs.Completion.{lines_from}
 use Rattle.first_pass_containers.specs.FootnoteHeads.{head_end}
-use Rattle.first_pass_containers.proofs.Openings.HeadLemmas.{ContinuesAt, continues}
+use Rattle.first_pass_containers.proofs.Openings.HeadLemmas.{continues}
 use Rattle.first_pass_containers.proofs.footnote.place_after_head.Goals as goal
 use Rattle.first_pass_containers.proofs.footnote.place_after_head.Goals.{After-new}
 
 -- blocks continue at the place that was found
-there : (c : After-new) → ContinuesAt (gfm_footnotes c.args.source.now.options) c.args.source.now.text.now c.args.end (c.args.end + c.skipped_rest.result)
-there c =
-    continues (gfm_footnotes c.args.source.now.options) c.args.source.now.text.now c.args.end c.skipped_rest.result c.requires.utf8 c.requires.boundary
-    c.skipped_rest.ensures
-
-place_is : (c : After-new) → place_at (c.args.end + c.skipped_rest.result) c.new.result
-    ≡ head_end c.args.source.now.text.now (c.args.end + c.skipped_rest.result)
-place_is c =
-    let at = c.args.end + c.skipped_rest.result in
-    ap (place_at at) (c.new.ensures ∙ ap line_rest (c.rest_of.ensures.value ∙ ap (drop at) c.as_bytes-bytes.ensures.value))
-
 pub returns : goal.returns
 returns c =
     let text = c.args.source.now.text.now in
     let at = c.args.end + c.skipped_rest.result in
-    let t = there c in
-    let same = place_is c in
+    let t =
+    continues (gfm_footnotes c.args.source.now.options) text c.args.end c.skipped_rest.result c.requires.utf8 c.requires.boundary c.skipped_rest.ensures in
+    let same : place_at at c.new.result ≡ head_end text at =
+    ap (place_at at) (c.new.ensures ∙ ap line_rest (c.rest_of.ensures.value ∙ ap (drop at) c.as_bytes-bytes.ensures.value)) in
     record {
       place = subst (IsPlaceOf text) (sym same) (line_is_place text at t.2);
       boundary = t.2;

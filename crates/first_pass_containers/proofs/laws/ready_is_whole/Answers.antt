@@ -1,4 +1,4 @@
-use Rattle.first_pass_containers.proofs.ReadyStates.ReadyWhole.{ready_whole}
+use Rattle.first_pass_containers.proofs.ReadyStates.{ready_whole}
 use Rattle.first_pass_containers.proofs.laws.ready_is_whole.Goals as goal
 
 pub returns : goal.returns

@@ -1,28 +1,20 @@
-use Rattle.std.proofs.Common.{◌≡◌, ℕ, ◌+◌, Bool, List, Option, Some, None, IsSomeAnd, is_some, refl, sym, ap, subst, ◌∙◌, arith, if◌then◌else◌}
-use Rattle.first_pass_items.specs.declared.item.Item.{Item}
-use Rattle.first_pass_items.specs.declared.item.BlockQuoteKind.{BlockQuoteKind}
+use Rattle.std.proofs.Common.{◌≡◌, ℕ, ◌+◌, Bool, List, Some, None, is_some, refl, sym, ap, ◌∙◌, arith, if◌then◌else◌}
 use Rattle.first_pass_lines.specs.Lines.{blank_len}
 use Rattle.first_pass_lines.specs.Rest.{Rest}
 use Rattle.first_pass_lines.specs.Places.{Place, place_at, offset}
 use Rattle.first_pass_grammar.specs.Containers.{prefix}
-use Rattle.first_pass_grammar.specs.Kinds.{item_at, definition_marker_at, quote_start}
-use Rattle.first_pass_grammar.specs.Openers.{Start as ContainerStart, item_start, definition_start, quote_begun, task_after, tag_after, after_quote}
+use Rattle.first_pass_grammar.specs.Kinds.{item_at, definition_marker_at}
+use Rattle.first_pass_grammar.specs.Openers.{after_quote}
 use Rattle.first_pass_grammar.specs.declared.kind.Container.TheVariants.{BlockQuote}
 use Rattle.first_pass_grammar.proofs.Sequences.OpenerFacts.{marker_where, start_item, start_definition, start_quote, start_none}
 use Rattle.first_pass_open.proofs.PlaceLemmas.{item_keeps, quote_absent}
-use Rattle.first_pass_containers.specs.declared.openers.Opener.TheVariants.{Quote, Item as ItemOpener, Definition as DefinitionOpener}
-use Rattle.first_pass_grammar.specs.declared.kind.AfterMarker.{AfterMarker}
-use Rattle.first_pass_containers.specs.declared.openers.Start.{Start}
-use Rattle.first_pass_containers.specs.Starts.{item_after, StartMatches}
+use Rattle.first_pass_containers.specs.declared.openers.Opener.TheVariants.{Quote}
+use Rattle.first_pass_containers.specs.Starts.{item_after}
 use Rattle.first_pass_containers.proofs.Openings.Indented.{no_item, no_definition, no_quote_prefix, is_far, is_indented}
 use Rattle.first_pass_containers.proofs.Openings.OpenerLemmas.{item_found, item_absent}
-use Rattle.first_pass_containers.proofs.Openings.StartFound.{definition_found, definition_absent, same_place, matches, matches_none, quote_here}
+use Rattle.first_pass_containers.proofs.Openings.StartFound.{definition_found, definition_absent, quote_here}
 use Rattle.first_pass_containers.proofs.openers.start_at.Goals as goal
 use Rattle.first_pass_containers.proofs.openers.start_at.Goals.{In-Some}
-
--- a start in terms of the pass
-tells : (s : ContainerStart) (r : Option Start) (t : Start) → r ≡ Some t → StartMatches s t → IsSomeAnd r (StartMatches s)
-tells s r t is h = subst (λ (f : Option Start). IsSomeAnd f (StartMatches s)) (sym is) h
 
 -- no container begins after four columns or more
 pub returns-then-columns-ge4 : goal.returns-then-columns-ge4
@@ -31,8 +23,7 @@ returns-then-columns-ge4 c =
     let options = c.args.source.now.options in
     let may = c.args.may_define in
     let far = is_far p.rest c.copy-mark.result _ c.copy-mark.ensures c.scan_short_indentation-columns.ensures.columns c.if-columns-ge4.true in
-    rw (← c.place.view_is) (matches_none _ _ _
-    (start_none options may p (no_item p.rest far) (no_definition may p far) (no_quote_prefix p.rest far)) (refl, refl))
+    rw (← c.place.view_is, start_none options may p (no_item p.rest far) (no_definition may p far) (no_quote_prefix p.rest far)) (refl, refl)
 
 -- what each call reads begins with the indentation
 pub scan_item-requires : goal.scan_item-requires
@@ -69,24 +60,21 @@ taken c = item_found _ c.scan_item.result c.in-Some.marker c.place.inside.rest c
 pub scan_after_item-requires-clause-place : goal.scan_after_item-requires-clause-place
 scan_after_item-requires-clause-place c =
     (item_keeps c.args.source.now.text.now c.place.inside.line c.place.inside.rest _ c.requires.utf8
-    (taken (goal.at.scan_after_item-requires-clause-place c).In-Some) (same_place _ _ _ c.place.view_is c.requires.place)).0
+    (taken (goal.at.scan_after_item-requires-clause-place c).In-Some) (rw c.place.view_is c.requires.place)).0
 
 pub returns-in-Some : goal.returns-in-Some
 returns-in-Some c =
     let p : Place = place_at c.place.inside.line c.place.inside.rest in
     let options = c.args.source.now.options in
     let marker = c.in-Some.marker in
-    let task : Option Item × Rest = task_after options c.place.inside.line c.scan_item.new.line_start in
-    let start : ℕ → AfterMarker → Option Start = λ n after. Some (record { opener = ItemOpener marker; start = n; after = after }) in
-    rw (← c.place.view_is) (matches _ _ _ _
-    (start_item options c.args.may_define p ((marker.byte, marker.number, marker.indent), c.scan_item.new.line_start)
-    (taken (goal.at.returns-in-Some c).In-Some)) (
-      tells (item_start p (marker.byte, marker.number, marker.indent) task) _ _
-          (ap (λ (n : ℕ). start n c.scan_after_item.result) (c.offset-before.ensures ∙ ap offset (sym c.place.view_is))
-          ∙ ap (start (offset p)) c.scan_after_item.ensures.after)
-          (record { opener = refl; start = refl; after = refl }),
+    rw (
+      ← c.place.view_is,
+      start_item options c.args.may_define p ((marker.byte, marker.number, marker.indent), c.scan_item.new.line_start)
+          (taken (goal.at.returns-in-Some c).In-Some),
+    ) (
+      record { opener = refl; start = c.offset-before.ensures ∙ ap offset (sym c.place.view_is); after = c.scan_after_item.ensures.after },
       c.scan_after_item.ensures.place,
-    ))
+    )
 
 pub returns-in-Some-scan_definition : goal.returns-in-Some-scan_definition
 returns-in-Some-scan_definition c =
@@ -99,17 +87,16 @@ returns-in-Some-scan_definition c =
     let marker : marker_where c.args.may_define p ≡ Some (indent, following) =
     ap (λ (r : Rest). if c.args.may_define then definition_marker_at r else None) (sym item.1)
     ∙ definition_found _ c.scan_definition.result indent c.scan_item.new.line_start following c.in-Some-scan_definition.is c.scan_definition.ensures in
-    let start : ℕ → AfterMarker → Option Start = λ n after. Some (record { opener = DefinitionOpener indent; start = n; after = after }) in
     let over = c.is_some-is_over.ensures ∙ ap is_some c.scan_blank_line.ensures.value
     ∙ ap (λ (bs : List ℕ). is_some (blank_len bs)) c.left.ensures in
-    let after = c.item_after.ensures ∙ ap (item_after None) over in
-    rw (← c.place.view_is) (matches _ _ _ _ (start_definition options c.args.may_define p (indent, following) item.0 marker) (
-      tells (definition_start p (indent, following)) _ _
-          (ap (λ (n : ℕ). start n c.item_after.result) (c.offset-before.ensures ∙ ap offset (sym c.place.view_is))
-          ∙ ap (start (offset p)) after)
-          (record { opener = refl; start = refl; after = refl }),
+    rw (← c.place.view_is, start_definition options c.args.may_define p (indent, following) item.0 marker) (
+      record {
+        opener = refl;
+        start = c.offset-before.ensures ∙ ap offset (sym c.place.view_is);
+        after = c.item_after.ensures ∙ ap (item_after None) over;
+      },
       refl,
-    ))
+    )
 
 -- no definition was read before the search for a block quote
 pub returns-in_err-quote : goal.returns-in_err-quote
@@ -125,9 +112,8 @@ returns-in_err-quote c =
     let marker : marker_where may p ≡ None = ap (λ (r : Rest). if may then definition_marker_at r else None) (sym item.1) ∙ none.0 in
     let same : here ≡ p.rest = none.1 ∙ item.1 in
     let quote = quote_absent _ c.scan_quote_mark.result _ here c.scan_quote_mark.new.line_start c.in_err-quote.was c.scan_quote_mark.ensures in
-    rw (← c.place.view_is) (matches_none _ _ _
-    (start_none c.args.source.now.options may p item.0 marker (ap (prefix (BlockQuote None)) (sym same) ∙ quote.0))
-    (c.from_residual.ensures, ap (place_at p.line) (quote.1 ∙ same)))
+    rw (← c.place.view_is, start_none c.args.source.now.options may p item.0 marker (ap (prefix (BlockQuote None)) (sym same) ∙ quote.0))
+    (c.from_residual.ensures, ap (place_at p.line) (quote.1 ∙ same))
 
 pub returns : goal.returns
 returns c =
@@ -143,12 +129,11 @@ returns c =
     c.scan_definition.ensures in
     let marker : marker_where may p ≡ None = ap (λ (r : Rest). if may then definition_marker_at r else None) (sym item.1) ∙ none.0 in
     let quote = quote_here p.rest here inside c.scan_quote_mark.result c.in_ok-quote.quote (none.1 ∙ item.1) c.in_ok-quote.was c.scan_quote_mark.ensures in
-    let start : Option BlockQuoteKind → ℕ → AfterMarker → Option Start = λ kind n after. Some (record { opener = Quote kind; start = n; after = after }) in
-    rw (← c.place.view_is) (matches _ _ _ _ (start_quote options may p inside item.0 marker quote.0) (
-      tells (quote_begun p (tag_after options inside) inside) _ _ (
-          ap (start c.scan_tag-tag.result (p.line + c.in_ok-quote.quote)) c.after_quote.ensures
-          ∙ ap (λ (n : ℕ). start c.scan_tag-tag.result (p.line + n) (after_quote c.scan_tag-tag.result)) quote.1
-          ∙ ap (λ (kind : Option BlockQuoteKind). start kind (quote_start p) (after_quote kind)) c.scan_tag-tag.ensures)
-          (record { opener = refl; start = refl; after = refl }),
+    rw (← c.place.view_is, start_quote options may p inside item.0 marker quote.0) (
+      record {
+        opener = ap Quote c.scan_tag-tag.ensures;
+        start = ap (λ n. p.line + n) quote.1;
+        after = c.after_quote.ensures ∙ ap after_quote c.scan_tag-tag.ensures;
+      },
       refl,
-    ))
+    )
