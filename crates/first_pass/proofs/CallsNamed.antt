@@ -1,29 +1,17 @@
 -- After each call, each index in the nodes names an entry, if each did before.
-use Rattle.std.proofs.Common.{◌≡◌, inl, inr, ℕ, zero, suc, ◌+◌, ◌-◌, ◌==◌, ◌&&◌, nat_lt, Bool, true, false, if◌then◌else◌, List, [], ◌∷◌, ◌++◌, length, length-append, take, drop, Option, Some, None, IfSome, IsSomeAnd, MatchOption, IsCharBoundary, sym, ap, subst, ◌∙◌, arith}
-use Rattle.std.proofs.lemmas.Bool.{cond_both}
-use Rattle.std.proofs.lemmas.Option.{slice_get_within}
-use Rattle.first_pass_items.specs.declared.item.HeadingLevel.{HeadingLevel}
-use Rattle.first_pass_items.specs.declared.item.Item.{Item}
-use Rattle.first_pass_items.specs.declared.item.ItemBody.{ItemBody}
-use Rattle.first_pass_items.specs.declared.item.ItemBody.TheVariants.{Heading, TableHead, TableRow, Text}
-use Rattle.first_pass_tree.specs.declared.tree_index.TreeIndex.{TreeIndex}
-use Rattle.first_pass_tree.specs.Forest.{Forest, appended, at_depth, cut_item, cut_tokens, is_escaped, is_text, item_at, joins_at, open_place, with_end}
-use Rattle.first_pass_lines.specs.Places.{Place, line_place}
-use Rattle.first_pass_lines.proofs.PlaceFacts.{line_is_place}
-use Rattle.first_pass_tokens.specs.Braces.{MathBraces, no_braces}
-use Rattle.first_pass_tokens.specs.LineTokens.{spot}
-use Rattle.first_pass_tokens.specs.Pieces.{Inline}
-use Rattle.first_pass_tokens.specs.TreeTokens.{with_token, with_tokens, AppendsLine, AppendsCell}
-use Rattle.first_pass_grammar.specs.Completion.{lines_from}
-use Rattle.first_pass_grammar.specs.CodeBlocks.{IsFencedCode, IsIndentedCode, IsMetadata}
-use Rattle.first_pass_grammar.specs.HtmlBlocks.{IsHtml}
-use Rattle.first_pass_grammar.specs.Leaves.{Document, heading_block, rule_block}
-use Rattle.first_pass_grammar.specs.Names.{Names, Extends, AreNamed, index_of}
-use Rattle.first_pass_grammar.specs.RawLines.{AreColumns, range_text, range_html, IsRawLine}
-use Rattle.first_pass_grammar.specs.Tables.{AreCells, row_block, table_so_far, inserted, most_inserted, taking}
+use Rattle.std.proofs.Common.{◌≡◌, inl, inr, ℕ, zero, suc, ◌+◌, ◌-◌, ◌&&◌, nat_lt, Bool, List, [], ◌∷◌, ◌++◌, length, length-append, take, drop, Option}
+use Rattle.std.proofs.Common.{Some, None, IfSome, IsSomeAnd, MatchOption, IsCharBoundary, sym, ap, subst, ◌∙◌, arith}
+use Rattle.first_pass_grammar.proofs.Common.{cond_both, slice_get_within, HeadingLevel, Item, ItemBody, Heading, TableHead, TableRow, TreeIndex, Forest}
+use Rattle.first_pass_grammar.proofs.Common.{appended, at_depth, cut_tokens, is_text, item_at, open_place, with_end, Place, line_place, line_is_place}
+use Rattle.first_pass_grammar.proofs.Common.{MathBraces, no_braces, spot, Inline, with_tokens, AppendsLine, lines_from, IsHtml, Document, block_with}
+use Rattle.first_pass_grammar.proofs.Common.{heading_block, rule_block, Names, Extends, AreNamed, index_of, AreColumns, range_text, range_html, IsRawLine}
+use Rattle.first_pass_grammar.proofs.Common.{AreRawLines, AreCells, row_block, table_so_far, inserted, most_inserted, taking}
+use Rattle.first_pass_tree.specs.Forest.{joins_at}
+use Rattle.first_pass_tokens.specs.TreeTokens.{with_token, AppendsCell}
 use Rattle.first_pass_grammar.proofs.Each.EachToken.{AreEach, both_each, cell_each, heading_each, line_each, raw_each, range_text_each}
 use Rattle.first_pass_grammar.proofs.Names.MoreNames.{extends_none, extends_named}
-use Rattle.first_pass_grammar.proofs.Names.NamedItems.{HasEntry, IsNamed, block_named, each_named, html_is_free, lines_named, named_both, named_deeper, named_modified, named_more, text_is_free, tokens_entered}
+use Rattle.first_pass_grammar.proofs.Names.NamedItems.{HasEntry, IsNamed, block_named, each_named, html_is_free, lines_named, named_both, named_deeper}
+use Rattle.first_pass_grammar.proofs.Names.NamedItems.{named_modified, named_more, text_is_free, tokens_entered}
 use Rattle.first_pass_grammar.proofs.Each.EachCell.{both_nodes, cells_nodes, nodes_named, row_nodes, rows_nodes}
 use Rattle.first_pass_grammar.proofs.Names.TextsNamed.{given_entry, text_named}
 use Rattle.first_pass_names.specs.TableEntries.{names_of}
@@ -40,6 +28,7 @@ use Rattle.first_pass_containers.specs.TextsAdded.{AddsText}
 use Rattle.first_pass_blocks.specs.declared.state.BlockPass.{BlockPass}
 use Rattle.first_pass_blocks.specs.Views as Block
 use Rattle.first_pass_order.proofs.NamedLemmas.{block_added, note_named}
+use Rattle.first_pass.proofs.CutOrder.{cut_cases}
 
 -- Tokens follow the nodes of a tree; the first of them may be joined to the last node.
 end_named : (names : Names) (f : Forest Item) (e : ℕ) (o : Option TreeIndex) → AreNamed names f.nodes → AreNamed names (with_end f e o).nodes
@@ -97,30 +86,17 @@ raw_line_named d kind owed from to before old new more h own =
     (raw_line_each d kind owed from to h.items (h.are d.options d.names (extends_none d.names))))
 
 -- the items of a leaf block
-pub fenced_named : (d : Document) (start count : ℕ) (places : List Place) (e : ℕ) (items : List (ℕ × Item)) → IsFencedCode d start count places e items
-    → AreNamed d.names items
+pub code_named : (d : Document) (places : List Place) (body : ItemBody) (start stop : ℕ) (chain : List Item) (items : List (ℕ × Item))
+    → items ≡ block_with start stop body chain → HasEntry d.names body → AreRawLines range_text d [] places chain → AreNamed d.names items
 unfolding AreNamed
-fenced_named d start count places e items is =
-    block_named d.names _ _ _ is.chain items is.items_are (slice_get_within d.names.texts is.info.0 is.names.named is.names.at)
-    (lines_named range_text d [] places is.chain text_is_free tt is.lines)
-
-pub metadata_named : (d : Document) (start byte : ℕ) (places : List Place) (e : ℕ) (items : List (ℕ × Item)) → IsMetadata d start byte places e items
-    → AreNamed d.names items
-unfolding AreNamed
-metadata_named d start byte places e items is =
-    block_named d.names _ _ _ is.chain items is.items_are tt (lines_named range_text d [] places is.chain text_is_free tt is.lines)
+code_named d places body start stop chain items is own lines =
+    block_named d.names start stop body chain items is own (lines_named range_text d [] places chain text_is_free tt lines)
 
 pub html_named : (d : Document) (start columns : ℕ) (places : List Place) (e : ℕ) (items : List (ℕ × Item)) → IsHtml d start columns places e items
     → AreNamed d.names items
 unfolding AreNamed
 html_named d start columns places e items is =
     block_named d.names _ _ _ is.chain items is.items_are tt (lines_named range_html d [] _ is.chain html_is_free tt is.lines)
-
-pub indented_named : (d : Document) (p : Place) (further : List Place) (items : List (ℕ × Item)) → IsIndentedCode d p further items
-    → AreNamed d.names items
-unfolding AreNamed
-indented_named d p further items is =
-    block_named d.names _ _ _ is.chain items is.items_are tt (lines_named range_text d [] _ is.chain text_is_free tt is.lines)
 
 pub rule_named : (names : Names) (start size : ℕ) → AreNamed names (rule_block start size)
 unfolding AreNamed
@@ -185,52 +161,35 @@ rows_named d columns head_start body_start old new next before more r h =
     (named_deeper d.names (length old.spine + 1) items own)))
 
 -- A block becomes a heading, and its children are cut off at an offset.
-cut_step : (names : Names) (t u v : Bool) (n m k : ℕ × Item) (cs : List (ℕ × Item)) → IsNamed names n.1 → IsNamed names m.1 → IsNamed names k.1
-    → AreNamed names cs → AreNamed names (if t then n ∷ cs else (if u then m ∷ cs else (if v then k ∷ [] else [])))
-unfolding AreNamed
-cut_step names true u v n m k cs a b c h = (a, h)
-cut_step names false true v n m k cs a b c h = (b, h)
-cut_step names false false true n m k cs a b c h = (c, tt)
-cut_step names false false false n m k cs a b c h = tt
-
 cut_named : (names : Names) (e d : ℕ) (nodes : List (ℕ × Item)) → AreNamed names nodes → AreNamed names (cut_tokens e d nodes)
 unfolding AreNamed
 cut_named names e d [] h = tt
 cut_named names e d (n ∷ nodes) h =
-    cut_step names (nat_lt d n.0) (nat_lt n.1.start e) (is_escaped n.1.body && (n.1.start == e)) n (n.0, cut_item e n.1)
-    (n.0, record { start = e - 1; «end» = e; body = Text false }) (cut_tokens e d nodes) h.0
-    (cond_both (nat_lt e n.1.«end») (record n.1 { «end» = e }) n.1 (IsNamed names) (λ b. h.0) (λ b. h.0)) tt (cut_named names e d nodes h.1)
+    let rest = cut_named names e d nodes h.1 in
+    let own = cond_both (nat_lt e n.1.«end») (record n.1 { «end» = e }) n.1 (IsNamed names) (λ b. h.0) (λ b. h.0) in
+    cut_cases e d n nodes (AreNamed names) (λ b. (h.0, rest)) (λ b. (own, rest)) (λ b. (tt, tt)) tt
 
-front_named : (names : Names) (k : ℕ) (nodes : List (ℕ × Item)) → AreNamed names nodes → AreNamed names (take k nodes)
+parts_named : (names : Names) (k : ℕ) (nodes : List (ℕ × Item)) → AreNamed names nodes → AreNamed names (take k nodes) × AreNamed names (drop k nodes)
 unfolding AreNamed
-front_named names zero nodes h = tt
-front_named names (suc k) [] h = tt
-front_named names (suc k) (n ∷ nodes) h = (h.0, front_named names k nodes h.1)
+parts_named names zero nodes h = (tt, h)
+parts_named names (suc k) [] h = (tt, tt)
+parts_named names (suc k) (n ∷ nodes) h = (let (front, rest) = parts_named names k nodes h.1 in ((h.0, front), rest))
 
-rest_named : (names : Names) (k : ℕ) (nodes : List (ℕ × Item)) → AreNamed names nodes → AreNamed names (drop k nodes)
-unfolding AreNamed
-rest_named names zero nodes h = h
-rest_named names (suc k) [] h = h
-rest_named names (suc k) (n ∷ nodes) h = rest_named names k nodes h.1
-
-children_named : (names : Names) (text : List ℕ) (start : ℕ) (old cut : Forest Item) → CutsChildren text start old cut → AreNamed names old.nodes
-    → AreNamed names cut.nodes
-children_named names text start old cut (inl same) h = subst (λ (f : Forest Item). AreNamed names f.nodes) (sym same) h
-children_named names text start old cut (inr (e, low, b, is)) h =
-    let k : ℕ = open_place old.spine + 1 in
-    subst (λ (f : Forest Item). AreNamed names f.nodes) (sym is)
-    (named_both names (take k old.nodes) (cut_tokens e (length old.spine + 1) (drop k old.nodes)) (front_named names k old.nodes h)
-    (cut_named names e (length old.spine + 1) (drop k old.nodes) (rest_named names k old.nodes h)))
-
-some_children : (names : Names) (text : List ℕ) (old cut : Forest Item) (o : Option Item) → IsSomeAnd o (λ x. CutsChildren text x.start old cut)
+children_named : (names : Names) (text : List ℕ) (old cut : Forest Item) (o : Option Item) → IsSomeAnd o (λ x. CutsChildren text x.start old cut)
     → AreNamed names old.nodes → AreNamed names cut.nodes
-some_children names text old cut None h own = absurd h
-some_children names text old cut (Some x) h own = children_named names text x.start old cut h own
+children_named names text old cut None cuts h = absurd cuts
+children_named names text old cut (Some x) (inl same) h = subst (λ (f : Forest Item). AreNamed names f.nodes) (sym same) h
+children_named names text old cut (Some x) (inr (e, low, b, is)) h =
+    let k : ℕ = open_place old.spine + 1 in
+    let (front, rest) = parts_named names k old.nodes h in
+    subst (λ (f : Forest Item). AreNamed names f.nodes) (sym is)
+    (named_both names (take k old.nodes) (cut_tokens e (length old.spine + 1) (drop k old.nodes)) front
+    (cut_named names e (length old.spine + 1) (drop k old.nodes) rest))
 
 pub heading_named : (d : Document) (level : HeadingLevel) (broken : Bool) (block : TreeIndex) (old new : Forest Item) (before : Names) → Extends d.names before
     → BecomesHeading d level broken block old new → AreNamed before old.nodes → AreNamed d.names new.nodes
 heading_named d level broken block old new before more heads h =
-    let own = some_children d.names d.text old heads.cut (item_at old block) heads.children (named_more d.names before old.nodes more h) in
+    let own = children_named d.names d.text old heads.cut (item_at old block) heads.children (named_more d.names before old.nodes more h) in
     subst (λ (f : Forest Item). AreNamed d.names f.nodes) (sym heads.tree_is)
     (named_modified d.names heads.cut.nodes block.0 (λ x. record x { body = Heading level heads.index }) (λ x k. heads.entry) own)
 

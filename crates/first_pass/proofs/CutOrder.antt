@@ -1,61 +1,45 @@
 -- The tokens in an open block are cut off at an offset, and the block becomes a heading: a tree in order stays in
 -- order.
-use Rattle.std.proofs.Common.{◌≡◌, ◌⊎◌, inl, inr, ℕ, zero, suc, ◌+◌, ◌-◌, ◌<◌, ◌≤◌, ◌==◌, ◌&&◌, nat_lt, min, max, Bool, true, false, if◌then◌else◌, List, [], ◌∷◌, ◌++◌, append_assoc, length, take, drop, slice_get, slice_index, Option, Some, None, IsSomeAnd, IsCharBoundary, refl, sym, ap, subst, ◌∙◌, arith}
-use Rattle.std.specs.Option.{option_map}
-use Rattle.std.proofs.lemmas.Bool.{and_parts, cases_lt, cond-true, cond-false, eqb-true, false≢true, le-ltb, ltb-true}
-use Rattle.std.proofs.lemmas.Bool.Decides.{nat_tests}
-use Rattle.std.proofs.lemmas.List.{length-take, take-append-drop}
-use Rattle.std.proofs.lemmas.Option.{none-some, same_Some, slice_get_within}
-use Rattle.std.proofs.lemmas.Str.{IsCharBoundary-before_ascii}
-use Rattle.first_pass_items.specs.Bytes.{backslash}
-use Rattle.first_pass_items.specs.declared.item.HeadingIndex.{HeadingIndex}
-use Rattle.first_pass_items.specs.declared.item.HeadingLevel.{HeadingLevel}
-use Rattle.first_pass_items.specs.declared.item.Item.{Item}
-use Rattle.first_pass_items.specs.declared.item.ItemBody.{ItemBody}
-use Rattle.first_pass_items.specs.declared.item.ItemBody.TheVariants.{Paragraph, TightParagraph, Heading, DefinitionListTitle, MaybeDefinitionListTitle, Text}
-use Rattle.first_pass_tree.specs.declared.tree_index.TreeIndex.{TreeIndex}
-use Rattle.first_pass_tree.specs.Forest.{Forest, body_at, cut_item, cut_siblings, cut_tokens, is_escaped, item_at, open_place, with_body_at}
-use Rattle.first_pass_grammar.specs.Leaves.{Document}
-use Rattle.first_pass_grammar.specs.OpenOrder.{laid_open, AreAt, open_within, FitsOpen, IsOrderedTo}
-use Rattle.first_pass_grammar.specs.Order.{Ranged, extent_of, extents, is_text_block, Siblings, Empty, Node, laid, IsBetween, Within, Elsewhere, InText, below, beyond, IsLead, Fits}
+use Rattle.std.proofs.Common.{◌≡◌, inl, inr, ℕ, zero, suc, ◌+◌, ◌-◌, ◌<◌, ◌≤◌, ◌==◌, ◌&&◌, nat_lt, min, max, Bool, true, false, if◌then◌else◌, List, []}
+use Rattle.std.proofs.Common.{◌∷◌, ◌++◌, append_assoc, length, take, drop, slice_get, slice_index, Option, Some, IsSomeAnd, IsCharBoundary, refl, sym, ap}
+use Rattle.std.proofs.Common.{subst, ◌∙◌, arith, option_map, eqb-true, ltb-true, length-take, take-append-drop}
+use Rattle.first_pass_grammar.proofs.Common.{and_parts, cases_lt, cond_both, false≢true, nat_tests, none-some, same_Some, IsCharBoundary-before_ascii}
+use Rattle.first_pass_grammar.proofs.Common.{backslash, HeadingIndex, HeadingLevel, Item, ItemBody, Paragraph, Heading, DefinitionListTitle}
+use Rattle.first_pass_grammar.proofs.Common.{MaybeDefinitionListTitle, Text, TreeIndex, Forest, body_at, cut_item, cut_siblings, cut_tokens, is_escaped}
+use Rattle.first_pass_grammar.proofs.Common.{item_at, open_place, with_body_at, Document, laid_open, AreAt, open_within, FitsOpen, IsOrderedTo, Ranged}
+use Rattle.first_pass_grammar.proofs.Common.{extent_of, extents, is_text_block, Siblings, Empty, laid, Within, Elsewhere, InText, below, beyond, IsLead}
+use Rattle.first_pass_grammar.proofs.Common.{Fits, body_of}
+use Rattle.first_pass_items.specs.declared.item.ItemBody.TheVariants.{TightParagraph}
+use Rattle.first_pass_grammar.specs.Order.{Node}
 use Rattle.first_pass_grammar.proofs.Order.Orders.{ended_at, extents-append, fits-one, fits-order, laid-one, length-places}
 use Rattle.first_pass_open.proofs.PathLemmas.{get_front}
 use Rattle.first_pass_text.specs.CutTexts.{BecomesHeading, CutsChildren}
 use Rattle.first_pass_order.proofs.OrderLemmas.{extents-body, flags_of, ordered_same}
 use Rattle.first_pass.specs.Holds.{StandsAfterBackslash, AreTokens, HoldsTokens}
-use Rattle.first_pass_tree.proofs.BodyLemmas.{body_of}
 
--- the nodes up to a place, and those after it
-split_places : (nodes : List (ℕ × Item)) (before : List (ℕ × Ranged)) (n : ℕ × Ranged) (more : List (ℕ × Ranged)) (k : ℕ)
-    → extents nodes ≡ before ++ n ∷ more → k ≡ length before
-    → (extents (take (suc k) nodes) ≡ before ++ n ∷ []) × (extents (drop (suc k) nodes) ≡ more)
-split_places [] [] n more k is at = absurd cc
-split_places [] (y ∷ before) n more k is at = absurd cc
-split_places (m ∷ nodes) [] n more zero is at =
+-- what is made of the first of the nodes that are cut
+pub cut_cases : (e d : ℕ) (n : ℕ × Item) (nodes : List (ℕ × Item)) (P : List (ℕ × Item) → Type 0)
+    → (nat_lt d n.0 ≡ true → P (n ∷ cut_tokens e d nodes)) → (nat_lt n.1.start e ≡ true → P ((n.0, cut_item e n.1) ∷ cut_tokens e d nodes))
+    → ((is_escaped n.1.body && (n.1.start == e)) ≡ true → P ((n.0, record { start = e - 1; «end» = e; body = Text false }) ∷ []))
+    → P [] → P (cut_tokens e d (n ∷ nodes))
+cut_cases e d n nodes P deeper kept escaped none =
+    cond_both _ _ _ P deeper (λ b. cond_both _ _ _ P kept (λ b. cond_both _ _ _ P escaped (λ b. none)))
+
+-- the nodes up to a place, those after it, and the item there
+split_places : (nodes : List (ℕ × Item)) (before : List (ℕ × Ranged)) (n : ℕ × Ranged) (more : List (ℕ × Ranged)) → extents nodes ≡ before ++ n ∷ more
+    → (extents (take (suc (length before)) nodes) ≡ before ++ n ∷ []) × (extents (drop (suc (length before)) nodes) ≡ more)
+    × ((x : Item) → option_map (λ (m : ℕ × Item). m.1) (slice_get nodes (length before)) ≡ Some x → extent_of x ≡ n.1)
+split_places [] [] n more is = absurd cc
+split_places [] (y ∷ before) n more is = absurd cc
+split_places (m ∷ nodes) [] n more is =
     let x : (m.0, extent_of m.1) ≡ n = cc in
     let y : extents nodes ≡ more = cc in
-    (ap (λ (z : ℕ × Ranged). z ∷ []) x, y)
-split_places (m ∷ nodes) [] n more (suc k) is at = absurd (omega arith)
-split_places (m ∷ nodes) (y ∷ before) n more zero is at = absurd (omega arith)
-split_places (m ∷ nodes) (y ∷ before) n more (suc k) is at =
+    (ap (λ (z : ℕ × Ranged). z ∷ []) x, y, λ z e. ap extent_of (sym (same_Some m.1 z e)) ∙ ap (λ (w : ℕ × Ranged). w.1) x)
+split_places (m ∷ nodes) (y ∷ before) n more is =
     let x : (m.0, extent_of m.1) ≡ y = cc in
     let z : extents nodes ≡ before ++ n ∷ more = cc in
-    let r = split_places nodes before n more k z (omega arith) in
-    (ap (λ (w : List (ℕ × Ranged)). (m.0, extent_of m.1) ∷ w) r.0 ∙ ap (λ (w : ℕ × Ranged). w ∷ (before ++ n ∷ [])) x, r.1)
-
-at_place : (nodes : List (ℕ × Item)) (before : List (ℕ × Ranged)) (n : ℕ × Ranged) (more : List (ℕ × Ranged)) (k : ℕ) (x : Item)
-    → extents nodes ≡ before ++ n ∷ more → k ≡ length before → option_map (λ (m : ℕ × Item). m.1) (slice_get nodes k) ≡ Some x → extent_of x ≡ n.1
-at_place [] [] n more k x is at e = absurd cc
-at_place [] (y ∷ before) n more k x is at e = absurd cc
-at_place (m ∷ nodes) [] n more zero x is at e =
-    let y : (m.0, extent_of m.1) ≡ n = cc in
-    let z : m.1 ≡ x = same_Some m.1 x e in
-    ap extent_of (sym z) ∙ ap (λ (w : ℕ × Ranged). w.1) y
-at_place (m ∷ nodes) [] n more (suc k) x is at e = absurd (omega arith)
-at_place (m ∷ nodes) (y ∷ before) n more zero x is at e = absurd (omega arith)
-at_place (m ∷ nodes) (y ∷ before) n more (suc k) x is at e =
-    let z : extents nodes ≡ before ++ n ∷ more = cc in
-    at_place nodes before n more k x z (omega arith) e
+    let r = split_places nodes before n more z in
+    (ap (λ (w : List (ℕ × Ranged)). (m.0, extent_of m.1) ∷ w) r.0 ∙ ap (λ (w : ℕ × Ranged). w ∷ (before ++ n ∷ [])) x, r.1, r.2)
 
 -- a token has no children
 only_leaf : (text : List ℕ) (d low : ℕ) (nodes : List (ℕ × Item)) (kids next : Siblings) → extents nodes ≡ laid (suc d) kids ++ laid d next
@@ -133,39 +117,34 @@ module _ (text : List ℕ) (w : Within) (from to e d : ℕ) (n : ℕ × Item) (n
       ∙ ap (λ (y : Ranged). (d, y) ∷ extents (cut_tokens e d nodes)) (end_by (nat_lt e n.1.«end») e n.1 refl)
       ∙ ap (λ (r : List (ℕ × Ranged)). (d, z) ∷ r) is
 
-  stays_by : n.1.start < e
-      → (IsBetween text from to (extent_of n.1) × Fits text (below w from (extent_of n.1)) n.1.start n.1.«end» Empty × Fits text (beyond w) n.1.«end» to t.next)
-      ⊎ (IsLead text w from (extent_of n.1) × Fits text Elsewhere n.1.start n.1.«end» Empty × Fits text Elsewhere from to t.next)
-      → CutFits text w from to e d ((n.0, cut_item e n.1) ∷ cut_tokens e d nodes)
-  unfolding Fits
-  stays_by less (inl (between, inside, more)) =
-      let (row, is, f) = t.cut (beyond w) n.1.«end» (omega arith) more in
-      let starts = between.following in
-      let order = between.order in
-      let inner : z.start ≤ z.«end» = omega arith in (
-        Node z Empty row,
-        laid_as row is,
-        inl (
-          record {
-            following = omega arith;
-            order = inner;
-            before = fits-order text (beyond w) z.«end» to row f;
-            starts = between.starts;
-            ends = min_boundary text n.1.«end» e between.ends t.boundary;
-          },
-          inner,
-          f,
-        ),
-      )
-  stays_by less (inr (lead, inside, more)) =
-      let (row, is, f) = t.cut Elsewhere from (omega (arith, t.later)) more in
-      let whole : n.1.start ≤ n.1.«end» = inside in
-      let inner : z.start ≤ z.«end» = omega arith in
-      (Node z Empty row, laid_as row is, inr (lead_cut text w from e (extent_of n.1) less t.boundary lead, inner, f))
-
   stays : n.1.start < e → CutFits text w from to e d ((n.0, cut_item e n.1) ∷ cut_tokens e d nodes)
   unfolding Fits
-  stays less = stays_by less t.fits
+  stays less = elim t.fits [
+    | inl (between, inside, more) ↦
+        let (row, is, f) = t.cut (beyond w) n.1.«end» (omega arith) more in
+        let starts = between.following in
+        let order = between.order in
+        let inner : z.start ≤ z.«end» = omega arith in (
+          Node z Empty row,
+          laid_as row is,
+          inl (
+            record {
+              following = omega arith;
+              order = inner;
+              before = fits-order text (beyond w) z.«end» to row f;
+              starts = between.starts;
+              ends = min_boundary text n.1.«end» e between.ends t.boundary;
+            },
+            inner,
+            f,
+          ),
+        )
+    | inr (lead, inside, more) ↦
+        let (row, is, f) = t.cut Elsewhere from (omega (arith, t.later)) more in
+        let whole : n.1.start ≤ n.1.«end» = inside in
+        let inner : z.start ≤ z.«end» = omega arith in
+        (Node z Empty row, laid_as row is, inr (lead_cut text w from e (extent_of n.1) less t.boundary lead, inner, f))
+  ]
 
   -- no token
   none_left : CutFits text w from to e d []
@@ -173,26 +152,18 @@ module _ (text : List ℕ) (w : Within) (from to e d : ℕ) (n : ℕ × Item) (n
   none_left = (let all = fits-order text w from to (Node (extent_of n.1) Empty t.next) t.fits in (Empty, refl, omega arith))
 
   -- a token that starts within the row's end
-  starts_by :
-      (IsBetween text from to (extent_of n.1) × Fits text (below w from (extent_of n.1)) n.1.start n.1.«end» Empty × Fits text (beyond w) n.1.«end» to t.next)
-      ⊎ (IsLead text w from (extent_of n.1) × Fits text Elsewhere n.1.start n.1.«end» Empty × Fits text Elsewhere from to t.next)
-      → t.low < n.1.start → n.1.start ≤ to
-  unfolding Fits
-  starts_by (inl (between, inside, more)) past = (let o = between.order in let k = between.before in omega arith)
-  starts_by (inr (lead, inside, more)) past =
-      let whole : n.1.start ≤ n.1.«end» = inside in
-      let first = lead_before text w from (extent_of n.1) lead in
-      absurd (omega (arith, t.later))
-
   starts_within : t.low < n.1.start → n.1.start ≤ to
   unfolding Fits
-  starts_within past = starts_by t.fits past
+  starts_within past = elim t.fits [
+    | inl (between, inside, more) ↦ (let o = between.order in let k = between.before in omega arith)
+    | inr (lead, inside, more) ↦ (let whole : n.1.start ≤ n.1.«end» = inside in
+        let first = lead_before text w from (extent_of n.1) lead in absurd (omega (arith, t.later)))
+  ]
 
-  -- the backslash of the first token that is cut, or nothing
-  goes : (v : Bool) → (is_escaped n.1.body && (n.1.start == e)) ≡ v → StandsAfterBackslash text t.low n.1
-      → CutFits text w from to e d (if v then (n.0, record { start = e - 1; «end» = e; body = Text false }) ∷ [] else [])
-  goes false is stands = none_left
-  goes true is stands =
+  -- the backslash of the first token that is cut
+  goes : (is_escaped n.1.body && (n.1.start == e)) ≡ true → StandsAfterBackslash text t.low n.1
+      → CutFits text w from to e d ((n.0, record { start = e - 1; «end» = e; body = Text false }) ∷ [])
+  goes is stands =
       let parts = and_parts (is_escaped n.1.body) (n.1.start == e) is in
       let at : n.1.start ≡ e = eqb-true n.1.start e parts.1 in
       let (past, byte) = stands parts.0 in
@@ -213,18 +184,10 @@ module _ (text : List ℕ) (w : Within) (from to e d : ℕ) (n : ℕ × Item) (n
             }),
       )
 
-  -- the case of a token that starts before the cut, and of one that does not
-  cut_by : (v : Bool) → StandsAfterBackslash text t.low n.1 → nat_lt n.1.start e ≡ v → CutFits text w from to e d (cut_tokens e d (n ∷ nodes))
-  cut_by true stands is =
-      let plain : nat_lt d n.0 ≡ false = le-ltb d n.0 (omega (arith, t.depth)) in
-      let same : cut_tokens e d (n ∷ nodes) ≡ (n.0, cut_item e n.1) ∷ cut_tokens e d nodes = cond-false _ _ _ plain ∙ cond-true _ _ _ is in
-      subst (CutFits text w from to e d) (sym same) (stays (ltb-true n.1.start e is))
-  cut_by false stands is =
-      let plain : nat_lt d n.0 ≡ false = le-ltb d n.0 (omega (arith, t.depth)) in
-      let v : Bool = is_escaped n.1.body && (n.1.start == e) in
-      let same : cut_tokens e d (n ∷ nodes) ≡ (if v then (n.0, record { start = e - 1; «end» = e; body = Text false }) ∷ [] else []) =
-      cond-false _ _ _ plain ∙ cond-false _ _ _ is in
-      subst (CutFits text w from to e d) (sym same) (goes v refl stands)
+  cut_first : StandsAfterBackslash text t.low n.1 → CutFits text w from to e d (cut_tokens e d (n ∷ nodes))
+  cut_first stands =
+      cut_cases e d n nodes (CutFits text w from to e d) (λ b. (let deeper = ltb-true d n.0 b in absurd (omega (arith, t.depth))))
+      (λ b. stays (ltb-true n.1.start e b)) (λ b. goes b stands) none_left
 
 -- Tokens at a depth, after an offset, form a row that fits between two others. The first of these is not after it.
 record TokenRow (text : List ℕ) (w : Within) (from to d low : ℕ) (nodes : List (ℕ × Item)) (row : Siblings) : Type 0 where
@@ -259,7 +222,7 @@ cut_row text w from to e d low (n ∷ nodes) (Node x kids next) b t =
       cut = λ v f low' k. cut_row text v f to e d (max low n.1.«end») nodes next b
           (record { later = low'; extents_are = next_is; tokens = h.2; fits = k });
     } in
-    cut_by text w from to e d n nodes token (nat_lt n.1.start e) h.1 refl
+    cut_first text w from to e d n nodes token h.1
 
 -- the children of the innermost open node
 open_as : (s : List TreeIndex) (block : TreeIndex) → slice_get s 0 ≡ Some block → (rest : List TreeIndex) × (s ≡ block ∷ rest)
@@ -281,24 +244,26 @@ module _ (text : List ℕ) (f : Forest Item) (at e : ℕ) (block : TreeIndex) (r
       let size = length-places root levels rest places.1 in
       let long : length f.spine ≡ suc (length rest) = ap length spine in
       let depth : length f.spine + 1 ≡ d = omega arith in
-      let place : open_place f.spine + 1 ≡ suc block.0 = (let o : open_place f.spine ≡ block.0 = ap open_place spine in omega arith) in
-      let next : block.0 + 1 ≡ suc block.0 = omega arith in
-      let parts = split_places f.nodes front mid (laid d row) block.0 nodes places.0 in
-      let same = at_place f.nodes front mid (laid d row) block.0 x nodes places.0 there in
+      let here : block.0 ≡ length front = places.0 in
+      let k : ℕ = suc (length front) in
+      let place : open_place f.spine + 1 ≡ k = (let o : open_place f.spine ≡ block.0 = ap open_place spine in omega arith) in
+      let next : block.0 + 1 ≡ k = omega arith in
+      let parts = split_places f.nodes front mid (laid d row) nodes in
+      let same = parts.2 x (subst (λ i. option_map (λ (m : ℕ × Item). m.1) (slice_get f.nodes i) ≡ Some x) here there) in
       let start_is : x.start ≡ level.1.start = ap (λ (y : Ranged). y.start) same in
-      let here : AreTokens text d x.start (drop (suc block.0) f.nodes) =
+      let all_tokens : AreTokens text d x.start (drop k f.nodes) =
       subst (λ k. AreTokens text d x.start (drop k f.nodes)) next
       (subst (λ k. AreTokens text k x.start (drop (block.0 + 1) f.nodes)) depth tokens) in
       let w : Within = below (open_within levels) from level.1 in
-      let (cut, is, fits) = cut_row text w level.1.start at e d x.start (drop (suc block.0) f.nodes) row b
-      (record { later = omega arith; extents_are = parts.1; tokens = here; fits = inside }) in
+      let (cut, is, fits) = cut_row text w level.1.start at e d x.start (drop k f.nodes) row b
+      (record { later = omega arith; extents_are = parts.1; tokens = all_tokens; fits = inside }) in
       let first : min level.1.start e ≡ level.1.start = omega arith in
-      let all : (cut_siblings f e).nodes ≡ take (suc block.0) f.nodes ++ cut_tokens e d (drop (suc block.0) f.nodes) =
+      let all : (cut_siblings f e).nodes ≡ take k f.nodes ++ cut_tokens e d (drop k f.nodes) =
       ap (λ k. take k f.nodes ++ cut_tokens e (length f.spine + 1) (drop k f.nodes)) place
-      ∙ ap (λ k. take (suc block.0) f.nodes ++ cut_tokens e k (drop (suc block.0) f.nodes)) depth in (
+      ∙ ap (λ z. take k f.nodes ++ cut_tokens e z (drop k f.nodes)) depth in (
         cut,
-        ap extents all ∙ extents-append (take (suc block.0) f.nodes) (cut_tokens e d (drop (suc block.0) f.nodes))
-            ∙ ap (λ (z : List (ℕ × Ranged)). z ++ extents (cut_tokens e d (drop (suc block.0) f.nodes))) parts.0
+        ap extents all ∙ extents-append (take k f.nodes) (cut_tokens e d (drop k f.nodes))
+            ∙ ap (λ (z : List (ℕ × Ranged)). z ++ extents (cut_tokens e d (drop k f.nodes))) parts.0
             ∙ ap (λ (z : List (ℕ × Ranged)). (front ++ mid ∷ []) ++ z) is ∙ append_assoc front (mid ∷ []) (laid d cut),
         (from, before, subst (λ k. Fits text w k at cut) first fits, starts, outer),
       )
@@ -317,40 +282,35 @@ text_flags level index DefinitionListTitle h = refl
 text_flags level index MaybeDefinitionListTitle h = refl
 text_flags level index body h = absurd (false≢true h)
 
-some_node : (o : Option (ℕ × Item)) (x : Item) → option_map (λ (n : ℕ × Item). n.1) o ≡ Some x → (n : ℕ × Item) × (o ≡ Some n) × (n.1 ≡ x)
-some_node None x e = absurd (none-some x e)
-some_node (Some n) x e = (n, refl, same_Some n.1 x e)
-
 -- the nodes up to the block are the same
 block_kept : (f : Forest Item) (e : ℕ) (block : TreeIndex) (x : Item) → slice_get f.spine 0 ≡ Some block → item_at f block ≡ Some x
     → body_at (cut_siblings f e).nodes block.0 ≡ Some x.body
 block_kept f e block x spine there =
-    let (rest, spine_is) = open_as f.spine block spine in
-    let place : open_place f.spine ≡ block.0 = ap open_place spine_is in
-    let (n, at, is) = some_node (slice_get f.nodes block.0) x there in
-    let within = slice_get_within f.nodes block.0 n at in
+    let place : open_place f.spine ≡ block.0 = ap open_place (open_as f.spine block spine).1 in
+    let within : block.0 < length f.nodes = some_within f.nodes block.0 x there in
     let k : ℕ = open_place f.spine + 1 in
     let long : length (take k f.nodes) ≡ min k (length f.nodes) = length-take k f.nodes in
     let cut : List (ℕ × Item) = cut_tokens e (length f.spine + 1) (drop k f.nodes) in
     let inside : block.0 < length (take k f.nodes) = omega arith in
-    let same : slice_get (take k f.nodes ++ cut) block.0 ≡ Some n =
+    let same : slice_get (take k f.nodes ++ cut) block.0 ≡ slice_get f.nodes block.0 =
     get_front (take k f.nodes) cut block.0 inside ∙ sym (get_front (take k f.nodes) (drop k f.nodes) block.0 inside)
-    ∙ ap (λ (ns : List (ℕ × Item)). slice_get ns block.0) (take-append-drop k f.nodes) ∙ at in
-    ap (option_map (λ (m : ℕ × Item). m.1.body)) same ∙ ap (λ (y : Item). Some y.body) is
+    ∙ ap (λ (ns : List (ℕ × Item)). slice_get ns block.0) (take-append-drop k f.nodes) in
+    body_of (cut_siblings f e) block x (ap (option_map (λ (m : ℕ × Item). m.1)) same ∙ there)
+  where
+    some_within : (nodes : List (ℕ × Item)) (i : ℕ) (x : Item) → option_map (λ (n : ℕ × Item). n.1) (slice_get nodes i) ≡ Some x → i < length nodes
+    some_within [] i x there = absurd (none-some x there)
+    some_within (n ∷ nodes) zero x there = omega arith
+    some_within (n ∷ nodes) (suc i) x there = (let h = some_within nodes i x there in omega arith)
 
-body_left : (text : List ℕ) (start : ℕ) (f cut : Forest Item) (block : TreeIndex) (x : Item) → slice_get f.spine 0 ≡ Some block → item_at f block ≡ Some x
-    → CutsChildren text start f cut → body_at cut.nodes block.0 ≡ Some x.body
-body_left text start f cut block x spine there (inl same) =
-    ap (λ (g : Forest Item). body_at g.nodes block.0) same ∙ body_of f block x there
-body_left text start f cut block x spine there (inr (e, low, b, is)) =
-    ap (λ (g : Forest Item). body_at g.nodes block.0) is ∙ block_kept f e block x spine there
-
-order_left : (text : List ℕ) (f cut : Forest Item) (block : TreeIndex) (at : ℕ) → slice_get f.spine 0 ≡ Some block → (h : HoldsTokens text f block)
-    → CutsChildren text h.node.start f cut → IsOrderedTo text f at → IsOrderedTo text cut at
-order_left text f cut block at spine h (inl same) o = subst (λ (g : Forest Item). IsOrderedTo text g at) (sym same) o
-order_left text f cut block at spine h (inr (e, low, b, is)) o =
+-- the children are cut, or not: the body of the block stays, and the order
+children_cut : (text : List ℕ) (f cut : Forest Item) (block : TreeIndex) (at : ℕ) → slice_get f.spine 0 ≡ Some block → (h : HoldsTokens text f block)
+    → CutsChildren text h.node.start f cut → IsOrderedTo text f at → (body_at cut.nodes block.0 ≡ Some h.node.body) × IsOrderedTo text cut at
+children_cut text f cut block at spine h (inl same) o =
+    subst (λ (g : Forest Item). (body_at g.nodes block.0 ≡ Some h.node.body) × IsOrderedTo text g at) (sym same) (body_of f block h.node h.there, o)
+children_cut text f cut block at spine h (inr (e, low, b, is)) o =
     let (rest, spine_is) = open_as f.spine block spine in
-    subst (λ (g : Forest Item). IsOrderedTo text g at) (sym is) (cut_ordered text f at e block rest h.node spine_is h.there h.tokens low b o)
+    subst (λ (g : Forest Item). (body_at g.nodes block.0 ≡ Some h.node.body) × IsOrderedTo text g at) (sym is)
+    (block_kept f e block h.node spine h.there, cut_ordered text f at e block rest h.node spine_is h.there h.tokens low b o)
 
 -- A block that contains tokens becomes a heading.
 pub heading_ordered : (d : Document) (level : HeadingLevel) (broken : Bool) (block : TreeIndex) (old new : Forest Item) (at : ℕ)
@@ -358,8 +318,7 @@ pub heading_ordered : (d : Document) (level : HeadingLevel) (broken : Bool) (blo
     → IsOrderedTo d.text new at
 heading_ordered d level broken block old new at spine heads h o =
     let children = subst (λ (z : Option Item). IsSomeAnd z (λ x. CutsChildren d.text x.start old heads.cut)) h.there heads.children in
-    let cut = order_left d.text old heads.cut block at spine h children o in
-    let body = body_left d.text h.node.start old heads.cut block h.node spine h.there children in
+    let (body, cut) = children_cut d.text old heads.cut block at spine h children o in
     subst (λ (g : Forest Item). IsOrderedTo d.text g at) (sym heads.tree_is)
     (ordered_same d.text heads.cut (with_body_at heads.cut block (Heading level heads.index)) at
     (extents-body heads.cut.nodes block.0 h.node.body (Heading level heads.index) body (text_flags level heads.index h.node.body h.has_text)) refl cut)

@@ -1,23 +1,16 @@
 -- A text joined to the last child of the innermost open node keeps the tree in order.
-use Rattle.std.proofs.Common.{◌≡◌, ℕ, suc, ◌+◌, ◌≤◌, ◌==◌, ◌&&◌, Bool, true, false, List, [], ◌∷◌, ◌++◌, length}
-use Rattle.std.proofs.Common.{Option, Some, None, IfSome, IsUtf8, IsCharBoundary, refl, sym, ap, subst, ◌∙◌, arith, if◌then◌else◌, take}
-use Rattle.std.proofs.lemmas.Bool.{and_parts, eqb-true}
-use Rattle.first_pass_items.specs.declared.cow_str.CowStr.{CowStr}
-use Rattle.first_pass_tokens.specs.Braces.{MathBraces}
-use Rattle.first_pass_items.specs.declared.item.Item.{Item}
-use Rattle.first_pass_items.specs.declared.item.ItemBody.{ItemBody}
-use Rattle.first_pass_items.specs.declared.item.ItemBody.TheVariants.{Text}
-use Rattle.first_pass_tree.specs.declared.tree_index.TreeIndex.{TreeIndex}
-use Rattle.first_pass_tree.specs.Forest.{Forest, IsForest, IsLastAt, depths, item_at, is_text, ends_text_at, joins_at, with_end_at, with_end, appended}
-use Rattle.first_pass_tree.proofs.Keeps.{appended-is, modified-is}
-use Rattle.first_pass_tokens.proofs.InOrder.{AreInOrder}
-use Rattle.first_pass_tokens.specs.TreeTokens.{with_token, with_tokens, AppendsLine, AppendsCell}
-use Rattle.first_pass_tokens.proofs.OrderLemmas.{order_bound, order_to, order_from, line_in_order, cell_in_order, cell_end_place}
-use Rattle.first_pass_grammar.specs.Leaves.{Document}
-use Rattle.first_pass_tokens.specs.Pieces.{text_upto}
+use Rattle.std.proofs.Common.{◌≡◌, ℕ, suc, ◌+◌, ◌≤◌, ◌==◌, ◌&&◌, Bool, true, false, List, [], ◌∷◌, ◌++◌, length, Option, Some, None, IfSome, IsUtf8}
+use Rattle.std.proofs.Common.{IsCharBoundary, refl, sym, ap, subst, ◌∙◌, arith, if◌then◌else◌, eqb-true}
+use Rattle.first_pass_grammar.proofs.Common.{and_parts, CowStr, MathBraces, Item, ItemBody, Text, TreeIndex, Forest, IsForest, IsLastAt, depths, item_at}
+use Rattle.first_pass_grammar.proofs.Common.{is_text, with_end_at, with_end, appended, modified-is, AreInOrder, with_tokens, AppendsLine, order_bound}
+use Rattle.first_pass_grammar.proofs.Common.{order_to, order_from, line_in_order, cell_end_place, Document, text_upto, Ranged, extent_of, is_task_marker}
+use Rattle.first_pass_grammar.proofs.Common.{Empty, laid, IsBetween, laid_open, FitsOpen, IsOrderedTo}
+use Rattle.first_pass_tree.specs.Forest.{ends_text_at, joins_at}
+use Rattle.first_pass_tree.proofs.Keeps.{appended-is}
+use Rattle.first_pass_tokens.specs.TreeTokens.{with_token, AppendsCell}
+use Rattle.first_pass_tokens.proofs.OrderLemmas.{cell_in_order}
 use Rattle.first_pass_text.proofs.TextFronts.{front_utf8, place_in_front, place_in_text, order_in_text}
-use Rattle.first_pass_grammar.specs.Order.{Ranged, extent_of, is_task_marker, Empty, Node, laid, IsBetween}
-use Rattle.first_pass_grammar.specs.OpenOrder.{laid_open, FitsOpen, IsOrderedTo}
+use Rattle.first_pass_grammar.specs.Order.{Node}
 use Rattle.first_pass_grammar.proofs.Order.Orders.{beside, ended_at, laid_open-beside, length-places, extents-ended}
 use Rattle.first_pass_order.proofs.RowSplits.{last_child, fits_open_last}
 use Rattle.first_pass_lists.specs.declared.state.PassState.{PassState}
@@ -105,6 +98,22 @@ pub record IsRange (text : List ℕ) (start : ℕ) (end : Option ℕ) : Type 0 w
   pub boundary : IsCharBoundary text start
   pub cut : IfSome end (λ e. (start ≤ e) × IsCharBoundary text e)
 
+-- the same of the text up to the cut, whose tokens are in order in the whole text, and whose boundaries are boundaries there
+record IsFront (text front : List ℕ) (start : ℕ) : Type 0 where
+  utf8 : IsUtf8 front
+  boundary : IsCharBoundary front start
+  tokens : (to : ℕ) (chain : List Item) → AreInOrder front start to chain → AreInOrder text start to chain
+  place : (i : ℕ) → IsCharBoundary front i → IsCharBoundary text i
+
+front_of : (text : List ℕ) (start : ℕ) (end : Option ℕ) → IsRange text start end → IsFront text (text_upto text end) start
+front_of text start None r = record { utf8 = r.utf8; boundary = r.boundary; tokens = λ to chain h. h; place = λ i b. b }
+front_of text start (Some e) r = record {
+  utf8 = front_utf8 text e r.utf8 r.cut.1;
+  boundary = place_in_front text e r.utf8 r.cut.1 start r.cut.0 r.boundary;
+  tokens = order_in_text text e r.utf8 r.cut.1 start;
+  place = place_in_text text e r.utf8 r.cut.1;
+}
+
 -- a tree is in order up to an offset that is not after another
 pub record IsOrderedBefore (text : List ℕ) (f : Forest Item) (start : ℕ) : Type 0 where
   pub from : ℕ
@@ -112,46 +121,41 @@ pub record IsOrderedBefore (text : List ℕ) (f : Forest Item) (start : ℕ) : T
   pub forest : IsForest f
   pub order : IsOrderedTo text f from
 
+-- a state in order, at an offset or later
+pub state_before : (text : List ℕ) (r : PassState) (at start : ℕ) → IsForest r.tree → IsOrderedAt text r at → at ≤ start → IsOrderedBefore text r.tree start
+state_before text r at start forest o low =
+    record { from = reached r.begin_list_item at; low = (let before = o.later in omega arith); forest = forest; order = o.ordered }
+
+-- tokens in order are added after an offset
+tokens_after : (text : List ℕ) (old new : Forest Item) (start to : ℕ) (tokens : List Item) → IsOrderedBefore text old start → AreInOrder text start to tokens
+    → to ≤ length text → new ≡ with_tokens old tokens → IsOrderedTo text new to
+tokens_after text old new start to tokens o h high is =
+    subst (λ f. IsOrderedTo text f to) (sym is)
+    (ordered_tokens text old o.from to tokens o.forest (order_from text o.from start to tokens h o.low) high o.order)
+
 -- the tokens of a line in a range of a text are added
 pub ordered_line : {texts : List CowStr} {after : MathBraces} (d : Document) (braces : MathBraces) (start : ℕ) (end : Option ℕ) (old new : Forest Item)
     (answer : ℕ × Option Item) → IsRange d.text start end → IsOrderedBefore d.text old start
     → AppendsLine texts (record { options = d.options; whole = d.text; text = text_upto d.text end; start = start; row = false; braces = braces }) old new
     answer after → IsOrderedTo d.text new answer.0
-ordered_line d braces start None old new (next, line_break) r o h =
-    let l = line_in_order r.utf8 r.boundary r.boundary.0 h.line in
-    let tokens : AreInOrder d.text start next h.tokens = order_to d.text start _ next h.tokens l.tokens_fit l.before in
-    subst (λ f. IsOrderedTo d.text f next) (sym h.tree_is)
-    (ordered_tokens d.text old o.from next h.tokens o.forest (order_from d.text o.from start next h.tokens tokens o.low) l.ends.0 o.order)
-ordered_line d braces start (Some e) old new (next, line_break) r o h =
-    let first = place_in_front d.text e r.utf8 r.cut.1 start r.cut.0 r.boundary in
-    let l = line_in_order (front_utf8 d.text e r.utf8 r.cut.1) first first.0 h.line in
-    let tokens : AreInOrder d.text start next h.tokens =
-    order_in_text d.text e r.utf8 r.cut.1 start next h.tokens (order_to (take e d.text) start _ next h.tokens l.tokens_fit l.before) in
-    subst (λ f. IsOrderedTo d.text f next) (sym h.tree_is) (ordered_tokens d.text old o.from next h.tokens o.forest
-    (order_from d.text o.from start next h.tokens tokens o.low) (place_in_text d.text e r.utf8 r.cut.1 next l.ends).0 o.order)
-
--- tokens are added to a state in order: the item to which they are added is no longer empty
-pub tokens_ordered : (text : List ℕ) (old new : PassState) (at to : ℕ) (tokens : List Item) → IsForest old.tree → IsOrderedAt text old at
-    → AreInOrder text at to tokens → to ≤ length text → new.tree ≡ with_tokens old.tree tokens → new.begin_list_item ≡ None → IsOrderedAt text new to
-tokens_ordered text old new at to tokens forest o order within is none =
-    let e : ℕ = reached old.begin_list_item at in
-    ordered_none text new to none within
-    (subst (λ f. IsOrderedTo text f to) (sym is)
-    (ordered_tokens text old.tree e to tokens forest (order_from text e at to tokens order o.later) within o.ordered))
+ordered_line d braces start end old new (next, line_break) r o h =
+    let f = front_of d.text start end r in
+    let l = line_in_order f.utf8 f.boundary f.boundary.0 h.line in
+    tokens_after d.text old new start next h.tokens o
+    (f.tokens next h.tokens (order_to (text_upto d.text end) start _ next h.tokens l.tokens_fit l.before)) (f.place next l.ends).0 h.tree_is
 
 -- the tokens of a cell in a range of a text are added
 pub ordered_cell : {texts : List CowStr} {after : MathBraces} (d : Document) (braces : MathBraces) (start : ℕ) (end : Option ℕ) (old new : Forest Item)
     (stop : ℕ) → IsRange d.text start end → IsOrderedBefore d.text old start
     → AppendsCell texts (record { options = d.options; whole = d.text; text = text_upto d.text end; start = start; row = true; braces = braces }) old new
     stop after → IsOrderedTo d.text new stop
-ordered_cell d braces start None old new stop r o h =
-    let tokens = cell_in_order r.utf8 r.boundary r.boundary.0 h.cell in
-    let place = cell_end_place r.boundary.0 h.cell in
-    subst (λ f. IsOrderedTo d.text f stop) (sym h.tree_is)
-    (ordered_tokens d.text old o.from stop h.tokens o.forest (order_from d.text o.from start stop h.tokens tokens o.low) place.0 o.order)
-ordered_cell d braces start (Some e) old new stop r o h =
-    let first = place_in_front d.text e r.utf8 r.cut.1 start r.cut.0 r.boundary in
-    let tokens = order_in_text d.text e r.utf8 r.cut.1 start stop h.tokens (cell_in_order (front_utf8 d.text e r.utf8 r.cut.1) first first.0 h.cell) in
-    let place = place_in_text d.text e r.utf8 r.cut.1 stop (cell_end_place first.0 h.cell) in
-    subst (λ f. IsOrderedTo d.text f stop) (sym h.tree_is)
-    (ordered_tokens d.text old o.from stop h.tokens o.forest (order_from d.text o.from start stop h.tokens tokens o.low) place.0 o.order)
+ordered_cell d braces start end old new stop r o h =
+    let f = front_of d.text start end r in
+    tokens_after d.text old new start stop h.tokens o (f.tokens stop h.tokens (cell_in_order f.utf8 f.boundary f.boundary.0 h.cell))
+    (f.place stop (cell_end_place f.boundary.0 h.cell)).0 h.tree_is
+
+-- tokens are added to a state in order: the item to which they are added is no longer empty
+pub tokens_ordered : (text : List ℕ) (old new : PassState) (start to : ℕ) (tokens : List Item) → IsOrderedBefore text old.tree start
+    → AreInOrder text start to tokens → to ≤ length text → new.tree ≡ with_tokens old.tree tokens → new.begin_list_item ≡ None → IsOrderedAt text new to
+tokens_ordered text old new start to tokens o order within is none =
+    ordered_none text new to none within (tokens_after text old.tree new.tree start to tokens o order within is)

@@ -1,11 +1,6 @@
 -- The rows of a table keep the tree in order as they are added, with at most four nodes for each byte.
 use Rattle.std.proofs.Common.{◌≡◌, ℕ, ◌+◌, ◌<◌, ◌≤◌, List, ◌∷◌, ◌++◌, length, Option, Some, None, IfSome, IsCharBoundary, refl, sym, ap, subst, ◌∙◌, arith}
-use Rattle.first_pass_items.specs.declared.item.Item.{Item}
-use Rattle.first_pass_tree.specs.declared.tree_index.TreeIndex.{TreeIndex}
-use Rattle.first_pass_tree.specs.Forest.{Forest, added, at_depth}
-use Rattle.first_pass_grammar.specs.Counting.{counted_nodes}
-use Rattle.first_pass_grammar.specs.OpenOrder.{IsOrderedTo}
-use Rattle.first_pass_grammar.specs.Order.{GrowsBy}
+use Rattle.first_pass_grammar.proofs.Common.{Item, TreeIndex, Forest, added, at_depth, counted_nodes, IsOrderedTo, GrowsBy}
 use Rattle.first_pass_grammar.proofs.Count.CountedNodes.{own_ended, own_added}
 use Rattle.first_pass_open.specs.OpenBlock.{IsJustPushed, closed_by}
 use Rattle.first_pass_open.specs.Between.{AddsBetween}

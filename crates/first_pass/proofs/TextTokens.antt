@@ -1,24 +1,10 @@
 -- The children of a paragraph whose lines were read are tokens, in order.
-use Rattle.std.proofs.Common.{◌≡◌, ℕ, ◌+◌, ◌<◌, ◌≤◌, max, true, List, [], ◌∷◌, ◌++◌, length, drop, slice_get, Option, Some, None, IsUtf8}
-use Rattle.std.proofs.Common.{refl, sym, ap, subst, ◌∙◌, arith}
-use Rattle.std.specs.Option.{option_map}
-use Rattle.std.proofs.Math.Seq.{drop-append_seam}
-use Rattle.std.proofs.lemmas.Bool.{false≢true}
-use Rattle.first_pass_items.specs.declared.item.Item.{Item}
-use Rattle.first_pass_items.specs.declared.item.ItemBody.{ItemBody}
-use Rattle.first_pass_items.specs.declared.item.ItemBody.TheVariants.{Paragraph, TaskListMarker}
-use Rattle.first_pass_tree.specs.declared.tree_index.TreeIndex.{TreeIndex}
-use Rattle.first_pass_tree.specs.Forest.{Forest, appended, at_depth, is_escaped, item_at}
-use Rattle.first_pass_lines.specs.Places.{start_of}
-use Rattle.first_pass_lines.proofs.PlaceFacts.{start_of-lines}
-use Rattle.first_pass_tokens.proofs.InOrder.{AreInOrder}
-use Rattle.first_pass_tokens.specs.TreeTokens.{chained, leaves}
-use Rattle.first_pass_tokens.proofs.ChainLemmas.{chained-nodes, chained-spine}
-use Rattle.first_pass_tokens.proofs.Escapes.{EscapesStand}
-use Rattle.first_pass_tokens.proofs.OrderLemmas.{order_bound}
-use Rattle.first_pass_grammar.specs.Leaves.{Document, TextLines, marker_items}
-use Rattle.first_pass_grammar.specs.OpenOrder.{IsOrderedTo}
-use Rattle.first_pass_grammar.specs.Order.{extent_of, is_task_marker, IsBetween}
+use Rattle.std.proofs.Common.{◌≡◌, ℕ, ◌+◌, ◌<◌, ◌≤◌, max, true, List, [], ◌∷◌, ◌++◌, length, drop, slice_get, Option, Some, None, IsUtf8, refl, sym, ap}
+use Rattle.std.proofs.Common.{subst, ◌∙◌, arith, option_map}
+use Rattle.first_pass_grammar.proofs.Common.{drop-append_seam, false≢true, Item, ItemBody, Paragraph, TaskListMarker, TreeIndex, Forest, appended, at_depth}
+use Rattle.first_pass_grammar.proofs.Common.{is_escaped, item_at, start_of, start_of-lines, AreInOrder, chained, leaves, chained-nodes, chained-spine}
+use Rattle.first_pass_grammar.proofs.Common.{EscapesStand, order_bound, Document, TextLines, marker_items, IsOrderedTo, extent_of, is_task_marker}
+use Rattle.first_pass_grammar.proofs.Common.{IsBetween}
 use Rattle.first_pass_open.specs.OpenBlock.{begun_item, with_child}
 use Rattle.first_pass_open.specs.Path.{path_of}
 use Rattle.first_pass_open.specs.Between.{MarkerBetween}
@@ -35,11 +21,6 @@ chain_ordered text f from to (x ∷ xs) h high o =
     let rest = order_bound text x.«end» to xs h.4 in
     let between : IsBetween text from x.«end» (extent_of x) = record { following = h.0; order = h.1; before = omega arith; starts = h.2; ends = h.3 } in
     chain_ordered text (appended f x) x.«end» to xs h.4 high (ordered_appended text f from x.«end» x between (omega arith) o)
-
--- the items before an added chain are unchanged
-front_kept : (f : Forest Item) (chain : List Item) (ix : TreeIndex) → ix.0 < length f.nodes → slice_get (chained f chain).nodes ix.0 ≡ slice_get f.nodes ix.0
-front_kept f chain ix within =
-    ap (λ (ns : List (ℕ × Item)). slice_get ns ix.0) (chained-nodes f chain) ∙ get_front f.nodes (at_depth (length f.spine + 1) (leaves chain)) ix.0 within
 
 marked_is : (f : Forest Item) (marker : Option Item) (chain : List Item) → chained f (marker_items marker ++ chain) ≡ chained (with_child f marker) chain
 marked_is f None chain = refl
@@ -86,24 +67,20 @@ module _ (d : Document) (utf8 : IsUtf8 d.text) (f : Forest Item) (block : TreeIn
 
   its_item : item_at f block ≡ Some (begun_item h.start Paragraph)
   its_item =
-      ap (λ (g : Forest Item). item_at g block) h.tree_is ∙ ap (option_map (λ (n : ℕ × Item). n.1)) (front_kept h.before whole_chain block block_in)
-      ∙ h.paragraph
-
-  text_within : (in_order.stop ≤ following) × (following ≤ length d.text)
-  text_within =
-      let left : following ≡ in_order.left_at = ap (start_of (length d.text)) in_order.left_is ∙ start_of-lines d.text in_order.left_at in_order.left_within in
-      (in_order.before, omega (arith, in_order.left_within))
-
-  whole_ordered : IsOrderedTo d.text (chained h.before whole_chain) following
-  whole_ordered =
-      let up = text_within in
-      subst (λ g. IsOrderedTo d.text g following) (sym (marked_is h.before h.marker l.chain))
-      (ordered_later d.text (chained (with_child h.before h.marker) l.chain) in_order.stop following up.0 up.1
-      (chain_ordered d.text (with_child h.before h.marker) h.start in_order.stop l.chain in_order.order (omega (arith, up.0, up.1)) h.ordered))
+      let kept = get_front h.before.nodes (at_depth (length h.before.spine + 1) (leaves whole_chain)) block.0 block_in in
+      ap (λ (g : Forest Item). item_at g block) h.tree_is
+      ∙ ap (λ (ns : List (ℕ × Item)). option_map (λ (n : ℕ × Item). n.1) (slice_get ns block.0)) (chained-nodes h.before whole_chain)
+      ∙ ap (option_map (λ (n : ℕ × Item). n.1)) kept ∙ h.paragraph
 
   -- The open paragraph is in order.
   pub open_ordered : IsOrderedTo d.text f following
-  open_ordered = subst (λ g. IsOrderedTo d.text g following) (sym h.tree_is) whole_ordered
+  open_ordered =
+      let left : following ≡ in_order.left_at = ap (start_of (length d.text)) in_order.left_is ∙ start_of-lines d.text in_order.left_at in_order.left_within in
+      let before : in_order.stop ≤ following = in_order.before in
+      let within : following ≤ length d.text = omega (arith, in_order.left_within) in
+      subst (λ g. IsOrderedTo d.text g following) (sym (h.tree_is ∙ marked_is h.before h.marker l.chain))
+      (ordered_later d.text (chained (with_child h.before h.marker) l.chain) in_order.stop following before within
+      (chain_ordered d.text (with_child h.before h.marker) h.start in_order.stop l.chain in_order.order (omega arith) h.ordered))
 
   -- Its children are tokens.
   pub open_tokens : HoldsTokens d.text f block

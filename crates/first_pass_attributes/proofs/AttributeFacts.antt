@@ -1,9 +1,10 @@
 -- The effect of a word on attributes.
-use Rattle.std.proofs.Common.{◌≡◌, ℕ, Bool, true, false, cond, get_or, List, [], ◌∷◌, ◌++◌, map, filter, drop, Option, Some, refl, sym, ap, ◌∙◌, append_assoc}
-use Rattle.std.proofs.Common.{append-nil, ne_eqb}
+use Rattle.std.proofs.Common.{◌≡◌, ℕ, Bool, true, false, cond, get_or, List, [], ◌∷◌, ◌++◌, map, filter, drop, Option, Some, refl, sym, ap, ◌∙◌}
+use Rattle.std.proofs.Common.{append_assoc, append-nil, ne_eqb}
 use Rattle.first_pass_items.specs.Bytes.{number_sign, full_stop}
 use Rattle.first_pass_lines.specs.Lines.{begins}
-use Rattle.first_pass_attributes.specs.Attributes.{Attributes, attributes_in, attributes_of, no_attributes, is_attribute_word, words, gives_key, key_and_value, last_or, with_words}
+use Rattle.first_pass_attributes.specs.Attributes.{Attributes, attributes_in, attributes_of, no_attributes, is_attribute_word, words, gives_key}
+use Rattle.first_pass_attributes.specs.Attributes.{key_and_value, last_or, with_words}
 use Rattle.first_pass_attributes.specs.declared.heading_attributes.HeadingAttributes.{HeadingAttributes}
 
 -- attributes are equal if their three parts are
@@ -11,22 +12,9 @@ pub same_parts : {i j : Option (List ℕ)} {c d : List (List ℕ)} {e f : List (
     → i ≡ j → c ≡ d → e ≡ f → ◌≡◌ {A = Attributes} (record { id = i; classes = c; attrs = e }) (record { id = j; classes = d; attrs = f })
 same_parts p q r = rw (p, q, r) refl
 
-pub with-none : (a : Attributes) → with_words a [] ≡ a
+with-none : (a : Attributes) → with_words a [] ≡ a
 unfolding with_words
 with-none a = same_parts refl (append-nil a.classes) (append-nil a.attrs)
-
-pub with-id : (a : Attributes) (x : List ℕ) → with_words a ((number_sign ∷ x) ∷ []) ≡ record { id = Some x; classes = a.classes; attrs = a.attrs }
-unfolding with_words
-with-id a x = same_parts refl (append-nil a.classes) (append-nil a.attrs)
-
-pub with-class : (a : Attributes) (x : List ℕ) → with_words a ((full_stop ∷ x) ∷ []) ≡ record { id = a.id; classes = a.classes ++ x ∷ []; attrs = a.attrs }
-unfolding with_words
-with-class a x = same_parts refl refl (append-nil a.attrs)
-
-pub with-key : (a : Attributes) (w : List ℕ) → begins number_sign w ≡ false → begins full_stop w ≡ false
-    → with_words a (w ∷ []) ≡ record { id = a.id; classes = a.classes; attrs = a.attrs ++ key_and_value w ∷ [] }
-unfolding with_words
-with-key a w e f = rw (e, f) (same_parts refl (append-nil a.classes) refl)
 
 -- one more value, of a word that is kept or not
 last-more : {X Y : Type 0} (f : X → Y) (t : Bool) (w : X) (ws : List X) (o : Option Y)
@@ -74,11 +62,13 @@ telling a w h = ap (λ t. with_words a (cond t (w ∷ []) [])) h
 
 pub told-id : (a : Attributes) (w x : List ℕ) → is_attribute_word w ≡ true → w ≡ number_sign ∷ x
     → with_words a (filter is_attribute_word (w ∷ [])) ≡ record { id = Some x; classes = a.classes; attrs = a.attrs }
-told-id a w x h e = telling a w h ∙ ap (λ v. with_words a (v ∷ [])) e ∙ with-id a x
+unfolding with_words
+told-id a w x h e = telling a w h ∙ ap (λ v. with_words a (v ∷ [])) e ∙ same_parts refl (append-nil a.classes) (append-nil a.attrs)
 
 pub told-class : (a : Attributes) (w x : List ℕ) → is_attribute_word w ≡ true → w ≡ full_stop ∷ x
     → with_words a (filter is_attribute_word (w ∷ [])) ≡ record { id = a.id; classes = a.classes ++ x ∷ []; attrs = a.attrs }
-told-class a w x h e = telling a w h ∙ ap (λ v. with_words a (v ∷ [])) e ∙ with-class a x
+unfolding with_words
+told-class a w x h e = telling a w h ∙ ap (λ v. with_words a (v ∷ [])) e ∙ same_parts refl refl (append-nil a.attrs)
 
 -- the mark of a word
 pub begins-mark : (c : ℕ) (w : List ℕ) → is_attribute_word w ≡ true → get_or w 0 0 ≡ c → w ≡ c ∷ drop 1 w
@@ -91,4 +81,5 @@ begins-other c (b ∷ bs) h e = ne_eqb b c e
 
 pub told-key : (a : Attributes) (w : List ℕ) → is_attribute_word w ≡ true → begins number_sign w ≡ false → begins full_stop w ≡ false
     → with_words a (filter is_attribute_word (w ∷ [])) ≡ record { id = a.id; classes = a.classes; attrs = a.attrs ++ key_and_value w ∷ [] }
-told-key a w h e f = telling a w h ∙ with-key a w e f
+unfolding with_words
+told-key a w h e f = telling a w h ∙ rw (e, f) (same_parts refl (append-nil a.classes) refl)

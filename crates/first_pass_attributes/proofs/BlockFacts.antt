@@ -1,12 +1,12 @@
 -- The attribute block of a heading, by the parts of its bytes.
-use Rattle.std.proofs.Common.{◌≡◌, ℕ, suc, ◌+◌, ◌-◌, ◌<◌, Bool, true, false, List, [], ◌∷◌, ◌++◌, length, take, drop, slice_index_or, Option, Some, None, refl}
-use Rattle.std.proofs.Common.{sym, ap, ◌∙◌, append_assoc, arith, eq-eqb, length-append, if◌then◌else◌}
+use Rattle.std.proofs.Common.{◌≡◌, ℕ, suc, ◌+◌, ◌-◌, ◌<◌, ◌≤◌, Bool, true, false, List, [], ◌∷◌, ◌++◌, length, take, drop, slice_index_or, Option, Some}
+use Rattle.std.proofs.Common.{None, refl, sym, ap, ap₂, ◌∙◌, append_assoc, arith, eq-eqb, length-append, if◌then◌else◌, option_map, eqb-true, get_or-drop}
+use Rattle.std.proofs.Common.{get_or-append-add, get_or-take, take-append-drop, length-take, length-drop}
 use mathlib.Core.List.{reverse}
-use Rattle.std.specs.Option.{option_map}
 use Rattle.std.specs.List.{list_all, suffix_len}
-use Rattle.std.proofs.lemmas.Bool.{eqb-true}
+use Rattle.std.proofs.lemmas.Option.{cond_some}
 use Rattle.std.proofs.lemmas.Grind.{common_steps}
-use Rattle.std.proofs.lemmas.List.{get_or-reverse, get_or-drop, get_or-append-add, get_or-take, drop_more, take-append-drop, length-take, length-drop}
+use Rattle.std.proofs.lemmas.List.{get_or-reverse, drop_more}
 use Rattle.std.proofs.lemmas.List.Sums.{prefix_len_passes, suffix_len_is, suffix_len-le-length, AllPass-from_list_all, list_all-from_AllPass}
 use Rattle.std.proofs.Math.Seq.{take-append_seam, drop-length, get_or-append_seam}
 use Rattle.first_pass_items.specs.Bytes.{left_brace, right_brace}
@@ -103,27 +103,20 @@ split-end bs x e =
 opening-at : (front inside : List ℕ) → list_all is_inside_block inside ≡ true → opening_brace (front ++ left_brace ∷ inside) ≡ Some (length front)
 unfolding opening_brace
 opening-at front inside h =
-    let kept = left-at is_inside_block front left_brace inside refl h in
-    ap (λ bs. if ends left_brace bs then Some (length bs - 1) else None) kept
-    ∙ ap (λ t. if t then Some (length (front ++ left_brace ∷ []) - 1) else None) (ends-with front left_brace)
-    ∙ ap Some (front-length front left_brace)
+    rw (left-at is_inside_block front left_brace inside refl h, ends-with front left_brace, front-length front left_brace)
 
 block-at : (front inside following : List ℕ) → list_all is_inside_block inside ≡ true → list_all is_after_block following ≡ true
     → attribute_block ((front ++ left_brace ∷ inside) ++ right_brace ∷ following) ≡ Some (braces (length front) (length (front ++ left_brace ∷ inside)))
 unfolding attribute_block
 block-at front inside following h g =
     let before : List ℕ = front ++ left_brace ∷ inside in
-    let whole : List ℕ = before ++ right_brace ∷ [] in
-    let last : ℕ = length whole - 1 in
-    let kept = left-at is_after_block before right_brace following refl g in
-    ap (λ bs. if ends right_brace bs then option_map (λ opening. braces opening (length bs - 1)) (opening_brace (take (length bs - 1) bs)) else None) kept
-    ∙ ap (λ t. if t then option_map (λ opening. braces opening last) (opening_brace (take last whole)) else None) (ends-with before right_brace)
-    ∙ ap (λ bs. option_map (λ opening. braces opening last) (opening_brace bs)) (front-bytes before right_brace)
-    ∙ ap (λ n. option_map (λ opening. braces opening n) (opening_brace before)) (front-length before right_brace)
-    ∙ ap (option_map (λ opening. braces opening (length before))) (opening-at front inside h)
-
-braces-same : (block : Braces) (m n : ℕ) → block.opening ≡ m → block.closing ≡ n → braces m n ≡ block
-braces-same block m n e f = rw (sym e, sym f) refl
+    rw (
+      left-at is_after_block before right_brace following refl g,
+      ends-with before right_brace,
+      front-bytes before right_brace,
+      front-length before right_brace,
+      opening-at front inside h,
+    )
 
 pub block-only : (heading : List ℕ) (block : Braces) → IsAttributeBlock heading block → attribute_block heading ≡ Some block
 block-only heading block is =
@@ -131,32 +124,29 @@ block-only heading block is =
     let long : length before ≡ length is.front + suc (length is.inside) = length-append is.front (left_brace ∷ is.inside) in
     let parts : heading ≡ before ++ right_brace ∷ is.following = is.parts ∙ sym (append_assoc is.front (left_brace ∷ is.inside) (right_brace ∷ is.following)) in
     ap attribute_block parts ∙ block-at is.front is.inside is.following is.plain is.aside
-    ∙ ap Some (braces-same block (length is.front) (length before) is.opens (is.closes ∙ omega arith))
+    ∙ ap₂ (λ m n. Some (braces m n)) (sym is.opens) (omega (arith, is.closes))
 
 -- the converse
-if-some : {X : Type 0} (t : Bool) (o : Option X) (x : X) → (if t then o else None) ≡ Some x → (t ≡ true) × (o ≡ Some x)
-if-some true o x e = (refl, e)
-if-some false o x e = absurd cc
-
-mapped-some : (n : ℕ) (o : Option ℕ) (block : Braces) → option_map (λ opening. braces opening n) o ≡ Some block → (o ≡ Some block.opening) × (block.closing ≡ n)
-mapped-some n None block e = absurd cc
-mapped-some n (Some k) block e =
+mapped-some : (t : Bool) (n : ℕ) (o : Option ℕ) (block : Braces) → (if t then option_map (λ opening. braces opening n) o else None) ≡ Some block
+    → (o ≡ Some block.opening) × (block.closing ≡ n) × (t ≡ true)
+mapped-some false n o block e = absurd cc
+mapped-some true n None block e = absurd cc
+mapped-some true n (Some k) block e =
     let same : braces k n ≡ block = cc in
-    (ap (λ b. Some b.opening) same, ap (λ b. b.closing) (sym same))
+    (ap (λ b. Some b.opening) same, ap (λ b. b.closing) (sym same), refl)
 
 opening-found : (bs : List ℕ) (k : ℕ) → opening_brace bs ≡ Some k
     → (front : List ℕ) × (inside : List ℕ) × (bs ≡ front ++ left_brace ∷ inside) × (list_all is_inside_block inside ≡ true) × (k ≡ length front)
 unfolding opening_brace
 opening-found bs k e =
     let kept : List ℕ = left is_inside_block bs in
-    let found = if-some (ends left_brace kept) (Some (length kept - 1)) k e in
+    let found = cond_some (ends left_brace kept) (length kept - 1) k e in
     let front : List ℕ = take (length kept - 1) kept in
     let inside : List ℕ = following is_inside_block bs in
     let cut : kept ≡ front ++ left_brace ∷ [] = split-end kept left_brace found.0 in
     let parts : bs ≡ front ++ left_brace ∷ inside =
     left-and-following is_inside_block bs ∙ ap (λ l. l ++ inside) cut ∙ append_assoc front (left_brace ∷ []) inside in
-    let place : length kept - 1 ≡ k = cc in
-    (front, inside, parts, following-passes is_inside_block bs, sym place ∙ omega (arith, length-take (length kept - 1) kept))
+    (front, inside, parts, following-passes is_inside_block bs, sym found.1 ∙ omega (arith, length-take (length kept - 1) kept))
 
 pub block-found : (heading : List ℕ) (block : Braces) → attribute_block heading ≡ Some block → IsAttributeBlock heading block
 unfolding attribute_block
@@ -164,13 +154,12 @@ block-found heading block e =
     let kept : List ℕ = left is_after_block heading in
     let n : ℕ = length kept - 1 in
     let before : List ℕ = take n kept in
-    let found = if-some (ends right_brace kept) (option_map (λ opening. braces opening n) (opening_brace before)) block e in
-    let some = mapped-some n (opening_brace before) block found.1 in
+    let some = mapped-some (ends right_brace kept) n (opening_brace before) block e in
     let opened = opening-found before block.opening some.0 in
     let front : List ℕ = opened.0 in
     let inside : List ℕ = opened.1 in
     let rest : List ℕ = following is_after_block heading in
-    let cut : kept ≡ before ++ right_brace ∷ [] = split-end kept right_brace found.0 in
+    let cut : kept ≡ before ++ right_brace ∷ [] = split-end kept right_brace some.2 in
     let long : length before ≡ length front + suc (length inside) = ap length opened.2 ∙ length-append front (left_brace ∷ inside) in
     record {
       front = front;
@@ -183,3 +172,12 @@ block-found heading block e =
       opens = opened.4;
       closes = some.1 ∙ omega (arith, length-take n kept, long);
     }
+
+-- a block is within its text
+pub block-within : (bs : List ℕ) (block : Braces) → attribute_block bs ≡ Some block → (block.opening + 1 ≤ block.closing) × (block.closing < length bs)
+block-within bs block e =
+    let is = block-found bs block e in
+    let a = length-append is.front (left_brace ∷ (is.inside ++ right_brace ∷ is.following)) in
+    let b = length-append is.inside (right_brace ∷ is.following) in
+    let whole : length bs ≡ length (is.front ++ left_brace ∷ (is.inside ++ right_brace ∷ is.following)) = ap length is.parts in
+    (omega (arith, is.opens, is.closes), omega (arith, is.opens, is.closes))

@@ -1,10 +1,11 @@
 -- The first word of bytes, and where it ends.
 use Rattle.std.proofs.Common.{◌≡◌, ℕ, ◌+◌, ◌-◌, ◌<◌, ◌≤◌, not, Bool, true, false, cond, nat_lt, List, [], ◌∷◌, ◌++◌, length, filter, take, drop, get_or}
-use Rattle.std.proofs.Common.{IsUtf8, IsCharBoundary, inl, inr, refl, sym, ap, subst, ◌∙◌, arith}
-use Rattle.std.specs.List.{All, slice_split, prefix_len}
+use Rattle.std.proofs.Common.{IsUtf8, IsCharBoundary, inl, inr, refl, sym, ap, subst, ◌∙◌, arith, All, get_or-take, take-append-drop, take_all, length-take}
+use Rattle.std.proofs.Common.{length-take-le, length-drop}
+use Rattle.std.specs.List.{slice_split, prefix_len}
 use Rattle.std.proofs.lemmas.Bool.{cases_lt, not-true, not-false}
 use Rattle.std.proofs.lemmas.Bool.Decides.{nat_tests}
-use Rattle.std.proofs.lemmas.List.{get_or-take, drop_more, drop-take, take-append-drop, take_all, length-take, length-take-le, length-drop}
+use Rattle.std.proofs.lemmas.List.{drop_more, drop-take}
 use Rattle.std.proofs.lemmas.List.Splits.{slice_split_none, slice_split_at}
 use Rattle.std.proofs.lemmas.List.Sums.{prefix_len_is, prefix_len_passes, prefix_len_stops, prefix_len-le-length}
 use Rattle.std.proofs.lemmas.Str.{IsCharBoundary-end, IsCharBoundary-before_ascii, IsCharBoundary-after_ascii}
@@ -18,18 +19,14 @@ in_word b = not (is_between_words b)
 pub separator_is_ascii : (b : ℕ) → is_between_words b ≡ true → b < 128
 separator_is_ascii b h = grind (arith, nat_tests, h)
 
-kept : (b : ℕ) (bs : List ℕ) (parts : List (List ℕ))
-    → filter (λ part. nat_lt 0 (length part)) ((b ∷ bs) ∷ parts) ≡ (b ∷ bs) ∷ filter (λ part. nat_lt 0 (length part)) parts
-kept b bs parts =
-    let more : nat_lt 0 (length (b ∷ bs)) ≡ true = grind (arith, nat_tests) in
-    let rest : List (List ℕ) = filter (λ part. nat_lt 0 (length part)) parts in
-    ap (λ t. cond t ((b ∷ bs) ∷ rest) rest) more
-
 -- an empty part has no attribute, so it need not be left out
 told : (x : List ℕ) (parts : List (List ℕ)) → filter is_attribute_word (filter (λ part. nat_lt 0 (length part)) (x ∷ parts))
     ≡ filter is_attribute_word (x ∷ filter (λ part. nat_lt 0 (length part)) parts)
 told [] parts = refl
-told (b ∷ bs) parts = ap (filter is_attribute_word) (kept b bs parts)
+told (b ∷ bs) parts =
+    let more : nat_lt 0 (length (b ∷ bs)) ≡ true = grind (arith, nat_tests) in
+    let rest : List (List ℕ) = filter (λ part. nat_lt 0 (length part)) parts in
+    ap (λ t. filter is_attribute_word (cond t ((b ∷ bs) ∷ rest) rest)) more
 
 plain : (bs : List ℕ) (n : ℕ) → n ≡ prefix_len in_word bs → All (λ b. is_between_words b ≡ false) (take n bs)
 plain bs n e k d l =
@@ -72,26 +69,16 @@ words-last bs n e all =
 solid_in_word : (b : ℕ) → is_solid b ≡ true → in_word b ≡ true
 solid_in_word b h = grind (arith, nat_tests, h)
 
-between_is_out : (b : ℕ) → is_between_words b ≡ true → in_word b ≡ false
-between_is_out b h = ap not h
-
--- of 16 bytes the first ones are above the space: these are all bytes of a word
-pub solid-to-limit : (bs : List ℕ) (limit run : ℕ) → limit ≤ length bs → IsRunIn is_solid bs 0 16 run → limit ≤ run
-    → limit ≡ prefix_len in_word (take limit bs)
-solid-to-limit bs limit run within is short =
+-- of 16 bytes the first ones are above the space: up to a limit, or to a byte between words, these are all bytes of a word
+pub solid-to : (bs : List ℕ) (limit run n : ℕ) → limit ≤ length bs → IsRunIn is_solid bs 0 16 run → n ≤ run → n ≤ limit
+    → (n < limit → is_between_words (get_or bs n 0) ≡ true) → n ≡ prefix_len in_word (take limit bs)
+solid-to bs limit run n within is low short gap =
     let size : length (take limit bs) ≡ limit = length-take-le limit bs within in
-    sym (prefix_len_is in_word (take limit bs) limit 0 (omega (arith, size))
-    (λ k l. ap in_word (get_or-take limit bs k 0 l) ∙ solid_in_word (get_or bs k 0) (is.1 k (omega arith) (omega arith)))
-    (λ l. absurd (omega (arith, size, l))))
-
--- the same, and the next byte is between words
-pub solid-to-gap : (bs : List ℕ) (limit run : ℕ) → limit ≤ length bs → IsRunIn is_solid bs 0 16 run → run < limit
-    → is_between_words (get_or bs run 0) ≡ true → run ≡ prefix_len in_word (take limit bs)
-solid-to-gap bs limit run within is long gap =
-    let size : length (take limit bs) ≡ limit = length-take-le limit bs within in
-    sym (prefix_len_is in_word (take limit bs) run 0 (omega (arith, size))
+    sym (prefix_len_is in_word (take limit bs) n 0 (omega (arith, size))
     (λ k l. ap in_word (get_or-take limit bs k 0 (omega arith)) ∙ solid_in_word (get_or bs k 0) (is.1 k (omega arith) (omega arith)))
-    (λ l. ap in_word (get_or-take limit bs run 0 long) ∙ between_is_out (get_or bs run 0) gap))
+    (λ l.
+    let less : n < limit = omega (arith, size, l) in
+    ap in_word (get_or-take limit bs n 0 less) ∙ ap not (gap less)))
 
 -- what begins the bytes ahead still does without a word and the byte after it
 pub ahead-next : (bs ahead : List ℕ) (n : ℕ) → bs ≡ take (length bs) ahead → length bs ≤ length ahead → n < length bs

@@ -1,4 +1,4 @@
+pub mod BlockRead
+pub mod FootnoteOpened
 pub mod Leaves
-pub mod LineByLine
 pub mod LinkDefinitions
-pub mod Openings

@@ -19,7 +19,7 @@ use Rattle.first_pass_blocks.specs.Views.{allocs_of, context_in, front_of, state
 use Rattle.first_pass_containers.specs.FootnoteHeads.{head_read}
 use Rattle.first_pass_containers.specs.Starts.{FinishesNothing}
 
--- two passes have the same source, state, names, tables and front of the next line
+-- two passes have the same source, state, names, tables and front of the next line (this project)
 abbrev pub StaysSame : BlockPass → BlockPass → Type 0
 StaysSame old new =
     (source_of new ≡ source_of old) × (state_of new ≡ state_of old) × (allocs_of new ≡ allocs_of old) × (front_of new ≡ front_of old)

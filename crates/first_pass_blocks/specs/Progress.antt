@@ -1,12 +1,14 @@
 -- A pass that read a block (of public calls, only `parse_block` and `parse_text` cite this).
 use Rattle.std.specs.Prelude.{◌≡◌, ℕ, ◌+◌, ◌<◌, ◌≤◌, false, List, length, drop, None, IsUtf8, IsCharBoundary}
 use Rattle.first_pass_items.specs.declared.item.Item.{Item}
+use Rattle.first_pass_tree.specs.Forest.{Forest}
 use Rattle.first_pass_lines.specs.Lines.{line_len}
 use Rattle.first_pass_lines.specs.Places.{Place, line_end, IsPlaceOf}
 use Rattle.first_pass_grammar.specs.Names.{Names, Extends, AreNamed}
 use Rattle.first_pass_grammar.specs.Leaves.{document}
 use Rattle.first_pass_grammar.specs.Completion.{lines_from}
 use Rattle.first_pass_grammar.specs.WholeTables.{HasWholeTables}
+use Rattle.first_pass_names.specs.declared.items.Allocations.{Allocations}
 use Rattle.first_pass_names.specs.TableEntries.{tables_of, names_of}
 use Rattle.first_pass_blocks.specs.Written.{TablesAreWritten}
 use Rattle.first_pass_open.specs.declared.source.Source.{Source}
@@ -25,35 +27,47 @@ pub record IsAtPlace (pass : BlockPass) (p : Place) : Type 0 where
   pub no_empty : (state_of pass).begin_list_item ≡ None
   pub none : (front_of pass).is_known ≡ false
 
+-- what a pass reads, what its nodes name with the definition tables, and its tree (this project)
+pub record Parts : Type 0 where
+  pub source : Source
+  pub allocs : Allocations
+  pub tree : Forest Item
+
+abbrev pub parts_of : BlockPass → Parts
+parts_of pass = record { source = source_of pass; allocs = allocs_of pass; tree = tree_of pass }
+
+-- A pass over a source reads the same text, and names are kept. If each index named an entry, each still does. If the
+-- entries of the tables were written in the text, they still are. If each index named an entry, and all tables were
+-- whole with no row open, they still are (this project).
+pub record KeepsParts (over : Source) (old new : Parts) : Type 0 where
+  pub source : new.source ≡ old.source
+  pub names : Extends (names_of new.allocs) (names_of old.allocs)
+  pub named : AreNamed (names_of old.allocs) old.tree.nodes → AreNamed (names_of new.allocs) new.tree.nodes
+  pub written : TablesAreWritten over.text.now old.allocs → TablesAreWritten over.text.now new.allocs
+  pub tables : AreNamed (names_of old.allocs) old.tree.nodes → HasWholeTables (names_of old.allocs) old.tree → HasWholeTables (names_of new.allocs) new.tree
+
+-- the same for the parts of two passes (this project)
+abbrev pub KeepsPass : Source → BlockPass → BlockPass → Type 0
+KeepsPass over old new = KeepsParts over (parts_of old) (parts_of new)
+
 -- A pass over a source came from one position to another, in a line that begins at an offset or after that line. It
--- reads the same text, and names are kept. Under all names that extend the new ones:
--- if the state began a derivation at the first position, it begins one at the second. If it was in order, it still is,
--- and it grew by at most four nodes for each byte. If each index named an entry, each still does. If the entries of the
--- tables were written in the text, they still are. If each index named an entry, and all tables were whole with no row
--- open, they still are (this project).
+-- keeps what `KeepsPass` says. Under all names that extend the new ones, if the state began a derivation at the first position, it begins one at the
+-- second. If it was in order, it still is, and it grew by at most four nodes for each byte (this project).
 pub record PassesTo (over : Source) (line : ℕ) (old new : BlockPass) (from to : Position) : Type 0 where
-  pub source : source_of new ≡ source_of old
-  pub names : Extends (names_of (allocs_of new)) (names_of (allocs_of old))
+  pub kept : KeepsPass over old new
   pub ready : (more : Names) → Extends more (names_of (allocs_of new))
       → ReadyOn (document over.text.now over.options more) (tables_of (allocs_of old)) (state_of old) from
       → ReadyOn (document over.text.now over.options more) (tables_of (allocs_of new)) (state_of new) to
   pub order : OrderedOn over.options over.text.now (state_of old) from → OrderedOn over.options over.text.now (state_of new) to
   pub node_bound : (first : List (ℕ × Item)) → GrowsTo over.text.now line first (tree_of old).nodes from
       → GrowsTo over.text.now line first (tree_of new).nodes to
-  pub named : AreNamed (names_of (allocs_of old)) (tree_of old).nodes → AreNamed (names_of (allocs_of new)) (tree_of new).nodes
-  pub written : TablesAreWritten over.text.now (allocs_of old) → TablesAreWritten over.text.now (allocs_of new)
-  pub tables : AreNamed (names_of (allocs_of old)) (tree_of old).nodes → HasWholeTables (names_of (allocs_of old)) (tree_of old)
-      → HasWholeTables (names_of (allocs_of new)) (tree_of new)
 
 -- A pass over a source read a block from a position on. Reading continues at a character boundary, not before a given
--- offset. The pass reads the same text, and names are kept. Under all names that extend the new ones: if the state
--- began a derivation at the position, it begins one where reading continues. If it was in order, it still is, and it
--- has at most four more nodes for each byte. If each index named an entry, each still does. If the entries of the
--- tables were written in the text, they still are. If each index named an entry, and all tables were whole with no
--- row open, they still are (this project).
+-- offset. It keeps what `KeepsPass` says. Under all names that extend the new ones, if the state began a derivation at
+-- the position, it begins one where reading continues. If it was in order, it still is, and it has at most four more
+-- nodes for each byte (this project).
 pub record ReadsBlockOf (over : Source) (old new : BlockPass) (far : ℕ) (from : Position) (next : ℕ) : Type 0 where
-  pub source : source_of new ≡ source_of old
-  pub names : Extends (names_of (allocs_of new)) (names_of (allocs_of old))
+  pub kept : KeepsPass over old new
   pub later : far ≤ next
   pub boundary : IsCharBoundary over.text.now next
   pub ready : (more : Names) → Extends more (names_of (allocs_of new))
@@ -61,10 +75,6 @@ pub record ReadsBlockOf (over : Source) (old new : BlockPass) (far : ℕ) (from 
       → Ready (document over.text.now over.options more) (tables_of (allocs_of new)) (state_of new) (lines_from over.text.now next)
   pub order : OrderedOn over.options over.text.now (state_of old) from → IsReadFrom over.options over.text.now (state_of new) next
   pub node_bound : GrowsFrom over.text.now from next (tree_of old).nodes (tree_of new).nodes
-  pub named : AreNamed (names_of (allocs_of old)) (tree_of old).nodes → AreNamed (names_of (allocs_of new)) (tree_of new).nodes
-  pub written : TablesAreWritten over.text.now (allocs_of old) → TablesAreWritten over.text.now (allocs_of new)
-  pub tables : AreNamed (names_of (allocs_of old)) (tree_of old).nodes → HasWholeTables (names_of (allocs_of old)) (tree_of old)
-      → HasWholeTables (names_of (allocs_of new)) (tree_of new)
 
 -- the same over the source of the old pass (this project)
 abbrev pub ReadsBlock : BlockPass → BlockPass → ℕ → Position → ℕ → Type 0

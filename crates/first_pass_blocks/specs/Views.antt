@@ -11,21 +11,27 @@ use Rattle.first_pass_grammar.specs.Containers.{Context}
 use Rattle.first_pass_open.specs.Path.{context_of}
 use Rattle.first_pass_blocks.specs.declared.state.BlockPass.{BlockPass}
 
+-- the source of a pass (this project)
 abbrev pub source_of : BlockPass → Source
 source_of pass = pass.source
 
+-- the text that a pass reads (this project)
 abbrev pub source_text : BlockPass → List ℕ
 source_text pass = pass.source.text.now
 
+-- its options (this project)
 abbrev pub source_options : BlockPass → Options
 source_options pass = pass.source.options
 
+-- the state of a pass between two lines (this project)
 abbrev pub state_of : BlockPass → PassState
 state_of pass = pass.state
 
+-- the tree in that state (this project)
 abbrev pub tree_of : BlockPass → Forest Item
 tree_of pass = pass.state.tree
 
+-- what the nodes name, and the definition tables (this project)
 abbrev pub allocs_of : BlockPass → Allocations
 allocs_of pass = pass.allocs
 
@@ -33,6 +39,6 @@ allocs_of pass = pass.allocs
 abbrev pub front_of : BlockPass → NextFront
 front_of pass = pass.next_front
 
--- the context in which a pass reads a line
+-- the context in which a pass reads a line (CommonMark 5, and this project)
 abbrev pub context_in : BlockPass → Context
 context_in pass = context_of pass.source.options pass.state.tree

@@ -23,10 +23,10 @@ pub record IsFootnoteWritten (text : List ℕ) (entry : CowStr × FootnoteDef) :
   pub borrowed : text_of entry.0 ≡ label_bytes head.0 (drop start text) → Borrows (label_bytes head.0 (drop start text)) entry.0
   pub unused : entry.1.use_count ≡ 0
 
--- each entry is such a label
+-- each entry is such a label (this project)
 abbrev pub AreFootnotesWritten : List ℕ → List (CowStr × FootnoteDef) → Type 0
 AreFootnotesWritten text entries = All (IsFootnoteWritten text) entries
 
--- the entries of both tables are written in the text
+-- the entries of both tables are written in the text (CommonMark 4.7, and this project)
 abbrev pub TablesAreWritten : List ℕ → Allocations → Type 0
 TablesAreWritten text a = AreWritten text (refdefs_of a) × AreFootnotesWritten text (footdefs_of a)

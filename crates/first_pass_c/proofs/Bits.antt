@@ -1,6 +1,5 @@
 -- The bits that `from_bits` accepts: those of options.
-use Rattle.std.proofs.Common.{◌≡◌, ℕ, ◌↔◌, Option, Some, None, IfSome, IsSome, IsNone, bit_and, refl}
-use Rattle.std.proofs.lemmas.Bool.{true≢false}
+use Rattle.std.proofs.Common.{◌≡◌, ℕ, ◌↔◌, Option, Some, None, IfSome, IsSome, IsNone, bit_and, refl, true≢false}
 use Rattle.first_pass_items.specs.declared.option_set.Options.{Options}
 use Rattle.first_pass_c.specs.Parsed.{AreKnown}
 

@@ -1,6 +1,5 @@
 -- The length that each array needs for a flat form.
-use Rattle.std.proofs.Common.{◌≡◌, ℕ, suc, ◌+◌, ◌≤◌, List, [], ◌∷◌, length, refl, sym, ap, subst, ◌∙◌}
-use Rattle.std.specs.List.{flat_map}
+use Rattle.std.proofs.Common.{◌≡◌, ℕ, suc, ◌+◌, ◌≤◌, List, [], ◌∷◌, length, refl, sym, ap, subst, ◌∙◌, flat_map}
 use Rattle.first_pass_items.specs.declared.item.Item.{Item}
 use Rattle.first_pass_names.specs.TableEntries.{names_of}
 use Rattle.first_pass_flat.specs.FlatForm.{FlatForm}

@@ -1,6 +1,5 @@
 -- The record of a node has the same range of its name as the node.
-use Rattle.std.proofs.Common.{◌≡◌, ℕ, ◌≤◌, List, length, Some, None, refl}
-use Rattle.std.proofs.lemmas.Bool.{le-leb}
+use Rattle.std.proofs.Common.{◌≡◌, ℕ, ◌≤◌, List, length, Some, None, refl, le-leb}
 use Rattle.first_pass_items.specs.declared.item.Item.{Item}
 use Rattle.first_pass_items.specs.declared.item.ItemBody.{ItemBody}
 use Rattle.first_pass_items.specs.declared.item.ItemBody.TheVariants.{Heading}

@@ -1,30 +1,21 @@
 -- Lists that are closed before a block that ends them.
-use Rattle.std.proofs.Common.{◌≡◌, ℕ, suc, Bool, true, false, not, ◌||◌, ◌==◌, List, ◌∷◌, ◌++◌, length, Option, Some, None, refl}
-use Rattle.std.proofs.Common.{sym, ap, ◌∙◌, if◌then◌else◌, subst}
-use Rattle.std.specs.Option.{option_map_or}
-use Rattle.std.proofs.lemmas.Bool.{true≢false}
-use Rattle.std.proofs.Math.Bool.{or-false}
-use Rattle.first_pass_lines.specs.Places.{Place}
+use Rattle.std.proofs.Common.{◌≡◌, ℕ, suc, Bool, true, false, ◌==◌, List, ◌∷◌, length, Option, Some, None, refl, sym, ap, ◌∙◌, if◌then◌else◌, subst}
+use Rattle.std.proofs.Common.{true≢false}
+use Rattle.first_pass_grammar.proofs.Common.{option_map_or, or-false, Place, in_quote, Document, LeafBlock, BlankLine, Block, Head, Opener, QuoteMarker}
+use Rattle.first_pass_grammar.proofs.Common.{ItemMarker, DefinitionMarker, Skeleton, Nil, Then, Node, LastOther, LastParagraph, LastDefinition, Before}
+use Rattle.first_pass_grammar.proofs.Common.{begins_paragraph, after_block, Continues, Inside, Opening, OpensLeaf, OpensNode, Opens, level, Kind, ALeaf}
+use Rattle.first_pass_grammar.proofs.Common.{Joins, ItemsOf, DefinitionsTo, Rows, End, OneOf, Definitions, any_gap, is_loose, is_paragraph, list_until}
+use Rattle.first_pass_grammar.proofs.Common.{items_after, list_after, what_of, row_of, row_of_leaf, titled, gap_before, container_row, rows_of}
+use Rattle.first_pass_grammar.proofs.Common.{definitions_first, items_of, OtherClosed, ParagraphAt, DefinitionClosed, TitleAt, Pending, NoList, OneList}
+use Rattle.first_pass_grammar.proofs.Common.{OneTitle, rows_beyond, rendered, InList, InDefinitions, containers_of, IsPlain}
 use Rattle.first_pass_grammar.specs.declared.kind.Container.{Container}
-use Rattle.first_pass_grammar.specs.Containers.{in_quote}
-use Rattle.first_pass_grammar.specs.Leaves.{Document}
-use Rattle.first_pass_grammar.specs.Blocks.{LeafBlock, BlankLine, Block, Head, Opener, QuoteMarker, ItemMarker, FootnoteMarker, DefinitionMarker, Skeleton}
-use Rattle.first_pass_grammar.specs.Blocks.{Nil, Then, Node}
-use Rattle.first_pass_grammar.specs.Before.{LastOther, LastParagraph, LastDefinition, Before, begins_paragraph, after_block}
-use Rattle.first_pass_grammar.specs.Skeleton.{Continues, Inside, Opening, OpensLeaf, OpensNode, Opens, level}
-use Rattle.first_pass_grammar.specs.Kinds.{Kind}
-use Rattle.first_pass_grammar.specs.Rows.{ALeaf, Joins, ItemsOf, DefinitionsTo, Rows, End, OneOf, Definitions, any_gap, is_loose, is_paragraph}
-use Rattle.first_pass_grammar.specs.Rows.{closing_place, list_until, items_after, list_after, what_of, row_of, row_of_leaf, titled, gap_before}
-use Rattle.first_pass_grammar.specs.Rows.{container_row, rows_of, definitions_first}
-use Rattle.first_pass_grammar.specs.Derivation.{items_of}
-use Rattle.first_pass_grammar.specs.Completion.{list_closed, OtherClosed, ParagraphAt, DefinitionClosed, TitleAt, Pending, NoList, OneList, OneTitle}
-use Rattle.first_pass_grammar.specs.Completion.{rows_beyond, rendered, InList, InDefinitions, containers_of, IsPlain}
+use Rattle.first_pass_grammar.specs.Rows.{closing_place}
 use Rattle.first_pass_grammar.proofs.Uniqueness.Alike.{only_opener, only_head, AlikeOpening}
 use Rattle.first_pass_completion.proofs.Extending.{stepped, tail, lvl, stands_after, plain_before, OpensAtPlace, extend_same}
 use Rattle.first_pass_grammar.proofs.Sequences.Finishes.{Finish, Tail}
 use Rattle.first_pass_completion.proofs.FlatBlocks.{OwnParagraph}
 use Rattle.first_pass_completion.proofs.Moved.{is_definition, opens_definition, OpensAlike, takes_alike, other_alike, SameAfter, seq_moved, SameFirst}
-use Rattle.first_pass_completion.proofs.Moved.{same_after, same_back, rows_moved, counts_moved, Known, FirstHas, known_first, OpensBlock, FirstIsOther}
+use Rattle.first_pass_completion.proofs.Moved.{same_after, rows_moved, counts_moved, Known, FirstHas, known_first, OpensBlock, FirstIsOther}
 use Rattle.first_pass_completion.proofs.Moved.{first_is_other}
 use Rattle.first_pass_completion.proofs.PoppedLists.{last_in, closed_below, title_below, list_popped, title_popped}
 use Rattle.first_pass_grammar.proofs.Uniqueness.RowsAlike.{begins_alike}
@@ -40,14 +31,9 @@ head_closes head = closing_place (what_of head.opener 0) head.line head.start
 
 -- a container is the next item of the list that these continue, or its next definition
 abbrev pub joins : Joins → Opener → Bool
-joins (ItemsOf list) (QuoteMarker kind) = false
 joins (ItemsOf list) (ItemMarker byte number columns) = list == byte
-joins (ItemsOf list) (FootnoteMarker columns index label) = false
-joins (ItemsOf list) (DefinitionMarker columns) = false
-joins (DefinitionsTo e) (QuoteMarker kind) = false
-joins (DefinitionsTo e) (ItemMarker byte number columns) = false
-joins (DefinitionsTo e) (FootnoteMarker columns index label) = false
-joins (DefinitionsTo e) (DefinitionMarker columns) = true
+joins (ItemsOf list) o = false
+joins (DefinitionsTo e) o = is_definition o
 
 -- A leaf block ends a list at an offset. It ends a definition list only if the block does not begin with a paragraph,
 -- which might be the next title. If it was read as a paragraph, that list ends with its last definition.
@@ -62,38 +48,26 @@ OpensAway list at (OpensLeaf (Block b) there left) = LeafAway list at b
 OpensAway list at (OpensNode head inside following) = (head_closes head ≡ at) × (joins list head.opener ≡ false)
 
 -- an opening that ends a definition list is no definition
-other_joins : (e : ℕ) (o : Opener) → joins (DefinitionsTo e) o ≡ false → is_definition o ≡ false
-other_joins e (DefinitionMarker columns) h = h
-other_joins e o h = refl
-
 away_other : (e at : ℕ) (o : Opening) → OpensAway (DefinitionsTo e) at o → opens_definition o ≡ false
 away_other e at (OpensLeaf BlankLine there left) away = absurd away
 away_other e at (OpensLeaf (Block b) there left) away = refl
-away_other e at (OpensNode head inside following) away = other_joins e head.opener away.1
+away_other e at (OpensNode head inside following) away = away.1
 
 -- the first block of a sequence ends the list; it is also flat
 abbrev EndsList : Joins → ℕ → Skeleton → Type 0
-EndsList list at Nil = ⊥
-EndsList list at (Then BlankLine next) = ⊥
 EndsList list at (Then (Block b) next) = LeafAway list at b × OwnParagraph b
 EndsList list at (Node head e kids next) = (head_closes head ≡ at) × (joins list head.opener ≡ false)
+EndsList list at s = ⊥
 
 only_closes : (o : Opener) (line start : ℕ)
     → head_closes (only_head (record { opener = o; line = line; start = start })) ≡ head_closes (record { opener = o; line = line; start = start })
 only_closes (QuoteMarker kind) line start = refl
-only_closes (ItemMarker byte number columns) line start = refl
-only_closes (FootnoteMarker columns index label) line start = refl
-only_closes (DefinitionMarker columns) line start = refl
+only_closes o line start = refl
 
 only_joins : (list : Joins) (o : Opener) → joins list (only_opener o) ≡ joins list o
 only_joins (ItemsOf byte) (QuoteMarker kind) = refl
-only_joins (ItemsOf byte) (ItemMarker other number columns) = refl
-only_joins (ItemsOf byte) (FootnoteMarker columns index label) = refl
-only_joins (ItemsOf byte) (DefinitionMarker columns) = refl
 only_joins (DefinitionsTo e) (QuoteMarker kind) = refl
-only_joins (DefinitionsTo e) (ItemMarker other number columns) = refl
-only_joins (DefinitionsTo e) (FootnoteMarker columns index label) = refl
-only_joins (DefinitionsTo e) (DefinitionMarker columns) = refl
+only_joins list o = refl
 
 leaf_away : (d : Document) (list : Joins) (at : ℕ) (b b' : LeafBlock) (there there' : Continues) (left left' : List Place)
     → AlikeOpening d.names d.names (OpensLeaf (Block b) there left) (OpensLeaf (Block b') there' left') → LeafAway list at b → LeafAway list at b'
@@ -126,19 +100,10 @@ pub record AreAway (list : Joins) (at last : ℕ) (rows : Rows) : Type 0 where
 container_away : (list : Joins) (at last : ℕ) (opener : Opener) (line start e : ℕ) (gap : Bool) (inner next : Rows)
     → (let head : Head = record { opener = opener; line = line; start = start } in
     head_closes head ≡ at → joins list opener ≡ false → AreAway list at last (container_row last opener (row_of head e gap) inner next))
-container_away (ItemsOf byte) at last (QuoteMarker kind) line start e gap inner next closes other = record { none = refl; until = closes; past = refl }
 container_away (ItemsOf byte) at last (ItemMarker list number columns) line start e gap inner next closes other =
     record { none = rw other refl; until = rw other closes; past = rw other refl }
-container_away (ItemsOf byte) at last (FootnoteMarker columns index label) line start e gap inner next closes other =
-    record { none = refl; until = closes; past = refl }
-container_away (ItemsOf byte) at last (DefinitionMarker columns) line start e gap inner next closes other =
-    record { none = refl; until = closes; past = refl }
-container_away (DefinitionsTo x) at last (QuoteMarker kind) line start e gap inner next closes other = record { none = refl; until = closes; past = refl }
-container_away (DefinitionsTo x) at last (ItemMarker list number columns) line start e gap inner next closes other =
-    record { none = refl; until = closes; past = refl }
-container_away (DefinitionsTo x) at last (FootnoteMarker columns index label) line start e gap inner next closes other =
-    record { none = refl; until = closes; past = refl }
 container_away (DefinitionsTo x) at last (DefinitionMarker columns) line start e gap inner next closes other = absurd (true≢false other)
+container_away list at last o line start e gap inner next closes other = record { none = refl; until = closes; past = refl }
 
 -- a paragraph, with or without definitions, starts where it closes a list of items
 start_by : (t : Bool) (line start : ℕ) → t ≡ true → start ≡ (if t then start else line)
@@ -162,12 +127,11 @@ leaf_by (DefinitionsTo e) at last b gap next false is away own = record { none =
 rows_away : (quoted : Bool) (list : Joins) (at last : ℕ) (before : Before) (s : Skeleton) → EndsList list at s
     → AreAway list at last (rows_of quoted before last s)
 unfolding rows_of
-rows_away quoted list at last before Nil u = absurd u
-rows_away quoted list at last before (Then BlankLine next) u = absurd u
 rows_away quoted list at last before (Then (Block b) next) u =
     leaf_by list at last b (gap_before before b) (rows_of quoted (after_block before b) last next) (begins_paragraph b.items) refl u.0 u.1
 rows_away quoted list at last before (Node head e kids next) u =
     container_away list at last head.opener head.line head.start e before.counted _ _ u.0 u.1
+rows_away quoted list at last before s u = absurd u
 
 -- a leaf block that does not begin with a paragraph is the same after a definition as after another block
 other_by : (b : LeafBlock) (run blanks t : Bool) → begins_paragraph b.items ≡ t → t ≡ false
@@ -179,11 +143,10 @@ other_by b run blanks false is other = (rw is refl, rw is refl)
 -- What ends a list is the same whether the list before it is still open or closed.
 same_away : (list : Joins) (at : ℕ) (run blanks : Bool) (s : Skeleton) → EndsList list at s
     → SameFirst (stands_after (last_in list blanks) run) (stands_after LastOther run) s
-same_away list at run blanks Nil u = u
-same_away list at run blanks (Then BlankLine next) u = u
 same_away (ItemsOf byte) at run blanks (Then (Block b) next) u = (refl, refl)
 same_away (DefinitionsTo e) at run blanks (Then (Block b) next) u = other_by b run blanks _ refl u.0.0
 same_away list at run blanks (Node head e kids next) u = refl
+same_away list at run blanks s u = absurd u
 
 -- what opens and ends a list opens alike whether the list is open or closed
 alike_away : (d : Document) (path : List Container) (list : Joins) (at : ℕ) (run blanks : Bool) (p : Place) (lines : List Place) (o : Opening)
@@ -200,7 +163,6 @@ close_step : (d : Document) (w : OpenNodes) (list : Joins) (run blanks loose : B
     (reading_at (list_popped w o loose at) (tail OtherClosed run) (Inside b.place) b.lines)
 unfolding items_of is_loose rendered
 close_step d w list run blanks loose o at b plain away forest tables fin =
-    let k : ℕ = suc (length w.places) in
     let path : List Container = containers_of w.frames in
     let q : Bool = in_quote path in
     let here : Before = stands_after (last_in list blanks) run in
@@ -213,18 +175,13 @@ close_step d w list run blanks loose o at b plain away forest tables fin =
       adds = λ s mid seq.
           let u = ends_list d list at b.opening s away
           (known_first d path closed b.place b.lines mid b.opening s b.stays (alike.to b.lines b.opening b.opens) seq) in
-          let r : ℕ → Rows = λ last. rows_of q closed last s in
           let v = λ (last : ℕ). rows_away q list at last closed s u in
           let same = same_away list at run blanks s u in
           let first : SameAfter here closed s = same_after here closed s same in
           record {
-            seq = seq_moved d s path closed here b.place b.lines mid (record { to = alike.back; back = alike.to }) (same_back here closed s first) seq;
-            items = λ last is. ap (rendered k last w.nodes (OneList o list loose)) (rows_moved q here closed last s same)
-                ∙ ap (λ z. list_closed w.nodes o (suc (suc k)) (loose || is_loose z) (list_until list last (r last))
-                ++ (items_of (suc k) (not (loose || is_loose z)) z ++ items_of k false (list_after list (r last)))) (v last).none
-                ∙ ap (λ z. list_closed w.nodes o (suc (suc k)) (loose || false) z ++ items_of k false (list_after list (r last))) (v last).until
-                ∙ ap (λ z. list_closed w.nodes o (suc (suc k)) (loose || false) at ++ items_of k false z) (v last).past
-                ∙ ap (λ z. list_closed w.nodes o (suc (suc k)) z at ++ items_of k false (r last)) (or-false loose);
+            seq = seq_moved d s path here closed b.place b.lines mid alike first seq;
+            items = λ last is. ap (rendered (suc (length w.places)) last w.nodes (OneList o list loose)) (rows_moved q here closed last s same)
+                ∙ rw ((v last).none, (v last).until, (v last).past, or-false loose) refl;
             counts = counts_moved q here closed s first;
             gaps = λ last. ap (λ z. any_gap (list_after list z)) (rows_moved q here closed last s same) ∙ ap any_gap (v last).past;
           };
@@ -264,49 +221,14 @@ leaf_other b gap r (Some ds) = titled_by ds.apart ds.«end»
 
 rows_other : (quoted : Bool) (before : Before) (last : ℕ) (s : Skeleton) → FirstIsOther s → BeginsOther (rows_of quoted before last s)
 unfolding rows_of
-rows_other quoted before last Nil other = absurd other
-rows_other quoted before last (Then BlankLine next) other = absurd other
 rows_other quoted before last (Then (Block b) next) other = leaf_other b (gap_before before b) _ _
 rows_other quoted before last (Node head e kids next) other = container_other last head.opener head.line head.start e before.counted _ _ other
+rows_other quoted before last s other = absurd other
 
 title_same : (run : Bool) (s : Skeleton) → FirstIsOther s → SameFirst (stands_after (LastParagraph true) run) (stands_after (LastParagraph false) run) s
-title_same run Nil other = other
-title_same run (Then BlankLine next) other = other
 title_same run (Then (Block b) next) other = (refl, refl)
 title_same run (Node head e kids next) other = refl
-
--- a definition list that is closed before a block, with a possible title as its last child
-close_title_step : (d : Document) (w : OpenNodes) (l : OpenDefinitions) (at : ℕ) (run : Bool)
-    (b : OpensAtPlace d (level (containers_of w.frames) (stands_after (LastParagraph true) run)))
-    → IsPlain w.frames → OpensBlock b.opening → opens_definition b.opening ≡ false
-    → IsStep d (reading w (OneTitle l.place at l.«end» l.loose) (stands_after (LastParagraph true) run) (Inside b.place) b.lines)
-    (reading_at (title_popped w l at) (tail (ParagraphAt at) run) (Inside b.place) b.lines)
-close_title_step d w l at run b plain block other forest tables fin =
-    let k : ℕ = suc (length w.places) in
-    let path : List Container = containers_of w.frames in
-    let q : Bool = in_quote path in
-    let here : Before = stands_after (LastParagraph true) run in
-    let closed : Before = stands_after (LastParagraph false) run in
-    let alike : OpensAlike d path here closed b.place = takes_alike d path here closed b.place refl in
-    let list : Pending = OneTitle l.place at l.«end» l.loose in
-    let next : Reading = reading (title_popped w l at) (NoList (ParagraphAt at)) closed (Inside b.place) b.lines in
-    extend_same d (reading w list here (Inside b.place) b.lines) next (λ s. s) (record {
-      plain = plain;
-      ends = λ path mid. refl;
-      adds = λ s mid seq.
-          let u = first_is_other d b.opening s block other
-          (known_first d path closed b.place b.lines mid b.opening s b.stays (alike.to b.lines b.opening b.opens) seq) in
-          let same = title_same run s u in
-          let first : SameAfter here closed s = same_after here closed s same in
-          record {
-            seq = seq_moved d s path closed here b.place b.lines mid (record { to = alike.back; back = alike.to }) (same_back here closed s first) seq;
-            items = λ last is. ap (rendered k last w.nodes list) (rows_moved q here closed last s same)
-                ∙ title_stays k last w.nodes l.place at l.«end» l.loose (rows_of q closed last s) (rows_other q closed last s u);
-            counts = counts_moved q here closed s first;
-            gaps = λ last. ap (λ z. any_gap (rows_beyond list z)) (rows_moved q here closed last s same);
-          };
-      defines = λ s. refl;
-    }) forest tables (subst (λ z. IsCompleted d (record next { before = z }) forest tables) (plain_before (tail (ParagraphAt at) run) w.frames plain) fin)
+title_same run s other = absurd other
 
 -- a definition list that is closed before a block other than a definition; its last child, a possible title, becomes a
 -- paragraph
@@ -317,5 +239,29 @@ pub completes-close_title : (d : Document) (w : OpenNodes) (l : OpenDefinitions)
     → CompletesFrom d (title_popped w l at) (tail (ParagraphAt at) run) (Inside b.place) b.lines
 unfolding Finish
 completes-close_title d w l at run b block other k =
-    stepped d _ _ _ _ _ _ _ _ k (close_title_step d w l at run b k.shape.0 block other)
+    let path : List Container = containers_of w.frames in
+    let q : Bool = in_quote path in
+    let here : Before = stands_after (LastParagraph true) run in
+    let closed : Before = stands_after (LastParagraph false) run in
+    let alike : OpensAlike d path here closed b.place = takes_alike d path here closed b.place refl in
+    let list : Pending = OneTitle l.place at l.«end» l.loose in
+    let next : Reading = reading (title_popped w l at) (NoList (ParagraphAt at)) closed (Inside b.place) b.lines in
+    stepped d _ _ _ _ _ _ _ _ k (λ forest tables fin.
+    extend_same d (reading w list here (Inside b.place) b.lines) next (λ s. s) (record {
+      plain = k.shape.0;
+      ends = λ path mid. refl;
+      adds = λ s mid seq.
+          let u = first_is_other d b.opening s block other
+          (known_first d path closed b.place b.lines mid b.opening s b.stays (alike.to b.lines b.opening b.opens) seq) in
+          let same = title_same run s u in
+          let first : SameAfter here closed s = same_after here closed s same in
+          record {
+            seq = seq_moved d s path here closed b.place b.lines mid alike first seq;
+            items = λ last is. ap (rendered (suc (length w.places)) last w.nodes list) (rows_moved q here closed last s same)
+                ∙ title_stays (suc (length w.places)) last w.nodes l.place at l.«end» l.loose (rows_of q closed last s) (rows_other q closed last s u);
+            counts = counts_moved q here closed s first;
+            gaps = λ last. ap (λ z. any_gap (rows_beyond list z)) (rows_moved q here closed last s same);
+          };
+      defines = λ s. refl;
+    }) forest tables (subst (λ z. IsCompleted d (record next { before = z }) forest tables) (plain_before (tail (ParagraphAt at) run) w.frames k.shape.0) fin))
     (title_below w.nodes l.place w.places (suc (suc (suc (length w.places)))) l.loose l.«end» at k.below, k.shape.1)

@@ -1,33 +1,25 @@
 -- Each step of reading a text, in terms of what the nodes so far can still become.
-use Rattle.std.proofs.Common.{◌≡◌, ℕ, suc, ◌+◌, ◌<◌, Bool, true, false, not, ◌||◌, List, [], ◌∷◌, ◌++◌, length, Option, Some, None, refl}
-use Rattle.std.proofs.Common.{sym, ap, ◌∙◌, subst, arith, length-append, if◌then◌else◌}
-use Rattle.std.proofs.lemmas.List.{append-nil}
-use Rattle.std.proofs.Math.Bool.{or-true}
-use Rattle.first_pass_items.specs.declared.item.Item.{Item}
-use Rattle.std.specs.Option.{is_some}
-use Rattle.first_pass_lines.specs.Places.{Place, offset, lines_at}
+use Rattle.std.proofs.Common.{◌≡◌, ℕ, suc, ◌+◌, ◌<◌, Bool, true, false, not, ◌||◌, List, [], ◌∷◌, ◌++◌, length, Option, Some, None, refl, sym, ap, ◌∙◌}
+use Rattle.std.proofs.Common.{subst, arith, length-append, if◌then◌else◌, append-nil, is_some}
+use Rattle.first_pass_grammar.proofs.Common.{or-true, Item, Place, offset, lines_at, taken, is_quote, in_quote, footnote_head_at, Document, around}
+use Rattle.first_pass_grammar.proofs.Common.{LeafBlock, BlankLine, Block, block_at, Nil, Then, Skeleton, LastOther, LastParagraph, Before, list_is_open}
+use Rattle.first_pass_grammar.proofs.Common.{after_blank, after_block, is_paragraph_body, begins_paragraph, is_run, before_end, Continues, Line, Inside}
+use Rattle.first_pass_grammar.proofs.Common.{Blanks, AtPlace, TextOf, OnlyMark, after_marker, Opening, OpensLeaf, OpensText, Opens, level, Remaining}
+use Rattle.first_pass_grammar.proofs.Common.{InLine, Ends, ends_old_footnote, next_block, onward, after_first, end_of_left, end_before, IsFirst, IsSequence}
+use Rattle.first_pass_grammar.proofs.Common.{unindented, is_blank_rest, ItemsOf, any_gap, rows_of, End, definitions_first, with_links, with_labels, Tables}
+use Rattle.first_pass_grammar.proofs.Common.{Derives, no_tables, with_definitions, definitions_of, footnotes_of, root_of, block_items, items_of, ended}
+use Rattle.first_pass_grammar.proofs.Common.{Closed, OtherClosed, ParagraphAt, Pending, NoList, OneList, rendered, Frame, InContainer, InList}
+use Rattle.first_pass_grammar.proofs.Common.{InDefinitions, closed_as, definitions_open, containers_of, loosened, IsPlain, last_plain, StandsIn, last_of}
+use Rattle.first_pass_grammar.proofs.Common.{IsShaped}
 use Rattle.first_pass_grammar.specs.declared.kind.Container.{Container}
 use Rattle.first_pass_grammar.specs.declared.kind.Container.TheVariants.{BlockQuote, ListItem, FootnoteDefinition, Definition}
-use Rattle.first_pass_grammar.specs.Containers.{taken, is_quote, in_quote}
-use Rattle.first_pass_grammar.specs.Footnotes.{footnote_head_at}
-use Rattle.first_pass_grammar.specs.Leaves.{Document, around}
-use Rattle.first_pass_grammar.specs.Blocks.{LeafBlock, BlankLine, Block, block_at, Nil, Then}
-use Rattle.first_pass_grammar.specs.Before.{LastOther, LastParagraph, Before, last_container, list_is_open, after_blank, after_block}
-use Rattle.first_pass_grammar.specs.Before.{is_paragraph_body, begins_paragraph, is_run, last_after_run, last_block, before_end}
-use Rattle.first_pass_grammar.specs.Skeleton.{Continues, Line, Inside, Blanks, AtPlace, TextOf, OnlyMark, after_marker, Opening, OpensLeaf, OpensText, Opens}
-use Rattle.first_pass_grammar.specs.Skeleton.{level, Remaining, InLine, Ends, ends_old_footnote, next_block, onward, after_first, end_of_left, end_before}
-use Rattle.first_pass_grammar.specs.Skeleton.{IsFirst, IsSequence}
-use Rattle.first_pass_grammar.specs.Kinds.{Paragraph, unindented, is_blank_rest}
-use Rattle.first_pass_grammar.specs.Rows.{ItemsOf, Rows, any_gap, rows_of, End, definitions_first}
-use Rattle.first_pass_grammar.specs.LinkTables.{with_links, with_labels}
-use Rattle.first_pass_grammar.specs.Derivation.{Tables, Derives, no_tables, with_definitions, definitions_of, footnotes_of, root_of, block_items, items_of}
-use Rattle.first_pass_grammar.specs.Completion.{ended, Closed, OtherClosed, ParagraphAt, DefinitionClosed, TitleAt, Pending, NoList, OneList, rows_beyond}
-use Rattle.first_pass_grammar.specs.Completion.{rendered, Frame, InContainer, InList, InDefinitions, closed_as, definitions_open, containers_of, loosened}
-use Rattle.first_pass_grammar.specs.Completion.{IsPlain, last_plain, StandsIn, last_of, IsShaped}
+use Rattle.first_pass_grammar.specs.Before.{last_container}
+use Rattle.first_pass_grammar.specs.Before.{last_after_run, last_block}
+use Rattle.first_pass_grammar.specs.Kinds.{Paragraph}
 use Rattle.first_pass_grammar.proofs.Sequences.Finishes.{Finish, Tail, before_of, CompletesAt, finish_derives, completes_by}
 use Rattle.first_pass_grammar.proofs.Sequences.Goings.{ends_inside, begins_blank}
-use Rattle.first_pass_completion.proofs.FlatBlocks.{OwnFrom, FlatBlock, OwnParagraph, opened_own}
-use Rattle.first_pass_completion.proofs.Titles.{closed_after, leaf_nodes, leaf_gaps}
+use Rattle.first_pass_completion.proofs.FlatBlocks.{OwnFrom, opened_own}
+use Rattle.first_pass_completion.proofs.Titles.{closed_after, beside_all, leaf_added}
 use Rattle.first_pass_completion.proofs.Extending.{stepped, tail, lvl, finish_moved, AreBelow-more, length-ended, loosened-false, plain_last}
 use Rattle.first_pass_completion.proofs.Extending.{stands_after, EndsAlike, told_leaf, enter_step, opens_stays, first_here, extend_same}
 use Rattle.first_pass_completion.proofs.States.{CompletesFrom, IsCompleted, IsStep, OpenNodes, Reading, open_nodes, reading, reading_at, with_inner}
@@ -42,56 +34,23 @@ last_by : (place : ℕ) (closed : Closed) (t u : Bool)
 last_by place closed true u = refl
 last_by place closed false false = refl
 last_by place OtherClosed false true = refl
-last_by place (ParagraphAt at) false true = refl
-last_by place (DefinitionClosed e blanks) false true = refl
-last_by place (TitleAt e at) false true = refl
+last_by place closed false true = refl
 
 plain_block : (closed : Closed) (b : LeafBlock)
     → last_block b (last_plain closed)
     ≡ (if begins_paragraph b.items then LastParagraph false else (if is_run b.kind then last_after_run (last_plain closed) else LastOther))
 plain_block OtherClosed b = refl
-plain_block (ParagraphAt at) b = refl
-plain_block (DefinitionClosed e blanks) b = refl
-plain_block (TitleAt e at) b = refl
+plain_block closed b = refl
 
 leaf_last : (place : ℕ) (closed : Closed) (frames : List Frame) (b : LeafBlock) → IsPlain frames
     → last_of frames (closed_after place b closed) ≡ last_block b (last_of frames closed)
 leaf_last place closed frames b plain =
-    plain_last (closed_after place b closed) frames plain
-    ∙ last_by place closed (begins_paragraph b.items) (is_run b.kind)
-    ∙ sym (plain_block closed b)
-    ∙ ap (last_block b) (sym (plain_last closed frames plain))
+    rw (plain_last (closed_after place b closed) frames plain, plain_last closed frames plain)
+    (last_by place closed (begins_paragraph b.items) (is_run b.kind) ∙ sym (plain_block closed b))
 
 -- the open nodes after a leaf block
 abbrev pub with_leaf : OpenNodes → LeafBlock → OpenNodes
 with_leaf w b = record w { defined = with_definitions w.defined b.definitions; nodes = w.nodes ++ block_items (suc (length w.places)) false b }
-
--- a leaf block before which no gap is noted
-block_step : (d : Document) (w : OpenNodes) (closed : Closed) (from : Continues) (lines left : List Place) (b : LeafBlock)
-    → IsPlain w.frames → EndsAlike (length d.text) from (after_first from Line) → FlatBlock b × OwnParagraph b
-    → IsFirst d (lvl w.frames (tail closed false)) from lines (OpensLeaf (Block b) Line left)
-    → IsStep d (reading_at w (tail closed false) from lines)
-    (reading_at (with_leaf w b) (tail (closed_after (length w.nodes) b closed) b.gap) (after_first from Line) left)
-unfolding IsSequence rows_of before_end definitions_of footnotes_of
-block_step d w closed from lines left b plain alike (flat, own) first forest tables fin =
-    let k : ℕ = suc (length w.places) in
-    let q : Bool = in_quote (containers_of w.frames) in
-    let before : Before = before_of w.frames (tail closed false) in
-    let next : Reading =
-    reading (with_leaf w b) (NoList (closed_after (length w.nodes) b closed)) (after_block before b) (after_first from Line) left in
-    extend_same d (reading_at w (tail closed false) from lines) next (λ s. Then (Block b) s) (record {
-      plain = plain;
-      ends = alike;
-      adds = λ s mid seq. record {
-        seq = (Line, left, first, seq);
-        items = λ last is. leaf_nodes k last w.nodes closed b false (rows_of q (after_block before b) last s) flat own;
-        counts = refl;
-        gaps = λ last. leaf_gaps (length w.nodes) closed b false (rows_of q (after_block before b) last s) flat;
-      };
-      defines = λ s. told_leaf w.defined b s;
-    }) forest tables
-    (subst (λ z. IsCompleted d (record next { before = z }) forest tables)
-    (ap (λ z. stands_after z b.gap) (leaf_last (length w.nodes) closed w.frames b plain)) fin)
 
 -- a blank line in a state with a list that may continue
 blank_step : (d : Document) (w : OpenNodes) (list : Pending) (before : Before) (from : Continues) (lines left : List Place)
@@ -108,13 +67,6 @@ blank_step d w list before from lines left plain alike first =
       adds = λ s mid seq. record { seq = (Line, left, first, seq); items = λ last is. refl; counts = refl; gaps = λ last. refl };
       defines = λ s. refl;
     })
-
--- Rows that do not begin with definitions follow the last child.
-pub beside_all : (k last : ℕ) (nodes : List (ℕ × Item)) (closed : Closed) (rows : Rows) → definitions_first rows ≡ None
-    → (rendered k last nodes (NoList closed) rows ≡ nodes ++ items_of k false rows) × (rows_beyond (NoList closed) rows ≡ rows)
-unfolding rendered
-beside_all k last nodes (ParagraphAt at) rows none = (rw none refl, rw none refl)
-beside_all k last nodes closed rows none = (refl, refl)
 
 -- before the first line
 pub completes-first : (d : Document) → CompletesAt d no_tables fresh [] (root_of (length d.text) ∷ []) [] Line (lines_at 0 d.text)
@@ -136,9 +88,23 @@ pub completes-leaf : (d : Document) (w : OpenNodes) (closed : Closed) (from : Co
     → IsFirst d (lvl w.frames (tail closed false)) from lines (OpensLeaf (Block b) Line left)
     → CompletesFrom d w (tail closed false) from lines
     → CompletesFrom d (with_leaf w b) (tail (closed_after (length w.nodes) b closed) b.gap) (after_first from Line) left
+unfolding IsSequence rows_of before_end definitions_of footnotes_of
 completes-leaf d w closed from lines left b plain alike flat first c =
-    stepped d _ _ _ _ _ _ _ _ c
-    (block_step d w closed from lines left b plain alike (opened_own d (lvl w.frames (tail closed false)) from lines b Line left flat first) first)
+    let own = opened_own d (lvl w.frames (tail closed false)) from lines b Line left flat first in
+    let before : Before = before_of w.frames (tail closed false) in
+    let added = λ (last : ℕ) (s : Skeleton).
+    leaf_added (suc (length w.places)) last w.nodes closed b false (rows_of (in_quote (containers_of w.frames)) (after_block before b) last s) own in
+    let next : Reading =
+    reading (with_leaf w b) (NoList (closed_after (length w.nodes) b closed)) (after_block before b) (after_first from Line) left in
+    stepped d _ _ _ _ _ _ _ _ c (λ forest tables fin.
+    extend_same d (reading_at w (tail closed false) from lines) next (λ s. Then (Block b) s) (record {
+      plain = plain;
+      ends = alike;
+      adds = λ s mid seq. record { seq = (Line, left, first, seq); items = λ last is. (added last s).0; counts = refl; gaps = λ last. (added last s).1 };
+      defines = λ s. told_leaf w.defined b s;
+    }) forest tables
+    (subst (λ z. IsCompleted d (record next { before = z }) forest tables)
+    (ap (λ z. stands_after z b.gap) (leaf_last (length w.nodes) closed w.frames b plain)) fin))
     (AreBelow-more _ _ w.places (let k = length-append w.nodes (block_items (suc (length w.places)) false b) in omega arith) c.below, c.shape)
 
 -- after a leaf block that begins inside a line
@@ -200,11 +166,6 @@ blank_any : (d : Document) (defined : Tables) (frames : List Frame) (t : Tail) (
     → (let w : OpenNodes = open_nodes defined frames nodes os in
     IsStep d (reading_at w t from lines) (reading_at w (after_blank_line frames t) (after_first from Line) left))
 unfolding Finish
-blank_any d defined [] t nodes os from lines left shape alike first =
-    blank_step d (open_nodes defined [] nodes os) (NoList t.closed) (before_of [] t) from lines left tt alike first
-blank_any d defined (InContainer c ∷ frames) t nodes os from lines left shape alike first =
-    let here : List Frame = InContainer c ∷ frames in
-    blank_step d (open_nodes defined here nodes os) (NoList t.closed) (before_of here t) from lines left tt alike first
 blank_any d defined (InList byte loose ∷ frames) t nodes [] from lines left shape alike first = λ forest tables fin. fin
 blank_any d defined (InDefinitions loose ∷ frames) t nodes [] from lines left shape alike first = λ forest tables fin. fin
 blank_any d defined (InList byte loose ∷ frames) t nodes (o ∷ os) from lines left shape alike first =
@@ -213,6 +174,8 @@ blank_any d defined (InList byte loose ∷ frames) t nodes (o ∷ os) from lines
 blank_any d defined (InDefinitions loose ∷ frames) t nodes (o ∷ os) from lines left shape alike first =
     blank_step d (open_nodes defined frames nodes os) (definitions_open o loose (NoList t.closed)) (before_of (InDefinitions loose ∷ frames) t)
     from lines left shape.0 alike first
+blank_any d defined frames t nodes os from lines left shape alike first =
+    blank_step d (open_nodes defined frames nodes os) (NoList t.closed) (before_of frames t) from lines left tt alike first
 
 -- after a blank line, wherever it begins
 pub completes-blank : (d : Document) (defined : Tables) (t : Tail) (frames : List Frame) (nodes : List (ℕ × Item)) (os : List ℕ) (from : Continues)
@@ -271,37 +234,27 @@ closed_last (ListItem columns) (InList byte loose ∷ frames) e stands = refl
 closed_last (Definition columns) (InDefinitions loose ∷ frames) e stands = refl
 closed_last c frames e stands = absurd stands
 
--- the innermost container, after it is closed
-pop_step : (d : Document) (w : OpenNodes) (c : Container) (t : Tail) (o : ℕ) (from : Continues) (lines : List Place) (left : Remaining)
-    → StandsIn c w.frames → next_block d.options (lvl (InContainer c ∷ w.frames) t) from lines ≡ Ends left
-    → (let e : ℕ = end_before (length d.text) (containers_of w.frames) from left in
-    IsStep d (reading_at (with_inner w (InContainer c) o) t from lines)
-    (reading_at (record w { nodes = ended w.nodes o e }) (tail (closed_as c e) t.run) (onward left).0 (onward left).1))
-unfolding Finish IsSequence items_of rows_of before_end any_gap definitions_first definitions_of footnotes_of with_links with_labels
-pop_step d w c t o from lines left stands ends forest tables fin =
-    let e : ℕ = end_before (length d.text) (containers_of w.frames) from left in
-    let now : OpenNodes = record w { nodes = ended w.nodes o e } in
-    let none = beside_all (suc (length (o ∷ w.places))) e w.nodes t.closed End refl in (
-      Nil,
-      left,
-      ends,
-      finish_moved d (reading_at now (tail (closed_as c e) t.run) (onward left).0 (onward left).1) _ _ _
-          (ap (λ z. stands_after z t.run) (closed_last c w.frames e stands))
-          (sym (ap (λ z. loosened (any_gap z) w.frames) none.1 ∙ loosened-false w.frames))
-          (ap (λ z. ended z o e) (sym (none.0 ∙ append-nil w.nodes))) forest tables fin,
-    )
-
 -- the innermost container is closed
 pub completes-pop : (d : Document) (w : OpenNodes) (t : Tail) (c : Container) (o : ℕ) (from : Continues) (lines : List Place) (left : Remaining)
     → next_block d.options (lvl (InContainer c ∷ w.frames) t) from lines ≡ Ends left
     → CompletesFrom d (with_inner w (InContainer c) o) t from lines
     → (let e : ℕ = end_before (length d.text) (containers_of w.frames) from left in
     CompletesFrom d (record w { nodes = ended w.nodes o e }) (tail (closed_as c e) t.run) (onward left).0 (onward left).1)
+unfolding Finish IsSequence items_of rows_of before_end any_gap definitions_first definitions_of footnotes_of with_links with_labels
 completes-pop d w t c o from lines left ends k =
     let e : ℕ = end_before (length d.text) (containers_of w.frames) from left in
     let l : length (ended w.nodes o e) ≡ length w.nodes = length-ended w.nodes o e in
     let within : o < length w.nodes = k.below.0 in
-    stepped d _ _ _ _ _ _ _ _ k (pop_step d w c t o from lines left k.shape.0 ends) (AreBelow-more o _ w.places (omega arith) k.below.1, k.shape.1)
+    let none = beside_all (suc (length (o ∷ w.places))) e w.nodes t.closed End refl in
+    stepped d _ _ _ _ _ _ _ _ k (λ forest tables fin. (
+      Nil,
+      left,
+      ends,
+      finish_moved d (reading_at (record w { nodes = ended w.nodes o e }) (tail (closed_as c e) t.run) (onward left).0 (onward left).1) _ _ _
+          (ap (λ z. stands_after z t.run) (closed_last c w.frames e k.shape.0))
+          (sym (ap (λ z. loosened (any_gap z) w.frames) none.1 ∙ loosened-false w.frames))
+          (ap (λ z. ended z o e) (sym (none.0 ∙ append-nil w.nodes))) forest tables fin,
+    )) (AreBelow-more o _ w.places (omega arith) k.below.1, k.shape.1)
 
 -- an innermost footnote definition is closed where another one begins
 pub completes-pop_in_line : (d : Document) (w : OpenNodes) (t : Tail) (columns o : ℕ) (p : Place) (lines : List Place) (head : ℕ × List ℕ)

@@ -1,28 +1,19 @@
 -- Blocks added before a sequence lead to the same trees.
-use Rattle.std.proofs.Common.{◌≡◌, ℕ, suc, ◌<◌, ◌≤◌, Bool, true, false, ◌||◌, ◌&&◌, List, [], ◌∷◌, ◌++◌, length, Option, Some, None}
-use Rattle.std.proofs.Common.{MatchOption, refl, sym, ap, ◌∙◌, subst, arith}
-use Rattle.std.proofs.Math.Bool.{and-false}
-use Rattle.std.specs.Option.{is_some}
-use Rattle.first_pass_items.specs.declared.item.Item.{Item}
-use Rattle.first_pass_lines.specs.Places.{Place}
+use Rattle.std.proofs.Common.{◌≡◌, ℕ, suc, ◌<◌, ◌≤◌, Bool, true, false, ◌||◌, ◌&&◌, List, [], ◌∷◌, ◌++◌, length, Option, Some, None, MatchOption, refl, sym}
+use Rattle.std.proofs.Common.{ap, ◌∙◌, subst, arith, is_some}
+use Rattle.first_pass_grammar.proofs.Common.{and-false, Item, Place, taken, is_quote, in_quote, in_footnote, footnote_head_at, ends_footnote, start_at}
+use Rattle.first_pass_grammar.proofs.Common.{Document, around, LeafBlock, Block, Head, label_of, Skeleton, Nil, Then, Node, Last, Before, after_container}
+use Rattle.first_pass_grammar.proofs.Common.{before_end, Continues, Line, Inside, Opening, OpensLeaf, OpensNode, OpensBy, OpensFootnote, Opens, Level}
+use Rattle.first_pass_grammar.proofs.Common.{level, Remaining, Lines, InLine, may_define, ends_old_footnote, onward, only_blanks, end_of_left, end_before}
+use Rattle.first_pass_grammar.proofs.Common.{IsFirst, IsSequence, ItemsOf, Rows, any_gap, rows_of, LinkEntry, with_link, with_links, with_label}
+use Rattle.first_pass_grammar.proofs.Common.{with_labels, Tables, with_definitions, definitions_of, footnotes_of, with_all_of, ended, Closed, Pending}
+use Rattle.first_pass_grammar.proofs.Common.{NoList, OneList, rows_beyond, rendered, Frame, InContainer, InList, InDefinitions, closed_as, definitions_open}
+use Rattle.first_pass_grammar.proofs.Common.{containers_of, loosened, AreBelow, IsPlain, IsShaped, last_plain, last_of, length-modify}
 use Rattle.first_pass_grammar.specs.declared.kind.Container.{Container}
-use Rattle.first_pass_grammar.specs.Containers.{taken, is_quote, in_quote, in_footnote}
-use Rattle.first_pass_grammar.specs.Footnotes.{footnote_head_at, ends_footnote}
-use Rattle.first_pass_grammar.specs.Openers.{start_at}
-use Rattle.first_pass_grammar.specs.Leaves.{Document, around}
-use Rattle.first_pass_grammar.specs.Blocks.{LeafBlock, Block, Head, label_of, Skeleton, Nil, Then, Node}
-use Rattle.first_pass_grammar.specs.Before.{Last, Before, last_container, after_container, before_end}
-use Rattle.first_pass_grammar.specs.Skeleton.{Continues, Line, Inside, Opening, OpensLeaf, OpensNode, OpensBy, OpensFootnote, Opens, Level, level, Remaining}
-use Rattle.first_pass_grammar.specs.Skeleton.{Lines, InLine, may_define, ends_old_footnote, onward, only_blanks, end_of_left, end_before, IsFirst, IsSequence}
-use Rattle.first_pass_grammar.specs.Rows.{ItemsOf, Rows, any_gap, rows_of}
-use Rattle.first_pass_grammar.specs.LinkTables.{LinkEntry, with_link, with_links, with_label, with_labels}
-use Rattle.first_pass_grammar.specs.Derivation.{Tables, with_definitions, definitions_of, footnotes_of, with_all_of}
-use Rattle.first_pass_grammar.specs.Completion.{ended, Closed, Pending, NoList, OneList, rows_beyond, rendered, Frame, InContainer, InList, InDefinitions}
-use Rattle.first_pass_grammar.specs.Completion.{closed_as, definitions_open, containers_of, loosened, AreBelow, IsPlain, IsShaped, last_plain, last_of}
+use Rattle.first_pass_grammar.specs.Before.{last_container}
 use Rattle.first_pass_grammar.proofs.Sequences.Finishes.{Finish, containers-loosened, Tail, before_of, finish_derives, completes_by}
 use Rattle.first_pass_grammar.proofs.Sequences.Goings.{begins_inside, enters}
 use Rattle.first_pass_completion.proofs.States.{OpenNodes, open_nodes, CompletesFrom, Reading, reading, reading_at, IsCompleted, IsStep}
-use Rattle.first_pass_tokens.proofs.BytesLemmas.{length-modify}
 
 -- blank lines that include a counting one or not, after the last child
 abbrev pub tail : Closed → Bool → Tail
@@ -35,10 +26,7 @@ lvl frames t = level (containers_of frames) (before_of frames t)
 -- Completions of equal states are the same.
 pub finish_moved : (d : Document) (r : Reading) (before : Before) (frames : List Frame) (nodes : List (ℕ × Item))
     → r.before ≡ before → r.frames ≡ frames → r.nodes ≡ nodes → IsStep d (record r { before = before; frames = frames; nodes = nodes }) r
-finish_moved d r before frames nodes stand same alike forest tables fin =
-    subst (λ z. Finish d r.defined r.list before frames z r.places r.from r.lines forest tables) alike
-    (subst (λ z. Finish d r.defined r.list before z r.nodes r.places r.from r.lines forest tables) same
-    (subst (λ z. Finish d r.defined r.list z r.frames r.nodes r.places r.from r.lines forest tables) stand fin))
+finish_moved d r before frames nodes stand same alike forest tables fin = rw (stand, same, alike) at fin
 
 -- A blank line before a block in the innermost container makes the list around that container loose.
 abbrev pub loosened_in : Bool → List Frame → List Frame
@@ -54,37 +42,29 @@ AreBelow-more n m [] h b = tt
 AreBelow-more n m (o ∷ os) h b = (let p : o < n = b.0 in omega arith, b.1)
 
 pub loosened-false : (frames : List Frame) → loosened false frames ≡ frames
-loosened-false [] = refl
-loosened-false (InContainer c ∷ frames) = refl
 loosened-false (InList byte true ∷ frames) = refl
-loosened-false (InList byte false ∷ frames) = refl
 loosened-false (InDefinitions true ∷ frames) = refl
-loosened-false (InDefinitions false ∷ frames) = refl
+loosened-false frames = refl
 
 pub loosened_in-false : (frames : List Frame) → loosened_in false frames ≡ frames
 loosened_in-false [] = refl
 loosened_in-false (frame ∷ frames) = ap (λ z. frame ∷ z) (loosened-false frames)
 
 loosened-twice : (g h : Bool) (frames : List Frame) → loosened h (loosened g frames) ≡ loosened (g || h) frames
-loosened-twice g h [] = refl
-loosened-twice g h (InContainer c ∷ frames) = refl
 loosened-twice g h (InList byte true ∷ frames) = refl
-loosened-twice g h (InList byte false ∷ frames) = refl
 loosened-twice g h (InDefinitions true ∷ frames) = refl
-loosened-twice g h (InDefinitions false ∷ frames) = refl
+loosened-twice g h frames = refl
 
 pub plain_loosened : (gap : Bool) (frames : List Frame) → IsPlain frames → loosened gap frames ≡ frames
-plain_loosened gap [] h = refl
-plain_loosened gap (InContainer c ∷ frames) h = refl
 plain_loosened gap (InList byte loose ∷ frames) h = absurd h
 plain_loosened gap (InDefinitions loose ∷ frames) h = absurd h
+plain_loosened gap frames h = refl
 
 -- the last block if no list is innermost
 pub plain_last : (closed : Closed) (frames : List Frame) → IsPlain frames → last_of frames closed ≡ last_plain closed
-plain_last closed [] h = refl
-plain_last closed (InContainer c ∷ frames) h = refl
 plain_last closed (InList byte loose ∷ frames) h = absurd h
 plain_last closed (InDefinitions loose ∷ frames) h = absurd h
+plain_last closed frames h = refl
 
 -- what precedes the next block, after the last block and blank lines
 abbrev pub stands_after : Last → Bool → Before
@@ -127,31 +107,30 @@ unfolding with_labels
 told_labels labels [] b = refl
 told_labels labels (x ∷ a) b = told_labels (with_label x labels) a b
 
-abbrev tables_with : List (List ℕ) → List LinkEntry → Tables
-tables_with footnotes links = record { links = links; footnotes = footnotes }
-
 pub told-append : (defined : Tables) (a b : List LinkEntry) → with_definitions (with_definitions defined a) b ≡ with_definitions defined (a ++ b)
-told-append defined a b = ap (tables_with defined.footnotes) (sym (told_links defined.links a b))
+told-append defined a b = rw (told_links defined.links a b) refl
 
--- what a leaf block before a sequence defines; the next lemma: what the blocks of a container define
+-- what a leaf block before a sequence defines
 pub told_leaf : (defined : Tables) (b : LeafBlock) (s : Skeleton)
     → with_all_of (with_definitions defined b.definitions) s ≡ with_all_of defined (Then (Block b) s)
 unfolding definitions_of footnotes_of
-told_leaf defined b s =
-    ap (tables_with (with_labels defined.footnotes (footnotes_of s))) (sym (told_links defined.links b.definitions (definitions_of s)))
+told_leaf defined b s = rw (told_links defined.links b.definitions (definitions_of s)) refl
 
-abbrev pub told_both : Tables → Skeleton → Skeleton → Tables
-told_both defined kids s = record {
-  links = with_links defined.links (definitions_of kids ++ definitions_of s);
-  footnotes = with_labels defined.footnotes (footnotes_of kids ++ footnotes_of s);
-}
+-- the tables with the label of a container, if it has one; the next lemma: what that container and its blocks define
+abbrev pub labelled : Tables → Head → Tables
+labelled defined head = record { links = defined.links; footnotes = with_labels defined.footnotes (label_of head.opener) }
 
-pub told_kids : (defined : Tables) (kids s : Skeleton) → with_all_of (with_all_of defined kids) s ≡ told_both defined kids s
-told_kids defined kids s =
-    ap (tables_with (with_labels (with_labels defined.footnotes (footnotes_of kids)) (footnotes_of s)))
-    (sym (told_links defined.links (definitions_of kids) (definitions_of s)))
-    ∙ ap (λ z. tables_with z (with_links defined.links (definitions_of kids ++ definitions_of s)))
-    (sym (told_labels defined.footnotes (footnotes_of kids) (footnotes_of s)))
+pub told_node : (defined : Tables) (head : Head) (e : ℕ) (kids s : Skeleton)
+    → with_all_of (with_all_of (labelled defined head) kids) s ≡ with_all_of defined (Node head e kids s)
+unfolding definitions_of footnotes_of
+told_node defined head e kids s =
+    let label : List (List ℕ) = label_of head.opener in
+    let links = told_links defined.links (definitions_of kids) (definitions_of s) in
+    rw (
+      links,
+      told_labels defined.footnotes label (footnotes_of kids ++ footnotes_of s),
+      told_labels (with_labels defined.footnotes label) (footnotes_of kids) (footnotes_of s),
+    ) refl
 
 -- Blocks that lead from one state to another: with them before it, each sequence of the second state is a sequence of
 -- the first, and both have the same nodes, gaps and definitions.
@@ -181,12 +160,11 @@ extend_by d (InContainer c ∷ frames) (o ∷ os) old new gap f h forest tables 
     let e : ℕ = end_before (length d.text) path old.from mid in
     let at : EndsAt (length d.text) old.from mid e =
     λ none. ap (λ z. end_of_left (length d.text) path z mid) none ∙ end_anywhere (length d.text) path mid in
-    let depth : ℕ = suc (length (o ∷ os)) in
     let rows : ℕ → Rows = λ last. rows_of (is_quote c) new.before last s in
     let now : Before = after_container c (before_end (is_quote c) new.before s) in
     let outer : Tables → ℕ → Reading = λ defined z.
     reading (open_nodes defined (loosened (any_gap (rows_beyond new.list (rows z))) (loosened gap frames))
-    (ended (rendered depth z new.nodes new.list (rows z)) o z) os) (NoList (closed_as c z)) now (onward mid).0 (onward mid).1 in
+    (ended (rendered (suc (length (o ∷ os))) z new.nodes new.list (rows z)) o z) os) (NoList (closed_as c z)) now (onward mid).0 (onward mid).1 in
     let g : loosened (any_gap (rows_beyond new.list (rows e))) (loosened gap frames)
     ≡ loosened (any_gap (rows_beyond old.list (rows_of (is_quote c) old.before e (f s)))) frames =
     loosened-twice gap _ frames ∙ ap (λ z. loosened z frames) (sym (a.gaps e)) in (
@@ -246,16 +224,13 @@ pub enter_step : (d : Document) (defined : Tables) (frames : List Frame) (list :
 unfolding Finish
 enter_step d defined [] list before nodes [] line q lines is old forest tables (s, seq, forest_is, tables_are) =
     (s, enter_seq d s (level [] before) line q lines (Lines []) is old seq, forest_is, tables_are)
-enter_step d defined [] list before nodes (o ∷ os) line q lines is old forest tables fin = fin
-enter_step d defined (InContainer c ∷ frames) list before nodes [] line q lines is old forest tables fin = fin
-enter_step d defined (InList byte loose ∷ frames) list before nodes [] line q lines is old forest tables fin = fin
-enter_step d defined (InDefinitions loose ∷ frames) list before nodes [] line q lines is old forest tables fin = fin
 enter_step d defined (InList byte loose ∷ frames) list before nodes (o ∷ os) line q lines is old forest tables fin =
     enter_step d defined frames (OneList o (ItemsOf byte) loose) before nodes os line q lines is old forest tables fin
 enter_step d defined (InDefinitions loose ∷ frames) list before nodes (o ∷ os) line q lines is old forest tables fin =
     enter_step d defined frames (definitions_open o loose list) before nodes os line q lines is old forest tables fin
 enter_step d defined (InContainer c ∷ frames) list before nodes (o ∷ os) line q lines is old forest tables (s, mid, seq, fin) =
     (s, mid, enter_seq d s (level (c ∷ containers_of frames) before) line q lines mid is old seq, fin)
+enter_step d defined frames list before nodes os line q lines is old forest tables fin = fin
 
 -- no innermost footnote definition ends at a place
 abbrev pub StaysAt : Document → List Container → Place → Type 0
@@ -305,12 +280,9 @@ pub record OpensContainer (d : Document) (l : Level) (head : Head) : Type 0 wher
   pub following : List Place
   pub opens : Opens d l place lines (OpensNode head inside following)
 
--- such a container is the first block there
-pub container_first : (d : Document) (l : Level) (head : Head) (b : OpensContainer d l head)
-    → label_of head.opener ≡ [] → IsFirst d l (Inside b.place) b.lines (OpensNode head b.inside b.following)
-container_first d l head b none =
-    let opening : Opening = OpensNode head b.inside b.following in
-    first_here d l b.place b.lines opening (opens_stays d l b.place b.lines opening none b.opens) b.opens
+-- no footnote definition ends there if that container has no label
+pub container_stays : (d : Document) (l : Level) (head : Head) (b : OpensContainer d l head) → label_of head.opener ≡ [] → StaysAt d l.path b.place
+container_stays d l head b none = opens_stays d l b.place b.lines (OpensNode head b.inside b.following) none b.opens
 
 pub alike_onward : (n : ℕ) (p : Place) (left : Remaining) → EndsAlike n (Inside p) (onward left).0
 alike_onward n p (Lines lines) path mid = refl

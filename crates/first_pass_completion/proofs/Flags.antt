@@ -1,25 +1,17 @@
 -- The flags of a list's node, and the end of a definition list's node, do not matter before the list is closed.
 use Rattle.std.proofs.Common.{◌≡◌, ℕ, suc, ◌<◌, Bool, true, ◌||◌, List, ◌∷◌, length, refl, sym, ap, ◌∙◌, subst, arith}
-use Rattle.first_pass_items.specs.declared.item.Item.{Item}
-use Rattle.first_pass_lines.specs.Places.{Place}
+use Rattle.first_pass_grammar.proofs.Common.{Item, Place, is_quote, Document, Before, after_container, before_end, Continues, onward, end_before, ItemsOf}
+use Rattle.first_pass_grammar.proofs.Common.{DefinitionsTo, Rows, any_gap, rows_of, Joins, with_all_of, ended, Closed, DefinitionClosed, TitleAt, Pending}
+use Rattle.first_pass_grammar.proofs.Common.{NoList, OneList, rows_beyond, rendered, Frame, InContainer, InList, InDefinitions, closed_as, definitions_open}
+use Rattle.first_pass_grammar.proofs.Common.{containers_of, loosened, IsPlain, IsShaped, length-modify}
 use Rattle.first_pass_grammar.specs.declared.kind.Container.{Container}
 use Rattle.first_pass_grammar.specs.declared.kind.Container.TheVariants.{Definition}
-use Rattle.first_pass_grammar.specs.Containers.{is_quote}
-use Rattle.first_pass_grammar.specs.Leaves.{Document}
-use Rattle.first_pass_grammar.specs.Before.{Before, after_container, before_end}
-use Rattle.first_pass_grammar.specs.Skeleton.{Continues, onward, end_before}
-use Rattle.first_pass_grammar.specs.Rows.{ItemsOf, DefinitionsTo, Rows, any_gap, rows_of}
-use Rattle.first_pass_grammar.specs.Derivation.{with_all_of}
-use Rattle.first_pass_grammar.specs.Completion.{ended, Closed, OtherClosed, ParagraphAt, DefinitionClosed, TitleAt, Pending}
-use Rattle.first_pass_grammar.specs.Completion.{NoList, OneList, rows_beyond, rendered, Frame, InContainer, InList, InDefinitions, closed_as}
-use Rattle.first_pass_grammar.specs.Completion.{definitions_open, containers_of, loosened, IsPlain, IsShaped}
 use Rattle.first_pass_completion.proofs.Extending.{stepped, AreBelow-more, length-ended, extend_same}
 use Rattle.first_pass_grammar.proofs.Sequences.Finishes.{Finish, Tail, before_of}
-use Rattle.first_pass_completion.proofs.TitleNodes.{reflagged, swapped}
+use Rattle.first_pass_completion.proofs.TitleNodes.{reflagged, swapped, end_absorbed, flags_absorbed}
 use Rattle.first_pass_completion.proofs.EarlierNodes.{IsBefore, reflagged-rendered}
-use Rattle.first_pass_completion.proofs.JoinedNodes.{list-ended, title-ended, list-reflagged}
-use Rattle.first_pass_tokens.proofs.BytesLemmas.{length-modify}
-use Rattle.first_pass_completion.proofs.States.{CompletesFrom, IsCompleted, IsStep, OpenNodes, Reading, reading, reading_at, with_inner}
+use Rattle.first_pass_completion.proofs.JoinedNodes.{title-ended, list-absorbed}
+use Rattle.first_pass_completion.proofs.States.{CompletesFrom, IsCompleted, IsStep, OpenNodes, Reading, reading, with_inner}
 
 pub length-reflagged : (nodes : List (ℕ × Item)) (o : ℕ) (l : Bool) → length (reflagged nodes o l) ≡ length nodes
 unfolding reflagged
@@ -39,17 +31,21 @@ renode_step d w list before nodes from lines plain same =
 
 -- a definition list is open, and its last child is a definition or a possible title
 abbrev pub IsDefined : Closed → Type 0
-IsDefined OtherClosed = ⊥
-IsDefined (ParagraphAt at) = ⊥
 IsDefined (DefinitionClosed e blanks) = Unit {0}
 IsDefined (TitleAt e at) = Unit {0}
+IsDefined _ = ⊥
 
 open_ended : (o x : ℕ) (loose : Bool) (closed : Closed) (nodes : List (ℕ × Item)) → IsDefined closed → (k last : ℕ) (r : Rows)
     → rendered k last (ended nodes o x) (definitions_open o loose (NoList closed)) r ≡ rendered k last nodes (definitions_open o loose (NoList closed)) r
-open_ended o x loose OtherClosed nodes h k last r = absurd h
-open_ended o x loose (ParagraphAt at) nodes h k last r = absurd h
-open_ended o x loose (DefinitionClosed e blanks) nodes h k last r = list-ended k last nodes o x (DefinitionsTo e) loose r
+unfolding ended
+open_ended o x loose (DefinitionClosed e blanks) nodes h k last r = list-absorbed k last nodes o _ (end_absorbed x) loose r (DefinitionsTo e)
 open_ended o x loose (TitleAt e at) nodes h k last r = title-ended k last nodes o x at e loose r
+open_ended o x loose closed nodes h k last r = absurd h
+
+list-reflagged : (k last : ℕ) (nodes : List (ℕ × Item)) (o : ℕ) (joins : Joins) (loose : Bool) (r : Rows)
+    → rendered k last (reflagged nodes o true) (OneList o joins loose) r ≡ rendered k last nodes (OneList o joins loose) r
+unfolding reflagged
+list-reflagged k last nodes o joins loose r = list-absorbed k last nodes o _ (flags_absorbed true) loose r joins
 
 -- the flags of a list that may continue
 pub completes-reflag_list : (d : Document) (w : OpenNodes) (t : Tail) (byte : ℕ) (loose : Bool) (o : ℕ) (from : Continues) (lines : List Place)
@@ -59,7 +55,7 @@ unfolding Finish
 completes-reflag_list d w t byte loose o from lines k =
     stepped d _ _ _ _ _ _ _ _ k
     (renode_step d w (OneList o (ItemsOf byte) loose) (before_of (InList byte loose ∷ w.frames) t) (reflagged w.nodes o true) from lines
-    k.shape.0 (λ k last r. list-reflagged k last w.nodes o true (ItemsOf byte) loose r))
+    k.shape.0 (λ k last r. list-reflagged k last w.nodes o (ItemsOf byte) loose r))
     (AreBelow-more _ _ (o ∷ w.places) (let n = length-reflagged w.nodes o true in omega arith) k.below, k.shape)
 
 -- the end in a definition list's node while the list may continue
@@ -79,10 +75,9 @@ ended-reflagged nodes o x e l = swapped nodes o x _ _ (λ y. refl)
 
 -- the frame is that of a list around this container; only definitions are in a definition list
 abbrev pub IsListAround : Frame → Container → Type 0
-IsListAround (InContainer b) c = ⊥
 IsListAround (InList byte loose) c = Unit {0}
 IsListAround (InDefinitions loose) (Definition columns) = Unit {0}
-IsListAround (InDefinitions loose) c = ⊥
+IsListAround _ c = ⊥
 
 -- the flags of that list after the container is closed
 reflag_step : (d : Document) (w : OpenNodes) (frame : Frame) (c : Container) (gap : Bool) (o e : ℕ) (before : Before) (from : Continues) (lines : List Place)
@@ -91,23 +86,22 @@ reflag_step : (d : Document) (w : OpenNodes) (frame : Frame) (c : Container) (ga
     reading (record w { frames = loosened gap (frame ∷ w.frames); nodes = nodes; places = o ∷ w.places }) (NoList (closed_as c e)) before from lines in
     IsStep d (now w.nodes) (now (reflagged w.nodes o true)))
 unfolding Finish
-reflag_step d w (InContainer b) c gap o e before from lines around shape = absurd around
 reflag_step d w (InList byte loose) c gap o e before from lines around shape =
     renode_step d w (OneList o (ItemsOf byte) (loose || gap)) before (reflagged w.nodes o true) from lines shape.0
-    (λ k last r. list-reflagged k last w.nodes o true (ItemsOf byte) (loose || gap) r)
+    (λ k last r. list-reflagged k last w.nodes o (ItemsOf byte) (loose || gap) r)
 reflag_step d w (InDefinitions loose) (Definition columns) gap o e before from lines around shape =
     renode_step d w (OneList o (DefinitionsTo e) (loose || gap)) before (reflagged w.nodes o true) from lines shape.0
-    (λ k last r. list-reflagged k last w.nodes o true (DefinitionsTo e) (loose || gap) r)
-reflag_step d w (InDefinitions loose) c gap o e before from lines around shape = absurd around
+    (λ k last r. list-reflagged k last w.nodes o (DefinitionsTo e) (loose || gap) r)
+reflag_step d w frame c gap o e before from lines around shape = absurd around
 
--- while blocks continue in the container
-reflag_outer : (d : Document) (w : OpenNodes) (t : Tail) (frame : Frame) (c : Container) (x o : ℕ) (from : Continues) (lines : List Place)
+-- The list around a container may be loose already.
+pub completes-reflag : (d : Document) (w : OpenNodes) (t : Tail) (frame : Frame) (c : Container) (x o : ℕ) (from : Continues) (lines : List Place)
     → IsListAround frame c → IsBefore o t.closed
     → (let inner : List (ℕ × Item) → OpenNodes = λ nodes. with_inner (with_inner (record w { nodes = nodes }) frame o) (InContainer c) x in
-    CompletesFrom d (inner w.nodes) t from lines
-    → IsStep d (reading_at (inner w.nodes) t from lines) (reading_at (inner (reflagged w.nodes o true)) t from lines))
+    CompletesFrom d (inner w.nodes) t from lines → CompletesFrom d (inner (reflagged w.nodes o true)) t from lines)
 unfolding Finish
-reflag_outer d w t frame c x o from lines around before_it whole forest tables (s, mid, seq, fin) =
+completes-reflag d w t frame c x o from lines around before_it whole =
+    stepped d _ _ _ _ _ _ _ _ whole (λ forest tables (s, mid, seq, fin).
     let k : ℕ = suc (length (x ∷ o ∷ w.places)) in
     let before : Before = before_of (InContainer c ∷ frame ∷ w.frames) t in
     let e : ℕ = end_before (length d.text) (containers_of (frame ∷ w.frames)) from mid in
@@ -127,13 +121,4 @@ reflag_outer d w t frame c x o from lines around before_it whole forest tables (
       seq,
       reflag_step d old frame c gap o e now (onward mid).0 (onward mid).1 around whole.shape.1 forest tables
           (subst (λ z. IsCompleted d (new z) forest tables) same fin),
-    )
-
--- The list around a container may be loose already.
-pub completes-reflag : (d : Document) (w : OpenNodes) (t : Tail) (frame : Frame) (c : Container) (x o : ℕ) (from : Continues) (lines : List Place)
-    → IsListAround frame c → IsBefore o t.closed
-    → (let inner : List (ℕ × Item) → OpenNodes = λ nodes. with_inner (with_inner (record w { nodes = nodes }) frame o) (InContainer c) x in
-    CompletesFrom d (inner w.nodes) t from lines → CompletesFrom d (inner (reflagged w.nodes o true)) t from lines)
-completes-reflag d w t frame c x o from lines around before_it k =
-    stepped d _ _ _ _ _ _ _ _ k (reflag_outer d w t frame c x o from lines around before_it k)
-    (AreBelow-more _ _ (x ∷ o ∷ w.places) (let n = length-reflagged w.nodes o true in omega arith) k.below, k.shape)
+    )) (AreBelow-more _ _ (x ∷ o ∷ w.places) (let n = length-reflagged w.nodes o true in omega arith) whole.below, whole.shape)

@@ -1,41 +1,22 @@
 -- Only the first item of a leaf block may be a paragraph, and link reference definitions have no items.
 use Rattle.std.proofs.Common.{◌≡◌, ℕ, Bool, true, false, List, ◌∷◌, drop, Option, Some, None, MatchOption, IfSome, refl, sym, ap, subst, ◌∙◌, []}
-use Rattle.std.proofs.Common.{if◌then◌else◌}
-use Rattle.std.proofs.lemmas.Bool.{true≢false}
-use Rattle.first_pass_items.specs.declared.cow_str.CowStr.{CowStr}
-use Rattle.first_pass_items.specs.declared.item.Alignment.{Alignment}
-use Rattle.first_pass_items.specs.declared.item.HeadingLevel.{HeadingLevel}
-use Rattle.first_pass_items.specs.declared.item.Item.{Item}
-use Rattle.first_pass_items.specs.declared.item.ItemBody.{ItemBody}
+use Rattle.std.proofs.Common.{if◌then◌else◌, true≢false}
+use Rattle.first_pass_grammar.proofs.Common.{CowStr, Alignment, HeadingLevel, Item, ItemBody, Place, offset, no_braces, spot, leaves, is_markup}
+use Rattle.first_pass_grammar.proofs.Common.{is_paragraph_body, begins_paragraph, is_run, LeafBlock, Block, block_at, Head, opened, at_rest}
+use Rattle.first_pass_grammar.proofs.Common.{footnote_head_at, Kind, Blank, IndentedCode, Metadata, HtmlToEnd, HtmlToBlank, ThematicBreak, AtxHeading}
+use Rattle.first_pass_grammar.proofs.Common.{FencedCode, LinkDefinitions, unindented, Document, around, TextLines, kind_in, Ended, FlowsOn, is_paragraph}
+use Rattle.first_pass_grammar.proofs.Common.{Start, start_at, Continues, Line, Blanks, AtPlace, Anything, OnlyALeaf, TextOf, OnlyMark, Opening, OpensLeaf}
+use Rattle.first_pass_grammar.proofs.Common.{OpensText, OpensRun, OpensAs, OpensBlockAt, OpensBy, OpensFootnote, Opens, OpensAt, opening_by, next_is_blank}
+use Rattle.first_pass_grammar.proofs.Common.{Level, may_define, IsFirst, headed_table, Taken, IsTable, IsPlainText, IsText, IsUnderlined, text_children}
+use Rattle.first_pass_grammar.proofs.Common.{plain_text, underline_first, AreEachNode}
 use Rattle.first_pass_items.specs.declared.item.ItemBody.TheVariants.{Paragraph as ParagraphBody}
-use Rattle.first_pass_lines.specs.Places.{Place, offset}
-use Rattle.first_pass_tokens.specs.Braces.{no_braces}
-use Rattle.first_pass_tokens.specs.LineTokens.{spot}
-use Rattle.first_pass_tokens.specs.TreeTokens.{leaves}
-use Rattle.first_pass_tokens.proofs.PieceFacts.{is_markup}
 use Rattle.first_pass_grammar.specs.declared.kind.Container.{Container}
-use Rattle.first_pass_grammar.specs.Before.{is_paragraph_body, begins_paragraph, is_run}
-use Rattle.first_pass_grammar.specs.Blocks.{LeafBlock, BlankLine, Block, block_at, Head, opened}
-use Rattle.first_pass_grammar.specs.Containers.{at_rest}
-use Rattle.first_pass_grammar.specs.Footnotes.{footnote_head_at}
-use Rattle.first_pass_grammar.specs.Kinds.{Kind, Blank, IndentedCode, Metadata, HtmlToEnd, HtmlToBlank, ThematicBreak, AtxHeading, FencedCode, LinkDefinitions}
-use Rattle.first_pass_grammar.specs.Kinds.{Paragraph, unindented}
-use Rattle.first_pass_grammar.specs.Leaves.{Document, around, TextLines}
-use Rattle.first_pass_grammar.specs.LinkRuns.{kind_in, Ended, FlowsOn}
-use Rattle.first_pass_grammar.specs.Rows.{is_paragraph}
-use Rattle.first_pass_grammar.specs.Openers.{Start, start_at}
+use Rattle.first_pass_grammar.specs.Kinds.{Paragraph}
 use Rattle.first_pass_grammar.specs.declared.kind.AfterMarker.{AfterMarker}
 use Rattle.first_pass_grammar.specs.declared.kind.AfterMarker.TheVariants.{LineEnds}
-use Rattle.first_pass_grammar.specs.Skeleton.{Continues, Line, Blanks, AtPlace, Anything, OnlyALeaf, TextOf, OnlyMark, Opening, OpensLeaf, OpensNode, OpensText}
-use Rattle.first_pass_grammar.specs.Skeleton.{OpensRun, OpensAs, OpensBlockAt, OpensBy, OpensFootnote, Opens, OpensAt, opening_by}
-use Rattle.first_pass_grammar.specs.Skeleton.{next_is_blank, Level, may_define, IsFirst}
-use Rattle.first_pass_grammar.specs.TableHeads.{headed_table}
-use Rattle.first_pass_grammar.specs.Tables.{Taken, IsTable}
-use Rattle.first_pass_grammar.specs.Texts.{IsPlainText, IsText, IsUnderlined, text_children, plain_text, underline_first}
 use Rattle.first_pass_grammar.proofs.Each.EachToken.{AreEach, HoldsOfTokens, children_each, lines_each}
 use Rattle.first_pass_grammar.proofs.Each.EachCell.{deeper_nodes, leaves_nodes}
 use Rattle.first_pass_grammar.proofs.Names.TokensNamed.{NamesWithin}
-use Rattle.first_pass_grammar.specs.WholeTables.{AreEachNode}
 
 abbrev pub IsNoParagraph : ItemBody → Type 0
 IsNoParagraph body = is_paragraph_body body ≡ false
@@ -66,12 +47,9 @@ pub record OwnParagraph (b : LeafBlock) : Type 0 where
 -- where blocks continue, the task list item marker before a text has a property; a marker without a text is no
 -- paragraph
 abbrev pub HoldsOfMarker : (ItemBody → Type 0) → Continues → Type 0
-HoldsOfMarker P Line = Unit {0}
-HoldsOfMarker P (Blanks e) = Unit {0}
-HoldsOfMarker P (AtPlace p Anything) = Unit {0}
-HoldsOfMarker P (AtPlace p OnlyALeaf) = Unit {0}
 HoldsOfMarker P (AtPlace p (TextOf marker)) = P marker.body
 HoldsOfMarker P (AtPlace p (OnlyMark marker blanks)) = IsNoParagraph marker.body
+HoldsOfMarker P from = Unit {0}
 
 -- neither is a paragraph
 abbrev pub OwnFrom : Continues → Type 0
@@ -99,9 +77,8 @@ module _ (P : ItemBody → Type 0) where
 
   -- what opens has this property
   abbrev pub HoldsInOpening : Opening → Type 0
-  HoldsInOpening (OpensLeaf BlankLine there left) = Unit {0}
   HoldsInOpening (OpensLeaf (Block b) there left) = HoldsInBlock P b × OwnParagraph b
-  HoldsInOpening (OpensNode head inside following) = Unit {0}
+  HoldsInOpening o = Unit {0}
 
   text_block : (b : LeafBlock) → b.kind ≡ Paragraph → HoldsInText b.start b.items → HoldsInBlock P b × OwnParagraph b
   text_block b is h = (
@@ -118,9 +95,6 @@ module _ (P : ItemBody → Type 0) where
   other_block : (b : LeafBlock) (x : ℕ × Item) (more : List (ℕ × Item)) → is_run b.kind ≡ false → b.items ≡ x ∷ more → IsNoParagraph x.1.body
       → HoldsInBlock P b × OwnParagraph b
   other_block b x more other is own = no_text b (begins_other x more b.items is own) (λ run. absurd (true≢false (sym run ∙ other)))
-
-  only_run : (b : LeafBlock) → b.items ≡ [] → HoldsInBlock P b × OwnParagraph b
-  only_run b none = no_text b (λ begins. true≢false (sym begins ∙ ap begins_paragraph none)) (λ run. none)
 
   abbrev HoldsOfMark : Option Item → Type 0
   HoldsOfMark marker = IfSome marker (λ x. P x.body)
@@ -155,7 +129,7 @@ module _ (P : ItemBody → Type 0) (d : Document) (holds : HoldsOfTokens d.names
 
   opens_run : (path : List Container) (p : Place) (lines : List Place) (o : Opening) → OpensRun d path p lines o → HoldsInOpening P o
   unfolding OpensRun
-  opens_run path p lines o (xs, Ended q left, run, e) = subst (HoldsInOpening P) (sym e) (only_run P _ refl)
+  opens_run path p lines o (xs, Ended q left, run, e) = subst (HoldsInOpening P) (sym e) (no_text P _ (λ begins. true≢false (sym begins)) (λ run. refl))
   opens_run path p lines o (xs, FlowsOn q more, run, (t, is, e)) =
       subst (HoldsInOpening P) (sym e) (text_block P _ refl (text_holds path q None more t tt is))
 

@@ -1,146 +1,127 @@
 -- Nodes with one more definition, and nodes of an open list.
-use Rattle.std.proofs.Common.{◌≡◌, ℕ, suc, ◌<◌, Bool, true, false, not, ◌||◌, List, ◌∷◌, ◌++◌, length, Option, Some, None}
-use Rattle.std.proofs.Common.{refl, sym, ap, ◌∙◌, arith, append_assoc}
-use Rattle.first_pass_items.specs.declared.item.Item.{Item}
-use Rattle.first_pass_items.specs.declared.item.ItemBody.TheVariants.{DefinitionListDefinition}
-use Rattle.first_pass_grammar.specs.declared.kind.Container.TheVariants.{Definition}
-use Rattle.first_pass_grammar.specs.Before.{Before, nothing, after_container, before_end}
-use Rattle.first_pass_grammar.specs.Blocks.{Skeleton, Node}
-use Rattle.first_pass_grammar.specs.Rows.{Joins, DefinitionsTo, Rows, OneOf, Definitions, definitions_first, Row, row_of, any_gap, is_loose, list_until}
-use Rattle.first_pass_grammar.specs.Rows.{items_after, list_after, rows_of}
-use Rattle.first_pass_grammar.specs.Derivation.{node_of, items_of}
-use Rattle.first_pass_grammar.specs.Completion.{ended, with_title, title_taken, title_left, list_closed, ParagraphAt, NoList, OneList}
-use Rattle.first_pass_grammar.specs.Completion.{Pending, OneTitle, rows_beyond, after_paragraph, after_title, rendered}
+use Rattle.std.proofs.Common.{◌≡◌, ℕ, suc, ◌<◌, Bool, false, not, ◌||◌, List, ◌∷◌, ◌++◌, length, Option, Some, None, refl, sym, ap, ◌∙◌, append_assoc}
+use Rattle.first_pass_grammar.proofs.Common.{Item, DefinitionListTitle, Before, nothing, after_container, before_end, Skeleton, Node, Head, opened, Joins}
+use Rattle.first_pass_grammar.proofs.Common.{Rows, OneOf, Definitions, definitions_first, row_of, any_gap, is_loose, list_until, items_after, list_after}
+use Rattle.first_pass_grammar.proofs.Common.{rows_of, node_of, items_of, ended, title_taken, title_left, list_closed, OneList, Pending, OneTitle}
+use Rattle.first_pass_grammar.proofs.Common.{rows_beyond, after_paragraph, after_title, rendered, IsPlain, containers_of, in_quote, is_quote, ItemBody}
+use Rattle.first_pass_grammar.proofs.Common.{modify}
 use Rattle.first_pass_grammar.proofs.Sequences.Tightening.{list_closed-append, closed_item}
-use Rattle.first_pass_completion.proofs.States.{DefinitionHead, definition_head_of, OpenDefinitions}
-use Rattle.first_pass_completion.proofs.TitleNodes.{reflagged, length-with_title, length-taken, closed-ended, closed-reflagged, taken-ended}
+use Rattle.first_pass_completion.proofs.States.{OpenNodes}
+use Rattle.first_pass_completion.proofs.TitleNodes.{IsAbsorbed, closed-absorbed, end_absorbed, swapped}
+use Rattle.std.proofs.Math.Bool.{or_assoc}
 
--- the next item or definition of a list
-or_four : (a b c e : Bool) → (a || (b || (c || e))) ≡ (((a || b) || c) || e)
-or_four true b c e = refl
-or_four false true c e = refl
-or_four false false c e = refl
+-- a container that opens: its head, the body of its node, the nodes before that node, and the places of the nodes around it
+pub record Member : Type 0 where
+  pub head : Head
+  pub body : ItemBody
+  pub nodes : List (ℕ × Item)
+  pub places : List ℕ
 
-pub joined : (k last o e : ℕ) (joins : Joins) (loose : Bool) (row : Row) (x : Item) (nodes : List (ℕ × Item)) (kids : Skeleton) (next : Rows)
-    → o < length nodes
-    → (let inner : Rows = rows_of false nothing e kids in
-    let more : Rows = items_after joins next in
-    let items : Rows = OneOf row inner more in
-    let now : Bool = loose || is_loose items in
-    ((tight : Bool) → items_of (suc k) tight items ≡ (suc k, x) ∷ (items_of (suc (suc k)) tight inner ++ items_of (suc k) tight more))
-    → list_closed nodes o (suc (suc k)) now (list_until joins last next) ++ (items_of (suc k) (not now) items ++ items_of k false (list_after joins next))
-    ≡ rendered k last (nodes ++ (suc k, x) ∷ items_of (suc (suc k)) false inner) (OneList o joins ((loose || row.gap) || any_gap inner)) next)
+-- the rows of its blocks; the next definitions: what precedes the block after it, and the nodes with it
+abbrev pub rows_in : Member → ℕ → Skeleton → Rows
+rows_in m e kids = rows_of (is_quote (opened m.head.opener)) nothing e kids
+
+abbrev pub after_member : Member → Skeleton → Before
+after_member m kids = after_container (opened m.head.opener) (before_end (is_quote (opened m.head.opener)) nothing kids)
+
+abbrev pub with_member : Member → ℕ → Skeleton → List (ℕ × Item)
+with_member m e kids =
+    m.nodes ++ (suc (length m.places), node_of m.head.start e m.body) ∷ items_of (suc (suc (length m.places))) false (rows_in m e kids)
+
+-- the rows in open nodes that begin with it, and the rows after it
+abbrev pub rows_with : OpenNodes → Before → Member → ℕ → ℕ → Skeleton → Skeleton → Rows
+rows_with w before m e last kids s = rows_of (in_quote (containers_of w.frames)) before last (Node m.head e kids s)
+
+abbrev pub rows_past : OpenNodes → Member → ℕ → Skeleton → Skeleton → Rows
+rows_past w m last kids s = rows_of (in_quote (containers_of w.frames)) (after_member m kids) last s
+
+-- In open nodes a container adds its node. Then this list may continue, given the container's end and whether its rows
+-- have a gap.
+pub record AddsMember (w : OpenNodes) (list : Pending) (before : Before) (m : Member) (later : ℕ → Bool → Pending) : Type 0 where
+  pub plain : IsPlain w.frames
+  pub items : (e last : ℕ) (kids s : Skeleton) → rendered (suc (length w.places)) last w.nodes list (rows_with w before m e last kids s)
+      ≡ rendered (suc (length w.places)) last (with_member m e kids) (later e (any_gap (rows_in m e kids))) (rows_past w m last kids s)
+  pub gaps : (e last : ℕ) (kids s : Skeleton) → any_gap (rows_beyond list (rows_with w before m e last kids s))
+      ≡ any_gap (rows_beyond (later e (any_gap (rows_in m e kids))) (rows_past w m last kids s))
+
+-- a child of the list at a place, with these nodes before it
+abbrev pub child : OpenNodes → ℕ → List (ℕ × Item) → Head → ItemBody → Member
+child w place nodes head body = record { head = head; body = body; nodes = nodes; places = place ∷ w.places }
+
+-- the rows of such children: one with this end and these rows in it, and those of the rows after it
+abbrev pub children : Head → ℕ → Bool → Rows → Joins → Rows → Rows
+children head e gap inner joins next = OneOf (row_of head e gap) inner (items_after joins next)
+
+-- the container is such a child: what rows with it add is what closes that list
+pub record IsChild (w : OpenNodes) (list : Pending) (before : Before) (m : Member) (joins : ℕ → Joins) (place : ℕ) (loose : Bool) : Type 0 where
+  pub plain : IsPlain w.frames
+  pub within : place < length m.nodes
+  pub items : (e last : ℕ) (kids s : Skeleton)
+      → (let k : ℕ = suc (length w.places) in
+      let next : Rows = rows_past w m last kids s in
+      let all : Rows = children m.head e before.counted (rows_in m e kids) (joins e) next in
+      let now : Bool = loose || is_loose all in
+      rendered k last w.nodes list (rows_with w before m e last kids s)
+      ≡ list_closed m.nodes place (suc (suc k)) now (list_until (joins e) last next)
+      ++ (items_of (suc k) (not now) all ++ items_of k false (list_after (joins e) next)))
+  pub gaps : (e last : ℕ) (kids s : Skeleton)
+      → any_gap (rows_beyond list (rows_with w before m e last kids s)) ≡ any_gap (list_after (joins e) (rows_past w m last kids s))
+
+-- the items of rows that begin with a container begin with its node
+abbrev pub HasNode : Head → ItemBody → Type 0
+HasNode head body = (k e : ℕ) (tight gap : Bool) (inner more : Rows)
+    → items_of k tight (OneOf (row_of head e gap) inner more) ≡ (k, node_of head.start e body) ∷ (items_of (suc k) tight inner ++ items_of k tight more)
+
+pub joined : (w : OpenNodes) (list : Pending) (before : Before) (head : Head) (body : ItemBody) (nodes : List (ℕ × Item)) (joins : ℕ → Joins) (place : ℕ)
+    (loose : Bool)
+    → HasNode head body → is_quote (opened head.opener) ≡ false → IsChild w list before (child w place nodes head body) joins place loose
+    → AddsMember w list before (child w place nodes head body) (λ e gap. OneList place (joins e) ((loose || before.counted) || gap))
 unfolding is_loose rendered
-joined k last o e joins loose row x nodes kids next h f =
-    let inner : Rows = rows_of false nothing e kids in
-    let more : Rows = items_after joins next in
-    let items : Rows = OneOf row inner more in
-    let until : ℕ = list_until joins last next in
-    let all : Bool = ((loose || row.gap) || any_gap inner) || is_loose more in
-    let closed : List (ℕ × Item) = list_closed nodes o (suc (suc k)) all until in
-    let a : List (ℕ × Item) = items_of (suc (suc k)) (not all) inner in
-    let b : List (ℕ × Item) = items_of (suc k) (not all) more in
-    let c : List (ℕ × Item) = items_of k false (list_after joins next) in
-    ap (λ z. list_closed nodes o (suc (suc k)) z until ++ (items_of (suc k) (not z) items ++ c)) (or_four loose row.gap (any_gap inner) (is_loose more))
-    ∙ ap (λ z. closed ++ (z ++ c)) (f (not all))
-    ∙ sym (ap (λ z. z ++ (b ++ c)) (list_closed-append nodes ((suc k, x) ∷ items_of (suc (suc k)) false inner) o (suc (suc k)) all until h)
-    ∙ ap (λ z. (closed ++ z) ++ (b ++ c)) (closed_item k e all x kids)
-    ∙ append_assoc closed ((suc k, x) ∷ a) (b ++ c)
-    ∙ ap (λ z. closed ++ (suc k, x) ∷ z) (sym (append_assoc a b c)))
-
--- the row of a definition
-abbrev marked : DefinitionHead → ℕ → Bool → Row
-marked m e gap = row_of (definition_head_of m) e gap
-
--- what precedes the block after a definition
-abbrev pub after_definition : DefinitionHead → Skeleton → Before
-after_definition m kids = after_container (Definition m.columns) (before_end false nothing kids)
-
--- the nodes with a definition, which ends at an offset
-abbrev pub with_definition : ℕ → List (ℕ × Item) → DefinitionHead → ℕ → Skeleton → List (ℕ × Item)
-with_definition k nodes m e kids =
-    nodes ++ (suc k, node_of m.start e (DefinitionListDefinition m.columns)) ∷ items_of (suc (suc k)) false (rows_of false nothing e kids)
-
--- the first definition after a paragraph
-pub first_definition : (quoted : Bool) (k last e : ℕ) (m : DefinitionHead) (at : ℕ) (before : Before) (nodes : List (ℕ × Item)) (kids s : Skeleton)
-    → at < length nodes
-    → (let rows : Rows = rows_of quoted before last (Node (definition_head_of m) e kids s) in
-    let next : Rows = rows_of quoted (after_definition m kids) last s in
-    (rendered k last nodes (NoList (ParagraphAt at)) rows
-    ≡ rendered k last (with_definition k (with_title nodes at) m e kids)
-    (OneList at (DefinitionsTo e) (before.counted || any_gap (rows_of false nothing e kids))) next)
-    × (any_gap (rows_beyond (NoList (ParagraphAt at)) rows) ≡ any_gap (list_after (DefinitionsTo e) next)))
-unfolding items_of rows_of rendered definitions_first
-first_definition quoted k last e m at before nodes kids s h =
-    let next : Rows = rows_of quoted (after_definition m kids) last s in
-    let x : Item = node_of m.start e (DefinitionListDefinition m.columns) in
-    let within : at < length (with_title nodes at) = let n = length-with_title nodes at h in omega arith in
-    (joined k last at e (DefinitionsTo e) false (marked m e before.counted) x (with_title nodes at) kids next within (λ tight. refl), refl)
-
--- a definition after a possible title
-pub title_definition : (quoted : Bool) (k last e : ℕ) (m : DefinitionHead) (l : OpenDefinitions) (at : ℕ) (before : Before) (nodes : List (ℕ × Item))
-    (kids s : Skeleton)
-    → l.place < length nodes
-    → (let list : Pending = OneTitle l.place at l.«end» l.loose in
-    let rows : Rows = rows_of quoted before last (Node (definition_head_of m) e kids s) in
-    let next : Rows = rows_of quoted (after_definition m kids) last s in
-    (rendered k last nodes list rows
-    ≡ rendered k last (with_definition k (title_taken nodes at) m e kids)
-    (OneList l.place (DefinitionsTo e) ((l.loose || before.counted) || any_gap (rows_of false nothing e kids))) next)
-    × (any_gap (rows_beyond list rows) ≡ any_gap (list_after (DefinitionsTo e) next)))
-unfolding items_of rows_of rendered definitions_first
-title_definition quoted k last e m l at before nodes kids s h =
-    let next : Rows = rows_of quoted (after_definition m kids) last s in
-    let x : Item = node_of m.start e (DefinitionListDefinition m.columns) in
-    let within : l.place < length (title_taken nodes at) = let n = length-taken nodes at in omega arith in
-    (joined k last l.place e (DefinitionsTo e) l.loose (marked m e before.counted) x (title_taken nodes at) kids next within (λ tight. refl), refl)
-
--- a definition after a definition
-pub joined_definition : (quoted : Bool) (k last e : ℕ) (m : DefinitionHead) (l : OpenDefinitions) (before : Before) (nodes : List (ℕ × Item))
-    (kids s : Skeleton)
-    → l.place < length nodes
-    → (let rows : Rows = rows_of quoted before last (Node (definition_head_of m) e kids s) in
-    let next : Rows = rows_of quoted (after_definition m kids) last s in
-    (rendered k last nodes (OneList l.place (DefinitionsTo l.«end») l.loose) rows
-    ≡ rendered k last (with_definition k nodes m e kids)
-    (OneList l.place (DefinitionsTo e) ((l.loose || before.counted) || any_gap (rows_of false nothing e kids))) next)
-    × (any_gap (list_after (DefinitionsTo l.«end») rows) ≡ any_gap (list_after (DefinitionsTo e) next)))
-unfolding items_of rows_of rendered
-joined_definition quoted k last e m l before nodes kids s h =
-    let next : Rows = rows_of quoted (after_definition m kids) last s in
-    let x : Item = node_of m.start e (DefinitionListDefinition m.columns) in
-    (joined k last l.place e (DefinitionsTo e) l.loose (marked m e before.counted) x nodes kids next h (λ tight. refl), refl)
+joined w list before head body nodes joins place loose node apart h = record {
+  plain = h.plain;
+  items = λ e last kids s.
+      let k : ℕ = suc (length w.places) in
+      let inner : Rows = rows_of false nothing e kids in
+      let after : Before = after_container (opened head.opener) (before_end false nothing kids) in
+      let next : Rows = rows_of (in_quote (containers_of w.frames)) after last s in
+      let more : Rows = items_after (joins e) next in
+      let until : ℕ = list_until (joins e) last next in
+      let all : Bool = ((loose || before.counted) || any_gap inner) || is_loose more in
+      let closed : List (ℕ × Item) = list_closed nodes place (suc (suc k)) all until in
+      let x : Item = node_of head.start e body in
+      let b : List (ℕ × Item) = items_of (suc k) (not all) more in
+      let c : List (ℕ × Item) = items_of k false (list_after (joins e) next) in
+      rw apart (rw apart at (h.items e last kids s)
+      ∙ ap (λ z. list_closed nodes place (suc (suc k)) z until ++ (items_of (suc k) (not z) (children head e before.counted inner (joins e) next) ++ c))
+      (sym (or_assoc (loose || before.counted) (any_gap inner) (is_loose more) ∙ or_assoc loose before.counted (any_gap inner || is_loose more)))
+      ∙ ap (λ z. closed ++ (z ++ c)) (node (suc k) e (not all) before.counted inner more)
+      ∙ sym (ap (λ z. z ++ (b ++ c)) (list_closed-append nodes ((suc k, x) ∷ items_of (suc (suc k)) false inner) place (suc (suc k)) all until h.within
+      ∙ ap (λ z. closed ++ z) (closed_item k e all x kids)) ∙ simp append_assoc));
+  gaps = h.gaps;
+}
 
 -- The end and the flags in a list's node do not matter after the list is closed.
-title_same : (k : ℕ) (nodes nodes' : List (ℕ × Item)) (o at e : ℕ) (loose : Bool) (r : Rows) (ds : Option Definitions)
-    → ((d : ℕ) (now : Bool) (until : ℕ) → list_closed nodes o d now until ≡ list_closed nodes' o d now until)
-    → ((d : ℕ) (now : Bool) (until : ℕ) → list_closed (title_taken nodes at) o d now until ≡ list_closed (title_taken nodes' at) o d now until)
-    → after_title k nodes (o, at, e) loose ds r ≡ after_title k nodes' (o, at, e) loose ds r
-title_same k nodes nodes' o at e loose r None h g =
-    ap (λ z. after_paragraph k (title_left z at) at (definitions_first r) r) (h (suc (suc k)) loose e)
-title_same k nodes nodes' o at e loose r (Some ds) h g =
-    let now : Bool = loose || is_loose ds.items in
-    ap (λ z. z ++ (items_of (suc k) (not now) ds.items ++ items_of k false ds.beside)) (g (suc (suc k)) now ds.«end»)
+module _ (k last : ℕ) (nodes : List (ℕ × Item)) (o : ℕ) (g : Item → Item) (h : IsAbsorbed g) (loose : Bool) (r : Rows) where
+  pub list-absorbed : (joins : Joins) → rendered k last (modify nodes o g) (OneList o joins loose) r ≡ rendered k last nodes (OneList o joins loose) r
+  unfolding rendered
+  list-absorbed joins =
+      let now : Bool = loose || is_loose (items_after joins r) in
+      ap (λ z. z ++ (items_of (suc k) (not now) (items_after joins r) ++ items_of k false (list_after joins r)))
+      (closed-absorbed nodes o (suc (suc k)) g now (list_until joins last r) h)
 
-pub list-ended : (k last : ℕ) (nodes : List (ℕ × Item)) (o x : ℕ) (joins : Joins) (loose : Bool) (r : Rows)
-    → rendered k last (ended nodes o x) (OneList o joins loose) r ≡ rendered k last nodes (OneList o joins loose) r
-unfolding rendered
-list-ended k last nodes o x joins loose r =
-    let now : Bool = loose || is_loose (items_after joins r) in
-    ap (λ z. z ++ (items_of (suc k) (not now) (items_after joins r) ++ items_of k false (list_after joins r)))
-    (closed-ended nodes o x (suc (suc k)) now (list_until joins last r))
+  title_absorbed : (at e : ℕ) (ds : Option Definitions)
+      → ((x : Item) → g (record x { body = DefinitionListTitle }) ≡ record (g x) { body = DefinitionListTitle })
+      → after_title k (modify nodes o g) (o, at, e) loose ds r ≡ after_title k nodes (o, at, e) loose ds r
+  unfolding title_taken
+  title_absorbed at e None same =
+      ap (λ z. after_paragraph k (title_left z at) at (definitions_first r) r) (closed-absorbed nodes o (suc (suc k)) g loose e h)
+  title_absorbed at e (Some ds) same =
+      let now : Bool = loose || is_loose ds.items in
+      ap (λ z. z ++ (items_of (suc k) (not now) ds.items ++ items_of k false ds.beside))
+      (ap (λ z. list_closed z o (suc (suc k)) now ds.«end») (swapped nodes o at g _ (λ x. sym (same x)))
+      ∙ closed-absorbed (title_taken nodes at) o (suc (suc k)) g now ds.«end» h)
 
 pub title-ended : (k last : ℕ) (nodes : List (ℕ × Item)) (o x at e : ℕ) (loose : Bool) (r : Rows)
     → rendered k last (ended nodes o x) (OneTitle o at e loose) r ≡ rendered k last nodes (OneTitle o at e loose) r
-unfolding rendered
-title-ended k last nodes o x at e loose r =
-    title_same k (ended nodes o x) nodes o at e loose r _ (closed-ended nodes o x)
-    (λ d now until. ap (λ z. list_closed z o d now until) (taken-ended nodes o at x) ∙ closed-ended (title_taken nodes at) o x d now until)
-
-pub list-reflagged : (k last : ℕ) (nodes : List (ℕ × Item)) (o : ℕ) (l : Bool) (joins : Joins) (loose : Bool) (r : Rows)
-    → rendered k last (reflagged nodes o l) (OneList o joins loose) r ≡ rendered k last nodes (OneList o joins loose) r
-unfolding rendered
-list-reflagged k last nodes o l joins loose r =
-    let now : Bool = loose || is_loose (items_after joins r) in
-    ap (λ z. z ++ (items_of (suc k) (not now) (items_after joins r) ++ items_of k false (list_after joins r)))
-    (closed-reflagged nodes o (suc (suc k)) l now (list_until joins last r))
+unfolding rendered ended
+title-ended k last nodes o x at e loose r = title_absorbed k last nodes o _ (end_absorbed x) loose r at e _ (λ y. refl)

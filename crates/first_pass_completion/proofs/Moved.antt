@@ -1,24 +1,17 @@
 -- What opens at a place, whatever precedes it.
 use Rattle.std.proofs.Common.{◌≡◌, ℕ, ◌&&◌, Bool, true, false, List, ◌∷◌, Option, Some, None, MatchOption, refl, sym, ap, ◌∙◌, subst, if◌then◌else◌}
-use Rattle.std.specs.Option.{option_map, option_or}
-use Rattle.std.proofs.lemmas.Bool.{true≢false}
-use Rattle.first_pass_items.specs.declared.option_set.Options.{Options}
-use Rattle.first_pass_items.specs.OptionWords.{has, definition_list}
-use Rattle.first_pass_lines.specs.Rest.{Rest}
-use Rattle.first_pass_lines.specs.Places.{Place}
+use Rattle.std.proofs.Common.{option_map, true≢false}
+use Rattle.first_pass_grammar.proofs.Common.{Options, has, definition_list, Rest, Place, prefix, at_rest, is_blank_rest, footnote_head_at, Document, around}
+use Rattle.first_pass_grammar.proofs.Common.{Opener, DefinitionMarker, Head, opened, Leaf, BlankLine, Block, Skeleton, Nil, Then, Node, Before, after_block}
+use Rattle.first_pass_grammar.proofs.Common.{before_end, gap_before, rows_of, Start, definition_head, definition_start, start_at, Continues, Inside}
+use Rattle.first_pass_grammar.proofs.Common.{Opening, OpensLeaf, OpensNode, OpensBy, OpensFootnote, Opens, level, may_define, opening_by, opening_of}
+use Rattle.first_pass_grammar.proofs.Common.{next_is_blank, Level, Remaining, Begins, Ends, IsFirst, IsSequence, and-false}
+use Rattle.std.specs.Option.{option_or}
 use Rattle.first_pass_grammar.specs.declared.kind.Container.{Container}
 use Rattle.first_pass_grammar.specs.declared.kind.Container.TheVariants.{BlockQuote}
-use Rattle.first_pass_grammar.specs.Containers.{prefix, at_rest, is_quote}
-use Rattle.first_pass_grammar.specs.Kinds.{is_blank_rest, item_at}
-use Rattle.first_pass_grammar.specs.Footnotes.{footnote_head_at}
-use Rattle.first_pass_grammar.specs.Leaves.{Document, around}
-use Rattle.first_pass_grammar.specs.Blocks.{Opener, QuoteMarker, ItemMarker, FootnoteMarker, DefinitionMarker, Head, opened, Leaf, BlankLine, Block}
-use Rattle.first_pass_grammar.specs.Blocks.{Skeleton, Nil, Then, Node}
-use Rattle.first_pass_grammar.specs.Before.{Before, nothing, definition_may_follow, after_block, after_container, before_end}
-use Rattle.first_pass_grammar.specs.Rows.{leaf_row, gap_before, row_of, container_row, rows_of}
-use Rattle.first_pass_grammar.specs.Openers.{Start, definition_head, definition_start, after_item, start_at}
-use Rattle.first_pass_grammar.specs.Skeleton.{Continues, Inside, Opening, OpensLeaf, OpensNode, OpensBy, OpensFootnote, Opens, level, may_define, opening_by}
-use Rattle.first_pass_grammar.specs.Skeleton.{opening_of, next_is_blank, Level, Remaining, Begins, Ends, next_block, IsFirst, IsSequence}
+use Rattle.first_pass_grammar.specs.Kinds.{item_at}
+use Rattle.first_pass_grammar.specs.Before.{definition_may_follow}
+use Rattle.first_pass_grammar.specs.Openers.{after_item}
 use Rattle.first_pass_grammar.proofs.Uniqueness.Alike.{only_opener, only_head, AlikeOpening}
 use Rattle.first_pass_completion.proofs.Extending.{StaysAt}
 use Rattle.first_pass_completion.proofs.FlatBlocks.{FlatBlock, OwnParagraph, opened_own}
@@ -28,10 +21,8 @@ use Rattle.first_pass_grammar.proofs.Uniqueness.Unique.{one_opening}
 
 -- a definition is opened
 abbrev pub is_definition : Opener → Bool
-is_definition (QuoteMarker kind) = false
-is_definition (ItemMarker byte number columns) = false
-is_definition (FootnoteMarker columns index label) = false
 is_definition (DefinitionMarker columns) = true
+is_definition o = false
 
 -- what opens is a definition
 abbrev pub opens_definition : Opening → Bool
@@ -47,27 +38,26 @@ pub record OpensAlike (d : Document) (path : List Container) (before before' : B
 abbrev OpensWith : Document → List Container → Place → List Place → Opening → Option (ℕ × List ℕ) → Option Start → Type 0
 OpensWith d path p lines o head start = MatchOption head (OpensBy d path p lines start o) (λ h. OpensFootnote d p lines h o)
 
+-- the start of another container matters only if no footnote definition begins
+alike_by : (d : Document) (path : List Container) (p : Place) (start start' : Option Start) (head : Option (ℕ × List ℕ)) → (head ≡ None → start ≡ start')
+    → (lines : List Place) (o : Opening) → OpensWith d path p lines o head start → OpensWith d path p lines o head start'
+alike_by d path p start start' None same lines o opens = subst (OpensWith d path p lines o None) (same refl) opens
+alike_by d path p start start' (Some head) same lines o opens = opens
+
 start_alike : (d : Document) (path : List Container) (before before' : Before) (p : Place)
-    → start_at d.options (may_define d (level path before)) p ≡ start_at d.options (may_define d (level path before')) p → OpensAlike d path before before' p
-start_alike d path before before' p is = record {
-  to = λ lines o opens. subst (OpensWith d path p lines o (footnote_head_at (around d path) p)) is opens;
-  back = λ lines o opens. subst (OpensWith d path p lines o (footnote_head_at (around d path) p)) (sym is) opens;
+    → (footnote_head_at (around d path) p ≡ None
+    → start_at d.options (may_define d (level path before)) p ≡ start_at d.options (may_define d (level path before')) p)
+    → OpensAlike d path before before' p
+start_alike d path before before' p same = record {
+  to = alike_by d path p _ _ (footnote_head_at (around d path) p) same;
+  back = alike_by d path p _ _ (footnote_head_at (around d path) p) (λ none. sym (same none));
 }
 
 -- a definition may begin after both states, or after neither
 pub takes_alike : (d : Document) (path : List Container) (before before' : Before) (p : Place)
     → definition_may_follow before.last ≡ definition_may_follow before'.last → OpensAlike d path before before' p
 takes_alike d path before before' p is =
-    start_alike d path before before' p (ap (λ (t : Bool). start_at d.options (has d.options definition_list && t) p) is)
-
-head_alike : (d : Document) (path : List Container) (before before' : Before) (p : Place) (head : ℕ × List ℕ)
-    → footnote_head_at (around d path) p ≡ Some head → OpensAlike d path before before' p
-head_alike d path before before' p head is = record {
-  to = λ lines o opens. subst (λ h. OpensWith d path p lines o h (start_at d.options (may_define d (level path before')) p)) (sym is)
-      (subst (λ h. OpensWith d path p lines o h (start_at d.options (may_define d (level path before)) p)) is opens);
-  back = λ lines o opens. subst (λ h. OpensWith d path p lines o h (start_at d.options (may_define d (level path before)) p)) (sym is)
-      (subst (λ h. OpensWith d path p lines o h (start_at d.options (may_define d (level path before')) p)) is opens);
-}
+    start_alike d path before before' p (λ none. ap (λ (t : Bool). start_at d.options (has d.options definition_list && t) p) is)
 
 either_opens : (t : Bool) (o o' : Opening) → opens_definition o ≡ true → opens_definition o' ≡ true → opens_definition (if t then o else o') ≡ true
 either_opens true o o' h k = h
@@ -101,24 +91,15 @@ without : (d : Document) (path : List Container) (p : Place) (lines : List Place
 unfolding start_at
 without d path p lines o t other opens = without_by d path p lines o (item_at p.rest) (marker_where t p) (prefix (BlockQuote None) p.rest) other opens
 
-and_not : (a b : Bool) → b ≡ false → (a && b) ≡ false
-and_not true b h = h
-and_not false b h = refl
-
-other_by : (d : Document) (path : List Container) (before before' : Before) (p : Place) (lines : List Place) (o : Opening) (head : Option (ℕ × List ℕ))
-    → footnote_head_at (around d path) p ≡ head → opens_definition o ≡ false → definition_may_follow before'.last ≡ false
-    → OpensWith d path p lines o head (start_at d.options (may_define d (level path before)) p) → OpensAlike d path before before' p
-other_by d path before before' p lines o (Some head) is other none opens = head_alike d path before before' p head is
-other_by d path before before' p lines o None is other none opens =
-    start_alike d path before before' p
-    (without d path p lines o _ other opens
-    ∙ ap (λ (t : Bool). start_at d.options t p) (sym (and_not (has d.options definition_list) (definition_may_follow before'.last) none)))
-
 -- what opens is no definition, and none may begin after the other state
 pub other_alike : (d : Document) (path : List Container) (before before' : Before) (p : Place) (lines : List Place) (o : Opening)
     → opens_definition o ≡ false → definition_may_follow before'.last ≡ false → Opens d (level path before) p lines o → OpensAlike d path before before' p
 other_alike d path before before' p lines o other none opens =
-    other_by d path before before' p lines o (footnote_head_at (around d path) p) refl other none opens
+    let start : Option Start = start_at d.options (may_define d (level path before)) p in
+    start_alike d path before before' p (λ head.
+    without d path p lines o _ other (subst (λ h. OpensWith d path p lines o h start) head opens)
+    ∙ sym (ap (λ (t : Bool). start_at d.options (has d.options definition_list && t) p) none
+    ∙ ap (λ (t : Bool). start_at d.options t p) (and-false (has d.options definition_list))))
 
 -- a first block opens at the place where the sequence continues
 pub opens_first : (d : Document) (path : List Container) (before : Before) (p : Place) (lines : List Place) (o : Opening)
@@ -130,85 +111,66 @@ opens_first d path before p lines o f =
 
 first_moved : (d : Document) (path : List Container) (before before' : Before) (p : Place) (lines : List Place) (o : Opening)
     → OpensAlike d path before before' p
-    → IsFirst d (level path before) (Inside p) lines o → IsFirst d (level path before') (Inside p) lines o
+    → IsFirst d (level path before') (Inside p) lines o → IsFirst d (level path before) (Inside p) lines o
 first_moved d path before before' p lines o alike first =
-    let at = begins_at d.options (level path before) (Inside p) lines first.place first.following first.begins in
-    let here : OpensAlike d path before before' first.place = subst (λ z. OpensAlike d path before before' z) (sym at.0) alike in
+    let at = begins_at d.options (level path before') (Inside p) lines first.place first.following first.begins in
     record {
       place = first.place;
       following = first.following;
-      begins = going_inside d.options path before' before p lines ∙ first.begins;
-      opens = here.to first.following o first.opens;
+      begins = going_inside d.options path before before' p lines ∙ first.begins;
+      opens = (subst (λ z. OpensAlike d path before before' z) (sym at.0) alike).back first.following o first.opens;
     }
 
 -- after the first block of a sequence the state is the same, whichever of two states precedes that block
 abbrev pub SameAfter : Before → Before → Skeleton → Type 0
-SameAfter before before' Nil = ⊥
-SameAfter before before' (Then BlankLine next) = ⊥
 SameAfter before before' (Then (Block b) next) = after_block before b ≡ after_block before' b
 SameAfter before before' (Node head e kids next) = Unit {0}
+SameAfter before before' s = ⊥
 
 -- such a sequence inside a line is the same, whichever of two states precedes it
 pub seq_moved : (d : Document) (s : Skeleton) (path : List Container) (before before' : Before) (p : Place) (lines : List Place) (mid : Remaining)
     → OpensAlike d path before before' p → SameAfter before before' s
-    → IsSequence d s (level path before) (Inside p) lines mid → IsSequence d s (level path before') (Inside p) lines mid
+    → IsSequence d s (level path before') (Inside p) lines mid → IsSequence d s (level path before) (Inside p) lines mid
 unfolding IsSequence
-seq_moved d Nil path before before' p lines mid alike same seq = absurd same
-seq_moved d (Then BlankLine next) path before before' p lines mid alike same seq = absurd same
 seq_moved d (Then (Block b) next) path before before' p lines mid alike same (there, left, first, seq) = (
   there,
   left,
   first_moved d path before before' p lines (OpensLeaf (Block b) there left) alike first,
-  subst (λ z. IsSequence d next (level path z) there left mid) same seq,
+  subst (λ z. IsSequence d next (level path z) there left mid) (sym same) seq,
 )
 seq_moved d (Node head e kids next) path before before' p lines mid alike same (inside, following, left, first, inner, ends, seq) =
     (inside, following, left, first_moved d path before before' p lines (OpensNode head inside following) alike first, inner, ends, seq)
+seq_moved d s path before before' p lines mid alike same seq = absurd same
 
 -- the first block of a sequence has the same row too
 abbrev pub SameFirst : Before → Before → Skeleton → Type 0
-SameFirst before before' Nil = ⊥
-SameFirst before before' (Then BlankLine next) = ⊥
 SameFirst before before' (Then (Block b) next) = (gap_before before b ≡ gap_before before' b) × (after_block before b ≡ after_block before' b)
 SameFirst before before' (Node head e kids next) = before.counted ≡ before'.counted
+SameFirst before before' s = ⊥
 
 pub same_after : (before before' : Before) (s : Skeleton) → SameFirst before before' s → SameAfter before before' s
-same_after before before' Nil same = same
-same_after before before' (Then BlankLine next) same = same
 same_after before before' (Then (Block b) next) same = same.1
 same_after before before' (Node head e kids next) same = tt
-
-pub same_back : (before before' : Before) (s : Skeleton) → SameAfter before before' s → SameAfter before' before s
-same_back before before' Nil same = same
-same_back before before' (Then BlankLine next) same = same
-same_back before before' (Then (Block b) next) same = sym same
-same_back before before' (Node head e kids next) same = tt
+same_after before before' s same = absurd same
 
 pub rows_moved : (quoted : Bool) (before before' : Before) (last : ℕ) (s : Skeleton) → SameFirst before before' s
     → rows_of quoted before last s ≡ rows_of quoted before' last s
 unfolding rows_of
-rows_moved quoted before before' last Nil same = absurd same
-rows_moved quoted before before' last (Then BlankLine next) same = absurd same
-rows_moved quoted before before' last (Then (Block b) next) same =
-    ap (λ z. leaf_row b z (rows_of quoted (after_block before b) last next)) same.0
-    ∙ ap (λ z. leaf_row b (gap_before before' b) (rows_of quoted z last next)) same.1
-rows_moved quoted before before' last (Node head e kids next) same =
-    let quote : Bool = is_quote (opened head.opener) in
-    ap (λ z. container_row last head.opener (row_of head e z) (rows_of quote nothing e kids)
-    (rows_of quoted (after_container (opened head.opener) (before_end quote nothing kids)) last next)) same
+rows_moved quoted before before' last (Then (Block b) next) (gap, after) = rw (gap, after) refl
+rows_moved quoted before before' last (Node head e kids next) same = rw same refl
+rows_moved quoted before before' last s same = absurd same
 
 pub counts_moved : (quoted : Bool) (before before' : Before) (s : Skeleton) → SameAfter before before' s
     → (before_end quoted before s).counted ≡ (before_end quoted before' s).counted
 unfolding before_end
-counts_moved quoted before before' Nil same = absurd same
-counts_moved quoted before before' (Then BlankLine next) same = absurd same
 counts_moved quoted before before' (Then (Block b) next) same = ap (λ z. (before_end quoted z next).counted) same
 counts_moved quoted before before' (Node head e kids next) same = refl
+counts_moved quoted before before' s same = absurd same
 
 -- a leaf block that opens is flat, and its paragraph has its start
 abbrev pub FlatOpened : Opening → Type 0
-FlatOpened (OpensLeaf BlankLine there left) = Unit {0}
 FlatOpened (OpensLeaf (Block b) there left) = FlatBlock b × OwnParagraph b
-FlatOpened (OpensNode head inside following) = Unit {0}
+FlatOpened o = Unit {0}
 
 -- the first block opens alike to this, and is flat
 abbrev pub Known : Document → Opening → Opening → Type 0
@@ -219,10 +181,6 @@ abbrev pub FirstHas : (Opening → Type 0) → Skeleton → Type 0
 FirstHas P Nil = ⊥
 FirstHas P (Then leaf next) = (there : Continues) × (left : List Place) × P (OpensLeaf leaf there left)
 FirstHas P (Node head e kids next) = (inside : Continues) × (following : List Place) × P (OpensNode head inside following)
-
-some_block : (d : Document) (l : Level) (p : Place) (lines : List Place) (left : Remaining) → StaysAt d l.path p
-    → next_block d.options l (Inside p) lines ≡ Ends left → ⊥
-some_block d l p lines left stays ends = let both : Begins p lines ≡ Ends left = sym (begins_inside d.options l p lines stays) ∙ ends in cc
 
 flat_leaf : (d : Document) (l : Level) (p : Place) (lines : List Place) (leaf : Leaf) (there : Continues) (left : List Place)
     → IsFirst d l (Inside p) lines (OpensLeaf leaf there left) → FlatOpened (OpensLeaf leaf there left)
@@ -238,7 +196,8 @@ alike_first d path before p lines o o' opens first =
 pub known_first : (d : Document) (path : List Container) (before : Before) (p : Place) (lines : List Place) (mid : Remaining) (o : Opening) (s : Skeleton)
     → StaysAt d path p → Opens d (level path before) p lines o → IsSequence d s (level path before) (Inside p) lines mid → FirstHas (Known d o) s
 unfolding IsSequence
-known_first d path before p lines mid o Nil stays opens seq = absurd (some_block d (level path before) p lines mid stays seq)
+known_first d path before p lines mid o Nil stays opens seq =
+    (let both : Begins p lines ≡ Ends mid = sym (begins_inside d.options (level path before) p lines stays) ∙ seq in cc)
 known_first d path before p lines mid o (Then leaf next) stays opens (there, left, first, seq) = (
   there,
   left,
@@ -250,24 +209,20 @@ known_first d path before p lines mid o (Node head e kids next) stays opens (ins
 -- what opens is a block, not a blank line
 abbrev pub OpensBlock : Opening → Type 0
 OpensBlock (OpensLeaf BlankLine there left) = ⊥
-OpensBlock (OpensLeaf (Block b) there left) = Unit {0}
-OpensBlock (OpensNode head inside following) = Unit {0}
+OpensBlock o = Unit {0}
 
 only_definition : (o : Opener) → is_definition (only_opener o) ≡ is_definition o
-only_definition (QuoteMarker kind) = refl
-only_definition (ItemMarker byte number columns) = refl
-only_definition (FootnoteMarker columns index label) = refl
 only_definition (DefinitionMarker columns) = refl
+only_definition o = refl
 
 pub definition_alike : (head head' : Head) → only_head head ≡ only_head head' → is_definition head.opener ≡ is_definition head'.opener
 definition_alike head head' is = sym (only_definition head.opener) ∙ ap (λ (h : Head). is_definition h.opener) is ∙ only_definition head'.opener
 
 -- a sequence begins with a leaf block, or with a container that is no definition
 abbrev pub FirstIsOther : Skeleton → Type 0
-FirstIsOther Nil = ⊥
-FirstIsOther (Then BlankLine next) = ⊥
 FirstIsOther (Then (Block b) next) = FlatBlock b × OwnParagraph b
 FirstIsOther (Node head e kids next) = is_definition head.opener ≡ false
+FirstIsOther s = ⊥
 
 pub first_is_other : (d : Document) (o : Opening) (s : Skeleton) → OpensBlock o → opens_definition o ≡ false → FirstHas (Known d o) s → FirstIsOther s
 first_is_other d o Nil block other known = known

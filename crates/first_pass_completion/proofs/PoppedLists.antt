@@ -1,18 +1,11 @@
 -- Lists that are closed together with the container around them.
-use Rattle.std.proofs.Common.{◌≡◌, ℕ, suc, ◌<◌, Bool, true, false, List, [], ◌∷◌, ◌++◌, length, None, refl, sym, ap, ◌∙◌, subst, arith}
-use Rattle.std.proofs.Math.Bool.{or-false}
-use Rattle.first_pass_items.specs.declared.item.Item.{Item}
-use Rattle.first_pass_lines.specs.Places.{Place}
+use Rattle.std.proofs.Common.{◌≡◌, ℕ, suc, ◌<◌, Bool, true, false, List, [], ◌∷◌, length, None, refl, sym, ap, ◌∙◌, subst, arith}
+use Rattle.first_pass_grammar.proofs.Common.{or-false, Item, Place, next_goes_on, ends_footnote, Document, around, Last, LastParagraph, LastItem}
+use Rattle.first_pass_grammar.proofs.Common.{LastDefinition, Before, before_end, Continues, Line, Inside, level, Remaining, Lines, InLine, Ends, next_block}
+use Rattle.first_pass_grammar.proofs.Common.{only_blanks, end_of_left, IsSequence, Joins, ItemsOf, DefinitionsTo, End, any_gap, is_loose, definitions_first}
+use Rattle.first_pass_grammar.proofs.Common.{rows_of, items_of, title_left, list_closed, OtherClosed, ParagraphAt, DefinitionClosed, TitleAt, Pending}
+use Rattle.first_pass_grammar.proofs.Common.{NoList, OneList, OneTitle, rows_beyond, rendered, InList, InDefinitions, containers_of, AreBelow, IsPlain}
 use Rattle.first_pass_grammar.specs.declared.kind.Container.{Container}
-use Rattle.first_pass_grammar.specs.Containers.{next_goes_on}
-use Rattle.first_pass_grammar.specs.Footnotes.{ends_footnote}
-use Rattle.first_pass_grammar.specs.Leaves.{Document, around}
-use Rattle.first_pass_grammar.specs.Before.{Last, LastParagraph, LastItem, LastDefinition, Before, before_end}
-use Rattle.first_pass_grammar.specs.Skeleton.{Continues, Line, Inside, level, Remaining, Lines, InLine, Ends, next_block, only_blanks, end_of_left, IsSequence}
-use Rattle.first_pass_grammar.specs.Rows.{Joins, ItemsOf, DefinitionsTo, End, any_gap, is_loose, definitions_first, rows_of}
-use Rattle.first_pass_grammar.specs.Derivation.{items_of}
-use Rattle.first_pass_grammar.specs.Completion.{title_left, list_closed, OtherClosed, ParagraphAt, DefinitionClosed, TitleAt, Pending, NoList, OneList}
-use Rattle.first_pass_grammar.specs.Completion.{OneTitle, rows_beyond, rendered, InList, InDefinitions, containers_of, AreBelow, IsPlain}
 use Rattle.first_pass_completion.proofs.Extending.{stepped, tail, AreBelow-more, stands_after, Adds, extend_same}
 use Rattle.first_pass_grammar.proofs.Sequences.Finishes.{Finish, Tail, before_of}
 use Rattle.first_pass_grammar.proofs.Sequences.Goings.{ends_inside, stops}
@@ -76,7 +69,6 @@ shut_step : (d : Document) (w : OpenNodes) (list : Pending) (t : Tail) (last : L
     → IsStep d (reading w list (stands_after last t.run) h.from h.lines) (reading_at (record w { nodes = nodes }) t h.from h.lines)
 unfolding IsSequence rows_of before_end
 shut_step d w list t last nodes h plain same gaps =
-    let n : ℕ = length d.text in
     let path : List Container = containers_of w.frames in
     let here : Before = stands_after last t.run in
     let closed : Before = before_of w.frames t in
@@ -89,7 +81,7 @@ shut_step d w list t last nodes h plain same gaps =
           let over = ends_at_once d s (level path closed) h.from h.lines h.left mid (h.ends closed) seq in
           subst (λ z. Adds d old next false z z mid) (sym over.0) (record {
             seq = h.ends here ∙ ap (λ (z : Remaining). Ends z) (sym over.1);
-            items = λ e is. same e (λ none. is none ∙ ap (end_of_left n [] None) over.1);
+            items = λ e is. same e (λ none. is none ∙ ap (end_of_left (length d.text) [] None) over.1);
             counts = refl;
             gaps = λ e. gaps;
           });
@@ -103,19 +95,8 @@ pop_list_step : (d : Document) (w : OpenNodes) (list : Joins) (loose run blanks 
     (reading_at (list_popped w o loose (list_end d (containers_of w.frames) h)) (tail OtherClosed run) h.from h.lines)
 unfolding is_loose items_of rendered
 pop_list_step d w list loose run blanks o h plain =
-    let k : ℕ = suc (length w.places) in
     shut_step d w (OneList o list loose) (tail OtherClosed run) (last_in list blanks) _ h plain
-    (λ e is. ap (λ z. list_closed w.nodes o (suc (suc k)) z e ++ []) (or-false loose) ∙ ap (λ z. list_closed w.nodes o (suc (suc k)) loose z ++ []) (is h.none))
-    refl
-
--- the same for a definition list with a possible title after it
-pop_title_step : (d : Document) (w : OpenNodes) (l : OpenDefinitions) (at : ℕ) (run : Bool) (h : EndHere d (containers_of w.frames))
-    → IsPlain w.frames
-    → IsStep d (reading w (OneTitle l.place at l.«end» l.loose) (stands_after (LastParagraph true) run) h.from h.lines)
-    (reading_at (title_popped w l at) (tail (ParagraphAt at) run) h.from h.lines)
-unfolding definitions_first rendered
-pop_title_step d w l at run h plain =
-    shut_step d w (OneTitle l.place at l.«end» l.loose) (tail (ParagraphAt at) run) (LastParagraph true) _ h plain (λ last is. refl) refl
+    (λ e is. rw (or-false loose, is h.none) refl) refl
 
 pub closed_below : (nodes : List (ℕ × Item)) (o : ℕ) (os : List ℕ) (depth : ℕ) (loose : Bool) (e : ℕ) → AreBelow (length nodes) (o ∷ os)
     → AreBelow (length (list_closed nodes o depth loose e)) os
@@ -150,7 +131,8 @@ completes-pop_definitions d w l blanks run h k =
 pub completes-pop_title : (d : Document) (w : OpenNodes) (l : OpenDefinitions) (at : ℕ) (run : Bool) (h : EndHere d (containers_of w.frames))
     → CompletesFrom d (with_inner w (InDefinitions l.loose) l.place) (tail (TitleAt l.«end» at) run) h.from h.lines
     → CompletesFrom d (title_popped w l at) (tail (ParagraphAt at) run) h.from h.lines
-unfolding Finish
+unfolding Finish definitions_first rendered
 completes-pop_title d w l at run h k =
-    stepped d _ _ _ _ _ _ _ _ k (pop_title_step d w l at run h k.shape.0)
+    stepped d _ _ _ _ _ _ _ _ k
+    (shut_step d w (OneTitle l.place at l.«end» l.loose) (tail (ParagraphAt at) run) (LastParagraph true) _ h k.shape.0 (λ last is. refl) refl)
     (title_below w.nodes l.place w.places (suc (suc (suc (length w.places)))) l.loose l.«end» at k.below, k.shape.1)

@@ -1,18 +1,11 @@
 -- A paragraph that opens, with what is below it, has no part of a table; a definition list may take it in.
 use Rattle.std.proofs.Common.{◌≡◌, ℕ, ◌+◌, true, List, [], ◌∷◌, ◌++◌, length, drop, refl}
-use Rattle.first_pass_items.specs.declared.item.Item.{Item}
-use Rattle.first_pass_items.specs.declared.item.ItemBody.{ItemBody}
+use Rattle.first_pass_grammar.proofs.Common.{Item, ItemBody, at_depth, Place, is_paragraph_body, begins_paragraph, LeafBlock, Block, Document, Continues}
+use Rattle.first_pass_grammar.proofs.Common.{Level, OpensLeaf, IsFirst, AreEachNode, ShowsNothing, SilentFrom}
 use Rattle.first_pass_items.specs.declared.item.ItemBody.TheVariants.{Paragraph as ParagraphBody}
-use Rattle.first_pass_tree.specs.Forest.{at_depth}
-use Rattle.first_pass_lines.specs.Places.{Place}
-use Rattle.first_pass_grammar.specs.Before.{is_paragraph_body, begins_paragraph}
-use Rattle.first_pass_grammar.specs.Blocks.{LeafBlock, Block}
-use Rattle.first_pass_grammar.specs.Leaves.{Document}
-use Rattle.first_pass_grammar.specs.Skeleton.{Continues, Level, OpensLeaf, IsFirst}
 use Rattle.first_pass_completion.proofs.FlatBlocks.{HoldsOfMarker, opened_holds}
 use Rattle.first_pass_grammar.proofs.Each.EachCell.{deeper_nodes}
 use Rattle.first_pass_grammar.proofs.WholeTables.TableMarks.{tokens_show}
-use Rattle.first_pass_grammar.specs.WholeTables.{AreEachNode, ShowsNothing, SilentFrom}
 
 paragraph_silent : (b : ItemBody) → is_paragraph_body b ≡ true → ShowsNothing b
 paragraph_silent ParagraphBody h = λ names depth start end. refl

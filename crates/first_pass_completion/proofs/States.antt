@@ -1,13 +1,6 @@
 -- The state of reading between two blocks, and what a step keeps of it.
 use Rattle.std.proofs.Common.{ℕ, suc, Bool, List, [], ◌∷◌, ◌++◌, length}
-use Rattle.first_pass_items.specs.declared.item.Item.{Item}
-use Rattle.first_pass_lines.specs.Places.{Place}
-use Rattle.first_pass_grammar.specs.Leaves.{Document}
-use Rattle.first_pass_grammar.specs.Blocks.{Head, ItemMarker, DefinitionMarker}
-use Rattle.first_pass_grammar.specs.Before.{Before}
-use Rattle.first_pass_grammar.specs.Skeleton.{Continues}
-use Rattle.first_pass_grammar.specs.Derivation.{Tables}
-use Rattle.first_pass_grammar.specs.Completion.{Pending, NoList, Frame}
+use Rattle.first_pass_grammar.proofs.Common.{Item, Place, Document, Head, ItemMarker, DefinitionMarker, Before, Continues, Tables, Pending, NoList, Frame}
 use Rattle.first_pass_grammar.proofs.Sequences.Finishes.{Finish, Tail, before_of, CompletesAt}
 
 -- the open nodes: what is defined so far, their frames, all nodes so far, and the places of the open ones

@@ -1,20 +1,12 @@
 -- Nodes in which a paragraph becomes the title of a definition list, and nodes of lists that are closed.
-use Rattle.std.proofs.Common.{◌≡◌, ℕ, zero, suc, ◌+◌, ◌-◌, ◌<◌, ◌==◌, Bool, true, false, not, List, ◌∷◌, ◌++◌, length, map, drop, refl, sym, ap, ◌∙◌, []}
-use Rattle.std.proofs.Common.{arith, if◌then◌else◌}
-use Rattle.std.proofs.lemmas.List.{length-map}
-use Rattle.first_pass_items.specs.declared.item.Item.{Item}
-use Rattle.first_pass_items.specs.declared.item.ItemBody.{ItemBody}
-use Rattle.first_pass_items.specs.declared.item.ItemBody.TheVariants.{List as ListBody, DefinitionList, DefinitionListTitle, Paragraph as ParagraphBody}
-use Rattle.first_pass_items.specs.declared.item.ItemBody.TheVariants.{MaybeDefinitionListTitle}
-use Rattle.first_pass_tree.specs.Forest.{modify, map_from, deeper, shallower, at_depth}
-use Rattle.first_pass_tree.specs.Tight.{tight_body, tightened}
-use Rattle.first_pass_tree.proofs.Blocks.{modify-at}
-use Rattle.first_pass_grammar.specs.Before.{is_paragraph_body, begins_paragraph}
-use Rattle.first_pass_grammar.specs.Derivation.{node_of, list_flags, as_title}
-use Rattle.first_pass_grammar.specs.Completion.{ended, flagged, with_title, title_taken, title_left, list_closed}
+use Rattle.std.proofs.Common.{◌≡◌, ℕ, zero, suc, ◌+◌, ◌-◌, ◌<◌, ◌==◌, Bool, true, false, not, List, ◌∷◌, ◌++◌, length, map, drop, refl, ap, ◌∙◌, [], arith}
+use Rattle.std.proofs.Common.{if◌then◌else◌}
+use Rattle.first_pass_grammar.proofs.Common.{length-map, Item, ItemBody, DefinitionList, DefinitionListTitle, MaybeDefinitionListTitle, modify, map_from}
+use Rattle.first_pass_grammar.proofs.Common.{deeper, shallower, at_depth, tight_body, tightened, modify-at, is_paragraph_body, begins_paragraph, node_of}
+use Rattle.first_pass_grammar.proofs.Common.{list_flags, as_title, flagged, with_title, title_taken, title_left, list_closed, length-modify}
+use Rattle.first_pass_items.specs.declared.item.ItemBody.TheVariants.{List as ListBody, Paragraph as ParagraphBody}
 use Rattle.first_pass_completion.proofs.FlatBlocks.{NoParagraph, BeginsAt}
 use Rattle.first_pass_grammar.proofs.Sequences.Tightening.{list_closed-append, length-closed}
-use Rattle.first_pass_tokens.proofs.BytesLemmas.{length-modify}
 
 -- the items of a paragraph that may become the next title of a definition list
 abbrev pub as_possible : List (ℕ × Item) → List (ℕ × Item)
@@ -60,14 +52,12 @@ map_from-mid g [] more = refl
 map_from-mid g (n ∷ nodes) more = ap (λ z. n ∷ z) (map_from-mid g nodes more)
 
 -- a list that is closed, whose node is the first of these; none of these is a paragraph
-closed-mid : (nodes more : List (ℕ × Item)) (x : ℕ × Item) (d : ℕ) (loose : Bool) (e : ℕ) → NoParagraph (x ∷ more)
+pub closed-mid : (nodes more : List (ℕ × Item)) (x : ℕ × Item) (d : ℕ) (loose : Bool) (e : ℕ) → NoParagraph (x ∷ more)
     → list_closed (nodes ++ x ∷ more) (length nodes) d loose e ≡ nodes ++ (x.0, node_of x.1.start e (flagged loose x.1.body)) ∷ more
 unfolding list_closed
 closed-mid nodes more x d true e h = modify-at nodes more x (length nodes) _ refl
 closed-mid nodes more x d false e h =
-    ap (λ z. modify z (length nodes) (λ y. record { start = y.start; «end» = e; body = flagged false y.body }))
-    (map_from-mid (tightened d) nodes (x ∷ more) ∙ ap (λ z. nodes ++ z) (kept_nodes d (x ∷ more) h))
-    ∙ modify-at nodes more x (length nodes) _ refl
+    rw (map_from-mid (tightened d) nodes (x ∷ more), kept_nodes d (x ∷ more) h) (modify-at nodes more x (length nodes) _ refl)
 
 -- a list that is closed, with more nodes, none of which is a paragraph
 kept_if : (d : ℕ) (loose : Bool) (more : List (ℕ × Item)) → NoParagraph more → (if loose then more else map (tightened d) more) ≡ more
@@ -118,12 +108,10 @@ titled_closed k nodes (x ∷ items) start d loose e is flat own =
     let first = own.1 in
     let title : Item = record x.1 { body = DefinitionListTitle } in
     let list : Item = record x.1 { body = DefinitionList (list_flags true) } in
-    ap (λ z. list_closed z (length nodes) d loose e) (with_title-mid nodes (at_depth k items) (k + x.0, x.1))
-    ∙ ap (λ z. list_closed (nodes ++ (k + x.0, list) ∷ (suc (k + x.0), title) ∷ z) (length nodes) d loose e) deep
-    ∙ closed-mid nodes ((suc (k + x.0), title) ∷ at_depth (suc k) items) (k + x.0, list) d loose e (refl, (refl, at_depth-flat (suc k) items flat))
-    ∙ ap (λ z. nodes ++ (z, node_of x.1.start e (DefinitionList (list_flags (not loose)))) ∷ (suc (k + x.0), title) ∷ at_depth (suc k) items) here
-    ∙ ap (λ z. nodes ++ (k, node_of z e (DefinitionList (list_flags (not loose)))) ∷ (suc (k + x.0), title) ∷ at_depth (suc k) items) first
-    ∙ ap (λ z. nodes ++ (k, node_of start e (DefinitionList (list_flags (not loose)))) ∷ (z, title) ∷ at_depth (suc k) items) below
+    let mid = with_title-mid nodes (at_depth k items) (k + x.0, x.1) in
+    let more : List (ℕ × Item) = (suc (k + x.0), title) ∷ at_depth (suc k) items in
+    let closed = closed-mid nodes more (k + x.0, list) d loose e (refl, (refl, at_depth-flat (suc k) items flat)) in
+    cc
 
 -- a possible title that becomes a title, or a paragraph after the list
 pub possible-flat : (k : ℕ) (items : List (ℕ × Item)) → NoParagraph (drop 1 items) → NoParagraph (at_depth k (as_possible items))
@@ -155,9 +143,7 @@ left-mid k nodes (x ∷ items) is =
     ap (λ z. map_from shallower (length nodes) z)
     (modify-at nodes (at_depth (suc k) items) (suc k + x.0, record x.1 { body = MaybeDefinitionListTitle }) (length nodes) _ refl)
     ∙ map_from-mid shallower nodes ((suc k + x.0, p) ∷ at_depth (suc k) items)
-    ∙ ap (λ z. nodes ++ ((suc k + x.0) - 1, p) ∷ z) (shallower_at k items)
-    ∙ ap (λ z. nodes ++ (z, p) ∷ at_depth k items) here
-    ∙ ap (λ z. nodes ++ (k + x.0, node_of x.1.start x.1.«end» z) ∷ at_depth k items) body
+    ∙ rw (shallower_at k items, here, body) refl
 
 -- the same after the list before it is closed
 pub left-closed : (k : ℕ) (nodes items : List (ℕ × Item)) (place d : ℕ) (loose : Bool) (e : ℕ)
@@ -165,11 +151,15 @@ pub left-closed : (k : ℕ) (nodes items : List (ℕ × Item)) (place d : ℕ) (
     → title_left (list_closed (nodes ++ at_depth (suc k) (as_possible items)) place d loose e) (length nodes)
     ≡ list_closed nodes place d loose e ++ at_depth k items
 left-closed k nodes items place d loose e is flat h =
-    ap (λ z. title_left z (length nodes)) (closed-kept nodes (at_depth (suc k) (as_possible items)) place d loose e h (possible-flat (suc k) items flat))
-    ∙ ap (λ z. title_left (list_closed nodes place d loose e ++ at_depth (suc k) (as_possible items)) z) (sym (length-closed nodes place d loose e))
-    ∙ left-mid k (list_closed nodes place d loose e) items is
+    rw (closed-kept nodes (at_depth (suc k) (as_possible items)) place d loose e h (possible-flat (suc k) items flat))
+    (rw (length-closed nodes place d loose e) at (left-mid k (list_closed nodes place d loose e) items is))
 
--- The end and the flags in a list's node do not matter after the list is closed.
+-- A change of a list's node that keeps its start, and flags as the list is closed, does not matter after that.
+pub record IsAbsorbed (g : Item → Item) : Type 0 where
+  pub start : (x : Item) → (g x).start ≡ x.start
+  pub flags : (loose : Bool) (x : Item) → flagged loose (g x).body ≡ flagged loose x.body
+  pub tight : (x : Item) → flagged false (tight_body (g x).body) ≡ flagged false (tight_body x.body)
+
 absorbed : (nodes : List (ℕ × Item)) (o : ℕ) (g f : Item → Item) → ((x : Item) → f (g x) ≡ f x) → modify (modify nodes o g) o f ≡ modify nodes o f
 absorbed [] o g f h = refl
 absorbed (n ∷ nodes) zero g f h = ap (λ z. (n.0, z) ∷ nodes) (h n.1)
@@ -182,6 +172,19 @@ absorbed_tight [] (suc o) depth g f h = refl
 absorbed_tight (n ∷ nodes) zero depth g f h = ap (λ z. (n.0, z) ∷ map (tightened depth) nodes) (h n)
 absorbed_tight (n ∷ nodes) (suc o) depth g f h = ap (λ z. n ∷ z) (absorbed_tight nodes o depth g f h)
 
+tight_absorbed : (t : Bool) (g : Item → Item) (x : Item) (e : ℕ) → IsAbsorbed g
+    → (let now : Item → Item = λ y. if t then record { start = y.start; «end» = y.«end»; body = tight_body y.body } else y in
+    let last : Item → Item = λ y. node_of y.start e (flagged false y.body) in
+    last (now (g x)) ≡ last (now x))
+tight_absorbed true g x e h = let a = h.start x in let b = h.tight x in cc
+tight_absorbed false g x e h = let a = h.start x in let b = h.flags false x in cc
+
+pub closed-absorbed : (nodes : List (ℕ × Item)) (o d : ℕ) (g : Item → Item) (loose : Bool) (e : ℕ) → IsAbsorbed g
+    → list_closed (modify nodes o g) o d loose e ≡ list_closed nodes o d loose e
+unfolding list_closed
+closed-absorbed nodes o d g true e h = absorbed nodes o g _ (λ x. let a = h.start x in let b = h.flags true x in cc)
+closed-absorbed nodes o d g false e h = absorbed_tight nodes o d g _ (λ n. tight_absorbed (n.0 == d) g n.1 e h)
+
 flagged-twice : (l loose : Bool) (b : ItemBody) → flagged loose (flagged l b) ≡ flagged loose b
 flagged-twice l loose (ListBody flags byte number) = refl
 flagged-twice l loose (DefinitionList flags) = refl
@@ -192,42 +195,15 @@ flagged-tight l (ListBody flags byte number) = refl
 flagged-tight l (DefinitionList flags) = refl
 flagged-tight l b = refl
 
-closed_alike : (start e : ℕ) (b c : ItemBody)
-    → b ≡ c → ◌≡◌ {A = Item} (record { start = start; «end» = e; body = b }) (record { start = start; «end» = e; body = c })
-closed_alike start e b c h = ap (λ (z : ItemBody). node_of start e z) h
+-- the flags are such a change, and so is the end
+pub flags_absorbed : (l : Bool) → IsAbsorbed (λ x. record x { body = flagged l x.body })
+flags_absorbed l = record { start = λ x. refl; flags = λ loose x. flagged-twice l loose x.body; tight = λ x. flagged-tight l x.body }
 
-tight_flagged : (t l : Bool) (x : Item) (e : ℕ) → (let g : Item = record { start = x.start; «end» = x.«end»; body = flagged l x.body } in
-    let y : Item = if t then record { start = g.start; «end» = g.«end»; body = tight_body g.body } else g in
-    let z : Item = if t then record { start = x.start; «end» = x.«end»; body = tight_body x.body } else x in
-    ◌≡◌ {A = Item} (record { start = y.start; «end» = e; body = flagged false y.body }) (record { start = z.start; «end» = e; body = flagged false z.body }))
-tight_flagged true l x e = closed_alike x.start e (flagged false (tight_body (flagged l x.body))) (flagged false (tight_body x.body)) (flagged-tight l x.body)
-tight_flagged false l x e = closed_alike x.start e (flagged false (flagged l x.body)) (flagged false x.body) (flagged-twice l false x.body)
-
-tight_ended : (t : Bool) (x : Item) (a e : ℕ) → (let g : Item = record { start = x.start; «end» = a; body = x.body } in
-    let y : Item = if t then record { start = g.start; «end» = g.«end»; body = tight_body g.body } else g in
-    let z : Item = if t then record { start = x.start; «end» = x.«end»; body = tight_body x.body } else x in
-    ◌≡◌ {A = Item} (record { start = y.start; «end» = e; body = flagged false y.body }) (record { start = z.start; «end» = e; body = flagged false z.body }))
-tight_ended true x a e = refl
-tight_ended false x a e = refl
-
-pub closed-reflagged : (nodes : List (ℕ × Item)) (o d : ℕ) (l loose : Bool) (e : ℕ)
-    → list_closed (reflagged nodes o l) o d loose e ≡ list_closed nodes o d loose e
-unfolding list_closed reflagged
-closed-reflagged nodes o d l true e =
-    absorbed nodes o _ _ (λ x. closed_alike x.start e (flagged true (flagged l x.body)) (flagged true x.body) (flagged-twice l true x.body))
-closed-reflagged nodes o d l false e = absorbed_tight nodes o d _ _ (λ n. tight_flagged (n.0 == d) l n.1 e)
-
-pub closed-ended : (nodes : List (ℕ × Item)) (o x d : ℕ) (loose : Bool) (e : ℕ) → list_closed (ended nodes o x) o d loose e ≡ list_closed nodes o d loose e
-unfolding list_closed ended
-closed-ended nodes o x d true e = absorbed nodes o _ _ (λ y. refl)
-closed-ended nodes o x d false e = absorbed_tight nodes o d _ _ (λ n. tight_ended (n.0 == d) n.1 x e)
+pub end_absorbed : (e : ℕ) → IsAbsorbed (λ x. record x { «end» = e })
+end_absorbed e = record { start = λ x. refl; flags = λ loose x. refl; tight = λ x. refl }
 
 pub swapped : (nodes : List (ℕ × Item)) (o x : ℕ) (g f : Item → Item)
     → ((y : Item) → f (g y) ≡ g (f y)) → modify (modify nodes o g) x f ≡ modify (modify nodes x f) o g
 swapped (n ∷ nodes) zero zero g f h = ap (λ z. (n.0, z) ∷ nodes) (h n.1)
 swapped (n ∷ nodes) (suc o) (suc x) g f h = ap (λ z. n ∷ z) (swapped nodes o x g f h)
 swapped nodes o x g f h = refl
-
-pub taken-ended : (nodes : List (ℕ × Item)) (o at x : ℕ) → title_taken (ended nodes o x) at ≡ ended (title_taken nodes at) o x
-unfolding title_taken ended
-taken-ended nodes o at x = swapped nodes o at _ _ (λ y. refl)

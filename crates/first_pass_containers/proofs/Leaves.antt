@@ -1,5 +1,3 @@
 -- How leaf blocks are added to a ready state.
 pub mod FirstItems
 pub mod LeafLemmas
-pub mod TextsFlat
-pub mod TitleLemmas

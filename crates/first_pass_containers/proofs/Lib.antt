@@ -1,7 +1,4 @@
 pub mod Leaves
-pub mod LineByLine
-pub mod LinesBeyond
 pub mod Openings
-pub mod Order
+pub mod OrderSteps
 pub mod ReadyStates
-pub mod StateAt

@@ -1,19 +1,12 @@
 -- The laws on ready states: one can be completed, and already has whole tables. Other lemmas on ready states are in
 -- `first_pass_ready`.
 use Rattle.std.proofs.Common.{◌≡◌, ℕ, Bool, true, false, List, [], ◌∷◌, length, map, slice_get, Option, Some, None, refl, sym, ap, ◌∙◌, subst, arith, zero}
-use Rattle.std.proofs.Common.{suc}
-use Rattle.std.specs.Option.{option_and_then}
-use Rattle.std.proofs.lemmas.Option.{same_Some, none-some}
-use Rattle.first_pass_items.specs.declared.item.Item.{Item}
-use Rattle.first_pass_items.specs.declared.item.ItemBody.{ItemBody}
-use Rattle.first_pass_tree.specs.declared.tree_index.TreeIndex.{TreeIndex}
-use Rattle.first_pass_tree.specs.Forest.{Forest, body_at, with_body_at}
-use Rattle.first_pass_lines.specs.Places.{Place}
-use Rattle.first_pass_grammar.specs.Names.{Names, Extends, AreNamed}
-use Rattle.first_pass_grammar.specs.Leaves.{Document, document}
-use Rattle.first_pass_grammar.specs.Derivation.{Tables}
-use Rattle.first_pass_grammar.specs.Skeleton.{Continues, Line, Blanks, next_is_blank}
-use Rattle.first_pass_grammar.specs.Completion.{NoList, Unfinished, Frame, last_of, Completes, CanGoOn, lines_from, InContainer}
+use Rattle.std.proofs.Common.{suc, option_and_then}
+use Rattle.first_pass_grammar.proofs.Common.{same_Some, none-some, Item, ItemBody, TreeIndex, Forest, body_at, with_body_at, Place, Names, Extends}
+use Rattle.first_pass_grammar.proofs.Common.{AreNamed, Document, document, Tables, Continues, Line, Blanks, next_is_blank, NoList, Unfinished, Frame}
+use Rattle.first_pass_grammar.proofs.Common.{last_of, Completes, lines_from, InContainer, body-changed, Options, DefinitionList, DefinitionListDefinition}
+use Rattle.first_pass_grammar.proofs.Common.{marks, ShowsNothing, AreWholeTables}
+use Rattle.first_pass_grammar.specs.Completion.{CanGoOn}
 use Rattle.first_pass_grammar.proofs.Names.MoreNames.{extends_none}
 use Rattle.first_pass_exists.proofs.Completed.{line_goes_on, completion_derives}
 use Rattle.first_pass_open.specs.Path.{container_of, with_container, path_in, path_of}
@@ -21,14 +14,11 @@ use Rattle.first_pass_lists.specs.declared.state.PassState.{PassState}
 use Rattle.first_pass_ready.specs.State.{AreOpen, ReadyAt, ReadyBeforeLine, ReadyInItem, ReadyEmpty, ReadyWith, Ready, closed_in, body_without_indent}
 use Rattle.first_pass_ready.specs.State.{top_without_indent, frame_of, frame_at, StaysReady}
 use Rattle.first_pass_containers.specs.Completed.{CompletedAt, CompletedBeforeLine, CompletedInItem, CompletedWith, IsCompleted}
-use Rattle.first_pass_tree.proofs.BodyLemmas.{body-changed}
 use Rattle.first_pass_grammar.specs.declared.kind.Container.{Container}
-use Rattle.first_pass_ready.proofs.ItemBodies.{item_body, columns_are, item_is, item_path, without_indent_is, item_container, item_frame}
+use Rattle.first_pass_ready.proofs.ItemBodies.{item_body, item_own, item_path, without_indent_is, item_container, item_frame}
 use Rattle.first_pass_ready.proofs.OpenLemmas.{open_path}
-use Rattle.first_pass_items.specs.declared.option_set.Options.{Options}
 use Rattle.first_pass_items.specs.declared.item.ItemBody.TheVariants.{BlockQuote as BlockQuoteBody, List as ListBody, ListItem as ListItemBody}
-use Rattle.first_pass_items.specs.declared.item.ItemBody.TheVariants.{FootnoteDefinition as FootnoteDefinitionBody, DefinitionList, DefinitionListDefinition}
-use Rattle.first_pass_grammar.specs.WholeTables.{marks, ShowsNothing, AreWholeTables}
+use Rattle.first_pass_items.specs.declared.item.ItemBody.TheVariants.{FootnoteDefinition as FootnoteDefinitionBody}
 use Rattle.first_pass_grammar.proofs.Sequences.LinesLeft.{lines_from_at}
 use Rattle.first_pass_grammar.proofs.Sequences.PlacesKept.{AreAt}
 use Rattle.first_pass_completion.proofs.SilentNodes.{IsSilent, AreSilent, marks_modified}
@@ -52,18 +42,13 @@ open_silent options (n ∷ nodes) zero frame h = frame_silent options n.1.body f
 open_silent options (n ∷ nodes) (suc i) frame h = open_silent options nodes i frame h
 
 all_silent : (options : Options) (nodes : List (ℕ × Item)) (spine : List TreeIndex) (frames : List Frame) → AreOpen options nodes spine frames
-    → AreSilent nodes (map (λ (ix : TreeIndex). ix.0) spine)
-all_silent options nodes [] [] o = tt
-all_silent options nodes (ix ∷ spine) (frame ∷ frames) o = (open_silent options nodes ix.0 frame o.0, all_silent options nodes spine frames o.1)
+    → AreSilent nodes (map (λ (ix : TreeIndex). ix.0) spine) × (length frames ≡ length (map (λ (ix : TreeIndex). ix.0) spine))
+all_silent options nodes [] [] o = (tt, refl)
+all_silent options nodes (ix ∷ spine) (frame ∷ frames) o =
+    let (silent, size) = all_silent options nodes spine frames o.1 in ((open_silent options nodes ix.0 frame o.0, silent), omega (arith, size))
 all_silent options nodes spine frames o = absurd o
 
 -- the frames of open nodes are unique
-open_length : (options : Options) (nodes : List (ℕ × Item)) (spine : List TreeIndex) (frames : List Frame) → AreOpen options nodes spine frames
-    → length frames ≡ length (map (λ (ix : TreeIndex). ix.0) spine)
-open_length options nodes [] [] o = refl
-open_length options nodes (ix ∷ spine) (frame ∷ frames) o = let l = open_length options nodes spine frames o.1 in omega arith
-open_length options nodes spine frames o = absurd o
-
 open_once : (options : Options) (nodes : List (ℕ × Item)) (spine : List TreeIndex) (frames others : List Frame)
     → AreOpen options nodes spine frames → AreOpen options nodes spine others
     → frames ≡ others
@@ -110,9 +95,8 @@ completed_at d defined tree run from lines can plain ready =
     subst (λ z. Completes (document d.text d.options more) z places (unfinished_of defined tree z run) from lines)
     (open_once d.options tree.nodes tree.spine at_last.frames now.frames at_last.are_open now.are_open) at_last.completes in
     let inside = subst (λ z. CanGoOn z from) (open_path d.options tree.nodes tree.spine now.frames now.are_open) can in
-    let size = open_length d.options tree.nodes tree.spine now.frames now.are_open in
-    let done = completion_derives d now.frames places unfinished from lines size inside always in
-    let silent = all_silent d.options tree.nodes tree.spine now.frames now.are_open in (
+    let (silent, size) = all_silent d.options tree.nodes tree.spine now.frames now.are_open in
+    let done = completion_derives d now.frames places unfinished from lines size inside always in (
       record { frames = now.frames; are_open = now.are_open; completion = done.0; derives = done.1 },
       λ at. (
         done.0.names,
@@ -120,11 +104,6 @@ completed_at d defined tree run from lines can plain ready =
         completed_whole d now.frames places unfinished from lines plain at silent now.silent done.0 done.1,
       ),
     )
-
--- an item that takes only blank lines has no part of a table
-item_shows : (b : ItemBody) (n : ℕ) → ShowsNothing (item_body b n)
-item_shows (DefinitionListDefinition columns) n = λ names depth start end. refl
-item_shows b n = λ names depth start end. refl
 
 -- an empty item or definition is a container
 item_goes_on : (options : Options) (f : Forest Item) (ix : TreeIndex) (rest : List TreeIndex) (b : ItemBody) (n : ℕ) (from : Continues) → f.spine ≡ ix ∷ rest
@@ -137,8 +116,7 @@ item_goes_on options f ix rest b n from spine item =
 
 module _ (d : Document) (defined : Tables) (r : PassState) (lines : List Place) (e : ℕ) (empty : ReadyEmpty d defined r e lines) where
   top_is : (b : ItemBody) × (body_at r.tree.nodes empty.place.0 ≡ Some (item_body b empty.columns))
-  top_is =
-      let c = columns_are (body_at r.tree.nodes empty.place.0) empty.columns empty.item in (c.0, c.1 ∙ ap (λ z. Some z) (sym (item_is c.0 empty.columns c.2)))
+  top_is = item_own (body_at r.tree.nodes empty.place.0) empty.columns empty.item
 
   continues : (from : Continues) → CanGoOn (path_of d.options r.tree) from
   continues from = item_goes_on d.options r.tree empty.place empty.outer top_is.0 empty.columns from empty.spine top_is.1
@@ -160,7 +138,7 @@ module _ (d : Document) (defined : Tables) (r : PassState) (lines : List Place) 
   without_indent_shows names =
       ap (λ (f : Forest Item). marks names f.nodes) zero_is
       ∙ marks_modified names r.tree.nodes empty.place.0 (λ x. record { start = x.start; «end» = x.«end»; body = item_body top_is.0 0 })
-      (λ x k. item_shows top_is.0 0)
+      (λ x k. frame_silent d.options (item_body top_is.0 0) _ (item_frame d.options top_is.0 0))
       (open_silent d.options r.tree.nodes empty.place.0 (InContainer (item_container top_is.0 empty.columns))
       (ap (option_and_then (frame_of d.options)) top_is.1 ∙ item_frame d.options top_is.0 empty.columns))
 

@@ -26,17 +26,22 @@ unfoldable pub all_popped : ℕ → ℕ → PassState → PassState
 all_popped zero at r = r
 all_popped (suc n) at r = all_popped n at (popped at r)
 
--- The open nodes except the outermost `kept` are closed at an offset. No path of containers changes. If the lines
--- from there on continue none of the closed nodes, the state still begins a derivation. If it was in order, it is in
--- order up to the offset. No node is added, every index that named an entry still does, and whole tables stay whole.
-pub record ClosesAt (old new : PassState) (kept ix : ℕ) : Type 0 where
-  pub paths : (options : Options) (s : List TreeIndex) → path_in options new.tree.nodes s ≡ path_in options old.tree.nodes s
-  pub ready : (d : Document) (defined : Tables) (lines : List Place) → start_of (length d.text) lines ≡ ix → NoMore d.options old.tree kept lines
-      → Ready d defined old lines → Ready d defined new lines
+-- If a state was in order up to an offset, it still is. No node is added, every index that named an entry still does,
+-- and whole tables stay whole (this project).
+pub record KeepsState (old new : PassState) (ix : ℕ) : Type 0 where
   pub order : (text : List ℕ) → ix ≤ length text → IsCharBoundary text ix → IsReadTo text old ix → IsReadTo text new ix
   pub count : counted_nodes new.tree.nodes ≤ counted_nodes old.tree.nodes
   pub named : (names : Names) → AreNamed names old.tree.nodes → AreNamed names new.tree.nodes
   pub tables : (names : Names) → HasWholeTables names old.tree → HasWholeTables names new.tree
+
+-- The open nodes except the outermost `kept` are closed at an offset. No path of containers changes. If the lines
+-- from there on continue none of the closed nodes, the state still begins a derivation. It keeps what `KeepsState`
+-- says (CommonMark 5, and this project).
+pub record ClosesAt (old new : PassState) (kept ix : ℕ) : Type 0 where
+  pub paths : (options : Options) (s : List TreeIndex) → path_in options new.tree.nodes s ≡ path_in options old.tree.nodes s
+  pub ready : (d : Document) (defined : Tables) (lines : List Place) → start_of (length d.text) lines ≡ ix → NoMore d.options old.tree kept lines
+      → Ready d defined old lines → Ready d defined new lines
+  pub state : KeepsState old new ix
   pub all_kept : kept ≡ length old.tree.spine → new ≡ old
 
 -- in the line at an offset, the place after the prefixes of the open containers that it continues, unless the rest of

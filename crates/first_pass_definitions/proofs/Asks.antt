@@ -1,31 +1,19 @@
 -- When reading a definition needs memory.
-use Rattle.std.proofs.Common.{◌≡◌, ◌⊎◌, inl, inr, ℕ, zero, suc, ◌+◌, ◌<◌, ◌==◌, Bool, true, false, List, drop, Option}
-use Rattle.std.proofs.Common.{Some, None, Result, is_some, IsSomeAnd, IsCharBoundary, refl, sym, ap, subst, ◌∙◌, arith}
-use Rattle.std.specs.Borrow.{Bor}
-use Rattle.std.specs.declared.alloc.AllocError.{AllocError}
-use Rattle.std.proofs.lemmas.Bool.{cases_Bool, or_right}
-use Rattle.std.proofs.lemmas.List.{drop-drop}
-use Rattle.first_pass_items.specs.Bytes.{colon, left_bracket}
-use Rattle.first_pass_links.specs.Labels.{label_at, CanErr, ErrsAfter, IsRewritten, HasNoBracket}
+use Rattle.std.proofs.Common.{◌≡◌, ◌⊎◌, inl, inr, ℕ, zero, suc, ◌+◌, ◌<◌, Bool, true, false, List, drop, Option, Some, None, Result, is_some, IsSomeAnd}
+use Rattle.std.proofs.Common.{IsCharBoundary, refl, sym, ap, subst, ◌∙◌, arith, Bor, drop-drop, option_map, option_and_then}
+use Rattle.first_pass_grammar.proofs.Common.{AllocError, or_right, colon, left_bracket, label_at, option_map_or, begins, eol_len, line_rest, unescaped_upto}
+use Rattle.first_pass_grammar.proofs.Common.{destination_at, gfm_footnotes, begins_footnote_mark, Context, title_prefix, space_at, target_at}
+use Rattle.first_pass_grammar.proofs.Common.{deepest_nesting, prefix_crossed, reference_definition_at, LinkDef, CowStr, some_mapped}
+use Rattle.first_pass_links.specs.Labels.{CanErr, ErrsAfter, IsRewritten, HasNoBracket}
 use Rattle.first_pass_links.proofs.Labels.{place_past}
-use Rattle.std.specs.Option.{option_map, option_map_or, option_and_then}
-use Rattle.first_pass_lines.specs.Lines.{begins, eol_len, blank_len}
-use Rattle.first_pass_lines.specs.Places.{line_rest}
-use Rattle.first_pass_links.specs.Destinations.{unescaped_upto, destination_at}
-use Rattle.first_pass_items.specs.OptionWords.{gfm_footnotes}
-use Rattle.first_pass_links.specs.Footnotes.{begins_footnote_mark}
-use Rattle.first_pass_grammar.specs.Containers.{Context}
-use Rattle.first_pass_grammar.specs.Definitions.{title_prefix, title_at, title_after, title_beyond, alone_after, space_at, target_at}
-use Rattle.first_pass_grammar.specs.Definitions.{deepest_nesting, prefix_crossed, reference_definition_at}
 use Rattle.first_pass_kinds.specs.Memory.{line_may_head_table}
-use Rattle.first_pass_labels.specs.declared.label_table.LinkDef.{LinkDef}
 use Rattle.first_pass_labels.specs.declared.label_table.LinkPlaces.{LinkPlaces}
 use Rattle.first_pass_definitions.specs.Reading.{stops_title_line, goes_on_at}
-use Rattle.first_pass_items.specs.declared.cow_str.CowStr.{CowStr}
-use Rattle.first_pass_definitions.proofs.Targets.{IsLabelAnswer, IsReferenceAnswer, IsTitleRead, read_to, IsDest, space_found, drop_to}
+use Rattle.first_pass_definitions.proofs.Targets.{IsReferenceAnswer, IsDest, space_found, drop_to}
 use Rattle.first_pass_definitions.proofs.Targets.{TargetFound}
+use Rattle.first_pass_definitions.proofs.Titles.{IsTextAnswer}
 use Rattle.first_pass_definitions.proofs.Spaces.{shifted}
-use Rattle.first_pass_definitions.proofs.OptionFacts.{and_some, map_some, matched}
+use Rattle.first_pass_definitions.proofs.OptionFacts.{and_some, matched}
 use Rattle.first_pass_definitions.specs.Memory.{LabelAsks, TargetAsks, ReferenceAsks, AfterAsks, PartsAsk, line_asks, text_asks, after_asks, MeetsTable}
 
 further_asks : (around : Context) (bs : List ℕ) (n next : ℕ) (o : Option ℕ)
@@ -33,7 +21,7 @@ further_asks : (around : Context) (bs : List ℕ) (n next : ℕ) (o : Option ℕ
     → option_map_or (λ e. line_asks around (drop (n + e) bs)) o false ≡ true
 further_asks around bs n next o h =
     let e = and_some (λ e. option_map (λ k. n + e + k) (title_prefix around (drop (n + e) bs))) o next h in
-    let k = map_some (λ k. n + e.0 + k) (title_prefix around (drop (n + e.0) bs)) next e.2 in
+    let k = some_mapped (λ k. n + e.0 + k) (title_prefix around (drop (n + e.0) bs)) next e.2 in
     rw e.1 (rw k.1 refl)
 
 table_asks : (around : Context) (bs : List ℕ) (n : ℕ) (o : Option ℕ)
@@ -113,35 +101,13 @@ pub parts_ask : (around : Context) (text : List ℕ) (start : ℕ) (to : ℕ × 
     → IsSomeAnd (target_at around (drop start text)) (λ target. PartsAsk u target.1)
 parts_ask around text start to b title t u k f p = rw f.is (subst (λ x. PartsAsk x f.target) k p)
 
-alone_none : (bs : List ℕ) (n len : ℕ) (title : CowStr) (o : Option (ℕ × List ℕ))
-    → IsTitleRead o (read_to len title) → is_some (blank_len (drop (n + len) bs)) ≡ false → option_and_then (alone_after n bs) o ≡ None
-alone_none bs n len title None h k = refl
-alone_none bs n len title (Some t) h k =
-    let e : is_some (blank_len (drop (n + t.0) bs)) ≡ false = ap (λ m. is_some (blank_len (drop (n + m) bs))) (sym h.0) ∙ k in
-    rw e refl
-
--- a title is none if its line is not blank after it
-pub title_crowded : (around : Context) (text : List ℕ) (at start k len : ℕ) (title : CowStr) → Some (start, k) ≡ shifted at (space_at around (drop at text))
-    → IsTitleRead (title_at around (drop start text)) (read_to len title) → is_some (blank_len (drop (start + len) text)) ≡ false
-    → title_after around (drop at text) ≡ None
-title_crowded around text at start k len title h r b =
-    let s = space_found (space_at around (drop at text)) at start k h in
-    let bs = drop at text in
-    let there = s.2 in
-    let read = subst (λ xs. IsTitleRead (title_at around xs) (read_to len title)) (sym (drop_to text at s.0.0 start there)) r in
-    let crowded = ap (λ xs. is_some (blank_len xs)) (drop_to text at (s.0.0 + len) (start + len) (omega arith)) ∙ b in
-    ap (option_and_then (title_beyond around bs)) s.1 ∙ elim (cases_Bool (s.0.0 == 0)) [
-      | inl e ↦ rw e refl
-      | inr e ↦ rw e (alone_none bs s.0.0 len title (title_at around (drop s.0.0 bs)) read crowded)
-    ]
-
 -- a definition step by step
 pub ask_label : (t : Bool) (around : Context) (text : List ℕ) (start : ℕ)
     → begins left_bracket (drop start text) ≡ true → LabelAsks around t (drop (start + 1) text) → ReferenceAsks t around (drop start text)
 ask_label t around text start b a = (b, inl (subst (LabelAsks around t) (sym (drop-drop 1 start text)) a))
 
 pub ask_target : (t : Bool) (around : Context) (text : List ℕ) (start n : ℕ) (label : CowStr) → begins left_bracket (drop start text) ≡ true
-    → IsLabelAnswer (label_at (prefix_crossed true around) t (drop (start + 1) text)) (Some (n, label)) → begins colon (drop (start + 1 + n) text) ≡ true
+    → IsTextAnswer (label_at (prefix_crossed true around) t (drop (start + 1) text)) (Some (n, label)) → begins colon (drop (start + 1 + n) text) ≡ true
     → TargetAsks t around (drop (start + 1 + n + 1) text) → ReferenceAsks t around (drop start text)
 ask_target t around text start n label b h k a =
     let l = matched _ (label_at (prefix_crossed true around) t (drop (start + 1) text)) h in

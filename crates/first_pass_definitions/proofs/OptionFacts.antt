@@ -1,31 +1,14 @@
 -- What an option is made of, if it has a value.
-use Rattle.std.proofs.Common.{◌≡◌, ◌⊎◌, inl, inr, Bool, true, false, Option, Some, None, MatchOption, refl, sym, if◌then◌else◌}
-use Rattle.std.specs.Option.{option_map, option_and_then}
-use Rattle.std.proofs.lemmas.Option.{none-some, same_Some}
+use Rattle.std.proofs.Common.{◌≡◌, ◌⊎◌, inl, inr, Bool, true, false, Option, Some, None, MatchOption, refl, sym, if◌then◌else◌, option_and_then}
+use Rattle.first_pass_grammar.proofs.Common.{none-some}
 
 pub and_some : {A B : Type 0} (k : A → Option B) (o : Option A) (r : B) → option_and_then k o ≡ Some r → (a : A) × (o ≡ Some a) × (k a ≡ Some r)
 and_some k None r h = absurd (none-some r h)
 and_some k (Some a) r h = (a, refl, h)
 
-pub map_some : {A B : Type 0} (f : A → B) (o : Option A) (r : B) → option_map f o ≡ Some r → (a : A) × (o ≡ Some a) × (f a ≡ r)
-map_some f None r h = absurd (none-some r h)
-map_some f (Some a) r h = (a, refl, same_Some (f a) r h)
-
-pub some_if : {A : Type 0} (t : Bool) (o : Option A) (r : A) → (if t then o else None) ≡ Some r → (t ≡ true) × (o ≡ Some r)
-some_if true o r h = (refl, h)
-some_if false o r h = absurd (none-some r h)
-
-pub some_unless : {A : Type 0} (t : Bool) (o : Option A) (r : A) → (if t then None else o) ≡ Some r → (t ≡ false) × (o ≡ Some r)
-some_unless true o r h = absurd (none-some r h)
-some_unless false o r h = (refl, h)
-
 pub either_some : {A : Type 0} (t : Bool) (o p : Option A) (r : A) → (if t then o else p) ≡ Some r → (o ≡ Some r) ⊎ (p ≡ Some r)
 either_some true o p r h = inl h
 either_some false o p r h = inr h
-
-pub map_none : {A B : Type 0} (f : A → B) (o : Option A) → option_map f o ≡ None → o ≡ None
-map_none f None h = refl
-map_none f (Some a) h = absurd (none-some (f a) (sym h))
 
 -- the value that a result is for, and what the result says of it
 pub record Matched (A : Type 0) (o : Option A) (Q : A → Type 0) : Type 0 where

@@ -1,22 +1,16 @@
 -- The places of the parts of a definition.
 use Rattle.std.proofs.Common.{◌≡◌, ℕ, ◌+◌, ◌-◌, ◌<◌, Bool, true, List, drop, slice_index, Option, Some, IsCharBoundary, sym, ap, subst, ◌∙◌, arith}
-use Rattle.std.proofs.lemmas.List.{get_or-drop}
-use Rattle.std.proofs.lemmas.Str.{IsCharBoundary-before_ascii}
-use Rattle.first_pass_items.specs.Bytes.{colon, right_bracket}
-use Rattle.first_pass_items.specs.declared.cow_str.CowStr.{CowStr}
-use Rattle.first_pass_labels.specs.declared.label_table.LinkDef.{LinkDef}
-use Rattle.first_pass_lines.specs.Lines.{begins}
-use Rattle.first_pass_links.specs.Labels.{label_at}
-use Rattle.first_pass_links.proofs.Destinations.{first_byte}
-use Rattle.first_pass_grammar.specs.Definitions.{Target}
+use Rattle.std.proofs.Common.{get_or-drop}
+use Rattle.first_pass_grammar.proofs.Common.{IsCharBoundary-before_ascii, colon, right_bracket, CowStr, LinkDef, begins, label_at, first_byte, Target}
 use Rattle.first_pass_definitions.specs.Found.{AreInOrder, HasParts}
 use Rattle.first_pass_definitions.proofs.ReferenceFacts.{label_last}
 use Rattle.first_pass_definitions.proofs.OptionFacts.{matched}
-use Rattle.first_pass_definitions.proofs.Targets.{IsLabelAnswer, IsTargetAnswer}
+use Rattle.first_pass_definitions.proofs.Targets.{IsTargetAnswer}
+use Rattle.first_pass_definitions.proofs.Titles.{IsTextAnswer}
 
 -- A label is not empty, and its `]` is a character.
 label_ends : (prefix : List ℕ → Option ℕ) (in_table : Bool) (text : List ℕ) (start n : ℕ) (label : CowStr)
-    → IsLabelAnswer (label_at prefix in_table (drop (start + 1) text)) (Some (n, label)) → begins colon (drop (start + 1 + n) text) ≡ true
+    → IsTextAnswer (label_at prefix in_table (drop (start + 1) text)) (Some (n, label)) → begins colon (drop (start + 1 + n) text) ≡ true
     → (0 < n) × IsCharBoundary text (start + n)
 label_ends prefix in_table text start n label h is_colon =
     let l = matched _ (label_at prefix in_table (drop (start + 1) text)) h in
@@ -30,7 +24,7 @@ label_ends prefix in_table text start n label h is_colon =
 
 -- All parts have their places where those of the target have.
 pub has_parts : (prefix : List ℕ → Option ℕ) (in_table : Bool) (text : List ℕ) (start n : ℕ) (label : CowStr) (o : Option (ℕ × Target)) (found : ℕ × LinkDef)
-    → IsLabelAnswer (label_at prefix in_table (drop (start + 1) text)) (Some (n, label)) → begins colon (drop (start + 1 + n) text) ≡ true
+    → IsTextAnswer (label_at prefix in_table (drop (start + 1) text)) (Some (n, label)) → begins colon (drop (start + 1 + n) text) ≡ true
     → IsTargetAnswer in_table start (start + 1 + n + 1) o (Some found) → AreInOrder text (start + 1 + n + 1) found.1 → HasParts text found.1
 has_parts prefix in_table text start n label o found h is_colon target order =
     let definition : LinkDef = found.1 in

@@ -1,14 +1,7 @@
 -- Places in the rest of a text.
-use Rattle.std.proofs.Common.{◌≡◌, ℕ, ◌+◌, ◌-◌, ◌<◌, ◌≤◌, ◌==◌, Bool, true, false, List, ◌∷◌, length, drop, Option, Some, None, Result, Ok, Err, IfOk, []}
-use Rattle.std.proofs.Common.{IfSome, IsCharBoundary, refl, sym, ap, subst, ◌∙◌, arith, length-drop}
-use Rattle.std.specs.declared.alloc.AllocError.{AllocError}
-use Rattle.std.proofs.lemmas.Bool.{eqb-true}
-use Rattle.std.proofs.lemmas.Bool.Decides.{nat_tests}
-use Rattle.std.proofs.lemmas.List.{drop-drop, get_or-drop}
-use Rattle.first_pass_items.specs.Bytes.{line_feed}
-use Rattle.first_pass_lines.specs.Lines.{begins, eol_len, blank_len}
-use Rattle.first_pass_lines.specs.Rest.{Rest}
-use Rattle.first_pass_lines.specs.Places.{place_at, IsPlaceOf}
+use Rattle.std.proofs.Common.{◌≡◌, inl, inr, ℕ, ◌+◌, ◌-◌, ◌<◌, ◌≤◌, ◌==◌, false, List, ◌∷◌, length, drop, Option, Some, None, Result, Ok, Err, IfOk, []}
+use Rattle.std.proofs.Common.{IfSome, IsCharBoundary, refl, sym, ap, subst, ◌∙◌, arith, length-drop, eqb-true, drop-drop, get_or-drop}
+use Rattle.first_pass_grammar.proofs.Common.{AllocError, cases_Bool, nat_tests, line_feed, begins, eol_len, blank_len, Rest, place_at, IsPlaceOf}
 use Rattle.first_pass_links.proofs.Labels.{place_past}
 use Rattle.first_pass_kinds.specs.Rests.{IsRestOf}
 
@@ -42,15 +35,12 @@ rest_place text bytes s r l e i =
     (i.left ∙ sym d, subst (λ xs. IsCharBoundary xs r.taken) (sym e) (part_boundary text s r.taken l i.boundary))
 
 -- a line that is not blank
-feed_by : (t : Bool) (b : ℕ) (bs : List ℕ) → (b == line_feed) ≡ t → blank_len (b ∷ bs) ≡ None → t ≡ false
-feed_by false b bs h f = refl
-feed_by true b bs h f =
-    let d : b ≡ line_feed = eqb-true b line_feed h in
-    let z : blank_len (line_feed ∷ bs) ≡ None = subst (λ x. blank_len (x ∷ bs) ≡ None) d f in cc
-
 pub no_feed : (xs : List ℕ) → blank_len xs ≡ None → begins line_feed xs ≡ false
 no_feed [] h = refl
-no_feed (b ∷ bs) h = feed_by (b == line_feed) b bs refl h
+no_feed (b ∷ bs) h = elim (cases_Bool (b == line_feed)) [
+  | inl e ↦ (let z : blank_len (line_feed ∷ bs) ≡ None = subst (λ x. blank_len (x ∷ bs) ≡ None) (eqb-true b line_feed e) h in absurd cc)
+  | inr e ↦ e
+]
 
 pub some_left : (xs : List ℕ) → blank_len xs ≡ None → 0 < length xs
 some_left [] h = cc

@@ -1,18 +1,10 @@
 -- White space, and the places after it.
 use Rattle.std.proofs.Common.{◌≡◌, inl, inr, ℕ, ◌+◌, Bool, true, false, List, length, drop, Option, Some, None, IsUtf8, IsCharBoundary, refl, sym, ap}
-use Rattle.std.proofs.Common.{subst, ◌∙◌, arith, if◌then◌else◌}
-use Rattle.std.specs.List.{prefix_len}
-use Rattle.std.specs.Option.{option_map, option_and_then}
-use Rattle.std.proofs.lemmas.Bool.{cases_lt}
-use Rattle.std.proofs.lemmas.List.{drop-drop, drop_all}
-use Rattle.std.proofs.lemmas.Option.{same_Some}
-use Rattle.first_pass_lines.specs.Lines.{is_white, eol_len, at_line_end}
-use Rattle.first_pass_lines.specs.Rest.{Rest}
-use Rattle.first_pass_lines.specs.Places.{line_rest, line_place, place_at, IsPlaceOf}
-use Rattle.first_pass_lines.proofs.LineFacts.{line_len-eol}
-use Rattle.first_pass_lines.proofs.PlaceFacts.{line_is_place, white_keeps, line_end_boundary}
-use Rattle.first_pass_grammar.specs.Containers.{Context}
-use Rattle.first_pass_grammar.specs.Definitions.{crossed, prefix_crossed, space_beyond, space_after, space_at}
+use Rattle.std.proofs.Common.{subst, ◌∙◌, arith, if◌then◌else◌, option_map, option_and_then, drop-drop}
+use Rattle.first_pass_grammar.proofs.Common.{prefix_len, cases_lt, drop_all, same_Some, is_white, eol_len, at_line_end, Rest, line_rest, line_place}
+use Rattle.first_pass_grammar.proofs.Common.{place_at, IsPlaceOf, line_len-eol, line_is_place, white_keeps, line_end_boundary, Context, crossed}
+use Rattle.first_pass_grammar.proofs.Common.{prefix_crossed, space_at}
+use Rattle.first_pass_grammar.specs.Definitions.{space_beyond, space_after}
 
 -- A character begins after white space, and after a line ending.
 pub white_past : (text : List ℕ) (s : ℕ) → IsUtf8 text → IsCharBoundary text s → IsCharBoundary text (s + prefix_len is_white (drop s text))
@@ -73,14 +65,12 @@ beyond t text at k m n h f =
     let b : at_line_end (drop (k + m) (drop at text)) ≡ t = ap at_line_end (drop-drop (k + m) at text ∙ ap (λ j. drop j text) i) ∙ f in
     rw a (rw b refl)
 
-over_by : (t : Bool) (s n e m k : ℕ) → (if t then None else Some (s + n + e + k + m, 1)) ≡ shifted s (if t then None else Some (n + e + (k + m), 1))
-over_by true s n e m k = refl
-over_by false s n e m k = let i : s + n + e + k + m ≡ s + (n + e + (k + m)) = omega arith in ap (λ j. Some (j, 1)) i
-
 pub space_over : (t : Bool) (around : Context) (text : List ℕ) (s n e m : ℕ) (r : Rest)
     → space_at around (drop s text) ≡ space_beyond (n + e) (drop (s + n + e) text) r.taken
     → m ≡ prefix_len is_white (drop (s + n + e + r.taken) text) → at_line_end (drop (s + n + e + r.taken + m) text) ≡ t
     → (if t then None else Some (s + n + e + r.taken + m, 1)) ≡ shifted s (space_at around (drop s text))
-space_over t around text s n e m r h i j =
-    let k = h ∙ beyond t text (s + n + e) r.taken m (n + e) i j in
-    over_by t s n e m r.taken ∙ ap (shifted s) (sym k)
+space_over t around text s n e m r h i j = by t ∙ ap (shifted s) (sym (h ∙ beyond t text (s + n + e) r.taken m (n + e) i j))
+  where
+    by : (t : Bool) → (if t then None else Some (s + n + e + r.taken + m, 1)) ≡ shifted s (if t then None else Some (n + e + (r.taken + m), 1))
+    by true = refl
+    by false = let i : s + n + e + r.taken + m ≡ s + (n + e + (r.taken + m)) = omega arith in ap (λ j. Some (j, 1)) i

@@ -1,39 +1,21 @@
 -- The parts of a definition after its colon, and the definition.
 use Rattle.std.proofs.Common.{◌≡◌, ℕ, zero, suc, ◌+◌, ◌-◌, ◌==◌, ◌<◌, Bool, true, false, List, drop, Option, Some, None, is_some, MatchOption, IsSomeAnd}
-use Rattle.std.proofs.Common.{IsUtf8, IsCharBoundary, refl, sym, ap, subst, ◌∙◌, arith, if◌then◌else◌}
-use Rattle.std.specs.Borrow.{Bor}
-use Rattle.std.specs.Option.{option_map, option_and_then, option_map_or}
-use Rattle.std.specs.List.{list_any}
-use Rattle.std.proofs.lemmas.Bool.Decides.{nat_tests}
-use Rattle.std.proofs.lemmas.List.{drop-drop}
+use Rattle.std.proofs.Common.{IsUtf8, IsCharBoundary, refl, sym, ap, subst, ◌∙◌, arith, if◌then◌else◌, Bor, option_map, option_and_then, drop-drop}
+use Rattle.first_pass_grammar.proofs.Common.{option_map_or, nat_tests, IsCharBoundary-after_ascii, colon, left_bracket, ascii_end, CowStr, text_of, LinkDef}
+use Rattle.first_pass_grammar.proofs.Common.{begins, blank_len, destination_at, label_at, first_byte, Context, prefix_crossed, space_at, title_at}
+use Rattle.first_pass_grammar.proofs.Common.{title_after, after_destination, deepest_nesting, Target, target_at, LinkReference, reference_definition_at}
 use Rattle.std.proofs.lemmas.Option.{some_pair_parts}
-use Rattle.std.proofs.lemmas.Str.{IsCharBoundary-after_ascii}
-use Rattle.first_pass_items.specs.Bytes.{colon, left_bracket, ascii_end}
-use Rattle.first_pass_items.specs.declared.cow_str.CowStr.{CowStr}
-use Rattle.first_pass_items.specs.CowText.{text_of}
-use Rattle.first_pass_labels.specs.declared.label_table.LinkDef.{LinkDef}
 use Rattle.first_pass_labels.specs.declared.label_table.LinkPlaces.{LinkPlaces}
-use Rattle.first_pass_lines.specs.Lines.{is_line_end, begins, blank_len}
-use Rattle.first_pass_links.specs.Destinations.{destination_at}
-use Rattle.first_pass_links.specs.Labels.{label_at}
-use Rattle.first_pass_entities.specs.Texts.{Borrows}
-use Rattle.first_pass_links.proofs.Destinations.{first_byte}
-use Rattle.first_pass_grammar.specs.Containers.{Context}
-use Rattle.first_pass_grammar.specs.Definitions.{prefix_crossed, space_at, title_at, alone_after, title_after, after_destination}
-use Rattle.first_pass_grammar.specs.Definitions.{deepest_nesting, Target, target_of, target_from, target_at, LinkReference, reference_definition_of, reference_definition_after}
-use Rattle.first_pass_grammar.specs.Definitions.{reference_definition_at, title_distance}
+use Rattle.first_pass_grammar.specs.Definitions.{target_of, target_from, reference_definition_of, reference_definition_after}
+use Rattle.first_pass_grammar.specs.Definitions.{title_distance}
 use Rattle.first_pass_grammar.specs.LinkRuns.{places_of}
 use Rattle.first_pass_definitions.proofs.Spaces.{shifted}
-use Rattle.first_pass_definitions.proofs.OptionFacts.{matched, unmatched, map_none}
-use Rattle.first_pass_definitions.specs.Reading.{IsReadText, IsReadTitle}
+use Rattle.first_pass_definitions.proofs.Titles.{IsTextAnswer}
+use Rattle.first_pass_definitions.proofs.OptionFacts.{matched, unmatched}
+use Rattle.first_pass_definitions.specs.Reading.{IsReadTitle}
 use Rattle.first_pass_definitions.specs.Found.{IsUnescaped, HasTitle, IsDefinition, IsTarget, IsReference}
 
 -- results for the text after a destination
-abbrev pub IsTitleAfter : ℕ → ℕ → Option (ℕ × List ℕ) → Option (ℕ × ℕ × CowStr) → Type 0
-IsTitleAfter at distance o answer =
-    MatchOption o (answer ≡ None)
-    (λ title. IsSomeAnd answer (λ found. (found.1 ≡ at + title.0) × IsReadText title.1 found.2 × (found.0 ≡ at + distance)))
-
 abbrev pub IsFurther : Context → List ℕ → ℕ → Option (ℕ × Option (List ℕ)) → Option (ℕ × ℕ × Option CowStr) → Type 0
 IsFurther around bs at o answer =
     MatchOption o (answer ≡ None)
@@ -41,15 +23,8 @@ IsFurther around bs at o answer =
     (λ found. (found.1 ≡ at + further.0) × IsReadTitle further.1 found.2 × (found.0 ≡ at + title_distance around bs further.1)))
 
 -- how many bytes white space has
-abbrev white_len : Option (ℕ × ℕ) → ℕ
+abbrev pub white_len : Option (ℕ × ℕ) → ℕ
 white_len o = option_map_or (λ (space : ℕ × ℕ). space.0) o 0
-
--- results for the title at a place
-abbrev pub IsTitleRead : Option (ℕ × List ℕ) → Option (ℕ × CowStr) → Type 0
-IsTitleRead o answer = MatchOption o (answer ≡ None) (λ t. IsSomeAnd answer (λ found. (found.0 ≡ t.0) × (text_of found.1 ≡ t.1)))
-
-abbrev pub read_to : ℕ → CowStr → Option (ℕ × CowStr)
-read_to len title = Some (len, title)
 
 -- results for white space
 pub space_found : (o : Option (ℕ × ℕ)) (start at lines : ℕ) → Some (at, lines) ≡ shifted start o → (s : ℕ × ℕ) × (o ≡ Some s) × (at ≡ start + s.0)
@@ -60,69 +35,36 @@ space_found (Some s) start at lines h = (s, refl, (some_pair_parts at (start + s
 pub drop_to : (text : List ℕ) (at n m : ℕ) → m ≡ at + n → drop n (drop at text) ≡ drop m text
 drop_to text at n m e = drop-drop n at text ∙ ap (λ k. drop k text) (sym e)
 
-read_by : (bs : List ℕ) (at n len : ℕ) (title : CowStr) (o : Option (ℕ × List ℕ)) → IsTitleRead o (read_to len title)
-    → (list_any is_line_end (text_of title) ≡ false → Borrows (text_of title) title) → is_some (blank_len (drop (n + len) bs)) ≡ true
-    → IsTitleAfter at n (option_and_then (alone_after n bs) o) (Some (at + n, at + n + len, title))
-read_by bs at n len title None h borrows blank = cc
-read_by bs at n len title (Some t) h borrows blank =
-    let alone : is_some (blank_len (drop (n + t.0) bs)) ≡ true = subst (λ k. is_some (blank_len (drop (n + k) bs)) ≡ true) h.0 blank in
-    let far : at + n + len ≡ at + (n + t.0) = (let e : len ≡ t.0 = h.0 in omega arith) in
-    rw alone (far, record { value = h.1; borrowed = subst (λ xs. list_any is_line_end xs ≡ false → Borrows xs title) h.1 borrows }, refl)
-
 none_at : (m start at : ℕ) → start ≡ at + m → (start ≡ at → ⊥) → (m == 0) ≡ false
 none_at zero start at there apart = absurd (apart (omega arith))
 none_at (suc m) start at there apart = grind (arith, nat_tests)
 
--- A title with this length is read at an offset. Its text is borrowed if it has no line ending, and the rest of its line
--- is blank.
-pub record TitleRead (around : Context) (text : List ℕ) (start len : ℕ) (title : CowStr) : Type 0 where
-  pub read : IsTitleRead (title_at around (drop start text)) (read_to len title)
-  pub borrows : list_any is_line_end (text_of title) ≡ false → Borrows (text_of title) title
-  pub blank : is_some (blank_len (drop (start + len) text)) ≡ true
-
--- the title after a destination and white space, with a blank rest of its line after it
-pub title_read : (around : Context) (text : List ℕ) (at start k len : ℕ) (title : CowStr)
-    → Some (start, k) ≡ shifted at (space_at around (drop at text)) → (start ≡ at → ⊥) → TitleRead around text start len title
-    → IsTitleAfter at (white_len (space_at around (drop at text))) (title_after around (drop at text)) (Some (start, start + len, title))
-title_read around text at start k len title is apart t =
+-- A title is read at an offset, after white space. If the rest of its line is blank, it is the title after the destination
+-- before this white space.
+pub title_spaced : (around : Context) (text : List ℕ) (at start k len : ℕ) (title : CowStr)
+    → Some (start, k) ≡ shifted at (space_at around (drop at text)) → (start ≡ at → ⊥)
+    → IsTextAnswer (title_at around (drop start text)) (Some (len, title))
+    → (start ≡ at + white_len (space_at around (drop at text)))
+    × (title_after around (drop at text)
+    ≡ (if is_some (blank_len (drop (start + len) text)) then Some (start - at + len, text_of title) else None))
+title_spaced around text at start k len title is apart r =
     let s = space_found (space_at around (drop at text)) at start k is in
     let there : start ≡ at + s.0.0 = s.2 in
-    let bs = drop at text in
-    let read = subst (λ xs. IsTitleRead (title_at around xs) (read_to len title)) (sym (drop_to text at s.0.0 start there)) t.read in
-    let rest = subst (λ xs. is_some (blank_len xs) ≡ true) (sym (drop_to text at (s.0.0 + len) (start + len) (omega arith))) t.blank in
-    rw s.1 (rw (none_at s.0.0 start at there apart) (subst
-    (λ e. IsTitleAfter at s.0.0 (option_and_then (alone_after s.0.0 bs) (title_at around (drop s.0.0 bs))) (Some (e, e + len, title))) (sym there)
-    (read_by bs at s.0.0 len title (title_at around (drop s.0.0 bs)) read t.borrows rest)))
-
-abbrev distance_after : Context → List ℕ → ℕ
-distance_after around bs = white_len (space_at around bs)
-
-pub titled : (around : Context) (bs : List ℕ) (at start e : ℕ) (title : CowStr)
-    → IsTitleAfter at (distance_after around bs) (title_after around bs) (Some (start, e, title))
-    → IsFurther around bs at (after_destination around bs) (Some (start, e, Some title))
-unfolding after_destination
-titled around bs at start e title h = let t = matched _ (title_after around bs) h in rw t.is t.says
-
-pub alone : (around : Context) (bs : List ℕ) (at : ℕ) → IsTitleAfter at (distance_after around bs) (title_after around bs) None
-    → is_some (blank_len bs) ≡ true → IsFurther around bs at (after_destination around bs) (Some (at, at, None))
-unfolding after_destination
-alone around bs at h k = rw (unmatched _ (title_after around bs) h) (rw k (omega arith, tt, omega arith))
-
-pub not_alone : (around : Context) (bs : List ℕ) (at : ℕ) → IsTitleAfter at (distance_after around bs) (title_after around bs) None
-    → is_some (blank_len bs) ≡ false → IsFurther around bs at (after_destination around bs) None
-unfolding after_destination
-not_alone around bs at h k = rw (unmatched _ (title_after around bs) h) (rw k refl)
+    let t = matched _ (title_at around (drop start text)) r in
+    let size : len ≡ t.value.0 = t.says.0 in
+    let here = ap (title_at around) (drop_to text at s.0.0 start there) ∙ t.is in
+    let rest = drop_to text at (s.0.0 + t.value.0) (start + len) (omega arith) in
+    let e : s.0.0 + t.value.0 ≡ start - at + len = omega arith in (
+      rw s.1 there,
+      rw s.1 (rw (none_at s.0.0 start at there apart) (rw here (rw rest (rw e
+          (ap (λ (xs : List ℕ). if is_some (blank_len (drop (start + len) text)) then Some (start - at + len, xs) else None) (sym t.says.1)))))),
+    )
 
 -- results for destinations
 abbrev pub IsDest : Option (ℕ × List ℕ) → Option (ℕ × Bor (List ℕ)) → Type 0
 IsDest o answer = MatchOption o (answer ≡ None) (λ dest. IsSomeAnd answer (λ found. (found.0 ≡ dest.0) × (found.1.now ≡ dest.1)))
 
 -- the target step by step
-pub no_space : (around : Context) (text : List ℕ) (start : ℕ) → None ≡ shifted start (space_at around (drop start text))
-    → target_at around (drop start text) ≡ None
-unfolding target_at
-no_space around text start h = rw (map_none (λ (s : ℕ × ℕ). (start + s.0, s.1)) (space_at around (drop start text)) (sym h)) refl
-
 at_dest : (around : Context) (text : List ℕ) (start at : ℕ) (s : ℕ × ℕ) → space_at around (drop start text) ≡ Some s → at ≡ start + s.0
     → target_at around (drop start text) ≡ option_and_then (target_from around s.0 (drop at text)) (destination_at deepest_nesting (drop at text))
 unfolding target_at
@@ -233,12 +175,8 @@ unfolding reference_definition_at
 at_label in_table around text start h =
     rw h (ap (λ xs. option_and_then (reference_definition_after around xs) (label_at (prefix_crossed true around) in_table xs)) (drop-drop 1 start text))
 
--- results for labels
-abbrev pub IsLabelAnswer : Option (ℕ × List ℕ) → Option (ℕ × CowStr) → Type 0
-IsLabelAnswer o answer = MatchOption o (answer ≡ None) (λ label. IsSomeAnd answer (λ found. (found.0 ≡ label.0) × (text_of found.1 ≡ label.1)))
-
 pub no_label : (in_table : Bool) (around : Context) (text : List ℕ) (start : ℕ) → begins left_bracket (drop start text) ≡ true
-    → IsLabelAnswer (label_at (prefix_crossed true around) in_table (drop (start + 1) text)) None
+    → IsTextAnswer (label_at (prefix_crossed true around) in_table (drop (start + 1) text)) None
     → reference_definition_at in_table around (drop start text) ≡ None
 no_label in_table around text start h k =
     at_label in_table around text start h ∙ ap (option_and_then (reference_definition_after around (drop (start + 1) text)))
@@ -257,14 +195,14 @@ colon_by t in_table around text start n l h k e f =
     ∙ rw (ap (begins colon) a ∙ f) (rw b refl)
 
 pub no_colon : (in_table : Bool) (around : Context) (text : List ℕ) (start n : ℕ) (label : CowStr) → begins left_bracket (drop start text) ≡ true
-    → IsLabelAnswer (label_at (prefix_crossed true around) in_table (drop (start + 1) text)) (Some (n, label))
+    → IsTextAnswer (label_at (prefix_crossed true around) in_table (drop (start + 1) text)) (Some (n, label))
     → begins colon (drop (start + 1 + n) text) ≡ false → reference_definition_at in_table around (drop start text) ≡ None
 no_colon in_table around text start n label h k f =
     let l = matched _ (label_at (prefix_crossed true around) in_table (drop (start + 1) text)) k in
     colon_by false in_table around text start n l.value h l.is l.says.0 f
 
 pub no_target : (in_table : Bool) (around : Context) (text : List ℕ) (start n : ℕ) (label : CowStr) → begins left_bracket (drop start text) ≡ true
-    → IsLabelAnswer (label_at (prefix_crossed true around) in_table (drop (start + 1) text)) (Some (n, label))
+    → IsTextAnswer (label_at (prefix_crossed true around) in_table (drop (start + 1) text)) (Some (n, label))
     → begins colon (drop (start + 1 + n) text) ≡ true
     → IsTargetAnswer in_table start (start + 1 + n + 1) (target_at around (drop (start + 1 + n + 1) text)) None
     → reference_definition_at in_table around (drop start text) ≡ None
@@ -295,7 +233,7 @@ reference_by in_table start n m l label definition (Some t) e h found =
 
 pub is_reference : (in_table : Bool) (around : Context) (text : List ℕ) (start n m : ℕ) (label : CowStr) (definition : LinkDef)
     → begins left_bracket (drop start text) ≡ true
-    → IsLabelAnswer (label_at (prefix_crossed true around) in_table (drop (start + 1) text)) (Some (n, label)) → begins colon (drop (start + 1 + n) text) ≡ true
+    → IsTextAnswer (label_at (prefix_crossed true around) in_table (drop (start + 1) text)) (Some (n, label)) → begins colon (drop (start + 1 + n) text) ≡ true
     → IsTargetAnswer in_table start (start + 1 + n + 1) (target_at around (drop (start + 1 + n + 1) text)) (Some (m, definition))
     → IsReferenceAnswer in_table start (reference_definition_at in_table around (drop start text)) (Some (n + 2 + m, label, definition))
 is_reference in_table around text start n m label definition h k f t =

@@ -1,31 +1,21 @@
 -- Titles line by line.
-use Rattle.std.proofs.Common.{◌≡◌, inl, inr, ℕ, suc, ◌+◌, ◌-◌, ◌<◌, ◌≤◌, ◌==◌, ◌&&◌, Bool, true, false, List, [], ◌∷◌, ◌++◌, length, take, drop}
+use Rattle.std.proofs.Common.{◌≡◌, ℕ, suc, ◌+◌, ◌-◌, ◌<◌, ◌≤◌, ◌==◌, ◌&&◌, Bool, true, false, List, [], ◌∷◌, ◌++◌, length, take, drop}
 use Rattle.std.proofs.Common.{slice_index, slice_get, IsUtf8, MatchOption, IsSomeAnd, length-drop, Option, Some, None, refl, sym, ap, subst, ◌∙◌, arith}
-use Rattle.std.proofs.Common.{append_assoc, IsCharBoundary, zero, get_or, if◌then◌else◌}
+use Rattle.std.proofs.Common.{append_assoc, IsCharBoundary, zero, get_or, if◌then◌else◌, eqb-true, drop-drop, append-nil, get_or-drop, option_map}
+use Rattle.std.proofs.Common.{option_and_then}
+use Rattle.first_pass_grammar.proofs.Common.{or_right, nat_tests, none-some, same_Some, drop_more, option_map_or, list_any, line_feed, carriage_return}
+use Rattle.first_pass_grammar.proofs.Common.{backslash, ascii_end, CowStr, text_of, begins, is_line_end, ends_line, eol_len, begins_escape, unescaped_upto}
+use Rattle.first_pass_grammar.proofs.Common.{joined, bytes_of, offsets_of, upto_unit, first_byte, IsCharBoundary-after_ascii, Context, title_end}
+use Rattle.first_pass_grammar.proofs.Common.{title_text, title_prefix, title_at, some_mapped, none_mapped}
 use Rattle.std.specs.Bool.{⊤}
-use Rattle.std.proofs.lemmas.Bool.{eqb-true, or_right}
-use Rattle.std.proofs.lemmas.Bool.Decides.{nat_tests}
-use Rattle.std.proofs.lemmas.Option.{none-some, same_Some}
-use Rattle.std.proofs.lemmas.List.{drop-drop, drop_more, append-nil, get_or-drop}
-use Rattle.std.specs.Option.{option_map, option_and_then}
-use Rattle.std.specs.List.{list_any}
 use Rattle.std.specs.Char.{is_ascii_punctuation}
-use Rattle.first_pass_items.specs.Bytes.{line_feed, carriage_return, quotation_mark, apostrophe, right_parenthesis, backslash, ascii_end}
-use Rattle.first_pass_items.specs.declared.cow_str.CowStr.{CowStr}
-use Rattle.first_pass_items.specs.CowText.{text_of}
-use Rattle.first_pass_lines.specs.Lines.{begins, is_line_end, ends_line, eol_len}
-use Rattle.first_pass_links.specs.Escapes.{begins_escape}
-use Rattle.first_pass_links.specs.Destinations.{unescaped_upto}
-use Rattle.first_pass_links.specs.Labels.{joined, bytes_of, offsets_of}
 use Rattle.first_pass_links.specs.Units.{part}
-use Rattle.first_pass_links.proofs.Destinations.{upto-nil, upto-stop, upto-byte, upto-escape, upto_unit}
+use Rattle.first_pass_links.proofs.Destinations.{upto-nil, upto-stop, upto-byte, upto-escape}
 use Rattle.first_pass_links.proofs.PlainRuns.{no_escape as no_escape_at}
-use Rattle.std.proofs.lemmas.Str.{IsCharBoundary-after_ascii}
-use Rattle.first_pass_grammar.specs.Containers.{Context}
-use Rattle.first_pass_grammar.specs.Definitions.{with_line_feeds, ends_title, title_end, title_text, title_prefix, title_at}
+use Rattle.first_pass_grammar.specs.Definitions.{with_line_feeds, ends_title}
 use Rattle.first_pass_definitions.specs.Reading.{ClosesTitle, stops_title_line, is_title_text, goes_on_at}
-use Rattle.first_pass_links.proofs.Labels.{joined_after}
-use Rattle.first_pass_definitions.proofs.OptionFacts.{and_some, map_some, map_none}
+use Rattle.first_pass_links.proofs.Labels.{joined_after, joined_fails}
+use Rattle.first_pass_definitions.proofs.OptionFacts.{and_some}
 
 -- the bytes of a title from an offset on, each after its offset
 pub left_of : (List ℕ → Option ℕ) → ℕ → List ℕ → List (ℕ × ℕ)
@@ -84,29 +74,21 @@ title-stop : (close o b : ℕ) (cs : List (ℕ × ℕ)) → begins_escape (b ∷
 unfolding title_of
 title-stop close o b cs e f = let u = upto-stop (ends_title close) b (bytes_of cs) e f in rw u refl
 
--- a fact about each byte that closes titles
-by_close : (P : ℕ → Type 0) (close : ℕ) → ClosesTitle close → P apostrophe → P quotation_mark → P right_parenthesis → P close
-by_close P close (inl h) a q r = subst P (sym h) a
-by_close P close (inr (inl h)) a q r = subst P (sym h) q
-by_close P close (inr (inr h)) a q r = subst P (sym h) r
-
 pub closes-plain : (close : ℕ) → ClosesTitle close → is_line_end close ≡ false
-closes-plain close c = by_close (λ b. is_line_end b ≡ false) close c refl refl refl
+closes-plain close c = grind (arith, nat_tests, c)
 
 pub closes-low : (close : ℕ) → ClosesTitle close → close < ascii_end
-closes-low close c = by_close (λ b. b < ascii_end) close c (omega arith) (omega arith) (omega arith)
+closes-low close c = grind (arith, nat_tests, c)
 
 feed-plain : (close : ℕ) → ClosesTitle close → ends_title close line_feed ≡ false
-feed-plain close c = by_close (λ b. ends_title b line_feed ≡ false) close c refl refl refl
+feed-plain close c = grind (arith, nat_tests, c)
 
 -- an ASCII byte that is no backslash
 abbrev IsLow : ℕ → Type 0
 IsLow b = ((b == backslash) ≡ false) × (b < ascii_end)
 
 pub stop_low : (close b : ℕ) → ClosesTitle close → stops_title_line close b ≡ true → IsLow b
-stop_low close b c =
-    by_close (λ d. stops_title_line d b ≡ true → IsLow b) close c (λ h. (grind (arith, nat_tests, h), grind (arith, nat_tests, h)))
-    (λ h. (grind (arith, nat_tests, h), grind (arith, nat_tests, h))) (λ h. (grind (arith, nat_tests, h), grind (arith, nat_tests, h)))
+stop_low close b c h = (grind (arith, nat_tests, c, h), grind (arith, nat_tests, c, h))
 
 -- the byte that begins a title, and the one that closes it
 pub title_begins : (b close : ℕ) → title_end b ≡ Some close → (b < ascii_end) × ClosesTitle close
@@ -114,8 +96,7 @@ title_begins b close h = (grind (arith, nat_tests, h), grind (arith, nat_tests, 
 
 -- reading of a title's line goes on at these bytes, and they escape nothing
 text_goes_on : (close b : ℕ) → ClosesTitle close → is_title_text b ≡ true → stops_title_line close b ≡ false
-text_goes_on close b c h =
-    by_close (λ d. stops_title_line d b ≡ false) close c (grind (arith, nat_tests, h)) (grind (arith, nat_tests, h)) (grind (arith, nat_tests, h))
+text_goes_on close b c h = grind (arith, nat_tests, c, h)
 
 -- such are the first r bytes from an offset on
 abbrev pub AreText : List ℕ → ℕ → ℕ → Type 0
@@ -158,35 +139,34 @@ left-nil : (prefix : List ℕ → Option ℕ) (at : ℕ) → left_of prefix at [
 unfolding left_of joined with_line_feeds
 left-nil prefix at = refl
 
--- a line feed for a line ending
-feed_by : (t u : Bool) (o b : ℕ) (cs : List (ℕ × ℕ)) → (b == carriage_return) ≡ t → begins line_feed (bytes_of cs) ≡ u → is_line_end b ≡ true
-    → slice_index (bytes_of (with_line_feeds ((o, b) ∷ cs))) 0 ≡ line_feed
+-- a backslash can escape the same bytes if line feeds are for line endings
+fed_punctuation : (cs : List (ℕ × ℕ))
+    → is_ascii_punctuation (slice_index (bytes_of (with_line_feeds cs)) 0) ≡ is_ascii_punctuation (slice_index (bytes_of cs) 0)
 unfolding with_line_feeds
-feed_by false u o b cs h k e = rw h (grind (arith, nat_tests, e, h))
-feed_by true false o b cs h k e = rw h (rw k refl)
-feed_by true true o b [] h k e = cc
-feed_by true true o b (c ∷ cs) h k e = rw h (rw k (let d : c.1 ≡ line_feed = eqb-true c.1 line_feed k in rw d refl))
+fed_punctuation [] = refl
+fed_punctuation (c ∷ cs) = by (c.1 == carriage_return) (begins line_feed (bytes_of cs)) refl refl (fed_punctuation cs)
+  where
+    by : (t u : Bool) → (c.1 == carriage_return) ≡ t → begins line_feed (bytes_of cs) ≡ u
+        → is_ascii_punctuation (slice_index (bytes_of (with_line_feeds cs)) 0) ≡ is_ascii_punctuation (slice_index (bytes_of cs) 0)
+        → is_ascii_punctuation (slice_index (bytes_of
+        (if t then (if u then with_line_feeds cs else (c.0, line_feed) ∷ with_line_feeds cs) else c ∷ with_line_feeds cs)) 0) ≡ is_ascii_punctuation c.1
+    by false u h k r = refl
+    by true false h k r = sym (ap is_ascii_punctuation (eqb-true c.1 carriage_return h))
+    by true true h k r =
+        r ∙ ap is_ascii_punctuation (first_byte line_feed (bytes_of cs) 0 k).1 ∙ sym (ap is_ascii_punctuation (eqb-true c.1 carriage_return h))
 
--- a line ending comes first, or nothing
-end_by : (t : Bool) (o : Option ℕ) (prefix : List ℕ → Option ℕ) (at b : ℕ) (bs : List ℕ) → ends_line b bs ≡ t → prefix bs ≡ o → is_line_end b ≡ true
-    → is_ascii_punctuation (slice_index (bytes_of (left_of prefix at (b ∷ bs))) 0) ≡ false
-unfolding left_of joined with_line_feeds
-end_by false o prefix at b bs h k e = rw h (ap is_ascii_punctuation (feed_by _ _ at b (joined prefix (at + 1) 0 bs) refl refl e))
-end_by true (Some n) prefix at b bs h k e = rw h (rw k (ap is_ascii_punctuation (feed_by _ _ at b (joined prefix (at + 1) n bs) refl refl e)))
-end_by true None prefix at b bs h k e = rw h (rw k refl)
-
--- a backslash can escape the same bytes if lines are joined
-punctuation_by : (t : Bool) (prefix : List ℕ → Option ℕ) (at b : ℕ) (bs : List ℕ) → is_line_end b ≡ t
-    → is_ascii_punctuation (slice_index (bytes_of (left_of prefix at (b ∷ bs))) 0) ≡ is_ascii_punctuation b
-punctuation_by false prefix at b bs h = ap (λ cs. is_ascii_punctuation (slice_index (bytes_of cs) 0)) (left-byte prefix at b bs h)
-punctuation_by true prefix at b bs h =
-    let other : is_ascii_punctuation b ≡ false = grind (arith, nat_tests, h) in
-    end_by (ends_line b bs) (prefix bs) prefix at b bs refl refl h ∙ sym other
-
+-- and if lines are joined
 same_punctuation : (prefix : List ℕ → Option ℕ) (at : ℕ) (bs : List ℕ)
     → is_ascii_punctuation (slice_index (bytes_of (left_of prefix at bs)) 0) ≡ is_ascii_punctuation (slice_index bs 0)
+unfolding left_of
 same_punctuation prefix at [] = ap (λ cs. is_ascii_punctuation (slice_index (bytes_of cs) 0)) (left-nil prefix at)
-same_punctuation prefix at (b ∷ bs) = punctuation_by (is_line_end b) prefix at b bs refl
+same_punctuation prefix at (b ∷ bs) = by (is_line_end b) refl
+  where
+    by : (t : Bool) → is_line_end b ≡ t → is_ascii_punctuation (slice_index (bytes_of (left_of prefix at (b ∷ bs))) 0) ≡ is_ascii_punctuation b
+    by false h = ap (λ cs. is_ascii_punctuation (slice_index (bytes_of cs) 0)) (left-byte prefix at b bs h)
+    by true h =
+        let other : is_ascii_punctuation b ≡ false = grind (arith, nat_tests, h) in
+        fed_punctuation (joined prefix at 0 (b ∷ bs)) ∙ joined_fails is_ascii_punctuation refl prefix at (b ∷ bs) other ∙ sym other
 
 same_escape : (prefix : List ℕ → Option ℕ) (at b : ℕ) (bs : List ℕ) → begins_escape (b ∷ bytes_of (left_of prefix at bs)) ≡ begins_escape (b ∷ bs)
 same_escape prefix at b bs = ap (λ t. (b == backslash) && t) (same_punctuation prefix at bs)
@@ -269,30 +249,26 @@ line_stops close from at text is =
     (line_stands (λ bs. None) close from (drop from text)).stops
 
 -- no line feed comes first if none is first in the bytes
-no_feed_by : (t : Bool) (o : Option ℕ) (h : List ℕ → Option ℕ) (at b : ℕ) (bs : List ℕ) → ends_line b bs ≡ t → h bs ≡ o → (b == line_feed) ≡ false
-    → begins line_feed (bytes_of (joined h at 0 (b ∷ bs))) ≡ false
-unfolding joined
-no_feed_by false o h at b bs e f g = rw e g
-no_feed_by true (Some n) h at b bs e f g = rw e (rw f g)
-no_feed_by true None h at b bs e f g = rw e (rw f refl)
-
 no_feed : (h : List ℕ → Option ℕ) (at : ℕ) (bs : List ℕ) → begins line_feed bs ≡ false → begins line_feed (bytes_of (joined h at 0 bs)) ≡ false
 unfolding joined
 no_feed h at [] g = refl
-no_feed h at (b ∷ bs) g = no_feed_by (ends_line b bs) (h bs) h at b bs refl refl g
+no_feed h at (b ∷ bs) g = by (ends_line b bs) (h bs)
+  where
+    by : (t : Bool) (o : Option ℕ)
+        → begins line_feed (bytes_of (if t then option_map_or (λ n. (at, b) ∷ joined h (at + 1) n bs) o [] else (at, b) ∷ joined h (at + 1) 0 bs)) ≡ false
+    by false o = g
+    by true (Some n) = g
+    by true None = refl
 
 -- A line feed is a byte of the title.
 fed_title : (close o : ℕ) (cs ds : List (ℕ × ℕ)) → ClosesTitle close → cs ≡ (o, line_feed) ∷ ds
     → title_of close cs ≡ after_text (line_feed ∷ []) (title_of close ds)
 fed_title close o cs ds c e = ap (title_of close) e ∙ title-byte close o line_feed ds refl (feed-plain close c)
 
-abbrev StopsThere : (List ℕ → Option ℕ) → ℕ → ℕ → List ℕ → ℕ → Type 0
-StopsThere prefix close at bs e = prefix (drop e bs) ≡ None → title_of close (left_of prefix at bs) ≡ None
-
 -- Bytes begin with a line ending of this length. The title ends there without its closing byte, or it continues.
 pub record AtEnding (prefix : List ℕ → Option ℕ) (close at : ℕ) (bs : List ℕ) (e : ℕ) : Type 0 where
-  pub stops : StopsThere prefix close at bs e
-  pub goes : (n : ℕ) → prefix (drop e bs) ≡ Some n → begins line_feed (drop n (drop e bs)) ≡ false
+  pub stops : prefix (drop e bs) ≡ None → title_of close (left_of prefix at bs) ≡ None
+  pub goes : (n : ℕ) → 0 < length bs → prefix (drop e bs) ≡ Some n → begins line_feed (drop n (drop e bs)) ≡ false
       → title_of close (left_of prefix at bs) ≡ after_text (line_feed ∷ []) (title_of close (left_of prefix (at + e + n) (drop n (drop e bs))))
 
 at_line_feed : (prefix : List ℕ → Option ℕ) (close at : ℕ) (bs : List ℕ) → ClosesTitle close → AtEnding prefix close at (line_feed ∷ bs) 1
@@ -300,7 +276,7 @@ unfolding left_of joined with_line_feeds
 at_line_feed prefix close at bs c =
     record {
       stops = λ f. (let e : left_of prefix at (line_feed ∷ bs) ≡ [] = rw f refl in ap (title_of close) e ∙ title-nil close);
-      goes = λ n f g. fed_title close at _ _ c (rw f (ap (λ cs. (at, line_feed) ∷ with_line_feeds cs) (joined_after prefix (at + 1) n bs)));
+      goes = λ n l f g. fed_title close at _ _ c (rw f (ap (λ cs. (at, line_feed) ∷ with_line_feeds cs) (joined_after prefix (at + 1) n bs)));
     }
 
 -- a carriage return, or both
@@ -310,7 +286,7 @@ unfolding left_of joined with_line_feeds
 at_carriage_return false prefix close at bs c h =
     record {
       stops = λ f. (let e : left_of prefix at (carriage_return ∷ bs) ≡ [] = rw h (rw f refl) in ap (title_of close) e ∙ title-nil close);
-      goes = λ n f g. fed_title close at _ _ c
+      goes = λ n l f g. fed_title close at _ _ c
           (rw h (rw f (rw (joined_after prefix (at + 1) n bs) (rw (no_feed prefix (at + 1 + n) (drop n bs) g) refl))));
     }
 at_carriage_return true prefix close at [] c h = cc
@@ -320,30 +296,34 @@ at_carriage_return true prefix close at (x ∷ bs) c h =
       stops = λ f. (
           let e : left_of prefix at (carriage_return ∷ line_feed ∷ bs) ≡ (at, line_feed) ∷ [] = rw f refl in
           fed_title close at _ [] c e ∙ ap (after_text (line_feed ∷ [])) (title-nil close));
-      goes = λ n f g. fed_title close (at + 1) _ _ c
+      goes = λ n l f g. fed_title close (at + 1) _ _ c
           (rw f (rw i (ap (λ cs. (at + 1, line_feed) ∷ with_line_feeds cs) (joined_after prefix (at + 2) n bs))));
     })
 
-ending_by : (t u : Bool) (prefix : List ℕ → Option ℕ) (close at b e : ℕ) (bs : List ℕ) → ClosesTitle close → (b == line_feed) ≡ t
-    → (b == carriage_return) ≡ u
-    → (if t then Some 1 else (if u then Some (if begins line_feed bs then 2 else 1) else None)) ≡ Some e → AtEnding prefix close at (b ∷ bs) e
-ending_by true u prefix close at b e bs c h k f =
-    subst (AtEnding prefix close at (b ∷ bs)) (same_Some 1 e f)
-    (subst (λ x. AtEnding prefix close at (x ∷ bs) 1) (sym (eqb-true b line_feed h)) (at_line_feed prefix close at bs c))
-ending_by false true prefix close at b e bs c h k f =
-    subst (AtEnding prefix close at (b ∷ bs)) (same_Some _ e f)
-    (subst (λ x. AtEnding prefix close at (x ∷ bs) (if begins line_feed bs then 2 else 1)) (sym (eqb-true b carriage_return k))
-    (at_carriage_return (begins line_feed bs) prefix close at bs c refl))
-ending_by false false prefix close at b e bs c h k f = absurd (none-some e f)
+ending : (prefix : List ℕ → Option ℕ) (close at e : ℕ) (bs : List ℕ) → ClosesTitle close → eol_len bs ≡ Some e → AtEnding prefix close at bs e
+ending prefix close at e [] c h = record {
+  stops = λ f. ap (title_of close) (left-nil prefix at) ∙ title-nil close;
+  goes = λ n l f g. absurd (omega arith);
+}
+ending prefix close at e (b ∷ bs) c h = by (b == line_feed) (b == carriage_return) refl refl h
+  where
+    by : (t u : Bool) → (b == line_feed) ≡ t → (b == carriage_return) ≡ u
+        → (if t then Some 1 else (if u then Some (if begins line_feed bs then 2 else 1) else None)) ≡ Some e → AtEnding prefix close at (b ∷ bs) e
+    by true u h k f =
+        subst (AtEnding prefix close at (b ∷ bs)) (same_Some 1 e f)
+        (subst (λ x. AtEnding prefix close at (x ∷ bs) 1) (sym (eqb-true b line_feed h)) (at_line_feed prefix close at bs c))
+    by false true h k f =
+        subst (AtEnding prefix close at (b ∷ bs)) (same_Some _ e f)
+        (subst (λ x. AtEnding prefix close at (x ∷ bs) (if begins line_feed bs then 2 else 1)) (sym (eqb-true b carriage_return k))
+        (at_carriage_return (begins line_feed bs) prefix close at bs c refl))
+    by false false h k f = absurd (none-some e f)
 
-ending : (prefix : List ℕ → Option ℕ) (close at e : ℕ) (bs : List ℕ) → ClosesTitle close → eol_len bs ≡ Some e → 0 < length bs
-    → AtEnding prefix close at bs e
-ending prefix close at e [] c h l = absurd (omega arith)
-ending prefix close at e (b ∷ bs) c h l = ending_by (b == line_feed) (b == carriage_return) prefix close at b e bs c refl refl h
-
-stops_there : (prefix : List ℕ → Option ℕ) (close at e : ℕ) (bs : List ℕ) → ClosesTitle close → eol_len bs ≡ Some e → StopsThere prefix close at bs e
-stops_there prefix close at e [] c h = λ p. ap (title_of close) (left-nil prefix at) ∙ title-nil close
-stops_there prefix close at e (b ∷ bs) c h = (ending prefix close at e (b ∷ bs) c h (omega arith)).stops
+-- a byte that is no line ending stops the title there
+stopped : (prefix : List ℕ → Option ℕ) (close at b : ℕ) (bs : List ℕ) → ClosesTitle close → is_line_end b ≡ false → ends_title close b ≡ true
+    → title_of close (left_of prefix at (b ∷ bs)) ≡ (if b == close then Some (at + 1, []) else None)
+stopped prefix close at b bs c p e =
+    let plain = no_escape b (bytes_of (left_of prefix (at + 1) bs)) (stop_low close b c (or_right (is_line_end b) (ends_title close b) e)).0 in
+    ap (title_of close) (left-byte prefix at b bs p) ∙ title-stop close at b (left_of prefix (at + 1) bs) plain e
 
 -- neither a line ending nor the end of the title is there
 other_stops : (prefix : List ℕ → Option ℕ) (close at : ℕ) (xs : List ℕ) → ClosesTitle close → FirstStops close xs → begins close xs ≡ false
@@ -352,34 +332,27 @@ other_stops prefix close at [] c f g h = ap (title_of close) (left-nil prefix at
 other_stops prefix close at (b ∷ bs) c f g h =
     let p : is_line_end b ≡ false = grind (arith, nat_tests, h) in
     let e : ends_title close b ≡ true = grind (arith, nat_tests, p, f) in
-    ap (title_of close) (left-byte prefix at b bs p)
-    ∙ title-stop close at b (left_of prefix (at + 1) bs) (no_escape b (bytes_of (left_of prefix (at + 1) bs)) (stop_low close b c f).0) e ∙ (rw g refl)
+    stopped prefix close at b bs c p e ∙ rw g refl
 
 -- the title ends there
 pub ends_there : (prefix : List ℕ → Option ℕ) (close at : ℕ) (xs : List ℕ) → ClosesTitle close → begins close xs ≡ true
     → title_of close (left_of prefix at xs) ≡ Some (at + 1, [])
 ends_there prefix close at [] c g = cc
 ends_there prefix close at (b ∷ bs) c g =
-    let d : b ≡ close = eqb-true b close g in
-    let p : is_line_end b ≡ false = rw d (closes-plain close c) in
+    let p : is_line_end b ≡ false = rw (eqb-true b close g) (closes-plain close c) in
     let e : ends_title close b ≡ true = rw g refl in
-    ap (title_of close) (left-byte prefix at b bs p)
-    ∙ title-stop close at b (left_of prefix (at + 1) bs) (no_escape b (bytes_of (left_of prefix (at + 1) bs))
-    (stop_low close b c (or_right (is_line_end b) (ends_title close b) e)).0) e
-    ∙ (rw g refl)
-
-break_by : (o : Option ℕ) (prefix : List ℕ → Option ℕ) (close at : ℕ) (text : List ℕ) → ClosesTitle close → FirstStops close (drop at text)
-    → begins close (drop at text) ≡ false → eol_len (drop at text) ≡ o
-    → option_and_then (λ e. option_map (λ n. at + e + n) (prefix (drop (at + e) text))) o ≡ None → title_of close (left_of prefix at (drop at text)) ≡ None
-break_by None prefix close at text c f g h k = other_stops prefix close at (drop at text) c f g h
-break_by (Some e) prefix close at text c f g h k =
-    stops_there prefix close at e (drop at text) c h (ap prefix (drop-drop e at text) ∙ map_none (λ n. at + e + n) (prefix (drop (at + e) text)) k)
+    stopped prefix close at b bs c p e ∙ rw g refl
 
 pub no_break : (prefix : List ℕ → Option ℕ) (close from at : ℕ) (text : List ℕ) → ClosesTitle close
     → at ≡ from + unescaped_upto (stops_title_line close) 0 (drop from text) → begins close (drop at text) ≡ false → None ≡ goes_on_at prefix text at
     → title_of close (left_of prefix at (drop at text)) ≡ None
-no_break prefix close from at text c is g k =
-    break_by (eol_len (drop at text)) prefix close at text c (line_stops close from at text is) g refl (sym k)
+no_break prefix close from at text c is g k = by (eol_len (drop at text)) refl (sym k)
+  where
+    by : (o : Option ℕ) → eol_len (drop at text) ≡ o → option_and_then (λ e. option_map (λ n. at + e + n) (prefix (drop (at + e) text))) o ≡ None
+        → title_of close (left_of prefix at (drop at text)) ≡ None
+    by None h k = other_stops prefix close at (drop at text) c (line_stops close from at text is) g h
+    by (Some e) h k = (ending prefix close at e (drop at text) c h).stops
+        (ap prefix (drop-drop e at text) ∙ none_mapped (λ n. at + e + n) (prefix (drop (at + e) text)) (sym k))
 
 pub some_break : (prefix : List ℕ → Option ℕ) (close at next : ℕ) (text : List ℕ) → ClosesTitle close → at < length text
     → Some next ≡ goes_on_at prefix text at → begins line_feed (drop next text) ≡ false
@@ -387,11 +360,11 @@ pub some_break : (prefix : List ℕ → Option ℕ) (close at next : ℕ) (text 
 some_break prefix close at next text c l k g =
     let size = length-drop at text in
     let e = and_some (λ e. option_map (λ n. at + e + n) (prefix (drop (at + e) text))) (eol_len (drop at text)) next (sym k) in
-    let n = map_some (λ n. at + e.0 + n) (prefix (drop (at + e.0) text)) next e.2 in
+    let n = some_mapped (λ n. at + e.0 + n) (prefix (drop (at + e.0) text)) next e.2 in
     let same : at + e.0 + n.0 ≡ next = n.2 in
     let d : drop n.0 (drop e.0 (drop at text)) ≡ drop next text = ap (drop n.0) (drop-drop e.0 at text) ∙ drop-drop n.0 (at + e.0) text
     ∙ ap (λ k. drop k text) same in
-    (ending prefix close at e.0 (drop at text) c e.1 (omega arith)).goes n.0 (ap prefix (drop-drop e.0 at text) ∙ n.1) (ap (begins line_feed) d ∙ g)
+    (ending prefix close at e.0 (drop at text) c e.1).goes n.0 (omega arith) (ap prefix (drop-drop e.0 at text) ∙ n.1) (ap (begins line_feed) d ∙ g)
     ∙ ap (λ xs. after_text (line_feed ∷ []) (title_of close (left_of prefix (at + e.0 + n.0) xs))) d
     ∙ ap (λ k. after_text (line_feed ∷ []) (title_of close (left_of prefix k (drop next text)))) same
 
@@ -475,15 +448,14 @@ after_first (b ∷ bs) close u h =
     IsCharBoundary-after_ascii (b ∷ bs) 0 u (omega arith)
     (title_begins b close (sym h)).0
 
+-- a result for a text and its length
+abbrev pub IsTextAnswer : Option (ℕ × List ℕ) → Option (ℕ × CowStr) → Type 0
+IsTextAnswer o answer = MatchOption o (answer ≡ None) (λ title. IsSomeAnd answer (λ found. (found.0 ≡ title.0) × (text_of found.1 ≡ title.1)))
+
 -- a result for the text after a title's first byte, as one for the title
-abbrev IsAnswer : Option (ℕ × List ℕ) → Option (ℕ × CowStr) → Type 0
-IsAnswer o answer = MatchOption o (answer ≡ None) (λ title. IsSomeAnd answer (λ found. (found.0 ≡ title.0) × (text_of found.1 ≡ title.1)))
-
-pub answer_none : (o p : Option (ℕ × List ℕ)) → IsAnswer o None → p ≡ option_map (λ (t : ℕ × List ℕ). (t.0 + 1, t.1)) o → IsAnswer p None
-answer_none None p h e = rw e refl
-answer_none (Some t) p h e = absurd h
-
-pub answer_some : (o p : Option (ℕ × List ℕ)) (n : ℕ) (title : CowStr) → IsAnswer o (Some (n, title)) → p ≡ option_map (λ (t : ℕ × List ℕ). (t.0 + 1, t.1)) o
-    → IsAnswer p (Some (n + 1, title))
-answer_some None p n title h e = cc
-answer_some (Some t) p n title h e = rw e (ap (λ k. k + 1) h.0, h.1)
+pub answer_longer : (o : Option (ℕ × List ℕ)) (answer : Option (ℕ × CowStr)) → IsTextAnswer o answer
+    → IsTextAnswer (option_map (λ (t : ℕ × List ℕ). (t.0 + 1, t.1)) o) (option_map (λ (found : ℕ × CowStr). (found.0 + 1, found.1)) answer)
+answer_longer None None h = refl
+answer_longer None (Some found) h = absurd cc
+answer_longer (Some t) None h = absurd h
+answer_longer (Some t) (Some found) h = (ap (λ k. k + 1) h.0, h.1)

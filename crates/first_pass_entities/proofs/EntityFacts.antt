@@ -1,16 +1,15 @@
 -- The bytes of a reference: none is a backslash, the last is `;`, and they are more than those of its character.
 use Rattle.std.proofs.Common.{◌≡◌, ◌⊎◌, inl, inr, ℕ, suc, ◌+◌, ◌-◌, ◌<◌, ◌≤◌, ◌==◌, ◌&&◌, nat_le, not, Bool, true, false, List, [], ◌∷◌, length, take, drop}
-use Rattle.std.proofs.Common.{get_or, Option, Some, None, refl, sym, ap, subst, ◌∙◌, arith, codes, if◌then◌else◌}
-use Rattle.std.specs.Option.{option_map, option_or}
+use Rattle.std.proofs.Common.{◌||◌, get_or, Option, Some, None, refl, sym, ap, subst, ◌∙◌, arith, codes, if◌then◌else◌, option_map, bytes_eq, eqb-true}
+use Rattle.std.proofs.Common.{get_or-drop}
+use Rattle.std.specs.Option.{option_or}
 use Rattle.std.specs.List.{prefix_len}
-use Rattle.std.specs.Str.{bytes_eq}
 use Rattle.std.specs.Str.Parse.{digits_value}
 use Rattle.std.specs.Char.{is_ascii_digit, is_ascii_hexdigit, is_ascii_alphabetic, len_utf8}
-use Rattle.std.proofs.lemmas.Bool.{eqb-true, false≢true, cases_lt}
+use Rattle.std.proofs.lemmas.Bool.{false≢true, cases_lt}
 use Rattle.std.proofs.lemmas.Bool.Decides.{nat_tests}
 use Rattle.std.proofs.lemmas.Grind.{common_steps}
 use Rattle.std.proofs.lemmas.Option.{some_pair_parts}
-use Rattle.std.proofs.lemmas.List.{get_or-drop}
 use Rattle.std.proofs.lemmas.List.Folds.{length-prefix_len}
 use Rattle.first_pass_items.specs.Bytes.{number_sign, ampersand, semicolon, capital_x, backslash, small_x}
 use Rattle.first_pass_lines.specs.Lines.{begins}
@@ -21,9 +20,14 @@ use Rattle.first_pass_entities.specs.Entities.{entity_at}
 abbrev pub is_plain : ℕ → Bool
 is_plain b = not (b == backslash)
 
+-- a byte that a reference may have: an ASCII letter or digit, or one of `#&;`
+abbrev pub is_reference_byte : ℕ → Bool
+is_reference_byte b = is_ascii_digit b || (is_ascii_alphabetic b || (b == number_sign || (b == ampersand || b == semicolon)))
+
 -- the n bytes of a reference: none of them is a backslash, and the last is `;`
 pub record EndsReference (bs : List ℕ) (n : ℕ) : Type 0 where
   pub some : 0 < n
+  pub bytes : n ≤ prefix_len is_reference_byte bs
   pub plain : n ≤ prefix_len is_plain bs
   pub last : get_or bs (n - 1) 0 ≡ semicolon
 
@@ -41,48 +45,65 @@ plain_from : (p : ℕ → Bool) → p backslash ≡ false → (b : ℕ) → p b 
 plain_from p q b h true e = absurd (false≢true (sym q ∙ ap p (sym (eqb-true b backslash e)) ∙ h))
 plain_from p q b h false e = rw e
 
-plain_by : (p : ℕ → Bool)
-    → p backslash ≡ false → (t : Bool) (b : ℕ) (bs : List ℕ) → p b ≡ t
-    → prefix_len p bs + prefix_len is_plain (drop (prefix_len p bs) bs) ≡ prefix_len is_plain bs
-    → prefix_len p (b ∷ bs) + prefix_len is_plain (drop (prefix_len p (b ∷ bs)) (b ∷ bs)) ≡ prefix_len is_plain (b ∷ bs)
-plain_by p q true b bs h i =
+-- bytes that pass a test also pass one that holds of more bytes
+through_by : (p q : ℕ → Bool) → ((b : ℕ) → p b ≡ true → q b ≡ true) → (t : Bool) (b : ℕ) (bs : List ℕ) → p b ≡ t
+    → prefix_len p bs + prefix_len q (drop (prefix_len p bs) bs) ≡ prefix_len q bs
+    → prefix_len p (b ∷ bs) + prefix_len q (drop (prefix_len p (b ∷ bs)) (b ∷ bs)) ≡ prefix_len q (b ∷ bs)
+through_by p q known true b bs h i =
     let k : ℕ = prefix_len p bs in
     let e : prefix_len p (b ∷ bs) ≡ suc k = rw h (omega arith) in
-    let f : prefix_len is_plain (b ∷ bs) ≡ 1 + prefix_len is_plain bs = rw (plain_from p q b h (b == backslash) refl) in
+    let f : prefix_len q (b ∷ bs) ≡ 1 + prefix_len q bs = rw (known b h) in
     rw e (omega arith)
-plain_by p q false b bs h i = let e : prefix_len p (b ∷ bs) ≡ 0 = rw h in rw e (omega arith)
+through_by p q known false b bs h i = let e : prefix_len p (b ∷ bs) ≡ 0 = rw h in rw e (omega arith)
+
+passes_through : (p q : ℕ → Bool) → ((b : ℕ) → p b ≡ true → q b ≡ true) → (bs : List ℕ)
+    → prefix_len p bs + prefix_len q (drop (prefix_len p bs) bs) ≡ prefix_len q bs
+passes_through p q known [] = refl
+passes_through p q known (b ∷ bs) = through_by p q known (p b) b bs refl (passes_through p q known bs)
 
 pub plain_through : (p : ℕ → Bool) → p backslash ≡ false → (bs : List ℕ)
     → prefix_len p bs + prefix_len is_plain (drop (prefix_len p bs) bs) ≡ prefix_len is_plain bs
-plain_through p q [] = refl
-plain_through p q (b ∷ bs) = plain_by p q (p b) b bs refl (plain_through p q bs)
+plain_through p q bs = passes_through p is_plain (λ b e. plain_from p q b e (b == backslash) refl) bs
 
-at_semicolon : (bs : List ℕ) → begins semicolon bs ≡ true → (0 < prefix_len is_plain bs) × (get_or bs 0 0 ≡ semicolon)
+digit_byte : (b : ℕ) → is_ascii_digit b ≡ true → is_reference_byte b ≡ true
+digit_byte b h = grind (arith, nat_tests, h)
+
+hexdigit_byte : (b : ℕ) → is_ascii_hexdigit b ≡ true → is_reference_byte b ≡ true
+hexdigit_byte b h = grind (arith, nat_tests, h)
+
+letter_byte : (b : ℕ) → is_ascii_alphabetic b ≡ true → is_reference_byte b ≡ true
+letter_byte b h = grind (arith, nat_tests, h)
+
+ends_by : (bs : List ℕ) (n : ℕ) → 0 < n → n ≤ prefix_len is_reference_byte bs → get_or bs (n - 1) 0 ≡ semicolon → EndsReference bs n
+ends_by bs n some bytes last = record { some = some; bytes = bytes; plain = omega (arith, plain_through is_reference_byte refl bs); last = last }
+
+at_semicolon : (bs : List ℕ) → begins semicolon bs ≡ true → (0 < prefix_len is_reference_byte bs) × (get_or bs 0 0 ≡ semicolon)
 at_semicolon [] h = cc
 at_semicolon (b ∷ bs) h =
     let e = eqb-true b semicolon h in
-    let f : is_plain b ≡ true = rw e in
+    let f : is_reference_byte b ≡ true = ap is_reference_byte e in
     (rw f (omega arith), e)
 
 -- digits or letters, then `;`
-run_ends : (p : ℕ → Bool) → p backslash ≡ false → (bs : List ℕ) → begins semicolon (drop (prefix_len p bs) bs) ≡ true → EndsReference bs (prefix_len p bs + 1)
+run_ends : (p : ℕ → Bool) → ((b : ℕ) → p b ≡ true → is_reference_byte b ≡ true) → (bs : List ℕ)
+    → begins semicolon (drop (prefix_len p bs) bs) ≡ true → EndsReference bs (prefix_len p bs + 1)
 run_ends p q bs h =
     let k : ℕ = prefix_len p bs in
     let s = at_semicolon (drop k bs) h in
-    let t = plain_through p q bs in
+    let t = passes_through p is_reference_byte q bs in
     let i : k + 1 - 1 ≡ k + 0 = omega arith in
-    record { some = omega arith; plain = omega arith; last = ap (λ j. get_or bs j 0) i ∙ sym (get_or-drop k bs 0 0) ∙ s.1 }
+    ends_by bs (k + 1) (omega arith) (omega arith) (ap (λ j. get_or bs j 0) i ∙ sym (get_or-drop k bs 0 0) ∙ s.1)
 
 -- one more byte before them
-one_more : (b k n : ℕ) (bs : List ℕ) → begins k bs ≡ true → (k == backslash) ≡ false → EndsReference (drop 1 bs) n → EndsReference bs (1 + n)
-one_more b k n [] h q e = cc
-one_more b k n (x ∷ xs) h q e =
+one_more : (k n : ℕ) (bs : List ℕ) → begins k bs ≡ true → is_reference_byte k ≡ true → EndsReference (drop 1 bs) n → EndsReference bs (1 + n)
+one_more k n [] h q e = cc
+one_more k n (x ∷ xs) h q e =
     let s = e.some in
-    let p = e.plain in
-    let f : is_plain x ≡ true = rw (eqb-true x k h) (rw q) in
-    let g : prefix_len is_plain (x ∷ xs) ≡ 1 + prefix_len is_plain xs = rw f in
+    let p = e.bytes in
+    let f : is_reference_byte x ≡ true = ap is_reference_byte (eqb-true x k h) ∙ q in
+    let g : prefix_len is_reference_byte (x ∷ xs) ≡ 1 + prefix_len is_reference_byte xs = rw f in
     let i : 1 + n - 1 ≡ suc (n - 1) = omega arith in
-    record { some = omega arith; plain = omega arith; last = ap (λ j. get_or (x ∷ xs) j 0) i ∙ e.last }
+    ends_by (x ∷ xs) (1 + n) (omega arith) (omega arith) (ap (λ j. get_or (x ∷ xs) j 0) i ∙ e.last)
 
 -- a number with its `;` has at least two bytes, and a number of one digit refers to a character of at most three
 -- bytes
@@ -101,7 +122,7 @@ one_digit : (radix : ℕ) (bs : List ℕ) → digits_value radix (take 1 bs) ≤
 one_digit radix [] = omega arith
 one_digit radix (b ∷ bs) = grind (arith, nat_tests)
 
-number_by : (p : ℕ → Bool) → p backslash ≡ false → (t : Bool) (radix most : ℕ) (bs : List ℕ) (n c : ℕ)
+number_by : (p : ℕ → Bool) → ((b : ℕ) → p b ≡ true → is_reference_byte b ≡ true) → (t : Bool) (radix most : ℕ) (bs : List ℕ) (n c : ℕ)
     → (nat_le 1 (prefix_len p bs) && nat_le (prefix_len p bs) most && begins semicolon (drop (prefix_len p bs) bs)) ≡ t
     → (if t then Some (both (prefix_len p bs + 1) (referred (digits_value radix (take (prefix_len p bs) bs)))) else None) ≡ Some (both n c)
     → IsNumber bs n c
@@ -121,7 +142,8 @@ number_by p q true radix most bs n c h e =
     }
 number_by p q false radix most bs n c h e = cc
 
-number_facts : (p : ℕ → Bool) → p backslash ≡ false → (radix most : ℕ) (bs : List ℕ) (n c : ℕ) → number_at p radix most bs ≡ Some (n, c) → IsNumber bs n c
+number_facts : (p : ℕ → Bool) → ((b : ℕ) → p b ≡ true → is_reference_byte b ≡ true) → (radix most : ℕ) (bs : List ℕ) (n c : ℕ)
+    → number_at p radix most bs ≡ Some (n, c) → IsNumber bs n c
 unfolding number_at
 number_facts p q radix most bs n c e = number_by p q _ radix most bs n c refl e
 
@@ -187,7 +209,7 @@ name_by true bs n c (Some v) f h e =
     let l = length-prefix_len is_ascii_alphabetic bs in
     let some = s.some in
     let short = s.short in
-    (subst (EndsReference bs) a (run_ends is_ascii_alphabetic refl bs h), omega arith)
+    (subst (EndsReference bs) a (run_ends is_ascii_alphabetic letter_byte bs h), omega arith)
 name_by true bs n c None f h e = cc
 name_by false bs n c o f h e = cc
 
@@ -209,20 +231,20 @@ numeric_by : (t u : Bool) (bs : List ℕ) (n c : ℕ)
 unfolding numeric_at
 numeric_by true u bs n c h h' e =
     let b = after_some 1 n c _ (rw h at e) in
-    let f = number_facts is_ascii_hexdigit refl 16 6 (drop 1 bs) b.0 c b.1 in
+    let f = number_facts is_ascii_hexdigit hexdigit_byte 16 6 (drop 1 bs) b.0 c b.1 in
     let some = f.some in
     let four = at_most_four c in
     let m = b.2 in
-    (subst (EndsReference bs) (sym m) (one_more 0 small_x b.0 bs h refl f.ends), omega arith)
+    (subst (EndsReference bs) (sym m) (one_more small_x b.0 bs h refl f.ends), omega arith)
 numeric_by false true bs n c h h' e =
     let b = after_some 1 n c _ (rw (h, h') at e) in
-    let f = number_facts is_ascii_hexdigit refl 16 6 (drop 1 bs) b.0 c b.1 in
+    let f = number_facts is_ascii_hexdigit hexdigit_byte 16 6 (drop 1 bs) b.0 c b.1 in
     let some = f.some in
     let four = at_most_four c in
     let m = b.2 in
-    (subst (EndsReference bs) (sym m) (one_more 0 capital_x b.0 bs h' refl f.ends), omega arith)
+    (subst (EndsReference bs) (sym m) (one_more capital_x b.0 bs h' refl f.ends), omega arith)
 numeric_by false false bs n c h h' e =
-    let f = number_facts is_ascii_digit refl 10 7 bs n c (rw (h, h') at e) in
+    let f = number_facts is_ascii_digit digit_byte 10 7 bs n c (rw (h, h') at e) in
     (f.ends, above n (len_utf8 c) f.some (at_most_four c) f.short (cases_lt 2 n))
 
 entity_by : (t u : Bool) (bs : List ℕ) (n c : ℕ) → begins ampersand bs ≡ t → begins number_sign (drop 1 bs) ≡ u → entity_at bs ≡ Some (n, c)
@@ -237,7 +259,7 @@ entity_by true true bs n c h h' e =
     let m = b.2 in
     record {
       ends = subst (EndsReference bs) (sym k)
-          (one_more 0 ampersand a.0 bs h refl (subst (EndsReference (drop 1 bs)) (sym m) (one_more 0 number_sign b.0 (drop 1 bs) h' refl f.0)));
+          (one_more ampersand a.0 bs h refl (subst (EndsReference (drop 1 bs)) (sym m) (one_more number_sign b.0 (drop 1 bs) h' refl f.0)));
       shorter = omega arith;
     }
 entity_by true false bs n c h h' e =
@@ -245,7 +267,7 @@ entity_by true false bs n c h h' e =
     let f = name_facts (drop 1 bs) a.0 c a.1 in
     let l = f.1 in
     let k = a.2 in
-    record { ends = subst (EndsReference bs) (sym k) (one_more 0 ampersand a.0 bs h refl f.0); shorter = omega arith }
+    record { ends = subst (EndsReference bs) (sym k) (one_more ampersand a.0 bs h refl f.0); shorter = omega arith }
 entity_by false u bs n c h h' e = let z : None ≡ Some (n, c) = rw h at e in cc
 
 pub entity_is_reference : (bs : List ℕ) (n c : ℕ) → entity_at bs ≡ Some (n, c) → IsReference bs n c

@@ -1,6 +1,5 @@
 -- Bounds on the value of digits.
-use Rattle.std.proofs.Common.{◌≡◌, ℕ, ◌+◌, ◌*◌, ◌<◌, ◌≤◌, ◌^◌, arith}
-use Rattle.std.proofs.lemmas.Nat.{pow-add}
+use Rattle.std.proofs.Common.{◌≡◌, ℕ, ◌+◌, ◌*◌, ◌<◌, ◌≤◌, ◌^◌, arith, pow-add}
 
 -- one more digit adds at most six bits
 pub six_bits : (v d i : ℕ) → v < 2 ^ (6 * i) → d ≤ 36 → v * 16 + d < 2 ^ (6 * (i + 1))

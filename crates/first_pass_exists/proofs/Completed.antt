@@ -1,21 +1,15 @@
 -- Open nodes can always be completed, and each text has a derivation.
 use Rattle.std.proofs.Common.{◌≡◌, ℕ, suc, Bool, false, List, [], ◌∷◌, length, refl, sym, subst, arith}
-use Rattle.first_pass_items.specs.declared.item.Item.{Item}
-use Rattle.first_pass_items.specs.declared.option_set.Options.{Options}
-use Rattle.first_pass_lines.specs.Places.{Place, lines_at}
+use Rattle.first_pass_grammar.proofs.Common.{Item, Options, Place, lines_at, Names, Extends, is_quote, Document, document, Continues, Line, level}
+use Rattle.first_pass_grammar.proofs.Common.{Remaining, Lines, InLine, onward, end_before, IsSequence, Before, nothing, after_container, before_end}
+use Rattle.first_pass_grammar.proofs.Common.{ItemsOf, Rows, any_gap, rows_of, Tables, Derives, no_tables, with_all_of, root_of, items_of, OneList}
+use Rattle.first_pass_grammar.proofs.Common.{Unfinished, Further, AreFurther, rows_beyond, rendered, Frame, InContainer, InList, InDefinitions}
+use Rattle.first_pass_grammar.proofs.Common.{definitions_open, containers_of, loosened, container_closed, Becomes, Completes}
 use Rattle.first_pass_grammar.specs.declared.kind.Container.{Container}
-use Rattle.first_pass_grammar.specs.Names.{Names, Extends}
-use Rattle.first_pass_grammar.specs.Containers.{is_quote}
-use Rattle.first_pass_grammar.specs.Leaves.{Document, document}
-use Rattle.first_pass_grammar.specs.Skeleton.{Continues, Line, level, Remaining, Lines, InLine, onward, end_before, IsSequence}
-use Rattle.first_pass_grammar.specs.Before.{Before, nothing, after_container, before_end}
-use Rattle.first_pass_grammar.specs.Rows.{ItemsOf, Rows, any_gap, rows_of}
-use Rattle.first_pass_grammar.specs.Derivation.{Tables, Derives, no_tables, with_all_of, root_of, items_of}
-use Rattle.first_pass_grammar.specs.Completion.{OneList, Unfinished, Further, AreFurther, rows_on, rows_beyond, rendered, Frame, InContainer, InList}
-use Rattle.first_pass_grammar.specs.Completion.{InDefinitions, definitions_open}
-use Rattle.first_pass_grammar.specs.Completion.{containers_of, loosened, container_closed, Becomes, Completes, CanGoOn, Completion}
-use Rattle.first_pass_exists.proofs.Found.{Found}
-use Rattle.first_pass_grammar.proofs.Names.MoreNames.{extends_none, extends_both}
+use Rattle.first_pass_grammar.specs.Completion.{rows_on}
+use Rattle.first_pass_grammar.specs.Completion.{CanGoOn, Completion}
+use Rattle.first_pass_exists.proofs.Found.{Found, found_also, found_then}
+use Rattle.first_pass_grammar.proofs.Names.MoreNames.{extends_none}
 use Rattle.first_pass_grammar.proofs.Sequences.Finishes.{containers-loosened}
 use Rattle.first_pass_exists.proofs.SequencesFound.{sequence_found}
 
@@ -34,30 +28,21 @@ further_found : (text : List ℕ) (options : Options) (names : Names) (path : Li
 unfolding AreFurther
 further_found text options names [] before from lines can =
     let s = sequence_found text options names (level [] before) from lines in
-    let all : s.left ≡ Lines [] = s.ends refl can in
-    record {
-      value = record { blocks = s.blocks; «end» = length text } ∷ [];
-      more = s.more;
-      extends = s.extends;
-      holds = λ later x. (subst (λ z. IsSequence (document text options later) s.blocks (level [] before) from lines z) all (s.is later x), refl);
-    }
+    let all : s.value.left ≡ Lines [] = s.value.ends refl can in
+    found_also s (record { blocks = s.value.blocks; «end» = length text } ∷ [])
+    (λ later is. (subst (λ z. IsSequence (document text options later) s.value.blocks (level [] before) from lines z) all is, refl))
 further_found text options names (c ∷ path) before from lines can =
-    let s = sequence_found text options names (level (c ∷ path) before) from lines in
+    let f = sequence_found text options names (level (c ∷ path) before) from lines in
+    let s = f.value in
     let now : Before = after_container c (before_end (is_quote c) before s.blocks) in
-    let outer = further_found text options s.more path now (onward s.left).0 (onward s.left).1 (onward_goes_on path s.left) in
-    record {
-      value = record { blocks = s.blocks; «end» = end_before (length text) path from s.left } ∷ outer.value;
-      more = outer.more;
-      extends = extends_both _ _ _ outer.extends s.extends;
-      holds = λ later x. (s.left, s.is later (extends_both _ _ _ x outer.extends), refl, outer.holds later x);
-    }
+    let outer = further_found text options f.more path now (onward s.left).0 (onward s.left).1 (onward_goes_on path s.left) in
+    found_also (found_then f outer) (record { blocks = s.blocks; «end» = end_before (length text) path from s.left } ∷ outer.value)
+    (λ later is. (s.left, is.0, refl, is.1))
 
 -- the state becomes a forest with these remaining parts
 length-loosened : (gap : Bool) (frames : List Frame) → length (loosened gap frames) ≡ length frames
-length-loosened gap [] = refl
 length-loosened gap (InContainer c ∷ frames) = refl
-length-loosened gap (InList byte loose ∷ frames) = refl
-length-loosened gap (InDefinitions loose ∷ frames) = refl
+length-loosened gap frames = refl
 
 becomes_some : (d : Document) (frames : List Frame) (places : List ℕ) (w : Unfinished) (further : List Further) (from : Continues) (lines : List Place)
     → length frames ≡ length places → AreFurther d (containers_of frames) w.before from lines further
@@ -112,15 +97,16 @@ pub text_derives : (text : List ℕ) (options : Options) (names : Names)
     → (more : Names) × (forest : List (ℕ × Item)) × (tables : Tables) × Extends more names × Derives (document text options more) forest tables
 text_derives text options names =
     let top = level [] nothing in
-    let s = sequence_found text options names top Line (lines_at 0 text) in
-    let all : s.left ≡ Lines [] = s.ends refl refl in (
-      s.more,
+    let f = sequence_found text options names top Line (lines_at 0 text) in
+    let s = f.value in
+    let is : IsSequence (document text options f.more) s.blocks top Line (lines_at 0 text) s.left = f.holds f.more (extends_none f.more) in (
+      f.more,
       root_of (length text) ∷ items_of 1 false (rows_of false nothing (length text) s.blocks),
       with_all_of no_tables s.blocks,
-      s.extends,
+      f.extends,
       record {
         skeleton = s.blocks;
-        sequence = subst (λ z. IsSequence (document text options s.more) s.blocks top Line (lines_at 0 text) z) all (s.is s.more (extends_none s.more));
+        sequence = subst (λ z. IsSequence (document text options f.more) s.blocks top Line (lines_at 0 text) z) (s.ends refl refl) is;
         forest_is = refl;
         tables_are = refl;
       },

@@ -1,49 +1,32 @@
 -- Something opens at each place where blocks continue; inside a container less of the text is left.
-use Rattle.std.proofs.Common.{◌≡◌, inl, inr, ℕ, suc, ◌-◌, ◌<◌, ◌≤◌, Bool, true, false, List, [], ◌∷◌, length, Option, Some, None, refl, sym, ap, arith, nat_lt}
-use Rattle.std.proofs.Common.{if◌then◌else◌, ◌+◌, ◌&&◌, drop, MatchOption}
-use Rattle.std.proofs.lemmas.Bool.{false≢true, and_parts}
-use Rattle.std.specs.Option.{option_map, option_and_then}
-use Rattle.std.specs.List.{prefix_len}
-use Rattle.std.proofs.lemmas.List.{length-drop}
-use Rattle.std.proofs.lemmas.List.Sums.{prefix_len-le-length}
-use Rattle.std.proofs.lemmas.Option.{none-some, same_Some}
-use Rattle.first_pass_items.specs.declared.item.Item.{Item}
-use Rattle.first_pass_items.specs.declared.option_set.Options.{Options}
-use Rattle.first_pass_items.specs.OptionWords.{has, tasklists, footnotes, gfm_footnotes}
-use Rattle.first_pass_items.specs.Bytes.{colon, left_bracket, circumflex}
-use Rattle.first_pass_links.specs.Footnotes.{begins_footnote_mark, head_after, footnote_head}
-use Rattle.first_pass_links.specs.Labels.{label_at}
-use Rattle.first_pass_grammar.specs.Footnotes.{footnote_prefix, footnote_at, footnote_head_at, label_bytes, place_past, past_head}
-use Rattle.first_pass_grammar.specs.LinkRuns.{lines_beyond}
-use Rattle.first_pass_exists.proofs.Found.{named_label}
-use Rattle.first_pass_lines.specs.Lines.{is_content, begins, is_white}
-use Rattle.first_pass_lines.specs.Rest.{Rest, indent, after_columns, past_bytes, past_quote}
-use Rattle.first_pass_lines.specs.Places.{Place, offset, start_of}
-use Rattle.first_pass_lines.proofs.PlaceFacts.{columns_shorter, quote_shorter}
-use Rattle.first_pass_scan.specs.Markers.{item_of, task_of, definition_of}
-use Rattle.first_pass_scan.proofs.MarkerPlaces.{IsMarked, item-marked, task-marked, definition-marked}
+use Rattle.std.proofs.Common.{◌≡◌, inl, inr, ℕ, suc, ◌-◌, ◌<◌, ◌≤◌, Bool, true, false, List, [], ◌∷◌, length, Option, Some, None, refl, sym, ap, arith}
+use Rattle.std.proofs.Common.{nat_lt, if◌then◌else◌, ◌+◌, ◌&&◌, drop, MatchOption, option_and_then, length-drop}
+use Rattle.first_pass_grammar.proofs.Common.{false≢true, and_parts, prefix_len, prefix_len-le-length, none-some, cond_some, Item, Options, has, footnotes}
+use Rattle.first_pass_grammar.proofs.Common.{gfm_footnotes, colon, left_bracket, circumflex, begins_footnote_mark, head_after, footnote_head, label_at}
+use Rattle.first_pass_grammar.proofs.Common.{footnote_prefix, footnote_at, footnote_head_at, label_bytes, place_past, past_head, lines_beyond, is_content}
+use Rattle.first_pass_grammar.proofs.Common.{begins, is_white, Rest, indent, after_columns, past_bytes, past_quote, Place, offset, start_of, some_if}
+use Rattle.first_pass_grammar.proofs.Common.{some_mapped, columns_shorter, item_of, definition_of, IsMarked, item-marked, definition-marked, Names, Context}
+use Rattle.first_pass_grammar.proofs.Common.{context, at_rest, prefix, front, footnote_columns, all_taken, unindented, is_blank_rest, is_ordinary_after_tag}
+use Rattle.first_pass_grammar.proofs.Common.{definition_marker_at, Document, document, around, leaf_block, FootnoteMarker, Head, opened, Continues, Line}
+use Rattle.first_pass_grammar.proofs.Common.{AtPlace, Anything, OnlyALeaf, TextOf, OnlyMark, Inside, after_marker, Opening, OpensNode, next_is_blank}
+use Rattle.first_pass_grammar.proofs.Common.{only_task, after_tag, Opens, Level, may_define, OpensBy, OpensFootnote, task_after, Start, start_at}
+use Rattle.first_pass_grammar.proofs.Common.{opening_by, opening_of}
+use Rattle.first_pass_exists.proofs.Found.{named_label, found_also, found_here}
+use Rattle.first_pass_lines.proofs.PlaceFacts.{quote_shorter}
 use Rattle.first_pass_grammar.specs.declared.kind.Container.{Container}
 use Rattle.first_pass_grammar.specs.declared.kind.Container.TheVariants.{BlockQuote}
-use Rattle.first_pass_grammar.specs.Names.{Names}
-use Rattle.first_pass_grammar.specs.Containers.{Context, context, at_rest, prefix, front, footnote_columns}
-use Rattle.first_pass_grammar.specs.Kinds.{Paragraph, all_taken, unindented, is_blank_rest, item_at, is_ordinary_after_tag, definition_marker_at}
-use Rattle.first_pass_grammar.specs.Leaves.{Document, document, around}
-use Rattle.first_pass_grammar.specs.Blocks.{leaf_block, FootnoteMarker, Head, opened}
-use Rattle.first_pass_grammar.specs.Skeleton.{Continues, Line, AtPlace, Allowed, Anything, OnlyALeaf, TextOf, OnlyMark, Inside, after_marker, Opening}
-use Rattle.first_pass_grammar.specs.Skeleton.{OpensNode, next_is_blank, only_task, after_tag, Opens, OpensIf, Level, may_define, OpensBy, OpensFootnote}
-use Rattle.first_pass_grammar.specs.Openers.{task_by, task_after, Start, start_at}
-use Rattle.first_pass_grammar.specs.Skeleton.{footnote_opening, opening_by, opening_of, without_indent}
-use Rattle.first_pass_exists.proofs.KindsFound.{IsShorter, only_leads, leads_leaf, reach, Shrinks, Leads, leads_text, leads_block}
+use Rattle.first_pass_grammar.specs.Kinds.{Paragraph, item_at}
+use Rattle.first_pass_grammar.specs.Skeleton.{Allowed}
+use Rattle.first_pass_grammar.specs.Skeleton.{OpensIf}
+use Rattle.first_pass_grammar.specs.Skeleton.{footnote_opening, without_indent}
+use Rattle.first_pass_exists.proofs.KindsFound.{IsShorter, leads_leaf, reach, Shrinks, Leads, leads_text, leads_block}
 use Rattle.first_pass_grammar.specs.declared.kind.AfterMarker.{AfterMarker}
 use Rattle.first_pass_grammar.specs.declared.kind.AfterMarker.TheVariants.{OnLine, TaskText, LineEnds, OnlyTag}
 use Rattle.first_pass_grammar.proofs.Sequences.OpenerFacts.{start_cases}
 use Rattle.first_pass_exists.proofs.RunsFound.{beyond_shorter}
+use Rattle.first_pass_grammar.proofs.Sequences.PlacesKept.{task_follows}
 
 -- after a marker, less of the line is left
-mapped_to : {A B : Type 0} (f : A → B) (o : Option A) (y : B) → option_map f o ≡ Some y → (x : A) × (o ≡ Some x) × (f x ≡ y)
-mapped_to f None y h = absurd (none-some y h)
-mapped_to f (Some x) y h = (x, refl, same_Some (f x) y h)
-
 marked_shorter : (r s : Rest) → IsMarked r s → length s.left < length r.left
 marked_shorter r s m =
     let some = m.some in
@@ -55,49 +38,31 @@ marked_shorter r s m =
     let same = ap (λ (q : Rest). length q.left) m.same in
     omega arith
 
-item_shorter_by : (t : Bool) (r : Rest) (item : (ℕ × ℕ × ℕ) × Rest) → (if t then item_of (indent r) (all_taken r) else None) ≡ Some item
-    → length item.1.left < length r.left
-item_shorter_by true r item h =
-    let marked = marked_shorter (all_taken r) item.1 (item-marked (indent r) (all_taken r) item h) in
+marked_if : {A : Type 0} (t : Bool) (r : Rest) (rest : A → Rest) (o : Option A) (x : A) → (o ≡ Some x → IsMarked (all_taken r) (rest x))
+    → (if t then o else None) ≡ Some x → length (rest x).left < length r.left
+marked_if true r rest o x marked h =
+    let less = marked_shorter (all_taken r) (rest x) (marked h) in
     let all = columns_shorter (indent r) r in
     omega arith
-item_shorter_by false r item h = absurd (none-some item h)
+marked_if false r rest o x marked h = absurd (none-some x h)
 
 item_shorter : (r : Rest) (item : (ℕ × ℕ × ℕ) × Rest) → item_at r ≡ Some item → length item.1.left < length r.left
 unfolding item_at
-item_shorter r item h = item_shorter_by (nat_lt (indent r) 4) r item h
-
-marker_shorter_by : (t : Bool) (r : Rest) (marker : ℕ × Rest) → (if t then definition_of (indent r) (all_taken r) else None) ≡ Some marker
-    → length marker.1.left < length r.left
-marker_shorter_by true r marker h =
-    let marked = marked_shorter (all_taken r) marker.1 (definition-marked (indent r) (all_taken r) marker h) in
-    let all = columns_shorter (indent r) r in
-    omega arith
-marker_shorter_by false r marker h = absurd (none-some marker h)
+item_shorter r item h = marked_if (nat_lt (indent r) 4) r (λ i. i.1) (item_of (indent r) (all_taken r)) item (item-marked (indent r) (all_taken r) item) h
 
 marker_shorter : (r : Rest) (marker : ℕ × Rest) → definition_marker_at r ≡ Some marker → length marker.1.left < length r.left
 unfolding definition_marker_at
-marker_shorter r marker h = marker_shorter_by (nat_lt (indent r) 4) r marker h
-
-task_shorter_by : (line : ℕ) (r : Rest) (o : Option (Bool × Rest)) → ((task : Bool × Rest) → o ≡ Some task → length task.1.left ≤ length r.left)
-    → length (task_by line r o).1.left ≤ length r.left
-task_shorter_by line r None f = omega arith
-task_shorter_by line r (Some task) f = f task refl
-
-task_if : (t : Bool) (r : Rest) (task : Bool × Rest) → (if t then task_of r else None) ≡ Some task → length task.1.left ≤ length r.left
-task_if true r task h =
-    let marked = marked_shorter (after_columns 3 r) task.1 (task-marked r task h) in
-    let three = columns_shorter 3 r in
-    omega arith
-task_if false r task h = absurd (none-some task h)
+marker_shorter r marker h =
+    marked_if (nat_lt (indent r) 4) r (λ m. m.1) (definition_of (indent r) (all_taken r)) marker (definition-marked (indent r) (all_taken r) marker) h
 
 task_shorter : (options : Options) (line : ℕ) (r : Rest) → length (task_after options line r).1.left ≤ length r.left
-task_shorter options line r = task_shorter_by line r (if has options tasklists then task_of r else None) (task_if (has options tasklists) r)
+task_shorter options line r =
+    let (n, left, taken) = task_follows options line r in let same = ap length left in let fewer = length-drop n r.left in omega arith
 
 quote_shorter_by : (r inside : Rest) → prefix (BlockQuote None) r ≡ Some inside → length inside.left < length r.left
 unfolding prefix
 quote_shorter_by r inside h =
-    let marker = mapped_to (after_columns 1) (past_quote (after_columns 3 r)) inside h in
+    let marker = some_mapped (after_columns 1) (past_quote (after_columns 3 r)) inside h in
     let three = columns_shorter 3 r in
     let one = columns_shorter 1 marker.0 in
     let quote = quote_shorter (after_columns 3 r) marker.0 marker.1 in
@@ -164,22 +129,14 @@ leads_by text options names path p lines None less = leads_block text options na
 leads_by text options names path p lines (Some s) less =
     let d : Document = document text options names in
     let shorter = less s refl in
-    only_leads (opening_of d path p lines s) (λ later. refl)
-    (start_shrinks d (length p.rest.left) path s.head (at_rest p s.rest) lines s.after (omega arith))
+    found_here (opening_of d path p lines s)
+    (λ later. (start_shrinks d (length p.rest.left) path s.head (at_rest p s.rest) lines s.after (omega arith), refl))
 
 -- a footnote definition: less of the text is left after its head
-begun_head : (bs : List ℕ) (t : Bool) (o : Option (ℕ × List ℕ)) (head : ℕ × List ℕ) → (if t then o else None) ≡ Some head
-    → (t ≡ true) × (o ≡ Some head)
-begun_head bs true o head h = (refl, h)
-begun_head bs false o head h = absurd (none-some head h)
-
-head_size_if : (t : Bool) (label head : ℕ × List ℕ) → (if t then Some (label.0 + 3, label.1) else None) ≡ Some head → 0 < head.0
-head_size_if true label head h = let size = ap (λ (z : ℕ × List ℕ). z.0) (same_Some (label.0 + 3, label.1) head h) in omega arith
-head_size_if false label head h = absurd (none-some head h)
-
 head_size : (bs : List ℕ) (o : Option (ℕ × List ℕ)) (head : ℕ × List ℕ) → option_and_then (head_after bs) o ≡ Some head → 0 < head.0
 head_size bs None head h = absurd (none-some head h)
-head_size bs (Some label) head h = head_size_if (begins colon (drop label.0 bs)) label head h
+head_size bs (Some label) head h =
+    let size = ap (λ (z : ℕ × List ℕ). z.0) (cond_some (begins colon (drop label.0 bs)) (label.0 + 3, label.1) head h).1 in omega arith
 
 some_bytes : (b : ℕ) (bs : List ℕ) → begins b bs ≡ true → 0 < length bs
 some_bytes b [] h = absurd (false≢true h)
@@ -189,7 +146,7 @@ head_shorter_by : (prefix : List ℕ → Option ℕ) (bs : List ℕ) (head : ℕ
     → length (drop head.0 bs) < length bs
 unfolding footnote_head
 head_shorter_by prefix bs head h =
-    let begun = begun_head bs (begins_footnote_mark bs) (option_and_then (head_after (drop 2 bs)) (label_at prefix false (drop 2 bs))) head h in
+    let begun = some_if (begins_footnote_mark bs) (option_and_then (head_after (drop 2 bs)) (label_at prefix false (drop 2 bs))) head h in
     let size = head_size (drop 2 bs) (label_at prefix false (drop 2 bs)) head begun.1 in
     let some = some_bytes left_bracket bs (and_parts (begins left_bracket bs) (begins circumflex (drop 1 bs)) begun.0).0 in
     let left = length-drop head.0 bs in
@@ -199,7 +156,7 @@ head_shorter : (c : Context) (p : Place) (head : ℕ × List ℕ) → footnote_h
     → length (drop head.0 (unindented p).rest.left) < length p.rest.left
 unfolding footnote_head_at
 head_shorter c p head h =
-    let found = (begun_head (unindented p).rest.left (has c.options footnotes && nat_lt (indent p.rest) 4)
+    let found = (some_if (has c.options footnotes && nat_lt (indent p.rest) 4)
     (footnote_at false c (unindented p).rest.left) head h).1 in
     let less = head_shorter_by (footnote_prefix c) (unindented p).rest.left head found in
     let all = columns_shorter (indent p.rest) p.rest in
@@ -224,15 +181,12 @@ leads_footnote : (text : List ℕ) (options : Options) (names : Names) (most : �
 unfolding OpensFootnote
 leads_footnote text options names most p lines (size, label) less =
     let ix = named_label names (label_bytes size (unindented p).rest.left) label in
-    let d : Document = document text options names in
     let q : Place = place_past size (unindented p) in
-    record {
-      opening = footnote_opening d p lines size (FootnoteMarker (footnote_columns options) ix.value label);
-      more = ix.more;
-      extends = ix.extends;
-      opens = λ later x. (ix.value, ix.holds later x, refl);
-      shrinks = after_shorter most (gfm_footnotes options) q (lines_beyond (offset q) lines) lines (omega arith) (beyond_shorter (offset q) lines);
-    }
+    found_also ix (footnote_opening (document text options names) p lines size (FootnoteMarker (footnote_columns options) ix.value label))
+    (λ later is. (
+      after_shorter most (gfm_footnotes options) q (lines_beyond (offset q) lines) lines (omega arith) (beyond_shorter (offset q) lines),
+      (ix.value, is, refl),
+    ))
 
 leads_head : (text : List ℕ) (options : Options) (names : Names) (l : Level) (p : Place) (lines : List Place) (o : Option (ℕ × List ℕ))
     → ((head : ℕ × List ℕ) → o ≡ Some head → length (drop head.0 (unindented p).rest.left) < length p.rest.left)
@@ -255,4 +209,4 @@ leads_if text options names l Anything p lines = leads_any text options names l 
 leads_if text options names l OnlyALeaf p lines = leads_block text options names (length p.rest.left) l.path p lines
 leads_if text options names l (TextOf marker) p lines = leads_text text options names (length p.rest.left) l.path p lines (Some marker)
 leads_if text options names l (OnlyMark marker blanks) p lines =
-    leads_leaf (leaf_block Paragraph p ((0, marker) ∷ []) false) lines (λ later. refl) (omega arith)
+    leads_leaf (length p.rest.left) lines (leaf_block Paragraph p ((0, marker) ∷ []) false) lines (λ later. refl) (omega arith)

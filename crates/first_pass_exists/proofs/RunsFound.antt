@@ -1,12 +1,8 @@
 -- From each place on there is a run of link reference definitions, which may be empty.
 use Rattle.std.proofs.Common.{◌≡◌, inl, inr, ℕ, zero, suc, ◌≤◌, Bool, true, false, nat_lt, List, [], ◌∷◌, length, Option, Some, None, refl, ap, ◌∙◌, arith}
-use Rattle.std.proofs.Common.{if◌then◌else◌}
-use Rattle.std.proofs.lemmas.Bool.{true≢false}
-use Rattle.first_pass_lines.specs.Places.{Place}
-use Rattle.first_pass_grammar.specs.Containers.{Context, at_rest, front}
-use Rattle.first_pass_grammar.specs.Kinds.{unindented}
-use Rattle.first_pass_grammar.specs.LinkTables.{LinkEntry}
-use Rattle.first_pass_grammar.specs.LinkRuns.{link_definition_at, lines_beyond, ends_run, Beyond, Ended, FlowsOn, IsRun}
+use Rattle.std.proofs.Common.{if◌then◌else◌, true≢false}
+use Rattle.first_pass_grammar.proofs.Common.{Place, Context, at_rest, front, unindented, LinkEntry, link_definition_at, lines_beyond, ends_run, Beyond}
+use Rattle.first_pass_grammar.proofs.Common.{Ended, FlowsOn, IsRun}
 
 shorter_by : (e : ℕ) (line : Place) (lines : List Place) (t : Bool)
     → length (lines_beyond e lines) ≤ length lines → length (if t then lines_beyond e lines else line ∷ lines) ≤ length (line ∷ lines)

@@ -1,43 +1,36 @@
 -- From each place on there is a sequence of blocks, so open nodes can be completed and each text has a derivation.
 use Rattle.std.proofs.Common.{◌≡◌, inl, inr, ℕ, zero, suc, ◌<◌, ◌≤◌, List, [], ◌∷◌, length, Some, None, refl, ap, subst, arith}
-use Rattle.first_pass_items.specs.declared.option_set.Options.{Options}
-use Rattle.first_pass_lines.specs.Places.{Place}
+use Rattle.first_pass_grammar.proofs.Common.{Options, Place, Names, document, Leaf, Head, opened, Skeleton, Nil, Then, Node, Continues, Line, Blanks}
+use Rattle.first_pass_grammar.proofs.Common.{AtPlace, OnlyMark, Opening, OpensLeaf, OpensNode, OpensAt, Level, level, level_in, level_after_leaf}
+use Rattle.first_pass_grammar.proofs.Common.{level_after, Remaining, Lines, InLine, NextBlock, Begins, Ends, next_block, onward, after_first, only_blanks}
+use Rattle.first_pass_grammar.proofs.Common.{end_before, IsFirst, IsSequence, Inside}
 use Rattle.first_pass_grammar.specs.declared.kind.Container.{Container}
-use Rattle.first_pass_grammar.specs.Names.{Names, Extends}
-use Rattle.first_pass_grammar.specs.Leaves.{document}
-use Rattle.first_pass_grammar.specs.Blocks.{Leaf, Head, opened, Skeleton, Nil, Then, Node}
-use Rattle.first_pass_grammar.specs.Skeleton.{Continues, Line, Blanks, AtPlace, Anything, OnlyALeaf, TextOf, OnlyMark, Opening, OpensLeaf, OpensNode, OpensAt}
-use Rattle.first_pass_grammar.specs.Skeleton.{Level, level, level_in, level_after_leaf, level_after, Remaining, Lines, InLine, NextBlock, Begins, Ends}
-use Rattle.first_pass_grammar.specs.Skeleton.{next_block, onward, after_first, only_blanks, end_before, IsFirst, IsSequence}
 use Rattle.first_pass_grammar.proofs.Sequences.Goings.{BeginsAt, LeavesAt, begins_at, leaves_at, all_taken_at}
-use Rattle.first_pass_grammar.proofs.Names.MoreNames.{extends_none, extends_both}
-use Rattle.first_pass_exists.proofs.KindsFound.{reach, IsShorter, Shrinks, Leads, leads_also}
+use Rattle.first_pass_grammar.proofs.Names.MoreNames.{extends_none}
+use Rattle.first_pass_exists.proofs.KindsFound.{reach, IsShorter, Shrinks, Leads}
 use Rattle.first_pass_exists.proofs.OpeningsFound.{leads_any, leads_if}
+use Rattle.first_pass_exists.proofs.Found.{Found, found_also, found_here, found_then}
 
 -- Where blocks continue around a container that leaves this, no more of the text is left than before.
 abbrev IsNoMore : Continues → List Place → Remaining → Type 0
 IsNoMore from lines left = IsShorter (reach from) lines (onward left).0 (onward left).1
 
--- Blocks from a place on, under names that extend these and under all names that extend those. At the top they take
--- all lines, unless only blank lines are taken.
-pub record SequenceFrom (text : List ℕ) (options : Options) (names : Names) (l : Level) (from : Continues) (lines : List Place) : Type 0 where
+-- Blocks from a place on. At the top they take all lines, unless only blank lines are taken.
+pub record Sequence (l : Level) (from : Continues) (lines : List Place) : Type 0 where
   pub blocks : Skeleton
   pub left : Remaining
-  pub more : Names
-  pub extends : Extends more names
-  pub is : (later : Names) → Extends later more → IsSequence (document text options later) blocks l from lines left
   pub shorter : IsNoMore from lines left
   pub ends : l.path ≡ [] → only_blanks from ≡ None → left ≡ Lines []
 
+abbrev pub SequenceFrom : List ℕ → Options → Names → Level → Continues → List Place → Type 0
+SequenceFrom text options names l from lines =
+    Found names (Sequence l from lines) (λ later s. IsSequence (document text options later) s.blocks l from lines s.left)
+
 -- where blocks continue after a first block
 reach_after : (from there : Continues) → reach (after_first from there) ≤ reach there
-reach_after Line there = omega arith
-reach_after (Blanks e) there = omega arith
-reach_after (AtPlace p Anything) there = omega arith
-reach_after (AtPlace p OnlyALeaf) there = omega arith
-reach_after (AtPlace p (TextOf marker)) there = omega arith
 reach_after (AtPlace p (OnlyMark marker None)) there = omega arith
 reach_after (AtPlace p (OnlyMark marker (Some e))) there = omega arith
+reach_after from there = omega arith
 
 alone_after : (from there : Continues) → only_blanks from ≡ None → only_blanks there ≡ None → only_blanks (after_first from there) ≡ None
 alone_after (Blanks e) there h k = h
@@ -61,17 +54,6 @@ shorter_both most lines left further there then (less, inl near) (less', inl nea
 shorter_both most lines left further there then (less, inl near) (less', inr fewer) = (omega arith, inr (omega arith))
 shorter_both most lines left further there then (less, inr fewer) (less', near) = (omega arith, inr (omega arith))
 
--- if less is left than where a block begins, then less is left than where the block was looked for
-shorter_from : (path : List Container) (from there : Continues) (lines following left : List Place) (p : Place) → BeginsAt path from lines p following
-    → IsShorter (length p.rest.left) following there left → IsShorter (reach from) lines there left
-shorter_from path Line there [] following left p begins s = absurd begins
-shorter_from path Line there (line ∷ lines) following left p (is, same) (less, near) = let n = ap length same in (omega arith, inr (omega arith))
-shorter_from path (Blanks e) there [] following left p begins s = absurd begins
-shorter_from path (Blanks e) there (line ∷ lines) following left p (is, same) (less, near) = let n = ap length same in (omega arith, inr (omega arith))
-shorter_from path (AtPlace q may) there lines following left p (is, same) (less, inl near) =
-    let n = ap length same in let m = ap (λ (z : Place). length z.rest.left) is in (omega arith, inl (omega arith))
-shorter_from path (AtPlace q may) there lines following left p (is, same) (less, inr fewer) = let n = ap length same in (omega arith, inr (omega arith))
-
 -- a sequence without blocks
 no_more_at : (path : List Container) (from : Continues) (lines following : List Place) (p : Place) → BeginsAt path from lines p following
     → IsNoMore from lines (InLine p following)
@@ -81,6 +63,17 @@ no_more_at path (Blanks e) [] following p begins = absurd begins
 no_more_at path (Blanks e) (line ∷ lines) following p (is, same) = let n = ap length same in (omega arith, inr (omega arith))
 no_more_at path (AtPlace q may) lines following p (is, same) =
     let n = ap length same in let m = ap (λ (z : Place). length z.rest.left) is in (omega arith, inl (omega arith))
+
+-- if less is left than where a block begins, then less is left than where the block was looked for
+reach_more : (most : ℕ) (lines left : List Place) (there : Continues) → IsShorter most lines there left → IsShorter (suc most) lines there left
+reach_more most lines left there (less, inl near) = (less, inl (omega arith))
+reach_more most lines left there (less, inr fewer) = (less, inr fewer)
+
+shorter_from : (path : List Container) (from there : Continues) (lines following left : List Place) (p : Place) → BeginsAt path from lines p following
+    → IsShorter (length p.rest.left) following there left → IsShorter (reach from) lines there left
+shorter_from path from there lines following left p begins s =
+    shorter_both (reach from) lines following left (Inside p) there (no_more_at path from lines following p begins)
+    (reach_more (length p.rest.left) following left there s)
 
 no_more : (path : List Container) (from : Continues) (lines : List Place) (left : Remaining) → LeavesAt path from lines left → IsNoMore from lines left
 no_more path from lines (Lines left) same = let n = ap length same in (omega arith, inl (omega arith))
@@ -102,19 +95,13 @@ module _ (text : List ℕ) (options : Options) where
   Others most lines =
       (names : Names) (l : Level) (from : Continues) (left : List Place) → IsShorter most lines from left → SequenceFrom text options names l from left
 
-  -- the first block from here on, under all names that extend these
-  abbrev AreFirst : Names → Level → Continues → List Place → Opening → Type 0
-  AreFirst names l from lines o = (later : Names) → Extends later names → IsFirst (document text options later) l from lines o
-
-  -- A first block opens at a place, under names that extend these. After its opening less of the text is left.
+  -- A first block opens at a place. After its opening less of the text is left.
   record FirstOpens (names : Names) (l : Level) (from : Continues) (lines : List Place) (o : Opening) : Type 0 where
     place : Place
     following : List Place
     begins : BeginsAt l.path from lines place following
-    more : Names
-    extends : Extends more names
-    opens : AreFirst more l from lines o
     shrinks : Shrinks (length place.rest.left) following o
+    opens : Found names (Unit {0}) (λ later u. IsFirst (document text options later) l from lines o)
 
   leaf_first : (names : Names) (l : Level) (from there : Continues) (lines left : List Place) (leaf : Leaf)
       → (first : FirstOpens names l from lines (OpensLeaf leaf there left)) → Others (length first.place.rest.left) first.following
@@ -125,17 +112,15 @@ module _ (text : List ℕ) (options : Options) where
       let following : List Place = first.following in
       let next : Continues = after_first from there in
       let now = shorter_after most following left from there first.shrinks.0 in
-      let rest = others first.more (level_after_leaf l leaf) next left now in
-      record {
-        blocks = Then leaf rest.blocks;
-        left = rest.left;
-        more = rest.more;
-        extends = extends_both _ _ _ rest.extends first.extends;
-        is = λ later x. (there, left, first.opens later (extends_both _ _ _ x rest.extends), rest.is later x);
-        shorter = shorter_from l.path from (onward rest.left).0 lines following (onward rest.left).1 first.place first.begins
-            (shorter_both most following left (onward rest.left).1 next (onward rest.left).0 now rest.shorter);
-        ends = λ top h. rest.ends top (alone_after from there h first.shrinks.1);
-      }
+      let rest = others first.opens.more (level_after_leaf l leaf) next left now in
+      let s = rest.value in
+      found_also (found_then first.opens rest) (record {
+        blocks = Then leaf s.blocks;
+        left = s.left;
+        shorter = shorter_from l.path from (onward s.left).0 lines following (onward s.left).1 first.place first.begins
+            (shorter_both most following left (onward s.left).1 next (onward s.left).0 now s.shorter);
+        ends = λ top h. s.ends top (alone_after from there h first.shrinks.1);
+      }) (λ later is. (there, left, is.0, is.1))
 
   node_first : (names : Names) (l : Level) (from inside : Continues) (lines kids : List Place) (head : Head)
       → (first : FirstOpens names l from lines (OpensNode head inside kids)) → Others (length first.place.rest.left) first.following
@@ -144,25 +129,21 @@ module _ (text : List ℕ) (options : Options) where
   node_first names l from inside lines kids head first others =
       let most : ℕ = length first.place.rest.left in
       let following : List Place = first.following in
-      let inner = others first.more (level_in (opened head.opener) l) inside kids first.shrinks in
-      let there : Continues = (onward inner.left).0 in
-      let left : List Place = (onward inner.left).1 in
+      let inner = others first.opens.more (level_in (opened head.opener) l) inside kids first.shrinks in
+      let i = inner.value in
+      let there : Continues = (onward i.left).0 in
+      let left : List Place = (onward i.left).1 in
       let next : Continues = after_first from there in
-      let now = shorter_after most following left from there (shorter_both most following kids left inside there first.shrinks inner.shorter) in
-      let rest = others inner.more (level_after l head inner.blocks) next left now in
-      let extends_more = extends_both _ _ _ rest.extends inner.extends in
-      record {
-        blocks = Node head (end_before (length text) l.path inside inner.left) inner.blocks rest.blocks;
-        left = rest.left;
-        more = rest.more;
-        extends = extends_both _ _ _ extends_more first.extends;
-        is = λ later x.
-            let opens = first.opens later (extends_both _ _ _ x extends_more) in
-            (inside, kids, inner.left, opens, inner.is later (extends_both _ _ _ x rest.extends), refl, rest.is later x);
-        shorter = shorter_from l.path from (onward rest.left).0 lines following (onward rest.left).1 first.place first.begins
-            (shorter_both most following left (onward rest.left).1 next (onward rest.left).0 now rest.shorter);
-        ends = λ top h. rest.ends top (alone_after from there h (alone_onward inner.left));
-      }
+      let now = shorter_after most following left from there (shorter_both most following kids left inside there first.shrinks i.shorter) in
+      let rest = others inner.more (level_after l head i.blocks) next left now in
+      let s = rest.value in
+      found_also (found_then (found_then first.opens inner) rest) (record {
+        blocks = Node head (end_before (length text) l.path inside i.left) i.blocks s.blocks;
+        left = s.left;
+        shorter = shorter_from l.path from (onward s.left).0 lines following (onward s.left).1 first.place first.begins
+            (shorter_both most following left (onward s.left).1 next (onward s.left).0 now s.shorter);
+        ends = λ top h. s.ends top (alone_after from there h (alone_onward i.left));
+      }) (λ later is. (inside, kids, i.left, is.0.0, is.0.1, refl, is.1))
 
   opening_first : (names : Names) (l : Level) (from : Continues) (lines : List Place) (o : Opening) → (first : FirstOpens names l from lines o)
       → Others (length first.place.rest.left) first.following → SequenceFrom text options names l from lines
@@ -178,32 +159,25 @@ module _ (text : List ℕ) (options : Options) where
   first_block : (names : Names) (l : Level) (from : Continues) (lines following : List Place) (p : Place) → next_block options l from lines ≡ Begins p following
       → Others (length p.rest.left) following → SequenceFrom text options names l from lines
   first_block names l from lines following p is others =
-      let leads : Leads names (length p.rest.left) following (λ later o. IsFirst (document text options later) l from lines o) =
-      leads_also (leads_at names l from p following) (λ later o opens. record { place = p; following = following; begins = is; opens = opens }) in
-      let first : FirstOpens names l from lines leads.opening = record {
+      let leads = leads_at names l from p following in
+      opening_first names l from lines leads.value (record {
         place = p;
         following = following;
         begins = begins_at options l from lines p following is;
-        more = leads.more;
-        extends = leads.extends;
-        opens = leads.opens;
-        shrinks = leads.shrinks;
-      } in
-      opening_first names l from lines leads.opening first others
+        shrinks = (leads.holds leads.more (extends_none leads.more)).0;
+        opens = found_also leads tt (λ later h. record { place = p; following = following; begins = is; opens = h.1 });
+      }) others
 
   -- a sequence without blocks
   no_block : (names : Names) (l : Level) (from : Continues) (lines : List Place) (left : Remaining) → next_block options l from lines ≡ Ends left
       → SequenceFrom text options names l from lines
   unfolding IsSequence
-  no_block names l from lines left is = record {
+  no_block names l from lines left is = found_here (record {
     blocks = Nil;
     left = left;
-    more = names;
-    extends = extends_none names;
-    is = λ later x. is;
     shorter = no_more l.path from lines left (leaves_at options l from lines left is);
     ends = λ top h. all_taken_at options l.before from lines left (subst (λ p. next_block options (level p l.before) from lines ≡ Ends left) top is) h;
-  }
+  }) (λ later. is)
 
   -- At most this much of the text is left. From each place with less left, blocks are found.
   record LessIsFound (from : Continues) (lines : List Place) : Type 0 where
@@ -215,26 +189,19 @@ module _ (text : List ℕ) (options : Options) where
     nearer : Nearer most_lines most_reach
 
   -- blocks, by how much of the text is left
-  others_at : (path : List Container) (from : Continues) (lines following : List Place) (p : Place) → BeginsAt path from lines p following
-      → LessIsFound from lines → Others (length p.rest.left) following
-  others_at path Line [] following p begins f names l there left less = absurd begins
-  others_at path Line (line ∷ lines) following p (is, same) f names l there left (bound, less) =
-      let m = ap length same in f.fewer names l there left (omega (arith, f.within))
-  others_at path (Blanks e) [] following p begins f names l there left less = absurd begins
-  others_at path (Blanks e) (line ∷ lines) following p (is, same) f names l there left (bound, less) =
-      let m = ap length same in f.fewer names l there left (omega (arith, f.within))
-  others_at path (AtPlace q may) lines following p (is, same) f names l there left (bound, inl less) =
-      let m = ap length same in
-      let r = ap (λ (z : Place). length z.rest.left) is in
+  others_at : (from : Continues) (lines following : List Place) (p : Place) → IsNoMore from lines (InLine p following) → LessIsFound from lines
+      → Others (length p.rest.left) following
+  others_at from lines following p (less, inl near) f names l there left (bound, inl nearer) =
       f.nearer names l there left (omega (arith, f.within)) (omega (arith, f.near))
-  others_at path (AtPlace q may) lines following p (is, same) f names l there left (bound, inr fewest) =
-      let m = ap length same in f.fewer names l there left (omega (arith, f.within))
+  others_at from lines following p (less, inl near) f names l there left (bound, inr fewest) = f.fewer names l there left (omega (arith, f.within))
+  others_at from lines following p (less, inr fewer) f names l there left (bound, shorter) = f.fewer names l there left (omega (arith, f.within))
 
   goes : (names : Names) (l : Level) (from : Continues) (lines : List Place) (g : NextBlock) → next_block options l from lines ≡ g
       → LessIsFound from lines → SequenceFrom text options names l from lines
   goes names l from lines (Ends left) is f = no_block names l from lines left is
   goes names l from lines (Begins p following) is f =
-      first_block names l from lines following p is (others_at l.path from lines following p (begins_at options l from lines p following is) f)
+      let less = no_more_at l.path from lines following p (begins_at options l from lines p following is) in
+      first_block names l from lines following p is (others_at from lines following p less f)
 
   nearer_by : (n k : ℕ) → Fewer n → Nearer n k → Nearer n (suc k)
   nearer_by n k fewer nearer names l from lines within near =

@@ -1,5 +1,6 @@
 -- Punctuation among the ASCII characters.
-use Rattle.std.proofs.Common.{◌≡◌, ℕ, ◌<◌, Bool, true, false, ◌||◌, refl, sym, true≢false}
+use Rattle.std.proofs.Common.{◌≡◌, ℕ, ◌<◌, Bool, true, not, cond, ◌||◌, refl, arith}
+use Rattle.std.proofs.lemmas.Bool.Decides.{nat_tests}
 use Rattle.std.specs.Char.{is_ascii_punctuation}
 use Rattle.ucd_table.proofs.Computing.{tables}
 use Rattle.ucd_table.proofs.Facts.{Stepped-below}
@@ -10,19 +11,11 @@ use Rattle.ucd_category.proofs.GeneralCategoryLemmas.{general_category_stepped}
 use Rattle.first_pass_flank.specs.Flank.{is_punctuation}
 
 -- two truth values are equal
-abbrev same : Bool → Bool → Bool
-same true b = b
-same false true = false
-same false false = true
-
-same_equal : (a b : Bool) → same a b ≡ true → a ≡ b
-same_equal true true h = refl
-same_equal false false h = refl
-same_equal false true h = absurd (true≢false (sym h))
-same_equal true false h = absurd (true≢false (sym h))
+same_equal : (a b : Bool) → cond a b (not b) ≡ true → a ≡ b
+same_equal a b h = grind (arith, nat_tests, h)
 
 pub punctuation_in_ascii : (c : ℕ) → c < 128 → is_punctuation c ≡ is_ascii_punctuation c
 unfolding tables general_category_stepped is_punctuation
 punctuation_in_ascii c h =
     same_equal _ _ (Stepped-below general_category general_category_stepped
-    (λ x v. same (in_group Punctuation v || in_group Symbol v) (is_ascii_punctuation x)) 128 refl c h)
+    (λ x v. cond (in_group Punctuation v || in_group Symbol v) (is_ascii_punctuation x) (not (is_ascii_punctuation x))) 128 refl c h)

@@ -1,10 +1,9 @@
 -- Facts on the characters beside a delimiter run.
 use Rattle.std.proofs.Common.{Bool, true, false, not, cond, ◌&&◌, ◌||◌, ◌≡◌, ℕ, ◌-◌, List, [], ◌∷◌, ◌++◌, length, take, Option, Some, None, MatchOption}
-use Rattle.std.proofs.Common.{IfSome, refl, sym, ap, ◌∙◌, subst, arith, length-append, append-nil}
-use Rattle.std.specs.List.{slice_get}
-use Rattle.std.specs.Char.{IsScalar, encode_utf8, is_whitespace}
-use Rattle.std.specs.Str.{chars, IsUtf8}
+use Rattle.std.proofs.Common.{IfSome, refl, sym, ap, ◌∙◌, subst, arith, length-append, append-nil, slice_get, encode_utf8, chars, IsUtf8}
+use Rattle.std.specs.Char.{IsScalar, is_whitespace}
 use Rattle.std.proofs.lemmas.Str.{IsUtf8-encode, IsUtf8-take, IsCharBoundary-at_seam, chars-append, chars_past_char, chars-nil}
+use Rattle.std.proofs.lemmas.Bool.Decides.{nat_tests}
 use Rattle.std.proofs.lemmas.Option.{slice_get_read}
 use Rattle.std.proofs.Math.Seq.{take-append_seam, get_or-append_seam}
 use Rattle.first_pass_items.specs.Bytes.{asterisk, underscore}
@@ -48,87 +47,56 @@ last_char_by A text whole front None same utf8 scalar parts = sym (last_char_non
 last_char_by A text whole front (Some c) same utf8 scalar parts = sym (last_char_is text front c utf8 scalar (sym same ∙ parts))
 
 -- the tests of a run outside rows, by white space and punctuation after and before it
-star_open_tests : (wa pa wb pb : Bool) → cond wa false (cond (not pa) true (cond wb true (pb && true))) ≡ not wa && (not pa || (wb || pb))
-star_open_tests true pa wb pb = refl
-star_open_tests false false wb pb = refl
-star_open_tests false true true pb = refl
-star_open_tests false true false true = refl
-star_open_tests false true false false = refl
+module _ (wa pa wb pb : Bool) where
+  star_open_tests : cond wa false (cond (not pa) true (cond wb true (pb && true))) ≡ not wa && (not pa || (wb || pb))
+  star_open_tests = grind (arith, nat_tests)
 
-star_close_tests : (wa pa wb pb : Bool) → cond wb false (cond (not pb) true (wa || pa)) ≡ not wb && (not pb || (wa || pa))
-star_close_tests wa pa true pb = refl
-star_close_tests wa pa false true = refl
-star_close_tests wa pa false false = refl
+  star_close_tests : cond wb false (cond (not pb) true (wa || pa)) ≡ not wb && (not pb || (wa || pa))
+  star_close_tests = grind (arith, nat_tests)
 
-underscore_open_tests : (wa pa wb pb : Bool)
-    → cond wa false (cond wb true (pb && true)) ≡ (not wa && (not pa || (wb || pb))) && (not (not wb && (not pb || (wa || pa))) || pb)
-underscore_open_tests true pa wb pb = refl
-underscore_open_tests false true true pb = refl
-underscore_open_tests false true false true = refl
-underscore_open_tests false true false false = refl
-underscore_open_tests false false true pb = refl
-underscore_open_tests false false false true = refl
-underscore_open_tests false false false false = refl
+  underscore_open_tests : cond wa false (cond wb true (pb && true)) ≡ (not wa && (not pa || (wb || pb))) && (not (not wb && (not pb || (wa || pa))) || pb)
+  underscore_open_tests = grind (arith, nat_tests)
 
-underscore_close_tests : (wa pa wb pb : Bool) → cond wb false (wa || pa) ≡ (not wb && (not pb || (wa || pa))) && (not (not wa && (not pa || (wb || pb))) || pa)
-underscore_close_tests wa pa true pb = refl
-underscore_close_tests true true false true = refl
-underscore_close_tests true true false false = refl
-underscore_close_tests true false false true = refl
-underscore_close_tests true false false false = refl
-underscore_close_tests false true false true = refl
-underscore_close_tests false true false false = refl
-underscore_close_tests false false false true = refl
-underscore_close_tests false false false false = refl
-
--- the same with no character on one side
-alone_tests : (w p : Bool) → not w ≡ not w && (not p || true)
-alone_tests true p = refl
-alone_tests false true = refl
-alone_tests false false = refl
-
-alone_underscore_tests : (w p : Bool) → not w ≡ (not w && (not p || true)) && true
-alone_underscore_tests true p = refl
-alone_underscore_tests false true = refl
-alone_underscore_tests false false = refl
+  underscore_close_tests : cond wb false (wa || pa) ≡ (not wb && (not pb || (wa || pa))) && (not (not wa && (not pa || (wb || pb))) || pa)
+  underscore_close_tests = grind (arith, nat_tests)
 
 -- emphasis by the rules of CommonMark
-star_opens_by : (r : DelimiterRun) (before after : Option ℕ) → r.before ≡ before → r.after ≡ after → GoesBy asterisk can_open is_left_flanking r
-unfolding can_open opens_between
-star_opens_by r before None eb ea plain star = rw ea refl
-star_opens_by r None (Some a) eb ea plain star = rw (eb, ea) (alone_tests (is_whitespace a) (is_punctuation a))
-star_opens_by r (Some b) (Some a) eb ea plain star =
-    rw (eb, ea, plain, star) (star_open_tests (is_whitespace a) (is_punctuation a) (is_whitespace b) (is_punctuation b))
-
 pub star_opens : (r : DelimiterRun) → GoesBy asterisk can_open is_left_flanking r
-star_opens r = star_opens_by r r.before r.after refl refl
-
-star_closes_by : (r : DelimiterRun) (before after : Option ℕ) → r.before ≡ before → r.after ≡ after → GoesBy asterisk can_close is_right_flanking r
-unfolding can_close closes_between
-star_closes_by r None after eb ea plain star = rw eb refl
-star_closes_by r (Some b) None eb ea plain star = rw (eb, ea) (alone_tests (is_whitespace b) (is_punctuation b))
-star_closes_by r (Some b) (Some a) eb ea plain star =
-    rw (eb, ea, plain, star) (star_close_tests (is_whitespace a) (is_punctuation a) (is_whitespace b) (is_punctuation b))
+unfolding can_open opens_between
+star_opens r = by r.before r.after refl refl
+  where
+    by : (before after : Option ℕ) → r.before ≡ before → r.after ≡ after → GoesBy asterisk can_open is_left_flanking r
+    by before None eb ea plain star = rw ea refl
+    by None (Some a) eb ea plain star = rw (eb, ea) (grind (arith, nat_tests))
+    by (Some b) (Some a) eb ea plain star =
+        rw (eb, ea, plain, star) (star_open_tests (is_whitespace a) (is_punctuation a) (is_whitespace b) (is_punctuation b))
 
 pub star_closes : (r : DelimiterRun) → GoesBy asterisk can_close is_right_flanking r
-star_closes r = star_closes_by r r.before r.after refl refl
-
-underscore_opens_by : (r : DelimiterRun) (before after : Option ℕ) → r.before ≡ before → r.after ≡ after → GoesBy underscore can_open underscore_opens r
-unfolding can_open opens_between
-underscore_opens_by r before None eb ea plain line = rw ea refl
-underscore_opens_by r None (Some a) eb ea plain line = rw (eb, ea) (alone_underscore_tests (is_whitespace a) (is_punctuation a))
-underscore_opens_by r (Some b) (Some a) eb ea plain line =
-    rw (eb, ea, plain, line) (underscore_open_tests (is_whitespace a) (is_punctuation a) (is_whitespace b) (is_punctuation b))
+unfolding can_close closes_between
+star_closes r = by r.before r.after refl refl
+  where
+    by : (before after : Option ℕ) → r.before ≡ before → r.after ≡ after → GoesBy asterisk can_close is_right_flanking r
+    by None after eb ea plain star = rw eb refl
+    by (Some b) None eb ea plain star = rw (eb, ea) (grind (arith, nat_tests))
+    by (Some b) (Some a) eb ea plain star =
+        rw (eb, ea, plain, star) (star_close_tests (is_whitespace a) (is_punctuation a) (is_whitespace b) (is_punctuation b))
 
 pub underscore_opens_is : (r : DelimiterRun) → GoesBy underscore can_open underscore_opens r
-underscore_opens_is r = underscore_opens_by r r.before r.after refl refl
-
-underscore_closes_by : (r : DelimiterRun) (before after : Option ℕ) → r.before ≡ before → r.after ≡ after → GoesBy underscore can_close underscore_closes r
-unfolding can_close closes_between
-underscore_closes_by r None after eb ea plain line = rw eb refl
-underscore_closes_by r (Some b) None eb ea plain line = rw (eb, ea) (alone_underscore_tests (is_whitespace b) (is_punctuation b))
-underscore_closes_by r (Some b) (Some a) eb ea plain line =
-    rw (eb, ea, plain, line) (underscore_close_tests (is_whitespace a) (is_punctuation a) (is_whitespace b) (is_punctuation b))
+unfolding can_open opens_between
+underscore_opens_is r = by r.before r.after refl refl
+  where
+    by : (before after : Option ℕ) → r.before ≡ before → r.after ≡ after → GoesBy underscore can_open underscore_opens r
+    by before None eb ea plain line = rw ea refl
+    by None (Some a) eb ea plain line = rw (eb, ea) (grind (arith, nat_tests))
+    by (Some b) (Some a) eb ea plain line =
+        rw (eb, ea, plain, line) (underscore_open_tests (is_whitespace a) (is_punctuation a) (is_whitespace b) (is_punctuation b))
 
 pub underscore_closes_is : (r : DelimiterRun) → GoesBy underscore can_close underscore_closes r
-underscore_closes_is r = underscore_closes_by r r.before r.after refl refl
+unfolding can_close closes_between
+underscore_closes_is r = by r.before r.after refl refl
+  where
+    by : (before after : Option ℕ) → r.before ≡ before → r.after ≡ after → GoesBy underscore can_close underscore_closes r
+    by None after eb ea plain line = rw eb refl
+    by (Some b) None eb ea plain line = rw (eb, ea) (grind (arith, nat_tests))
+    by (Some b) (Some a) eb ea plain line =
+        rw (eb, ea, plain, line) (underscore_close_tests (is_whitespace a) (is_punctuation a) (is_whitespace b) (is_punctuation b))

@@ -1,10 +1,9 @@
 -- A run between two ASCII letters or digits.
-use Rattle.std.proofs.Common.{◌≡◌, ℕ, ◌+◌, ◌-◌, ◌<◌, ◌≤◌, ◌==◌, ◌&&◌, ◌∷◌, ◌++◌, [], Bool, true, false, List, length, take, drop, Option, Some, None, IsUtf8}
-use Rattle.std.proofs.Common.{slice_index, get_or, refl, sym, ap, ◌∙◌, subst, arith, get_or-drop, length-drop, length-take-le}
-use Rattle.std.specs.Char.{IsScalar, is_whitespace, is_ascii_alphanumeric, is_ascii_punctuation, encode_utf8}
-use Rattle.std.specs.List.{slice_range, slice_get}
+use Rattle.std.proofs.Common.{◌≡◌, ℕ, ◌+◌, ◌-◌, ◌<◌, ◌==◌, ◌++◌, Bool, true, false, List, length, take, drop, Some, IsUtf8, slice_index, refl, sym, ap, ◌∙◌}
+use Rattle.std.proofs.Common.{arith, get_or-drop, length-drop, length-take-le, encode_utf8, slice_range, slice_get, get_or-take}
+use Rattle.std.specs.Char.{IsScalar, is_whitespace, is_ascii_alphanumeric}
 use Rattle.std.proofs.lemmas.Bool.Decides.{nat_tests}
-use Rattle.std.proofs.lemmas.List.{take_more, drop_more, get_or-take}
+use Rattle.std.proofs.lemmas.List.{take_more, drop_more}
 use Rattle.std.proofs.lemmas.Str.{IsUtf8-take, IsUtf8-drop, IsCharBoundary-before_ascii, IsCharBoundary-after_ascii, chars_past_char, encode_ascii}
 use Rattle.first_pass_items.specs.Bytes.{underscore, pipe}
 use Rattle.first_pass_flank.specs.declared.flank.DelimiterRun.{DelimiterRun}
@@ -19,11 +18,8 @@ word_below c h = grind (arith, nat_tests, h)
 word_space : (c : ℕ) → is_ascii_alphanumeric c ≡ true → is_whitespace c ≡ false
 word_space c h = grind (arith, nat_tests, h)
 
-word_mark : (c : ℕ) → is_ascii_alphanumeric c ≡ true → is_ascii_punctuation c ≡ false
-word_mark c h = grind (arith, nat_tests, h)
-
 word_punctuation : (c : ℕ) → is_ascii_alphanumeric c ≡ true → is_punctuation c ≡ false
-word_punctuation c h = punctuation_in_ascii c (word_below c h) ∙ word_mark c h
+word_punctuation c h = punctuation_in_ascii c (word_below c h) ∙ grind (arith, nat_tests, h)
 
 word_pipe : (c : ℕ) → is_ascii_alphanumeric c ≡ true → (c == pipe) ≡ false
 word_pipe c h = grind (arith, nat_tests, h)

@@ -1,11 +1,8 @@
 -- Parts that are appended one after the other.
 use Rattle.std.proofs.Common.{◌≡◌, ℕ, ◌+◌, ◌<◌, List, [], ◌∷◌, ◌++◌, length, map, take, get_or, refl, sym, ap, subst, ◌∙◌, append_assoc, length-append}
-use Rattle.std.proofs.Common.{add-zero, unwrap_or, arith}
-use Rattle.std.specs.Prelude.{is_some}
-use Rattle.std.specs.List.{flat_map}
-use Rattle.std.proofs.lemmas.List.{append-nil, map-append, take_more}
+use Rattle.std.proofs.Common.{add-zero, unwrap_or, arith, is_some, flat_map, append-nil}
+use Rattle.first_pass_grammar.proofs.Common.{map-append, take_more, LinkEntry}
 use Rattle.std.proofs.lemmas.Grind.{flat_map-append}
-use Rattle.first_pass_grammar.specs.LinkTables.{LinkEntry}
 use Rattle.first_pass_flat.specs.Kinds.{flag}
 use Rattle.first_pass_flat.specs.FlatAttributes.{OneAttribute, attribute_bytes, flat_attribute, flat_attributes}
 use Rattle.first_pass_flat.specs.FlatDefinitions.{definition_bytes, flat_definition, flat_definitions}

@@ -1,30 +1,21 @@
 -- The kind of a node, read back from numbers.
 use Rattle.std.proofs.Common.{◌≡◌, ℕ, ◌<◌, ◌==◌, Bool, true, false, Option, Some, None, List, [], ◌∷◌, ◌++◌, length, map, get_or, nat_lt, slice_get}
-use Rattle.std.proofs.Common.{unwrap_or, if◌then◌else◌, refl, ap, ◌∙◌, cond, arith}
-use Rattle.std.specs.Prelude.{is_some}
-use Rattle.std.specs.Option.{option_map, option_and_then}
-use Rattle.std.proofs.lemmas.Option.{slice_get-get_or}
-use Rattle.first_pass_items.specs.declared.cow_str.CowStr.{CowStr}
-use Rattle.first_pass_items.specs.CowText.{text_of}
-use Rattle.first_pass_items.specs.declared.item.Alignment.{Alignment}
+use Rattle.std.proofs.Common.{unwrap_or, if◌then◌else◌, refl, ap, ◌∙◌, cond, arith, is_some, option_map, option_and_then}
+use Rattle.first_pass_grammar.proofs.Common.{slice_get-get_or, CowStr, text_of, Alignment, BlockQuoteKind, HeadingIndex, HeadingLevel, ItemBody, Root}
+use Rattle.first_pass_grammar.proofs.Common.{Paragraph, Rule, Heading, FencedCodeBlock, IndentCodeBlock, HtmlBlock, FootnoteDefinition, MetadataBlock}
+use Rattle.first_pass_grammar.proofs.Common.{DefinitionList, MaybeDefinitionListTitle, DefinitionListTitle, DefinitionListDefinition, Table, TableHead}
+use Rattle.first_pass_grammar.proofs.Common.{TableRow, TableCell, Text, SoftBreak, HardBreak, MaybeEmphasis, Html, SynthesizeText, TaskListMarker}
+use Rattle.first_pass_grammar.proofs.Common.{level_number, Attributes, no_attributes, Names, Named, AText, NamesEntry, index_of, only_kind, named}
 use Rattle.first_pass_items.specs.declared.item.Alignment.TheVariants.{None as Unaligned, Left, Center, Right}
-use Rattle.first_pass_items.specs.declared.item.BlockQuoteKind.{BlockQuoteKind}
 use Rattle.first_pass_items.specs.declared.item.BlockQuoteKind.TheVariants.{Note, Tip, Important, Warning, Caution}
-use Rattle.first_pass_items.specs.declared.item.HeadingIndex.{HeadingIndex}
-use Rattle.first_pass_items.specs.declared.item.HeadingLevel.{HeadingLevel}
 use Rattle.first_pass_items.specs.declared.item.HeadingLevel.TheVariants.{H1, H2, H3, H4, H5, H6}
 use Rattle.first_pass_items.specs.declared.item.MetadataBlockKind.{MetadataBlockKind}
 use Rattle.first_pass_items.specs.declared.item.MetadataBlockKind.TheVariants.{YamlStyle, PlusesStyle}
-use Rattle.first_pass_items.specs.declared.item.ItemBody.{ItemBody}
-use Rattle.first_pass_items.specs.declared.item.ItemBody.TheVariants.{Root, Paragraph, TightParagraph, Rule, Heading, FencedCodeBlock, IndentCodeBlock}
-use Rattle.first_pass_items.specs.declared.item.ItemBody.TheVariants.{HtmlBlock, BlockQuote, List as ListBody, ListItem, FootnoteDefinition, MetadataBlock}
-use Rattle.first_pass_items.specs.declared.item.ItemBody.TheVariants.{DefinitionList, MaybeDefinitionListTitle, DefinitionListTitle, DefinitionListDefinition}
-use Rattle.first_pass_items.specs.declared.item.ItemBody.TheVariants.{Table, TableHead, TableRow, TableCell, Text, SoftBreak, HardBreak, MaybeEmphasis}
+use Rattle.first_pass_items.specs.declared.item.ItemBody.TheVariants.{TightParagraph}
+use Rattle.first_pass_items.specs.declared.item.ItemBody.TheVariants.{BlockQuote, List as ListBody, ListItem}
 use Rattle.first_pass_items.specs.declared.item.ItemBody.TheVariants.{MaybeMath, MaybeSmartQuote, MaybeCode, MaybeHtml, MaybeLinkOpen, MaybeLinkClose}
-use Rattle.first_pass_items.specs.declared.item.ItemBody.TheVariants.{MaybeImage, Html, SynthesizeText, SynthesizeChar, TaskListMarker}
-use Rattle.first_pass_lines.specs.Lines.{level_number}
-use Rattle.first_pass_attributes.specs.Attributes.{Attributes, no_attributes}
-use Rattle.first_pass_grammar.specs.Names.{Names, Named, AText, Alignments, OfHeading, NamesEntry, index_of, only_kind, named}
+use Rattle.first_pass_items.specs.declared.item.ItemBody.TheVariants.{MaybeImage, SynthesizeChar}
+use Rattle.first_pass_grammar.specs.Names.{Alignments, OfHeading}
 use Rattle.first_pass_flat.specs.Kinds.{kind_number, values_of, flag, quote_number, metadata_number, alignment_byte}
 use Rattle.first_pass_flat.specs.FlatAttributes.{OneAttribute, class_attribute, key_attribute, listed, attributes_of_body}
 use Rattle.first_pass_flat.specs.FlatNodes.{name_of, named_length}

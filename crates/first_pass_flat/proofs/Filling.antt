@@ -1,13 +1,10 @@
 -- Records written from the last to the first.
 use Rattle.std.proofs.Common.{◌≡◌, ◌≢◌, ℕ, zero, suc, inl, inr, ◌+◌, ◌-◌, ◌<◌, ◌≤◌, List, [], ◌∷◌, ◌++◌, length, take, drop, get_or, slice_get, Some, All}
-use Rattle.std.proofs.Common.{Option, set, refl, sym, ap, subst, ◌∙◌, add-zero, length-append, length-set, drop-cons, unwrap_or, arith}
-use Rattle.std.specs.List.{flat_map}
-use Rattle.std.specs.Option.{option_map}
-use Rattle.std.proofs.lemmas.Bool.{cases_eq}
-use Rattle.std.proofs.lemmas.List.{drop-set, drop_all, get_or-set_same, get_or-set_other, take_all}
-use Rattle.std.proofs.lemmas.Option.{slice_get_within, get_or_from_slice_get, slice_get-get_or}
-use Rattle.first_pass_items.specs.declared.item.Item.{Item}
-use Rattle.first_pass_grammar.specs.Names.{Names}
+use Rattle.std.proofs.Common.{Option, set, refl, sym, ap, subst, ◌∙◌, add-zero, length-append, length-set, drop-cons, unwrap_or, arith, flat_map}
+use Rattle.std.proofs.Common.{option_map, get_or-set_same, get_or-set_other, take_all}
+use Rattle.first_pass_grammar.proofs.Common.{cases_eq, drop_all, slice_get_within, slice_get-get_or, Item, Names}
+use Rattle.std.proofs.lemmas.List.{drop-set}
+use Rattle.std.proofs.lemmas.Option.{get_or_from_slice_get}
 use Rattle.first_pass_flat.specs.FlatAttributes.{attributes_by}
 use Rattle.first_pass_flat.specs.FlatNodes.{IsShort, deeper_before, first_place, flat_node, flat_nodes, name_by, place_after}
 use Rattle.first_pass_flat.specs.Linked.{AreLinked, depth_at}

@@ -1,13 +1,10 @@
 -- The first later node that is not deeper.
-use Rattle.std.proofs.Common.{◌≡◌, ℕ, suc, ◌+◌, ◌-◌, ◌<◌, ◌≤◌, Bool, true, false, cond, List, [], ◌∷◌, length, drop, get_or, slice_get, unwrap_or, Option, Some}
-use Rattle.std.proofs.Common.{inl, inr, refl, sym, ap, ◌∙◌, zero-add, add_assoc, nat_lt, length-drop, arith}
-use Rattle.std.proofs.lemmas.Bool.{cases_lt, le-ltb, lt-ltb, ltb-true}
-use Rattle.std.proofs.lemmas.List.{drop-drop}
-use Rattle.std.proofs.lemmas.Option.{slice_get_cases, slice_get_past, slice_get_within, get_or_from_slice_get, slice_get-get_or}
-use Rattle.std.proofs.lemmas.List.Sums.{prefix_len-drop_all, prefix_len-drop_no, prefix_len-drop_yes, prefix_len-le-length}
-use Rattle.std.specs.Option.{option_map}
-use Rattle.std.specs.List.{prefix_len}
-use Rattle.first_pass_items.specs.declared.item.Item.{Item}
+use Rattle.std.proofs.Common.{◌≡◌, ℕ, suc, ◌+◌, ◌-◌, ◌<◌, ◌≤◌, Bool, true, false, cond, List, [], ◌∷◌, length, drop, get_or, slice_get, unwrap_or, Option}
+use Rattle.std.proofs.Common.{Some, inl, inr, refl, sym, ap, ◌∙◌, zero-add, add_assoc, nat_lt, length-drop, arith, le-ltb, lt-ltb, ltb-true, drop-drop}
+use Rattle.std.proofs.Common.{option_map}
+use Rattle.first_pass_grammar.proofs.Common.{cases_lt, slice_get_past, slice_get_within, slice_get-get_or, prefix_len-le-length, prefix_len, Item}
+use Rattle.std.proofs.lemmas.Option.{slice_get_cases, get_or_from_slice_get}
+use Rattle.std.proofs.lemmas.List.Sums.{prefix_len-drop_all, prefix_len-drop_no, prefix_len-drop_yes}
 use Rattle.first_pass_flat.specs.FlatNodes.{deeper_before}
 use Rattle.first_pass_flat.specs.Linked.{AreLinked, depth_at}
 use Rattle.first_pass_flat.specs.declared.records.FlatNode.{FlatNode}

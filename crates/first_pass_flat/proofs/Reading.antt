@@ -1,19 +1,13 @@
 -- The flat form read back.
-use Rattle.std.proofs.Common.{◌≡◌, ℕ, ◌+◌, Option, Some, None, List, [], ◌∷◌, ◌++◌, length, map, take, drop, unwrap_or, refl, sym, ap, ◌∙◌, cond, append_assoc}
-use Rattle.std.specs.Prelude.{is_some}
-use Rattle.std.specs.List.{flat_map}
-use Rattle.std.proofs.Math.Seq.{take-append_seam, drop-append_seam}
-use Rattle.first_pass_items.specs.declared.item.Item.{Item}
-use Rattle.first_pass_grammar.specs.Names.{Names, Named, AreNamed, read_nodes}
-use Rattle.first_pass_grammar.specs.LinkTables.{LinkEntry}
-use Rattle.first_pass_grammar.specs.Derivation.{Tables}
+use Rattle.std.proofs.Common.{◌≡◌, ℕ, ◌+◌, Option, Some, None, List, [], ◌∷◌, ◌++◌, length, map, take, drop, unwrap_or, refl, sym, ap, ◌∙◌, cond}
+use Rattle.std.proofs.Common.{append_assoc, is_some, flat_map, append-nil}
+use Rattle.first_pass_grammar.proofs.Common.{take-append_seam, drop-append_seam, Item, Names, Named, AreNamed, read_nodes, LinkEntry, Tables}
 use Rattle.first_pass_flat.specs.Kinds.{flag}
 use Rattle.first_pass_flat.specs.FlatAttributes.{OneAttribute, attribute_bytes, attributes_by, attributes_of_body, flat_attributes}
 use Rattle.first_pass_flat.specs.FlatDefinitions.{definition_bytes, entries_of, flat_definitions, label_entry}
 use Rattle.first_pass_flat.specs.FlatNodes.{flat_nodes, first_place, name_by, name_of, place_after}
 use Rattle.first_pass_flat.specs.FlatForm.{FlatForm, flat_form, node_names, tree_names}
 use Rattle.first_pass_flat.specs.Law.{DeterminesNodes, DeterminesTables}
-use Rattle.std.proofs.lemmas.List.{append-nil}
 use Rattle.first_pass_flat.specs.declared.kinds.FlatValues.{FlatValues}
 use Rattle.first_pass_flat.specs.declared.nodes.FlatPlace.{FlatPlace}
 use Rattle.first_pass_flat.specs.declared.records.FlatAttribute.{FlatAttribute}

@@ -1,16 +1,7 @@
 -- The other parts of the flat form, made one after the other.
-use Rattle.std.proofs.Common.{◌≡◌, ℕ, suc, ◌+◌, false, Option, Some, None, List, [], ◌∷◌, ◌++◌, length, map, slice_get, unwrap_or, refl, sym, ap, ◌∙◌, arith}
-use Rattle.std.specs.Prelude.{is_some}
-use Rattle.std.specs.Option.{option_map}
-use Rattle.std.proofs.lemmas.Bool.{true≢false}
-use Rattle.std.specs.List.{flat_map}
-use Rattle.std.proofs.lemmas.Option.{slice_get_past}
-use Rattle.first_pass_items.specs.declared.item.HeadingIndex.{HeadingIndex}
-use Rattle.first_pass_items.specs.declared.item.Item.{Item}
-use Rattle.first_pass_attributes.specs.Attributes.{no_attributes}
-use Rattle.first_pass_grammar.specs.LinkTables.{LinkEntry}
-use Rattle.first_pass_grammar.specs.Names.{Names}
-use Rattle.first_pass_grammar.specs.Derivation.{Tables}
+use Rattle.std.proofs.Common.{◌≡◌, ℕ, suc, ◌+◌, false, Option, Some, None, List, [], ◌∷◌, ◌++◌, length, map, slice_get, unwrap_or, refl, sym, ap, ◌∙◌}
+use Rattle.std.proofs.Common.{arith, is_some, option_map, true≢false, flat_map}
+use Rattle.first_pass_grammar.proofs.Common.{slice_get_past, HeadingIndex, Item, no_attributes, LinkEntry, Names, Tables}
 use Rattle.first_pass_flat.specs.FlatAttributes.{attributes_at, attributes_by, attribute_bytes, heading_index, listed}
 use Rattle.first_pass_flat.specs.FlatDefinitions.{definition_bytes, flat_definitions, label_entry}
 use Rattle.first_pass_flat.specs.FlatForm.{node_names, tree_names}

@@ -1,3 +1,4 @@
+pub mod Common
 pub mod Order
 pub mod Count
 pub mod WholeTables

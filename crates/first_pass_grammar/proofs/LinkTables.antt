@@ -1,3 +1,2 @@
 -- The tables of links and footnotes have the first definition of each label.
-pub mod FirstLabels
 pub mod FirstLinks

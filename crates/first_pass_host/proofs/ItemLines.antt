@@ -1,7 +1,5 @@
 -- Items that are read as lines: the elements of a slice, and the entries of a map.
-use Rattle.std.proofs.Common.{◌≡◌, ℕ, List, [], ◌∷◌, length, map, refl, ap, arith}
-use Rattle.std.specs.Borrow.{Bor}
-use Rattle.std.specs.List.{flat_map}
+use Rattle.std.proofs.Common.{◌≡◌, ℕ, List, [], ◌∷◌, length, map, refl, ap, arith, Bor, flat_map}
 use Rattle.std.specs.Map.Iter.{TakesFirst, deref_pair}
 use Rattle.std.specs.Slice.Iter.{iter_rest, iter_steps}
 use Rattle.first_pass_host.specs.Held.{Calls, CallsAppendLine, AreItemLines}

@@ -1,7 +1,6 @@
 -- The results of `parse` and `from_bits` for a word that may denote options.
-use Rattle.std.proofs.Common.{◌≡◌, ℕ, ◌↔◌, ◌==◌, false, cond, List, Option, Some, None, IfSome, IsSome, IsNone, bit_and, drop, slice_index, refl, sym, ap, ◌∙◌}
-use Rattle.std.proofs.Common.{subst}
-use Rattle.std.proofs.lemmas.Bool.{true≢false}
+use Rattle.std.proofs.Common.{◌≡◌, ℕ, ◌↔◌, ◌==◌, false, cond, List, Option, Some, None, IfSome, IsSome, IsNone, bit_and, drop, slice_index, refl, sym, ap}
+use Rattle.std.proofs.Common.{◌∙◌, subst, true≢false}
 use Rattle.std.specs.Str.Parse.{IsNumeral, digits_value, without_leading_plus}
 use Rattle.first_pass_items.specs.Bytes.{plus_sign}
 use Rattle.first_pass_items.specs.declared.option_set.Options.{Options}

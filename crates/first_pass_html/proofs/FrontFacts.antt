@@ -1,32 +1,19 @@
 -- The counted bytes at the start are a part of a tag.
-use Rattle.std.proofs.Common.{◌≡◌, ◌⊎◌, inl, inr, ℕ, suc, ◌+◌, ◌<◌, Bool, true, false, true≢false, cond, ◌==◌, ◌&&◌, ◌||◌, List, [], ◌∷◌, ◌++◌, length, take}
-use Rattle.std.proofs.Common.{drop, Option, Some, None, unwrap_or, refl, sym, ap, ◌∙◌, subst, arith, append_assoc, append-nil}
-use Rattle.std.specs.Option.{option_map}
-use Rattle.std.specs.List.{prefix_len, list_all, concat}
-use Rattle.std.proofs.lemmas.Bool.{and_from, eqb-true}
+use Rattle.std.proofs.Common.{◌≡◌, ◌⊎◌, inl, inr, ℕ, suc, ◌+◌, ◌<◌, Bool, true, false, true≢false, cond, ◌==◌, ◌&&◌, ◌||◌, List, [], ◌∷◌, ◌++◌, length}
+use Rattle.std.proofs.Common.{take, drop, Option, Some, None, unwrap_or, refl, sym, ap, ◌∙◌, subst, arith, append_assoc, option_map, eqb-true, take-add}
+use Rattle.std.specs.List.{prefix_len, list_all}
+use Rattle.std.proofs.lemmas.Bool.{and_from, and_parts, cases_Bool, or_cases}
+use Rattle.std.proofs.lemmas.Option.{same_Some, cond_some}
 use Rattle.std.proofs.lemmas.Bool.Decides.{nat_tests}
-use Rattle.std.proofs.lemmas.List.Folds.{length-prefix_len, concat-append}
-use Rattle.std.proofs.Math.Seq.{take-add}
+use Rattle.std.proofs.lemmas.List.Folds.{length-prefix_len}
 use Rattle.first_pass_items.specs.Bytes.{quotation_mark, apostrophe, solidus, equals_sign, greater_than}
 use Rattle.first_pass_lines.specs.Lines.{begins, is_space_or_tab}
+use Rattle.first_pass_lines.proofs.OptionFacts.{some_mapped, some_unless}
 use Rattle.first_pass_html.specs.Tags.{starts_attribute, is_attribute_byte, is_unquoted, is_quoted, is_word, is_attribute_name, IsQuotedValue, IsValue}
-use Rattle.first_pass_html.specs.Tags.{IsValueSpecification, IsAttribute, AreAttributes, IsOpenTagEnd}
-use Rattle.first_pass_html.specs.TagLengths.{word_len, unquoted_len, quoted_len, value_len, blanks_value_len, specification_len, attribute_name_len, named_len}
+use Rattle.first_pass_html.specs.Tags.{IsValueSpecification, IsAttribute, IsOpenTagEnd}
+use Rattle.first_pass_html.specs.TagLengths.{word_len, quoted_len, value_len, blanks_value_len, specification_len, attribute_name_len, named_len}
 use Rattle.first_pass_html.specs.TagLengths.{attribute_len, close_len, open_end_len}
 use Rattle.first_pass_html.proofs.ListFacts.{prefix_passes}
-
--- the results of a test and of a map of an option
-pub some_if : (t : Bool) (x n : ℕ) → cond t (Some x) None ≡ Some n → (t ≡ true) × (x ≡ n)
-some_if true x n h = (refl, let e : x ≡ n = cc in e)
-some_if false x n h = cc
-
-pub some_unless : (t : Bool) (o : Option ℕ) (n : ℕ) → cond t None o ≡ Some n → (t ≡ false) × (o ≡ Some n)
-some_unless true o n h = cc
-some_unless false o n h = (refl, h)
-
-pub some_map : (f : ℕ → ℕ) (o : Option ℕ) (n : ℕ) → option_map f o ≡ Some n → (k : ℕ) × (o ≡ Some k) × (f k ≡ n)
-some_map f None n h = cc
-some_map f (Some k) n h = (k, refl, let e : f k ≡ n = cc in e)
 
 -- words
 word_from : (p : ℕ → Bool) (bs : List ℕ) → list_all p bs ≡ true → 0 < length bs → is_word p p bs ≡ true
@@ -41,43 +28,40 @@ word_front p bs h =
 pub name_front : (first other : ℕ → Bool) (bs : List ℕ) (n : ℕ) → word_len first other bs ≡ Some n → is_word first other (take n bs) ≡ true
 name_front first other [] n h = cc
 name_front first other (b ∷ bs) n h =
-    let both = some_if (first b) (1 + prefix_len other bs) n h in
+    let both = cond_some (first b) (1 + prefix_len other bs) n h in
     let size : n ≡ suc (prefix_len other bs) = omega (arith, both.1) in
     rw size (and_from (first b) _ both.0 (prefix_passes other bs))
 
--- the first byte
-pub begins_front : (c : ℕ) (bs : List ℕ) → begins c bs ≡ true → (others : List ℕ) × (bs ≡ c ∷ others)
-begins_front c [] h = absurd (true≢false (sym h))
-begins_front c (b ∷ bs) h = (bs, rw (eqb-true b c h))
+pub first_byte : (c : ℕ) (bs : List ℕ) → begins c bs ≡ true → bs ≡ c ∷ drop 1 bs
+first_byte c [] h = absurd (true≢false (sym h))
+first_byte c (b ∷ bs) h = rw (eqb-true b c h)
 
 -- values
 quoted_front : (quote : ℕ) (bs : List ℕ) (n : ℕ) → quoted_len quote bs ≡ Some n → IsQuotedValue quote (take n (quote ∷ bs))
 unfolding quoted_len
 quoted_front quote bs n h =
     let k : ℕ = prefix_len (is_quoted quote) bs in
-    let both = some_if (begins quote (drop k bs)) (k + 2) n h in
-    let end = begins_front quote (drop k bs) both.0 in
+    let both = cond_some (begins quote (drop k bs)) (k + 2) n h in
+    let end = first_byte quote (drop k bs) both.0 in
     let size : n ≡ suc (k + 1) = omega (arith, both.1) in
-    let parts : take (k + 1) bs ≡ take k bs ++ quote ∷ [] = take-add k 1 bs ∙ ap (λ xs. take k bs ++ take 1 xs) end.1 in
+    let parts : take (k + 1) bs ≡ take k bs ++ quote ∷ [] = take-add k 1 bs ∙ ap (λ xs. take k bs ++ take 1 xs) end in
     (take k bs, rw size (ap (λ xs. quote ∷ xs) parts), prefix_passes (is_quoted quote) bs)
-
-value_front_by : (t u : Bool) (b : ℕ) (bs : List ℕ) (n : ℕ)
-    → (b == quotation_mark) ≡ t → (b == apostrophe) ≡ u → cond (t || u) (quoted_len b bs) (unquoted_len (b ∷ bs)) ≡ Some n → IsValue (take n (b ∷ bs))
-value_front_by true u b bs n h h' e =
-    let same : b ≡ quotation_mark = eqb-true b quotation_mark h in
-    inr (inr (subst (λ (q : ℕ). IsQuotedValue q (take n (b ∷ bs))) same (quoted_front b bs n e)))
-value_front_by false true b bs n h h' e =
-    let same : b ≡ apostrophe = eqb-true b apostrophe h' in
-    inr (inl (subst (λ (q : ℕ). IsQuotedValue q (take n (b ∷ bs))) same (quoted_front b bs n e)))
-value_front_by false false b bs n h h' e =
-    let both = some_unless (prefix_len is_unquoted (b ∷ bs) == 0) (Some (prefix_len is_unquoted (b ∷ bs))) n e in
-    let size : prefix_len is_unquoted (b ∷ bs) ≡ n = let o = both.1 in cc in
-    inl (rw (sym size) (word_front is_unquoted (b ∷ bs) both.0))
 
 value_front : (bs : List ℕ) (n : ℕ) → value_len bs ≡ Some n → IsValue (take n bs)
 unfolding value_len
 value_front [] n h = cc
-value_front (b ∷ bs) n h = value_front_by (b == quotation_mark) (b == apostrophe) b bs n refl refl h
+value_front (b ∷ bs) n h = elim (cases_Bool (b == quotation_mark || b == apostrophe)) [
+  | inl q ↦ (
+      let quoted = quoted_front b bs n (rw q at h) in
+      elim (or_cases _ _ q) [
+        | inl e ↦ inr (inr (subst (λ (c : ℕ). IsQuotedValue c (take n (b ∷ bs))) (eqb-true b quotation_mark e) quoted))
+        | inr e ↦ inr (inl (subst (λ (c : ℕ). IsQuotedValue c (take n (b ∷ bs))) (eqb-true b apostrophe e) quoted))
+      ])
+  | inr q ↦ (
+      let both = some_unless (prefix_len is_unquoted (b ∷ bs) == 0) (Some (prefix_len is_unquoted (b ∷ bs))) n (rw q at h) in
+      let size : prefix_len is_unquoted (b ∷ bs) ≡ n = let o = both.1 in cc in
+      inl (rw (sym size) (word_front is_unquoted (b ∷ bs) both.0)))
+]
 
 -- value specifications
 record IsBlanksValue (bs : List ℕ) : Type 0 where
@@ -91,7 +75,7 @@ blanks_value_front : (bs : List ℕ) (n : ℕ) → blanks_value_len bs ≡ Some 
 unfolding blanks_value_len
 blanks_value_front bs n h =
     let k : ℕ = prefix_len is_space_or_tab bs in
-    let m = some_map (λ j. k + j) (value_len (drop k bs)) n h in
+    let m = some_mapped (λ j. k + j) (value_len (drop k bs)) n h in
     record {
       blanks = take k bs;
       value = take m.0 (drop k bs);
@@ -105,9 +89,9 @@ equals_front : (bs : List ℕ) (n : ℕ) → begins equals_sign (drop (prefix_le
     → IsValueSpecification (take (prefix_len is_space_or_tab bs + 1 + n) bs)
 equals_front bs n h e =
     let k : ℕ = prefix_len is_space_or_tab bs in
-    let equals = begins_front equals_sign (drop k bs) h in
+    let equals = first_byte equals_sign (drop k bs) h in
     let v = blanks_value_front (drop (k + 1) bs) n e in
-    let front : take (k + 1) bs ≡ take k bs ++ equals_sign ∷ [] = take-add k 1 bs ∙ ap (λ xs. take k bs ++ take 1 xs) equals.1 in
+    let front : take (k + 1) bs ≡ take k bs ++ equals_sign ∷ [] = take-add k 1 bs ∙ ap (λ xs. take k bs ++ take 1 xs) equals in
     let whole : take (k + 1 + n) bs ≡ take k bs ++ equals_sign ∷ take n (drop (k + 1) bs) =
     take-add (k + 1) n bs ∙ ap (λ xs. xs ++ take n (drop (k + 1) bs)) front ∙ append_assoc (take k bs) (equals_sign ∷ []) (take n (drop (k + 1) bs)) in
     record {
@@ -144,7 +128,7 @@ record IsNamed (bs : List ℕ) : Type 0 where
 named_front : (bs : List ℕ) (n : ℕ) → named_len bs ≡ Some n → IsNamed (take n bs)
 unfolding named_len
 named_front bs n h =
-    let m = some_map (λ k. k + specification_len (drop k bs)) (attribute_name_len bs) n h in
+    let m = some_mapped (λ k. k + specification_len (drop k bs)) (attribute_name_len bs) n h in
     record {
       name = take m.0 bs;
       specification = take (specification_len (drop m.0 bs)) (drop m.0 bs);
@@ -158,7 +142,7 @@ unfolding attribute_len
 attribute_front bs n h =
     let k : ℕ = prefix_len is_space_or_tab bs in
     let both = some_unless (k == 0) (option_map (λ j. k + j) (named_len (drop k bs))) n h in
-    let m = some_map (λ j. k + j) (named_len (drop k bs)) n both.1 in
+    let m = some_mapped (λ j. k + j) (named_len (drop k bs)) n both.1 in
     let named = named_front (drop k bs) m.0 m.1 in
     record {
       blanks = take k bs;
@@ -176,27 +160,24 @@ record IsClose (bs : List ℕ) : Type 0 where
   parts : bs ≡ slash ++ greater_than ∷ []
   is_slash : (slash ≡ []) ⊎ (slash ≡ solidus ∷ [])
 
-close_front_by : (t u : Bool) (b : ℕ) (bs : List ℕ) (n : ℕ)
-    → (b == greater_than) ≡ t → (b == solidus) ≡ u → cond t (Some 1) (cond (u && begins greater_than bs) (Some 2) None) ≡ Some n → IsClose (take n (b ∷ bs))
-close_front_by true u b bs n h h' e =
-    let size : n ≡ 1 = cc in
-    record { slash = []; parts = rw size (ap (λ x. x ∷ []) (eqb-true b greater_than h)); is_slash = inl refl }
-close_front_by false true b bs n h h' e =
-    let both = some_if (begins greater_than bs) 2 n e in
-    let more = begins_front greater_than bs both.0 in
-    let size : n ≡ 2 = sym both.1 in
-    record { slash = solidus ∷ []; parts = rw (size, more.1) (ap (λ x. x ∷ greater_than ∷ []) (eqb-true b solidus h')); is_slash = inr refl }
-close_front_by false false b bs n h h' e = cc
-
 close_front : (bs : List ℕ) (n : ℕ) → close_len bs ≡ Some n → IsClose (take n bs)
 close_front [] n h = cc
-close_front (b ∷ bs) n h = close_front_by (b == greater_than) (b == solidus) b bs n refl refl h
+close_front (b ∷ bs) n h = elim (cases_Bool (b == greater_than)) [
+  | inl e ↦ (
+      let size = same_Some 1 n (rw e at h) in
+      record { slash = []; parts = rw (sym size) (ap (λ x. x ∷ []) (eqb-true b greater_than e)); is_slash = inl refl })
+  | inr e ↦ (
+      let both = cond_some (b == solidus && begins greater_than bs) 2 n (rw e at h) in
+      let slash = and_parts _ _ both.0 in
+      let parts = ap (λ x. x ∷ take 1 bs) (eqb-true b solidus slash.0) ∙ ap (λ xs. solidus ∷ take 1 xs) (first_byte greater_than bs slash.1) in
+      record { slash = solidus ∷ []; parts = rw (sym both.1) parts; is_slash = inr refl })
+]
 
 pub end_front : (bs : List ℕ) (n : ℕ) → open_end_len bs ≡ Some n → IsOpenTagEnd (take n bs)
 unfolding open_end_len
 end_front bs n h =
     let k : ℕ = prefix_len is_space_or_tab bs in
-    let m = some_map (λ j. k + j) (close_len (drop k bs)) n h in
+    let m = some_mapped (λ j. k + j) (close_len (drop k bs)) n h in
     let close = close_front (drop k bs) m.0 m.1 in
     record {
       blanks = take k bs;
@@ -205,20 +186,3 @@ end_front bs n h =
       is_blanks = prefix_passes is_space_or_tab bs;
       is_slash = close.is_slash;
     }
-
--- one more attribute
-are_more : (attributes : List (List ℕ)) (a : List ℕ) → AreAttributes attributes → IsAttribute a → AreAttributes (attributes ++ a ∷ [])
-are_more [] a are i = (i, tt)
-are_more (b ∷ others) a are i = (are.0, are_more others a are.1 i)
-
-concat_one : (a : List ℕ) → concat (a ∷ []) ≡ a
-concat_one a = append-nil a
-
-pub front_more : (bs : List ℕ) (at n : ℕ)
-    → (attributes : List (List ℕ)) × (take at bs ≡ concat attributes) × AreAttributes attributes → attribute_len (drop at bs) ≡ Some n
-    → (attributes : List (List ℕ)) × (take (at + n) bs ≡ concat attributes) × AreAttributes attributes
-front_more bs at n (attributes, parts, are) h =
-    let a : List ℕ = take n (drop at bs) in
-    let joined : concat (attributes ++ a ∷ []) ≡ concat attributes ++ a =
-    concat-append attributes (a ∷ []) ∙ ap (λ xs. concat attributes ++ xs) (concat_one a) in
-    (attributes ++ a ∷ [], take-add at n bs ∙ ap (λ xs. xs ++ a) parts ∙ sym joined, are_more attributes a are (attribute_front (drop at bs) n h))

@@ -1,11 +1,11 @@
 -- Facts on the longest of some names at the start of the bytes.
-use Rattle.std.proofs.Common.{◌≡◌, ◌↔◌, IsTrue, ℕ, ◌<◌, ◌≤◌, nat_lt, inl, inr, Bool, true, false, true≢false, not, cond, ◌==◌, ◌&&◌, ◌||◌, List, [], ◌∷◌, ◌++◌}
-use Rattle.std.proofs.Common.{length, take, get_or, bytes_eq, refl, sym, ap, ◌∙◌, subst, arith, append-nil}
-use Rattle.std.specs.List.{Contains, list_all, list_any}
+use Rattle.std.proofs.Common.{◌≡◌, ◌↔◌, IsTrue, ℕ, ◌<◌, ◌≤◌, nat_lt, inl, inr, Bool, true, false, true≢false, not, ◌==◌, ◌&&◌, ◌||◌, List, [], ◌∷◌, ◌++◌}
+use Rattle.std.proofs.Common.{length, take, get_or, bytes_eq, refl, sym, ap, ◌∙◌, subst, arith, append-nil, Contains, eqb-true, length-take}
+use Rattle.std.specs.List.{list_all, list_any}
 use Rattle.std.specs.Char.{to_ascii_lowercase}
-use Rattle.std.proofs.lemmas.Bool.{and_parts, cases_lt, eqb-true}
+use Rattle.std.proofs.lemmas.Bool.{and_parts, cases_lt, cond_both, or_cases}
 use Rattle.std.proofs.lemmas.Bool.Decides.{Decides-eqb, nat_tests}
-use Rattle.std.proofs.lemmas.List.{length-map, length-take, take-map, take-append-le}
+use Rattle.std.proofs.lemmas.List.{length-map, take-map, take-append-le}
 use Rattle.std.proofs.lemmas.Map.Views.{Contains-from_any}
 use Rattle.std.proofs.Math.Seq.{take-length}
 use Rattle.std.proofs.lemmas.Slice.Eq.{bytes_eq-Decides}
@@ -45,14 +45,12 @@ unfolding first_name_len
 found_name [] bs all = (omega arith, λ some. absurd (omega arith))
 found_name (name ∷ names) bs all =
     let both = and_parts _ (all_names names) all in
-    (elim (begins_with_name name bs)
-    as (λ t. begins_with_name name bs ≡ t → let n = cond t (length name) (first_name_len names bs) in (n ≤ length bs) × (0 < n → IsBlockName (take n bs))) [
-      | true ↦ λ is. (
-        front_within name bs is,
-        λ some. subst (Contains block_names) (sym (same_from _ _ is)) (Contains-from_any same_from (in_lower_case name) block_names both.0),
-      )
-      | false ↦ λ isnt. found_name names bs both.1
-    ]) refl
+    cond_both (begins_with_name name bs) _ _ (λ n. (n ≤ length bs) × (0 < n → IsBlockName (take n bs)))
+    (λ is. (
+      front_within name bs is,
+      λ some. subst (Contains block_names) (sym (same_from _ _ is)) (Contains-from_any same_from (in_lower_case name) block_names both.0),
+    ))
+    (λ isnt. found_name names bs both.1)
 
 -- no name is the beginning of a later one
 abbrev longer_first : List (List ℕ) → Bool
@@ -68,44 +66,35 @@ unfolding is_one_of
 passes_one p name [] all one = absurd (true≢false (sym one))
 passes_one p name (other ∷ names) all one =
     let both = and_parts (p (in_lower_case other)) _ all in
-    (elim (bytes_eq (in_lower_case name) (in_lower_case other))
-    as (λ t. bytes_eq (in_lower_case name) (in_lower_case other) ≡ t → (t || is_one_of names name) ≡ true → p (in_lower_case name) ≡ true) [
-      | true ↦ λ same one. ap p (same_from _ _ same) ∙ both.0
-      | false ↦ λ differs one. passes_one p name names both.1 one
-    ]) refl one
+    elim (or_cases _ _ one) [ inl same ↦ ap p (same_from _ _ same) ∙ both.0 | inr more ↦ passes_one p name names both.1 more ]
 
 -- no name at the start of the bytes is therefore longer
 none_longer : (name bs front rest : List ℕ) (names : List (List ℕ)) → begins_with_name name bs ≡ true → bs ≡ front ++ rest
     → list_all (λ other. not (bytes_eq (in_lower_case name) (take (length name) (in_lower_case other)))) names ≡ true → is_one_of names front ≡ true
     → length front ≤ length name
-none_longer name bs front rest names is parts all one =
-    elim (cases_lt (length name) (length front)) as (λ _. length front ≤ length name) [
-      | inl longer ↦
-          let same : in_lower_case name ≡ take (length name) (in_lower_case front) =
-          sym (same_from _ _ is) ∙ ap (λ xs. in_lower_case (take (length name) xs)) parts
-          ∙ ap in_lower_case (take-append-le (length name) front rest (omega arith)) ∙ sym (take-map to_ascii_lowercase (length name) front) in
-          let differs = passes_one (λ other. not (bytes_eq (in_lower_case name) (take (length name) other))) front names all one in
-          absurd (true≢false (sym differs ∙ ap not (eq_from _ _ same)))
-      | inr shorter ↦ shorter
-    ]
+none_longer name bs front rest names is parts all one = elim (cases_lt (length name) (length front)) [
+  | inl longer ↦ (
+      let same : in_lower_case name ≡ take (length name) (in_lower_case front) =
+      sym (same_from _ _ is) ∙ ap (λ xs. in_lower_case (take (length name) xs)) parts
+      ∙ ap in_lower_case (take-append-le (length name) front rest (omega arith)) ∙ sym (take-map to_ascii_lowercase (length name) front) in
+      let differs = passes_one (λ other. not (bytes_eq (in_lower_case name) (take (length name) other))) front names all one in
+      absurd (true≢false (sym differs ∙ ap not (eq_from _ _ same))))
+  | inr shorter ↦ shorter
+]
 
 found_longest : (names : List (List ℕ)) (bs front rest : List ℕ)
     → longer_first names ≡ true → bs ≡ front ++ rest → is_one_of names front ≡ true → length front ≤ first_name_len names bs
 unfolding is_one_of first_name_len
 found_longest [] bs front rest longer parts one = absurd (true≢false (sym one))
-found_longest (name ∷ names) bs front rest longer parts one =
-    let both = and_parts _ (longer_first names) longer in
-    (elim (bytes_eq (in_lower_case front) (in_lower_case name))
-    as (λ t. bytes_eq (in_lower_case front) (in_lower_case name) ≡ t → (t || is_one_of names front) ≡ true → length front ≤ first_name_len (name ∷ names) bs) [
-      | true ↦ λ same one.
-          let e = same_from _ _ same in
-          rw (front_stands name bs front rest parts e) (omega (arith, same_length front name e))
-      | false ↦ λ differs one.
-          (elim (begins_with_name name bs) as (λ t. begins_with_name name bs ≡ t → length front ≤ cond t (length name) (first_name_len names bs)) [
-            | true ↦ λ is. none_longer name bs front rest names is parts both.0 one
-            | false ↦ λ isnt. found_longest names bs front rest both.1 parts one
-          ]) refl
-    ]) refl one
+found_longest (name ∷ names) bs front rest longer parts one = elim (or_cases _ _ one) [
+  | inl same ↦ (
+      let e = same_from _ _ same in
+      rw (front_stands name bs front rest parts e) (omega (arith, same_length front name e)))
+  | inr more ↦ (
+      let both = and_parts _ (longer_first names) longer in
+      cond_both (begins_with_name name bs) _ _ (λ n. length front ≤ n) (λ is. none_longer name bs front rest names is parts both.0 more)
+      (λ isnt. found_longest names bs front rest both.1 parts more))
+]
 
 -- the names include all names of blocks that begin with the letter
 abbrev has_all : ℕ → List (List ℕ) → Bool

@@ -1,11 +1,11 @@
 -- Facts on the names of blocks, and on the end of such a name.
-use Rattle.std.proofs.Common.{◌≡◌, ◌↔◌, ℕ, ◌<◌, ◌≤◌, Bool, true, false, ◌==◌, ◌&&◌, ◌||◌, IsTrue, List, [], ◌∷◌, ◌++◌, length, take, drop, refl, sym, ap, ◌∙◌}
-use Rattle.std.proofs.Common.{subst, arith, nat_lt}
-use Rattle.std.specs.List.{Contains, list_all, prefix_len}
+use Rattle.std.proofs.Common.{◌≡◌, ◌↔◌, ℕ, ◌<◌, ◌≤◌, Bool, true, false, ◌==◌, ◌&&◌, ◌||◌, IsTrue, List, [], ◌∷◌, ◌++◌, length, take, drop, refl, sym, ap}
+use Rattle.std.proofs.Common.{◌∙◌, subst, arith, nat_lt, Contains, take-append-drop, length-take-le}
+use Rattle.std.specs.List.{list_all, prefix_len}
 use Rattle.std.specs.Char.{to_ascii_lowercase, is_ascii_alphanumeric}
 use Rattle.std.proofs.lemmas.Bool.{and_from, and_parts}
 use Rattle.std.proofs.lemmas.Bool.Decides.{nat_tests}
-use Rattle.std.proofs.lemmas.List.{take-append-drop, length-map, length-take-le}
+use Rattle.std.proofs.lemmas.List.{length-map}
 use Rattle.std.proofs.lemmas.List.Sums.{AllPass-from_list_all}
 use Rattle.first_pass_items.specs.Bytes.{solidus, greater_than}
 use Rattle.first_pass_lines.specs.Lines.{is_white_or_line_end, begins}
@@ -32,12 +32,10 @@ all_in_lower_case p lower (b ∷ bs) h =
     and_from _ _ (lower b both.0) (all_in_lower_case p lower bs both.1)
 
 -- the name of a block has only letters and digits, and none of these follows its end
-lower_alphanumeric : (b : ℕ) → is_ascii_alphanumeric (to_ascii_lowercase b) ≡ true → is_ascii_alphanumeric b ≡ true
-lower_alphanumeric b h = grind (arith, nat_tests, h)
-
 block_name_alphanumeric : (name : List ℕ) → IsBlockName name → list_all is_ascii_alphanumeric name ≡ true
 block_name_alphanumeric name is =
-    all_in_lower_case is_ascii_alphanumeric lower_alphanumeric name (contained_passes (list_all is_ascii_alphanumeric) block_names (in_lower_case name) refl is)
+    all_in_lower_case is_ascii_alphanumeric (λ b h. grind (arith, nat_tests, h)) name
+    (contained_passes (list_all is_ascii_alphanumeric) block_names (in_lower_case name) refl is)
 
 ends_alphanumeric : (b : ℕ) (t : Bool) → (is_white_or_line_end b || b == greater_than) || (b == solidus && t) ≡ true → is_ascii_alphanumeric b ≡ false
 ends_alphanumeric b t h = grind (arith, nat_tests, h)

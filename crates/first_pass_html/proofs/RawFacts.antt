@@ -1,11 +1,10 @@
 -- Facts on the end conditions of HTML blocks of types 1 to 5, by the first byte of the start condition.
 use Rattle.std.proofs.Common.{◌≡◌, ℕ, ◌<◌, ◌≤◌, Bool, true, false, ◌==◌, ◌&&◌, ◌||◌, List, [], ◌∷◌, length, take, drop, get_or, bytes_eq, if◌then◌else◌}
-use Rattle.std.proofs.Common.{codes, Some, None, refl, sym, ap, ◌∙◌, subst, arith}
+use Rattle.std.proofs.Common.{inl, inr, codes, Some, None, refl, sym, ap, ◌∙◌, subst, arith, take-append-drop, length-take-le}
 use Rattle.std.specs.List.{list_all, list_any, prefix_len}
 use Rattle.std.specs.Char.{to_ascii_lowercase, is_ascii_alphabetic}
-use Rattle.std.proofs.lemmas.Bool.{and_parts, and_from}
+use Rattle.std.proofs.lemmas.Bool.{and_parts, and_from, cases_Bool}
 use Rattle.std.proofs.lemmas.Bool.Decides.{nat_tests, same_from_decides}
-use Rattle.std.proofs.lemmas.List.{take-append-drop, length-take-le}
 use Rattle.std.proofs.lemmas.List.Folds.{length-prefix_len}
 use Rattle.std.proofs.lemmas.Slice.Eq.{bytes_eq-Decides}
 use Rattle.first_pass_items.specs.Bytes.{greater_than}
@@ -18,9 +17,6 @@ use Rattle.first_pass_html.proofs.NameFacts.{all_in_lower_case}
 use Rattle.first_pass_html.proofs.LongestNames.{front_within, same_length}
 
 -- a name of raw text has only letters, and no letter follows its end
-lower_alphabetic : (b : ℕ) → is_ascii_alphabetic (to_ascii_lowercase b) ≡ true → is_ascii_alphabetic b ≡ true
-lower_alphabetic b h = grind (arith, nat_tests, h)
-
 ends_alphabetic : (b : ℕ) → is_white_or_line_end b || b == greater_than ≡ true → is_ascii_alphabetic b ≡ false
 ends_alphabetic b h = grind (arith, nat_tests, h)
 
@@ -33,7 +29,8 @@ raw_size : (name bs : List ℕ) → list_all is_ascii_alphabetic (in_lower_case 
     → ends_raw_name (drop (length name) bs) ≡ true → prefix_len is_ascii_alphabetic bs ≡ length name
 raw_size name bs letters is ends =
     let same = (bytes_eq-Decides (in_lower_case (take (length name) bs)) (in_lower_case name)).0 is in
-    let all = all_in_lower_case is_ascii_alphabetic lower_alphabetic (take (length name) bs) (ap (list_all is_ascii_alphabetic) same ∙ letters) in
+    let all = all_in_lower_case is_ascii_alphabetic (λ b h. grind (arith, nat_tests, h)) (take (length name) bs)
+    (ap (list_all is_ascii_alphabetic) same ∙ letters) in
     front_size is_ascii_alphabetic bs (take (length name) bs) (drop (length name) bs) (sym (take-append-drop (length name) bs)) all
     (no_more_letters (drop (length name) bs) ends) ∙ length-take-le (length name) bs (front_within name bs is)
 
@@ -77,47 +74,27 @@ raw_differs c letter name [] some lower other = absurd (omega arith)
 raw_differs c letter name (b ∷ bs) some lower other =
     let differs : (to_ascii_lowercase b == to_ascii_lowercase c) ≡ false = ap (λ a. a == to_ascii_lowercase c) (sym lower) ∙ other in rw differs refl
 
+raw_first : (c letter : ℕ) (name bs : List ℕ) → 1 ≤ length bs → letter ≡ to_ascii_lowercase (get_or bs 0 0)
+    → begins_raw (c ∷ name) bs ≡ ((letter == to_ascii_lowercase c) && begins_raw (c ∷ name) bs)
+raw_first c letter name bs some lower = elim (cases_Bool (letter == to_ascii_lowercase c)) [
+  | inl e ↦ ap (λ t. t && begins_raw (c ∷ name) bs) (sym e)
+  | inr e ↦ raw_differs c letter name bs some lower e ∙ ap (λ t. t && begins_raw (c ∷ name) bs) (sym e)
+]
+
 four_by : (p s t x p1 s1 t1 x1 : Bool) → p ≡ p1 → s ≡ s1 → t ≡ t1 → x ≡ x1 → (p || (s || (t || x))) ≡ (p1 || (s1 || (t1 || x1)))
 four_by p s t x p1 s1 t1 x1 e f g h = rw e (rw f (rw g (rw h refl)))
 
-or_false : (t : Bool) → (t || false) ≡ t
+pub or_false : (t : Bool) → (t || false) ≡ t
 or_false true = refl
 or_false false = refl
 
--- raw text begins here only with one of the names that have its first letter
-pub raw_in_p : (bs : List ℕ) (letter : ℕ) → 1 ≤ length bs → letter ≡ to_ascii_lowercase (get_or bs 0 0) → letter ≡ 112
-    → begins_raw_text bs ≡ begins_raw (codes "pre") bs
-raw_in_p bs letter some lower is =
-    let off = λ (c : ℕ) (name : List ℕ) (d : (112 == to_ascii_lowercase c) ≡ false).
-    raw_differs c letter name bs some lower (ap (λ a. a == to_ascii_lowercase c) is ∙ d) in
-    raw_begins bs ∙ four_by _ _ _ _ (begins_raw (codes "pre") bs) false false false refl (off 115 (codes "cript") refl) (off 115 (codes "tyle") refl)
-    (off 116 (codes "extarea") refl) ∙ or_false _
-
-pub raw_in_s : (bs : List ℕ) (letter : ℕ) → 1 ≤ length bs → letter ≡ to_ascii_lowercase (get_or bs 0 0) → letter ≡ 115
-    → begins_raw_text bs ≡ (begins_raw (codes "script") bs || begins_raw (codes "style") bs)
-raw_in_s bs letter some lower is =
-    let off = λ (c : ℕ) (name : List ℕ) (d : (115 == to_ascii_lowercase c) ≡ false).
-    raw_differs c letter name bs some lower (ap (λ a. a == to_ascii_lowercase c) is ∙ d) in
-    raw_begins bs ∙ four_by _ _ _ _ false (begins_raw (codes "script") bs) (begins_raw (codes "style") bs) false (off 112 (codes "re") refl) refl refl
-    (off 116 (codes "extarea") refl) ∙ ap (λ t. begins_raw (codes "script") bs || t) (or_false _)
-
-pub raw_in_t : (bs : List ℕ) (letter : ℕ) → 1 ≤ length bs → letter ≡ to_ascii_lowercase (get_or bs 0 0) → letter ≡ 116
-    → begins_raw_text bs ≡ begins_raw (codes "textarea") bs
-raw_in_t bs letter some lower is =
-    let off = λ (c : ℕ) (name : List ℕ) (d : (116 == to_ascii_lowercase c) ≡ false).
-    raw_differs c letter name bs some lower (ap (λ a. a == to_ascii_lowercase c) is ∙ d) in
-    raw_begins bs ∙ four_by _ _ _ _ false false false (begins_raw (codes "textarea") bs) (off 112 (codes "re") refl) (off 115 (codes "cript") refl)
-    (off 115 (codes "tyle") refl) refl
-
-pub raw_in_other : (bs : List ℕ) (letter : ℕ) → 1 ≤ length bs → letter ≡ to_ascii_lowercase (get_or bs 0 0)
-    → list_any (λ c. letter == c) (112 ∷ 115 ∷ 116 ∷ []) ≡ false → begins_raw_text bs ≡ false
-raw_in_other bs letter some lower none =
-    let no_p : (letter == 112) ≡ false = grind (arith, nat_tests, none) in
-    let no_s : (letter == 115) ≡ false = grind (arith, nat_tests, none) in
-    let no_t : (letter == 116) ≡ false = grind (arith, nat_tests, none) in
-    raw_begins bs ∙ four_by _ _ _ _ false false false false (raw_differs 112 letter (codes "re") bs some lower no_p)
-    (raw_differs 115 letter (codes "cript") bs some lower no_s) (raw_differs 115 letter (codes "tyle") bs some lower no_s)
-    (raw_differs 116 letter (codes "extarea") bs some lower no_t)
+-- raw text begins here only with a name that has its first letter
+pub raw_by_letter : (bs : List ℕ) (letter : ℕ) → 1 ≤ length bs → letter ≡ to_ascii_lowercase (get_or bs 0 0)
+    → let is = λ (c : ℕ) (name : List ℕ). (letter == c) && begins_raw (c ∷ name) bs in
+    begins_raw_text bs ≡ (is 112 (codes "re") || (is 115 (codes "cript") || (is 115 (codes "tyle") || is 116 (codes "extarea"))))
+raw_by_letter bs letter some lower =
+    raw_begins bs ∙ four_by _ _ _ _ _ _ _ _ (raw_first 112 letter (codes "re") bs some lower) (raw_first 115 letter (codes "cript") bs some lower)
+    (raw_first 115 letter (codes "tyle") bs some lower) (raw_first 116 letter (codes "extarea") bs some lower)
 
 pub raw_in_none : (bs : List ℕ) → length bs < 1 → begins_raw_text bs ≡ false
 unfolding begins_raw_text is_raw_name

@@ -1,10 +1,9 @@
 -- Facts on the tests of the start conditions 1 to 6 of HTML blocks.
-use Rattle.std.proofs.Common.{◌↔◌, ℕ, IsTrue, List, take, drop, refl, sym}
+use Rattle.std.proofs.Common.{◌↔◌, ℕ, IsTrue, List, take, drop, refl, sym, take-append-drop}
 use Rattle.std.specs.List.{prefix_len}
 use Rattle.std.specs.Char.{is_ascii_alphanumeric}
 use Rattle.std.proofs.lemmas.Bool.{and_parts, and_from}
 use Rattle.std.proofs.lemmas.Cmp.{nat_list_eq_equiv}
-use Rattle.std.proofs.lemmas.List.{take-append-drop}
 use Rattle.std.proofs.lemmas.Map.Views.{Contains-from_any, list_any-from_Contains}
 use Rattle.std.proofs.lemmas.Slice.Eq.{bytes_eq-Decides}
 use Rattle.first_pass_html.specs.Names.{in_lower_case, block_names, IsBlockName, is_block_name}

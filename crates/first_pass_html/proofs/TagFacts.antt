@@ -1,8 +1,8 @@
 -- The parts of a tag at the start of the bytes have the counted lengths.
-use Rattle.std.proofs.Common.{◌≡◌, ◌⊎◌, inl, inr, ℕ, ◌+◌, Bool, true, false, true≢false, cond, ◌==◌, ◌||◌, List, [], ◌∷◌, ◌++◌, length, drop, Option, Some}
-use Rattle.std.proofs.Common.{None, refl, sym, ap, ◌∙◌, arith, append_assoc, length-append}
+use Rattle.std.proofs.Common.{◌≡◌, ◌⊎◌, inl, inr, ℕ, ◌+◌, Bool, true, false, true≢false, ◌==◌, ◌||◌, List, [], ◌∷◌, ◌++◌, length, drop, Option, Some, None}
+use Rattle.std.proofs.Common.{refl, sym, ap, ◌∙◌, arith, append_assoc, length-append, eq-eqb}
 use Rattle.std.specs.List.{prefix_len, list_all, concat}
-use Rattle.std.proofs.lemmas.Bool.{and_parts}
+use Rattle.std.proofs.lemmas.Bool.{and_parts, cond_both}
 use Rattle.std.proofs.lemmas.Bool.Decides.{nat_tests}
 use Rattle.std.proofs.Math.Seq.{drop-append_seam, drop-append-add}
 use Rattle.first_pass_items.specs.Bytes.{quotation_mark, apostrophe, solidus, equals_sign, greater_than}
@@ -12,27 +12,15 @@ use Rattle.first_pass_html.specs.Tags.{IsValueSpecification, IsAttribute, AreAtt
 use Rattle.first_pass_html.specs.TagLengths.{word_len, quoted_len, value_len, blanks_value_len, specification_len, attribute_name_len, named_len}
 use Rattle.first_pass_html.specs.TagLengths.{attribute_len, close_len, open_end_len}
 use Rattle.first_pass_html.specs.Fronts.{IsTagRest, IsEndBefore}
-use Rattle.first_pass_html.proofs.ListFacts.{prefix_all, prefix_none}
+use Rattle.first_pass_html.proofs.ListFacts.{prefix_all, prefix_none, front_size}
 use Rattle.first_pass_html.proofs.TailFacts.{word_all, rest_no_attribute, rest_no_equals, rest_unquoted}
 
 -- the byte is a quote
 abbrev pub is_quote : ℕ → Bool
 is_quote b = b == quotation_mark || b == apostrophe
 
-quote_itself : (quote : ℕ) → is_quoted quote quote ≡ false
-quote_itself quote = grind (arith, nat_tests)
-
-same_byte : (b : ℕ) → (b == b) ≡ true
-same_byte b = grind (arith, nat_tests)
-
 unquoted_no_quote : (b : ℕ) → is_unquoted b ≡ true → is_quote b ≡ false
 unquoted_no_quote b h = grind (arith, nat_tests, h)
-
-unquoted_no_blank : (b : ℕ) → is_unquoted b ≡ true → is_space_or_tab b ≡ false
-unquoted_no_blank b h = grind (arith, nat_tests, h)
-
-attribute_no_blank : (b : ℕ) → starts_attribute b ≡ true → is_space_or_tab b ≡ false
-attribute_no_blank b h = grind (arith, nat_tests, h)
 
 blank_no_attribute : (b : ℕ) → is_space_or_tab b ≡ true → is_attribute_byte b ≡ false
 blank_no_attribute b h = grind (arith, nat_tests, h)
@@ -41,10 +29,8 @@ blank_no_attribute b h = grind (arith, nat_tests, h)
 quoted_is : (quote : ℕ) (inside bs : List ℕ) → list_all (is_quoted quote) inside ≡ true → quoted_len quote (inside ++ quote ∷ bs) ≡ Some (length inside + 2)
 unfolding quoted_len
 quoted_is quote inside bs all =
-    let more = prefix_all (is_quoted quote) inside (quote ∷ bs) all in
-    let none = prefix_none (is_quoted quote) quote bs (quote_itself quote) in
-    let size : prefix_len (is_quoted quote) (inside ++ quote ∷ bs) ≡ length inside = omega arith in
-    rw (size, drop-append_seam, same_byte)
+    let size = front_size (is_quoted quote) _ inside (quote ∷ bs) refl all (prefix_none (is_quoted quote) quote bs (grind (arith, nat_tests))) in
+    rw (size, drop-append_seam, eq-eqb quote quote refl)
 
 value_quoted : (quote : ℕ) (v bs : List ℕ) → is_quote quote ≡ true → IsQuotedValue quote v → value_len (v ++ bs) ≡ Some (length v + 0)
 unfolding value_len
@@ -57,11 +43,9 @@ value_unquoted : (v bs : List ℕ) → is_word is_unquoted is_unquoted v ≡ tru
 unfolding value_len
 value_unquoted [] bs h = absurd (true≢false (sym h))
 value_unquoted (b ∷ v) bs h =
-    let more = prefix_all is_unquoted (b ∷ v) bs h in
     let plain : is_quote b ≡ false = unquoted_no_quote b (and_parts _ _ h).0 in
     let some : (length (b ∷ v) + prefix_len is_unquoted bs == 0) ≡ false = grind (arith, nat_tests) in
-    let size : prefix_len is_unquoted (b ∷ (v ++ bs)) ≡ length (b ∷ v) + prefix_len is_unquoted bs = more in
-    rw (plain, size, some)
+    rw (plain, prefix_all is_unquoted (b ∷ v) bs h, some)
 
 pub value_is : (v bs following : List ℕ) → IsValue v → IsTagRest bs following
     → (e : ℕ) × (value_len (v ++ bs) ≡ Some (length v + e)) × IsTagRest (drop e bs) following
@@ -69,12 +53,13 @@ value_is v bs following (inl h) r = (prefix_len is_unquoted bs, value_unquoted v
 value_is v bs following (inr (inl h)) r = (0, value_quoted apostrophe v bs refl h, r)
 value_is v bs following (inr (inr h)) r = (0, value_quoted quotation_mark v bs refl h, r)
 
-value_no_blank_by : (v bs : List ℕ) → is_word is_unquoted is_unquoted v ≡ true → prefix_len is_space_or_tab (v ++ bs) ≡ 0
-value_no_blank_by [] bs h = absurd (true≢false (sym h))
-value_no_blank_by (b ∷ v) bs h = prefix_none is_space_or_tab b (v ++ bs) (unquoted_no_blank b (and_parts _ _ h).0)
+-- the first byte of a word
+word_none : (p first other : ℕ → Bool) → ((b : ℕ) → first b ≡ true → p b ≡ false) → (w bs : List ℕ) → is_word first other w ≡ true → prefix_len p (w ++ bs) ≡ 0
+word_none p first other apart [] bs h = absurd (true≢false (sym h))
+word_none p first other apart (b ∷ w) bs h = prefix_none p b (w ++ bs) (apart b (and_parts _ _ h).0)
 
 value_no_blank : (v bs : List ℕ) → IsValue v → prefix_len is_space_or_tab (v ++ bs) ≡ 0
-value_no_blank v bs (inl h) = value_no_blank_by v bs h
+value_no_blank v bs (inl h) = word_none is_space_or_tab is_unquoted is_unquoted (λ b k. grind (arith, nat_tests, k)) v bs h
 value_no_blank v bs (inr (inl (inside, parts, all))) = rw parts (prefix_none is_space_or_tab apostrophe ((inside ++ apostrophe ∷ []) ++ bs) refl)
 value_no_blank v bs (inr (inr (inside, parts, all))) = rw parts (prefix_none is_space_or_tab quotation_mark ((inside ++ quotation_mark ∷ []) ++ bs) refl)
 
@@ -83,18 +68,13 @@ blanks_value_is : (blanks v bs : List ℕ) (k : ℕ)
     → list_all is_space_or_tab blanks ≡ true → IsValue v → value_len (v ++ bs) ≡ Some k → blanks_value_len (blanks ++ (v ++ bs)) ≡ Some (length blanks + k)
 unfolding blanks_value_len
 blanks_value_is blanks v bs k h is e =
-    let more = prefix_all is_space_or_tab blanks (v ++ bs) h in
-    let none = value_no_blank v bs is in
-    let size : prefix_len is_space_or_tab (blanks ++ (v ++ bs)) ≡ length blanks = omega arith in
-    rw (size, drop-append_seam, e)
+    rw (front_size is_space_or_tab _ blanks (v ++ bs) refl h (value_no_blank v bs is), drop-append_seam, e)
 
 equals_is : (blanks bs : List ℕ) (k : ℕ)
     → list_all is_space_or_tab blanks ≡ true → blanks_value_len bs ≡ Some k → specification_len (blanks ++ equals_sign ∷ bs) ≡ length blanks + 1 + k
 unfolding specification_len
 equals_is blanks bs k h e =
-    let more = prefix_all is_space_or_tab blanks (equals_sign ∷ bs) h in
-    let none : prefix_len is_space_or_tab (equals_sign ∷ bs) ≡ 0 = prefix_none is_space_or_tab equals_sign bs refl in
-    let size : prefix_len is_space_or_tab (blanks ++ equals_sign ∷ bs) ≡ length blanks = omega arith in
+    let size = front_size is_space_or_tab _ blanks (equals_sign ∷ bs) refl h (prefix_none is_space_or_tab equals_sign bs refl) in
     let following : drop (length blanks + 1) (blanks ++ equals_sign ∷ bs) ≡ bs = drop-append-add blanks (equals_sign ∷ bs) 1 in
     rw (size, drop-append_seam, following, e)
 
@@ -145,10 +125,6 @@ named_is name s bs following k h none e =
     let first : attribute_name_len (name ++ (s ++ bs)) ≡ Some (length name) = name_is starts_attribute is_attribute_byte name (s ++ bs) h none in
     rw (first, drop-append_seam, e)
 
-name_no_blank : (name bs : List ℕ) → is_attribute_name name ≡ true → prefix_len is_space_or_tab (name ++ bs) ≡ 0
-name_no_blank [] bs h = absurd (true≢false (sym h))
-name_no_blank (b ∷ name) bs h = prefix_none is_space_or_tab b (name ++ bs) (attribute_no_blank b (and_parts _ _ h).0)
-
 -- attributes
 some_blank : (blanks : List ℕ) → is_word is_space_or_tab is_space_or_tab blanks ≡ true → (length blanks == 0) ≡ false
 some_blank [] h = absurd (true≢false (sym h))
@@ -159,10 +135,8 @@ blanks_named_is : (blanks name bs : List ℕ) (k : ℕ) → is_word is_space_or_
     → attribute_len (blanks ++ (name ++ bs)) ≡ Some (length blanks + k)
 unfolding attribute_len
 blanks_named_is blanks name bs k h named e =
-    let more = prefix_all is_space_or_tab blanks (name ++ bs) (word_all is_space_or_tab blanks h) in
-    let none = name_no_blank name bs named in
-    let size : prefix_len is_space_or_tab (blanks ++ (name ++ bs)) ≡ length blanks = omega arith in
-    rw (size, some_blank blanks h, drop-append_seam, e)
+    let none = word_none is_space_or_tab starts_attribute is_attribute_byte (λ b k. grind (arith, nat_tests, k)) name bs named in
+    rw (front_size is_space_or_tab _ blanks (name ++ bs) refl (word_all is_space_or_tab blanks h) none, some_blank blanks h, drop-append_seam, e)
 
 attribute_is : (a bs following : List ℕ)
     → IsAttribute a → IsTagRest bs following → (e : ℕ) × (attribute_len (a ++ bs) ≡ Some (length a + e)) × IsTagRest (drop e bs) following
@@ -178,85 +152,58 @@ attribute_is a bs following i r =
     ap length i.parts ∙ omega (arith, length-append i.blanks (i.name ++ i.specification), length-append i.name i.specification) in
     (s.0, rw whole (len ∙ ap Some (omega arith)), s.2)
 
--- The end of an open tag: no attribute begins there.
-no_attribute_at : (blanks : List ℕ) (c : ℕ) (others : List ℕ)
-    → list_all is_space_or_tab blanks ≡ true → is_space_or_tab c ≡ false → starts_attribute c ≡ false → attribute_len (blanks ++ c ∷ others) ≡ None
-unfolding attribute_len named_len
-no_attribute_at blanks c others h solid none =
-    let more = prefix_all is_space_or_tab blanks (c ∷ others) h in
-    let stop = prefix_none is_space_or_tab c others solid in
-    let size : prefix_len is_space_or_tab (blanks ++ c ∷ others) ≡ length blanks = omega arith in
-    rw (size, drop-append_seam, none) (elim (length blanks == 0) as (λ t. cond {A = Option ℕ} t None None ≡ None) [ true ↦ refl | false ↦ refl ])
+-- no attribute begins at the end of an open tag, which has the counted length
+end_at : (blanks others : List ℕ) (c k : ℕ) → list_all is_space_or_tab blanks ≡ true → is_space_or_tab c ≡ false → starts_attribute c ≡ false
+    → close_len (c ∷ others) ≡ Some k
+    → (attribute_len (blanks ++ c ∷ others) ≡ None) × (open_end_len (blanks ++ c ∷ others) ≡ Some (length blanks + k))
+unfolding attribute_len named_len open_end_len
+end_at blanks others c k h solid none e =
+    let size = front_size is_space_or_tab _ blanks (c ∷ others) refl h (prefix_none is_space_or_tab c others solid) in
+    rw (size, drop-append_seam, none, e) (cond_both (length blanks == 0) _ _ (λ (o : Option ℕ). o ≡ None) (λ _. refl) (λ _. refl), refl)
 
-end_no_attribute_by : (blanks slash following : List ℕ)
-    → list_all is_space_or_tab blanks ≡ true → (slash ≡ []) ⊎ (slash ≡ solidus ∷ [])
-    → attribute_len ((blanks ++ (slash ++ greater_than ∷ [])) ++ following) ≡ None
-end_no_attribute_by blanks slash following h (inl none) =
-    rw (none, append_assoc blanks (greater_than ∷ []) following) (no_attribute_at blanks greater_than following h refl refl)
-end_no_attribute_by blanks slash following h (inr one) =
-    rw (one, append_assoc blanks (solidus ∷ greater_than ∷ []) following) (no_attribute_at blanks solidus (greater_than ∷ following) h refl refl)
-
-end_no_attribute : (ending following : List ℕ) → IsOpenTagEnd ending → attribute_len (ending ++ following) ≡ None
-end_no_attribute ending following e = rw e.parts (end_no_attribute_by e.blanks e.slash following e.is_blanks e.is_slash)
-
--- the end of an open tag has the counted length
-end_len_at : (blanks others : List ℕ) (c k : ℕ)
-    → list_all is_space_or_tab blanks ≡ true → is_space_or_tab c ≡ false → close_len (c ∷ others) ≡ Some k
-    → open_end_len (blanks ++ c ∷ others) ≡ Some (length blanks + k)
-unfolding open_end_len
-end_len_at blanks others c k h solid e =
-    let more = prefix_all is_space_or_tab blanks (c ∷ others) h in
-    let stop = prefix_none is_space_or_tab c others solid in
-    let size : prefix_len is_space_or_tab (blanks ++ c ∷ others) ≡ length blanks = omega arith in
-    rw (size, drop-append_seam, e)
-
-end_is_by : (blanks slash following : List ℕ) → list_all is_space_or_tab blanks ≡ true → (slash ≡ []) ⊎ (slash ≡ solidus ∷ [])
-    → open_end_len ((blanks ++ (slash ++ greater_than ∷ [])) ++ following) ≡ Some (length (blanks ++ (slash ++ greater_than ∷ [])))
-end_is_by blanks slash following h (inl none) =
-    rw (none, append_assoc blanks (greater_than ∷ []) following)
-    (end_len_at blanks following greater_than 1 h refl refl ∙ ap Some (omega (arith, length-append blanks (greater_than ∷ []))))
-end_is_by blanks slash following h (inr one) =
+end_by : (blanks slash following : List ℕ) → list_all is_space_or_tab blanks ≡ true → (slash ≡ []) ⊎ (slash ≡ solidus ∷ [])
+    → (attribute_len ((blanks ++ (slash ++ greater_than ∷ [])) ++ following) ≡ None)
+    × (open_end_len ((blanks ++ (slash ++ greater_than ∷ [])) ++ following) ≡ Some (length (blanks ++ (slash ++ greater_than ∷ []))))
+end_by blanks slash following h (inl none) =
+    let e = end_at blanks following greater_than 1 h refl refl refl in
+    rw (none, append_assoc blanks (greater_than ∷ []) following) (e.0, e.1 ∙ ap Some (omega (arith, length-append blanks (greater_than ∷ []))))
+end_by blanks slash following h (inr one) =
+    let e = end_at blanks (greater_than ∷ following) solidus 2 h refl refl refl in
     rw (one, append_assoc blanks (solidus ∷ greater_than ∷ []) following)
-    (end_len_at blanks (greater_than ∷ following) solidus 2 h refl refl ∙ ap Some (omega (arith, length-append blanks (solidus ∷ greater_than ∷ []))))
+    (e.0, e.1 ∙ ap Some (omega (arith, length-append blanks (solidus ∷ greater_than ∷ []))))
 
-pub end_is : (ending following : List ℕ) → IsOpenTagEnd ending → open_end_len (ending ++ following) ≡ Some (length ending)
-end_is ending following e = rw e.parts (end_is_by e.blanks e.slash following e.is_blanks e.is_slash)
+pub end_is : (ending following : List ℕ) → IsOpenTagEnd ending
+    → (attribute_len (ending ++ following) ≡ None) × (open_end_len (ending ++ following) ≡ Some (length ending))
+end_is ending following e = rw e.parts (end_by e.blanks e.slash following e.is_blanks e.is_slash)
 
 -- the rest of a tag after an attribute, and without attributes
 pub rest_of_others : (others : List (List ℕ)) (ending following : List ℕ)
     → AreAttributes others → IsOpenTagEnd ending → IsTagRest (concat others ++ (ending ++ following)) following
 rest_of_others others ending following are e = record { attributes = others; ending = ending; parts = refl; are_attributes = are; ends = e }
 
-step_by : (attributes : List (List ℕ)) (ending following : List ℕ) (n : ℕ)
-    → AreAttributes attributes → IsOpenTagEnd ending → attribute_len (concat attributes ++ (ending ++ following)) ≡ Some n
-    → IsTagRest (drop n (concat attributes ++ (ending ++ following))) following
-step_by [] ending following n are e h = let none = end_no_attribute ending following e in cc
-step_by (a ∷ others) ending following n are e h =
-    let rest : List ℕ = concat others ++ (ending ++ following) in
-    let i = attribute_is a rest following are.0 (rest_of_others others ending following are.1 e) in
-    let whole : (a ++ concat others) ++ (ending ++ following) ≡ a ++ rest = append_assoc a (concat others) (ending ++ following) in
-    let some : attribute_len (a ++ rest) ≡ Some n = ap attribute_len (sym whole) ∙ h in
-    let size : n ≡ length a + i.0 = let both = i.1 in cc in
-    rw (whole, size, drop-append-add) i.2
+-- an attribute begins, and the rest of a tag follows it; or the end of the tag begins
+abbrev NextPart : List ℕ → List ℕ → Type 0
+NextPart bs following =
+    ((n : ℕ) × (attribute_len bs ≡ Some n) × IsTagRest (drop n bs) following) ⊎ ((attribute_len bs ≡ None) × IsEndBefore bs following)
+
+next_by : (attributes : List (List ℕ)) (ending following : List ℕ)
+    → AreAttributes attributes → IsOpenTagEnd ending → NextPart (concat attributes ++ (ending ++ following)) following
+next_by [] ending following are e = inr ((end_is ending following e).0, record { ending = ending; parts = refl; ends = e })
+next_by (a ∷ others) ending following are e =
+    let i = attribute_is a (concat others ++ (ending ++ following)) following are.0 (rest_of_others others ending following are.1 e) in
+    rw (append_assoc a (concat others) (ending ++ following)) (inl (length a + i.0, i.1, rw drop-append-add i.2))
+
+next : (bs following : List ℕ) → IsTagRest bs following → NextPart bs following
+next bs following r = rw r.parts (next_by r.attributes r.ending following r.are_attributes r.ends)
 
 pub step : (bs following : List ℕ) (n : ℕ) → IsTagRest bs following → attribute_len bs ≡ Some n → IsTagRest (drop n bs) following
-step bs following n r h =
-    let some : attribute_len (concat r.attributes ++ (r.ending ++ following)) ≡ Some n = ap attribute_len (sym r.parts) ∙ h in
-    rw r.parts (step_by r.attributes r.ending following n r.are_attributes r.ends some)
-
-last_by : (attributes : List (List ℕ)) (ending following : List ℕ)
-    → AreAttributes attributes → IsOpenTagEnd ending → attribute_len (concat attributes ++ (ending ++ following)) ≡ None
-    → IsEndBefore (concat attributes ++ (ending ++ following)) following
-last_by [] ending following are e h = record { ending = ending; parts = refl; ends = e }
-last_by (a ∷ others) ending following are e h =
-    let rest : List ℕ = concat others ++ (ending ++ following) in
-    let i = attribute_is a rest following are.0 (rest_of_others others ending following are.1 e) in
-    let whole : (a ++ concat others) ++ (ending ++ following) ≡ a ++ rest = append_assoc a (concat others) (ending ++ following) in
-    let some = i.1 in
-    let none : attribute_len (a ++ rest) ≡ None = ap attribute_len (sym whole) ∙ h in
-    cc
+step bs following n r h = elim (next bs following r) [
+  | inl (m, some, rest) ↦ (let size : n ≡ m = cc in rw size rest)
+  | inr (none, end) ↦ absurd cc
+]
 
 pub last : (bs following : List ℕ) → IsTagRest bs following → attribute_len bs ≡ None → IsEndBefore bs following
-last bs following r h =
-    let none : attribute_len (concat r.attributes ++ (r.ending ++ following)) ≡ None = ap attribute_len (sym r.parts) ∙ h in
-    rw r.parts (last_by r.attributes r.ending following r.are_attributes r.ends none)
+last bs following r h = elim (next bs following r) [
+  | inl (m, some, rest) ↦ absurd cc
+  | inr (none, end) ↦ end
+]

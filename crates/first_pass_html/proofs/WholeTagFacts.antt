@@ -1,22 +1,44 @@
 -- Whole tags at the start of the bytes.
-use Rattle.std.proofs.Common.{◌≡◌, inl, inr, ℕ, suc, ◌+◌, ◌≤◌, true, false, true≢false, List, [], ◌∷◌, ◌++◌, length, take, drop, Some, None, refl, sym, ap}
-use Rattle.std.proofs.Common.{◌∙◌, subst, arith, append_assoc, length-append, length-drop, add-one}
-use Rattle.std.specs.Option.{is_some}
+use Rattle.std.proofs.Common.{◌≡◌, inl, inr, ℕ, suc, ◌+◌, ◌<◌, true, false, true≢false, List, [], ◌∷◌, ◌++◌, length, take, drop, Some, None, refl, sym, ap}
+use Rattle.std.proofs.Common.{◌∙◌, subst, arith, append_assoc, length-append, length-drop, add-one, is_some, drop-drop, take-append-drop, length-take}
+use Rattle.std.proofs.Common.{length-take-le, take-add}
 use Rattle.std.specs.List.{prefix_len, list_all, concat}
-use Rattle.std.proofs.lemmas.Bool.{and_parts, eqb-true}
-use Rattle.std.proofs.lemmas.List.{drop-drop, take-append-drop, length-take-le}
-use Rattle.std.proofs.Math.Seq.{take-add, drop-append_seam}
+use Rattle.std.proofs.lemmas.Bool.{and_parts}
+use Rattle.std.proofs.lemmas.Option.{cond_some}
+use Rattle.std.proofs.Math.Seq.{drop-append_seam}
 use Rattle.std.specs.Char.{is_ascii_alphabetic}
 use Rattle.first_pass_items.specs.Bytes.{solidus, less_than, greater_than}
 use Rattle.first_pass_lines.specs.Lines.{begins, blank_len, is_space_or_tab}
 use Rattle.first_pass_html.specs.Starts.{is_raw_name}
 use Rattle.first_pass_html.specs.Tags.{is_tag_byte, is_tag_name, IsClosingTag, IsBlockOpenTag, IsAfterOpening, IsAfterClosing, IsBlockTag, BeginsTagLine}
-use Rattle.first_pass_html.specs.TagLengths.{tag_name_len, open_end_len, closing_end_len}
+use Rattle.first_pass_html.specs.Tags.{IsOpenTagEnd}
+use Rattle.first_pass_html.specs.TagLengths.{tag_name_len, attribute_len, open_end_len, closing_end_len}
 use Rattle.first_pass_html.specs.Fronts.{IsOnlyFront, HasNoFront, IsTagRest, IsEndBefore, IsPastAttributes}
-use Rattle.first_pass_html.proofs.ListFacts.{prefix_all, prefix_none, prefix_passes, rest_after, front_of}
+use Rattle.first_pass_html.proofs.ListFacts.{prefix_none, prefix_passes, front_size, rest_after, front_of}
 use Rattle.first_pass_html.proofs.TailFacts.{rest_no_tag}
-use Rattle.first_pass_html.proofs.TagFacts.{name_is, rest_of_others, end_is}
-use Rattle.first_pass_html.proofs.FrontFacts.{name_front, end_front, some_if, begins_front}
+use Rattle.first_pass_html.proofs.TagFacts.{name_is, rest_of_others, end_is, step, last}
+use Rattle.first_pass_html.proofs.FrontFacts.{name_front, attribute_front, end_front, first_byte}
+
+-- attributes at the start of the bytes: none, or one more
+pub past_none : (bs : List ℕ) → attribute_len bs ≡ None → IsPastAttributes bs 0
+past_none bs e = record { attributes = []; parts = refl; are_attributes = tt; all = λ following r. last bs following r e }
+
+pub past_more : (bs : List ℕ) (n a : ℕ) → attribute_len bs ≡ Some n → IsPastAttributes (drop n bs) a → IsPastAttributes bs (n + a)
+past_more bs n a e past = record {
+  attributes = take n bs ∷ past.attributes;
+  parts = take-add n a bs ∙ ap (λ xs. take n bs ++ xs) past.parts;
+  are_attributes = (attribute_front bs n e, past.are_attributes);
+  all = λ following r. subst (λ (xs : List ℕ). IsEndBefore xs following) (drop-drop a n bs) (past.all following (step bs following n r e));
+}
+
+-- the accepted prefix of n bytes is the only one, if each accepted prefix has n bytes
+only_front : (Accepts : List ℕ → Type 0) (bs : List ℕ) (n : ℕ) → Accepts (take n bs)
+    → ((front rest : List ℕ) → bs ≡ front ++ rest → Accepts front → length front ≡ n) → IsOnlyFront Accepts bs n
+only_front Accepts bs n is only = record {
+  within = omega (arith, only (take n bs) (drop n bs) (sym (take-append-drop n bs)) is, length-take n bs);
+  is_text = is;
+  only = only;
+}
 
 -- a tag after its opening bytes: a tag name, and the rest of a tag
 record NameThenRest (bs : List ℕ) (following : List ℕ) : Type 0 where
@@ -34,22 +56,18 @@ name_same : (bs following : List ℕ) (n : ℕ) (r : NameThenRest bs following) 
 name_same bs following n r h = let e = name_counted bs following r in cc
 
 -- open tags
-opening_parts : (bs front following : List ℕ)
-    → bs ≡ front ++ following → (tag : IsAfterOpening front) → bs ≡ tag.0.name ++ (concat tag.0.attributes ++ (tag.0.ending ++ following))
-opening_parts bs front following parts tag =
+opening_rest : (bs front following : List ℕ) → bs ≡ front ++ following → (tag : IsAfterOpening front) → NameThenRest bs following
+opening_rest bs front following parts tag =
     let t = tag.0 in
     let inside : front ≡ t.name ++ (concat t.attributes ++ t.ending) = let e = t.parts in cc in
-    parts ∙ ap (λ xs. xs ++ following) inside ∙ append_assoc t.name (concat t.attributes ++ t.ending) following
-    ∙ ap (λ xs. t.name ++ xs) (append_assoc (concat t.attributes) t.ending following)
-
-opening_rest : (bs front following : List ℕ) → bs ≡ front ++ following → (tag : IsAfterOpening front) → NameThenRest bs following
-opening_rest bs front following parts tag = record {
-  name = tag.0.name;
-  others = concat tag.0.attributes ++ (tag.0.ending ++ following);
-  parts = opening_parts bs front following parts tag;
-  is_name = tag.0.is_name;
-  rest = rest_of_others tag.0.attributes tag.0.ending following tag.0.are_attributes tag.0.ends;
-}
+    record {
+      name = t.name;
+      others = concat t.attributes ++ (t.ending ++ following);
+      parts = parts ∙ ap (λ xs. xs ++ following) inside ∙ append_assoc t.name (concat t.attributes ++ t.ending) following
+          ∙ ap (λ xs. t.name ++ xs) (append_assoc (concat t.attributes) t.ending following);
+      is_name = t.is_name;
+      rest = rest_of_others t.attributes t.ending following t.are_attributes t.ends;
+    }
 
 pub opening_needs_name : (bs : List ℕ) → tag_name_len bs ≡ None → HasNoFront IsAfterOpening bs
 opening_needs_name bs none front following parts tag = let some = name_counted bs following (opening_rest bs front following parts tag) in cc
@@ -63,46 +81,39 @@ opening_not_raw bs n h raw front following parts tag =
 
 -- the end of the tag follows the counted name and attributes
 opening_end : (bs front following : List ℕ) (n a : ℕ)
-    → bs ≡ front ++ following → IsAfterOpening front → tag_name_len bs ≡ Some n → IsPastAttributes (drop n bs) a → IsEndBefore (drop a (drop n bs)) following
+    → bs ≡ front ++ following → IsAfterOpening front → tag_name_len bs ≡ Some n → IsPastAttributes (drop n bs) a
+    → (e : IsEndBefore (drop a (drop n bs)) following) × (open_end_len (drop a (drop n bs)) ≡ Some (length e.ending))
 opening_end bs front following n a parts tag h past =
     let r = opening_rest bs front following parts tag in
     let same : drop n bs ≡ r.others = rest_after n bs r.name r.others r.parts (name_same bs following n r h) in
-    past.all following (rw same r.rest)
-
-end_counted : (bs following : List ℕ) → (e : IsEndBefore bs following) → open_end_len bs ≡ Some (length e.ending)
-end_counted bs following e = rw e.parts (end_is e.ending following e.ends)
+    let e = past.all following (rw same r.rest) in
+    (e, ap open_end_len e.parts ∙ (end_is e.ending following e.ends).1)
 
 pub opening_needs_end : (bs : List ℕ) (n a : ℕ)
     → tag_name_len bs ≡ Some n → IsPastAttributes (drop n bs) a → open_end_len (drop a (drop n bs)) ≡ None → HasNoFront IsAfterOpening bs
 opening_needs_end bs n a h past none front following parts tag =
-    let e = opening_end bs front following n a parts tag h past in
-    let some = end_counted (drop a (drop n bs)) following e in
-    cc
+    let some = (opening_end bs front following n a parts tag h past).1 in cc
 
--- the bytes of an open tag after its opening byte were counted: its name, its attributes and its end
-pub record OpeningCounted (bs : List ℕ) (n a k : ℕ) : Type 0 where
-  pub named : tag_name_len bs ≡ Some n
-  pub named_fits : n ≤ length bs
-  pub past : IsPastAttributes (drop n bs) a
-  pub past_fits : a ≤ length (drop n bs)
-  pub ended : open_end_len (drop a (drop n bs)) ≡ Some k
+end_some : (ending : List ℕ) → IsOpenTagEnd ending → 0 < length ending
+end_some ending e =
+    omega (arith, ap length e.parts, length-append e.blanks (e.slash ++ greater_than ∷ []), length-append e.slash (greater_than ∷ []))
 
 opening_only : (bs front following : List ℕ) (n a k : ℕ)
-    → bs ≡ front ++ following → IsAfterOpening front → OpeningCounted bs n a k → length front ≡ n + a + k
-opening_only bs front following n a k parts tag c =
-    let e = opening_end bs front following n a parts tag c.named c.past in
-    let counted = end_counted (drop a (drop n bs)) following e in
-    let some = c.ended in
-    let fits = c.named_fits in
-    let within = c.past_fits in
+    → bs ≡ front ++ following → IsAfterOpening front → tag_name_len bs ≡ Some n → IsPastAttributes (drop n bs) a
+    → open_end_len (drop a (drop n bs)) ≡ Some k → length front ≡ n + a + k
+opening_only bs front following n a k parts tag h past some =
+    let end = opening_end bs front following n a parts tag h past in
+    let e = end.0 in
+    let counted = end.1 in
+    let nonempty = end_some e.ending e.ends in
     let same : k ≡ length e.ending = cc in
     let size : length bs ≡ length front + length following = ap length parts ∙ length-append front following in
     let left : length (drop a (drop n bs)) ≡ length e.ending + length following = ap length e.parts ∙ length-append e.ending following in
     omega (arith, length-drop a (drop n bs), length-drop n bs)
 
-opening_is : (bs : List ℕ) (n a k : ℕ) → OpeningCounted bs n a k → is_raw_name (take n bs) ≡ false → IsAfterOpening (take (n + a + k) bs)
-opening_is bs n a k c raw =
-    let past = c.past in
+opening_is : (bs : List ℕ) (n a k : ℕ) → tag_name_len bs ≡ Some n → IsPastAttributes (drop n bs) a → open_end_len (drop a (drop n bs)) ≡ Some k
+    → is_raw_name (take n bs) ≡ false → IsAfterOpening (take (n + a + k) bs)
+opening_is bs n a k h past some raw =
     let following : drop (n + a) bs ≡ drop a (drop n bs) = sym (drop-drop a n bs) in
     let whole : take (n + a + k) bs ≡ take n bs ++ (concat past.attributes ++ take k (drop a (drop n bs))) =
     take-add (n + a) k bs
@@ -114,37 +125,31 @@ opening_is bs n a k c raw =
         attributes = past.attributes;
         ending = take k (drop a (drop n bs));
         parts = ap (λ xs. less_than ∷ xs) whole;
-        is_name = name_front is_ascii_alphabetic is_tag_byte bs n c.named;
+        is_name = name_front is_ascii_alphabetic is_tag_byte bs n h;
         are_attributes = past.are_attributes;
-        ends = end_front (drop a (drop n bs)) k c.ended;
+        ends = end_front (drop a (drop n bs)) k some;
       },
       raw,
     )
 
-pub opening_found : (bs : List ℕ) (n a k : ℕ)
-    → OpeningCounted bs n a k → is_raw_name (take n bs) ≡ false → k ≤ length (drop a (drop n bs)) → IsOnlyFront IsAfterOpening bs (n + a + k)
-opening_found bs n a k c raw ends = record {
-  within = omega (arith, ends, c.named_fits, c.past_fits, length-drop a (drop n bs), length-drop n bs);
-  is_text = opening_is bs n a k c raw;
-  only = λ front following parts tag. opening_only bs front following n a k parts tag c;
-}
+pub opening_found : (bs : List ℕ) (n a k : ℕ) → tag_name_len bs ≡ Some n → IsPastAttributes (drop n bs) a → open_end_len (drop a (drop n bs)) ≡ Some k
+    → is_raw_name (take n bs) ≡ false → IsOnlyFront IsAfterOpening bs (n + a + k)
+opening_found bs n a k h past some raw =
+    only_front IsAfterOpening bs (n + a + k) (opening_is bs n a k h past some raw)
+    (λ front following parts tag. opening_only bs front following n a k parts tag h past some)
 
 -- closing tags
-closing_rest : (bs front following : List ℕ) → bs ≡ front ++ following → (tag : IsAfterClosing front)
-    → bs ≡ tag.name ++ ((tag.blanks ++ greater_than ∷ []) ++ following)
-closing_rest bs front following parts tag =
-    let inside : front ≡ tag.name ++ (tag.blanks ++ greater_than ∷ []) = let e = tag.parts in cc in
-    parts ∙ ap (λ xs. xs ++ following) inside ∙ append_assoc tag.name (tag.blanks ++ greater_than ∷ []) following
-
 closing_name : (bs front following : List ℕ) → bs ≡ front ++ following → (tag : IsAfterClosing front) → NameThenRest bs following
-closing_name bs front following parts tag = record {
-  name = tag.name;
-  others = (tag.blanks ++ greater_than ∷ []) ++ following;
-  parts = closing_rest bs front following parts tag;
-  is_name = tag.is_name;
-  rest = rest_of_others [] (tag.blanks ++ greater_than ∷ []) following tt
-      (record { blanks = tag.blanks; slash = []; parts = refl; is_blanks = tag.is_blanks; is_slash = inl refl });
-}
+closing_name bs front following parts tag =
+    let end : List ℕ = tag.blanks ++ greater_than ∷ [] in
+    let inside : front ≡ tag.name ++ end = let e = tag.parts in cc in
+    record {
+      name = tag.name;
+      others = end ++ following;
+      parts = parts ∙ ap (λ xs. xs ++ following) inside ∙ append_assoc tag.name end following;
+      is_name = tag.is_name;
+      rest = rest_of_others [] end following tt (record { blanks = tag.blanks; slash = []; parts = refl; is_blanks = tag.is_blanks; is_slash = inl refl });
+    }
 
 pub closing_needs_name : (bs : List ℕ) → tag_name_len bs ≡ None → HasNoFront IsAfterClosing bs
 closing_needs_name bs none front following parts tag = let some = name_counted bs following (closing_name bs front following parts tag) in cc
@@ -153,9 +158,7 @@ closing_end_is : (blanks following : List ℕ) → list_all is_space_or_tab blan
     → closing_end_len ((blanks ++ greater_than ∷ []) ++ following) ≡ Some (length blanks + 1)
 unfolding closing_end_len
 closing_end_is blanks following h =
-    let more = prefix_all is_space_or_tab blanks (greater_than ∷ following) h in
-    let none : prefix_len is_space_or_tab (greater_than ∷ following) ≡ 0 = prefix_none is_space_or_tab greater_than following refl in
-    let size : prefix_len is_space_or_tab (blanks ++ greater_than ∷ following) ≡ length blanks = omega arith in
+    let size = front_size is_space_or_tab _ blanks (greater_than ∷ following) refl h (prefix_none is_space_or_tab greater_than following refl) in
     rw (append_assoc blanks (greater_than ∷ []) following, size, drop-append_seam)
 
 closing_end : (bs front following : List ℕ) (n : ℕ) → bs ≡ front ++ following → (tag : IsAfterClosing front) → tag_name_len bs ≡ Some n
@@ -185,10 +188,10 @@ unfolding closing_end_len
 closing_is bs n k h some =
     let left : List ℕ = drop n bs in
     let j : ℕ = prefix_len is_space_or_tab left in
-    let both = some_if (begins greater_than (drop j left)) (j + 1) k some in
-    let end = begins_front greater_than (drop j left) both.0 in
+    let both = cond_some (begins greater_than (drop j left)) (j + 1) k some in
+    let end = first_byte greater_than (drop j left) both.0 in
     let front : take k left ≡ take j left ++ greater_than ∷ [] =
-    ap (λ i. take i left) (sym both.1) ∙ take-add j 1 left ∙ ap (λ xs. take j left ++ take 1 xs) end.1 in
+    ap (λ i. take i left) (sym both.1) ∙ take-add j 1 left ∙ ap (λ xs. take j left ++ take 1 xs) end in
     record {
       name = take n bs;
       blanks = take j left;
@@ -197,19 +200,11 @@ closing_is bs n k h some =
       is_blanks = prefix_passes is_space_or_tab left;
     }
 
-pub closing_found : (bs : List ℕ) (n k : ℕ)
-    → tag_name_len bs ≡ Some n → n ≤ length bs → closing_end_len (drop n bs) ≡ Some k → k ≤ length (drop n bs) → IsOnlyFront IsAfterClosing bs (n + k)
-closing_found bs n k h fits some within = record {
-  within = omega (arith, length-drop n bs);
-  is_text = closing_is bs n k h some;
-  only = λ front following parts tag. closing_only bs front following n k parts tag h some;
-}
+pub closing_found : (bs : List ℕ) (n k : ℕ) → tag_name_len bs ≡ Some n → closing_end_len (drop n bs) ≡ Some k → IsOnlyFront IsAfterClosing bs (n + k)
+closing_found bs n k h some =
+    only_front IsAfterClosing bs (n + k) (closing_is bs n k h some) (λ front following parts tag. closing_only bs front following n k parts tag h some)
 
 -- tags with the bytes before the name
-pub first_byte : (c : ℕ) (bs : List ℕ) → begins c bs ≡ true → bs ≡ c ∷ drop 1 bs
-first_byte c [] h = absurd (true≢false (sym h))
-first_byte c (b ∷ bs) h = rw (eqb-true b c h)
-
 after_first : (c : ℕ) (bs rest front others following : List ℕ) → bs ≡ c ∷ rest → bs ≡ front ++ following → front ≡ c ∷ others → rest ≡ others ++ following
 after_first c bs rest front others following whole parts first =
     let e : c ∷ rest ≡ c ∷ (others ++ following) = sym whole ∙ parts ∙ ap (λ xs. xs ++ following) first in cc
@@ -240,14 +235,10 @@ no_closing bs rest front following whole plain parts tag =
 
 pub open_found : (bs rest : List ℕ) (n : ℕ) → bs ≡ less_than ∷ rest → begins solidus rest ≡ false → IsOnlyFront IsAfterOpening rest n
     → IsOnlyFront IsBlockTag bs (n + 1)
-open_found bs rest n whole plain o = record {
-  within = let fits = o.within in omega (arith, ap length whole);
-  is_text = inl (rw (whole, add-one) o.is_text);
-  only = λ front following parts tag. elim tag [
-    | inl tag ↦ let t = open_tag bs rest front following whole parts tag in ap length t.1 ∙ omega (arith, o.only t.0 following t.2 t.3)
-    | inr tag ↦ absurd (no_closing bs rest front following whole plain parts tag)
-  ];
-}
+open_found bs rest n whole plain o = only_front IsBlockTag bs (n + 1) (inl (rw (whole, add-one) o.is_text)) (λ front following parts tag. elim tag [
+  | inl tag ↦ let t = open_tag bs rest front following whole parts tag in ap length t.1 ∙ omega (arith, o.only t.0 following t.2 t.3)
+  | inr tag ↦ absurd (no_closing bs rest front following whole plain parts tag)
+])
 
 pub open_none : (bs rest : List ℕ) → bs ≡ less_than ∷ rest → begins solidus rest ≡ false → HasNoFront IsAfterOpening rest → HasNoFront IsBlockTag bs
 open_none bs rest whole plain none front following parts (inl tag) = let t = open_tag bs rest front following whole parts tag in none t.0 following t.2 t.3
@@ -260,27 +251,19 @@ no_open bs rest front following whole parts tag =
     let r = opening_rest (solidus ∷ rest) t.0 following t.2 t.3 in
     name_no_slash r.name r.others rest r.is_name (sym r.parts)
 
-closing_after : (bs rest front following : List ℕ) → bs ≡ less_than ∷ solidus ∷ rest → bs ≡ front ++ following → IsClosingTag front
-    → (others : List ℕ) × (front ≡ less_than ∷ solidus ∷ others) × (rest ≡ others ++ following) × IsAfterClosing others
-closing_after bs rest front following whole parts tag =
-    let t = closing_tag bs (solidus ∷ rest) front following whole parts tag in
-    (t.0, t.1, let e = t.2 in cc, t.3)
-
 pub close_found : (bs rest : List ℕ) (n : ℕ) → bs ≡ less_than ∷ solidus ∷ rest → IsOnlyFront IsAfterClosing rest n → IsOnlyFront IsBlockTag bs (n + 2)
 close_found bs rest n whole o =
     let two : n + 2 ≡ suc (suc n) = omega arith in
-    record {
-      within = let fits = o.within in omega (arith, ap length whole);
-      is_text = inr (rw (whole, two) o.is_text);
-      only = λ front following parts tag. elim tag [
-        | inl tag ↦ absurd (no_open bs rest front following whole parts tag)
-        | inr tag ↦ let t = closing_after bs rest front following whole parts tag in ap length t.1 ∙ omega (arith, o.only t.0 following t.2 t.3)
-      ];
-    }
+    only_front IsBlockTag bs (n + 2) (inr (rw (whole, two) o.is_text)) (λ front following parts tag. elim tag [
+      | inl tag ↦ absurd (no_open bs rest front following whole parts tag)
+      | inr tag ↦ let t = closing_tag bs (solidus ∷ rest) front following whole parts tag in
+          ap length t.1 ∙ omega (arith, o.only t.0 following (let e = t.2 in cc) t.3)
+    ])
 
 pub close_none : (bs rest : List ℕ) → bs ≡ less_than ∷ solidus ∷ rest → HasNoFront IsAfterClosing rest → HasNoFront IsBlockTag bs
 close_none bs rest whole none front following parts (inl tag) = no_open bs rest front following whole parts tag
-close_none bs rest whole none front following parts (inr tag) = let t = closing_after bs rest front following whole parts tag in none t.0 following t.2 t.3
+close_none bs rest whole none front following parts (inr tag) =
+    let t = closing_tag bs (solidus ∷ rest) front following whole parts tag in none t.0 following (let e = t.2 in cc) t.3
 
 -- no tag begins with another byte
 pub needs_bracket : (bs : List ℕ) → begins less_than bs ≡ false → HasNoFront IsBlockTag bs

@@ -1,8 +1,9 @@
 -- A character that a JSON string has without an escape.
 use Rattle.std.proofs.Common.{◌≡◌, ℕ, ◌≤◌, [], ◌∷◌, ◌++◌, encode_utf8, sym, ap, ◌∙◌, arith}
+use Rattle.first_pass_grammar.proofs.Common.{backslash}
 use Rattle.std.proofs.lemmas.Str.{encode_ascii}
 use Rattle.json.specs.Print.{quoted}
-use Rattle.first_pass_items.specs.Bytes.{quotation_mark, backslash}
+use Rattle.first_pass_items.specs.Bytes.{quotation_mark}
 use Rattle.first_pass_json.specs.JsonValues.{json_string}
 use Rattle.json.proofs.Printed.Strings.{escape_byte_plain}
 

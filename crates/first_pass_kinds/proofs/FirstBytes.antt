@@ -1,29 +1,23 @@
 -- What the first byte of a line decides before its prefixes are read, and the first bytes of items that interrupt a
 -- paragraph.
-use Rattle.std.proofs.Common.{◌≡◌, inl, inr, ℕ, suc, ◌+◌, ◌==◌, nat_lt, nat_le, ◌&&◌, ◌||◌, not, Bool, true, false, true≢false, List, [], ◌∷◌, drop}
-use Rattle.std.proofs.Common.{Option, Some, None, is_some, if◌then◌else◌, refl, sym, ap, subst, ◌∙◌, arith}
-use Rattle.std.proofs.lemmas.Bool.{cases_eq, ne_eqb, eqb-true}
-use Rattle.std.proofs.lemmas.Bool.Decides.{nat_tests}
-use Rattle.std.specs.List.{prefix_len}
-use Rattle.std.proofs.Math.Bool.{or-true}
-use Rattle.std.specs.Option.{option_map, option_and_then}
-use Rattle.first_pass_items.specs.Bytes.{tab, space, hyphen, equals_sign, greater_than}
-use Rattle.first_pass_lines.specs.Lines.{begins, eol_len, blank_len, at_line_end, atx_level, is_white}
-use Rattle.first_pass_lines.specs.Plain.{is_plain, begins_plain}
-use Rattle.first_pass_lines.specs.Rest.{Rest, column_of_byte, next_column, after_columns, indent, columns_of, past_bytes, past_quote_byte, past_quote}
-use Rattle.first_pass_lines.specs.Places.{line_rest}
-use Rattle.first_pass_lines.proofs.Columns.{after-none}
-use Rattle.first_pass_scan.specs.LeafLines.{setext_underline, hrule_len, code_fence}
-use Rattle.first_pass_scan.specs.Markers.{is_bullet, bullet_marker, list_marker, listitem, after_marker, content_indent}
-use Rattle.first_pass_scan.proofs.PlainFacts.{plain_begins, plain_blank}
+use Rattle.std.proofs.Common.{◌≡◌, ℕ, suc, ◌+◌, ◌==◌, nat_lt, nat_le, ◌&&◌, ◌||◌, not, Bool, true, false, true≢false, List, [], ◌∷◌, drop, Option}
+use Rattle.std.proofs.Common.{Some, None, is_some, if◌then◌else◌, refl, sym, ap, subst, ◌∙◌, arith, eqb-true, option_map, option_and_then}
+use Rattle.first_pass_grammar.proofs.Common.{cond_both, and_parts, or_left, or_right, nat_tests, prefix_len, or-true, space, hyphen, equals_sign}
+use Rattle.first_pass_grammar.proofs.Common.{greater_than, begins, eol_len, blank_len, at_line_end, atx_level, is_white, is_plain, begins_plain, Rest}
+use Rattle.first_pass_grammar.proofs.Common.{column_of_byte, next_column, after_columns, indent, past_bytes, past_quote_byte, past_quote, line_rest}
+use Rattle.first_pass_grammar.proofs.Common.{after-none, setext_underline, hrule_len, code_fence, list_marker, plain_begins, Context, has_columns, prefix}
+use Rattle.first_pass_grammar.proofs.Common.{after, or_shorter, front, Continued, continued, all_taken}
+use Rattle.first_pass_grammar.proofs.Common.{interrupts_with, interrupts, underline_of}
+use Rattle.first_pass_items.specs.Bytes.{tab}
+use Rattle.first_pass_lines.specs.Rest.{columns_of}
+use Rattle.first_pass_scan.specs.Markers.{is_bullet, bullet_marker, listitem, after_marker, content_indent}
+use Rattle.first_pass_scan.proofs.PlainFacts.{isnt, plain_blank}
 use Rattle.first_pass_grammar.specs.declared.kind.Container.{Container}
 use Rattle.first_pass_grammar.specs.declared.kind.Container.TheVariants.{BlockQuote, ListItem, FootnoteDefinition, Definition}
-use Rattle.first_pass_grammar.specs.Containers.{Context, has_columns, prefix, after, or_shorter, front}
-use Rattle.first_pass_grammar.specs.Kinds.{Continued, continued, all_taken, begins_html_to_end, begins_html_to_blank, item_interrupts}
-use Rattle.first_pass_grammar.specs.Kinds.{interrupts_with, interrupts, underline_of}
+use Rattle.first_pass_grammar.specs.Kinds.{item_interrupts}
 use Rattle.first_pass_kinds.specs.declared.interrupt.NextLine.TheVariants.{More, NotText}
 use Rattle.first_pass_kinds.specs.NextLines.{next_line_of}
-use Rattle.first_pass_kinds.proofs.PlainLines.{none_either, plain_more}
+use Rattle.first_pass_kinds.proofs.PlainLines.{no_underline, plain_more}
 
 -- neither a column nor a block quote marker is here
 pub record HasNoPrefix (r : Rest) : Type 0 where
@@ -31,12 +25,8 @@ pub record HasNoPrefix (r : Rest) : Type 0 where
   pub quote : past_quote r ≡ None
 
 -- If `HasNoPrefix` holds, no container prefix takes anything, whether the line continues the container or not.
-if_same : (t : Bool) (r : Rest) → or_shorter (if t then Some r else None) r ≡ r
-if_same true r = refl
-if_same false r = refl
-
 columns_same : (n : ℕ) (r : Rest) → HasNoPrefix r → or_shorter (if has_columns n r then Some (after_columns n r) else None) r ≡ r
-columns_same n r h = rw (after-none n r h.column) (if_same _ r)
+columns_same n r h = rw (after-none n r h.column) (cond_both _ (Some r) None (λ o. or_shorter o r ≡ r) (λ _. refl) (λ _. refl))
 
 prefix_same : (c : Container) (r : Rest) → HasNoPrefix r → or_shorter (prefix c r) r ≡ r
 unfolding prefix
@@ -78,20 +68,9 @@ quote_none r (b ∷ bs) h = rw h refl
 none_first : (bs : List ℕ) → begins space bs ≡ false → begins tab bs ≡ false → begins greater_than bs ≡ false → HasNoPrefix (line_rest bs)
 none_first bs s t q = record { column = column_none (line_rest bs) bs s t; quote = quote_none (line_rest bs) bs q }
 
-off_space : is_plain space ≡ false
-unfolding is_plain
-off_space = refl
-
-off_tab : is_plain tab ≡ false
-unfolding is_plain
-off_tab = refl
-
-off_greater_than : is_plain greater_than ≡ false
-unfolding is_plain
-off_greater_than = refl
-
 plain_none : (bs : List ℕ) → begins_plain bs ≡ true → HasNoPrefix (line_rest bs)
-plain_none bs h = none_first bs (plain_begins space bs h off_space) (plain_begins tab bs h off_tab) (plain_begins greater_than bs h off_greater_than)
+unfolding is_plain
+plain_none bs h = none_first bs (plain_begins space bs h refl) (plain_begins tab bs h refl) (plain_begins greater_than bs h refl)
 
 -- A line whose first byte is plain is one more line of the paragraph text before it; its part of that text begins at
 -- its start.
@@ -104,10 +83,7 @@ plain_first around start bs h =
 -- c comes first.
 eol_begins : (c : ℕ) (bs : List ℕ) → at_line_end bs ≡ true → ((xs : List ℕ) → at_line_end (c ∷ xs) ≡ false) → begins c bs ≡ false
 eol_begins c [] h k = refl
-eol_begins c (b ∷ bs) h k = elim (cases_eq b c) [
-  | inl same ↦ absurd (true≢false (sym h ∙ ap (λ (x : ℕ). at_line_end (x ∷ bs)) same ∙ k bs))
-  | inr other ↦ ne_eqb b c other
-]
+eol_begins c (b ∷ bs) h k = isnt (λ x. at_line_end (x ∷ bs)) b c h (k bs)
 
 eol_none : (bs : List ℕ) → at_line_end bs ≡ true → HasNoPrefix (line_rest bs)
 eol_none bs h = none_first bs (eol_begins space bs h (λ xs. refl)) (eol_begins tab bs h (λ xs. refl)) (eol_begins greater_than bs h (λ xs. refl))
@@ -118,19 +94,12 @@ eol_setext bs h = rw (eol_begins equals_sign bs h (λ xs. refl)) (rw (eol_begins
 
 -- A line with nothing after its prefixes and indentation is no underline.
 eol_underline : (path : List Container) (r : Rest) → at_line_end (all_taken (front path r)).left ≡ true → underline_of path r ≡ None
-unfolding underline_of
-eol_underline path r h =
-    none_either (is_some (after path r)) (nat_lt (indent (front path r)) 4) (setext_underline (all_taken (front path r)).left)
-    (eol_setext (all_taken (front path r)).left h)
-
-either : (t : Bool) → (if t then true else true) ≡ true
-either true = refl
-either false = refl
+eol_underline path r h = no_underline path r (eol_setext (all_taken (front path r)).left h)
 
 -- A front that is only indentation interrupts a paragraph.
 eol_ends : (around : Context) (c : Continued) (r : Rest) → at_line_end (all_taken r).left ≡ true → interrupts around c r ≡ true
 unfolding interrupts
-eol_ends around c r h = rw h (either (nat_lt (indent r) 4))
+eol_ends around c r h = rw h (cond_both (nat_lt (indent r) 4) true true (λ t. t ≡ true) (λ _. refl) (λ _. refl))
 
 -- A line that is only a line ending, or the end of the text, is no line of the paragraph text before it.
 pub eol_first : (around : Context) (start : ℕ) (bs : List ℕ) → at_line_end bs ≡ true → NotText ≡ next_line_of around start (line_rest bs)
@@ -177,32 +146,24 @@ item_by : (whole : Bool) (b : ℕ) (bs : List ℕ) → is_bullet b ≡ true → 
     → item_interrupts whole (b ∷ space ∷ bs) (listitem (b ∷ space ∷ bs)) ≡ true
 item_by whole b bs t h = rw (bullet_item b bs t) (rw t (rw (blank_after bs h) (or-true (not whole))))
 
-or_one : (a b c d : Bool) → b ≡ true → (a || b || c || d) ≡ true
-or_one true b c d h = refl
-or_one false b c d h = rw h refl
-
 item_first : (whole : Bool) (b : ℕ) (bs : List ℕ) → is_bullet b ≡ true → begins_plain bs ≡ true → interrupts_with whole (b ∷ space ∷ bs) ≡ true
 item_first whole b bs t h =
     let line : List ℕ = b ∷ space ∷ bs in
-    or_one (at_line_end line || is_some (hrule_len line) || is_some (atx_level line) || is_some (code_fence line) || begins greater_than line)
-    (item_interrupts whole line (listitem line)) (begins_html_to_end line) (begins_html_to_blank line) (item_by whole b bs t h)
+    or_left _ _ (or_left _ _ (or_right
+    (at_line_end line || is_some (hrule_len line) || is_some (atx_level line) || is_some (code_fence line) || begins greater_than line) _
+    (item_by whole b bs t h)))
 
 is_marked : (t : Bool) (b : ℕ) → is_some (bullet_by t b) ≡ true → t ≡ true
 is_marked true b h = refl
 is_marked false b h = h
 
-three : (a b c : Bool) → (a && b && c) ≡ true → (a ≡ true) × (b ≡ true) × (c ≡ true)
-three true true true h = (refl, refl, refl)
-three true true false h = absurd cc
-three true false c h = absurd cc
-three false b c h = absurd cc
-
 -- An item that begins with a bullet, a space and a plain byte interrupts a paragraph.
 pub item_plain : (whole : Bool) (bs : List ℕ) → (is_some (bullet_marker bs) && begins space (drop 1 bs) && begins_plain (drop 2 bs)) ≡ true
     → interrupts_with whole bs ≡ true
 item_plain whole [] h = absurd cc
-item_plain whole (b ∷ []) h = let all = three (is_some (bullet_marker (b ∷ []))) false false h in absurd (true≢false (sym all.1))
+item_plain whole (b ∷ []) h = absurd (true≢false (sym (and_parts _ false h).1))
 item_plain whole (b ∷ c ∷ bs) h =
-    let all = three (is_some (bullet_marker (b ∷ c ∷ bs))) (c == space) (begins_plain bs) h in
-    subst (λ (x : ℕ). interrupts_with whole (b ∷ x ∷ bs) ≡ true) (sym (eqb-true c space all.1))
-    (item_first whole b bs (is_marked (is_bullet b) b all.0) all.2)
+    let both = and_parts _ (begins_plain bs) h in
+    let two = and_parts (is_some (bullet_marker (b ∷ c ∷ bs))) (c == space) both.0 in
+    subst (λ (x : ℕ). interrupts_with whole (b ∷ x ∷ bs) ≡ true) (sym (eqb-true c space two.1))
+    (item_first whole b bs (is_marked (is_bullet b) b two.0) both.1)

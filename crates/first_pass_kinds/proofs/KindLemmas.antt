@@ -1,22 +1,14 @@
 -- Facts from the kind of the block at a place.
-use Rattle.std.proofs.Common.{◌≡◌, inl, inr, ℕ, ◌+◌, ◌<◌, ◌≤◌, min, nat_lt, ◌==◌, Bool, true, false, List, length, drop, Option, Some, None, is_some, IfSome}
-use Rattle.std.proofs.Common.{IfNone, IsUtf8, refl, sym, ap, subst, ◌∙◌, if◌then◌else◌, arith}
-use Rattle.std.proofs.lemmas.Bool.Decides.{nat_tests}
-use Rattle.std.specs.Option.{option_map}
-use Rattle.first_pass_items.specs.declared.option_set.Options.{Options}
-use Rattle.first_pass_items.specs.OptionWords.{has}
-use Rattle.first_pass_items.specs.declared.item.HeadingLevel.{HeadingLevel}
-use Rattle.first_pass_lines.specs.Lines.{is_content, atx_level}
-use Rattle.first_pass_scan.specs.LeafLines.{hrule_len, code_fence}
+use Rattle.std.proofs.Common.{◌≡◌, inl, inr, ℕ, ◌+◌, ◌<◌, ◌≤◌, min, nat_lt, ◌==◌, Bool, true, false, List, length, drop, Option, Some, None, is_some}
+use Rattle.std.proofs.Common.{IfSome, IfNone, IsUtf8, refl, sym, ap, subst, ◌∙◌, if◌then◌else◌, arith, option_map}
+use Rattle.first_pass_grammar.proofs.Common.{nat_tests, Options, has, HeadingLevel, is_content, atx_level, hrule_len, code_fence, Rest, indent, place_at}
+use Rattle.first_pass_grammar.proofs.Common.{offset, IsPlaceOf, BeginsTagLine, Kind, Blank, IndentedCode, Metadata, HtmlToEnd, HtmlToBlank, ThematicBreak}
+use Rattle.first_pass_grammar.proofs.Common.{AtxHeading, FencedCode, LinkDefinitions, all_taken, is_blank_rest, heading_or, rule_or, fence_or, metadata_at}
+use Rattle.first_pass_grammar.proofs.Common.{begins_html_to_end, begins_html_to_blank, html_kind, first_kind, later_kind, IsKindBy, IsKind}
 use Rattle.first_pass_metadata.specs.Metadata.{metadata_byte}
-use Rattle.first_pass_lines.specs.Rest.{Rest, indent}
-use Rattle.first_pass_lines.specs.Places.{place_at, offset, IsPlaceOf}
 use Rattle.first_pass_open.proofs.PlaceLemmas.{all_keep}
 use Rattle.first_pass_metadata.proofs.MetadataFacts.{metadata_plain}
-use Rattle.first_pass_html.specs.Tags.{BeginsTagLine}
-use Rattle.first_pass_grammar.specs.Kinds.{Kind, Blank, IndentedCode, Metadata, HtmlToEnd, HtmlToBlank, ThematicBreak, AtxHeading, FencedCode, LinkDefinitions}
-use Rattle.first_pass_grammar.specs.Kinds.{Paragraph, all_taken, is_blank_rest, heading_or, rule_or, fence_or, metadata_or, metadata_at, begins_html_to_end}
-use Rattle.first_pass_grammar.specs.Kinds.{begins_html_to_blank, html_kind, first_kind, later_kind, IsKindBy, IsKind}
+use Rattle.first_pass_grammar.specs.Kinds.{Paragraph, metadata_or}
 use Rattle.first_pass_kinds.specs.BlockStart.{kind_of, IsFoundWithCondition}
 use Rattle.first_pass_kinds.specs.declared.kinds.BlockStart.{BlockStart}
 

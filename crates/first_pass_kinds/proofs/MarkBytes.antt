@@ -1,25 +1,18 @@
 -- If `cannot_interrupt_by_standard` holds of the first byte, a line interrupts a paragraph at most as a table, a
 -- footnote definition or a definition.
 -- Thematic breaks, metadata and HTML blocks do not begin with `#`.
-use Rattle.std.proofs.Common.{◌≡◌, inl, inr, ℕ, ◌==◌, nat_lt, Bool, true, false, true≢false, List, [], ◌∷◌, Option, Some, None, if◌then◌else◌}
-use Rattle.std.proofs.Common.{refl, sym, ap, ◌∙◌, subst, arith, is_some, ◌||◌}
-use Rattle.std.proofs.lemmas.Bool.{cases_eq, ne_eqb, eqb-true}
-use Rattle.std.proofs.lemmas.Bool.Decides.{nat_tests}
+use Rattle.std.proofs.Common.{◌≡◌, inl, inr, ℕ, ◌==◌, nat_lt, Bool, true, false, true≢false, List, [], ◌∷◌, Option, Some, None, if◌then◌else◌, refl, sym}
+use Rattle.std.proofs.Common.{ap, ◌∙◌, subst, arith, is_some, ◌||◌, ne_eqb, eqb-true, option_map}
+use Rattle.first_pass_grammar.proofs.Common.{cases_eq, cond_both, nat_tests, line_feed, carriage_return, number_sign, hyphen, less_than, greater_than}
+use Rattle.first_pass_grammar.proofs.Common.{backquote, tilde, Options, HeadingLevel, has, begins, atx_level, Rest, indent, hrule_len, code_fence}
+use Rattle.first_pass_grammar.proofs.Common.{list_marker, BeginsTagLine, AtxHeading, HtmlToEnd, HtmlToBlank, all_taken, is_blank_rest, metadata_at}
+use Rattle.first_pass_grammar.proofs.Common.{html_kind, later_kind, IsKind, begins_html_to_end, begins_html_to_blank, interrupts_with}
 use Rattle.std.specs.Char.{is_ascii_digit}
-use Rattle.std.specs.Option.{option_map}
-use Rattle.first_pass_items.specs.Bytes.{line_feed, carriage_return, number_sign, asterisk, plus_sign, hyphen, less_than, greater_than, underscore, backquote}
-use Rattle.first_pass_items.specs.Bytes.{tilde}
-use Rattle.first_pass_items.specs.declared.option_set.Options.{Options}
-use Rattle.first_pass_items.specs.declared.item.HeadingLevel.{HeadingLevel}
-use Rattle.first_pass_items.specs.OptionWords.{has}
-use Rattle.first_pass_lines.specs.Lines.{begins, ends_signs, atx_level}
-use Rattle.first_pass_lines.specs.Rest.{Rest, indent}
-use Rattle.first_pass_scan.specs.LeafLines.{hrule_len, code_fence}
-use Rattle.first_pass_scan.specs.Markers.{list_marker, listitem}
+use Rattle.first_pass_items.specs.Bytes.{asterisk, plus_sign, underscore}
+use Rattle.first_pass_lines.specs.Lines.{ends_signs}
+use Rattle.first_pass_scan.proofs.PlainFacts.{isnt}
+use Rattle.first_pass_scan.specs.Markers.{listitem}
 use Rattle.first_pass_metadata.specs.Metadata.{metadata_byte}
-use Rattle.first_pass_html.specs.Tags.{BeginsTagLine}
-use Rattle.first_pass_grammar.specs.Kinds.{AtxHeading, HtmlToEnd, HtmlToBlank, all_taken, is_blank_rest, metadata_at, html_kind, later_kind, IsKind}
-use Rattle.first_pass_grammar.specs.Kinds.{begins_html_to_end, begins_html_to_blank, interrupts_with}
 use Rattle.first_pass_kinds.specs.Marks.{cannot_interrupt_by_standard, begins_no_interruption_by_standard}
 use Rattle.first_pass_kinds.proofs.KindLemmas.{AfterMetadata, last_here}
 use Rattle.first_pass_kinds.proofs.PlainKinds.{tag_begins}
@@ -29,21 +22,10 @@ at_first : (P : List ℕ → Type 0) (c : ℕ) (bs : List ℕ) → begins c bs �
 at_first P c [] h f = absurd (true≢false (sym h))
 at_first P c (b ∷ bs) h f = subst (λ (x : ℕ). P (x ∷ bs)) (sym (eqb-true b c h)) (f bs)
 
-either : {A : Type 0} (t : Bool) (o : Option A) → o ≡ None → (if t then o else None) ≡ None
-either true o e = e
-either false o e = refl
-
 -- an ATX heading begins only with a number sign
 unsigned : (b : ℕ) (bs : List ℕ) → b == number_sign ≡ false → atx_level (b ∷ bs) ≡ None
 unfolding atx_level
-unsigned b bs other = rw other (either (ends_signs (b ∷ bs)) None refl)
-
--- `cannot_interrupt_by_standard` holds of b and not of c: then the two bytes differ
-isnt : (b c : ℕ) → cannot_interrupt_by_standard b ≡ true → cannot_interrupt_by_standard c ≡ false → b == c ≡ false
-isnt b c h k = elim (cases_eq b c) [
-  | inl same ↦ absurd (true≢false (sym h ∙ ap cannot_interrupt_by_standard same ∙ k))
-  | inr other ↦ ne_eqb b c other
-]
+unsigned b bs other = rw other (cond_both (ends_signs (b ∷ bs)) None None (λ o. o ≡ None) (λ _. refl) (λ _. refl))
 
 no_digit : (b : ℕ) → cannot_interrupt_by_standard b ≡ true → is_ascii_digit b ≡ false
 unfolding cannot_interrupt_by_standard
@@ -54,10 +36,11 @@ no_digit b h = grind (arith, nat_tests, h)
 unmarked_first : (whole : Bool) (b : ℕ) (bs : List ℕ) → cannot_interrupt_by_standard b ≡ true → interrupts_with whole (b ∷ bs) ≡ false
 unfolding cannot_interrupt_by_standard hrule_len code_fence list_marker listitem
 unmarked_first whole b bs h =
-    rw (unsigned b bs (isnt b number_sign h refl))
-    (rw (isnt b line_feed h refl) (rw (isnt b carriage_return h refl) (rw (isnt b hyphen h refl) (rw (isnt b underscore h refl) (rw (isnt b asterisk h refl)
-    (rw (isnt b backquote h refl) (rw (isnt b tilde h refl) (rw (isnt b greater_than h refl) (rw (isnt b plus_sign h refl) (rw (no_digit b h)
-    (rw (isnt b less_than h refl) refl)))))))))))
+    let differs = λ (c : ℕ) (k : cannot_interrupt_by_standard c ≡ false). isnt cannot_interrupt_by_standard b c h k in
+    rw (unsigned b bs (differs number_sign refl))
+    (rw (differs line_feed refl) (rw (differs carriage_return refl) (rw (differs hyphen refl) (rw (differs underscore refl) (rw (differs asterisk refl)
+    (rw (differs backquote refl) (rw (differs tilde refl) (rw (differs greater_than refl) (rw (differs plus_sign refl) (rw (no_digit b h)
+    (rw (differs less_than refl) refl)))))))))))
 
 pub unmarked_interrupts : (whole : Bool) (bs : List ℕ) → begins_no_interruption_by_standard bs ≡ true → interrupts_with whole bs ≡ false
 unmarked_interrupts whole [] h = absurd (true≢false (sym h))
@@ -86,8 +69,9 @@ metadata_first false false bs = refl
 
 sign_metadata : (columns : ℕ) (options : Options) (bs : List ℕ) → begins number_sign bs ≡ true → metadata_at columns options bs ≡ None
 sign_metadata columns options bs h =
-    either (columns == 0) (metadata_byte (has options 128) (has options 256) bs)
-    (at_first (λ xs. metadata_byte (has options 128) (has options 256) xs ≡ None) number_sign bs h (metadata_first (has options 128) (has options 256)))
+    cond_both (columns == 0) (metadata_byte (has options 128) (has options 256) bs) None (λ o. o ≡ None)
+    (λ _. at_first (λ xs. metadata_byte (has options 128) (has options 256) xs ≡ None) number_sign bs h (metadata_first (has options 128) (has options 256)))
+    (λ _. refl)
 
 sign_html : (bs : List ℕ) → begins number_sign bs ≡ true → html_kind bs ≡ None
 sign_html bs h = at_first (λ xs. html_kind xs ≡ None) number_sign bs h (λ xs. refl)

@@ -1,39 +1,21 @@
 -- If the first byte of the next line rules out a delimiter row, the line before it heads no table. A line without a pipe heads none either.
-use Rattle.std.proofs.Common.{◌≡◌, ℕ, ◌==◌, ◌⊎◌, nat_le, ◌&&◌, ◌||◌, not, Bool, true, false, true≢false, List, [], ◌∷◌, length, drop, Option, Some, None, inl, inr, if◌then◌else◌}
-use Rattle.std.proofs.Common.{refl, sym, ap, ◌∙◌, arith}
-use Rattle.std.specs.Option.{option_and_then}
-use Rattle.std.specs.List.{take_while, list_any}
-use Rattle.std.proofs.lemmas.Bool.{ne_eqb}
-use Rattle.std.proofs.lemmas.Bool.Decides.{nat_tests}
-use Rattle.first_pass_items.specs.Bytes.{hyphen, colon, pipe}
-use Rattle.first_pass_items.specs.OptionWords.{has, tables}
-use Rattle.first_pass_items.specs.declared.item.Alignment.{Alignment}
-use Rattle.first_pass_lines.specs.Lines.{is_content, begins, line_len}
+use Rattle.std.proofs.Common.{◌≡◌, ℕ, nat_le, ◌&&◌, ◌||◌, not, Bool, true, false, List, [], ◌∷◌, length, drop, Option, Some, None, if◌then◌else◌}
+use Rattle.std.proofs.Common.{refl, sym, ap, ◌∙◌, arith, option_and_then, take_while, ne_eqb}
+use Rattle.first_pass_grammar.proofs.Common.{list_any, and_parts, cond_both, not-true, or_parts, nat_tests, hyphen, colon, pipe, has, tables, Alignment}
+use Rattle.first_pass_grammar.proofs.Common.{is_content, begins, line_len, line_rest, Rest, after_columns, inert_indent, head_columns, Context, after}
+use Rattle.first_pass_grammar.proofs.Common.{if_as_many, table_at, ends_in_backslash, headed_table}
 use Rattle.first_pass_lines.specs.Plain.{begins_inert, is_inert}
-use Rattle.first_pass_lines.specs.Places.{line_rest}
-use Rattle.first_pass_lines.specs.Rest.{Rest, after_columns}
-use Rattle.first_pass_scan.proofs.PlainFacts.{inert_after, inert_indent}
-use Rattle.first_pass_table_scan.specs.TableHead.{is_pipe, delimiter_row_of, head_columns}
+use Rattle.first_pass_scan.proofs.PlainFacts.{inert_after}
+use Rattle.first_pass_table_scan.specs.TableHead.{is_pipe, delimiter_row_of}
 use Rattle.first_pass_table_scan.proofs.DelimiterRows.{row_of-refused, row_of-some}
 use Rattle.first_pass_table_scan.proofs.HeaderRows.{head-unpiped}
 use Rattle.first_pass_grammar.specs.declared.kind.Container.{Container}
-use Rattle.first_pass_grammar.specs.Containers.{Context, after}
-use Rattle.first_pass_grammar.specs.TableHeads.{if_as_many, table_at, ends_in_backslash, headed_table}
 use Rattle.first_pass_open.proofs.PlainLemmas.{inert_path}
 
 no_hyphen : (bs : List ℕ) → begins_inert bs ≡ true → begins hyphen bs ≡ false
 unfolding is_inert
 no_hyphen [] h = refl
 no_hyphen (b ∷ bs) h = grind (arith, nat_tests, h)
-
-both_off : (s t : Bool) → not (s || t) ≡ true → (s ≡ false) × (t ≡ false)
-both_off true t h = absurd (true≢false (sym h))
-both_off false true h = absurd (true≢false (sym h))
-both_off false false h = (refl, refl)
-
-both_on : (s t : Bool) → (s && t) ≡ true → (s ≡ true) × (t ≡ true)
-both_on false t h = absurd (true≢false (sym h))
-both_on true t h = (refl, h)
 
 row_none : (r : Rest) → r.owed ≡ 0 → begins_inert r.left ≡ true → begins pipe r.left ≡ false → begins colon r.left ≡ false → None ≡ delimiter_row_of r
 row_none r owed inert no_pipe no_colon =
@@ -51,31 +33,22 @@ pub no_head : (path : List Container) (bs next : List ℕ) → next ≡ drop (li
 unfolding table_at
 no_head path bs next is h =
     let r : Rest = line_rest next in
-    let on = both_on (begins_inert next) _ h in
-    let off = both_off (begins pipe next) (begins colon next) on.1 in
+    let on = and_parts (begins_inert next) _ h in
+    let off = or_parts (begins pipe next) (begins colon next) (not-true _ on.1) in
     let none = row_by (after path r) r (λ q e. inert_path path r q refl on.0 e) (row_none r refl on.0 off.0 off.1) in
     ap (λ (bytes : List ℕ). option_and_then (if_as_many (head_columns bs)) (option_and_then delimiter_row_of (after path (line_rest bytes)))) (sym is)
     ∙ ap (option_and_then (if_as_many (head_columns bs))) none
 
-cases_row : (o : Option (List Alignment)) → (o ≡ None) ⊎ ((xs : List Alignment) × (o ≡ Some xs))
-cases_row None = inl refl
-cases_row (Some xs) = inr (xs, refl)
-
-if_none_either : (t : Bool) (o : Option (List Alignment)) → o ≡ None → (if t then o else None) ≡ None
-if_none_either true o h = h
-if_none_either false o h = refl
-
 -- a line without a pipe heads no table either
 no_columns : (o : Option Rest) (columns : ℕ) → columns ≡ 0 → option_and_then (if_as_many columns) (option_and_then delimiter_row_of o) ≡ None
 no_columns None columns h = refl
-no_columns (Some r) columns h =
-    elim (cases_row (delimiter_row_of r)) [
-      | inl none ↦ ap (option_and_then (if_as_many columns)) none
-      | inr some ↦
-          let long = row_of-some r some.0 some.1 in
-          let other : (length some.0 == columns) ≡ false = ne_eqb (length some.0) columns (λ same. omega arith) in
-          ap (option_and_then (if_as_many columns)) some.1 ∙ ap (λ (t : Bool). if t then Some some.0 else None) other
-    ]
+no_columns (Some r) columns h = by (delimiter_row_of r) refl
+  where
+    by : (o : Option (List Alignment)) → delimiter_row_of r ≡ o → option_and_then (if_as_many columns) o ≡ None
+    by None e = refl
+    by (Some xs) e =
+        let long = row_of-some r xs e in
+        ap (λ (t : Bool). if t then Some xs else None) (ne_eqb (length xs) columns (λ same. omega arith))
 
 no_pipe : (path : List Container) (bs : List ℕ) → list_any is_pipe (take_while is_content bs) ≡ false → table_at path bs ≡ None
 unfolding table_at
@@ -83,4 +56,6 @@ no_pipe path bs h = no_columns (after path (line_rest (drop (line_len bs) bs))) 
 
 pub no_headed : (around : Context) (bs : List ℕ) → list_any is_pipe (take_while is_content bs) ≡ false → headed_table around bs ≡ None
 unfolding headed_table
-no_headed around bs h = if_none_either (has around.options tables && not (ends_in_backslash bs)) (table_at around.path bs) (no_pipe around.path bs h)
+no_headed around bs h =
+    cond_both (has around.options tables && not (ends_in_backslash bs)) (table_at around.path bs) None (λ o. o ≡ None) (λ _. no_pipe around.path bs h)
+    (λ _. refl)

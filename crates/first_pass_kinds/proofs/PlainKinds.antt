@@ -1,33 +1,22 @@
 -- If a plain byte is next, the kind of the block is `Paragraph`, and nothing begins that interrupts a paragraph.
 use Rattle.std.proofs.Common.{◌≡◌, inl, inr, ℕ, zero, suc, ◌==◌, Bool, true, false, true≢false, List, [], ◌∷◌, take, None, refl, sym, ap, ◌∙◌, subst}
-use Rattle.first_pass_items.specs.Bytes.{less_than, greater_than}
-use Rattle.first_pass_items.specs.declared.option_set.Options.{Options}
-use Rattle.first_pass_items.specs.OptionWords.{has}
-use Rattle.first_pass_lines.specs.Lines.{begins}
-use Rattle.first_pass_lines.specs.Rest.{Rest}
-use Rattle.first_pass_lines.specs.Plain.{is_plain, begins_plain}
-use Rattle.first_pass_scan.proofs.PlainFacts.{plain_begins, plain_eol, plain_blank, plain_hrule, plain_atx, plain_fence, plain_listitem, plain_indent}
+use Rattle.first_pass_grammar.proofs.Common.{less_than, greater_than, Options, has, begins, Rest, is_plain, begins_plain, plain_begins, BeginsTagLine}
+use Rattle.first_pass_grammar.proofs.Common.{all_taken, html_kind, first_kind, later_kind, IsKindBy, IsKind, interrupts_with}
+use Rattle.first_pass_scan.proofs.PlainFacts.{plain_eol, plain_blank, plain_hrule, plain_atx, plain_fence, plain_listitem, plain_indent}
 use Rattle.first_pass_metadata.proofs.MetadataFacts.{plain_metadata}
-use Rattle.first_pass_html.specs.Tags.{BeginsTagLine}
 use Rattle.first_pass_open.proofs.PlainLemmas.{plain_all}
-use Rattle.first_pass_grammar.specs.Kinds.{Paragraph, all_taken, html_kind, first_kind, later_kind, IsKindBy, IsKind, interrupts_with}
-
-plain_less_than : is_plain less_than ≡ false
-unfolding is_plain
-plain_less_than = refl
-
-plain_greater_than : is_plain greater_than ≡ false
-unfolding is_plain
-plain_greater_than = refl
+use Rattle.first_pass_grammar.specs.Kinds.{Paragraph}
 
 pub plain_interrupts : (whole : Bool) (bs : List ℕ) → begins_plain bs ≡ true → interrupts_with whole bs ≡ false
+unfolding is_plain
 plain_interrupts whole bs h =
     rw (plain_eol bs h) (rw (plain_hrule bs h)
-    (rw (plain_atx bs h) (rw (plain_fence bs h) (rw (plain_begins greater_than bs h plain_greater_than)
-    (rw (plain_listitem bs h) (rw (plain_begins less_than bs h plain_less_than) refl))))))
+    (rw (plain_atx bs h) (rw (plain_fence bs h) (rw (plain_begins greater_than bs h refl)
+    (rw (plain_listitem bs h) (rw (plain_begins less_than bs h refl) refl))))))
 
 pub plain_html : (bs : List ℕ) → begins_plain bs ≡ true → html_kind bs ≡ None
-plain_html bs h = rw (plain_begins less_than bs h plain_less_than) refl
+unfolding is_plain
+plain_html bs h = rw (plain_begins less_than bs h refl) refl
 
 pub plain_last : (bs : List ℕ) → begins_plain bs ≡ true → later_kind bs ≡ Paragraph
 plain_last bs h = rw (plain_hrule bs h) (rw (plain_atx bs h) (rw (plain_fence bs h) refl))
@@ -45,7 +34,8 @@ tag_begins bs n t = elim t.tag [
 ]
 
 pub plain_tag : (bs : List ℕ) (n : ℕ) → begins_plain bs ≡ true → BeginsTagLine bs n → ⊥
-plain_tag bs n h t = true≢false (sym (tag_begins bs n t) ∙ plain_begins less_than bs h plain_less_than)
+unfolding is_plain
+plain_tag bs n h t = true≢false (sym (tag_begins bs n t) ∙ plain_begins less_than bs h refl)
 
 first_none : (options : Options) (r : Rest) → r.owed ≡ 0 → begins_plain r.left ≡ true → first_kind options r ≡ None
 unfolding first_kind

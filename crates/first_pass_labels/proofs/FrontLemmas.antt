@@ -1,22 +1,17 @@
 -- The first bytes of two texts, as numbers, decide their order if the numbers differ.
 use Rattle.std.proofs.Common.{◌≡◌, ℕ, zero, suc, ◌+◌, ◌*◌, ◌^◌, ◌<◌, ◌≤◌, List, [], ◌∷◌, slice_index, inl, inr, refl, sym, ap, ap₂, subst, ◌∙◌, arith}
-use Rattle.std.proofs.Common.{suc-le-suc, zero-le, not-suc-le-zero}
+use Rattle.std.proofs.Common.{suc-le-suc, zero-le, not-suc-le-zero, nat_cmp, Less, Equal, Greater}
 use Rattle.std.proofs.lemmas.Bool.{cases_lt}
 use Rattle.std.specs.Cmp.{nat_cmp_is}
 use Rattle.std.specs.Cmp.Lexicographic.{slice_cmp, nat_list_cmp_total}
 use Rattle.std.specs.Int.{w128, from_be_bytes}
-use Rattle.std.specs.Ordering.{nat_cmp, ordering_then, ordering_reverse}
-use Rattle.std.specs.declared.cmp.Ordering.TheVariants.{Less, Equal, Greater}
+use Rattle.std.specs.Ordering.{ordering_then, ordering_reverse}
 use Rattle.first_pass_items.specs.declared.cow_str.CowStr.{CowStr}
 use Rattle.first_pass_labels.specs.Foldings.{leading_number, folding_of, label_cmp}
 
 -- each byte is below 256
 abbrev Fit : List ℕ → Type 0
 Fit bs = (k : ℕ) → slice_index bs k < 256
-
--- the number of sixteen bytes, the first one the most significant
-number_of : (bs : List ℕ) → from_be_bytes w128 bs ≡ leading_number 16 bs
-number_of bs = omega arith
 
 -- the same bytes have the same number
 alike_number : (n : ℕ) (xs ys : List ℕ) → ((k : ℕ) → k < n → slice_index xs k ≡ slice_index ys k) → leading_number n xs ≡ leading_number n ys
@@ -26,7 +21,7 @@ alike_number (suc n) xs ys same =
 
 pub front_number : (front bytes : List ℕ) (r : ℕ) → r ≡ from_be_bytes w128 front → ((k : ℕ) → k < 16 → slice_index front k ≡ slice_index bytes k)
     → r ≡ leading_number 16 bytes
-front_number front bytes r is same = is ∙ number_of front ∙ alike_number 16 front bytes same
+front_number front bytes r is same = omega (arith, is, alike_number 16 front bytes same)
 
 -- fronts with the same number have the same bytes
 alike : (n : ℕ) (xs ys : List ℕ) → Fit xs → Fit ys → leading_number n xs ≡ leading_number n ys → (k : ℕ) → k < n → slice_index xs k ≡ slice_index ys k

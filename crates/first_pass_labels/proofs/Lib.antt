@@ -1,3 +1,4 @@
+pub mod FirstOfEach
 pub mod FoldingLemmas
 pub mod FrontLemmas
 pub mod OrderLemmas

@@ -1,28 +1,26 @@
 -- The indices that a stable sort of a table's entries leaves are the table's order.
-use Rattle.std.proofs.Common.{◌≡◌, ℕ, ◌<◌, Bool, true, false, cond, not, ◌&&◌, List, [], ◌∷◌, All, Option, None, Some, map, refl, sym, ap, ap₂, subst}
-use Rattle.std.proofs.Common.{◌∙◌, ◌+◌, ◌++◌, take, length, get_or}
+use Rattle.std.proofs.Common.{◌≡◌, ℕ, ◌<◌, Bool, true, false, cond, not, ◌&&◌, List, [], ◌∷◌, All, Option, None, Some, map, nat_eq, refl, sym, ap, ap₂}
+use Rattle.std.proofs.Common.{subst, ◌∙◌, ◌+◌, ◌++◌, take, length, get_or, filter, slice_get, IsPermutation, IsSorted, is_eq, is_lt, Ordering, Less, Equal}
+use Rattle.std.proofs.Common.{Greater}
 use Rattle.std.proofs.lemmas.List.{take_more, map-append}
-use Rattle.first_pass_labels.proofs.PlaceLemmas.{get_or_get}
+use Rattle.std.proofs.lemmas.Option.{slice_get-get_or}
 use Rattle.std.proofs.lemmas.List.Elements.{All-head, All-push, All-tail}
 use Rattle.std.proofs.lemmas.List.Filters.{dedup_is, All-dedup}
 use Rattle.std.proofs.lemmas.List.Kept.{IsStrictlySortedBy-dedup}
 use Rattle.std.proofs.lemmas.List.Sorted.{All-permutation}
-use Rattle.std.specs.Cmp.{alike_right, on_total, IsTotalOrder}
-use Rattle.std.proofs.lemmas.Bool.{true≢false}
-use Rattle.std.specs.Cmp.Lexicographic.{texts_ties, nat_list_cmp_total}
-use Rattle.std.specs.List.{AllByRecursion, dedup, dedup_from, filter, slice_get}
+use Rattle.std.specs.Cmp.{on_total, IsTotalOrder}
+use Rattle.std.specs.Cmp.Lexicographic.{pointwise, texts_ties, bytes_decides, nat_list_cmp_total}
+use Rattle.std.specs.List.{AllByRecursion, dedup, dedup_from}
 use Rattle.std.specs.List.Retain.{IsFiltered, DiffersFromLast}
-use Rattle.std.specs.List.Sorted.{IsPermutation, IsSorted, IsStable, IsStrictlySortedBy, ties}
+use Rattle.std.specs.List.Sorted.{IsStable, IsStrictlySortedBy, ties}
 use Rattle.std.specs.Map.{keys_of}
-use Rattle.std.specs.Ordering.{is_eq, is_lt, ordering_reverse}
-use Rattle.std.specs.declared.cmp.Ordering.{Ordering}
-use Rattle.std.specs.declared.cmp.Ordering.TheVariants.{Less, Equal, Greater}
+use Rattle.std.specs.Ordering.{ordering_reverse}
 use Rattle.first_pass_items.specs.declared.cow_str.CowStr.{CowStr}
-use Rattle.first_pass_labels.specs.Foldings.{label_cmp}
+use Rattle.first_pass_labels.specs.Foldings.{folding_of, label_cmp}
 use Rattle.first_pass_labels.specs.LabelTables.{table_of, IsInOrder, IsOrderOf}
 use Rattle.first_pass_labels.specs.Slots.{slot_folding, is_same_slot, slot_cmp}
-use Rattle.first_pass_labels.proofs.SortedLemmas.{entry_under, entry_of_table, unique}
-use Rattle.first_pass_labels.proofs.TextOrder.{label_total, equal_by, in_order_table}
+use Rattle.first_pass_labels.proofs.FirstOfEach.{has, unique}
+use Rattle.first_pass_labels.proofs.TextOrder.{label_of, entry_under, label_total, entry_of_table, in_order_table}
 
 -- ---- a stable sort keeps the first entry of each label
 
@@ -42,48 +40,47 @@ module _ {X : Type 0} where
   first_entry [] = None
   first_entry (s ∷ ss) = Some s.0
 
-  tied_slots : (d : CowStr × X) (s : (CowStr × X) × ℕ) → ties is_before (d, 0) s ≡ is_eq (label_cmp d.0 s.0.0)
-  tied_slots d s =
-      ap (λ o. not (is_lt (label_cmp d.0 s.0.0)) && not (is_lt o)) (label_total.antisymm s.0.0 d.0) ∙ ties_is (label_cmp d.0 s.0.0)
+  first_under : (d : CowStr × X) (ss : List ((CowStr × X) × ℕ))
+      → entry_under (folding_of d.0) (entries_of ss) ≡ first_entry (filter (ties is_before (d, 0)) ss)
+  first_under d [] = refl
+  first_under d (s ∷ ss) =
+      ap (λ c. cond c (Some s.0) (entry_under (folding_of d.0) (entries_of ss))) (sym tied)
+      ∙ by _ (filter (ties is_before (d, 0)) ss) (ties is_before (d, 0) s) (first_under d ss)
+    where
+      tied : ties is_before (d, 0) s ≡ has folding_of label_of (folding_of d.0) s.0
+      tied =
+          ap (λ o. not (is_lt (label_cmp d.0 s.0.0)) && not (is_lt o)) (label_total.antisymm s.0.0 d.0)
+          ∙ ties_is (label_cmp d.0 s.0.0) ∙ sym (texts_ties (folding_of d.0) (folding_of s.0.0))
 
-  first_cons : (s : (CowStr × X) × ℕ) (ss : List ((CowStr × X) × ℕ)) (o : Option (CowStr × X)) (a b : Bool) → a ≡ b → o ≡ first_entry ss
-      → cond b (Some s.0) o ≡ first_entry (cond a (s ∷ ss) ss)
-  first_cons s ss o true true same rest = refl
-  first_cons s ss o false false same rest = rest
-  first_cons s ss o true false same rest = absurd (true≢false same)
-  first_cons s ss o false true same rest = absurd (true≢false (sym same))
-
-  under_tied : (d : CowStr × X) (ss : List ((CowStr × X) × ℕ)) → entry_under d.0 (entries_of ss) ≡ first_entry (filter (ties is_before (d, 0)) ss)
-  under_tied d [] = refl
-  under_tied d (s ∷ ss) =
-      first_cons s (filter (ties is_before (d, 0)) ss) (entry_under d.0 (entries_of ss)) (ties is_before (d, 0) s) (is_eq (label_cmp d.0 s.0.0))
-      (tied_slots d s) (under_tied d ss)
+      by : (o : Option (CowStr × X)) (l : List ((CowStr × X) × ℕ)) (b : Bool) → o ≡ first_entry l
+          → cond b (Some s.0) o ≡ first_entry (cond b (s ∷ l) l)
+      by o l true rest = refl
+      by o l false rest = rest
 
   -- ---- and so does leaving out what is tied with the slot before
 
-  once : (l : CowStr) (k s : CowStr × X) (es : List (CowStr × X)) (b : Bool) → label_cmp s.0 k.0 ≡ Equal → is_eq (label_cmp l k.0) ≡ b
-      → cond b (Some k) (entry_under l es) ≡ cond b (Some k) (cond (is_eq (label_cmp l s.0)) (Some s) (entry_under l es))
-  once l k s es true tied is = refl
-  once l k s es false tied is =
-      sym (ap (λ c. cond c (Some s) (entry_under l es)) (ap is_eq (alike_right label_total s.0 k.0 l tied) ∙ is))
+  once : (f : List ℕ) (k s : CowStr × X) (o : Option (CowStr × X)) (b : Bool) → has folding_of label_of f s ≡ b
+      → cond b (Some k) o ≡ cond b (Some k) (cond (has folding_of label_of f s) (Some s) o)
+  once f k s o true is = refl
+  once f k s o false is = sym (ap (λ c. cond c (Some s) o) is)
 
-  dedup_cons : (l : CowStr) (k s : (CowStr × X) × ℕ) (ss : List ((CowStr × X) × ℕ)) (b : Bool) → is_same_slot s k ≡ b
-      → entry_under l (entries_of (dedup_from is_same_slot k ss)) ≡ entry_under l (entries_of (k ∷ ss))
-      → entry_under l (entries_of (dedup_from is_same_slot s ss)) ≡ entry_under l (entries_of (s ∷ ss))
-      → entry_under l (entries_of (cond b (dedup_from is_same_slot k ss) (k ∷ dedup_from is_same_slot s ss))) ≡ entry_under l (entries_of (k ∷ s ∷ ss))
-  dedup_cons l k s ss true same first next =
-      first ∙ once l k.0 s.0 (entries_of ss) (is_eq (label_cmp l k.0.0))
-      (equal_by (label_cmp s.0.0 k.0.0) (sym (texts_ties (slot_folding s) (slot_folding k)) ∙ same)) refl
-  dedup_cons l k s ss false same first next = ap (λ o. cond (is_eq (label_cmp l k.0.0)) (Some k.0) o) next
+  under_dedup_from : (f : List ℕ) (k : (CowStr × X) × ℕ) (ss : List ((CowStr × X) × ℕ))
+      → entry_under f (entries_of (dedup_from is_same_slot k ss)) ≡ entry_under f (entries_of (k ∷ ss))
+  under_dedup_from f k [] = refl
+  under_dedup_from f k (s ∷ ss) = by (is_same_slot s k) refl (under_dedup_from f k ss) (under_dedup_from f s ss)
+    where
+      by : (b : Bool) → is_same_slot s k ≡ b
+          → entry_under f (entries_of (dedup_from is_same_slot k ss)) ≡ entry_under f (entries_of (k ∷ ss))
+          → entry_under f (entries_of (dedup_from is_same_slot s ss)) ≡ entry_under f (entries_of (s ∷ ss))
+          → entry_under f (entries_of (cond b (dedup_from is_same_slot k ss) (k ∷ dedup_from is_same_slot s ss))) ≡ entry_under f (entries_of (k ∷ s ∷ ss))
+      by true is first next =
+          let level = (bytes_decides (slot_folding s) (slot_folding k)).0 is in
+          first ∙ once f k.0 s.0 (entry_under f (entries_of ss)) (has folding_of label_of f k.0) (ap (pointwise nat_eq f) level)
+      by false is first next = ap (λ o. cond (has folding_of label_of f k.0) (Some k.0) o) next
 
-  under_dedup_from : (l : CowStr) (k : (CowStr × X) × ℕ) (ss : List ((CowStr × X) × ℕ))
-      → entry_under l (entries_of (dedup_from is_same_slot k ss)) ≡ entry_under l (entries_of (k ∷ ss))
-  under_dedup_from l k [] = refl
-  under_dedup_from l k (s ∷ ss) = dedup_cons l k s ss (is_same_slot s k) refl (under_dedup_from l k ss) (under_dedup_from l s ss)
-
-  under_dedup : (l : CowStr) (ss : List ((CowStr × X) × ℕ)) → entry_under l (entries_of (dedup is_same_slot ss)) ≡ entry_under l (entries_of ss)
-  under_dedup l [] = refl
-  under_dedup l (s ∷ ss) = under_dedup_from l s ss
+  under_dedup : (f : List ℕ) (ss : List ((CowStr × X) × ℕ)) → entry_under f (entries_of (dedup is_same_slot ss)) ≡ entry_under f (entries_of ss)
+  under_dedup f [] = refl
+  under_dedup f (s ∷ ss) = under_dedup_from f s ss
 
   -- ---- the order
 
@@ -114,9 +111,9 @@ module _ {X : Type 0} where
       let up = slots_in_order (dedup is_same_slot sorted)
       (IsStrictlySortedBy-dedup total {E = is_same_slot} (λ x y. texts_ties (slot_folding x) (slot_folding y)) sorted order) in
       let table : entries_of (dedup is_same_slot sorted) ≡ table_of es =
-      unique (entries_of (dedup is_same_slot sorted)) (table_of es) up (in_order_table es)
-      (λ d. under_dedup d.0 sorted ∙ under_tied d sorted ∙ ap first_entry (stable (d, 0)) ∙ sym (under_tied d slots)
-      ∙ ap (entry_under d.0) all ∙ sym (entry_of_table d.0 es)) in
+      unique folding_of label_of (entries_of (dedup is_same_slot sorted)) (table_of es) up (in_order_table es)
+      (λ d. under_dedup (folding_of d.0) sorted ∙ first_under d sorted ∙ ap first_entry (stable (d, 0)) ∙ sym (first_under d slots)
+      ∙ ap (entry_under (folding_of d.0)) all ∙ sym (entry_of_table (folding_of d.0) es)) in
       ap (λ l. map (slice_get es) (map (λ s. s.1) l)) is ∙ read_back es (dedup is_same_slot sorted) still ∙ ap (map Some) table
 
   -- ---- the loops: one more slot, and one more index
@@ -129,7 +126,7 @@ module _ {X : Type 0} where
         ap entries_of is ∙ map-append (λ (s : (CowStr × X) × ℕ). s.0) slots (s ∷ [])
             ∙ ap₂ (λ l (e : CowStr × X). l ++ e ∷ []) same (ap (λ (t : (CowStr × X) × ℕ). t.0) at)
             ∙ sym (take_more es i d lt),
-        subst (All P) (sym is) (All-push P slots s placed (subst P (sym at) (get_or_get es i d lt))),
+        subst (All P) (sym is) (All-push P slots s placed (subst P (sym at) (slice_get-get_or es i d lt))),
       )
 
   pub indices_more : (slots : List ((CowStr × X) × ℕ)) (i : ℕ) (d : (CowStr × X) × ℕ) (order more : List ℕ) (n : ℕ) → i < length slots

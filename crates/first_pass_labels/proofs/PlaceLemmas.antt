@@ -1,54 +1,22 @@
 -- The places of a table's entries: what a search compares, and what an iterator gives first.
-use Rattle.std.proofs.Common.{◌≡◌, ℕ, zero, suc, ◌+◌, ◌≤◌, ◌<◌, cond, List, [], ◌∷◌, Option, None, Some, length, map, refl, sym, ap, subst, inl, inr, drop}
-use Rattle.std.proofs.Common.{◌∙◌, arith, le_of_suc-le-suc, not-suc-le-zero, get_or, take, ◌-◌}
+use Rattle.std.proofs.Common.{◌≡◌, ℕ, ◌+◌, ◌≤◌, ◌<◌, List, [], ◌∷◌, Option, None, Some, length, map, refl, sym, ap, ap₂, subst, inl, inr, drop, ◌∙◌, arith}
+use Rattle.std.proofs.Common.{not-suc-le-zero, get_or, take, ◌-◌, length-drop, take_all, option_map, slice_get, nat_cmp, Less, Equal, Greater}
 use Rattle.std.proofs.lemmas.Bool.{cases_lt}
-use Rattle.std.proofs.lemmas.List.{get_or-map, length-map, length-drop, drop_all, take_all}
-use Rattle.std.proofs.lemmas.Option.{none-some, same_Some}
-use Rattle.std.specs.List.{AllByRecursion, slice_get}
-use Rattle.std.specs.List.Sorted.{IsStrictlySortedBy}
+use Rattle.std.proofs.lemmas.List.{drop-map, length-map, drop_all}
+use Rattle.std.proofs.lemmas.Option.{none-some, same_Some, slice_get-get_or, slice_get_within, slice_get-map, get_or_from_slice_get}
+use Rattle.std.proofs.lemmas.Map.Entries.{lookup_from_place}
+use Rattle.std.proofs.lemmas.Map.Keys.{Less-from_sorted, IsDistinct-from_sorted}
+use Rattle.std.specs.Cmp.{eq_by_cmp_equiv}
+use Rattle.std.specs.Cmp.Lexicographic.{slice_cmp}
+use Rattle.first_pass_labels.proofs.FirstOfEach.{tied_same}
 use Rattle.std.specs.Map.{keys_of, lookup}
-use Rattle.std.specs.Ordering.{is_eq, ordering_reverse}
-use Rattle.std.specs.declared.cmp.Ordering.TheVariants.{Less, Equal, Greater}
+use Rattle.std.specs.Ordering.{ordering_reverse}
 use Rattle.std.specs.BTreeMap.{is_at}
 use Rattle.first_pass_items.specs.declared.cow_str.CowStr.{CowStr}
-use Rattle.first_pass_labels.specs.Foldings.{label_cmp}
+use Rattle.first_pass_labels.specs.Foldings.{folding_of, label_cmp}
 use Rattle.first_pass_labels.specs.LabelTables.{table_of, after_label, with_all, IsInOrder, IsOrderOf}
 use Rattle.first_pass_labels.proofs.SortedLemmas.{after_first}
 use Rattle.first_pass_labels.proofs.TextOrder.{label_total}
-
--- ---- places of lists
-
-module _ {X : Type 0} where
-  at_some : (xs : List X) (k : ℕ) → get_or (map Some xs) k None ≡ slice_get xs k
-  at_some [] zero = refl
-  at_some [] (suc k) = refl
-  at_some (x ∷ xs) zero = refl
-  at_some (x ∷ xs) (suc k) = at_some xs k
-
-  get_in : (xs : List X) (k : ℕ) (x : X) → slice_get xs k ≡ Some x → (k < length xs) × ((d : X) → get_or xs k d ≡ x)
-  get_in [] k x h = absurd (none-some x h)
-  get_in (y ∷ xs) zero x h = (omega arith, λ d. same_Some y x h)
-  get_in (y ∷ xs) (suc k) x h = let rest = get_in xs k x h in (omega (arith, rest.0), rest.1)
-
-  get_at : (xs : List X) (k : ℕ) → k < length xs → (x : X) × (slice_get xs k ≡ Some x)
-  get_at [] k lt = absurd (not-suc-le-zero lt)
-  get_at (x ∷ xs) zero lt = (x, refl)
-  get_at (x ∷ xs) (suc k) lt = get_at xs k (le_of_suc-le-suc lt)
-
-  pub get_or_get : (xs : List X) (k : ℕ) (d : X) → k < length xs → slice_get xs k ≡ Some (get_or xs k d)
-  get_or_get xs k d lt = let found = get_at xs k lt in found.1 ∙ ap Some (sym ((get_in xs k found.0 found.1).1 d))
-
-  first_rest : (xs : List X) (x : X) → slice_get xs 0 ≡ Some x → xs ≡ x ∷ drop 1 xs
-  first_rest [] x h = absurd (none-some x h)
-  first_rest (y ∷ xs) x h = ap (λ z. z ∷ xs) (same_Some y x h)
-
-  pub no_first : (xs : List X) → slice_get xs 0 ≡ None → xs ≡ []
-  no_first [] h = refl
-  no_first (x ∷ xs) h = absurd (none-some x (sym h))
-
-map_rest : {X Y : Type 0} (f : X → Y) (xs : List X) → map f (drop 1 xs) ≡ drop 1 (map f xs)
-map_rest f [] = refl
-map_rest f (x ∷ xs) = refl
 
 -- ---- what an order names
 
@@ -60,43 +28,47 @@ pub record Named {X : Type 0} (es tab : List (CowStr × X)) (order : List ℕ) (
   pub reads : (d : CowStr × X) → get_or es (get_or order k 0) d ≡ entry
 
 pub named : {X : Type 0} (es tab : List (CowStr × X)) (order : List ℕ) (k : ℕ) → IsOrderOf order es tab → k < length order → Named es tab order k
-named es tab order k is lt =
-    let long = ap length is in
-    let below : k < length tab = omega (arith, lt, long, length-map order (slice_get es), length-map tab Some) in
-    let found = get_at tab k below in
-    let same : slice_get es (get_or order k 0) ≡ Some found.0 =
-    sym (get_or-map (slice_get es) order k 0 None lt) ∙ ap (λ l. get_or l k None) is ∙ at_some tab k ∙ found.1 in
-    let place = get_in es (get_or order k 0) found.0 same in
-    record { entry = found.0; in_table = found.1; within = place.0; reads = place.1 }
+named {X} es tab order k is lt =
+    by (slice_get tab k) refl
+    (ap (option_map (slice_get es)) (sym (slice_get-get_or order k 0 lt)) ∙ sym (slice_get-map (slice_get es) order k) ∙ ap (λ l. slice_get l k) is
+    ∙ slice_get-map Some tab k)
+  where
+    by : (o : Option (CowStr × X)) → slice_get tab k ≡ o → Some (slice_get es (get_or order k 0)) ≡ option_map Some o → Named es tab order k
+    by None none same = absurd (none-some _ (sym same))
+    by (Some e) here same =
+        let at = same_Some (slice_get es (get_or order k 0)) (Some e) same in
+        record {
+          entry = e;
+          in_table = here;
+          within = slice_get_within es (get_or order k 0) e at;
+          reads = λ d. get_or_from_slice_get es (get_or order k 0) e d at;
+        }
 
 pub past_end : {X : Type 0} (es tab : List (CowStr × X)) (order : List ℕ) (j : ℕ) (e : CowStr × X) → IsOrderOf order es tab → length order ≤ j
     → slice_get tab j ≡ Some e → ⊥
 past_end es tab order j e is le at =
-    not-suc-le-zero {n = 0} (omega (arith, le, ap length is, length-map order (slice_get es), length-map tab Some, (get_in tab j e at).0))
+    not-suc-le-zero {n = 0} (omega (arith, le, ap length is, length-map order (slice_get es), length-map tab Some, slice_get_within tab j e at))
 
-pub order_rest : {X : Type 0} (es tab : List (CowStr × X)) (order : List ℕ) → IsOrderOf order es tab → IsOrderOf (drop 1 order) es (drop 1 tab)
-order_rest es tab order is = map_rest (slice_get es) order ∙ ap (drop 1) is ∙ sym (map_rest Some tab)
+table_rest : {X : Type 0} (tab : List (CowStr × X)) (e : CowStr × X) → slice_get tab 0 ≡ Some e → tab ≡ e ∷ drop 1 tab
+table_rest [] e h = absurd (none-some e h)
+table_rest (x ∷ tab) e h = ap (λ y. y ∷ tab) (same_Some x e h)
 
-pub table_rest : {X : Type 0} (tab : List (CowStr × X)) (e : CowStr × X) → slice_get tab 0 ≡ Some e → tab ≡ e ∷ drop 1 tab
-table_rest tab e h = first_rest tab e h
+pub no_first : {X : Type 0} (xs : List X) → slice_get xs 0 ≡ None → xs ≡ []
+no_first [] h = refl
+no_first (x ∷ xs) h = absurd (none-some x (sym h))
 
 -- ---- places of a table in order
 
 module _ {X : Type 0} where
-  all_at : (l : CowStr) (tab : List (CowStr × X)) (k : ℕ) (e : CowStr × X) → AllByRecursion (λ y. label_cmp l y ≡ Less) (keys_of tab)
-      → slice_get tab k ≡ Some e → label_cmp l e.0 ≡ Less
-  all_at l [] k e all h = absurd (none-some e h)
-  all_at l (x ∷ tab) zero e all h = subst (λ (d : CowStr × X). label_cmp l d.0 ≡ Less) (same_Some x e h) all.0
-  all_at l (x ∷ tab) (suc k) e all h = all_at l tab k e all.1 h
+  key_at : (tab : List (CowStr × X)) (k : ℕ) (e : CowStr × X) → slice_get tab k ≡ Some e → slice_get (keys_of tab) k ≡ Some e.0
+  key_at tab k e at = slice_get-map (λ (d : CowStr × X). d.0) tab k ∙ ap (option_map (λ d. d.0)) at
 
   places : (tab : List (CowStr × X)) (j k : ℕ) (d e : CowStr × X) → IsInOrder tab → j < k → slice_get tab j ≡ Some d → slice_get tab k ≡ Some e
       → label_cmp d.0 e.0 ≡ Less
-  unfolding IsStrictlySortedBy
-  places [] j k d e order lt p q = absurd (none-some d p)
-  places (x ∷ tab) j zero d e order lt p q = absurd (not-suc-le-zero lt)
-  places (x ∷ tab) zero (suc k) d e order lt p q =
-      all_at d.0 tab k e (subst (λ (c : CowStr × X). AllByRecursion (λ y. label_cmp c.0 y ≡ Less) (keys_of tab)) (same_Some x d p) order.0) q
-  places (x ∷ tab) (suc j) (suc k) d e order lt p q = places tab j k d e order.1 (le_of_suc-le-suc lt) p q
+  places tab j k d e order lt p q =
+      ap₂ label_cmp (sym (get_or_from_slice_get (keys_of tab) j d.0 d.0 (key_at tab j d p)))
+      (sym (get_or_from_slice_get (keys_of tab) k e.0 d.0 (key_at tab k e q)))
+      ∙ Less-from_sorted label_cmp (keys_of tab) j k d.0 order lt (slice_get_within (keys_of tab) k e.0 (key_at tab k e q))
 
   module _ (key : CowStr) (tab : List (CowStr × X)) (order : IsInOrder tab) (m : ℕ) (d : CowStr × X) (here : slice_get tab m ≡ Some d) where
     pub below_more : label_cmp key d.0 ≡ Greater → (j : ℕ) (e : CowStr × X) → j < m + 1 → slice_get tab j ≡ Some e → label_cmp key e.0 ≡ Greater
@@ -121,22 +93,11 @@ module _ {X : Type 0} where
 
   pub found_at : (key : CowStr) (tab : List (CowStr × X)) (m : ℕ) (d : CowStr × X) → IsInOrder tab → slice_get tab m ≡ Some d → label_cmp key d.0 ≡ Equal
       → lookup (is_at (label_cmp key)) tab ≡ Some d.1
-  unfolding IsStrictlySortedBy
-  found_at key [] m d order here tied = absurd (none-some d here)
-  found_at key (x ∷ tab) zero d order here tied =
-      let same = same_Some x d here in
-      ap (λ o. cond (is_eq o) (Some x.1) (lookup (is_at (label_cmp key)) tab)) (ap (λ (c : CowStr × X). label_cmp key c.0) same ∙ tied)
-      ∙ ap (λ (c : CowStr × X). Some c.1) same
-  found_at key (x ∷ tab) (suc m) d order here tied =
-      let more = label_total.antisymm d.0 x.0 ∙ ap ordering_reverse (all_at x.0 tab m d order.0 here) in
-      ap (λ o. cond (is_eq o) (Some x.1) (lookup (is_at (label_cmp key)) tab)) (label_total.congr key d.0 x.0 tied ∙ more)
-      ∙ found_at key tab m d order.1 here tied
+  found_at key tab m d order here tied =
+      ap (λ f. lookup (is_at (λ l. slice_cmp nat_cmp f (folding_of l))) tab) (tied_same folding_of key d.0 tied)
+      ∙ lookup_from_place (eq_by_cmp_equiv label_total) tab m d.0 d.1 (IsDistinct-from_sorted label_cmp (keys_of tab) order) here
 
 -- ---- one step through a table
-
-table_none : {X : Type 0} (last : Option CowStr) (es : List (CowStr × X)) → es ≡ [] → table_of (after_label last es) ≡ []
-unfolding with_all
-table_none last es is = ap (λ l. table_of (after_label last l)) is
 
 pub table_step : {X : Type 0} (last : Option CowStr) (es : List (CowStr × X)) (e : CowStr × X) → Some e ≡ slice_get (table_of (after_label last es)) 0
     → table_of (after_label last es) ≡ e ∷ table_of (after_label (Some e.0) es)
@@ -159,13 +120,14 @@ module _ {X : Type 0} (last : Option CowStr) (es left : List (CowStr × X)) (ord
   rest_is = after_first last es e (drop 1 tab) split
 
   left_is : table_of (after_label (Some e.0) es) ≡ table_of (after_label (Some e.0) left)
+  unfolding with_all
   left_is =
       elim (cases_lt 1 (length order)) [
         | inl long ↦ ap (λ l. table_of (after_label (Some e.0) l)) (sym (more long))
         | inr short ↦
             let few : length order ≤ 1 = omega (arith, short) in
             let one : length tab ≤ 1 = omega (arith, few, ap length is, length-map order (slice_get es), length-map tab Some) in
-            sym rest_is ∙ drop_all 1 tab one ∙ sym (table_none (Some e.0) left (none few))
+            sym rest_is ∙ drop_all 1 tab one ∙ sym (ap (λ l. table_of (after_label (Some e.0) l)) (none few))
       ]
 
   pub order_step : tab ≡ e ∷ table_of (after_label (Some e.0) left)
@@ -178,4 +140,4 @@ module _ {X : Type 0} (last : Option CowStr) (es left : List (CowStr × X)) (ord
       let long : 1 < length order = omega (arith, any, ap length same, length-drop 1 order) in
       subst (λ o. IsOrderOf o left (table_of (after_label (Some e.0) left))) (sym same)
       (subst (λ (l : List (CowStr × X)). IsOrderOf (drop 1 order) l (table_of (after_label (Some e.0) l))) (sym (more long))
-      (order_rest es tab order is ∙ ap (map Some) rest_is))
+      (sym (drop-map (slice_get es) 1 order) ∙ ap (drop 1) is ∙ drop-map Some 1 tab ∙ ap (map Some) rest_is))

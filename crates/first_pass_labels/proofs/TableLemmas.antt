@@ -1,7 +1,7 @@
 -- The result of a look-up in a table of labels, and the change by one more definition.
-use Rattle.std.proofs.Common.{◌≡◌, ◌≢◌, ℕ, zero, suc, Bool, true, false, cond, List, [], ◌∷◌, All, Option, None, Some, nat_eq, refl, sym, subst}
-use Rattle.std.proofs.Common.{◌∙◌, le_of_suc-le-suc, suc-le-suc, zero-le, not-suc-le-zero}
-use Rattle.std.proofs.lemmas.Bool.{true≢false}
+use Rattle.std.proofs.Common.{◌≡◌, ◌≢◌, ℕ, suc, Bool, true, false, cond, List, [], ◌∷◌, Option, None, Some, nat_eq, refl, sym, subst, ◌∙◌, suc-le-suc}
+use Rattle.std.proofs.Common.{zero-le, not-suc-le-zero, true≢false}
+use Rattle.std.proofs.lemmas.List.Elements.{All-cons}
 use Rattle.std.specs.Cmp.Lexicographic.{pointwise, texts_ties, bytes_decides}
 use Rattle.std.specs.Map.{lookup}
 use Rattle.std.specs.BTreeMap.{is_at}
@@ -15,15 +15,11 @@ found_by_order label es = λ i. lookup (λ l. texts_ties (folding_of label) (fol
 
 -- ---- a definition is next to a label with its folding
 
-none_cons : {X : Type 0} (folding : List ℕ) (e : CowStr × X) (es : List (CowStr × X)) → pointwise nat_eq folding (folding_of e.0) ≡ false
-    → All (λ e. folding_of e.0 ≢ folding) es → All (λ e. folding_of e.0 ≢ folding) (e ∷ es)
-none_cons folding e es h rest zero d lt = λ same. true≢false (sym ((bytes_decides folding (folding_of e.0)).1 (sym same)) ∙ h)
-none_cons folding e es h rest (suc k) d lt = rest k d (le_of_suc-le-suc lt)
-
 holds_cons : {X : Type 0} (folding : List ℕ) (e : CowStr × X) (es : List (CowStr × X)) (same : Bool)
     → pointwise nat_eq folding (folding_of e.0) ≡ same → (r : Option X) → HoldsUnder es folding r → HoldsUnder (e ∷ es) folding (cond same (Some e.1) r)
 holds_cons folding e es true h r rest = (e.0, (0, suc-le-suc zero-le, refl), sym ((bytes_decides folding (folding_of e.0)).0 h))
-holds_cons folding e es false h None rest = λ k d lt. none_cons folding e es h rest k d lt
+holds_cons folding e es false h None rest =
+    All-cons (λ e. folding_of e.0 ≢ folding) e es (λ same. true≢false (sym ((bytes_decides folding (folding_of e.0)).1 (sym same)) ∙ h)) rest
 holds_cons folding e es false h (Some x) (label, (k, lt, at), same) = (label, (suc k, suc-le-suc lt, at), same)
 
 pub holds_under : {X : Type 0} (folding : List ℕ) (es : List (CowStr × X)) → HoldsUnder es folding (defined_under folding es)

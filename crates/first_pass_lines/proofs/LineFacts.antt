@@ -1,12 +1,12 @@
 -- Facts on lines.
-use Rattle.std.proofs.Common.{◌≡◌, ℕ, zero, suc, ◌+◌, ◌<◌, ◌≤◌, Bool, true, false, cond, not, ◌==◌, List, [], ◌∷◌, ◌++◌, length, take, drop, map, Some, None}
-use Rattle.std.proofs.Common.{◌-◌, slice_index, not-suc-le-zero, Option, unwrap_or, refl, sym, ap, ◌∙◌, arith, add-one, length-drop, inl, inr, if◌then◌else◌}
-use Rattle.std.specs.Option.{option_map}
-use Rattle.std.specs.List.{prefix_len, concat, list_all, All}
-use Rattle.std.proofs.lemmas.List.{take-append-drop, drop-drop, length-take-le, append_cancel_left, at_drop_all}
+use Rattle.std.proofs.Common.{◌≡◌, ℕ, zero, suc, ◌+◌, ◌<◌, ◌≤◌, Bool, true, false, cond, not, ◌==◌, List, [], ◌∷◌, ◌++◌, length, take, drop, map, Some}
+use Rattle.std.proofs.Common.{None, ◌-◌, slice_index, not-suc-le-zero, Option, unwrap_or, refl, sym, ap, ◌∙◌, arith, add-one, length-drop, inl, inr}
+use Rattle.std.proofs.Common.{if◌then◌else◌, option_map, All, take-append-drop, drop-drop, length-take-le, eqb-true}
+use Rattle.std.specs.List.{prefix_len, concat, list_all}
+use Rattle.std.proofs.lemmas.List.{append_cancel_left, at_drop_all}
 use Rattle.std.proofs.Math.Seq.{take-append_seam}
 use Rattle.std.proofs.lemmas.Grind.{common_steps}
-use Rattle.std.proofs.lemmas.Bool.{eqb-true}
+use Rattle.std.proofs.lemmas.Bool.{cases_lt}
 use Rattle.std.proofs.lemmas.List.Elements.{All-nil, All-cons}
 use Rattle.std.proofs.lemmas.Bool.Decides.{nat_tests}
 use Rattle.first_pass_items.specs.Bytes.{line_feed, carriage_return}
@@ -109,6 +109,14 @@ lines_at-line text s h =
 
 pub lines_at-end : (text : List ℕ) (s : ℕ) → length text ≤ s → lines_at s (drop s text) ≡ []
 lines_at-end text s h = at_drop_all (lines_at s) text s h ∙ lines_at-none s
+
+-- the first of the lines from an offset on, and the other lines
+pub first_line : (text : List ℕ) (s : ℕ) (line : Place) (lines : List Place) → line ∷ lines ≡ lines_at s (drop s text)
+    → (s < length text) × (line ≡ line_place s (drop s text)) × (lines ≡ (let n : ℕ = s + line_len (drop s text) in lines_at n (drop n text)))
+first_line text s line lines is = elim (cases_lt s (length text)) [
+  | inl within ↦ (let e = is ∙ lines_at-line text s within in (within, cc, cc))
+  | inr past ↦ absurd (let none : line ∷ lines ≡ [] = is ∙ lines_at-end text s past in cc)
+]
 
 pub line_len-within : (text : List ℕ) (s : ℕ) → s < length text → let n : ℕ = line_len (drop s text) in (0 < n) × (s + n ≤ length text)
 line_len-within text s h =

@@ -1,11 +1,12 @@
 -- Facts on places in the text, and on the columns of a rest.
-use Rattle.std.proofs.Common.{◌≡◌, ◌⊎◌, inl, inr, ℕ, zero, suc, ◌+◌, ◌-◌, ◌<◌, ◌≤◌, Bool, true, false, ◌==◌, List, ◌∷◌, length, drop, get_or, slice_index, []}
-use Rattle.std.proofs.Common.{Option, Some, None, IsUtf8, IsCharBoundary, if◌then◌else◌, refl, sym, ap, subst, ◌∙◌, arith, length-drop, get_or-drop, drop-drop}
+use Rattle.std.proofs.Common.{◌≡◌, ◌⊎◌, inl, inr, ℕ, zero, suc, ◌+◌, ◌-◌, ◌<◌, ◌≤◌, Bool, true, false, ◌==◌, List, ◌∷◌, length, drop, get_or, slice_index}
+use Rattle.std.proofs.Common.{[], Option, Some, None, IsUtf8, IsCharBoundary, if◌then◌else◌, refl, sym, ap, subst, ◌∙◌, arith, length-drop, get_or-drop}
+use Rattle.std.proofs.Common.{drop-drop, eqb-true}
 use Rattle.std.proofs.lemmas.Option.{none-some}
 use Rattle.std.specs.List.{prefix_len}
 use Rattle.std.proofs.lemmas.Str.{IsCharBoundary-after_ascii, IsCharBoundary-end}
 use Rattle.std.proofs.lemmas.List.Sums.{prefix_len_passes, prefix_len-le-length}
-use Rattle.std.proofs.lemmas.Bool.{eqb-true, cases_lt}
+use Rattle.std.proofs.lemmas.Bool.{cases_lt}
 use Rattle.std.proofs.lemmas.Bool.Decides.{nat_tests}
 use Rattle.first_pass_items.specs.Bytes.{tab, space, greater_than, ascii_end}
 use Rattle.first_pass_lines.specs.Lines.{begins, ends_line, line_len, is_line_end, is_content, is_white, is_number_sign}
@@ -13,7 +14,7 @@ use Rattle.first_pass_lines.specs.Rest.{Rest, past_byte, past_bytes, past_quote_
 use Rattle.first_pass_lines.specs.Rest.{indent}
 use Rattle.first_pass_lines.specs.Places.{Place, place_at, offset, line_place, IsPlaceOf, moved_columns, moved_bytes, line_end, start_of, lines_at}
 use Rattle.first_pass_lines.proofs.LineFacts.{line_len-none, line_len-step, line_len-some, line_len-within, line_len-content_first, lines_at-line}
-use Rattle.first_pass_lines.proofs.LineFacts.{lines_at-end}
+use Rattle.first_pass_lines.proofs.LineFacts.{line_len-parts, line_len-inside, lines_at-end}
 use Rattle.first_pass_lines.proofs.Columns.{after-more, after-none, indent-some, all-more, all-none}
 
 -- after all columns are taken: no column is owed, and the next byte is neither a space nor a tab
@@ -56,16 +57,7 @@ all_columns_up_to (suc k) r h = up_to_step k r (next_column r) refl h (all_colum
 
 -- the columns that remain after some are taken
 
--- the bytes after the one at an offset
-next_bytes : (text : List ℕ) (o b : ℕ) (bs : List ℕ) → b ∷ bs ≡ drop o text → bs ≡ drop (o + 1) text
-next_bytes text o b bs h = ap (drop 1) h ∙ drop-drop 1 o text
-
-next_within : (text : List ℕ) (o b : ℕ) (bs : List ℕ) → b ∷ bs ≡ drop o text → o < length text
-next_within text o b bs h =
-    let l = length-drop o text in
-    let e : suc (length bs) ≡ length (drop o text) = ap length h in
-    omega arith
-
+-- a byte of the rest after an offset
 byte_at : (text : List ℕ) (o k : ℕ) (bs : List ℕ) → bs ≡ drop o text → get_or text (o + k) 0 ≡ get_or bs k 0
 byte_at text o k bs h = sym (get_or-drop o text k 0) ∙ ap (λ xs. get_or xs k 0) (sym h)
 
@@ -130,38 +122,41 @@ byte_by false true r s b bs h h' e =
     (omega arith, grind (arith, h, h', e), grind (arith, h, h', e), grind (arith, nat_tests, h'))
 byte_by false false r s b bs h h' e = absurd (grind (arith, h, h', e))
 
-byte_moves : (text : List ℕ) (p : Place) (s : Rest) (bs : List ℕ)
-    → IsUtf8 text → IsPlaceOf text p → bs ≡ p.rest.left → column_of_byte p.rest bs ≡ Some s → IsPlaceOf text (place_at p.line s)
-byte_moves text p s [] u i e h = cc
-byte_moves text p s (b ∷ bs) u i e h =
-    let m = byte_by (b == space) (b == tab) p.rest s b bs refl refl h in
-    let f : b ∷ bs ≡ drop (offset p) text = e ∙ i.left in
-    let o : p.line + s.taken ≡ offset p + 1 = omega (arith, m.2) in
-    let l = next_within text (offset p) b bs f in
-    let a : get_or text (offset p + 0) 0 ≡ b = byte_at text (offset p) 0 (b ∷ bs) f in
-    let z : offset p + 0 ≡ offset p = omega arith in
-    let c = IsCharBoundary-after_ascii text (offset p) u l (let g = ap (λ k. get_or text k 0) z in omega (arith, m.0)) in
-    record {
-      left = m.1 ∙ next_bytes text (offset p) b bs f ∙ ap (λ k. drop k text) (sym o);
-      within = omega arith;
-      boundary = rw o c;
-    }
+-- What an owed column keeps, and what the column of a space or a tab keeps, all columns keep.
+module _ (P : Rest → Type 0) (owes : (o : ℕ) (r : Rest) → P r → P (record r { owed = o }))
+    (byte : (b : ℕ) (r s : Rest) → b < ascii_end → is_content b ≡ true → b ∷ s.left ≡ r.left → s.taken ≡ r.taken + 1 → P r → P s) where
+  byte_holds : (r s : Rest) (bs : List ℕ) → bs ≡ r.left → column_of_byte r bs ≡ Some s → P r → P s
+  byte_holds r s [] e h = absurd (none-some s h)
+  byte_holds r s (b ∷ bs) e h =
+      let m = byte_by (b == space) (b == tab) r s b bs refl refl h in
+      byte b r s m.0 m.3 (ap (λ l. b ∷ l) m.1 ∙ e) m.2
 
-column_moves : (text : List ℕ) (p : Place) (s : Rest) (o : ℕ)
-    → IsUtf8 text → IsPlaceOf text p → column_of o p.rest ≡ Some s → IsPlaceOf text (place_at p.line s)
-column_moves text p s zero u i h = byte_moves text p s p.rest.left u i refl h
-column_moves text p s (suc o) u i h =
-    let e : record p.rest { owed = o } ≡ s = cc in
-    subst (λ r. IsPlaceOf text (place_at p.line r)) e (record { left = i.left; within = i.within; boundary = i.boundary })
+  column_holds : (o : ℕ) (r s : Rest) → column_of o r ≡ Some s → P r → P s
+  column_holds zero r s h p = byte_holds r s r.left refl h p
+  column_holds (suc o) r s h p = let e : record r { owed = o } ≡ s = cc in subst P e (owes o r p)
 
-columns_step : (text : List ℕ) (k : ℕ) (p : Place) (o : Option Rest) → IsUtf8 text → IsPlaceOf text p → next_column p.rest ≡ o
-    → ((q : Place) → IsPlaceOf text q → IsPlaceOf text (moved_columns k q)) → IsPlaceOf text (moved_columns (suc k) p)
-columns_step text k p None u i e f = rw (after-none (suc k) p.rest e) i
-columns_step text k p (Some s) u i e f = rw (after-more (suc k) k p.rest s refl e) (f (place_at p.line s) (column_moves text p s p.rest.owed u i e))
+  hold_by : (k : ℕ) (r : Rest) (o : Option Rest) → next_column r ≡ o → ((s : Rest) → P s → P (after_columns k s)) → P r → P (after_columns (suc k) r)
+  hold_by k r None e f p = subst P (sym (after-none (suc k) r e)) p
+  hold_by k r (Some s) e f p = subst P (sym (after-more (suc k) k r s refl e)) (f s (column_holds r.owed r s e p))
+
+  pub columns_hold : (k : ℕ) (r : Rest) → P r → P (after_columns k r)
+  columns_hold zero r p = p
+  columns_hold (suc k) r p = hold_by k r (next_column r) refl (columns_hold k) p
+
+byte_moves : (text : List ℕ) (line b : ℕ) (r s : Rest) → IsUtf8 text → b < ascii_end → b ∷ s.left ≡ r.left → s.taken ≡ r.taken + 1
+    → IsPlaceOf text (place_at line r) → IsPlaceOf text (place_at line s)
+byte_moves text line b r s u small left taken i =
+    let p : Place = place_at line r in
+    let o : line + s.taken ≡ offset p + 1 = omega (arith, taken) in
+    let some : length r.left ≡ suc (length s.left) = ap length (sym left) in
+    let first : slice_index r.left 0 ≡ b = ap (λ l. slice_index l 0) (sym left) in
+    let c : IsCharBoundary text (line + s.taken) = rw o (ascii_boundary text p 0 u i (omega arith) (omega arith)) in
+    record { left = ap (drop 1) (left ∙ i.left) ∙ drop-drop 1 (offset p) text ∙ ap (λ k. drop k text) (sym o); within = c.0; boundary = c }
 
 pub columns_keep : (text : List ℕ) (k : ℕ) (p : Place) → IsUtf8 text → IsPlaceOf text p → IsPlaceOf text (moved_columns k p)
-columns_keep text zero p u i = i
-columns_keep text (suc k) p u i = columns_step text k p (next_column p.rest) u i refl (λ q j. columns_keep text k q u j)
+columns_keep text k p u i =
+    columns_hold (λ r. IsPlaceOf text (place_at p.line r)) (λ o r j. record { left = j.left; within = j.within; boundary = j.boundary })
+    (λ b r s small plain left taken j. byte_moves text p.line b r s u small left taken j) k p.rest i
 
 -- the same for a rest that a call has changed
 
@@ -224,58 +219,22 @@ place_length text p i =
     let w = i.within in
     omega arith
 
--- the end of a line, and of its content, is the same before and after columns or content bytes are taken: both are a
--- number of content bytes away
-content_by_step : (f : List ℕ → ℕ) → ((b : ℕ) (bs : List ℕ) → is_content b ≡ true → f (b ∷ bs) ≡ f bs + 1) → (r s : Rest) (bs : List ℕ)
-    → column_of_byte r bs ≡ Some s → s.taken + f s.left ≡ r.taken + f bs
-content_by_step f step r s [] h = cc
-content_by_step f step r s (b ∷ bs) h =
-    let m = byte_by (b == space) (b == tab) r s b bs refl refl h in
-    let c = step b bs m.3 in
-    let e = ap f m.1 in
-    omega arith
-
-column_away : (f : List ℕ → ℕ) → ((b : ℕ) (bs : List ℕ) → is_content b ≡ true → f (b ∷ bs) ≡ f bs + 1) → (o : ℕ) (r s : Rest) → column_of o r ≡ Some s
-    → s.taken + f s.left ≡ r.taken + f r.left
-column_away f step zero r s h = content_by_step f step r s r.left h
-column_away f step (suc o) r s h = let e : record r { owed = o } ≡ s = cc in ap (λ q. q.taken + f q.left) (sym e)
-
-away_step : (f : List ℕ → ℕ) → ((b : ℕ) (bs : List ℕ) → is_content b ≡ true → f (b ∷ bs) ≡ f bs + 1) → (k : ℕ) (r : Rest) (o : Option Rest)
-    → next_column r ≡ o → ((s : Rest) → (after_columns k s).taken + f (after_columns k s).left ≡ s.taken + f s.left)
-    → (after_columns (suc k) r).taken + f (after_columns (suc k) r).left ≡ r.taken + f r.left
-away_step f step k r None e g = ap (λ q. q.taken + f q.left) (after-none (suc k) r e)
-away_step f step k r (Some s) e g = ap (λ q. q.taken + f q.left) (after-more (suc k) k r s refl e) ∙ g s ∙ column_away f step r.owed r s e
-
-columns_away : (f : List ℕ → ℕ) → ((b : ℕ) (bs : List ℕ) → is_content b ≡ true → f (b ∷ bs) ≡ f bs + 1) → (k : ℕ) (r : Rest)
-    → (after_columns k r).taken + f (after_columns k r).left ≡ r.taken + f r.left
-columns_away f step zero r = refl
-columns_away f step (suc k) r = away_step f step k r (next_column r) refl (columns_away f step k)
-
+-- the end of a line is the same before and after columns or content bytes are taken
 content_first : (b : ℕ) (bs : List ℕ) → is_content b ≡ true → prefix_len is_content (b ∷ bs) ≡ prefix_len is_content bs + 1
 content_first b bs h = rw h (omega arith)
 
 pub columns_line_end : (k : ℕ) (p : Place) → line_end (moved_columns k p) ≡ line_end p
-columns_line_end k p = let e = columns_away line_len line_len-content_first k p.rest in omega arith
-
-bytes_step : (f : List ℕ → ℕ) → ((b : ℕ) (bs : List ℕ) → is_content b ≡ true → f (b ∷ bs) ≡ f bs + 1) → (t : Bool) (b n : ℕ) (bs : List ℕ) → is_content b ≡ t
-    → suc n ≤ prefix_len is_content (b ∷ bs) → (n ≤ prefix_len is_content bs → n + f (drop n bs) ≡ f bs) → suc n + f (drop n bs) ≡ f (b ∷ bs)
-bytes_step f step true b n bs h w g =
-    let p = content_first b bs h in
-    let c = step b bs h in
-    let i = g (omega arith) in
-    omega arith
-bytes_step f step false b n bs h w g =
-    let p : prefix_len is_content (b ∷ bs) ≡ 0 = rw h in
-    absurd (omega arith)
-
-bytes_away : (f : List ℕ → ℕ)
-    → ((b : ℕ) (bs : List ℕ) → is_content b ≡ true → f (b ∷ bs) ≡ f bs + 1) → (n : ℕ) (bs : List ℕ) → n ≤ prefix_len is_content bs → n + f (drop n bs) ≡ f bs
-bytes_away f step zero bs w = omega arith
-bytes_away f step (suc n) [] w = absurd (omega arith)
-bytes_away f step (suc n) (b ∷ bs) w = bytes_step f step (is_content b) b n bs refl w (bytes_away f step n bs)
+columns_line_end k p =
+    columns_hold (λ r. line_end (place_at p.line r) ≡ line_end p) (λ o r e. e)
+    (λ b r s small plain left taken e. omega (arith, taken, e, line_len-content_first b s.left plain, ap line_len left)) k p.rest refl
 
 pub bytes_line_end : (n : ℕ) (p : Place) → n ≤ prefix_len is_content p.rest.left → line_end (moved_bytes n p) ≡ line_end p
-bytes_line_end n p w = let e = bytes_away line_len line_len-content_first n p.rest.left w in omega arith
+bytes_line_end n p w =
+    let all = line_len-parts p.rest.left in
+    elim (cases_lt n (line_len p.rest.left)) [
+      | inl inside ↦ omega (arith, line_len-inside p.rest.left n inside)
+      | inr past ↦ let same : n ≡ prefix_len is_content p.rest.left = omega arith in rw same (omega arith)
+    ]
 
 -- the starts of the lines from an offset on, each on a character boundary
 start_by : (text : List ℕ) (s : ℕ) → s ≤ length text → (s < length text) ⊎ (length text ≤ s) → start_of (length text) (lines_at s (drop s text)) ≡ s
@@ -319,34 +278,10 @@ quote_line_end line r s q =
     let f = quote_by (r.owed == 0) r s q in
     ap (λ z. line_end (place_at line z)) f.0 ∙ bytes_line_end 1 (place_at line r) f.3
 
-byte_shorter : (r s : Rest) (bs : List ℕ) → bs ≡ r.left → column_of_byte r bs ≡ Some s → length s.left ≤ length r.left
-byte_shorter r s [] e h = absurd (none-some s h)
-byte_shorter r s (b ∷ bs) e h =
-    let m = byte_by (b == space) (b == tab) r s b bs refl refl h in
-    let l : length s.left ≡ length bs = ap length m.1 in
-    let n : length r.left ≡ suc (length bs) = ap length (sym e) in
-    omega arith
-
-column_shorter : (o : ℕ) (r s : Rest) → column_of o r ≡ Some s → length s.left ≤ length r.left
-column_shorter zero r s h = byte_shorter r s r.left refl h
-column_shorter (suc o) r s h =
-    let e : record r { owed = o } ≡ s = cc in
-    let n = ap (λ q. length q.left) e in
-    omega arith
-
-shorter_step : (k : ℕ) (r : Rest) (o : Option Rest)
-    → next_column r ≡ o → ((s : Rest) → length (after_columns k s).left ≤ length s.left) → length (after_columns (suc k) r).left ≤ length r.left
-shorter_step k r None e f = let n = ap (λ q. length q.left) (after-none (suc k) r e) in omega arith
-shorter_step k r (Some s) e f =
-    let n = ap (λ q. length q.left) (after-more (suc k) k r s refl e) in
-    let g = f s in
-    let h = column_shorter r.owed r s e in
-    omega arith
-
 -- Taking columns adds no bytes to the rest.
 pub columns_shorter : (k : ℕ) (r : Rest) → length (after_columns k r).left ≤ length r.left
-columns_shorter zero r = omega arith
-columns_shorter (suc k) r = shorter_step k r (next_column r) refl (columns_shorter k)
+columns_shorter k r =
+    columns_hold (λ s. length s.left ≤ length r.left) (λ o s h. h) (λ b q s small plain left taken h. omega (arith, h, ap length left)) k r (omega arith)
 
 -- A block quote marker takes at least one byte.
 pub quote_shorter : (r s : Rest) → past_quote r ≡ Some s → length s.left < length r.left

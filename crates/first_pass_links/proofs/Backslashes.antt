@@ -1,14 +1,13 @@
 -- Backslashes in destinations outside `<..>`.
 use Rattle.std.proofs.Common.{◌≡◌, ℕ, ◌<◌, ◌≤◌, ◌==◌, Bool, true, false, List, [], ◌∷◌, length, drop, get_or, refl, sym, ap, ◌∙◌, arith}
-use Rattle.std.proofs.lemmas.Bool.{le-ltb}
+use Rattle.std.proofs.lemmas.Bool.{and_left}
 use Rattle.std.proofs.lemmas.Bool.Decides.{nat_tests}
 use Rattle.std.specs.Char.{is_ascii_punctuation}
 use Rattle.first_pass_items.specs.Bytes.{backslash}
 use Rattle.first_pass_links.specs.Escapes.{begins_escape}
 use Rattle.first_pass_links.specs.Destinations.{ends_run, bare_len, longer}
-use Rattle.first_pass_links.specs.Runs.{is_run_byte}
-use Rattle.first_pass_links.proofs.Destinations.{longer-longer, run-escape, run-byte}
-use Rattle.first_pass_links.proofs.Runs.{plain_facts}
+use Rattle.first_pass_links.proofs.Destinations.{longer-longer, run-escape}
+use Rattle.first_pass_links.proofs.Runs.{longer-none, run_alone}
 
 -- no escape begins with a backslash before the end or before a byte that ends a run
 pub last_escapes_none : (bs : List ℕ) → length bs < 2 → begins_escape bs ≡ false
@@ -23,22 +22,14 @@ pub end_escapes_none : (bs : List ℕ) → ends_run (get_or bs 1 0) ≡ true →
 end_escapes_none [] ends = refl
 end_escapes_none (b ∷ bs) ends = let e = end_is_other (get_or (b ∷ bs) 1 0) ends in grind (arith, nat_tests, e)
 
-letter_runs : (p : ℕ) → is_ascii_punctuation p ≡ false → ends_run p ≡ false → is_run_byte p ≡ true
-letter_runs p h goes = grind (arith, nat_tests, h, goes)
-
-letter_escapes : (p : ℕ) → is_ascii_punctuation p ≡ false → (p == backslash) ≡ false
-letter_escapes p h = grind (arith, nat_tests, h)
-
 -- a run continues after a backslash and a byte that does not end it, escaped or not
 run_pair : (t : Bool) (deepest nesting p : ℕ) (bs : List ℕ) → is_ascii_punctuation p ≡ t → ends_run p ≡ false → nesting ≤ deepest
     → bare_len deepest nesting 0 (backslash ∷ p ∷ bs) ≡ longer 2 (bare_len deepest nesting 0 bs)
 run_pair true deepest nesting p bs h goes bound = run-escape deepest nesting backslash p bs refl h ∙ longer-longer 1 1 (bare_len deepest nesting 0 bs)
 run_pair false deepest nesting p bs h goes bound =
-    let f = plain_facts p nesting (letter_runs p h goes) in
-    run-byte deepest nesting backslash (p ∷ bs) refl h refl (le-ltb _ _ bound)
-    ∙ ap (longer 1) (run-byte deepest nesting p bs goes (rw (letter_escapes p h) refl) f.1 (le-ltb _ _ (omega arith))
-    ∙ ap (λ n. longer 1 (bare_len deepest n 0 bs)) f.2)
-    ∙ longer-longer 1 1 (bare_len deepest nesting 0 bs)
+    let whole : List ℕ = backslash ∷ p ∷ bs in
+    sym (run_alone deepest nesting whole 1 (omega arith) (grind (arith, nat_tests, h, goes)) (and_left (p == backslash) _ (grind (arith, nat_tests, h))) bound
+    ∙ run_alone deepest nesting whole 0 (omega arith) refl h bound ∙ longer-none (bare_len deepest nesting 0 whole))
 
 pub run_backslash : (deepest nesting : ℕ) (bs : List ℕ) → 2 ≤ length bs → get_or bs 0 0 ≡ backslash → ends_run (get_or bs 1 0) ≡ false → nesting ≤ deepest
     → longer 2 (bare_len deepest nesting 0 (drop 2 bs)) ≡ bare_len deepest nesting 0 bs

@@ -1,9 +1,9 @@
 -- Texts in brackets, and runs, byte by byte.
-use Rattle.std.proofs.Common.{◌≡◌, ℕ, ◌+◌, ◌<◌, ◌≤◌, ◌==◌, nat_lt, Bool, true, false, List, [], ◌∷◌, length, drop, get_or, Option, Some, None, refl, sym, ap}
-use Rattle.std.proofs.Common.{subst, ◌∙◌, arith, length-drop, if◌then◌else◌}
-use Rattle.std.proofs.lemmas.Bool.{eqb-true, and_parts, le-ltb, lt-ltb}
+use Rattle.std.proofs.Common.{◌≡◌, ℕ, ◌+◌, ◌<◌, ◌≤◌, ◌==◌, nat_lt, Bool, true, false, List, [], ◌∷◌, length, drop, get_or, Option, Some, None, refl, sym}
+use Rattle.std.proofs.Common.{ap, ◌∙◌, inl, inr, arith, if◌then◌else◌, eqb-true, le-ltb, lt-ltb, drop-drop, get_or-drop}
+use Rattle.std.proofs.lemmas.Bool.{and_parts, cases_lt, false≢true}
 use Rattle.std.proofs.lemmas.Bool.Decides.{nat_tests}
-use Rattle.std.proofs.lemmas.List.{drop_more, drop-drop, drop_all, get_or-drop}
+use Rattle.std.proofs.lemmas.List.{drop_more, drop_all}
 use Rattle.first_pass_items.specs.Bytes.{right_parenthesis, backslash}
 use Rattle.first_pass_lines.specs.Lines.{begins}
 use Rattle.first_pass_links.specs.Escapes.{begins_escape}
@@ -12,6 +12,9 @@ use Rattle.first_pass_links.specs.Destinations.{unescaped_upto, ends_run, closes
 pub longer-longer : (a b : ℕ) (o : Option ℕ) → longer a (longer b o) ≡ longer (a + b) o
 longer-longer a b None = refl
 longer-longer a b (Some k) = let e : a + (b + k) ≡ a + b + k = omega arith in ap (λ n. Some n) e
+
+pub first-drop : (at : ℕ) (bs : List ℕ) → get_or (drop at bs) 0 0 ≡ get_or bs at 0
+first-drop at bs = let z : at + 0 ≡ at = omega arith in get_or-drop at bs 0 0 ∙ ap (λ n. get_or bs n 0) z
 
 pub second : (b : ℕ) (bs : List ℕ) → begins_escape (b ∷ bs) ≡ true → 0 < length bs
 second b [] h = absurd (grind (arith, nat_tests, h))
@@ -96,43 +99,22 @@ pub run-byte : (deepest nesting b : ℕ) (bs : List ℕ) → ends_run b ≡ fals
 unfolding bare_len
 run-byte deepest nesting b bs h i j k = rw (h, i, j, k)
 
-backslash_nests : (b nesting : ℕ) (bs : List ℕ) → begins_escape (b ∷ bs) ≡ true → nesting_after b nesting ≡ nesting
-backslash_nests b nesting bs h = rw (eqb-true b backslash (and_parts _ _ h).0)
-
--- one unit further: an escape, or a byte
-run_unit_by : (t : Bool) (deepest nesting b : ℕ) (bs : List ℕ)
-    → begins_escape (b ∷ bs) ≡ t → ends_run b ≡ false → closes_none b nesting ≡ false → nat_lt deepest (nesting_after b nesting) ≡ false
-    → bare_len deepest nesting 0 (b ∷ bs) ≡ longer (if t then 2 else 1) (bare_len deepest (nesting_after b nesting) 0 (drop (if t then 2 else 1) (b ∷ bs)))
-run_unit_by true deepest nesting b [] h e u n = let z = second b [] h in absurd (omega arith)
-run_unit_by true deepest nesting b (p ∷ bs) h e u n =
-    run-escape deepest nesting b p bs e h ∙ longer-longer 1 1 (bare_len deepest nesting 0 bs)
-    ∙ ap (λ k. longer 2 (bare_len deepest k 0 bs)) (sym (backslash_nests b nesting (p ∷ bs) h))
-run_unit_by false deepest nesting b bs h e u n = run-byte deepest nesting b bs e h u n
-
-pub run_unit : (deepest nesting : ℕ) (bs : List ℕ) (at n : ℕ) → at < length bs → n ≡ (if begins_escape (drop at bs) then 2 else 1)
+-- one byte further, if it begins no escape
+pub run_passed : (deepest nesting : ℕ) (bs : List ℕ) (at : ℕ) → at < length bs → begins_escape (drop at bs) ≡ false
     → ends_run (get_or bs at 0) ≡ false → closes_none (get_or bs at 0) nesting ≡ false → nesting_after (get_or bs at 0) nesting ≤ deepest
-    → longer (at + n) (bare_len deepest (nesting_after (get_or bs at 0) nesting) 0 (drop (at + n) bs)) ≡ longer at (bare_len deepest nesting 0 (drop at bs))
-run_unit deepest nesting bs at n l e s u i =
+    → longer (at + 1) (bare_len deepest (nesting_after (get_or bs at 0) nesting) 0 (drop (at + 1) bs)) ≡ longer at (bare_len deepest nesting 0 (drop at bs))
+run_passed deepest nesting bs at l alone e u i =
     let b = get_or bs at 0 in
-    let following = nesting_after b nesting in
+    let rest = drop (at + 1) bs in
     let d = drop_more bs at 0 l in
-    let x = run_unit_by _ deepest nesting b (drop (at + 1) bs) refl s u (le-ltb _ _ i) in
-    let v : bare_len deepest nesting 0 (drop at bs)
-    ≡ longer (if begins_escape (drop at bs) then 2 else 1) (bare_len deepest following 0 (drop (if begins_escape (drop at bs) then 2 else 1) (drop at bs))) =
-    subst (λ xs.
-    bare_len deepest nesting 0 xs ≡ longer (if begins_escape xs then 2 else 1) (bare_len deepest following 0 (drop (if begins_escape xs then 2 else 1) xs)))
-    (sym d) x
-    in
-    let w : bare_len deepest nesting 0 (drop at bs) ≡ longer n (bare_len deepest following 0 (drop n (drop at bs))) =
-    v ∙ ap (λ m. longer m (bare_len deepest following 0 (drop m (drop at bs)))) (sym e)
-    in
-    sym (ap (longer at) w ∙ longer-longer at n (bare_len deepest following 0 (drop n (drop at bs)))
-    ∙ ap (λ xs. longer (at + n) (bare_len deepest following 0 xs)) (drop-drop n at bs))
+    let x = run-byte deepest nesting b rest e (ap begins_escape (sym d) ∙ alone) u (le-ltb _ _ i) in
+    sym (ap (longer at) (ap (bare_len deepest nesting 0) d ∙ x) ∙ longer-longer at 1 (bare_len deepest (nesting_after b nesting) 0 rest))
 
 -- the bytes that stop a run
 deep_by : (t : Bool) (deepest nesting b : ℕ) (bs : List ℕ) → begins_escape (b ∷ bs) ≡ t → ends_run b ≡ false → closes_none b nesting ≡ false → nesting ≤ deepest
     → deepest < nesting_after b nesting → bare_len deepest nesting 0 (b ∷ bs) ≡ None
-deep_by true deepest nesting b bs h e u i s = let z = backslash_nests b nesting bs h in absurd (omega arith)
+deep_by true deepest nesting b bs h e u i s =
+    let z : nesting_after b nesting ≡ nesting = rw (eqb-true b backslash (and_parts _ _ h).0) in absurd (omega arith)
 deep_by false deepest nesting b bs h e u i s = run-deep deepest nesting b bs e h u (lt-ltb _ _ s)
 
 pub run_deep : (deepest nesting : ℕ) (bs : List ℕ) (at : ℕ) → at < length bs → ends_run (get_or bs at 0) ≡ false → closes_none (get_or bs at 0) nesting ≡ false
@@ -153,12 +135,8 @@ pub run_ended : (deepest nesting : ℕ) (bs : List ℕ) (at : ℕ) → length bs
 run_ended deepest nesting bs at l = ap (bare_len deepest nesting 0) (drop_all at bs l) ∙ run-nil deepest nesting
 
 -- the first byte from an offset on
-first_by : (k : ℕ) (text bs : List ℕ) (at : ℕ) → bs ≡ drop at text → begins k bs ≡ true → (at < length text) × (get_or text at 0 ≡ k)
-first_by k text [] at e h = cc
-first_by k text (b ∷ bs) at e h =
-    let l = ap length e ∙ length-drop at text in
-    let z : at + 0 ≡ at = omega arith in
-    (omega arith, ap (λ j. get_or text j 0) (sym z) ∙ sym (get_or-drop at text 0 0) ∙ ap (λ xs. get_or xs 0 0) (sym e) ∙ eqb-true b k h)
-
 pub first_byte : (k : ℕ) (text : List ℕ) (at : ℕ) → begins k (drop at text) ≡ true → (at < length text) × (get_or text at 0 ≡ k)
-first_byte k text at h = first_by k text (drop at text) at refl h
+first_byte k text at h = elim (cases_lt at (length text)) [
+  | inl l ↦ (l, eqb-true _ k (rw (drop_more text at 0 l) at h))
+  | inr l ↦ (let z : begins k [] ≡ true = rw (drop_all at text l) at h in absurd (false≢true z))
+]

@@ -1,15 +1,13 @@
 -- Unescaped texts, change by change.
 use Rattle.std.proofs.Common.{◌≡◌, ◌⊎◌, inl, inr, ℕ, zero, suc, ◌+◌, ◌-◌, ◌<◌, ◌≤◌, ◌==◌, ◌&&◌, Bool, true, false, List, ◌∷◌, ◌++◌, length, take, drop, []}
-use Rattle.std.proofs.Common.{get_or, slice_index, encode_utf8, Option, Some, None, refl, sym, ap, subst, ◌∙◌, arith, append_assoc, length-append, length-drop}
-use Rattle.std.proofs.Common.{IsUtf8}
-use Rattle.std.specs.List.{prefix_len}
+use Rattle.std.proofs.Common.{get_or, slice_index, encode_utf8, Option, Some, None, refl, sym, ap, subst, ◌∙◌, arith, append_assoc, length-append}
+use Rattle.std.proofs.Common.{length-drop, IsUtf8, IfSome, IsCharBoundary, eqb-true, drop-drop, get_or-drop, length-take, take_all, append-nil}
 use Rattle.std.specs.Char.{is_ascii_punctuation}
-use Rattle.std.specs.Str.{IsCharBoundary}
-use Rattle.std.proofs.lemmas.Bool.{eqb-true, cases_Bool, and_parts}
+use Rattle.std.proofs.lemmas.Bool.{cases_Bool, and_cases, and_left, and_parts, and_right, cond_both, false≢true}
 use Rattle.std.proofs.lemmas.Bool.Decides.{nat_tests}
-use Rattle.std.proofs.lemmas.List.{drop_more, take_more, drop-drop, get_or-drop, length-take, take_all, append-nil, drop_all}
+use Rattle.std.proofs.lemmas.List.{drop_more, drop_all}
 use Rattle.std.proofs.lemmas.List.Sums.{prefix_len-le-length}
-use Rattle.std.proofs.lemmas.Option.{some_pair_parts, none-some}
+use Rattle.std.proofs.lemmas.Option.{none-some}
 use Rattle.std.proofs.lemmas.Str.{encode_ascii, length-encode, IsCharBoundary-after_ascii}
 use Rattle.first_pass_items.specs.Bytes.{ampersand, backslash, pipe, ascii_end}
 use Rattle.first_pass_lines.specs.Lanes.{IsRunIn}
@@ -19,7 +17,10 @@ use Rattle.first_pass_links.specs.Escapes.{unescaped, unescaped_after, replaced_
 use Rattle.first_pass_links.specs.Changes.{change_at, begins_pipe_escape, IsChange}
 use Rattle.first_pass_links.specs.Plain.{is_unmarked}
 use Rattle.first_pass_entities.proofs.EntityFacts.{is_plain, entity_is_reference}
-use Rattle.first_pass_links.proofs.PipeEscapes.{cell-nil, cell-other, cell-kept, cell-dropped, pipe_after, drop-without_pipe_escapes, entity_at-cell}
+use Rattle.first_pass_links.proofs.PipeEscapes.{cell-nil, cell-other, cell-same, cell-dropped, pipe_after, plain_stay, entity_at-cell}
+use Rattle.first_pass_links.specs.Units.{part}
+use Rattle.first_pass_links.proofs.Destinations.{first_byte, first-drop}
+use Rattle.first_pass_links.proofs.Parts.{part-one, part-split}
 
 -- the bytes of a text from one offset up to another are kept
 pub record IsKept (in_table : Bool) (text : List ℕ) (from at : ℕ) : Type 0 where
@@ -37,10 +38,6 @@ pub record IsWritten (in_table : Bool) (text : List ℕ) (from : ℕ) (written :
 -- no bytes are kept
 pub kept_none : (t : Bool) (text : List ℕ) (from : ℕ) → from ≤ length text → IsKept t text from from
 kept_none t text from within = let z : from - from ≡ 0 = omega arith in record { order = omega arith; within = within; kept = rw z refl }
-
-begins_is : (k : ℕ) (bs : List ℕ) → begins k bs ≡ true → bs ≡ k ∷ drop 1 bs
-begins_is k [] h = cc
-begins_is k (b ∷ bs) h = ap (λ x. x ∷ bs) (eqb-true b k h)
 
 -- the rule, step by step
 skipped : (n : ℕ) (bs : List ℕ) → unescaped_after n bs ≡ unescaped_after 0 (drop n bs)
@@ -89,35 +86,29 @@ unfolding replaced_at
 entity_replaced bs h = rw h
 
 -- in a cell
-cell_pipe_escape : (bs : List ℕ) → unescaped true (backslash ∷ backslash ∷ pipe ∷ bs) ≡ pipe ∷ unescaped true bs
+cell_pipe_escape : (bs : List ℕ) → unescaped true (backslash ∷ backslash ∷ pipe ∷ bs) ≡ encode_utf8 pipe ++ unescaped true bs
 cell_pipe_escape bs =
     let e : without_pipe_escapes (backslash ∷ backslash ∷ pipe ∷ bs) ≡ backslash ∷ pipe ∷ without_pipe_escapes bs =
-    cell-kept backslash (backslash ∷ pipe ∷ bs) refl ∙ ap (λ xs. backslash ∷ xs) (cell-dropped backslash (pipe ∷ bs) refl refl ∙ pipe_after (pipe ∷ bs) refl)
+    cell-same backslash (backslash ∷ pipe ∷ bs) refl ∙ ap (λ xs. backslash ∷ xs) (cell-dropped backslash (pipe ∷ bs) refl refl ∙ pipe_after (pipe ∷ bs) refl)
     in
     ap (unescaped_after 0) e ∙ after_changed backslash 1 pipe (pipe ∷ without_pipe_escapes bs) (escape_at pipe (without_pipe_escapes bs) refl)
-    ∙ ap (λ xs. xs ++ unescaped true bs) (encode_ascii pipe (omega arith))
 
 cell_pipe : (bs : List ℕ) → unescaped true (backslash ∷ pipe ∷ bs) ≡ pipe ∷ unescaped true bs
 cell_pipe bs =
     ap (unescaped_after 0) (cell-dropped backslash (pipe ∷ bs) refl refl ∙ pipe_after (pipe ∷ bs) refl)
     ∙ after_plain pipe (without_pipe_escapes bs) (no_replacement pipe (without_pipe_escapes bs) refl refl)
 
-cell_escape_by : (p : ℕ) (bs : List ℕ) → is_ascii_punctuation p ≡ true → p < ascii_end
-    → without_pipe_escapes (backslash ∷ p ∷ bs) ≡ backslash ∷ p ∷ without_pipe_escapes bs → unescaped true (backslash ∷ p ∷ bs) ≡ p ∷ unescaped true bs
-cell_escape_by p bs h l e =
-    ap (unescaped_after 0) e ∙ after_changed backslash 1 p (p ∷ without_pipe_escapes bs) (escape_at p (without_pipe_escapes bs) h)
-    ∙ ap (λ xs. xs ++ unescaped true bs) (encode_ascii p l)
-
-cell_escape : (t u : Bool) (p : ℕ) (bs : List ℕ) → (p == pipe) ≡ t → (p == backslash) ≡ u → is_ascii_punctuation p ≡ true → p < ascii_end
-    → (p == backslash) && begins pipe bs ≡ false → unescaped true (backslash ∷ p ∷ bs) ≡ p ∷ unescaped true bs
-cell_escape true u p bs h h' i l k =
-    let e = eqb-true p pipe h in
-    subst (λ x. unescaped true (backslash ∷ x ∷ bs) ≡ x ∷ unescaped true bs) (sym e) (cell_pipe bs)
-cell_escape false true p bs h h' i l k =
-    let e : begins pipe bs ≡ false = rw h' at k in
-    cell_escape_by p bs i l (cell-kept backslash (p ∷ bs) h ∙ ap (λ xs. backslash ∷ xs) (cell-kept p bs e))
-cell_escape false false p bs h h' i l k =
-    cell_escape_by p bs i l (cell-kept backslash (p ∷ bs) h ∙ ap (λ xs. backslash ∷ xs) (cell-other p bs h'))
+escaped : (t : Bool) (p : ℕ) (bs : List ℕ) → is_ascii_punctuation p ≡ true → p < ascii_end → (t && begins_pipe_escape (backslash ∷ p ∷ bs)) ≡ false
+    → unescaped t (backslash ∷ p ∷ bs) ≡ encode_utf8 p ++ unescaped t bs
+escaped true p bs h l k = elim (cases_Bool (p == pipe)) [
+  | inl e ↦
+      subst (λ x. unescaped true (backslash ∷ x ∷ bs) ≡ x ∷ unescaped true bs) (sym (eqb-true p pipe e)) (cell_pipe bs)
+      ∙ ap (λ xs. xs ++ unescaped true bs) (sym (encode_ascii p l))
+  | inr e ↦
+      ap (unescaped_after 0) (cell-same backslash (p ∷ bs) e ∙ ap (λ xs. backslash ∷ xs) (cell-same p bs k))
+      ∙ after_changed backslash 1 p (p ∷ without_pipe_escapes bs) (escape_at p (without_pipe_escapes bs) h)
+]
+escaped false p bs h l k = after_changed backslash 1 p (p ∷ bs) (escape_at p bs h)
 
 -- a change is not empty, and has more bytes than its character
 pub record IsShorter (bs : List ℕ) (n c : ℕ) : Type 0 where
@@ -132,41 +123,22 @@ pub record Changes (t : Bool) (bs : List ℕ) (n c : ℕ) : Type 0 where
   pub shorter : IsShorter bs n c
   pub changed : unescaped t bs ≡ encode_utf8 c ++ unescaped t (drop n bs)
 
-punctuation_is_ascii : (p : ℕ) → is_ascii_punctuation p ≡ true → (0 < p) × (p < ascii_end)
-punctuation_is_ascii p h = grind (arith, nat_tests, h)
-
-escaped : (t : Bool) (p : ℕ) (bs : List ℕ) → is_ascii_punctuation p ≡ true → (t && begins_pipe_escape (backslash ∷ p ∷ bs)) ≡ false
-    → Changes t (backslash ∷ p ∷ bs) 2 p
-escaped true p bs h k =
-    let l = (punctuation_is_ascii p h).1 in
-    let e = encode_ascii p l in
-    let z = ap length e in
-    record {
-      shorter = record { some = omega arith; within = omega arith; shorter = omega arith; first = omega arith; last = l };
-      changed = cell_escape _ _ p bs refl refl h l k ∙ ap (λ xs. xs ++ unescaped true bs) (sym e);
-    }
-escaped false p bs h k =
-    let l = (punctuation_is_ascii p h).1 in
-    let z = ap length (encode_ascii p l) in
-    record {
-      shorter = record { some = omega arith; within = omega arith; shorter = omega arith; first = omega arith; last = l };
-      changed = after_changed backslash 1 p (p ∷ bs) (escape_at p bs h);
-    }
-
 escape_parts : (bs : List ℕ) → begins_escape bs ≡ true → bs ≡ backslash ∷ slice_index bs 1 ∷ drop 2 bs
 escape_parts [] h = cc
 escape_parts (b ∷ []) h = absurd (grind (arith, nat_tests, h))
 escape_parts (b ∷ p ∷ bs) h = let q = and_parts _ _ h in ap (λ x. x ∷ p ∷ bs) (eqb-true b backslash q.0)
 
-escape_from : (t : Bool) (bs : List ℕ) (n c : ℕ)
-    → begins_escape bs ≡ true → (t && begins_pipe_escape bs) ≡ false → 2 ≡ n → slice_index bs 1 ≡ c → Changes t bs n c
-escape_from t bs n c h k e f =
-    let p = escape_parts bs h in
-    let i : is_ascii_punctuation (slice_index bs 1) ≡ true = (and_parts _ _ h).1 in
-    let k' : (t && begins_pipe_escape (backslash ∷ slice_index bs 1 ∷ drop 2 bs)) ≡ false = subst (λ xs. (t && begins_pipe_escape xs) ≡ false) p k in
-    let x = escaped t (slice_index bs 1) (drop 2 bs) i k' in
-    let y : Changes t bs 2 (slice_index bs 1) = subst (λ xs. Changes t xs 2 (slice_index bs 1)) (sym p) x in
-    subst (Changes t bs n) f (subst (λ m. Changes t bs m (slice_index bs 1)) e y)
+escape_changes : (t : Bool) (bs : List ℕ) → begins_escape bs ≡ true → (t && begins_pipe_escape bs) ≡ false → Changes t bs 2 (slice_index bs 1)
+escape_changes t bs h k =
+    let e = escape_parts bs h in
+    let p = slice_index bs 1 in
+    let i = (and_parts (begins backslash bs) (is_ascii_punctuation p) h).1 in
+    let l : p < ascii_end = grind (arith, nat_tests, i) in
+    let z = ap length (encode_ascii p l) in
+    subst (λ xs. Changes t xs 2 (slice_index xs 1)) (sym e) (record {
+      shorter = record { some = omega arith; within = omega arith; shorter = omega arith; first = omega arith; last = l };
+      changed = escaped t p (drop 2 bs) i l (subst (λ xs. (t && begins_pipe_escape xs) ≡ false) e k);
+    })
 
 pipe_escape_parts : (bs : List ℕ) → begins backslash bs ≡ true → begins backslash (drop 1 bs) ≡ true → begins pipe (drop 2 bs) ≡ true
     → bs ≡ backslash ∷ backslash ∷ pipe ∷ drop 3 bs
@@ -176,26 +148,39 @@ pipe_escape_parts (b ∷ c ∷ []) h i j = cc
 pipe_escape_parts (b ∷ c ∷ d ∷ bs) h i j = rw (eqb-true b backslash h, eqb-true c backslash i, eqb-true d pipe j)
 
 -- three bytes: a backslash that escapes the pipe, a backslash that is dropped, and the pipe
-pipe_escape : (bs : List ℕ) (n c : ℕ) → begins_pipe_escape bs ≡ true → 3 ≡ n → pipe ≡ c → Changes true bs n c
-pipe_escape bs n c h e f =
-    let p = and_parts _ _ h in
-    let q = and_parts _ _ p.0 in
-    let parts : bs ≡ backslash ∷ backslash ∷ pipe ∷ drop 3 bs = pipe_escape_parts bs q.0 q.1 p.1 in
+pipe_escape_changes : (t : Bool) (bs : List ℕ) → (t && begins_pipe_escape bs) ≡ true → Changes t bs 3 pipe
+pipe_escape_changes false bs h = absurd (false≢true h)
+pipe_escape_changes true bs h =
+    let p = and_parts (begins backslash bs && begins backslash (drop 1 bs)) (begins pipe (drop 2 bs)) h in
+    let q = and_parts (begins backslash bs) (begins backslash (drop 1 bs)) p.0 in
     let z = ap length (encode_ascii pipe (omega arith)) in
-    let x : Changes true (backslash ∷ backslash ∷ pipe ∷ drop 3 bs) 3 pipe = record {
+    subst (λ xs. Changes true xs 3 pipe) (sym (pipe_escape_parts bs q.0 q.1 p.1)) (record {
       shorter = record { some = omega arith; within = omega arith; shorter = omega arith; first = omega arith; last = omega arith };
-      changed = cell_pipe_escape (drop 3 bs) ∙ ap (λ xs. xs ++ unescaped true (drop 3 bs)) (sym (encode_ascii pipe (omega arith)));
-    } in
-    subst (Changes true bs n) f (subst (λ m. Changes true bs m pipe) e (subst (λ xs. Changes true xs 3 pipe) (sym parts) x))
+      changed = cell_pipe_escape (drop 3 bs);
+    })
+
+-- a byte that begins no escape stays, and begins none in the text of the cell
+second_stays : (bs : List ℕ)
+    → is_ascii_punctuation (slice_index bs 0) ≡ false → (begins pipe bs ≡ false) × (slice_index (without_pipe_escapes bs) 0 ≡ slice_index bs 0)
+second_stays [] h = (refl, ap (λ xs. slice_index xs 0) cell-nil)
+second_stays (b ∷ bs) h =
+    let e : (b == backslash) ≡ false = grind (arith, nat_tests, h) in
+    (grind (arith, nat_tests, h), ap (λ xs. slice_index xs 0) (cell-other b bs e))
+
+first_stays : (b : ℕ) (bs : List ℕ) → begins_escape (b ∷ bs) ≡ false
+    → (without_pipe_escapes (b ∷ bs) ≡ b ∷ without_pipe_escapes bs) × (begins_escape (b ∷ without_pipe_escapes bs) ≡ false)
+first_stays b bs q = elim (and_cases _ _ q) [
+  | inl h ↦ (cell-other b bs h, and_left _ _ h)
+  | inr h ↦ (let s = second_stays bs h in (cell-same b bs (and_right _ _ s.0), and_right _ _ (ap is_ascii_punctuation s.1 ∙ h)))
+]
+
+-- a reference that begins with such a byte stays
+cell_replaced : (b : ℕ) (bs : List ℕ) → begins_escape (b ∷ bs) ≡ false → replaced_at (b ∷ without_pipe_escapes bs) ≡ entity_at (b ∷ bs)
+cell_replaced b bs q =
+    let s = first_stays b bs q in
+    entity_replaced (b ∷ without_pipe_escapes bs) s.1 ∙ ap entity_at (sym s.0) ∙ entity_at-cell (b ∷ bs)
 
 -- an entity
-plain_first : (t : Bool) (b : ℕ) (bs : List ℕ) → (b == backslash) ≡ t → 0 < prefix_len is_plain (b ∷ bs) → (b == backslash) ≡ false
-plain_first true b bs h l = let z : prefix_len is_plain (b ∷ bs) ≡ 0 = rw h in absurd (omega arith)
-plain_first false b bs h l = h
-
-plain_within : (bs : List ℕ) → prefix_len is_plain bs ≤ length bs
-plain_within bs = prefix_len-le-length is_plain bs
-
 first_of_entity : (bs : List ℕ) (n c : ℕ) → entity_at bs ≡ Some (n, c) → begins ampersand bs ≡ true
 unfolding entity_at
 first_of_entity bs n c h =
@@ -206,27 +191,21 @@ entity_shorter bs n c h =
     let r = entity_is_reference bs n c h in
     let some = r.ends.some in
     let plain = r.ends.plain in
-    let w = plain_within bs in
+    let w = prefix_len-le-length is_plain bs in
     let l = length-encode c in
     let s = r.shorter in
-    let first = ap (λ xs. get_or xs 0 0) (begins_is ampersand bs (first_of_entity bs n c h)) in
+    let first = (first_byte ampersand bs 0 (first_of_entity bs n c h)).1 in
     let last = r.ends.last in
     record { some = some; within = omega arith; shorter = omega arith; first = omega arith; last = omega arith }
 
 cell_entity : (bs : List ℕ) (n c : ℕ) → entity_at bs ≡ Some (n, c) → begins_escape bs ≡ false → unescaped true bs ≡ encode_utf8 c ++ unescaped true (drop n bs)
 cell_entity [] n c h q = let w = (entity_shorter [] n c h).within in let s = (entity_shorter [] n c h).some in absurd (omega arith)
 cell_entity (b ∷ bs) n c h q =
-    let r = entity_is_reference (b ∷ bs) n c h in
-    let some = r.ends.some in
-    let plain = r.ends.plain in
-    let e = cell-other b bs (plain_first _ b bs refl (omega arith)) in
-    let k : begins_escape (b ∷ without_pipe_escapes bs) ≡ false = rw (plain_first _ b bs refl (omega arith)) in
-    let z : replaced_at (without_pipe_escapes (b ∷ bs)) ≡ Some (n, c) =
-    entity_replaced (without_pipe_escapes (b ∷ bs)) (ap begins_escape e ∙ k) ∙ entity_at-cell (b ∷ bs) ∙ h
-    in
+    let r = (entity_is_reference (b ∷ bs) n c h).ends in
+    let e = (first_stays b bs q).0 in
     let l = ap length e in
-    changed_at n c (without_pipe_escapes (b ∷ bs)) (omega arith) some z
-    ∙ ap (λ xs. encode_utf8 c ++ unescaped_after 0 xs) (drop-without_pipe_escapes n (b ∷ bs) plain)
+    changed_at n c (without_pipe_escapes (b ∷ bs)) (omega arith) r.some (ap replaced_at e ∙ cell_replaced b bs q ∙ h)
+    ∙ ap (λ xs. encode_utf8 c ++ unescaped_after 0 xs) (plain_stay n (b ∷ bs) r.plain).1
 
 entity_changes : (t : Bool) (bs : List ℕ) (n c : ℕ) → begins_escape bs ≡ false → entity_at bs ≡ Some (n, c) → Changes t bs n c
 entity_changes true bs n c q h = record { shorter = entity_shorter bs n c h; changed = cell_entity bs n c h q }
@@ -237,60 +216,32 @@ entity_changes false bs n c q h =
     record { shorter = s; changed = changed_at n c bs (omega arith) k (entity_replaced bs q ∙ h) }
 
 -- every change
-change_by : (t u v : Bool) (bs : List ℕ) (n c : ℕ) → (t && begins_pipe_escape bs) ≡ u → begins_escape bs ≡ v → change_at t bs ≡ Some (n, c) → Changes t bs n c
+if_some : {P : ℕ × ℕ → Type 0} (o : Option (ℕ × ℕ)) → ((x : ℕ × ℕ) → o ≡ Some x → P x) → IfSome o P
+if_some None f = tt
+if_some (Some x) f = f x refl
+
+changes_if : (t : Bool) (bs : List ℕ) → IfSome (change_at t bs) (λ x. Changes t bs x.0 x.1)
 unfolding change_at replaced_at
-change_by true true v bs n c h h' e =
-    let parts = some_pair_parts 3 n pipe c (rw h at e) in
-    pipe_escape bs n c h parts.0 parts.1
-change_by true false true bs n c h h' e =
-    let parts = some_pair_parts 2 n (slice_index bs 1) c (rw (h, h') at e) in
-    escape_from true bs n c h' h parts.0 parts.1
-change_by true false false bs n c h h' e = entity_changes true bs n c h' (rw (h, h') at e)
-change_by false u true bs n c h h' e =
-    let parts = some_pair_parts 2 n (slice_index bs 1) c (rw h' at e) in
-    escape_from false bs n c h' refl parts.0 parts.1
-change_by false u false bs n c h h' e = entity_changes false bs n c h' (rw h' at e)
+changes_if t bs =
+    let P : Option (ℕ × ℕ) → Type 0 = λ o. IfSome o (λ x. Changes t bs x.0 x.1) in
+    cond_both (t && begins_pipe_escape bs) _ _ P (λ h. pipe_escape_changes t bs h) (λ h.
+    cond_both (begins_escape bs) _ _ P (λ i. escape_changes t bs i h) (λ i. if_some (entity_at bs) (λ x e. entity_changes t bs x.0 x.1 i e)))
 
 pub changes : (t : Bool) (bs : List ℕ) (n c : ℕ) → change_at t bs ≡ Some (n, c) → Changes t bs n c
-changes t bs n c e = change_by t _ _ bs n c refl refl e
+changes t bs n c e = rw e at (changes_if t bs)
 
 -- no change
-second_kept : (bs : List ℕ)
-    → is_ascii_punctuation (slice_index bs 0) ≡ false → (begins pipe bs ≡ false) × (slice_index (without_pipe_escapes bs) 0 ≡ slice_index bs 0)
-second_kept [] h = (refl, ap (λ xs. slice_index xs 0) cell-nil)
-second_kept (b ∷ bs) h =
-    let e : (b == backslash) ≡ false = grind (arith, nat_tests, h) in
-    (grind (arith, nat_tests, h), ap (λ xs. slice_index xs 0) (cell-other b bs e))
-
-cell_plain : (t : Bool) (b : ℕ) (bs : List ℕ)
-    → (b == backslash) ≡ t → begins_escape (b ∷ bs) ≡ false → entity_at (b ∷ bs) ≡ None → unescaped true (b ∷ bs) ≡ b ∷ unescaped true bs
-cell_plain false b bs h q e =
-    let w = cell-other b bs h in
-    let k : begins_escape (b ∷ without_pipe_escapes bs) ≡ false = rw h in
-    let z : replaced_at (b ∷ without_pipe_escapes bs) ≡ None =
-    entity_replaced (b ∷ without_pipe_escapes bs) k ∙ ap entity_at (sym w) ∙ entity_at-cell (b ∷ bs) ∙ e
-    in
-    ap (unescaped_after 0) w ∙ after_plain b (without_pipe_escapes bs) z
-cell_plain true b bs h q e =
-    let i : is_ascii_punctuation (slice_index bs 0) ≡ false = rw h at q in
-    let s = second_kept bs i in
-    let w = cell-kept b bs s.0 in
-    let k : begins_escape (b ∷ without_pipe_escapes bs) ≡ false = rw (h, s.1, i) in
-    let z : replaced_at (b ∷ without_pipe_escapes bs) ≡ None =
-    entity_replaced (b ∷ without_pipe_escapes bs) k ∙ no_entity b (without_pipe_escapes bs) (rw (eqb-true b backslash h))
-    in
-    ap (unescaped_after 0) w ∙ after_plain b (without_pipe_escapes bs) z
-
-plain_byte_by : (t u v : Bool) (b : ℕ) (bs : List ℕ)
-    → (t && begins_pipe_escape (b ∷ bs)) ≡ u → begins_escape (b ∷ bs) ≡ v → change_at t (b ∷ bs) ≡ None → unescaped t (b ∷ bs) ≡ b ∷ unescaped t bs
-unfolding change_at replaced_at
-plain_byte_by t true v b bs h h' e = let z : Some (3, pipe) ≡ None = rw h at e in absurd (none-some (3, pipe) (sym z))
-plain_byte_by t false true b bs h h' e = let z : Some (2, slice_index bs 0) ≡ None = rw (h, h') at e in absurd (none-some (2, slice_index bs 0) (sym z))
-plain_byte_by true false false b bs h h' e = cell_plain _ b bs refl h' (rw (h, h') at e)
-plain_byte_by false false false b bs h h' e = after_plain b bs (entity_replaced (b ∷ bs) h' ∙ (rw h' at e))
+plain_by : (t : Bool) (b : ℕ) (bs : List ℕ) → begins_escape (b ∷ bs) ≡ false → entity_at (b ∷ bs) ≡ None → unescaped t (b ∷ bs) ≡ b ∷ unescaped t bs
+plain_by true b bs q e =
+    ap (unescaped_after 0) (first_stays b bs q).0 ∙ after_plain b (without_pipe_escapes bs) (cell_replaced b bs q ∙ e)
+plain_by false b bs q e = after_plain b bs (entity_replaced (b ∷ bs) q ∙ e)
 
 pub plain_byte : (t : Bool) (b : ℕ) (bs : List ℕ) → change_at t (b ∷ bs) ≡ None → unescaped t (b ∷ bs) ≡ b ∷ unescaped t bs
-plain_byte t b bs e = plain_byte_by t _ _ b bs refl refl e
+unfolding change_at replaced_at
+plain_byte t b bs =
+    let P : Option (ℕ × ℕ) → Type 0 = λ o. o ≡ None → unescaped t (b ∷ bs) ≡ b ∷ unescaped t bs in
+    cond_both (t && begins_pipe_escape (b ∷ bs)) _ _ P (λ h e. cc) (λ h.
+    cond_both (begins_escape (b ∷ bs)) _ _ P (λ i e. cc) (λ i e. plain_by t b bs i e))
 
 pub unescaped-nil : (t : Bool) → unescaped t [] ≡ []
 unfolding unescaped_after without_pipe_escapes
@@ -329,21 +280,16 @@ pub kept_more : (t : Bool) (text : List ℕ) (from at : ℕ)
     → IsKept t text from at → at < length text → change_at t (drop at text) ≡ None → IsKept t text from (at + 1)
 kept_more t text from at i l e =
     let order = i.order in
+    let rest = unescaped t (drop (at + 1) text) in
     let d = drop_more text at 0 l in
-    let p = plain_byte t (get_or text at 0) (drop (at + 1) text) (ap (change_at t) (sym d) ∙ e) in
-    let s : at + 1 - from ≡ at - from + 1 = omega arith in
-    let z : from + (at - from) ≡ at = omega arith in
-    let n = length-drop from text in
-    let m = take_more (drop from text) (at - from) 0 (omega arith) in
-    let g : get_or (drop from text) (at - from) 0 ≡ get_or text at 0 = get_or-drop from text (at - from) 0 ∙ ap (λ k. get_or text k 0) z in
+    let p : unescaped t (drop at text) ≡ part text at (at + 1) ++ rest =
+    ap (unescaped t) d ∙ plain_byte t (get_or text at 0) (drop (at + 1) text) (ap (change_at t) (sym d) ∙ e) ∙ ap (λ xs. xs ++ rest) (sym (part-one text at l))
+    in
     record {
       order = omega arith;
       within = omega arith;
-      kept = i.kept ∙ ap (λ xs. take (at - from) (drop from text) ++ xs) (ap (unescaped t) d ∙ p)
-          ∙ sym (append_assoc (take (at - from) (drop from text)) (get_or text at 0 ∷ []) (unescaped t (drop (at + 1) text)))
-          ∙ ap (λ x. (take (at - from) (drop from text) ++ x ∷ []) ++ unescaped t (drop (at + 1) text)) (sym g)
-          ∙ ap (λ xs. xs ++ unescaped t (drop (at + 1) text)) (sym m)
-          ∙ ap (λ k. take k (drop from text) ++ unescaped t (drop (at + 1) text)) (sym s);
+      kept = i.kept ∙ ap (λ xs. part text from at ++ xs) p ∙ sym (append_assoc (part text from at) (part text at (at + 1)) rest)
+          ∙ ap (λ xs. xs ++ rest) (part-split text from at (at + 1) (omega arith) (omega arith));
     }
 
 unmarked_at : (t : Bool) (b : ℕ) (bs : List ℕ) → is_unmarked b ≡ true → change_at t (b ∷ bs) ≡ None
@@ -370,9 +316,8 @@ change_here t text from at n c i e =
     let first = x.shorter.first in
     let inside = i.within in
     let d = length-drop at text in
-    let z : at + 0 ≡ at = omega arith in
     let s : at + (n - 1) ≡ at + n - 1 = omega arith in
-    let f = get_or-drop at text 0 0 ∙ ap (λ k. get_or text k 0) z in
+    let f = first-drop at text in
     let g = get_or-drop at text (n - 1) 0 ∙ ap (λ k. get_or text k 0) s in
     record {
       order = i.order;
@@ -398,9 +343,6 @@ unmarked_same t text run =
     kept_all t text 0 (0 + length text) all (omega arith)
 
 -- bytes that are written
-pub written_none : (t : Bool) (text : List ℕ) → IsCharBoundary text 0 → IsWritten t text 0 []
-written_none t text b = record { within = omega arith; boundary = b; so_far = refl; fewer = inl (refl, refl) }
-
 written_length : (from at n : ℕ) (written : List ℕ) → ((from ≡ 0) × (written ≡ [])) ⊎ (length written < from) → length written ≤ from
 written_length from at n written (inl h) = let e = ap length h.1 in omega arith
 written_length from at n written (inr h) = omega arith
@@ -431,19 +373,13 @@ written_more t text from at n c written u i x =
 
 -- a text with a change differs from its source
 pub change_differs : (t : Bool) (text : List ℕ) (from at n c : ℕ) (written : List ℕ)
-    → IsWritten t text from written → IsChange t text from (at, n, c) → unescaped t text ≡ text → ⊥
-change_differs t text from at n c written i x e =
-    let order = x.order in
-    let within = x.within in
-    let shorter = x.shorter in
-    let bound = written_length from at n written i.fewer in
+    → IsUtf8 text → IsWritten t text from written → IsChange t text from (at, n, c) → unescaped t text ≡ text → ⊥
+change_differs t text from at n c written u i x e =
+    let w = written_more t text from at n c written u i x in
+    let now : List ℕ = (written ++ take (at - from) (drop from text)) ++ encode_utf8 c in
     let rest = unescaped t (drop (at + n) text) in
-    let middle = take (at - from) (drop from text) in
-    let l = ap length (sym e ∙ i.so_far ∙ ap (λ xs. written ++ xs) x.replaced) in
-    let a = length-append written (middle ++ (encode_utf8 c ++ rest)) in
-    let a' = length-append middle (encode_utf8 c ++ rest) in
-    let a'' = length-append (encode_utf8 c) rest in
-    let m = length-take (at - from) (drop from text) in
-    let r = shrinks t (drop (at + n) text) in
-    let d = length-drop (at + n) text in
-    omega arith
+    let l = ap length (sym e ∙ w.so_far) ∙ length-append now rest in
+    elim w.fewer [
+      | inl none ↦ omega (arith, none.0, x.shorter)
+      | inr less ↦ omega (arith, less, l, shrinks t (drop (at + n) text), length-drop (at + n) text, w.within)
+    ]

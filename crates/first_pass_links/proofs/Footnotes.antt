@@ -1,9 +1,6 @@
 -- Lemmas on heads of footnote definitions.
-use Rattle.std.proofs.Common.{◌≡◌, ℕ, ◌+◌, ◌&&◌, Bool, true, false, List, drop, Option, Some, None, IsUtf8, IsSomeAnd, MatchOption, refl, sym, ap, subst, ◌∙◌}
-use Rattle.std.proofs.Common.{if◌then◌else◌, arith}
-use Rattle.std.specs.Option.{option_and_then}
-use Rattle.std.specs.Str.{IsCharBoundary}
-use Rattle.std.proofs.lemmas.List.{drop-drop}
+use Rattle.std.proofs.Common.{◌≡◌, ℕ, ◌+◌, ◌&&◌, Bool, true, false, List, drop, Option, Some, None, IsUtf8, IsSomeAnd, MatchOption, refl, sym, ap, subst}
+use Rattle.std.proofs.Common.{◌∙◌, if◌then◌else◌, arith, option_and_then, IsCharBoundary, drop-drop}
 use Rattle.std.proofs.lemmas.Str.{IsCharBoundary-after_ascii}
 use Rattle.first_pass_items.specs.Bytes.{colon, left_bracket, circumflex}
 use Rattle.first_pass_items.specs.declared.cow_str.CowStr.{CowStr}

@@ -1,21 +1,12 @@
 -- Parts of a text, and their weights.
-use Rattle.std.proofs.Common.{◌≡◌, ◌⊎◌, inl, inr, ℕ, zero, suc, ◌+◌, ◌-◌, ◌<◌, ◌≤◌, ◌==◌, ◌&&◌, not, Bool, true, false, List, ◌∷◌, ◌++◌, length, take, drop}
-use Rattle.std.proofs.Common.{[], get_or, refl, sym, ap, ◌∙◌, arith, append_assoc, if◌then◌else◌}
-use Rattle.std.specs.Str.{IsCharBoundary}
-use Rattle.std.proofs.lemmas.List.{drop_more, drop-drop}
+use Rattle.std.proofs.Common.{◌≡◌, ◌⊎◌, inl, inr, ℕ, suc, ◌+◌, ◌-◌, ◌<◌, ◌≤◌, ◌==◌, ◌&&◌, not, true, false, List, ◌∷◌, ◌++◌, length, take, drop, [], get_or}
+use Rattle.std.proofs.Common.{refl, sym, ap, ◌∙◌, arith, append_assoc, if◌then◌else◌, drop-drop, take-add}
+use Rattle.std.proofs.lemmas.Bool.{cond_both}
+use Rattle.std.proofs.lemmas.List.{drop_more}
 use Rattle.first_pass_items.specs.Bytes.{space}
 use Rattle.first_pass_lines.specs.Lines.{is_white_or_line_end}
 use Rattle.first_pass_links.specs.declared.label.Unit.{Unit}
 use Rattle.first_pass_links.specs.Units.{part, weight, read_of, IsUnit, IsLighter}
-
-take_none : (n : ℕ) → let xs : List ℕ = [] in xs ≡ take n xs
-take_none zero = refl
-take_none (suc n) = refl
-
-take_add : (m n : ℕ) (xs : List ℕ) → take (m + n) xs ≡ take m xs ++ take n (drop m xs)
-take_add zero n xs = let e : zero + n ≡ n = omega arith in rw e
-take_add (suc m) n [] = let e : suc m + n ≡ suc (m + n) = omega arith in rw e (take_none n)
-take_add (suc m) n (x ∷ xs) = let e : suc m + n ≡ suc (m + n) = omega arith in rw e (ap (λ ys. x ∷ ys) (take_add m n xs))
 
 pub part-start : (text : List ℕ) (b : ℕ) → part text 0 b ≡ take b text
 part-start text b = let e : b - 0 ≡ b = omega arith in rw e
@@ -27,7 +18,7 @@ pub part-split : (text : List ℕ) (a b c : ℕ) → a ≤ b → b ≤ c → par
 part-split text a b c h k =
     let e : c - a ≡ (b - a) + (c - b) = omega arith in
     let f : a + (b - a) ≡ b = omega arith in
-    sym (ap (λ n. take n (drop a text)) e ∙ take_add (b - a) (c - b) (drop a text)
+    sym (ap (λ n. take n (drop a text)) e ∙ take-add (b - a) (c - b) (drop a text)
     ∙ ap (λ xs. part text a b ++ take (c - b) xs) (drop-drop (b - a) a text ∙ ap (λ n. drop n text) f))
 
 pub part-one : (text : List ℕ) (at : ℕ) → at < length text → part text at (at + 1) ≡ get_or text at 0 ∷ []
@@ -42,13 +33,9 @@ part-two text at l =
     ∙ ap (λ xs. get_or text at 0 ∷ xs) (ap (part text (at + 1)) (sym e) ∙ part-one text (at + 1) l)
 
 pub take-part : (text : List ℕ) (a b : ℕ) → a ≤ b → take b text ≡ take a text ++ part text a b
-take-part text a b h = let e : b ≡ a + (b - a) = omega arith in ap (λ n. take n text) e ∙ take_add a (b - a) text
+take-part text a b h = let e : b ≡ a + (b - a) = omega arith in ap (λ n. take n text) e ∙ take-add a (b - a) text
 
 -- weights
-
-weigh_some : (t : Bool) → 1 ≤ (if t then 2 else 1)
-weigh_some true = omega arith
-weigh_some false = omega arith
 
 pub weight-append : (xs ys : List ℕ) → weight (xs ++ ys) ≡ weight xs + weight ys
 unfolding weight
@@ -60,8 +47,7 @@ unfolding weight
 weight-length [] = omega arith
 weight-length (x ∷ xs) =
     let i = weight-length xs in
-    let w = weigh_some (is_white_or_line_end x && not (x == space)) in
-    omega arith
+    cond_both (is_white_or_line_end x && not (x == space)) 2 1 (λ w. suc (length xs) ≤ w + weight xs) (λ _. omega arith) (λ _. omega arith)
 
 pub weight-nil : weight [] ≡ 0
 unfolding weight
@@ -103,32 +89,22 @@ unit_changed text written from at unit r u =
     let p = part-split text from at unit.paused order begins in
     ap (λ xs. ((written ++ xs) ++ (if unit.space then space ∷ [] else [])) ++ part text unit.resumed unit.next) (sym p) ∙ simp append_assoc
 
-change_facts : (text written : List ℕ) (from at : ℕ) (unit : Unit) → IsLighter text written from at → IsUnit text at unit
-    → IsCharBoundary text unit.resumed × (weight (if unit.space then space ∷ [] else []) < weight (part text unit.paused unit.resumed))
-    → IsLighter text ((written ++ part text from unit.paused) ++ (if unit.space then space ∷ [] else [])) unit.resumed unit.next
-change_facts text written from at unit r u c =
-    let order = r.order in
-    let begins = u.begins in
-    let resumes = u.resumes in
-    let keeps = u.order in
-    let light = lighter_weight text written from r.lighter in
-    let less = c.1 in
-    let mid : List ℕ = if unit.space then space ∷ [] else [] in
-    let a = weight-append (written ++ part text from unit.paused) mid in
-    let b = weight-append written (part text from unit.paused) in
-    let d = ap weight (take-part text from unit.paused (omega arith)) ∙ weight-append (take from text) (part text from unit.paused) in
-    let e = ap weight (take-part text unit.paused unit.resumed keeps) ∙ weight-append (take unit.paused text) (part text unit.paused unit.resumed) in
-    record { order = resumes; within = u.within; boundary = c.0; lighter = inr (omega arith) }
-
 pub unit_read : (text written : List ℕ) (from at : ℕ) (unit : Unit) → IsLighter text written from at → IsUnit text at unit → (unit.paused ≡ unit.resumed → ⊥)
     → IsLighter text ((written ++ part text from unit.paused) ++ (if unit.space then space ∷ [] else [])) unit.resumed unit.next
 unit_read text written from at unit r u n = elim u.change [
   | inl e ↦ absurd (n e)
-  | inr c ↦ change_facts text written from at unit r u (c.1, c.2)
+  | inr c ↦ (
+      let order = r.order in
+      let begins = u.begins in
+      let light = lighter_weight text written from r.lighter in
+      let less = c.2 in
+      let mid : List ℕ = if unit.space then space ∷ [] else [] in
+      let a = weight-append (written ++ part text from unit.paused) mid in
+      let b = weight-append written (part text from unit.paused) in
+      let d = ap weight (take-part text from unit.paused (omega arith)) ∙ weight-append (take from text) (part text from unit.paused) in
+      let e = ap weight (take-part text unit.paused unit.resumed u.order) ∙ weight-append (take unit.paused text) (part text unit.paused unit.resumed) in
+      record { order = u.resumes; within = u.within; boundary = c.1; lighter = inr (omega arith) })
 ]
-
-pub read_none : (text : List ℕ) → IsCharBoundary text 0 → IsLighter text [] 0 0
-read_none text b = record { order = omega arith; within = omega arith; boundary = b; lighter = inl (refl, refl) }
 
 -- the text that is read from all of it
 pub whole_kept : (text written : List ℕ) (from at : ℕ) → IsLighter text written from at → from ≡ 0 → take at text ≡ written ++ part text from at

@@ -1,22 +1,23 @@
 -- The text written of a label is lighter than its source; so the label as it is read differs from its source.
 use Rattle.std.proofs.Common.{◌≡◌, ◌≢◌, ◌⊎◌, inl, inr, ℕ, suc, ◌+◌, ◌<◌, ◌≤◌, ◌==◌, Bool, true, false, List, [], ◌∷◌, ◌++◌, length, take, drop, get_or}
-use Rattle.std.proofs.Common.{slice_index, Option, Some, None, Result, refl, sym, ap, subst, ◌∙◌, arith, append_assoc, length-append}
-use Rattle.std.specs.Borrow.{Bor}
+use Rattle.std.proofs.Common.{slice_index, Option, Some, None, Result, refl, sym, ap, ◌∙◌, arith, append_assoc, length-append, Bor, append-nil}
 use Rattle.std.specs.declared.alloc.AllocError.{AllocError}
-use Rattle.std.proofs.lemmas.Bool.{cases_Bool, eqb-true}
-use Rattle.std.proofs.lemmas.List.{map-append, length-map, append-nil}
-use Rattle.first_pass_items.specs.Bytes.{space, backslash, pipe}
-use Rattle.first_pass_lines.specs.Lines.{begins, ends_line, is_white_or_line_end}
+use Rattle.std.proofs.lemmas.Bool.{cond_both}
+use Rattle.std.proofs.lemmas.List.{map-append}
+use Rattle.std.proofs.Math.Seq.{take-append-add}
+use Rattle.first_pass_items.specs.Bytes.{space, backslash}
+use Rattle.first_pass_lines.specs.Lines.{ends_line, is_white_or_line_end}
 use Rattle.first_pass_links.specs.Escapes.{without_pipe_escapes}
 use Rattle.first_pass_links.specs.declared.label.Unit.{Unit}
-use Rattle.first_pass_links.specs.Labels.{is_bracket, AnswersWith, CanErr, IsRewritten, HasNoBracket, before_bracket, bytes_of, label_len, single_spaced}
+use Rattle.first_pass_links.specs.Labels.{is_bracket, AnswersWith, CanErr, IsRewritten, before_bracket, bytes_of, label_len, single_spaced}
 use Rattle.first_pass_links.specs.Labels.{as_read}
-use Rattle.first_pass_links.specs.Units.{read_of, left_at, Reads, IsWhiteRun, StopsByError, weight}
+use Rattle.first_pass_links.specs.Units.{read_of, left_at, Reads, StopsByError, weight}
 use Rattle.first_pass_links.proofs.Parts.{weight-append, weight-length, weight-nil, weight-space, weight-other}
 use Rattle.std.proofs.lemmas.Bool.Decides.{nat_tests}
 use Rattle.first_pass_links.proofs.Destinations.{upto-nil, upto-byte}
-use Rattle.first_pass_links.proofs.PipeEscapes.{cell-nil, cell-other, cell-kept, cell-dropped}
-use Rattle.first_pass_links.proofs.Labels.{take_past, upto-run, single-solid, single-more, single-last, as_read-nil, left-end, left-stop}
+use Rattle.first_pass_links.proofs.PipeEscapes.{cell-nil, cell_cases}
+use Rattle.first_pass_links.proofs.Labels.{IsRead, Known, known_as, known_both, read_whole, read_unit, read_both, bytes-length, run_facts, as_read-nil}
+use Rattle.first_pass_links.proofs.Labels.{left-end, left-stop}
 
 weight-solid : (b : ℕ) → is_white_or_line_end b ≡ false → weight (b ∷ []) ≡ 1
 unfolding weight
@@ -30,94 +31,35 @@ line_end_facts b bs h = (grind (arith, nat_tests, h), grind (arith, nat_tests, h
 weight-more : (b : ℕ) (bs : List ℕ) → weight (b ∷ bs) ≡ weight (b ∷ []) + weight bs
 weight-more b bs = weight-append (b ∷ []) bs
 
--- bytes that weigh less, or are the same
-abbrev Lightens : List ℕ → List ℕ → Type 0
-Lightens xs ys = (weight xs < weight ys) ⊎ (xs ≡ ys)
+-- a text that is read is no longer than its source, and has no white space other than spaces
+single_weighs : (bs : List ℕ) → (weight (single_spaced bs) ≡ length (single_spaced bs)) × (length (single_spaced bs) ≤ length bs)
+unfolding single_spaced
+single_weighs [] = (weight-nil, omega arith)
+single_weighs (b ∷ bs) =
+    let i = single_weighs bs in
+    let fits : List ℕ → Type 0 = λ xs. (weight xs ≡ length xs) × (length xs ≤ length (b ∷ bs)) in
+    cond_both (is_white_or_line_end b) _ _ fits
+    (λ h. cond_both (is_white_or_line_end (slice_index bs 0)) _ _ fits (λ k. omega arith)
+    (λ k. let v = weight-more space (single_spaced bs) in let w = weight-space in omega arith))
+    (λ h. let v = weight-more b (single_spaced bs) in let w = weight-solid b h in omega arith)
 
-lightens_weight : (xs ys : List ℕ) → Lightens xs ys → weight xs ≤ weight ys
-lightens_weight xs ys (inl l) = omega arith
-lightens_weight xs ys (inr e) = let w = ap weight e in omega arith
+cell_shorter : (bs : List ℕ) → length (without_pipe_escapes bs) ≤ length bs
+cell_shorter [] = let e = ap length cell-nil in omega arith
+cell_shorter (b ∷ bs) =
+    let i = cell_shorter bs in
+    cell_cases (λ xs. length xs ≤ length (b ∷ bs)) b bs (λ h. omega arith) (omega arith)
 
-lightens_more : (b : ℕ) (xs ys : List ℕ) → Lightens xs ys → Lightens (b ∷ xs) (b ∷ ys)
-lightens_more b xs ys (inl l) = let u = weight-more b xs in let v = weight-more b ys in inl (omega arith)
-lightens_more b xs ys (inr e) = inr (ap (λ zs. b ∷ zs) e)
-
--- one byte fewer
-lightens_without : (b : ℕ) (xs ys : List ℕ) → Lightens xs ys → Lightens xs (b ∷ ys)
-lightens_without b xs ys l =
-    let w = lightens_weight xs ys l in
-    let one = weight-length (b ∷ []) in
-    let more = weight-more b ys in
-    inl (omega arith)
-
-lightens_through : (xs ys zs : List ℕ) → Lightens xs ys → Lightens ys zs → Lightens xs zs
-lightens_through xs ys zs (inl l) k = let w = lightens_weight ys zs k in inl (omega arith)
-lightens_through xs ys zs (inr e) k = subst (λ vs. Lightens vs zs) (sym e) k
-
-space_for : (b : ℕ) (xs ys : List ℕ) → is_white_or_line_end b ≡ true → Lightens xs ys → Lightens (space ∷ xs) (b ∷ ys)
-space_for b xs ys s l = elim (cases_Bool (b == space)) [
-  | inl e ↦ subst (λ c. Lightens (space ∷ xs) (c ∷ ys)) (sym (eqb-true b space e)) (lightens_more space xs ys l)
-  | inr e ↦ (
-      let w = lightens_weight xs ys l in
-      let one = weight-space in
-      let two = weight-other b s e in
-      let u = weight-more space xs in
-      let v = weight-more b ys in
-      inl (omega arith))
-]
-
-single_by : (b : ℕ) (bs : List ℕ) (x y : Bool)
-    → is_white_or_line_end b ≡ x → is_white_or_line_end (slice_index bs 0) ≡ y → Lightens (single_spaced bs) bs → Lightens (single_spaced (b ∷ bs)) (b ∷ bs)
-single_by b bs false y h k l = subst (λ xs. Lightens xs (b ∷ bs)) (sym (single-solid b bs h)) (lightens_more b (single_spaced bs) bs l)
-single_by b bs true true h k l = subst (λ xs. Lightens xs (b ∷ bs)) (sym (single-more b bs h k)) (lightens_without b (single_spaced bs) bs l)
-single_by b bs true false h k l = subst (λ xs. Lightens xs (b ∷ bs)) (sym (single-last b bs h k)) (space_for b (single_spaced bs) bs h l)
-
-single_lightens : (bs : List ℕ) → Lightens (single_spaced bs) bs
-single_lightens [] = inr (as_read-nil false)
-single_lightens (b ∷ bs) = single_by b bs _ _ refl refl (single_lightens bs)
-
-cell_by : (b : ℕ) (bs : List ℕ) (x y : Bool)
-    → (b == backslash) ≡ x → begins pipe bs ≡ y → Lightens (without_pipe_escapes bs) bs → Lightens (without_pipe_escapes (b ∷ bs)) (b ∷ bs)
-cell_by b bs false y h k l = subst (λ xs. Lightens xs (b ∷ bs)) (sym (cell-other b bs h)) (lightens_more b (without_pipe_escapes bs) bs l)
-cell_by b bs true true h k l = subst (λ xs. Lightens xs (b ∷ bs)) (sym (cell-dropped b bs h k)) (lightens_without b (without_pipe_escapes bs) bs l)
-cell_by b bs true false h k l = subst (λ xs. Lightens xs (b ∷ bs)) (sym (cell-kept b bs k)) (lightens_more b (without_pipe_escapes bs) bs l)
-
-cell_lightens : (bs : List ℕ) → Lightens (without_pipe_escapes bs) bs
-cell_lightens [] = inr cell-nil
-cell_lightens (b ∷ bs) = cell_by b bs _ _ refl refl (cell_lightens bs)
-
-as_read_lightens : (t : Bool) (bs : List ℕ) → Lightens (as_read t bs) bs
-as_read_lightens false bs = single_lightens bs
-as_read_lightens true bs =
-    lightens_through (single_spaced (without_pipe_escapes bs)) (without_pipe_escapes bs) bs (single_lightens (without_pipe_escapes bs)) (cell_lightens bs)
-
--- white space that is read is a space
-single_weighs_by : (b : ℕ) (bs : List ℕ) (x y : Bool) → is_white_or_line_end b ≡ x → is_white_or_line_end (slice_index bs 0) ≡ y
-    → weight (single_spaced bs) ≡ length (single_spaced bs) → weight (single_spaced (b ∷ bs)) ≡ length (single_spaced (b ∷ bs))
-single_weighs_by b bs false y h k l =
-    let e = single-solid b bs h in
-    let v = weight-more b (single_spaced bs) in
-    let w = weight-solid b h in
-    ap weight e ∙ (let z : weight (b ∷ single_spaced bs) ≡ length (b ∷ single_spaced bs) = omega arith in z) ∙ sym (ap length e)
-single_weighs_by b bs true true h k l = let e = single-more b bs h k in ap weight e ∙ l ∙ sym (ap length e)
-single_weighs_by b bs true false h k l =
-    let e = single-last b bs h k in
-    let v = weight-more space (single_spaced bs) in
-    let w = weight-space in
-    ap weight e ∙ (let z : weight (space ∷ single_spaced bs) ≡ length (space ∷ single_spaced bs) = omega arith in z) ∙ sym (ap length e)
-
-single_weighs : (bs : List ℕ) → weight (single_spaced bs) ≡ length (single_spaced bs)
-single_weighs [] = ap weight (as_read-nil false) ∙ weight-nil ∙ sym (ap length (as_read-nil false))
-single_weighs (b ∷ bs) = single_weighs_by b bs _ _ refl refl (single_weighs bs)
-
-as_read_weighs : (t : Bool) (bs : List ℕ) → weight (as_read t bs) ≡ length (as_read t bs)
+as_read_weighs : (t : Bool) (bs : List ℕ) → (weight (as_read t bs) ≡ length (as_read t bs)) × (length (as_read t bs) ≤ length bs)
 as_read_weighs false bs = single_weighs bs
-as_read_weighs true bs = single_weighs (without_pipe_escapes bs)
+as_read_weighs true bs = let i = single_weighs (without_pipe_escapes bs) in let l = cell_shorter bs in (i.0, omega arith)
+
+as_read_lighter : (t : Bool) (bs : List ℕ) → weight (as_read t bs) ≤ weight bs
+as_read_lighter t bs = let i = as_read_weighs t bs in let l = weight-length bs in omega arith
 
 -- bytes with white space other than a space are read differently
 heavy_differs : (t : Bool) (xs ys : List ℕ) (b : ℕ) → is_white_or_line_end b ≡ true → (b == space) ≡ false → as_read t (xs ++ b ∷ ys) ≢ xs ++ b ∷ ys
 heavy_differs t xs ys b h k = λ e.
-    let w = as_read_weighs t (xs ++ b ∷ ys) in
+    let w = (as_read_weighs t (xs ++ b ∷ ys)).0 in
     let same = ap weight e in
     let long = ap length e in
     let a = weight-append xs (b ∷ ys) in
@@ -135,125 +77,98 @@ all_from h text at = bytes_of (left_at h text at)
 abbrev before_from : (List ℕ → Option ℕ) → List ℕ → ℕ → List ℕ
 before_from h text at = take (label_len (all_from h text at)) (all_from h text at)
 
--- the label is read up to an offset: its source up to there, and the text read from it, which is lighter if something
--- is written
-pub record IsTracked (h : List ℕ → Option ℕ) (t : Bool) (text : List ℕ) (at : ℕ) (same : Type 0) : Type 0 where
-  pub done : List ℕ
-  pub read : List ℕ
-  pub whole : all_from h text 0 ≡ done ++ all_from h text at
-  pub passed : label_len (all_from h text 0) ≡ length done + label_len (all_from h text at)
-  pub reads : (n : ℕ) → as_read t (done ++ take n (all_from h text at)) ≡ read ++ as_read t (take n (all_from h text at))
-  pub light : weight read ≤ weight done
-  pub lighter : same ⊎ (weight read < weight done)
+-- the label is read up to an offset, and the text read is lighter than its source if something is written
+pub record IsTracked (h : List ℕ → Option ℕ) (t : Bool) (text : List ℕ) (at : ℕ) (known : Known) (same : Type 0) : Type 0 where
+  pub read : IsRead h t text 0 at known
+  pub lighter : same ⊎ (weight known.bytes < weight (bytes_of read.run))
 
-pub track_none : (h : List ℕ → Option ℕ) (t : Bool) (text : List ℕ) (same : Type 0) → same → IsTracked h t text 0 same
-track_none h t text same s = record { done = []; read = []; whole = refl; passed = omega arith; reads = λ n. refl; light = omega arith; lighter = inl s }
-
-unit_light : (h : List ℕ → Option ℕ) (t : Bool) (text : List ℕ) (at : ℕ) (unit : Unit) (r : Reads h t text at unit)
-    → weight (read_of text at unit) ≤ weight (bytes_of r.run)
-unit_light h t text at unit r =
-    let e : as_read t (bytes_of r.run) ≡ read_of text at unit =
-    ap (as_read t) (sym (append-nil (bytes_of r.run))) ∙ r.reads 0 ∙ ap (λ xs. read_of text at unit ++ xs) (as_read-nil t) ∙ append-nil (read_of text at unit)
-    in
-    let w = lightens_weight (as_read t (bytes_of r.run)) (bytes_of r.run) (as_read_lightens t (bytes_of r.run)) in
+-- text that is read is no heavier than its source
+read_light : (h : List ℕ → Option ℕ) (t : Bool) (text : List ℕ) (at next : ℕ) (k : Known) (r : IsRead h t text at next k)
+    → weight k.bytes ≤ weight (bytes_of r.run)
+read_light h t text at next k r =
+    let us = bytes_of r.run in
+    let e = ap (as_read t) (sym (append-nil us)) ∙ r.reads 0 ∙ ap (λ xs. k.bytes ++ xs) (as_read-nil t) ∙ append-nil k.bytes in
+    let w = as_read_lighter t us in
     let z = ap weight e in
     omega arith
 
-pub track_unit : (h : List ℕ → Option ℕ) (t : Bool) (text : List ℕ) (at : ℕ) (unit : Unit) (old new : Type 0)
-    → IsTracked h t text at old → Reads h t text at unit → (unit.paused ≡ unit.resumed → old → new) → IsTracked h t text unit.next new
-track_unit h t text at unit old new k r f =
-    let us = bytes_of r.run in
-    let X = all_from h text unit.next in
+pub track_unit : (h : List ℕ → Option ℕ) (t : Bool) (text : List ℕ) (at : ℕ) (k : Known) (unit : Unit) (old new : Type 0)
+    → IsTracked h t text at k old → Reads h t text at unit → (unit.paused ≡ unit.resumed → old → new)
+    → IsTracked h t text unit.next (known_both k (known_as unit.characters unit.solid (read_of text at unit))) new
+unfolding read_both read_unit
+track_unit h t text at k unit old new tracked r f =
     let w = read_of text at unit in
-    let joins : all_from h text at ≡ us ++ X = ap bytes_of r.joins ∙ map-append (λ (c : ℕ × ℕ). c.1) r.run (left_at h text unit.next) in
-    let n = length-map r.run (λ (c : ℕ × ℕ). c.1) in
-    let l = length-append k.done us in
-    let p = ap label_len joins ∙ r.passed in
-    let q = k.passed in
-    let a = weight-append k.read w in
-    let b = weight-append k.done us in
-    let light = unit_light h t text at unit r in
-    let before = k.light in
+    let done = bytes_of tracked.read.run in
+    let a = weight-append k.bytes w in
+    let b = ap weight (map-append (λ (c : ℕ × ℕ). c.1) tracked.read.run r.run) ∙ weight-append done (bytes_of r.run) in
+    let light = read_light h t text at unit.next (known_as unit.characters unit.solid w) (read_unit h t text at unit r) in
+    let before = read_light h t text 0 at k tracked.read in
     record {
-      done = k.done ++ us;
-      read = k.read ++ w;
-      whole = k.whole ∙ ap (λ xs. k.done ++ xs) joins ∙ sym (append_assoc k.done us X);
-      passed = omega arith;
-      reads = λ m.
-          let cut : take (length us + m) (all_from h text at) ≡ us ++ take m X = ap (take (length us + m)) joins ∙ take_past us X (length us + m) m refl in
-          ap (as_read t) (append_assoc k.done us (take m X)) ∙ ap (λ xs. as_read t (k.done ++ xs)) (sym cut) ∙ k.reads (length us + m)
-          ∙ ap (λ xs. k.read ++ as_read t xs) cut
-          ∙ ap (λ xs. k.read ++ xs) (r.reads m) ∙ sym (append_assoc k.read w (as_read t (take m X)));
-      light = omega arith;
+      read = read_both h t text 0 at unit.next k (known_as unit.characters unit.solid w) tracked.read (read_unit h t text at unit r);
       lighter = elim r.changes [
-        | inl e ↦ elim k.lighter [ inl s ↦ inl (f e s) | inr less ↦ inr (omega arith) ]
+        | inl e ↦ elim tracked.lighter [ inl s ↦ inl (f e s) | inr less ↦ inr (omega arith) ]
         | inr less ↦ inr (omega arith)
       ];
     }
 
-tracked_before : (h : List ℕ → Option ℕ) (t : Bool) (text : List ℕ) (at : ℕ) (same : Type 0) (k : IsTracked h t text at same)
-    → before_bracket h text ≡ k.done ++ before_from h text at
-tracked_before h t text at same k =
-    ap (λ n. take n (all_from h text 0)) k.passed ∙ ap (take (length k.done + label_len (all_from h text at))) k.whole
-    ∙ take_past k.done (all_from h text at) (length k.done + label_len (all_from h text at)) (label_len (all_from h text at)) refl
+tracked_before : (h : List ℕ → Option ℕ) (t : Bool) (text : List ℕ) (at : ℕ) (k : Known) (r : IsRead h t text 0 at k)
+    → before_bracket h text ≡ bytes_of r.run ++ before_from h text at
+tracked_before h t text at k r =
+    let n = label_len (all_from h text at) in
+    let whole = read_whole h t text 0 at k r in
+    ap (λ xs. take (label_len xs) xs) whole
+    ∙ ap (λ m. take m (bytes_of r.run ++ all_from h text at)) (r.passed ∙ ap (λ m. m + n) (bytes-length r.run))
+    ∙ take-append-add (bytes_of r.run) (all_from h text at) n
 
 -- if something is written, the label as it is read differs from its source
-pub track_written : (h : List ℕ → Option ℕ) (t : Bool) (text : List ℕ) (at : ℕ) (same : Type 0) → IsTracked h t text at same → (same → ⊥) → IsRewritten h t text
-track_written h t text at same k n = λ e.
+pub track_written : (h : List ℕ → Option ℕ) (t : Bool) (text : List ℕ) (at : ℕ) (k : Known) (same : Type 0)
+    → IsTracked h t text at k same → (same → ⊥) → IsRewritten h t text
+track_written h t text at k same tracked n = λ e.
     let B = before_from h text at in
-    let is = tracked_before h t text at same k in
-    let r = k.reads (label_len (all_from h text at)) in
-    let a = weight-append k.done B in
-    let b = weight-append k.read (as_read t B) in
-    let w = lightens_weight (as_read t B) B (as_read_lightens t B) in
-    let z : weight (k.read ++ as_read t B) ≡ weight (k.done ++ B) = ap weight (sym r) ∙ ap (λ xs. weight (as_read t xs)) (sym is) ∙ ap weight e
-    ∙ ap weight is in
-    elim k.lighter [ inl s ↦ n s | inr less ↦ omega arith ]
-
--- white space from an offset up to a line ending at `next`
-record EndsLineAfter (h : List ℕ → Option ℕ) (text : List ℕ) (at next : ℕ) : Type 0 where
-  characters : ℕ
-  white : IsWhiteRun h text at next characters
-  within : next < length text
-  line_end : ends_line (slice_index text next) (drop (next + 1) text) ≡ true
+    let is = tracked_before h t text at k tracked.read in
+    let r = tracked.read.reads (label_len (all_from h text at)) in
+    let a = weight-append (bytes_of tracked.read.run) B in
+    let b = weight-append k.bytes (as_read t B) in
+    let w = as_read_lighter t B in
+    let z = ap weight (sym r) ∙ ap (λ xs. weight (as_read t xs)) (sym is) ∙ ap weight e ∙ ap weight is in
+    elim tracked.lighter [ inl s ↦ n s | inr less ↦ omega arith ]
 
 -- the handler fails: no bracket comes before, or the line ending is part of the label
-stop_by : (o : Option ℕ) (h : List ℕ → Option ℕ) (t : Bool) (text : List ℕ) (at next : ℕ) (same : Type 0) (k : IsTracked h t text at same)
-    → EndsLineAfter h text at next → h (drop (next + 1) text) ≡ o → IsRewritten h t text ⊎ HasNoBracket h text
-stop_by None h t text at next same k w f =
-    let r = w.white in
+stop_by : (o : Option ℕ) (h : List ℕ → Option ℕ) (t : Bool) (text : List ℕ) (at : ℕ) (k : Known) (post : Bor (List ℕ) → Result (Option ℕ) AllocError → Type 0)
+    → IsRead h t text 0 at k → (w : StopsByError text at post) → AnswersWith text h post → h (drop (w.next + 1) text) ≡ o → CanErr h t text post
+stop_by None h t text at k post read w a f =
+    let r = w.run h a in
     let R = bytes_of r.run in
-    let X : all_from h text at ≡ R = ap bytes_of (r.joins ∙ ap (λ cs. r.run ++ cs) (left-stop h text next w.within w.line_end f) ∙ append-nil r.run) in
-    let u = ap label_len (X ∙ sym (append-nil R)) ∙ upto-run R [] r.white in
+    let X : all_from h text at ≡ R =
+    ap bytes_of (r.joins ∙ ap (λ cs. r.run ++ cs) (left-stop h text w.next w.stops.within w.stops.line_end f) ∙ append-nil r.run) in
+    let u = ap label_len (X ∙ sym (append-nil R)) ∙ (run_facts R [] r.white).0 in
     let none : label_len [] ≡ 0 = upto-nil is_bracket in
-    let p = k.passed in
-    let q = ap length k.whole ∙ length-append k.done (all_from h text at) in
+    let whole = read_whole h t text 0 at k read in
+    let p = ap label_len whole ∙ read.passed in
+    let q = ap length whole ∙ length-append (bytes_of read.run) (all_from h text at) in
+    let l = bytes-length read.run in
     let m = ap length X in
-    inr (omega arith)
-stop_by (Some m) h t text at next same k w f =
-    let r = w.white in
+    inr (omega arith, (w.next, w.stops))
+stop_by (Some m) h t text at k post read w a f =
+    let r = w.run h a in
+    let next = w.next in
+    let done = bytes_of read.run in
     let b = get_or text next 0 in
     let R = bytes_of r.run in
     let Y = all_from h text (next + 1 + m) in
-    let X : all_from h text at ≡ R ++ b ∷ Y = ap bytes_of (r.joins ∙ ap (λ cs. r.run ++ cs) (left-end h text next m w.within w.line_end f))
+    let X : all_from h text at ≡ R ++ b ∷ Y = ap bytes_of (r.joins ∙ ap (λ cs. r.run ++ cs) (left-end h text next m w.stops.within w.stops.line_end f))
     ∙ map-append (λ (c : ℕ × ℕ). c.1) r.run ((next, b) ∷ left_at h text (next + 1 + m)) in
-    let s = line_end_facts b (drop (next + 1) text) w.line_end in
+    let s = line_end_facts b (drop (next + 1) text) w.stops.line_end in
     let one : 1 + label_len Y ≡ suc (label_len Y) = omega arith in
     let len : label_len (R ++ b ∷ Y) ≡ length R + suc (label_len Y) =
-    upto-run R (b ∷ Y) r.white ∙ ap (λ j. length R + j) (upto-byte is_bracket b Y (rw s.2) s.3 ∙ one) in
+    (run_facts R (b ∷ Y) r.white).0 ∙ ap (λ j. length R + j) (upto-byte is_bracket b Y (rw s.2) s.3 ∙ one) in
     let B : before_from h text at ≡ R ++ b ∷ take (label_len Y) Y =
-    ap (λ xs. take (label_len xs) xs) X ∙ ap (λ j. take j (R ++ b ∷ Y)) len ∙ take_past R (b ∷ Y) (length R + suc (label_len Y)) (suc (label_len Y)) refl
+    ap (λ xs. take (label_len xs) xs) X ∙ ap (λ j. take j (R ++ b ∷ Y)) len ∙ take-append-add R (b ∷ Y) (suc (label_len Y))
     in
-    let is : before_bracket h text ≡ (k.done ++ R) ++ b ∷ take (label_len Y) Y =
-    tracked_before h t text at same k ∙ ap (λ xs. k.done ++ xs) B ∙ sym (append_assoc k.done R (b ∷ take (label_len Y) Y)) in
-    inl (λ z. heavy_differs t (k.done ++ R) (take (label_len Y) Y) b s.0 s.1 (ap (as_read t) (sym is) ∙ z ∙ is))
+    let is : before_bracket h text ≡ (done ++ R) ++ b ∷ take (label_len Y) Y =
+    tracked_before h t text at k read ∙ ap (λ xs. done ++ xs) B ∙ sym (append_assoc done R (b ∷ take (label_len Y) Y)) in
+    inl (λ z. heavy_differs t (done ++ R) (take (label_len Y) Y) b s.0 s.1 (ap (as_read t) (sym is) ∙ z ∙ is))
 
-pub track_stop : (h : List ℕ → Option ℕ) (t : Bool) (text : List ℕ) (at : ℕ) (same : Type 0) (post : Bor (List ℕ) → Result (Option ℕ) AllocError → Type 0)
-    → IsTracked h t text at same → StopsByError text at post → AnswersWith text h post → CanErr h t text post
-track_stop h t text at same post k s a =
-    let w : EndsLineAfter h text at s.next =
-    record { characters = s.characters; white = s.run h a; within = s.stops.within; line_end = s.stops.line_end } in
-    elim (stop_by _ h t text at s.next same k w refl) [
-      | inl z ↦ inl z
-      | inr z ↦ inr (z, (s.next, s.stops))
-    ]
+pub track_stop : (h : List ℕ → Option ℕ) (t : Bool) (text : List ℕ) (at : ℕ) (k : Known) (post : Bor (List ℕ) → Result (Option ℕ) AllocError → Type 0)
+    → IsRead h t text 0 at k → StopsByError text at post → AnswersWith text h post → CanErr h t text post
+track_stop h t text at k post r s a = stop_by _ h t text at k post r s a refl

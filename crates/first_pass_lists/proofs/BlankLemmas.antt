@@ -1,12 +1,9 @@
 -- When one more blank line leaves the state unchanged. The lemmas on this assume that a counting blank line is
 -- directly before.
-use Rattle.std.proofs.Common.{◌≡◌, ℕ, Bool, true, false, List, [], ◌∷◌, slice_get, Option, Some, None, is_some, refl, sym, ap, ◌∙◌, if◌then◌else◌}
-use Rattle.std.specs.Option.{option_map, option_and_then}
-use Rattle.first_pass_items.specs.declared.item.Item.{Item}
-use Rattle.first_pass_items.specs.declared.item.ItemBody.{ItemBody}
-use Rattle.first_pass_items.specs.declared.item.ItemBody.TheVariants.{BlockQuote as BlockQuoteBody, ListItem as ListItemBody, DefinitionListDefinition}
-use Rattle.first_pass_tree.specs.declared.tree_index.TreeIndex.{TreeIndex}
-use Rattle.first_pass_tree.specs.Forest.{Forest, body_at}
+use Rattle.std.proofs.Common.{◌≡◌, ℕ, true, false, List, [], ◌∷◌, slice_get, Option, Some, None, is_some, refl, sym, ap, ◌∙◌, if◌then◌else◌}
+use Rattle.std.proofs.Common.{option_map, option_and_then}
+use Rattle.first_pass_grammar.proofs.Common.{cond_both, Item, ItemBody, DefinitionListDefinition, TreeIndex, Forest, body_at}
+use Rattle.first_pass_items.specs.declared.item.ItemBody.TheVariants.{BlockQuote as BlockQuoteBody, ListItem as ListItemBody}
 use Rattle.first_pass_tree.proofs.TightLemmas.{tight_same_body}
 use Rattle.first_pass_lists.specs.Closing.{top_body, item_without_indent, definition_without_indent, blank_read_by, blank_read}
 use Rattle.first_pass_lists.specs.declared.state.PassState.{PassState}
@@ -48,24 +45,22 @@ same_definition : (f : Forest Item) (spine : List TreeIndex)
 same_definition f [] e = refl
 same_definition f (ix ∷ spine) e = ap (λ ns. record f { nodes = ns }) (tight_same_body f.nodes ix.0 (DefinitionListDefinition 0) e)
 
-either : {A : Type 0} (t : Bool) (x y : A) → x ≡ y → (if t then x else y) ≡ y
-either true x y e = e
-either false x y e = refl
-
 -- it is unchanged if the innermost open node is an item or a definition that takes only blank lines
 pub kept_item : (r : PassState) → top_body r.tree ≡ Some (ListItemBody 0) → r.blank ≡ true → blank_read r ≡ r
 unfolding blank_read
 kept_item r e h =
     ap (blank_read_by r) e
     ∙ same_tree r (if is_some r.begin_list_item then item_without_indent r.tree r.tree.spine else r.tree)
-    (either (is_some r.begin_list_item) (item_without_indent r.tree r.tree.spine) r.tree (same_item r.tree r.tree.spine e)) h
+    (cond_both (is_some r.begin_list_item) (item_without_indent r.tree r.tree.spine) r.tree (λ f. f ≡ r.tree)
+    (λ _. same_item r.tree r.tree.spine e) (λ _. refl)) h
 
 pub kept_definition : (r : PassState) → top_body r.tree ≡ Some (DefinitionListDefinition 0) → r.blank ≡ true → blank_read r ≡ r
 unfolding blank_read
 kept_definition r e h =
     ap (blank_read_by r) e
     ∙ same_tree r (if is_some r.begin_list_item then definition_without_indent r.tree r.tree.spine else r.tree)
-    (either (is_some r.begin_list_item) (definition_without_indent r.tree r.tree.spine) r.tree (same_definition r.tree r.tree.spine e)) h
+    (cond_both (is_some r.begin_list_item) (definition_without_indent r.tree r.tree.spine) r.tree (λ f. f ≡ r.tree)
+    (λ _. same_definition r.tree r.tree.spine e) (λ _. refl)) h
 
 other_by : (r : PassState) (b : ItemBody) → ((n : ℕ) → b ≡ ListItemBody n → ⊥) → ((n : ℕ) → b ≡ DefinitionListDefinition n → ⊥) → r.blank ≡ true
     → blank_read_by r (Some b) ≡ r

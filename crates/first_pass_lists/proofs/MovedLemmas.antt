@@ -1,19 +1,12 @@
 -- A node that was just closed is current. Its last child is then a child of the current node. When this child is moved
 -- out of the closed node, the child becomes current.
-use Rattle.std.proofs.Common.{◌≡◌, ℕ, zero, suc, ◌+◌, ◌-◌, ◌<◌, ◌≤◌, ◌==◌, Bool, true, false, List, [], ◌∷◌, length, map, slice_get, slice_index}
-use Rattle.std.proofs.Common.{Option, Some, None, IfSome, IsSome, if◌then◌else◌, bit_and, refl, sym, ◌∙◌, ap, subst, ⊎_elim, arith}
-use Rattle.std.specs.Prelude.{IsSomeAnd}
-use Rattle.std.proofs.lemmas.List.{length-map}
-use Rattle.std.proofs.lemmas.Bool.{cases_lt, cases_eq}
-use Rattle.first_pass_items.specs.declared.item.Item.{Item}
-use Rattle.first_pass_items.specs.declared.item.ItemBody.{ItemBody}
-use Rattle.first_pass_items.specs.declared.item.ItemBody.TheVariants.{List as ListBody, ListItem as ListItemBody, DefinitionList, DefinitionListDefinition}
-use Rattle.first_pass_tree.specs.declared.tree_index.TreeIndex.{TreeIndex}
-use Rattle.first_pass_tree.specs.Forest.{Forest, IsForest, IsLastAt, IsOpenPath, IsChildOfCurrent, depths, body_at}
-use Rattle.first_pass_tree.specs.Forest.{map_from, shallower, last_before, moved_from}
-use Rattle.first_pass_tree.specs.Tight.{tight_items}
-use Rattle.first_pass_tree.proofs.Depths.{last-order}
-use Rattle.first_pass_tree.proofs.Keeps.{depths-modify}
+use Rattle.std.proofs.Common.{◌≡◌, ℕ, zero, suc, ◌+◌, ◌-◌, ◌<◌, ◌≤◌, ◌==◌, Bool, true, false, List, [], ◌∷◌, length, map, slice_get, slice_index, Option}
+use Rattle.std.proofs.Common.{Some, None, IfSome, IsSome, if◌then◌else◌, bit_and, refl, sym, ◌∙◌, ap, subst, ⊎_elim, arith, IsSomeAnd}
+use Rattle.first_pass_grammar.proofs.Common.{length-map, cases_lt, cases_eq, Item, ItemBody, DefinitionList, DefinitionListDefinition, TreeIndex, Forest}
+use Rattle.first_pass_grammar.proofs.Common.{IsForest, IsLastAt, IsOpenPath, depths, body_at, map_from, shallower, last_before, moved_from, tight_items}
+use Rattle.first_pass_grammar.proofs.Common.{last-order, depths-modify}
+use Rattle.first_pass_items.specs.declared.item.ItemBody.TheVariants.{List as ListBody, ListItem as ListItemBody}
+use Rattle.first_pass_tree.specs.Forest.{IsChildOfCurrent}
 use Rattle.first_pass_tree.proofs.Moves.{IsLastBefore, last_before-is}
 use Rattle.first_pass_tree.proofs.TightLemmas.{tight_from_depths}
 use Rattle.first_pass_open.specs.OpenBlock.{closed_by}
@@ -21,10 +14,10 @@ use Rattle.first_pass_lists.specs.declared.state.PassState.{PassState}
 use Rattle.first_pass_lists.specs.Closing.{popped_by, popped_at, current_moved, definitions_closed}
 
 -- two trees have the same depths, the same open nodes and the same current node; their items may differ
-record IsAlike (f g : Forest Item) : Type 0 where
-  depths_are : depths g.nodes ≡ depths f.nodes
-  spine_is : g.spine ≡ f.spine
-  current_is : g.current ≡ f.current
+pub record IsAlike (f g : Forest Item) : Type 0 where
+  pub depths_are : depths g.nodes ≡ depths f.nodes
+  pub spine_is : g.spine ≡ f.spine
+  pub current_is : g.current ≡ f.current
 
 tight_alike : (f : Forest Item) (ix : TreeIndex) (tight : Bool) → IsAlike f (if tight then tight_items f ix else f)
 tight_alike f ix true = record {

@@ -1,17 +1,12 @@
 -- If the state records no empty item, it still records none after nodes are closed or opened.
 use Rattle.std.proofs.Common.{◌≡◌, ℕ, Bool, true, false, List, ◌∷◌, Option, Some, None, [], refl, if◌then◌else◌}
-use Rattle.first_pass_items.specs.declared.item.Item.{Item}
-use Rattle.first_pass_items.specs.declared.item.ItemBody.{ItemBody}
+use Rattle.first_pass_grammar.proofs.Common.{Item, ItemBody, DefinitionList, DefinitionListDefinition, TreeIndex, Forest, with_body_at, body_at, list_flags}
+use Rattle.first_pass_grammar.proofs.Common.{CowIndex}
 use Rattle.first_pass_items.specs.declared.item.ItemBody.TheVariants.{List as ListBody, ListItem as ListItemBody, Paragraph as ParagraphBody}
-use Rattle.first_pass_items.specs.declared.item.ItemBody.TheVariants.{DefinitionList, DefinitionListDefinition}
-use Rattle.first_pass_tree.specs.declared.tree_index.TreeIndex.{TreeIndex}
-use Rattle.first_pass_tree.specs.Forest.{Forest, with_body_at, body_at}
-use Rattle.first_pass_grammar.specs.Derivation.{list_flags}
 use Rattle.first_pass_open.specs.OpenBlock.{closed_by}
 use Rattle.first_pass_lists.specs.Closing.{top_end, possible_title, current_moved, definitions_closed, with_tree, popped_after, top_body, is_list, is_list_of}
 use Rattle.first_pass_lists.specs.Closing.{popped_by, popped_at, popped, empty_item_closed_by, empty_item_closed, list_closed, gap_tree, list_finished}
 use Rattle.first_pass_lists.specs.Closing.{loosened_top, list_kept, begun, list_continued, is_footnote, footnote_left, footnote_begun}
-use Rattle.first_pass_items.specs.declared.item.CowIndex.{CowIndex}
 use Rattle.first_pass_lists.specs.declared.state.PassState.{PassState}
 
 none_by : (r : PassState) (o : Option ℕ) → r.begin_list_item ≡ o → (empty_item_closed_by r o).begin_list_item ≡ None

@@ -1,8 +1,8 @@
 -- Facts on the lines that close metadata.
 use Rattle.std.proofs.Common.{◌≡◌, ◌&&◌, Option, Some, None, if◌then◌else◌, inl, inr, ℕ, zero, suc, ◌+◌, ◌-◌, ◌<◌, ◌≤◌, Bool, true, false, cond, ◌||◌}
-use Rattle.std.proofs.Common.{nat_lt, List, [], ◌∷◌, length, drop, refl, sym, ap, ◌∙◌, arith, drop-drop}
+use Rattle.std.proofs.Common.{nat_lt, List, [], ◌∷◌, length, drop, refl, sym, ap, ◌∙◌, arith, drop-drop, lt-ltb, le-ltb}
 use Rattle.std.specs.List.{list_any}
-use Rattle.std.proofs.lemmas.Bool.{cases_Bool, cases_lt, lt-ltb, le-ltb}
+use Rattle.std.proofs.lemmas.Bool.{cases_Bool, cases_lt}
 use Rattle.first_pass_items.specs.Bytes.{plus_sign, hyphen}
 use Rattle.first_pass_lines.specs.Lines.{begins, is_content, ends_line, line_len}
 use Rattle.first_pass_lines.specs.Places.{Place, line_place, lines_after, lines_at}
@@ -53,43 +53,46 @@ lines-apart text s y h =
           omega (arith, ap line_len d)
     ]
 
--- No line before the start of a later line closes. The line after one of them begins at that start or before, and the
--- same line is the first to close from there on.
-same_step : (c : ℕ) (text : List ℕ) (s y from : ℕ)
-    → from ≡ y + line_len (drop y text) → s < from → s < length text → from ≤ closing_line_from c text s
-    → (s < s + line_len (drop s text)) × (s + line_len (drop s text) ≤ from)
-    × (closing_line_from c text s ≡ closing_line_from c text (s + line_len (drop s text)))
-same_step c text s y from e b l w =
-    elim (cases_Bool (closes_metadata c (drop s text))) [
-      | inl closes ↦ let here = closing_line-here c text s l closes in absurd (omega arith)
-      | inr other ↦
-          let apart = lines-apart text s y (omega arith) in
-          let some = (line_len-within text s l).0 in
-          (omega arith, omega arith, closing_line-further c text s l other)
-    ]
+-- what holds past the end of a text, and of the start of each line if it does of the next one's, holds at each offset
+module _ (text : List ℕ) (P : ℕ → Type 0) (past : (s : ℕ) → length text ≤ s → P s)
+    (step : (s : ℕ) → s < length text → P (s + line_len (drop s text)) → P s) where
+  by_lines_up_to : (most s : ℕ) → length text ≤ s + most → P s
+  by_lines_up_to zero s m = past s (omega arith)
+  by_lines_up_to (suc most) s m =
+      elim (cases_lt s (length text)) [
+        | inl some ↦
+            let more = (line_len-within text s some).0 in
+            step s some (by_lines_up_to most (s + line_len (drop s text)) (omega arith))
+        | inr none ↦ past s none
+      ]
+
+  by_lines : (s : ℕ) → P s
+  by_lines s = by_lines_up_to (length text) s (omega arith)
 
 -- the closing line found from an offset on is also the one found from the start of a later line, unless it begins
 -- before that line
-same_up_to : (c : ℕ) (text : List ℕ) (most s y from : ℕ) → from ≡ y + line_len (drop y text) → from ≤ s + most → s ≤ from → from ≤ closing_line_from c text s
-    → closing_line_from c text s ≡ closing_line_from c text from
-same_up_to c text zero s y from e m b w = ap (closing_line_from c text) (omega arith)
-same_up_to c text (suc most) s y from e m b w =
-    elim (cases_lt s from) as (λ _. closing_line_from c text s ≡ closing_line_from c text from) [
-      | inl before ↦
-          elim (cases_lt s (length text)) as (λ _. closing_line_from c text s ≡ closing_line_from c text from) [
-            | inl some ↦
-                let next = same_step c text s y from e before some w in
-                let less = next.0 in
-                let same = next.2 in
-                same ∙ same_up_to c text most (s + line_len (drop s text)) y from e (omega arith) next.1 (omega arith)
-            | inr none ↦ let end = closing_line-end c text s none in absurd (omega arith)
-          ]
-      | inr here ↦ ap (closing_line_from c text) (omega arith)
-    ]
-
 pub closing_line-same : (c : ℕ) (text : List ℕ) (s y from : ℕ)
     → from ≡ y + line_len (drop y text) → s ≤ from → from ≤ closing_line_from c text s → closing_line_from c text s ≡ closing_line_from c text from
-closing_line-same c text s y from e b w = same_up_to c text from s y from e (omega arith) b w
+closing_line-same c text s y from e =
+    by_lines text (λ k. k ≤ from → from ≤ closing_line_from c text k → closing_line_from c text k ≡ closing_line_from c text from)
+    (λ k none b w. let end = closing_line-end c text k none in ap (closing_line_from c text) (omega arith)) step s
+  where
+    step : (k : ℕ) → k < length text
+        → (k + line_len (drop k text) ≤ from → from ≤ closing_line_from c text (k + line_len (drop k text))
+        → closing_line_from c text (k + line_len (drop k text)) ≡ closing_line_from c text from)
+        → k ≤ from → from ≤ closing_line_from c text k → closing_line_from c text k ≡ closing_line_from c text from
+    step k some next b w =
+        elim (cases_lt k from) as (λ _. closing_line_from c text k ≡ closing_line_from c text from) [
+          | inl before ↦
+              elim (cases_Bool (closes_metadata c (drop k text))) as (λ _. closing_line_from c text k ≡ closing_line_from c text from) [
+                | inl closes ↦ let here = closing_line-here c text k some closes in absurd (omega arith)
+                | inr other ↦
+                    let apart = lines-apart text k y (omega arith) in
+                    let same = closing_line-further c text k some other in
+                    same ∙ next (omega arith) (omega arith)
+              ]
+          | inr here ↦ ap (closing_line_from c text) (omega arith)
+        ]
 
 -- whether a line closes does not depend on the offset of the bytes
 any_after : (c b s t : ℕ) (bs : List ℕ)
@@ -113,34 +116,24 @@ any_line-anywhere c s t [] = refl
 any_line-anywhere c s t (b ∷ bs) = ap (λ v. closes_metadata c (b ∷ bs) || v) (any_after c b (s + 1) (t + 1) bs)
 
 -- some line closes exactly if the first that does begins before the end of the text
-sought_step : (c : ℕ) (text : List ℕ) (most s : ℕ) (t : Bool) → s < length text → length text ≤ s + suc most → t ≡ closes_metadata c (drop s text)
-    → ((k : ℕ) → length text ≤ k + most → nat_lt (closing_line_from c text k) (length text) ≡ any_line_closes c k (drop k text))
-    → nat_lt (closing_line_from c text s) (length text) ≡ any_line_closes c s (drop s text)
-sought_step c text most s true l m h f =
-    let at = closing_line-here c text s l (sym h) in
-    let before : nat_lt (closing_line_from c text s) (length text) ≡ true = lt-ltb _ _ (omega arith) in
-    before ∙ sym (any_line-first c s text _ true (lines_at-line text s l) h)
-sought_step c text most s false l m h f =
-    let some = (line_len-within text s l).0 in
-    ap (λ k. nat_lt k (length text)) (closing_line-further c text s l (sym h)) ∙ f (s + line_len (drop s text)) (omega arith)
-    ∙ sym (any_line-first c s text _ false (lines_at-line text s l) h)
-
-sought_end : (c : ℕ) (text : List ℕ) (s : ℕ) → length text ≤ s → nat_lt (closing_line_from c text s) (length text) ≡ any_line_closes c s (drop s text)
-sought_end c text s l =
-    let at = closing_line-end c text s l in
-    le-ltb _ _ (omega arith) ∙ sym (any_line-none c s text (lines_at-end text s l))
-
-sought_up_to : (c : ℕ) (text : List ℕ) (most s : ℕ)
-    → length text ≤ s + most → nat_lt (closing_line_from c text s) (length text) ≡ any_line_closes c s (drop s text)
-sought_up_to c text zero s m = sought_end c text s (omega arith)
-sought_up_to c text (suc most) s m =
-    elim (cases_lt s (length text)) as (λ _. nat_lt (closing_line_from c text s) (length text) ≡ any_line_closes c s (drop s text)) [
-      | inl some ↦ sought_step c text most s (closes_metadata c (drop s text)) some m refl (sought_up_to c text most)
-      | inr none ↦ sought_end c text s none
-    ]
-
 pub any_line-sought : (c : ℕ) (text : List ℕ) (s : ℕ) → nat_lt (closing_line_from c text s) (length text) ≡ any_line_closes c s (drop s text)
-any_line-sought c text s = sought_up_to c text (length text) s (omega arith)
+any_line-sought c text =
+    by_lines text (λ s. nat_lt (closing_line_from c text s) (length text) ≡ any_line_closes c s (drop s text))
+    (λ s l.
+    let at = closing_line-end c text s l in
+    le-ltb _ _ (omega arith) ∙ sym (any_line-none c s text (lines_at-end text s l)))
+    (λ s l next. step s l (closes_metadata c (drop s text)) refl next)
+  where
+    step : (s : ℕ) → s < length text → (t : Bool) → t ≡ closes_metadata c (drop s text)
+        → nat_lt (closing_line_from c text (s + line_len (drop s text))) (length text)
+        ≡ any_line_closes c (s + line_len (drop s text)) (drop (s + line_len (drop s text)) text)
+        → nat_lt (closing_line_from c text s) (length text) ≡ any_line_closes c s (drop s text)
+    step s l true h next =
+        let at = closing_line-here c text s l (sym h) in
+        let before : nat_lt (closing_line_from c text s) (length text) ≡ true = lt-ltb _ _ (omega arith) in
+        before ∙ sym (any_line-first c s text _ true (lines_at-line text s l) h)
+    step s l false h next =
+        ap (λ k. nat_lt k (length text)) (closing_line-further c text s l (sym h)) ∙ next ∙ sym (any_line-first c s text _ false (lines_at-line text s l) h)
 
 -- the same for the lines after the one at an offset
 pub any_line-following : (c : ℕ) (text : List ℕ) (s from : ℕ)

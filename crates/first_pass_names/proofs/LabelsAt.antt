@@ -1,12 +1,6 @@
 -- Lemmas about `link_at`: its result, from the label that was read and the definition that was looked up.
-use Rattle.std.proofs.Common.{◌≡◌, ℕ, false, List, Option, Some, None, IsSomeAnd, MatchOption, refl, ap, ◌∙◌}
-use Rattle.std.specs.Option.{option_map}
-use Rattle.first_pass_items.specs.declared.cow_str.CowStr.{CowStr}
-use Rattle.first_pass_items.specs.CowText.{text_of}
-use Rattle.first_pass_labels.specs.Foldings.{folded}
-use Rattle.first_pass_labels.specs.LabelTables.{defined_under}
-use Rattle.first_pass_labels.specs.declared.label_table.LinkDef.{LinkDef}
-use Rattle.first_pass_links.specs.Labels.{label_at}
+use Rattle.std.proofs.Common.{◌≡◌, ℕ, false, List, Option, Some, None, IsSomeAnd, MatchOption, refl, ap, ◌∙◌, option_map}
+use Rattle.first_pass_grammar.proofs.Common.{CowStr, text_of, folded, defined_under, LinkDef, label_at}
 use Rattle.first_pass_names.specs.TableEntries.{link_at}
 
 -- the call that reads a label returned this one with its length, or `None` if there is no label

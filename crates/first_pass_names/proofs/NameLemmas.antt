@@ -1,15 +1,6 @@
 -- Lemmas about names, which are the three lists: an index refers to the same entry after more entries are added.
-use Rattle.std.proofs.Common.{◌≡◌, ℕ, false, List, [], ◌++◌, length, Result, Ok, Err, OnOk, refl, sym, ap, subst, ◌∙◌, append_assoc}
-use Rattle.std.specs.declared.alloc.AllocError.{AllocError}
-use Rattle.std.proofs.lemmas.List.{append-nil}
-use Rattle.first_pass_items.specs.declared.cow_str.CowStr.{CowStr}
-use Rattle.first_pass_items.specs.declared.item.CowIndex.{CowIndex}
-use Rattle.first_pass_items.specs.CowText.{text_of}
-use Rattle.first_pass_links.specs.Escapes.{unescaped}
-use Rattle.first_pass_entities.specs.Texts.{Borrows}
-use Rattle.first_pass_tokens.specs.NamedTexts.{AreMore}
-use Rattle.first_pass_grammar.specs.Names.{Names, Extends}
-use Rattle.first_pass_grammar.specs.CodeBlocks.{NamesInfo}
+use Rattle.std.proofs.Common.{◌≡◌, ℕ, false, List, [], ◌++◌, length, Result, Ok, Err, OnOk, refl, sym, ap, subst, ◌∙◌, append_assoc, append-nil}
+use Rattle.first_pass_grammar.proofs.Common.{AllocError, CowStr, CowIndex, text_of, unescaped, Borrows, AreMore, Names, Extends, NamesInfo}
 pub use Rattle.first_pass_grammar.proofs.Names.MoreNames.{extends_none, extends_both, extends_named, extends_alignments}
 pub use Rattle.first_pass_grammar.proofs.Names.MoreNames.{text_last, still_aligned, alignments_last}
 use Rattle.first_pass_names.specs.TableEntries.{with_named, AddsTexts}

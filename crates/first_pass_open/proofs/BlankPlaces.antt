@@ -1,8 +1,6 @@
 -- The kind of the block at a place whose rest is blank.
 use Rattle.std.proofs.Common.{◌≡◌, true, Some, refl, sym, subst}
-use Rattle.first_pass_items.specs.declared.option_set.Options.{Options}
-use Rattle.first_pass_lines.specs.Rest.{Rest}
-use Rattle.first_pass_grammar.specs.Kinds.{Blank, is_blank_rest, first_kind, IsKindBy, IsKind}
+use Rattle.first_pass_grammar.proofs.Common.{Options, Rest, Blank, is_blank_rest, first_kind, IsKindBy, IsKind}
 
 pub blank_kind : (options : Options) (r : Rest) → is_blank_rest r ≡ true → IsKind options r Blank
 unfolding first_kind

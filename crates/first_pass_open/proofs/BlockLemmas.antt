@@ -1,17 +1,13 @@
 -- A block that is opened, filled with a chain, and closed.
 use Rattle.std.proofs.Common.{◌≡◌, ℕ, zero, suc, ◌+◌, ◌<◌, List, [], ◌∷◌, ◌++◌, length, slice_get, Option, Some, None, IsSome, refl, sym, ap, subst, ◌∙◌}
-use Rattle.std.proofs.Common.{arith, append_assoc, length-append}
-use Rattle.std.proofs.lemmas.List.{length-map}
-use Rattle.std.specs.Option.{option_map}
-use Rattle.first_pass_items.specs.declared.item.Item.{Item}
-use Rattle.first_pass_items.specs.declared.item.ItemBody.{ItemBody}
-use Rattle.first_pass_tree.specs.declared.tree_index.TreeIndex.{TreeIndex}
-use Rattle.first_pass_tree.specs.Forest.{Forest, IsForest, IsOpenPath, depths, item_at, modify, appended, pushed, popped, added, block_of, at_depth, modified}
-use Rattle.first_pass_tree.specs.Forest.{with_body_at}
-use Rattle.first_pass_tree.proofs.Blocks.{modify-at, forest-eq}
-use Rattle.first_pass_tokens.specs.TreeTokens.{chained, leaves}
-use Rattle.first_pass_tokens.proofs.ChainLemmas.{chained-spine, chained-nodes, chained-current, chained-append, closed-chained}
-use Rattle.first_pass_grammar.specs.Leaves.{marker_items}
+use Rattle.std.proofs.Common.{arith, append_assoc, length-append, option_map}
+use Rattle.first_pass_grammar.proofs.Common.{same_Some, slice_get-get_or, slice_get_within, Item, ItemBody, TreeIndex, Forest, IsForest, item_at, modify}
+use Rattle.first_pass_grammar.proofs.Common.{appended, pushed, popped, added, block_of, at_depth, with_body_at, modify-at, chained, leaves, chained-spine}
+use Rattle.first_pass_grammar.proofs.Common.{chained-nodes, chained-append, marker_items}
+use Rattle.first_pass_tree.specs.Forest.{modified}
+use Rattle.first_pass_tree.proofs.Blocks.{forest-eq}
+use Rattle.first_pass_tokens.proofs.ChainLemmas.{chained-current, closed-chained}
+use Rattle.first_pass_open.proofs.FrontLemmas.{open_within}
 use Rattle.first_pass_open.specs.OpenBlock.{with_child, closed_by, IsJustPushed}
 
 -- The node that was opened follows all earlier nodes, so its index is their number.
@@ -95,17 +91,12 @@ module _ (g n : Forest Item) (x : Item) (chain : List Item) (ix : TreeIndex) (at
       ∙ modify-at g.nodes kids (length g.spine + 1, x) ix.0 (λ (z : Item). record z { body = body }) at ∙ sym (opened_nodes g y chain ix))
       (chained-spine (pushed (appended g x) ix) chain ∙ sym (chained-spine (pushed (appended g y) ix) chain)) (same_current g x y chain ix)
 
--- The innermost open node is among the nodes.
-pub open_place_in : (f : Forest Item) (ix : TreeIndex) (rest : List TreeIndex) → IsForest f → f.spine ≡ ix ∷ rest → ix.0 < length f.nodes
-open_place_in f ix rest forest e =
-    let p : IsOpenPath (depths f.nodes) (ix ∷ rest) = subst (IsOpenPath (depths f.nodes)) e forest.opened in
-    let w : ix.0 < length (depths f.nodes) = p.0.within in
-    let l : length (depths f.nodes) ≡ length f.nodes = length-map f.nodes (λ (n : ℕ × Item). n.0) in
-    omega arith
-
-first_open : (f : Forest Item) (ix : TreeIndex) (spine : List TreeIndex) → IsForest f → f.spine ≡ spine → slice_get spine 0 ≡ Some ix → ix.0 < length f.nodes
-first_open f ix [] forest is e = absurd cc
-first_open f ix (first ∷ rest) forest is e = let same : first ≡ ix = cc in open_place_in f ix rest forest (is ∙ ap (λ (i : TreeIndex). i ∷ rest) same)
+-- Each open node is among the nodes, also the innermost one.
+pub open_node_at : (f : Forest Item) (k : ℕ) (ix : TreeIndex) → IsForest f → slice_get f.spine k ≡ Some ix → ix.0 < length f.nodes
+open_node_at f k ix forest e =
+    let within = slice_get_within f.spine k ix e in
+    let same = same_Some _ _ (sym (slice_get-get_or f.spine k ix within) ∙ e) in
+    subst (λ (y : TreeIndex). y.0 < length f.nodes) same (open_within f.nodes f.spine k ix forest.opened within)
 
 pub open_node_in : (f : Forest Item) (ix : TreeIndex) → IsForest f → slice_get f.spine 0 ≡ Some ix → ix.0 < length f.nodes
-open_node_in f ix forest e = first_open f ix f.spine forest refl e
+open_node_in f ix forest e = open_node_at f 0 ix forest e

@@ -1,23 +1,13 @@
 -- How a line continues the open containers, from the number of open nodes that it continues.
-use Rattle.std.proofs.Common.{◌≡◌, inl, inr, ℕ, zero, suc, ◌+◌, ◌-◌, ◌<◌, ◌≤◌, ◌==◌, true, false, List, ◌∷◌, length, get_or, reverse}
-use Rattle.std.proofs.Common.{slice_get, Option, Some, None, is_some, refl, sym, ap, ◌∙◌, subst, arith}
-use Rattle.std.proofs.Math.Bool.{and-true}
-use Rattle.std.proofs.lemmas.Bool.{cases_lt}
-use Rattle.std.proofs.lemmas.Bool.Decides.{nat_tests}
-use Rattle.std.proofs.lemmas.List.{length-reverse}
-use Rattle.std.proofs.lemmas.Option.{slice_get-get_or, slice_get_past}
-use Rattle.std.specs.Option.{option_and_then}
-use Rattle.first_pass_items.specs.declared.item.Item.{Item}
-use Rattle.first_pass_items.specs.declared.option_set.Options.{Options}
-use Rattle.first_pass_tree.specs.declared.tree_index.TreeIndex.{TreeIndex}
-use Rattle.first_pass_tree.specs.Forest.{Forest}
-use Rattle.first_pass_lines.specs.Rest.{Rest}
+use Rattle.std.proofs.Common.{◌≡◌, inl, inr, ℕ, ◌+◌, ◌-◌, ◌<◌, ◌≤◌, ◌==◌, true, false, List, ◌∷◌, length, get_or, reverse, slice_get, Option}
+use Rattle.std.proofs.Common.{Some, None, is_some, refl, sym, ap, ◌∙◌, subst, arith, option_and_then}
+use Rattle.first_pass_grammar.proofs.Common.{and-true, cases_lt, nat_tests, length-reverse, slice_get-get_or, slice_get_past, Item, Options}
+use Rattle.first_pass_grammar.proofs.Common.{Forest, Rest, after, prefix, continued}
 use Rattle.first_pass_grammar.specs.declared.kind.Container.{Container}
-use Rattle.first_pass_grammar.specs.Containers.{after, prefix, is_definition, at_definition}
-use Rattle.first_pass_grammar.specs.Kinds.{continued}
+use Rattle.first_pass_grammar.specs.Containers.{is_definition, at_definition}
 use Rattle.first_pass_grammar.proofs.Sequences.FootnoteHeads.{whole_none}
 use Rattle.first_pass_open.specs.Path.{container_at, prefix_of, with_container, path_in, outer, is_definition_node, definition_at_depth, continued_to}
-use Rattle.first_pass_open.proofs.FrontLemmas.{path_to, path_to-more, taken_more, outer-all, root}
+use Rattle.first_pass_open.proofs.FrontLemmas.{kept_from, path_to, path_to-more, taken_more, outer-all, root}
 
 stop_by : (c : Container) (path : List Container) (r q : Rest) → after path r ≡ Some q → prefix c q ≡ None → at_definition (c ∷ path) r ≡ is_definition c
 unfolding at_definition after
@@ -35,17 +25,6 @@ stop_kept : (o : Option Container) (path : List Container) (r : Rest) → after 
 unfolding at_definition
 stop_kept None path r none = refl
 stop_kept (Some c) path r none = rw none refl
-
-stop_more : (options : Options) (ns : List (ℕ × Item)) (spine : List TreeIndex) (i : ℕ) (r : Rest) (d : ℕ) → i + d ≤ length spine
-    → ((m : ℕ) → i ≤ m → m ≤ length spine → after (path_to options ns spine m) r ≡ None)
-    → at_definition (path_to options ns spine (i + d)) r ≡ at_definition (path_to options ns spine i) r
-stop_more options ns spine i r zero h none = let z : i + 0 ≡ i = omega arith in ap (λ m. at_definition (path_to options ns spine m) r) z
-stop_more options ns spine i r (suc d) h none =
-    let z : i + suc d ≡ (i + d) + 1 = omega arith in
-    ap (λ m. at_definition (path_to options ns spine m) r) z
-    ∙ ap (λ c. at_definition c r) (path_to-more options ns spine (i + d) root (omega arith))
-    ∙ stop_kept (container_at options ns (get_or (reverse spine) (i + d) root)) (path_to options ns spine (i + d)) r (none (i + d) (omega arith) (omega arith))
-    ∙ stop_more options ns spine i r d (omega arith) none
 
 -- A line continues the outermost i open nodes and no more, and q is the rest after their prefixes.
 pub record IsKept (options : Options) (f : Forest Item) (i : ℕ) (r q : Rest) : Type 0 where
@@ -86,13 +65,14 @@ some_kept options f i r q k h =
     slice_get-get_or (reverse f.spine) i root (subst (λ n. i < n) (sym (length-reverse f.spine)) h) in
     let next : prefix_of node q ≡ None =
     sym (taken_more options f.nodes f.spine i root r q h k.taken) ∙ k.stops (i + 1) (omega arith) (omega arith) in
-    let z : i + 1 + (length f.spine - (i + 1)) ≡ length f.spine = omega arith in
+    let more = λ (k : ℕ) (h : k < length f.spine). ap (λ c. at_definition c r) (path_to-more options f.nodes f.spine k root h) in
+    let now : at_definition (path_to options f.nodes f.spine (i + 1)) r ≡ is_definition_node node =
+    more i h ∙ stop_at node (path_to options f.nodes f.spine i) r q k.taken next in
     let stop : definition_at_depth options f i ≡ at_definition path r =
     ap (λ o. is_definition_node (option_and_then (container_at options f.nodes) o)) here
-    ∙ sym (stop_at node (path_to options f.nodes f.spine i) r q k.taken next)
-    ∙ ap (λ c. at_definition c r) (sym (path_to-more options f.nodes f.spine i root h))
-    ∙ sym (stop_more options f.nodes f.spine (i + 1) r (length f.spine - (i + 1)) (omega arith) (λ m low high. k.stops m (omega arith) high))
-    ∙ ap (λ m. at_definition (path_to options f.nodes f.spine m) r) z
+    ∙ sym (kept_from (λ m. at_definition (path_to options f.nodes f.spine m) r ≡ is_definition_node node) (i + 1) (length f.spine) (omega arith) now
+    (λ m low high same. more m high ∙ stop_kept (container_at options f.nodes (get_or (reverse f.spine) m root)) (path_to options f.nodes f.spine m) r
+    (k.stops m (omega arith) (omega arith)) ∙ same))
     ∙ ap (λ c. at_definition c r) (all_path options f) in
     cc
 

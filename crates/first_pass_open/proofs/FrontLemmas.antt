@@ -1,17 +1,10 @@
 -- How far a line continues the open nodes.
-use Rattle.std.proofs.Common.{◌≡◌, ℕ, zero, suc, ◌+◌, ◌-◌, ◌<◌, ◌≤◌, Bool, true, false, List, [], ◌∷◌, length, get_or, drop, reverse, Option, Some, None}
-use Rattle.std.proofs.Common.{MatchOption, refl, sym, ap, ◌∙◌, subst, arith}
-use Rattle.std.specs.Option.{option_map, option_and_then}
-use Rattle.std.specs.Prelude.{slice_get}
-use Rattle.std.proofs.lemmas.List.{drop_more, drop_all, get_or-reverse, length-map, length-reverse}
-use Rattle.first_pass_items.specs.declared.item.Item.{Item}
-use Rattle.first_pass_tree.specs.declared.tree_index.TreeIndex.{TreeIndex}
-use Rattle.first_pass_tree.specs.Forest.{IsOpenPath, depths}
-use Rattle.first_pass_lines.specs.Rest.{Rest}
+use Rattle.std.proofs.Common.{◌≡◌, ℕ, zero, suc, ◌+◌, ◌-◌, ◌<◌, ◌≤◌, List, [], ◌∷◌, length, get_or, drop, reverse, Option, Some, None}
+use Rattle.std.proofs.Common.{inl, inr, refl, sym, ap, ◌∙◌, subst, arith, option_map, option_and_then, slice_get}
+use Rattle.first_pass_grammar.proofs.Common.{cases_lt, drop_more, drop_all, get_or-reverse, length-map, length-reverse, Item, TreeIndex, IsOpenPath, depths}
+use Rattle.first_pass_grammar.proofs.Common.{Rest, after, front, Options}
 use Rattle.first_pass_grammar.specs.declared.kind.Container.{Container}
-use Rattle.first_pass_grammar.specs.Containers.{after, front}
 use Rattle.first_pass_open.specs.Path.{container_of, container_at, prefix_of, with_container, path_in, outer}
-use Rattle.first_pass_items.specs.declared.option_set.Options.{Options}
 
 after_none : (r : Rest) → after [] r ≡ Some r
 unfolding after
@@ -66,45 +59,36 @@ pub taken_more : (options : Options) (ns : List (ℕ × Item)) (spine : List Tre
 taken_more options ns spine i x r q h e = ap (λ c. after c r) (path_to-more options ns spine i x h)
     ∙ after_step (container_at options ns (get_or (reverse spine) i x)) (path_to options ns spine i) r q e
 
--- A line that does not continue the outermost i open nodes does not continue more of them.
-stops_by : (options : Options) (ns : List (ℕ × Item)) (spine : List TreeIndex) (i : ℕ) (x : TreeIndex) (r : Rest) (d : ℕ)
-    → i + d ≤ length spine → after (path_to options ns spine i) r ≡ None → after (path_to options ns spine (i + d)) r ≡ None
-stops_by options ns spine i x r zero h e = let z : i + 0 ≡ i = omega arith in rw z e
-stops_by options ns spine i x r (suc d) h e =
-    let z : i + suc d ≡ (i + d) + 1 = omega arith in
-    ap (λ m. after (path_to options ns spine m) r) z ∙ ap (λ c. after c r) (path_to-more options ns spine (i + d) x (omega arith))
-    ∙ after_short (container_at options ns (get_or (reverse spine) (i + d) x)) (path_to options ns spine (i + d)) r
-    (stops_by options ns spine i x r d (omega arith) e)
+-- What holds at i, and each step from i on keeps, holds at each later number.
+pub kept_from : (P : ℕ → Type 0) (i n : ℕ) → i ≤ n → P i → ((m : ℕ) → i ≤ m → m < n → P m → P (m + 1)) → P n
+kept_from P i zero h here more = let z : i ≡ 0 = omega arith in subst P z here
+kept_from P i (suc n) h here more = elim (cases_lt n i) [
+  | inl below ↦ (let z : i ≡ suc n = omega arith in subst P z here)
+  | inr within ↦ (
+      let z : n + 1 ≡ suc n = omega arith in
+      subst P z (more n within (omega arith) (kept_from P i n within here (λ m low high. more m low (omega arith)))))
+]
 
+-- A line that does not continue the outermost i + 1 open nodes does not continue more of them.
 pub stops : (options : Options) (ns : List (ℕ × Item)) (spine : List TreeIndex) (i : ℕ) (x : TreeIndex) (r : Rest)
     → after (path_to options ns spine (i + 1)) r ≡ None
     → (m : ℕ) → i < m → m ≤ length spine → after (path_to options ns spine m) r ≡ None
 stops options ns spine i x r e m low high =
-    let z : i + 1 + (m - (i + 1)) ≡ m = omega arith in
-    subst (λ k. after (path_to options ns spine k) r ≡ None) z (stops_by options ns spine (i + 1) x r (m - (i + 1)) (omega arith) e)
-
-front_by : (options : Options) (ns : List (ℕ × Item)) (spine : List TreeIndex) (i : ℕ) (x : TreeIndex) (r q : Rest) (d : ℕ)
-    → i + d ≤ length spine → after (path_to options ns spine i) r ≡ Some q
-    → ((m : ℕ) → i < m → m ≤ length spine → after (path_to options ns spine m) r ≡ None) → front (path_to options ns spine (i + d)) r ≡ q
-front_by options ns spine i x r q zero h e s =
-    let z : i + 0 ≡ i = omega arith in
-    ap (λ m. front (path_to options ns spine m) r) z ∙ front_taken (path_to options ns spine i) r q e
-front_by options ns spine i x r q (suc d) h e s =
-    let z : i + suc d ≡ (i + d) + 1 = omega arith in
-    let more = path_to-more options ns spine (i + d) x (omega arith) in
-    let none = subst (λ c. after c r ≡ None) more (s (i + d + 1) (omega arith) (omega arith)) in
-    ap (λ m. front (path_to options ns spine m) r) z ∙ ap (λ c. front c r) more
-    ∙ front_short (container_at options ns (get_or (reverse spine) (i + d) x)) (path_to options ns spine (i + d)) r none
-    ∙ front_by options ns spine i x r q d (omega arith) e s
+    kept_from (λ k. after (path_to options ns spine k) r ≡ None) (i + 1) m (omega arith) e (λ k l h none.
+    ap (λ c. after c r) (path_to-more options ns spine k x (omega arith))
+    ∙ after_short (container_at options ns (get_or (reverse spine) k x)) (path_to options ns spine k) r none)
 
 -- If the line continues the outermost i open nodes and no more, the rest after their prefixes is the front.
 pub front_is : (options : Options) (ns : List (ℕ × Item)) (spine : List TreeIndex) (i : ℕ) (r q : Rest)
     → i ≤ length spine → after (path_to options ns spine i) r ≡ Some q
     → ((m : ℕ) → i < m → m ≤ length spine → after (path_to options ns spine m) r ≡ None) → front (path_in options ns spine) r ≡ q
 front_is options ns spine i r q h e s =
-    let z : i + (length spine - i) ≡ length spine = omega arith in
-    ap (λ c. front (path_in options ns c) r) (sym (outer-all spine)) ∙ ap (λ m. front (path_to options ns spine m) r) (sym z)
-    ∙ front_by options ns spine i (record { 0 = 0 }) r q (length spine - i) (omega arith) e s
+    ap (λ c. front (path_in options ns c) r) (sym (outer-all spine))
+    ∙ kept_from (λ k. front (path_to options ns spine k) r ≡ q) i (length spine) h (front_taken (path_to options ns spine i) r q e) (λ k low high same.
+    let more = path_to-more options ns spine k (record { 0 = 0 }) high in
+    let none = subst (λ c. after c r ≡ None) more (s (k + 1) (omega arith) (omega arith)) in
+    ap (λ c. front c r) more
+    ∙ front_short (container_at options ns (get_or (reverse spine) k (record { 0 = 0 }))) (path_to options ns spine k) r none ∙ same)
 
 -- Each open node is among the nodes of the tree.
 pub open_within : (ns : List (ℕ × Item)) (spine : List TreeIndex) (k : ℕ) (x : TreeIndex)
@@ -126,18 +110,6 @@ container_of_node options (Some n) item e = ap (λ o. elim o [ None ↦ None | S
 pub container_is : (options : Options) (ns : List (ℕ × Item)) (ix : TreeIndex) (item : Item)
     → option_map (λ n. n.1) (slice_get ns ix.0) ≡ Some item → container_at options ns ix ≡ container_of options item.body
 container_is options ns ix item e = container_of_node options (slice_get ns ix.0) item e
-
--- If `takes_prefix` returns `false`, the prefix is not there, and nothing was taken.
-pub isnt_taken : (o : Option Rest) (b : Bool) (old new : Rest)
-    → b ≡ false → MatchOption o ((b ≡ false) × (new ≡ old)) (λ next. (b ≡ true) × (new ≡ next)) → (o ≡ None) × (new ≡ old)
-isnt_taken None b old new e m = (refl, m.1)
-isnt_taken (Some r) b old new e (t, m) = let z : false ≡ true = sym e ∙ t in (cc, cc)
-
--- If `takes_prefix` returns `true`, the prefix is there and was taken.
-pub is_taken : (o : Option Rest) (b : Bool) (old new : Rest)
-    → b ≡ true → MatchOption o ((b ≡ false) × (new ≡ old)) (λ next. (b ≡ true) × (new ≡ next)) → o ≡ Some new
-is_taken None b old new e (t, m) = let z : true ≡ false = sym e ∙ t in cc
-is_taken (Some r) b old new e m = ap Some (sym m.1)
 
 -- Every line continues the outermost 0 open nodes, and nothing is taken.
 pub taken_none : (options : Options) (ns : List (ℕ × Item)) (spine : List TreeIndex) (r : Rest) → after (path_in options ns (outer 0 spine)) r ≡ Some r

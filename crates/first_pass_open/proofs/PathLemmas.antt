@@ -1,22 +1,13 @@
 -- The containers among the open nodes, while nodes are added and opened; and a path at the end of the text.
-use Rattle.std.proofs.Common.{◌≡◌, ◌⊎◌, inl, inr, ℕ, zero, suc, ◌+◌, ◌<◌, ◌≤◌, nat_le, ◌||◌, Bool, true, false, List, [], ◌∷◌, ◌++◌, length, slice_get, Option}
-use Rattle.std.proofs.Common.{MatchOption, is_some, Some, None, refl, ap, subst, ◌∙◌, arith, length-append}
-use Rattle.std.proofs.lemmas.List.{length-map}
-use Rattle.std.specs.Option.{option_map, option_and_then}
-use Rattle.first_pass_items.specs.declared.item.Item.{Item}
-use Rattle.first_pass_tree.specs.declared.tree_index.TreeIndex.{TreeIndex}
-use Rattle.first_pass_tree.specs.Forest.{Forest, IsOpenPath, depths, appended, pushed, at_depth}
-use Rattle.first_pass_lines.specs.Lines.{at_line_end}
-use Rattle.first_pass_lines.specs.Rest.{Rest, indent, after_columns}
-use Rattle.first_pass_lines.proofs.Columns.{after-none}
-use Rattle.first_pass_lines.specs.Places.{line_rest}
-use Rattle.first_pass_tokens.specs.TreeTokens.{chained, leaves}
-use Rattle.first_pass_tokens.proofs.ChainLemmas.{chained-spine, chained-nodes}
+use Rattle.std.proofs.Common.{◌≡◌, ◌⊎◌, inl, inr, ℕ, zero, suc, ◌+◌, ◌<◌, ◌≤◌, nat_le, Bool, true, false, List, [], ◌∷◌, ◌++◌, length, slice_get}
+use Rattle.std.proofs.Common.{Option, if◌then◌else◌, MatchOption, is_some, Some, None, refl, ap, subst, ◌∙◌, arith, length-append, option_map}
+use Rattle.std.proofs.Common.{option_and_then}
+use Rattle.first_pass_grammar.proofs.Common.{or-true, nat_tests, length-map, Item, TreeIndex, Forest, IsOpenPath, depths, appended, pushed, at_depth}
+use Rattle.first_pass_grammar.proofs.Common.{at_line_end, Rest, column_of, column_of_byte, indent, after_columns, after-none, line_rest, chained, leaves}
+use Rattle.first_pass_grammar.proofs.Common.{chained-spine, chained-nodes, has_columns, is_quote, prefix, after, or_shorter, front, Options}
 use Rattle.first_pass_grammar.specs.declared.kind.Container.{Container}
 use Rattle.first_pass_grammar.specs.declared.kind.Container.TheVariants.{BlockQuote, ListItem, FootnoteDefinition, Definition}
-use Rattle.first_pass_grammar.specs.Containers.{has_columns, prefix, after, or_shorter, front}
 use Rattle.first_pass_open.specs.Path.{container_of, container_at, prefix_of, columns_needed, is_quote_node, with_container, path_in, path_of}
-use Rattle.first_pass_items.specs.declared.option_set.Options.{Options}
 
 -- each of these open nodes is one of the first n nodes
 abbrev pub AreIn : ℕ → List TreeIndex → Type 0
@@ -48,30 +39,26 @@ path_of-chained options f chain a =
     ap (λ s. path_in options (chained f chain).nodes s) (chained-spine f chain)
     ∙ ap (λ ns. path_in options ns f.spine) (chained-nodes f chain) ∙ path_in-append options f.nodes (at_depth (length f.spine + 1) (leaves chain)) f.spine a
 
-pub or_true : (t : Bool) → (t || true) ≡ true
-or_true true = refl
-or_true false = refl
+byte_none : (r : Rest) (bs : List ℕ) → at_line_end bs ≡ true → column_of_byte r bs ≡ None
+byte_none r [] h = refl
+byte_none r (b ∷ bs) h = grind (arith, nat_tests, h)
 
-columns-end : (n : ℕ) → after_columns n (line_rest []) ≡ line_rest []
-columns-end n = after-none n (line_rest []) refl
+-- only the end of the line or of the text is left, and no column is owed
+pub record IsOver (r : Rest) : Type 0 where
+  pub none : r.owed ≡ 0
+  pub ends : at_line_end r.left ≡ true
 
-pub item_prefix : (n : ℕ) (r : Rest) → has_columns n r ≡ true → prefix (ListItem n) r ≡ Some (after_columns n r)
+columns_passed : (n : ℕ) (r : Rest) → IsOver r → (if has_columns n r then Some (after_columns n r) else None) ≡ Some r
+columns_passed n r o =
+    rw (after-none n r (ap (λ k. column_of k r) o.none ∙ byte_none r r.left o.ends), o.ends, or-true (nat_le n (indent r))) refl
+
+-- Such a line continues a container that is no block quote, and nothing is taken.
+pub passed : (c : Container) (r : Rest) → IsOver r → is_quote c ≡ false → prefix c r ≡ Some r
 unfolding prefix
-item_prefix n r h = rw h refl
-
-pub same_prefix : (n : ℕ) (r : Rest) → prefix (FootnoteDefinition n) r ≡ prefix (ListItem n) r
-unfolding prefix
-same_prefix n r = refl
-
-pub definition_prefix : (n : ℕ) (r : Rest) → prefix (Definition n) r ≡ prefix (ListItem n) r
-unfolding prefix
-definition_prefix n r = refl
-
-item-end : (n : ℕ) → prefix (ListItem n) (line_rest []) ≡ Some (line_rest [])
-item-end n =
-    let e = columns-end n in
-    let h : has_columns n (line_rest []) ≡ true = ap (λ (r : Rest). nat_le n (indent (line_rest [])) || at_line_end r.left) e ∙ or_true (nat_le n 0) in
-    item_prefix n (line_rest []) h ∙ ap (λ r. Some r) e
+passed (BlockQuote kind) r o h = absurd cc
+passed (ListItem n) r o h = columns_passed n r o
+passed (FootnoteDefinition n) r o h = columns_passed n r o
+passed (Definition n) r o h = columns_passed n r o
 
 -- The prefix of a container that needs n columns is that of a list item with n columns.
 pub columns_prefix : (o : Option Container) (n : ℕ) (r : Rest) → columns_needed o ≡ Some n → prefix_of o r ≡ prefix (ListItem n) r
@@ -107,16 +94,16 @@ pub by_quote : (o p : Option Rest) (b : Bool) (found : Option ℕ) (n : ℕ) (ol
 by_quote o None b found n old new e some m = rw e (some ∙ ap is_some m.0, m.1)
 by_quote o (Some next) b found n old new e some m = rw e (some ∙ ap is_some m.0, m.1)
 
+end_prefix : (c : Container) → (prefix c (line_rest []) ≡ None) ⊎ (prefix c (line_rest []) ≡ Some (line_rest []))
+unfolding prefix
+end_prefix (BlockQuote kind) = inl refl
+end_prefix c = inr (passed c (line_rest []) (record { none = refl; ends = refl }) refl)
+
 -- At the end of the text, a path is continued and nothing is taken, or it is not continued.
 pub after-end : (path : List Container) → (after path (line_rest []) ≡ None) ⊎ (after path (line_rest []) ≡ Some (line_rest []))
-unfolding after prefix
+unfolding after
 after-end [] = inr refl
-after-end (BlockQuote kind ∷ path) = elim (after-end path) [ inl none ↦ inl (rw none refl) | inr some ↦ inl (rw some refl) ]
-after-end (ListItem n ∷ path) = elim (after-end path) [ inl none ↦ inl (rw none refl) | inr some ↦ (let e = item-end n in inr (rw some e)) ]
-after-end (FootnoteDefinition n ∷ path) =
-    elim (after-end path) [ inl none ↦ inl (rw none refl) | inr some ↦ (let e = same_prefix n (line_rest []) ∙ item-end n in inr (rw some e)) ]
-after-end (Definition n ∷ path) =
-    elim (after-end path) [ inl none ↦ inl (rw none refl) | inr some ↦ (let e = definition_prefix n (line_rest []) ∙ item-end n in inr (rw some e)) ]
+after-end (c ∷ path) = elim (after-end path) [ inl none ↦ inl (rw none refl) | inr some ↦ rw some (end_prefix c) ]
 
 front_by : (o : Option Rest) (r q : Rest) → (o ≡ None) ⊎ (o ≡ Some r) → q ≡ r → or_shorter o q ≡ r
 front_by None r q h e = e

@@ -1,106 +1,84 @@
 -- What is taken from a line, indentation, prefixes or markers, ends at a place of the text in the same line.
-use Rattle.std.proofs.Common.{◌≡◌, inl, inr, ◌≤◌, ℕ, ◌+◌, ◌-◌, ◌<◌, zero, suc, nat_lt, Bool, true, false, if◌then◌else◌, List, [], ◌∷◌, length, drop}
-use Rattle.std.proofs.Common.{MatchOption, Option, Some, None, IsUtf8, IsCharBoundary, refl, sym, ap, subst, ◌∙◌, arith}
-use Rattle.std.proofs.lemmas.List.{length-drop}
-use Rattle.std.proofs.lemmas.List.Sums.{prefix_len-le-length}
-use Rattle.std.proofs.lemmas.Bool.{cases_lt}
-use Rattle.std.proofs.lemmas.Option.{cond_some, none-some}
-use Rattle.std.specs.Option.{option_map, option_and_then}
-use Rattle.first_pass_items.specs.declared.item.Item.{Item}
-use Rattle.first_pass_items.specs.declared.item.ItemBody.TheVariants.{TaskListMarker}
-use Rattle.first_pass_items.specs.declared.option_set.Options.{Options}
-use Rattle.first_pass_items.specs.OptionWords.{has}
-use Rattle.first_pass_grammar.specs.Order.{is_task_marker}
-use Rattle.first_pass_lines.specs.Lines.{is_content, line_len}
-use Rattle.first_pass_scan.specs.Markers.{item_of, definition_of, task_of}
-use Rattle.first_pass_scan.proofs.MarkerPlaces.{IsMarked, item-marked, definition-marked, task-marked, marked-keeps, marked-line_end}
-use Rattle.first_pass_lines.specs.Rest.{Rest, next_column, after_columns, indent, past_bytes, past_quote}
-use Rattle.first_pass_lines.specs.Places.{Place, line_rest, place_at, offset, line_end, IsPlaceOf}
+use Rattle.std.proofs.Common.{◌≡◌, inl, inr, ◌≤◌, ℕ, ◌+◌, ◌-◌, ◌<◌, zero, suc, nat_lt, Bool, true, if◌then◌else◌, List, [], ◌∷◌, length, drop}
+use Rattle.std.proofs.Common.{MatchOption, Option, Some, None, IsUtf8, IsCharBoundary, refl, sym, ap, subst, ◌∙◌, arith, length-drop, option_map}
+use Rattle.first_pass_grammar.proofs.Common.{drop_all, prefix_len-le-length, cases_lt, cond_some, Item, TaskListMarker, Options, has, is_task_marker}
+use Rattle.first_pass_grammar.proofs.Common.{is_content, line_len, item_of, definition_of, task_of, IsMarked, item-marked, definition-marked, Rest}
+use Rattle.first_pass_grammar.proofs.Common.{next_column, after_columns, indent, past_bytes, past_quote, Place, line_rest, place_at, offset, line_end}
+use Rattle.first_pass_grammar.proofs.Common.{IsPlaceOf, after-more, after-none, line_is_place, columns_keep, columns_line_end, columns_shorter, has_columns}
+use Rattle.first_pass_grammar.proofs.Common.{prefix, after, or_shorter, front, all_taken, unindented, definition_marker_at, task_by, task_after, some_if}
+use Rattle.first_pass_grammar.proofs.Common.{some_mapped}
+use Rattle.std.proofs.lemmas.Option.{option_and_then_some}
+use Rattle.first_pass_scan.proofs.MarkerPlaces.{task-marked, marked-keeps, marked-line_end}
 use Rattle.first_pass_lines.proofs.LineFacts.{line_len-none}
-use Rattle.first_pass_lines.proofs.Columns.{after-more, after-none, all-more}
-use Rattle.first_pass_lines.proofs.PlaceFacts.{line_is_place, columns_keep, place_line_end, columns_line_end, columns_shorter, quote_keeps, quote_line_end}
+use Rattle.first_pass_lines.proofs.Columns.{all-more}
+use Rattle.first_pass_lines.proofs.PlaceFacts.{place_line_end, quote_keeps, quote_line_end}
 use Rattle.first_pass_lines.proofs.PlaceFacts.{quote_shorter}
 use Rattle.first_pass_grammar.specs.declared.kind.Container.{Container}
 use Rattle.first_pass_grammar.specs.declared.kind.Container.TheVariants.{BlockQuote, ListItem, FootnoteDefinition, Definition}
-use Rattle.first_pass_grammar.specs.Containers.{has_columns, prefix, after, or_shorter, front}
-use Rattle.first_pass_grammar.specs.Kinds.{all_taken, unindented, item_at, definition_marker_at}
-use Rattle.first_pass_grammar.specs.Openers.{task_by, task_after}
-
-all_by : (k : ℕ) (r : Rest) (o : Option Rest)
-    → next_column r ≡ o → ((s : Rest) → after_columns (indent (after_columns k s)) (after_columns k s) ≡ after_columns (indent s) s)
-    → after_columns (indent (after_columns (suc k) r)) (after_columns (suc k) r) ≡ after_columns (indent r) r
-all_by k r None e f = ap (λ s. after_columns (indent s) s) (after-none (suc k) r e)
-all_by k r (Some s) e f = ap (λ t. after_columns (indent t) t) (after-more (suc k) k r s refl e) ∙ f s ∙ all-more r s e
+use Rattle.first_pass_grammar.specs.Kinds.{item_at}
 
 -- It makes no difference if some of the columns are taken before all others.
 pub all_after : (k : ℕ) (r : Rest) → after_columns (indent (after_columns k r)) (after_columns k r) ≡ after_columns (indent r) r
 all_after zero r = refl
-all_after (suc k) r = all_by k r (next_column r) refl (λ s. all_after k s)
+all_after (suc k) r = by (next_column r) refl (λ s. all_after k s)
+  where
+    by : (o : Option Rest) → next_column r ≡ o
+        → ((s : Rest) → after_columns (indent (after_columns k s)) (after_columns k s) ≡ after_columns (indent s) s)
+        → after_columns (indent (after_columns (suc k) r)) (after_columns (suc k) r) ≡ after_columns (indent r) r
+    by None e f = ap (λ s. after_columns (indent s) s) (after-none (suc k) r e)
+    by (Some s) e f = ap (λ t. after_columns (indent t) t) (after-more (suc k) k r s refl e) ∙ f s ∙ all-more r s e
 
 -- The place after all columns is a place of the text.
 pub all_keep : (text : List ℕ) (line : ℕ) (r : Rest) → IsUtf8 text → IsPlaceOf text (place_at line r) → IsPlaceOf text (place_at line (all_taken r))
 all_keep text line r u i = columns_keep text (indent r) (place_at line r) u i
 
-quote_prefix : (text : List ℕ) (line : ℕ) (r : Rest) (o : Option Rest) (s : Rest)
-    → IsUtf8 text → past_quote r ≡ o → option_map (after_columns 1) o ≡ Some s → IsPlaceOf text (place_at line r)
-    → IsPlaceOf text (place_at line s) × (line_end (place_at line s) ≡ line_end (place_at line r))
-quote_prefix text line r None s u q e i = absurd (none-some s e)
-quote_prefix text line r (Some t) s u q e i =
-    let f : after_columns 1 t ≡ s = cc in
-    let j = columns_keep text 1 (place_at line t) u (quote_keeps text line r t u q i) in (
-      subst (λ z. IsPlaceOf text (place_at line z)) f j,
-      ap (λ z. line_end (place_at line z)) (sym f) ∙ columns_line_end 1 (place_at line t) ∙ quote_line_end line r t q,
-    )
+-- the place before `s` is one of the text, in the line of the place before `r`
+abbrev pub StaysInLine : List ℕ → ℕ → Rest → Rest → Type 0
+StaysInLine text line r s = IsPlaceOf text (place_at line s) × (line_end (place_at line s) ≡ line_end (place_at line r))
 
--- The place after the columns of a container is one of the text, in the same line.
+-- The place after columns, or after those of a container, is one of the text, in the same line.
+columns_stay : (text : List ℕ) (line n : ℕ) (r : Rest) → IsUtf8 text → IsPlaceOf text (place_at line r) → StaysInLine text line r (after_columns n r)
+columns_stay text line n r u i = (columns_keep text n (place_at line r) u i, columns_line_end n (place_at line r))
+
 columns_prefix : (text : List ℕ) (line n : ℕ) (r s : Rest)
-    → IsUtf8 text → (if has_columns n r then Some (after_columns n r) else None) ≡ Some s → IsPlaceOf text (place_at line r)
-    → IsPlaceOf text (place_at line s) × (line_end (place_at line s) ≡ line_end (place_at line r))
+    → IsUtf8 text → (if has_columns n r then Some (after_columns n r) else None) ≡ Some s → IsPlaceOf text (place_at line r) → StaysInLine text line r s
 columns_prefix text line n r s u e i =
-    let f : after_columns n r ≡ s = (cond_some (has_columns n r) (after_columns n r) s e).1 in (
-      subst (λ z. IsPlaceOf text (place_at line z)) f (columns_keep text n (place_at line r) u i),
-      ap (λ z. line_end (place_at line z)) (sym f) ∙ columns_line_end n (place_at line r),
-    )
+    subst (StaysInLine text line r) (cond_some (has_columns n r) (after_columns n r) s e).1 (columns_stay text line n r u i)
 
 -- The place after a prefix is one of the text, in the same line.
 pub prefix_keeps : (text : List ℕ) (line : ℕ) (c : Container) (r s : Rest) → IsUtf8 text → prefix c r ≡ Some s → IsPlaceOf text (place_at line r)
-    → IsPlaceOf text (place_at line s) × (line_end (place_at line s) ≡ line_end (place_at line r))
+    → StaysInLine text line r s
 unfolding prefix
 prefix_keeps text line (BlockQuote kind) r s u e i =
-    let f = quote_prefix text line (after_columns 3 r) (past_quote (after_columns 3 r)) s u refl e (columns_keep text 3 (place_at line r) u i) in
-    (f.0, f.1 ∙ columns_line_end 3 (place_at line r))
+    let q : Rest = after_columns 3 r in
+    let m = some_mapped (after_columns 1) (past_quote q) s e in
+    let f = columns_stay text line 3 r u i in
+    let g = columns_stay text line 1 m.0 u (quote_keeps text line q m.0 u m.1 f.0) in
+    subst (StaysInLine text line r) m.2 (g.0, g.1 ∙ quote_line_end line q m.0 m.1 ∙ f.1)
 prefix_keeps text line (ListItem n) r s u e i = columns_prefix text line n r s u e i
 prefix_keeps text line (FootnoteDefinition n) r s u e i = columns_prefix text line n r s u e i
 prefix_keeps text line (Definition n) r s u e i = columns_prefix text line n r s u e i
 
-after_by : (text : List ℕ) (line : ℕ) (c : Container) (r s : Rest) (o : Option Rest) → IsUtf8 text → option_and_then (prefix c) o ≡ Some s
-    → ((q : Rest) → o ≡ Some q → IsPlaceOf text (place_at line q) × (line_end (place_at line q) ≡ line_end (place_at line r)))
-    → IsPlaceOf text (place_at line s) × (line_end (place_at line s) ≡ line_end (place_at line r))
-after_by text line c r s None u e f = absurd (none-some s e)
-after_by text line c r s (Some q) u e f =
-    let g = f q refl in
-    let h = prefix_keeps text line c q s u e g.0 in
-    (h.0, h.1 ∙ g.1)
-
 -- The place after the prefixes of a path is one of the text, in the same line.
 pub after_keeps : (text : List ℕ) (line : ℕ) (path : List Container) (r s : Rest) → IsUtf8 text → after path r ≡ Some s → IsPlaceOf text (place_at line r)
-    → IsPlaceOf text (place_at line s) × (line_end (place_at line s) ≡ line_end (place_at line r))
+    → StaysInLine text line r s
 unfolding after
-after_keeps text line [] r s u e i = let f : r ≡ s = cc in (subst (λ z. IsPlaceOf text (place_at line z)) f i, ap (λ z. line_end (place_at line z)) (sym f))
-after_keeps text line (c ∷ path) r s u e i = after_by text line c r s (after path r) u e (λ q g. after_keeps text line path r q u g i)
-
-front_by : (text : List ℕ) (line : ℕ) (path : List Container) (r q : Rest) (o : Option Rest) → IsUtf8 text → after path r ≡ o → IsPlaceOf text (place_at line r)
-    → IsPlaceOf text (place_at line q) × (line_end (place_at line q) ≡ line_end (place_at line r))
-    → IsPlaceOf text (place_at line (or_shorter o q)) × (line_end (place_at line (or_shorter o q)) ≡ line_end (place_at line r))
-front_by text line path r q None u e i f = f
-front_by text line path r q (Some s) u e i f = after_keeps text line path r s u e i
+after_keeps text line [] r s u e i = let f : r ≡ s = cc in subst (StaysInLine text line r) f (i, refl)
+after_keeps text line (c ∷ path) r s u e i = option_and_then_some (prefix c) (after path r) s e (λ q g k.
+    let before = after_keeps text line path r q u g i in
+    let h = prefix_keeps text line c q s u k before.0 in
+    (h.0, h.1 ∙ before.1))
 
 -- The place at the front of a line is one of the text, in the same line.
 pub front_keeps : (text : List ℕ) (line : ℕ) (path : List Container) (r : Rest) → IsUtf8 text → IsPlaceOf text (place_at line r)
-    → IsPlaceOf text (place_at line (front path r)) × (line_end (place_at line (front path r)) ≡ line_end (place_at line r))
+    → StaysInLine text line r (front path r)
 unfolding front
 front_keeps text line [] r u i = (i, refl)
-front_keeps text line (c ∷ path) r u i = front_by text line (c ∷ path) r (front path r) (after (c ∷ path) r) u refl i (front_keeps text line path r u i)
+front_keeps text line (c ∷ path) r u i = by (after (c ∷ path) r) refl (front_keeps text line path r u i)
+  where
+    by : (o : Option Rest) → after (c ∷ path) r ≡ o → StaysInLine text line r (front path r) → StaysInLine text line r (or_shorter o (front path r))
+    by None e f = f
+    by (Some s) e f = after_keeps text line (c ∷ path) r s u e i
 
 -- The place after the indentation of the front is one of the text, in the same line.
 pub text_place : (text : List ℕ) (s : ℕ) (path : List Container) → IsUtf8 text → IsCharBoundary text s
@@ -115,12 +93,11 @@ text_place text s path u b =
 
 -- A block quote marker takes a byte.
 pub quote_less : (r s : Rest) (o : Option Rest) → past_quote r ≡ o → option_map (after_columns 1) o ≡ Some s → length s.left < length r.left
-quote_less r s None q e = absurd (none-some s e)
-quote_less r s (Some t) q e =
-    let f : after_columns 1 t ≡ s = cc in
-    let l = ap (λ (z : Rest). length z.left) f in
-    let a = columns_shorter 1 t in
-    let b = quote_shorter r t q in
+quote_less r s o q e =
+    let m = some_mapped (after_columns 1) o s e in
+    let l = ap (λ (z : Rest). length z.left) m.2 in
+    let a = columns_shorter 1 m.0 in
+    let b = quote_shorter r m.0 (q ∙ m.1) in
     omega arith
 
 -- The prefix of a block quote takes a byte.
@@ -166,86 +143,63 @@ pub line_start_end : (text : List ℕ) (start : ℕ) → line_end (place_at star
 line_start_end text start = let z : start + 0 ≡ start = omega arith in ap (λ k. k + line_len (drop start text)) z
 
 -- If a list item begins here, its marker follows the indentation.
-item_by : (t : Bool) (r : Rest) (item : (ℕ × ℕ × ℕ) × Rest)
-    → (if t then item_of (indent r) (all_taken r) else None) ≡ Some item → item_of (indent r) (all_taken r) ≡ Some item
-item_by true r item h = h
-item_by false r item h = cc
-
 item_marked : (r : Rest) (item : (ℕ × ℕ × ℕ) × Rest) → item_at r ≡ Some item → IsMarked (all_taken r) item.1
 unfolding item_at
-item_marked r item h = item-marked (indent r) (all_taken r) item (item_by (nat_lt (indent r) 4) r item h)
+item_marked r item h = item-marked (indent r) (all_taken r) item (some_if (nat_lt (indent r) 4) (item_of (indent r) (all_taken r)) item h).1
 
--- The place after a list item's marker is one of the text, in the same line.
-pub item_keeps : (text : List ℕ) (line : ℕ) (r : Rest) (item : (ℕ × ℕ × ℕ) × Rest) → IsUtf8 text → item_at r ≡ Some item → IsPlaceOf text (place_at line r)
-    → IsPlaceOf text (place_at line item.1) × (line_end (place_at line item.1) ≡ line_end (place_at line r))
-item_keeps text line r item u h i =
-    let m = item_marked r item h in (
-      marked-keeps text line (all_taken r) item.1 u m (all_keep text line r u i),
-      marked-line_end line (all_taken r) item.1 m ∙ columns_line_end (indent r) (place_at line r),
-    )
+-- The place after columns and a marker is one of the text, in the same line, with fewer bytes left.
+marked_stays : (text : List ℕ) (line n : ℕ) (r s : Rest)
+    → IsUtf8 text → IsMarked (after_columns n r) s → IsPlaceOf text (place_at line r) → StaysInLine text line r s
+marked_stays text line n r s u m i =
+    let f = columns_stay text line n r u i in
+    (marked-keeps text line (after_columns n r) s u m f.0, marked-line_end line (after_columns n r) s m ∙ f.1)
 
-marked_shorter : (r s : Rest) → IsMarked r s → length s.left < length r.left
+pub marked_shorter : (r s : Rest) → IsMarked r s → length s.left < length r.left
 marked_shorter r s m =
     let q : Rest = past_bytes m.width r in
     let b = columns_shorter m.first q in
     let c = columns_shorter m.further (after_columns m.first q) in
     let p = m.within in
     let n = prefix_len-le-length is_content r.left in
-    let w : m.width ≤ length r.left = omega arith in
     let some = m.some in
     let l : length q.left ≡ length r.left - m.width = length-drop m.width r.left in
     let e : length s.left ≡ length (after_columns m.further (after_columns m.first q)).left = ap (λ (z : Rest). length z.left) m.same in
     omega arith
 
+marked_less : (n : ℕ) (r s : Rest) → IsMarked (after_columns n r) s → length s.left < length r.left
+marked_less n r s m = omega (arith, marked_shorter (after_columns n r) s m, columns_shorter n r)
+
+-- The place after a list item's marker is one of the text, in the same line.
+pub item_keeps : (text : List ℕ) (line : ℕ) (r : Rest) (item : (ℕ × ℕ × ℕ) × Rest) → IsUtf8 text → item_at r ≡ Some item → IsPlaceOf text (place_at line r)
+    → StaysInLine text line r item.1
+item_keeps text line r item u h i = marked_stays text line (indent r) r item.1 u (item_marked r item h) i
+
 pub item_shorter : (r : Rest) (item : (ℕ × ℕ × ℕ) × Rest) → item_at r ≡ Some item → length item.1.left < length r.left
-item_shorter r item h =
-    let s = marked_shorter (all_taken r) item.1 (item_marked r item h) in
-    let a = columns_shorter (indent r) r in
-    omega arith
+item_shorter r item h = marked_less (indent r) r item.1 (item_marked r item h)
 
 -- If a definition begins here, its marker follows the indentation.
-definition_by : (t : Bool) (r : Rest) (definition : ℕ × Rest)
-    → (if t then definition_of (indent r) (all_taken r) else None) ≡ Some definition → definition_of (indent r) (all_taken r) ≡ Some definition
-definition_by true r definition h = h
-definition_by false r definition h = cc
-
 marked_definition : (r : Rest) (definition : ℕ × Rest) → definition_marker_at r ≡ Some definition → IsMarked (all_taken r) definition.1
 unfolding definition_marker_at
-marked_definition r definition h = definition-marked (indent r) (all_taken r) definition (definition_by (nat_lt (indent r) 4) r definition h)
+marked_definition r definition h =
+    definition-marked (indent r) (all_taken r) definition (some_if (nat_lt (indent r) 4) (definition_of (indent r) (all_taken r)) definition h).1
 
 -- The place after a definition's marker is one of the text, in the same line.
 pub definition_keeps : (text : List ℕ) (line : ℕ) (r : Rest) (definition : ℕ × Rest)
-    → IsUtf8 text → definition_marker_at r ≡ Some definition → IsPlaceOf text (place_at line r)
-    → IsPlaceOf text (place_at line definition.1) × (line_end (place_at line definition.1) ≡ line_end (place_at line r))
-definition_keeps text line r definition u h i =
-    let m = marked_definition r definition h in (
-      marked-keeps text line (all_taken r) definition.1 u m (all_keep text line r u i),
-      marked-line_end line (all_taken r) definition.1 m ∙ columns_line_end (indent r) (place_at line r),
-    )
+    → IsUtf8 text → definition_marker_at r ≡ Some definition → IsPlaceOf text (place_at line r) → StaysInLine text line r definition.1
+definition_keeps text line r definition u h i = marked_stays text line (indent r) r definition.1 u (marked_definition r definition h) i
 
 pub definition_shorter : (r : Rest) (definition : ℕ × Rest) → definition_marker_at r ≡ Some definition → length definition.1.left < length r.left
-definition_shorter r definition h =
-    let s = marked_shorter (all_taken r) definition.1 (marked_definition r definition h) in
-    let a = columns_shorter (indent r) r in
-    omega arith
+definition_shorter r definition h = marked_less (indent r) r definition.1 (marked_definition r definition h)
+
+pub task_shorter : (r : Rest) (task : Bool × Rest) → task_of r ≡ Some task → length task.1.left < length r.left
+task_shorter r task h = marked_less 3 r task.1 (task-marked r task h)
 
 -- The place after a task list item marker is one of the text, in the same line, with no more bytes left than before.
 pub task_keeps : (text : List ℕ) (line : ℕ) (r : Rest) (task : Bool × Rest) → IsUtf8 text → task_of r ≡ Some task → IsPlaceOf text (place_at line r)
     → IsPlaceOf text (place_at line task.1) × (line_end (place_at line task.1) ≡ line_end (place_at line r)) × (length task.1.left ≤ length r.left)
 task_keeps text line r task u h i =
-    let m = task-marked r task h in
-    let s = marked_shorter (after_columns 3 r) task.1 m in
-    let a = columns_shorter 3 r in (
-      marked-keeps text line (after_columns 3 r) task.1 u m (columns_keep text 3 (place_at line r) u i),
-      marked-line_end line (after_columns 3 r) task.1 m ∙ columns_line_end 3 (place_at line r),
-      omega arith,
-    )
-
-pub task_shorter : (r : Rest) (task : Bool × Rest) → task_of r ≡ Some task → length task.1.left < length r.left
-task_shorter r task h =
-    let s = marked_shorter (after_columns 3 r) task.1 (task-marked r task h) in
-    let a = columns_shorter 3 r in
-    omega arith
+    let f = marked_stays text line 3 r task.1 u (task-marked r task h) i in
+    (f.0, f.1, omega (arith, task_shorter r task h))
 
 pub task_found : (o : Option (Bool × Rest)) (found : Option Bool) (checked : Bool) (old new : Rest)
     → found ≡ Some checked → MatchOption o ((found ≡ None) × (new ≡ old)) (λ task. (found ≡ Some task.0) × (new ≡ task.1)) → o ≡ Some (checked, new)
@@ -263,8 +217,7 @@ following_by text line r None h u i = (i, refl, omega arith)
 following_by text line r (Some task) h u i = task_keeps text line r task u (h task refl) i
 
 pub option_on : (t : Bool) (o : Option (Bool × Rest)) (task : Bool × Rest) → (if t then o else None) ≡ Some task → o ≡ Some task
-option_on true o task h = h
-option_on false o task h = cc
+option_on t o task h = (some_if t o task h).1
 
 pub past_keeps : (text : List ℕ) (options : Options) (line : ℕ) (r : Rest) → IsUtf8 text → IsPlaceOf text (place_at line r)
     → (
@@ -302,7 +255,4 @@ read_end text start r i = ap (λ bs. start + r.taken + line_len bs) (sym i.left)
 
 -- No bytes are past the end of a text.
 pub ends_past : (text : List ℕ) (n : ℕ) → length text ≤ n → drop n text ≡ []
-ends_past [] zero h = refl
-ends_past [] (suc n) h = refl
-ends_past (b ∷ bs) zero h = absurd (omega arith)
-ends_past (b ∷ bs) (suc n) h = ends_past bs n (omega arith)
+ends_past text n h = drop_all n text h

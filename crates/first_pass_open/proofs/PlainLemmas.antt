@@ -1,20 +1,16 @@
 -- If a plain or an inert byte is next (`is_plain`, `is_inert`), there is no indentation. No list item or block quote
 -- begins there.
-use Rattle.std.proofs.Common.{◌≡◌, min, true, false, Bool, List, [], ◌∷◌, not, Option, Some, None, is_some, refl, sym, ap, ◌∙◌, if◌then◌else◌}
-use Rattle.std.specs.Option.{option_and_then}
-use Rattle.std.proofs.lemmas.Bool.{not-true}
-use Rattle.std.proofs.lemmas.Option.{none-some}
-use Rattle.first_pass_lines.proofs.OptionFacts.{none_is}
-use Rattle.first_pass_items.specs.declared.item.BlockQuoteKind.{BlockQuoteKind}
-use Rattle.first_pass_lines.specs.Rest.{Rest, next_column, indent, after_columns}
+use Rattle.std.proofs.Common.{◌≡◌, min, true, Bool, List, [], ◌∷◌, not, Option, Some, None, is_some, refl, sym, ap, ◌∙◌, if◌then◌else◌}
+use Rattle.std.proofs.Common.{option_and_then}
+use Rattle.first_pass_grammar.proofs.Common.{not-true, cond_some, none-some, none_is, BlockQuoteKind, Rest, next_column, indent, after_columns}
+use Rattle.first_pass_grammar.proofs.Common.{begins_plain, inert_indent, after, has_columns, or_shorter, prefix, all_taken}
 use Rattle.first_pass_lines.proofs.Columns.{all-none}
-use Rattle.first_pass_lines.specs.Plain.{begins_plain, begins_inert}
+use Rattle.first_pass_lines.specs.Plain.{begins_inert}
 use Rattle.first_pass_scan.proofs.ColumnFacts.{no_column}
-use Rattle.first_pass_scan.proofs.PlainFacts.{plain_after, inert_indent, inert_after, inert_quote, inert_item}
+use Rattle.first_pass_scan.proofs.PlainFacts.{plain_after, inert_after, inert_quote, inert_item}
 use Rattle.first_pass_grammar.specs.declared.kind.Container.{Container}
 use Rattle.first_pass_grammar.specs.declared.kind.Container.TheVariants.{BlockQuote, ListItem, FootnoteDefinition, Definition}
-use Rattle.first_pass_grammar.specs.Containers.{after, has_columns, or_shorter, prefix}
-use Rattle.first_pass_grammar.specs.Kinds.{all_taken, item_at}
+use Rattle.first_pass_grammar.specs.Kinds.{item_at}
 
 pub plain_all : (r : Rest) → r.owed ≡ 0 → begins_plain r.left ≡ true → all_taken r ≡ r
 plain_all r o h = plain_after (indent r) r o h
@@ -44,8 +40,7 @@ same_some : (r s q : Rest) → s ≡ r → Some s ≡ Some q → q ≡ r
 same_some r s q e is = sym (ap (λ o. or_shorter o r) is) ∙ e
 
 taken_if : (t : Bool) (r s q : Rest) → s ≡ r → (if t then Some s else None) ≡ Some q → q ≡ r
-taken_if true r s q e is = same_some r s q e is
-taken_if false r s q e is = absurd (none-some q is)
+taken_if t r s q e is = sym (cond_some t s q is).1 ∙ e
 
 -- If an inert byte is next and the line continues a container, nothing is taken.
 inert_next : (c : Container) (r q : Rest) → r.owed ≡ 0 → begins_inert r.left ≡ true → prefix c r ≡ Some q → q ≡ r

@@ -1,61 +1,19 @@
 -- A line of which only its end is left continues every open node that is no block quote.
-use Rattle.std.proofs.Common.{◌≡◌, ℕ, zero, suc, ◌+◌, ◌-◌, ◌<◌, ◌≤◌, nat_le, ◌||◌, Bool, true, false, List, [], ◌∷◌, ◌++◌, length, get_or, take, reverse}
-use Rattle.std.proofs.Common.{Option, Some, None, refl, sym, ap, subst, ◌∙◌, arith}
-use Rattle.std.specs.Option.{option_map}
-use Rattle.std.specs.Prelude.{slice_get}
-use Rattle.std.proofs.lemmas.Bool.Decides.{nat_tests}
-use Rattle.std.proofs.lemmas.List.{take_more, take-append-drop, get_or-reverse, length-reverse}
-use Rattle.first_pass_items.specs.declared.item.Item.{Item}
-use Rattle.first_pass_items.specs.declared.option_set.Options.{Options}
-use Rattle.first_pass_tree.specs.declared.tree_index.TreeIndex.{TreeIndex}
-use Rattle.first_pass_tree.specs.Forest.{Forest, at_depth}
-use Rattle.first_pass_lines.specs.Lines.{at_line_end}
-use Rattle.first_pass_lines.specs.Rest.{Rest, column_of, column_of_byte, next_column, indent}
-use Rattle.first_pass_lines.proofs.Columns.{after-none}
-use Rattle.first_pass_tokens.specs.TreeTokens.{chained, leaves}
-use Rattle.first_pass_tokens.proofs.ChainLemmas.{chained-spine, chained-nodes}
+use Rattle.std.proofs.Common.{◌≡◌, ℕ, zero, suc, ◌+◌, ◌-◌, ◌<◌, ◌≤◌, ◌||◌, false, List, [], ◌∷◌, ◌++◌, length, get_or, take, reverse}
+use Rattle.std.proofs.Common.{Option, Some, None, refl, sym, ap, subst, ◌∙◌, arith, option_map, slice_get, take-append-drop}
+use Rattle.first_pass_grammar.proofs.Common.{or_parts, take_more, get_or-reverse, length-reverse, Item, Options, TreeIndex, Forest, at_depth}
+use Rattle.first_pass_grammar.proofs.Common.{Rest, chained, leaves, chained-spine}
+use Rattle.first_pass_grammar.proofs.Common.{chained-nodes, is_quote, after}
 use Rattle.first_pass_grammar.specs.declared.kind.Container.{Container}
-use Rattle.first_pass_grammar.specs.declared.kind.Container.TheVariants.{BlockQuote, ListItem, FootnoteDefinition, Definition}
-use Rattle.first_pass_grammar.specs.Containers.{has_columns, is_quote, prefix, after}
 use Rattle.first_pass_open.specs.Path.{container_of, container_at, with_container, path_in, path_of, outer, inner, is_quote_node, has_quote, has_quote_after}
-use Rattle.first_pass_open.proofs.PathLemmas.{AreIn, path_in-append, or_true, item_prefix, same_prefix, definition_prefix}
+use Rattle.first_pass_open.proofs.PathLemmas.{AreIn, path_in-append, IsOver, passed}
 use Rattle.first_pass_open.proofs.FrontLemmas.{after_step, container_is, root}
 
-byte_none : (r : Rest) (bs : List ℕ) → at_line_end bs ≡ true → column_of_byte r bs ≡ None
-byte_none r [] h = refl
-byte_none r (b ∷ bs) h = grind (arith, nat_tests, h)
-
--- only the end of the line or of the text is left, and no column is owed
-pub record IsOver (r : Rest) : Type 0 where
-  pub none : r.owed ≡ 0
-  pub ends : at_line_end r.left ≡ true
-
-column_none : (r : Rest) → IsOver r → next_column r ≡ None
-column_none r o = ap (λ k. column_of k r) o.none ∙ byte_none r r.left o.ends
-
-columns_passed : (n : ℕ) (r : Rest) → IsOver r → prefix (ListItem n) r ≡ Some r
-columns_passed n r o =
-    let e = after-none n r (column_none r o) in
-    let h : has_columns n r ≡ true = ap (λ (q : Rest). nat_le n (indent r) || at_line_end q.left) e ∙ ap (λ t. nat_le n (indent r) || t) o.ends
-    ∙ or_true (nat_le n (indent r)) in
-    item_prefix n r h ∙ ap (λ q. Some q) e
-
--- Such a line continues a container that is no block quote, and nothing is taken.
-passed : (c : Container) (r : Rest) → IsOver r → is_quote c ≡ false → prefix c r ≡ Some r
-passed (BlockQuote kind) r o h = absurd cc
-passed (ListItem n) r o h = columns_passed n r o
-passed (FootnoteDefinition n) r o h = same_prefix n r ∙ columns_passed n r o
-passed (Definition n) r o h = definition_prefix n r ∙ columns_passed n r o
-
-both_none : (a b : Bool) → (a || b) ≡ false → (a ≡ false) × (b ≡ false)
-both_none true b h = absurd cc
-both_none false b h = (refl, h)
-
--- If such a line is left after a path, it continues also containers inside the path, if none is a block quote.
+-- If a line that is over is left after a path, it continues also containers inside the path, if none is a block quote.
 path_passed : (p path : List Container) (r s : Rest) → after path r ≡ Some s → IsOver s → has_quote p ≡ false → after (p ++ path) r ≡ Some s
 path_passed [] path r s taken o h = taken
 path_passed (c ∷ p) path r s taken o h =
-    let none = both_none (is_quote c) (has_quote p) h in
+    let none = or_parts (is_quote c) (has_quote p) h in
     after_step (Some c) (p ++ path) r s (path_passed p path r s taken o none.1) ∙ passed c s o none.0
 
 with_append : (o : Option Container) (p q : List Container) → with_container o (p ++ q) ≡ with_container o p ++ q
@@ -71,14 +29,14 @@ path_in-both options ns (ix ∷ a) b =
 quote_append : (p q : List Container) → has_quote p ≡ false → has_quote q ≡ false → has_quote (p ++ q) ≡ false
 quote_append [] q h k = k
 quote_append (c ∷ p) q h k =
-    let none = both_none (is_quote c) (has_quote p) h in
+    let none = or_parts (is_quote c) (has_quote p) h in
     ap (λ t. t || has_quote (p ++ q)) none.0 ∙ quote_append p q none.1 k
 
 -- If no block quote is among some open nodes, none is among fewer of them.
 with_fewer : (o : Option Container) (p q : List Container) → has_quote (with_container o p) ≡ false → (has_quote p ≡ false → has_quote q ≡ false)
     → has_quote (with_container o q) ≡ false
 with_fewer None p q h k = k h
-with_fewer (Some c) p q h k = let none = both_none (is_quote c) (has_quote p) h in ap (λ t. t || has_quote q) none.0 ∙ k none.1
+with_fewer (Some c) p q h k = let none = or_parts (is_quote c) (has_quote p) h in ap (λ t. t || has_quote q) none.0 ∙ k none.1
 
 fewer : (options : Options) (ns : List (ℕ × Item)) (spine : List TreeIndex) (k n : ℕ) → k ≤ n → has_quote (path_in options ns (take n spine)) ≡ false
     → has_quote (path_in options ns (take k spine)) ≡ false

@@ -1,34 +1,27 @@
 -- Nodes that differ only in what changes when nodes are closed and blank lines are noted: whether a list is loose,
 -- the indent of an item, and the meaning of a paragraph.
-use Rattle.std.proofs.Common.{◌≡◌, ℕ, zero, suc, ◌+◌, ◌==◌, Bool, true, false, if◌then◌else◌, List, [], ◌∷◌, nat_lt, slice_index, slice_get}
-use Rattle.std.proofs.Common.{Option, Some, None, is_some, refl, sym, subst, ◌∙◌}
-use Rattle.std.specs.Int.RustNames.{bit_and}
-use Rattle.std.specs.Option.{option_and_then}
-use Rattle.std.proofs.lemmas.Bool.{cond_both}
-use Rattle.std.proofs.lemmas.Option.{same_Some}
-use Rattle.first_pass_items.specs.declared.item.Item.{Item}
-use Rattle.first_pass_items.specs.declared.item.ItemBody.{ItemBody}
-use Rattle.first_pass_items.specs.declared.item.ItemBody.TheVariants.{BlockQuote as BlockQuoteBody, List as ListBody, ListItem as ListItemBody, Paragraph}
-use Rattle.first_pass_items.specs.declared.item.ItemBody.TheVariants.{DefinitionList, DefinitionListDefinition}
-use Rattle.first_pass_tree.specs.declared.tree_index.TreeIndex.{TreeIndex}
-use Rattle.first_pass_tree.specs.Forest.{Forest, depths, modify, with_body_at, body_at}
-use Rattle.first_pass_tree.specs.Tight.{tight_body, tightened, tight_run, tight_at, tight_items}
-use Rattle.first_pass_grammar.specs.Derivation.{list_flags}
-use Rattle.first_pass_grammar.specs.Counting.{is_row, is_cell}
-use Rattle.first_pass_grammar.specs.Names.{Names, Index, index_of}
-use Rattle.first_pass_grammar.specs.WholeTables.{Mark, shown, may_be_title}
-use Rattle.first_pass_lists.specs.Closing.{is_list, is_item, top_body, loosened_by, loosened_at, popped_by, gap_tree, gap_marked, loosened_top, list_kept}
-use Rattle.first_pass_lists.specs.Closing.{item_without_indent, definition_without_indent, blank_read_by, blank_read}
+use Rattle.std.proofs.Common.{◌≡◌, ℕ, zero, suc, ◌+◌, ◌==◌, Bool, true, false, if◌then◌else◌, List, [], ◌∷◌, nat_lt, slice_index, slice_get, Option, Some}
+use Rattle.std.proofs.Common.{None, is_some, refl, sym, ap, subst, ◌∙◌, bit_and, option_and_then}
+use Rattle.first_pass_grammar.proofs.Common.{cond_both, same_Some, Item, ItemBody, Paragraph, DefinitionList, DefinitionListDefinition, DefinitionListTitle}
+use Rattle.first_pass_grammar.proofs.Common.{MaybeDefinitionListTitle, TreeIndex, body_of, Forest, depths, modify, with_body_at, body_at, item_at, pushed}
+use Rattle.first_pass_grammar.proofs.Common.{tight_body, tightened, tight_run, tight_at, tight_items, list_flags, is_row, is_cell, Names, index_of, Mark}
+use Rattle.first_pass_grammar.proofs.Common.{shown, may_be_title}
+use Rattle.first_pass_items.specs.declared.item.ItemBody.TheVariants.{List as ListBody, ListItem as ListItemBody}
+use Rattle.first_pass_tree.specs.Forest.{wrapped}
+use Rattle.first_pass_grammar.specs.Names.{Index}
+use Rattle.first_pass_lists.specs.Closing.{is_list, is_item, is_definition_list, top_body, loosened_by, loosened_at, popped_by, gap_tree, gap_marked}
+use Rattle.first_pass_lists.specs.Closing.{item_without_indent, definition_without_indent, blank_read_by, blank_read, definitions_by, definitions_at}
+use Rattle.first_pass_lists.specs.Closing.{loosened_top, list_kept, definitions_opened, with_current}
 use Rattle.first_pass_lists.specs.declared.state.PassState.{PassState}
 use Rattle.first_pass_order.proofs.OrderLemmas.{flags_of}
 
--- whether a node is a list, and whether it is an item
-abbrev pub class_of : ItemBody → Bool × Bool
-class_of b = (is_list (Some b), is_item (Some b))
+-- whether a node is a list, an item or a definition list
+abbrev pub class_of : Option ItemBody → Bool × Bool × Bool
+class_of b = (is_list b, is_item b, is_definition_list b)
 
 -- the properties of a body for tables, order, nesting and names
-abbrev pub features : ItemBody → Bool × Bool × (Bool × Bool × Bool × Bool) × (Bool × Bool) × Option Index × (Names → ℕ → ℕ → ℕ → List Mark)
-features b = (is_row b, is_cell b, flags_of b, class_of b, index_of b, λ names depth start end. shown names depth start end b)
+abbrev pub features : ItemBody → Bool × Bool × (Bool × Bool × Bool × Bool) × (Bool × Bool × Bool) × Option Index × (Names → ℕ → ℕ → ℕ → List Mark)
+features b = (is_row b, is_cell b, flags_of b, class_of (Some b), index_of b, λ names depth start end. shown names depth start end b)
 
 -- another body with the same properties; it is a text that a definition list may take in only if the first one is
 abbrev pub IsBodyLike : ItemBody → ItemBody → Type 0
@@ -53,9 +46,6 @@ pub alike_itself : (nodes : List (ℕ × Item)) → AreAlike nodes nodes
 alike_itself [] = NoNodes
 alike_itself (n ∷ nodes) = OneMore n n nodes nodes (alike_node n) (alike_itself nodes)
 
-alike_head : (nodes : List (ℕ × Item)) (d : ℕ) (x y : Item) → IsAlike (d, x) (d, y) → AreAlike ((d, x) ∷ nodes) ((d, y) ∷ nodes)
-alike_head nodes d x y h = OneMore (d, x) (d, y) nodes nodes h (alike_itself nodes)
-
 alike_tail : (n : ℕ × Item) (old new : List (ℕ × Item)) → AreAlike old new → AreAlike (n ∷ old) (n ∷ new)
 alike_tail n old new h = OneMore n n old new (alike_node n) h
 
@@ -65,8 +55,8 @@ pub alike_body : (nodes : List (ℕ × Item)) (i : ℕ) (a b : ItemBody) → bod
 alike_body [] i a b is like = NoNodes
 alike_body (n ∷ nodes) zero a b is like =
     let e : n.1.body ≡ a = same_Some n.1.body a is in
-    alike_head nodes n.0 n.1 (record { start = n.1.start; «end» = n.1.«end»; body = b })
-    (record { depth = refl; start = refl; «end» = refl; body = subst (λ c. IsBodyLike c b) (sym e) like })
+    OneMore n (n.0, record { start = n.1.start; «end» = n.1.«end»; body = b }) nodes nodes
+    (record { depth = refl; start = refl; «end» = refl; body = subst (λ c. IsBodyLike c b) (sym e) like }) (alike_itself nodes)
 alike_body (n ∷ nodes) (suc i) a b is like = alike_tail n nodes _ (alike_body nodes i a b is like)
 
 -- the same end at a place of both; then one after the other
@@ -100,15 +90,13 @@ node_alike : (t : Bool) (d : ℕ) (x : Item)
 node_alike true d x = record { depth = refl; start = refl; «end» = refl; body = tight_told x.body }
 node_alike false d x = alike_node (d, x)
 
-run_by : (t : Bool) (depth : ℕ) (n : ℕ × Item) (nodes : List (ℕ × Item)) → AreAlike nodes (tight_run depth nodes)
-    → AreAlike (n ∷ nodes) (if t then tightened (depth + 2) n ∷ tight_run depth nodes else n ∷ nodes)
-run_by true depth n nodes h = OneMore n (tightened (depth + 2) n) nodes (tight_run depth nodes) (node_alike (n.0 == depth + 2) n.0 n.1) h
-run_by false depth n nodes h = alike_itself (n ∷ nodes)
-
 alike_run : (depth : ℕ) (nodes : List (ℕ × Item)) → AreAlike nodes (tight_run depth nodes)
 unfolding tight_run
 alike_run depth [] = NoNodes
-alike_run depth (n ∷ nodes) = run_by (nat_lt depth n.0) depth n nodes (alike_run depth nodes)
+alike_run depth (n ∷ nodes) =
+    cond_both (nat_lt depth n.0) (tightened (depth + 2) n ∷ tight_run depth nodes) (n ∷ nodes) (AreAlike (n ∷ nodes))
+    (λ b. OneMore n (tightened (depth + 2) n) nodes (tight_run depth nodes) (node_alike (n.0 == depth + 2) n.0 n.1) (alike_run depth nodes))
+    (λ b. alike_itself (n ∷ nodes))
 
 alike_tight : (depth from : ℕ) (nodes : List (ℕ × Item)) → AreAlike nodes (tight_at depth from nodes)
 unfolding tight_at
@@ -128,6 +116,12 @@ like_itself f = record { nodes = alike_itself f.nodes; spine = refl; current = r
 pub like_body : (f : Forest Item) (ix : TreeIndex) (a b : ItemBody) → body_at f.nodes ix.0 ≡ Some a → IsBodyLike a b → LooksAlike f (with_body_at f ix b)
 like_body f ix a b is like = record { nodes = alike_body f.nodes ix.0 a b is like; spine = refl; current = refl }
 
+-- the current node, a paragraph, becomes a possible title
+pub current_like : (f : Forest Item) (o : Option TreeIndex) → option_and_then (λ ix. body_at f.nodes ix.0) o ≡ Some Paragraph
+    → LooksAlike f (with_current f MaybeDefinitionListTitle o)
+current_like f None is = like_itself f
+current_like f (Some c) is = like_body f c Paragraph MaybeDefinitionListTitle is (refl, λ h. refl)
+
 like_tight : (t : Bool) (f : Forest Item) (ix : TreeIndex) → LooksAlike f (if t then tight_items f ix else f)
 like_tight true f ix = record { nodes = alike_tight (slice_index (depths f.nodes) ix.0) (ix.0 + 1) f.nodes; spine = refl; current = refl }
 like_tight false f ix = like_itself f
@@ -135,18 +129,14 @@ like_tight false f ix = like_itself f
 pub like_popped : (r : PassState) (f : Forest Item) (ix : TreeIndex) (b : Option ItemBody) → LooksAlike f (popped_by r f ix b).tree
 like_popped r f ix (Some (ListBody flags byte number)) = like_tight (bit_and flags.0 1 == 1) f ix
 like_popped r f ix (Some (DefinitionList flags)) = like_tight (bit_and flags.0 1 == 1) f ix
-like_popped r f ix (Some (ListItemBody columns)) = like_itself f
-like_popped r f ix (Some (DefinitionListDefinition columns)) = like_itself f
-like_popped r f ix None = like_itself f
-like_popped r f ix (Some b) = like_itself f
+like_popped r f ix b = like_itself f
 
 -- a list becomes loose
 loosened_by_like : (f : Forest Item) (ix : TreeIndex) (b : Option ItemBody) → body_at f.nodes ix.0 ≡ b → LooksAlike f (loosened_by f ix b)
 loosened_by_like f ix (Some (ListBody flags byte number)) is =
     like_body f ix (ListBody flags byte number) (ListBody (list_flags false) byte number) is (refl, λ h. h)
 loosened_by_like f ix (Some (DefinitionList flags)) is = like_body f ix (DefinitionList flags) (DefinitionList (list_flags false)) is (refl, λ h. h)
-loosened_by_like f ix None is = like_itself f
-loosened_by_like f ix (Some b) is = like_itself f
+loosened_by_like f ix b is = like_itself f
 
 pub like_loosened : (f : Forest Item) (ix : TreeIndex) → LooksAlike f (loosened_at f ix)
 like_loosened f ix = loosened_by_like f ix (body_at f.nodes ix.0) refl
@@ -156,17 +146,20 @@ gap_like f [] = like_itself f
 gap_like f (ix ∷ []) = like_itself f
 gap_like f (ix ∷ outer ∷ rest) = like_loosened f outer
 
+like_if : (t : Bool) (r : PassState) (f : Forest Item) → LooksAlike r.tree f
+    → LooksAlike r.tree (if t then record r { tree = f; blank = false } else r).tree
+like_if true r f like = like
+like_if false r f like = like_itself r.tree
+
 pub like_noted : (r : PassState) → LooksAlike r.tree (gap_marked r).tree
-like_noted r = cond_both r.blank (record r { tree = gap_tree r.tree r.tree.spine; blank = false }) r (λ (q : PassState). LooksAlike r.tree q.tree)
-    (λ b. gap_like r.tree r.tree.spine) (λ b. like_itself r.tree)
+like_noted r = like_if r.blank r (gap_tree r.tree r.tree.spine) (gap_like r.tree r.tree.spine)
 
 top_like : (f : Forest Item) (s : List TreeIndex) → LooksAlike f (loosened_top f s)
 top_like f [] = like_itself f
 top_like f (ix ∷ rest) = like_loosened f ix
 
 pub like_kept : (r : PassState) → LooksAlike r.tree (list_kept r).tree
-like_kept r = cond_both r.blank (record r { tree = loosened_top r.tree r.tree.spine; blank = false }) r (λ (q : PassState). LooksAlike r.tree q.tree)
-    (λ b. top_like r.tree r.tree.spine) (λ b. like_itself r.tree)
+like_kept r = like_if r.blank r (loosened_top r.tree r.tree.spine) (top_like r.tree r.tree.spine)
 
 -- a blank line
 item_without_indent_like : (f : Forest Item) (s : List TreeIndex) (columns : ℕ)
@@ -182,16 +175,41 @@ definition_without_indent_like f (ix ∷ rest) columns is =
     like_body f ix (DefinitionListDefinition columns) (DefinitionListDefinition 0) is (refl, λ h. h)
 
 blank_by_like : (r : PassState) (b : Option ItemBody) → top_body r.tree ≡ b → LooksAlike r.tree (blank_read_by r b).tree
-blank_by_like r (Some (BlockQuoteBody kind)) is = like_itself r.tree
 blank_by_like r (Some (ListItemBody columns)) is =
     cond_both (is_some r.begin_list_item) (item_without_indent r.tree r.tree.spine) r.tree (LooksAlike r.tree)
     (λ b. item_without_indent_like r.tree r.tree.spine columns is) (λ b. like_itself r.tree)
 blank_by_like r (Some (DefinitionListDefinition columns)) is =
     cond_both (is_some r.begin_list_item) (definition_without_indent r.tree r.tree.spine) r.tree (LooksAlike r.tree)
     (λ b. definition_without_indent_like r.tree r.tree.spine columns is) (λ b. like_itself r.tree)
-blank_by_like r None is = like_itself r.tree
-blank_by_like r (Some b) is = like_itself r.tree
+blank_by_like r b is = like_itself r.tree
 
 pub like_blank : (r : PassState) → LooksAlike r.tree (blank_read r).tree
 unfolding blank_read
 like_blank r = blank_by_like r (top_body r.tree) refl
+
+-- The last child, a paragraph, becomes the title of an open definition list.
+abbrev pub titled : Forest Item → TreeIndex → Item → Forest Item
+titled f c y = pushed (wrapped (with_body_at f c (DefinitionList (list_flags true))) c
+    (record { start = y.start; «end» = y.«end»; body = DefinitionListTitle })) c
+
+-- What holds of the tree in which a definition is opened: it looks like the tree before, or a paragraph became a title.
+module _ (f : Forest Item) (P : Forest Item → Type 0) (like : (g : Forest Item) → LooksAlike f g → P g)
+    (title : (c : TreeIndex) (y : Item) → f.current ≡ Some c → item_at f c ≡ Some y → y.body ≡ Paragraph → P (titled f c y)) where
+  opened_by : (c : TreeIndex) (y : Item) (b : ItemBody) → f.current ≡ Some c → item_at f c ≡ Some y → y.body ≡ b
+      → P (definitions_by f c y.start y.«end» b)
+  opened_by c y MaybeDefinitionListTitle current here body =
+      like (with_body_at f c DefinitionListTitle)
+      (like_body f c MaybeDefinitionListTitle DefinitionListTitle (body_of f c y here ∙ ap (λ z. Some z) body) (refl, λ h. refl))
+  opened_by c y Paragraph current here body = title c y current here body
+  opened_by c y b current here body = like f (like_itself f)
+
+  opened_at : (c : TreeIndex) (o : Option Item) → f.current ≡ Some c → item_at f c ≡ o → P (definitions_at f c o)
+  opened_at c None current here = like f (like_itself f)
+  opened_at c (Some y) current here = opened_by c y y.body current here refl
+
+  opened_with : (o : Option TreeIndex) → f.current ≡ o → P (definitions_opened f o)
+  opened_with None current = like f (like_itself f)
+  opened_with (Some c) current = opened_at c (item_at f c) current refl
+
+  pub opened_both : P (definitions_opened f f.current)
+  opened_both = opened_with f.current refl

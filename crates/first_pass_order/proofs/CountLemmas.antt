@@ -2,39 +2,22 @@
 -- or two, with a byte for each.
 use Rattle.std.proofs.Common.{◌≡◌, ℕ, zero, suc, ◌+◌, ◌<◌, ◌≤◌, Bool, true, false, if◌then◌else◌, List, [], ◌∷◌, ◌++◌, length, slice_get, map, take, drop}
 use Rattle.std.proofs.Common.{Option, Some, None, is_some, refl, sym, ap, subst, ◌∙◌, inl, inr, arith}
-use Rattle.std.specs.Option.{option_and_then}
-use Rattle.std.proofs.lemmas.Bool.{cases_Bool}
-use Rattle.first_pass_items.specs.declared.option_set.Options.{Options}
-use Rattle.first_pass_items.specs.OptionWords.{has}
-use Rattle.first_pass_items.specs.declared.item.Item.{Item}
-use Rattle.first_pass_items.specs.declared.item.ItemBody.{ItemBody}
-use Rattle.first_pass_items.specs.declared.item.ItemBody.TheVariants.{Paragraph, DefinitionList, DefinitionListTitle, DefinitionListDefinition}
-use Rattle.first_pass_items.specs.declared.item.ItemBody.TheVariants.{MaybeDefinitionListTitle}
-use Rattle.first_pass_tree.specs.declared.tree_index.TreeIndex.{TreeIndex}
-use Rattle.first_pass_tree.specs.Forest.{Forest, body_at, item_at, modify, map_from, deeper, shallower, with_end}
-use Rattle.first_pass_tree.proofs.BodyLemmas.{body_of}
-use Rattle.first_pass_lines.specs.Lines.{blank_len}
-use Rattle.first_pass_scan.specs.Markers.{task_of}
-use Rattle.first_pass_lines.specs.Rest.{Rest}
-use Rattle.first_pass_lines.specs.Places.{Place, place_at, offset, line_end, IsPlaceOf}
-use Rattle.first_pass_lines.proofs.LineFacts.{line_len-some}
-use Rattle.first_pass_lines.proofs.PlaceFacts.{place_length}
-use Rattle.first_pass_grammar.specs.Derivation.{list_flags}
-use Rattle.first_pass_grammar.specs.Kinds.{Kind, Blank, is_blank_rest, first_kind, IsKindBy, IsKind}
-use Rattle.first_pass_grammar.specs.Openers.{task_by, task_after}
-use Rattle.first_pass_grammar.specs.Counting.{is_cell, is_row, last_cell, is_inserted_after, own, counted_nodes}
-use Rattle.first_pass_grammar.specs.Order.{GrowsBy}
+use Rattle.first_pass_grammar.proofs.Common.{cases_Bool, Options, has, Item, ItemBody, Paragraph, DefinitionList, DefinitionListTitle}
+use Rattle.first_pass_grammar.proofs.Common.{MaybeDefinitionListTitle, TreeIndex, Forest, body_at, modify, map_from, deeper, shallower, with_end, body_of}
+use Rattle.first_pass_grammar.proofs.Common.{blank_len, task_of, Rest, Place, place_at, offset, line_end, IsPlaceOf, line_len-some, place_length}
+use Rattle.first_pass_grammar.proofs.Common.{list_flags, Kind, Blank, is_blank_rest, first_kind, IsKindBy, IsKind, task_by, task_after, is_cell, is_row}
+use Rattle.first_pass_grammar.proofs.Common.{is_inserted_after, own, counted_nodes, GrowsBy, CowIndex}
+use Rattle.first_pass_grammar.specs.Counting.{last_cell}
 use Rattle.first_pass_grammar.proofs.Count.CountedNodes.{alike_first, own_first, own_ended, own_changed, own_one, own_added}
 use Rattle.first_pass_open.specs.OpenBlock.{with_child, begun_item}
 use Rattle.first_pass_open.proofs.PlaceLemmas.{option_on, task_shorter}
-use Rattle.first_pass_lists.specs.Closing.{popped_at, popped, empty_item_closed, list_finished, list_kept, begun, blank_read, footnote_begun, with_tree}
-use Rattle.first_pass_lists.specs.Closing.{current_body, current_moved, definitions_closed, definitions_left, with_current, title_begun, definitions_by}
-use Rattle.first_pass_lists.specs.Closing.{definitions_at, definitions_opened, definition_begun}
-use Rattle.first_pass_items.specs.declared.item.CowIndex.{CowIndex}
+use Rattle.first_pass_lists.specs.Closing.{popped_at, popped, empty_item_closed, list_finished, begun, blank_read, footnote_begun}
+use Rattle.first_pass_lists.specs.Closing.{current_body, current_moved, definitions_closed, definitions_left, with_current, title_begun}
+use Rattle.first_pass_lists.specs.Closing.{definitions_opened, definition_begun}
 use Rattle.first_pass_lists.specs.declared.state.PassState.{PassState}
-use Rattle.first_pass_order.proofs.AlikeNodes.{AreAlike, NoNodes, OneMore}
-use Rattle.first_pass_order.proofs.PropertyKept.{IsLeft, Property, HoldsAt, HoldsBefore, popped_at_keeps, popped_keeps, empty_item_closed_keeps, noted_keeps}
-use Rattle.first_pass_order.proofs.PropertyKept.{kept_keeps, blank_keeps, list_finished_keeps, quote_keeps, item_keeps, note_keeps}
+use Rattle.first_pass_order.proofs.AlikeNodes.{AreAlike, NoNodes, OneMore, titled, opened_both, current_like}
+use Rattle.first_pass_order.proofs.PropertyKept.{Property, HoldsAt, HoldsBefore, popped_at_keeps, popped_keeps, empty_item_closed_keeps, noted_keeps}
+use Rattle.first_pass_order.proofs.PropertyKept.{blank_keeps, list_finished_keeps, quote_keeps, item_keeps, note_keeps, definition_keeps}
 use Rattle.first_pass_open.specs.Between.{AddsBetween}
 use Rattle.first_pass_lists.proofs.NoEmptyItem.{item_opened}
 
@@ -42,25 +25,22 @@ use Rattle.first_pass_lists.proofs.NoEmptyItem.{item_opened}
 abbrev pub count : PassState → ℕ
 count r = counted_nodes r.tree.nodes
 
--- nor does moving nodes out of a closed one
-own_shallower : (cell : Option ℕ) (nodes : List (ℕ × Item)) → own cell (map shallower nodes) ≡ own cell nodes
-unfolding own
-own_shallower cell [] = refl
-own_shallower cell (n ∷ nodes) = ap (λ k. (if is_inserted_after cell n.1 then 0 else 1) + k) (own_shallower (last_cell cell n.1) nodes)
-
-own_moved : (place : ℕ) (cell : Option ℕ) (nodes : List (ℕ × Item)) → own cell (map_from shallower place nodes) ≡ own cell nodes
-own_moved zero cell nodes = own_shallower cell nodes
-own_moved (suc place) cell [] = refl
-own_moved (suc place) cell (n ∷ nodes) = own_first cell n nodes (map_from shallower place nodes) (λ after. own_moved place after nodes)
+-- nodes at other depths count the same
+pub own_from : (g : ℕ × Item → ℕ × Item) → ((n : ℕ × Item) → (g n).1 ≡ n.1) → (place : ℕ) (cell : Option ℕ) (nodes : List (ℕ × Item))
+    → own cell (map_from g place nodes) ≡ own cell nodes
+own_from g same zero cell [] = refl
+own_from g same zero cell (n ∷ nodes) =
+    alike_first cell n.0 (g n).0 n.1 (g n).1 nodes (map g nodes)
+    (record { start = ap (λ x. x.start) (same n); cell = ap (λ x. is_cell x.body) (same n); row = ap (λ x. is_row x.body) (same n) })
+    (λ after. own_from g same zero after nodes)
+own_from g same (suc place) cell [] = refl
+own_from g same (suc place) cell (n ∷ nodes) = own_first cell n nodes (map_from g place nodes) (λ after. own_from g same place after nodes)
 
 pub own_alike : (cell : Option ℕ) (old new : List (ℕ × Item)) → AreAlike old new → own cell new ≡ own cell old
 own_alike cell old new NoNodes = refl
 own_alike cell old new (OneMore n m xs ys a h) =
     alike_first cell n.0 m.0 n.1 m.1 xs ys (record { start = a.start; cell = ap (λ t. t.1) a.body.0; row = ap (λ t. t.0) a.body.0 })
     (λ after. own_alike after xs ys h)
-
-pub moved_count : (f g : Forest Item) (e : ℕ) (c : TreeIndex) → IsLeft f g e c → counted_nodes g.nodes ≡ counted_nodes f.nodes
-moved_count f g e c l = ap counted_nodes l.nodes ∙ own_moved c.0 None l.mid ∙ own_alike None _ l.mid l.alike ∙ own_ended f.nodes l.list.0 e
 
 -- at most this many, and one more for each node that is opened
 abbrev pub count_kept : Property
@@ -74,7 +54,9 @@ count_kept = record {
   later = λ a b k f goes h. h;
   like = λ a k f g l h. (let same = own_alike None f.nodes g.nodes l.nodes in omega arith);
   closed = λ a e k f ix rest spine goes ends h. (let same = own_ended f.nodes ix.0 e in omega arith);
-  left = λ a e k f g c l leaves h. (let same = moved_count f g e c l in omega arith);
+  left = λ a e k f g c l leaves h.
+      let same = ap counted_nodes l.nodes ∙ own_from shallower (λ n. refl) c.0 None l.mid ∙ own_alike None _ l.mid l.alike ∙ own_ended f.nodes l.list.0 e in
+      omega arith;
   opened = λ a start k f body goes ends opens h. (let one = own_one None f.nodes (length f.spine + 1, begun_item start body) in omega arith);
 }
 
@@ -107,7 +89,7 @@ pub quote_count : (line start : ℕ) (body : ItemBody) (r : PassState) → count
 quote_count line start body r =
     let one : count (begun start body (list_finished line r)) ≤ suc (count r) =
     quote_keeps count_kept 0 line 0 start (count r) body r (counted_before r) (record { closes = λ list. tt; ends = tt; short = tt; later = tt })
-    (record { goes = tt; starts = tt }) tt in
+    tt tt tt in
     omega arith
 
 pub note_count : (start : ℕ) (index : CowIndex) (r : PassState) → count (footnote_begun start index r) ≤ count r + 1
@@ -120,7 +102,7 @@ note_count start index r =
 closed_count : (e : ℕ) (r : PassState) (o : Option TreeIndex) → count (current_moved (popped_at e r r.tree.spine) o) ≤ count r
 closed_count e r None = popped_at_keeps count_kept 0 e (count r) r r.tree.spine refl tt tt (omega arith)
 closed_count e r (Some c) =
-    let same = own_moved c.0 None (popped_at e r r.tree.spine).tree.nodes in
+    let same = own_from shallower (λ n. refl) c.0 None (popped_at e r r.tree.spine).tree.nodes in
     let h : count (popped_at e r r.tree.spine) ≤ count r = popped_at_keeps count_kept 0 e (count r) r r.tree.spine refl tt tt (omega arith) in
     omega arith
 
@@ -132,22 +114,13 @@ end_count : (f : Forest Item) (e : ℕ) (o : Option TreeIndex) → counted_nodes
 end_count f e None = refl
 end_count f e (Some c) = own_ended f.nodes c.0 e
 
-title_count : (f : Forest Item) (o : Option TreeIndex) → option_and_then (λ ix. body_at f.nodes ix.0) o ≡ Some Paragraph
-    → counted_nodes (with_current f MaybeDefinitionListTitle o).nodes ≡ counted_nodes f.nodes
-title_count f None is = refl
-title_count f (Some c) is = own_changed f.nodes c.0 Paragraph MaybeDefinitionListTitle is refl refl
-
 pub title_begun_count : (e : ℕ) (r : PassState) → current_body r.tree ≡ Some Paragraph → count (title_begun e r) ≡ count r
 unfolding title_begun
 title_begun_count e r is =
-    end_count (with_current r.tree MaybeDefinitionListTitle r.tree.current) e (slice_get r.tree.spine 0) ∙ title_count r.tree r.tree.current is
+    end_count (with_current r.tree MaybeDefinitionListTitle r.tree.current) e (slice_get r.tree.spine 0)
+    ∙ own_alike None r.tree.nodes _ (current_like r.tree r.tree.current is).nodes
 
 -- a definition adds one node; with a new list, whose title was a paragraph, two
-own_deeper : (cell : Option ℕ) (nodes : List (ℕ × Item)) → own cell (map deeper nodes) ≡ own cell nodes
-unfolding own
-own_deeper cell [] = refl
-own_deeper cell (n ∷ nodes) = ap (λ k. (if is_inserted_after cell n.1 then 0 else 1) + k) (own_deeper (last_cell cell n.1) nodes)
-
 inserted_one : (t : Bool) (m : ℕ) → (if t then 0 else 1) + m ≤ m + 1
 inserted_one true m = omega arith
 inserted_one false m = omega arith
@@ -157,41 +130,28 @@ own_wrapped : (cell : Option ℕ) (nodes : List (ℕ × Item)) (j d : ℕ) (x : 
 unfolding own
 own_wrapped cell nodes zero d x cells rows =
     let same : last_cell cell x ≡ cell = rw (rows, cells) refl in
-    let e : own (last_cell cell x) (map deeper nodes) ≡ own cell nodes = ap (λ c. own c (map deeper nodes)) same ∙ own_deeper cell nodes in
+    let e : own (last_cell cell x) (map deeper nodes) ≡ own cell nodes = cc (own_from deeper (λ n. refl) zero cell nodes) in
     let most = inserted_one (is_inserted_after cell x) (own (last_cell cell x) (map deeper nodes)) in
     omega arith
 own_wrapped cell [] (suc j) d x cells rows = (let most = inserted_one (is_inserted_after cell x) 0 in omega arith)
 own_wrapped cell (n ∷ nodes) (suc j) d x cells rows = (let h = own_wrapped (last_cell cell n.1) nodes j d x cells rows in omega arith)
 
-opened_by_count : (f : Forest Item) (c : TreeIndex) (start e : ℕ) (b : ItemBody) → body_at f.nodes c.0 ≡ Some b
-    → counted_nodes (definitions_by f c start e b).nodes ≤ counted_nodes f.nodes + 1
-opened_by_count f c start e MaybeDefinitionListTitle is =
-    let same = own_changed f.nodes c.0 MaybeDefinitionListTitle DefinitionListTitle is refl refl in
-    omega arith
-opened_by_count f c start e Paragraph is =
+titled_count : (f : Forest Item) (c : TreeIndex) (y : Item) → body_at f.nodes c.0 ≡ Some Paragraph
+    → counted_nodes (titled f c y).nodes ≤ counted_nodes f.nodes + 1
+titled_count f c y is =
     let body : ItemBody = DefinitionList (list_flags true) in
     let same = own_changed f.nodes c.0 Paragraph body is refl refl in
     let one = own_wrapped None (modify f.nodes c.0 (λ x. record x { body = body })) (c.0 + 1) (length f.spine + 2)
-    (record { start = start; «end» = e; body = DefinitionListTitle }) refl refl in
+    (record { start = y.start; «end» = y.«end»; body = DefinitionListTitle }) refl refl in
     omega arith
-opened_by_count f c start e b is = omega arith
-
-opened_at_count : (f : Forest Item) (c : TreeIndex) (o : Option Item) → item_at f c ≡ o
-    → counted_nodes (definitions_at f c o).nodes ≤ counted_nodes f.nodes + 1
-opened_at_count f c None is = omega arith
-opened_at_count f c (Some x) is = opened_by_count f c x.start x.«end» x.body (body_of f c x is)
-
-opened_count : (f : Forest Item) (o : Option TreeIndex) → counted_nodes (definitions_opened f o).nodes ≤ counted_nodes f.nodes + 1
-opened_count f None = omega arith
-opened_count f (Some c) = opened_at_count f c (item_at f c) refl
 
 pub definition_count : (start columns : ℕ) (r : PassState) → count (definition_begun start columns r) ≤ count r + 2
-unfolding definition_begun
 definition_count start columns r =
-    let q : PassState = with_tree r (definitions_opened r.tree r.tree.current) in
-    let list = opened_count r.tree r.tree.current in
-    let two : count (begun start (DefinitionListDefinition columns) (list_kept q)) ≤ suc (count q) =
-    count_kept.opened 0 start (count q) (list_kept q).tree (DefinitionListDefinition columns) tt tt tt (kept_keeps count_kept 0 (count q) q (omega arith)) in
+    let list : counted_nodes (definitions_opened r.tree r.tree.current).nodes ≤ suc (count r) =
+    opened_both r.tree (λ g. counted_nodes g.nodes ≤ suc (count r)) (λ g l. (let same = own_alike None r.tree.nodes g.nodes l.nodes in omega arith))
+    (λ c y current here body. (let one = titled_count r.tree c y (body_of r.tree c y here ∙ ap (λ z. Some z) body) in omega arith)) in
+    let two : count (definition_begun start columns r) ≤ suc (suc (count r)) =
+    definition_keeps count_kept 0 start columns (suc (count r)) r tt tt tt list in
     omega arith
 
 -- and a task list item marker one

@@ -1,29 +1,22 @@
 -- Order when a definition list is closed before its last child, which is moved out of it.
-use Rattle.std.proofs.Common.{◌≡◌, ℕ, zero, suc, ◌+◌, ◌<◌, ◌≤◌, false, List, [], ◌∷◌, ◌++◌, length, take, drop, slice_get, None, IsCharBoundary, refl, sym, ap}
-use Rattle.std.proofs.Common.{subst, ◌∙◌, arith, length-append, Bool}
-use Rattle.std.proofs.lemmas.List.{take-append-drop, length-take-le}
-use Rattle.std.specs.Option.{option_map, option_map_or}
-use Rattle.first_pass_items.specs.declared.item.Item.{Item}
-use Rattle.first_pass_tree.specs.declared.tree_index.TreeIndex.{TreeIndex}
-use Rattle.first_pass_tree.specs.Forest.{Forest, modify, map_from, shallower}
-use Rattle.first_pass_grammar.specs.Order.{Ranged, extent_of, extents, Siblings, laid, Elsewhere, Fits}
-use Rattle.first_pass_grammar.specs.OpenOrder.{laid_open, AreAt, within_top, IsOrderedTo}
-use Rattle.first_pass_grammar.proofs.Order.Orders.{ended_at, extents-append, length-extents, laid_open-level, fits-any, fits-later}
+use Rattle.std.proofs.Common.{◌≡◌, ℕ, zero, suc, ◌<◌, ◌≤◌, false, List, [], ◌∷◌, ◌++◌, length, take, drop, slice_get, None, IsCharBoundary, refl, sym, ap}
+use Rattle.std.proofs.Common.{◌∙◌, arith, take-append-drop, length-take-le, option_map}
+use Rattle.first_pass_grammar.proofs.Common.{slice_get_within, option_map_or, Item, TreeIndex, Forest, modify, Ranged, extents, Siblings, laid, Elsewhere}
+use Rattle.first_pass_grammar.proofs.Common.{Fits, within_top, IsOrderedTo, length-modify}
+use Rattle.first_pass_grammar.proofs.Order.Orders.{ended_at, extents-append, length-extents, fits-any, fits-later}
 use Rattle.first_pass_order.proofs.RowSplits.{laid-shallower, extents-moved}
 use Rattle.first_pass_open.specs.OpenBlock.{closed_by}
 use Rattle.first_pass_lists.specs.Closing.{state_with, top_end}
 use Rattle.first_pass_lists.specs.declared.state.PassState.{PassState}
 use Rattle.first_pass_order.specs.Ordered.{EndsBeforeTitle, reached, IsOrderedAt}
-use Rattle.first_pass_order.proofs.OrderLemmas.{ordered_more, ordered_closed, flags_of, ordered_same, ordered_later, ordered_begun}
+use Rattle.first_pass_order.proofs.OrderLemmas.{ordered_more, ordered_closed, ordered_same, ordered_later, ordered_begun, extents-changed}
+use Rattle.first_pass_order.proofs.OrderLemmas.{top_there, inner}
 use Rattle.first_pass_order.proofs.AlikeNodes.{AreAlike, NoNodes, OneMore}
 use Rattle.first_pass_order.proofs.PropertyKept.{IsLeft, Property, MayLeave, HoldsAt, HoldsBefore}
-use Rattle.first_pass_tokens.proofs.BytesLemmas.{length-modify}
 
 -- an end at a place, in the extents
 pub extents-end : (nodes : List (ℕ × Item)) (k e : ℕ) → extents (modify nodes k (λ x. record x { «end» = e })) ≡ modify (extents nodes) k (λ x. ended_at x e)
-extents-end [] k e = refl
-extents-end (n ∷ nodes) zero e = refl
-extents-end (n ∷ nodes) (suc k) e = ap (λ z. (n.0, extent_of n.1) ∷ z) (extents-end nodes k e)
+extents-end nodes k e = extents-changed nodes k (λ x. record x { «end» = e }) (λ x. ended_at x e) (λ x. refl)
 
 pub modify-front : {T : Type 0} (nodes more : List (ℕ × T)) (k : ℕ) (g : T → T) → k < length nodes → modify (nodes ++ more) k g ≡ modify nodes k g ++ more
 modify-front [] more k g low = absurd (omega arith)
@@ -37,36 +30,19 @@ end_there (n ∷ nodes) zero e low = refl
 end_there (n ∷ nodes) (suc k) e low = end_there nodes k e (omega arith)
 
 -- the innermost open node is among the nodes
-open_by : (nodes : List (ℕ × Item)) (ix : TreeIndex) (rest : List TreeIndex) (root : Ranged) (levels : List (Siblings × Ranged)) (row : Siblings)
-    → extents nodes ≡ laid_open root levels row → AreAt root levels (ix ∷ rest) → ix.0 < length nodes
-open_by nodes ix rest root [] row is places = absurd places
-open_by nodes ix rest root (level ∷ levels) row is places =
-    let more : List (ℕ × Ranged) = laid (suc (suc (length levels))) row in
-    let front : List (ℕ × Ranged) = laid_open root levels level.0 in
-    let all : length nodes ≡ length (front ++ (suc (length levels), level.1) ∷ more) =
-    sym (length-extents nodes) ∙ ap length (is ∙ laid_open-level root level levels row) in
-    let sum : length (front ++ (suc (length levels), level.1) ∷ more) ≡ length front + suc (length more) =
-    length-append front ((suc (length levels), level.1) ∷ more) in
-    let at : ix.0 ≡ length front = places.0 in
-    omega arith
-
 open_there : (text : List ℕ) (f : Forest Item) (a : ℕ) (ix : TreeIndex) (rest : List TreeIndex) → f.spine ≡ ix ∷ rest → IsOrderedTo text f a
     → ix.0 < length f.nodes
-open_there text f a ix rest spine h = open_by f.nodes ix rest h.root h.levels h.row h.nodes (subst (AreAt h.root h.levels) spine h.places)
-
-extent_alike : (x y : Item) → y.start ≡ x.start → y.«end» ≡ x.«end» → flags_of y.body ≡ flags_of x.body → extent_of y ≡ extent_of x
-extent_alike x y start end flags =
-    let with_flags : ℕ → ℕ → Bool × Bool × Bool × Bool → Ranged =
-    λ s e z. record { start = s; «end» = e; text_block = z.0; marker = z.1; item = z.2; definitions = z.3 } in
-    ap (λ s. with_flags s y.«end» (flags_of y.body)) start ∙ ap (λ e. with_flags x.start e (flags_of y.body)) end
-    ∙ ap (with_flags x.start x.«end») flags
+open_there text f a ix rest spine h =
+    let l = inner text f a ix rest spine h in
+    let (m, here, extent) = top_there f.nodes l.root l.level l.levels l.row ix l.nodes l.place in
+    slice_get_within f.nodes ix.0 m here
 
 pub extents_alike : (old new : List (ℕ × Item)) → AreAlike old new → extents new ≡ extents old
 extents_alike old new NoNodes = refl
 extents_alike old new (OneMore n m xs ys a h) =
-    ap (λ (z : List (ℕ × Ranged)). (m.0, extent_of m.1) ∷ z) (extents_alike xs ys h)
-    ∙ ap (λ (x : Ranged). (m.0, x) ∷ extents xs) (extent_alike n.1 m.1 a.start a.«end» (ap (λ t. t.2) a.body.0))
-    ∙ ap (λ (d : ℕ). (d, extent_of n.1) ∷ extents xs) a.depth
+    let rest = extents_alike xs ys h in
+    let same = a.body.0 in
+    cc (a.depth, a.start, a.«end», ap (λ t. t.2.0) same, ap (λ t. t.2.1) same, ap (λ t. t.2.2) same, ap (λ t. t.2.3) same)
 
 -- The node at a place is the last child of the innermost open node. The nodes before it are in order up to an offset,
 -- and the child and its descendants lie between that and another offset.
@@ -90,20 +66,17 @@ left_ordered text f g at e c l h within =
     let extents_low : ix.0 < length (extents old.nodes) = (let n = length-extents old.nodes in omega arith) in
     let deep : suc (length f.spine) ≡ suc (suc (length rest)) = ap (λ (s : List TreeIndex). suc (length s)) l.spine in
     let more : List (ℕ × Ranged) = laid (suc (length f.spine)) h.row in
-    let ended : List (ℕ × Ranged) → List (ℕ × Ranged) = λ xs. modify xs ix.0 (λ x. ended_at x e) in
     let shut : Forest Item = closed_by old e (ix ∷ rest) in
     let front : List (ℕ × Ranged) = extents shut.nodes in
     let at_front : c.0 ≡ length front = place ∙ sym (length-extents shut.nodes ∙ length-modify old.nodes ix.0 (λ x. record x { «end» = e })) in
     let split : extents f.nodes ≡ extents old.nodes ++ more =
-    ap (λ (z : List (ℕ × Item)). extents z) (sym (take-append-drop c.0 f.nodes)) ∙ extents-append old.nodes (drop c.0 f.nodes)
-    ∙ ap (λ (z : List (ℕ × Ranged)). extents old.nodes ++ z) h.last in
+    cc (take-append-drop c.0 f.nodes, extents-append old.nodes (drop c.0 f.nodes), h.last) in
+    let ends = extents-end f.nodes ix.0 e in
+    let olds = extents-end old.nodes ix.0 e in
     let closed : extents l.mid ≡ front ++ laid (suc (suc (length rest))) h.row =
-    extents_alike _ l.mid l.alike ∙ extents-end f.nodes ix.0 e ∙ ap ended split ∙ modify-front (extents old.nodes) more ix.0 (λ x. ended_at x e) extents_low
-    ∙ ap (λ (z : List (ℕ × Ranged)). z ++ more) (sym (extents-end old.nodes ix.0 e)) ∙ ap (λ k. front ++ laid k h.row) deep in
+    cc (extents_alike _ l.mid l.alike, modify-front (extents old.nodes) more ix.0 (λ x. ended_at x e) extents_low) in
     ordered_more text shut g e at h.row
-    (ap (λ (z : List (ℕ × Item)). extents z) l.nodes ∙ ap (λ k. extents (map_from shallower k l.mid)) at_front
-    ∙ extents-moved front (laid (suc (suc (length rest))) h.row) l.mid closed
-    ∙ ap (λ (z : List (ℕ × Ranged)). front ++ z) (laid-shallower (suc (length rest)) h.row))
+    (cc (l.nodes, extents-moved front (laid (suc (suc (length rest))) h.row) l.mid closed, laid-shallower (suc (length rest)) h.row))
     l.outer (fits-any text (within_top shut) e at h.row h.fits) within
     (ordered_closed text old e e ix rest l.spine (omega arith) h.before.within h.ends h.before)
 

@@ -5,7 +5,6 @@ pub mod DefinitionOrder
 pub mod DefinitionsWhole
 pub mod HeadLines
 pub mod InsertedCells
-pub mod LeavesNamed
 pub mod LeftOrder
 pub mod NamedLemmas
 pub mod Nests

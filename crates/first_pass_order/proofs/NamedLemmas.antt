@@ -2,33 +2,21 @@
 -- adds none.
 use Rattle.std.proofs.Common.{◌≡◌, ℕ, zero, suc, ◌+◌, ◌<◌, Bool, true, false, List, [], ◌∷◌, ◌++◌, length, slice_get, Option, Some, map, take, drop, None}
 use Rattle.std.proofs.Common.{refl, sym, ap, subst}
-use Rattle.first_pass_items.specs.declared.item.Item.{Item}
-use Rattle.first_pass_items.specs.declared.item.ItemBody.{ItemBody}
-use Rattle.first_pass_items.specs.declared.item.ItemBody.TheVariants.{Paragraph, TaskListMarker, DefinitionList, DefinitionListTitle, DefinitionListDefinition}
-use Rattle.first_pass_items.specs.declared.item.ItemBody.TheVariants.{MaybeDefinitionListTitle}
-use Rattle.first_pass_tree.specs.declared.tree_index.TreeIndex.{TreeIndex}
-use Rattle.first_pass_tree.specs.Forest.{Forest, modify, empty_forest, with_end_at, with_end, with_body_at, item_at, is_text, added, at_depth}
-use Rattle.first_pass_tree.specs.Forest.{map_from, deeper, shallower}
-use Rattle.first_pass_grammar.specs.Names.{Names, Extends, index_of, NamesEntry, AreNamed}
-use Rattle.first_pass_grammar.specs.Derivation.{list_flags}
-use Rattle.first_pass_grammar.specs.Order.{is_task_marker}
-use Rattle.first_pass_order.proofs.LeavesNamed.{opens_named}
+use Rattle.first_pass_grammar.proofs.Common.{Item, ItemBody, TaskListMarker, DefinitionList, MaybeDefinitionListTitle, TreeIndex, Forest, modify}
+use Rattle.first_pass_grammar.proofs.Common.{empty_forest, with_end_at, with_end, with_body_at, is_text, added, at_depth, map_from, deeper, shallower}
+use Rattle.first_pass_grammar.proofs.Common.{Names, Extends, index_of, NamesEntry, AreNamed, list_flags, is_task_marker, Options, Place, line_end, Kind}
+use Rattle.first_pass_grammar.proofs.Common.{document, lines_from, CowIndex}
+use Rattle.first_pass_grammar.proofs.Names.TextsNamed.{opens_named}
 use Rattle.first_pass_grammar.proofs.Names.NamedItems.{IsNamed, named_more, named_both, named_deeper, named_modified}
-use Rattle.first_pass_items.specs.declared.option_set.Options.{Options}
-use Rattle.first_pass_lines.specs.Places.{Place, line_end}
-use Rattle.first_pass_grammar.specs.Kinds.{Kind}
-use Rattle.first_pass_grammar.specs.Leaves.{document}
-use Rattle.first_pass_grammar.specs.Completion.{lines_from}
 use Rattle.first_pass_names.proofs.NameLemmas.{extends_none}
 use Rattle.first_pass_open.specs.Path.{path_of}
 use Rattle.first_pass_order.specs.LeafBlocks.{AddsKind}
-use Rattle.first_pass_order.proofs.AlikeNodes.{AreAlike, NoNodes, OneMore}
-use Rattle.first_pass_order.proofs.PropertyKept.{IsLeft, Property, HoldsAt, HoldsBefore, popped_keeps, empty_item_closed_keeps, kept_keeps, blank_keeps}
-use Rattle.first_pass_order.proofs.PropertyKept.{list_finished_keeps, list_continued_keeps, quote_keeps, item_keeps, note_keeps}
+use Rattle.first_pass_order.proofs.AlikeNodes.{AreAlike, NoNodes, OneMore, opened_both}
+use Rattle.first_pass_order.proofs.PropertyKept.{Property, HoldsAt, HoldsBefore, popped_keeps, empty_item_closed_keeps, blank_keeps}
+use Rattle.first_pass_order.proofs.PropertyKept.{list_finished_keeps, list_continued_keeps, quote_keeps, item_keeps, note_keeps, definition_keeps}
 use Rattle.first_pass_open.specs.OpenBlock.{with_child, begun_item}
-use Rattle.first_pass_lists.specs.Closing.{list_continued, popped, empty_item_closed, list_finished, list_kept, begun, blank_read, footnote_begun, with_tree}
-use Rattle.first_pass_lists.specs.Closing.{with_current, title_begun, definitions_by, definitions_at, definitions_opened, definition_begun}
-use Rattle.first_pass_items.specs.declared.item.CowIndex.{CowIndex}
+use Rattle.first_pass_lists.specs.Closing.{list_continued, popped, empty_item_closed, list_finished, begun, blank_read, footnote_begun}
+use Rattle.first_pass_lists.specs.Closing.{with_current, title_begun, definition_begun}
 use Rattle.first_pass_lists.specs.declared.state.PassState.{PassState}
 use Rattle.first_pass_lists.proofs.NoEmptyItem.{item_opened}
 
@@ -46,17 +34,14 @@ module _ (names : Names) where
   abbrev pub AreReadNamed : PassState → Type 0
   AreReadNamed r = AreNamed names r.tree.nodes
 
-  -- nodes that are moved out of a closed one
-  shallower_named : (nodes : List (ℕ × Item)) → AreNamed names nodes → AreNamed names (map shallower nodes)
+  -- nodes at other depths, and those that are moved out of a closed one
+  pub from_named : (g : ℕ × Item → ℕ × Item) → ((n : ℕ × Item) → (g n).1 ≡ n.1) → (place : ℕ) (nodes : List (ℕ × Item)) → AreNamed names nodes
+      → AreNamed names (map_from g place nodes)
   unfolding AreNamed
-  shallower_named [] h = tt
-  shallower_named (n ∷ nodes) h = (h.0, shallower_named nodes h.1)
-
-  moved_from_named : (place : ℕ) (nodes : List (ℕ × Item)) → AreNamed names nodes → AreNamed names (map_from shallower place nodes)
-  unfolding AreNamed
-  moved_from_named zero nodes h = shallower_named nodes h
-  moved_from_named (suc place) [] h = tt
-  moved_from_named (suc place) (n ∷ nodes) h = (h.0, moved_from_named place nodes h.1)
+  from_named g same zero [] h = tt
+  from_named g same zero (n ∷ nodes) h = (subst (IsNamed names) (sym (same n)) h.0, from_named g same zero nodes h.1)
+  from_named g same (suc place) [] h = tt
+  from_named g same (suc place) (n ∷ nodes) h = (h.0, from_named g same place nodes h.1)
 
   -- another body without an index
   body_named : (f : Forest Item) (c : TreeIndex) (b : ItemBody) → NamesEntry names (index_of b) → AreNamed names f.nodes
@@ -75,10 +60,6 @@ module _ (names : Names) where
   pub ended_named : (nodes : List (ℕ × Item)) (i e : ℕ) → AreNamed names nodes → AreNamed names (modify nodes i (λ x. record x { «end» = e }))
   ended_named nodes i e h = named_modified names nodes i (λ x. record x { «end» = e }) (λ x k. k) h
 
-  pub moved_named : (f g : Forest Item) (e : ℕ) (c : TreeIndex) → IsLeft f g e c → AreNamed names f.nodes → AreNamed names g.nodes
-  moved_named f g e c l h =
-      subst (AreNamed names) (sym l.nodes) (moved_from_named c.0 l.mid (named_alike _ l.mid l.alike (ended_named f.nodes l.list.0 e h)))
-
   abbrev pub named_kept : Property
   named_kept = record {
     Holds = λ a k f. AreNamed names f.nodes;
@@ -90,7 +71,9 @@ module _ (names : Names) where
     later = λ a b k f goes h. h;
     like = λ a k f g l h. named_alike f.nodes g.nodes l.nodes h;
     closed = λ a e k f ix rest spine goes ends h. ended_named f.nodes ix.0 e h;
-    left = λ a e k f g c l leaves h. moved_named f g e c l h;
+    left = λ a e k f g c l leaves h.
+        subst (AreNamed names) (sym l.nodes)
+        (from_named shallower (λ n. refl) c.0 l.mid (named_alike _ l.mid l.alike (ended_named f.nodes l.list.0 e h)));
     opened = λ a start k f body goes ends opens h. one_named f.nodes (length f.spine + 1, begun_item start body) opens h;
   }
 
@@ -125,7 +108,7 @@ module _ (names : Names) where
       → NamesEntry names (index_of body) → AreReadNamed r → AreReadNamed (begun start body (list_finished line r))
   quote_named line start body r own h =
       quote_keeps named_kept 0 line 0 start 0 body r (named_before r h) (record { closes = λ list. tt; ends = tt; short = tt; later = tt })
-      (record { goes = tt; starts = tt }) own
+      tt tt own
 
   pub note_named : (start : ℕ) (index : CowIndex) (r : PassState) → index.0 < length names.texts → AreReadNamed r → AreReadNamed (footnote_begun start index r)
   note_named start index r own h = note_keeps named_kept 0 start 0 index r (named_before r h) tt tt tt own
@@ -144,51 +127,27 @@ module _ (names : Names) where
       end_named (with_current r.tree MaybeDefinitionListTitle r.tree.current) e (slice_get r.tree.spine 0) (title_named r.tree r.tree.current h)
 
   -- a definition, in the open list or in a new one
-  deeper_named : (nodes : List (ℕ × Item)) → AreNamed names nodes → AreNamed names (map deeper nodes)
-  unfolding AreNamed
-  deeper_named [] h = tt
-  deeper_named (n ∷ nodes) h = (h.0, deeper_named nodes h.1)
-
   wrapped_named : (nodes : List (ℕ × Item)) (j : ℕ) (t : ℕ × Item) → IsNamed names t.1 → AreNamed names nodes
       → AreNamed names (take j nodes ++ t ∷ map deeper (drop j nodes))
   unfolding AreNamed
-  wrapped_named nodes zero t own h = (own, deeper_named nodes h)
+  wrapped_named nodes zero t own h = (own, from_named deeper (λ n. refl) zero nodes h)
   wrapped_named [] (suc j) t own h = (own, tt)
   wrapped_named (n ∷ nodes) (suc j) t own h = (h.0, wrapped_named nodes j t own h.1)
 
-  opened_by_named : (f : Forest Item) (c : TreeIndex) (start e : ℕ) (b : ItemBody) → AreNamed names f.nodes
-      → AreNamed names (definitions_by f c start e b).nodes
-  opened_by_named f c start e MaybeDefinitionListTitle h = body_named f c DefinitionListTitle tt h
-  opened_by_named f c start e Paragraph h =
-      wrapped_named (with_body_at f c (DefinitionList (list_flags true))).nodes (c.0 + 1) _ tt (body_named f c (DefinitionList (list_flags true)) tt h)
-  opened_by_named f c start e b h = h
-
-  opened_at_named : (f : Forest Item) (c : TreeIndex) (o : Option Item) → AreNamed names f.nodes → AreNamed names (definitions_at f c o).nodes
-  opened_at_named f c None h = h
-  opened_at_named f c (Some x) h = opened_by_named f c x.start x.«end» x.body h
-
-  opened_named : (f : Forest Item) (o : Option TreeIndex) → AreNamed names f.nodes → AreNamed names (definitions_opened f o).nodes
-  opened_named f None h = h
-  opened_named f (Some c) h = opened_at_named f c (item_at f c) h
-
   pub definition_named : (start columns : ℕ) (r : PassState) → AreReadNamed r → AreReadNamed (definition_begun start columns r)
-  unfolding definition_begun
   definition_named start columns r h =
-      let q : PassState = with_tree r (definitions_opened r.tree r.tree.current) in
-      named_kept.opened 0 start 0 (list_kept q).tree (DefinitionListDefinition columns) tt tt tt
-      (kept_keeps named_kept 0 0 q (opened_named r.tree r.tree.current h))
+      definition_keeps named_kept 0 start columns 0 r tt tt tt
+      (opened_both r.tree (λ g. AreNamed names g.nodes) (λ g l. named_alike r.tree.nodes g.nodes l.nodes h)
+      (λ c y current here body.
+      wrapped_named (with_body_at r.tree c (DefinitionList (list_flags true))).nodes (c.0 + 1) _ tt
+      (body_named r.tree c (DefinitionList (list_flags true)) tt h)))
 
   -- the marker of a task
-  none_named : (o : Option Item) (f : Forest Item)
-      → ((x : Item) → o ≡ Some x → is_task_marker x.body ≡ true) → AreNamed names f.nodes → AreNamed names (with_child f o).nodes
-  unfolding AreNamed
-  none_named None f mark h = h
-  none_named (Some x) f mark h =
-      named_both names f.nodes ((length f.spine + 1, x) ∷ []) h (subst (NamesEntry names) (sym (task_has_none x.body (mark x refl))) tt, tt)
-
   pub child_named : (f : Forest Item) (marker : Option Item)
       → ((x : Item) → marker ≡ Some x → is_task_marker x.body ≡ true) → AreNamed names f.nodes → AreNamed names (with_child f marker).nodes
-  child_named f marker mark h = none_named marker f mark h
+  child_named f None mark h = h
+  child_named f (Some x) mark h =
+      one_named f.nodes (length f.spine + 1, x) (subst (NamesEntry names) (sym (task_has_none x.body (mark x refl))) tt) h
 
   -- a block that is added, under further names
   pub block_added : (old : Names) (f new : Forest Item) (items : List (ℕ × Item))

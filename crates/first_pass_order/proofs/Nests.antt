@@ -1,182 +1,165 @@
 -- Only items are open directly in lists, as nodes are opened and closed and blank lines are noted. After a node is
 -- closed, no possible title is last.
-use Rattle.std.proofs.Common.{◌≡◌, inl, inr, ℕ, zero, suc, ◌+◌, ◌<◌, ◌≤◌, ◌&&◌, Bool, true, false, if◌then◌else◌, List, [], ◌∷◌, ◌++◌, length, map}
-use Rattle.std.proofs.Common.{slice_get, Option, Some, None, is_some, refl, sym, ap, subst, ◌∙◌, arith, length-append}
-use Rattle.std.proofs.lemmas.Bool.{cond_both, cases_Bool, true≢false, and_parts}
-use Rattle.std.proofs.lemmas.List.{length-map}
-use Rattle.std.proofs.lemmas.Option.{slice_get-map}
-use Rattle.std.specs.Option.{option_and_then, option_map}
-use Rattle.first_pass_items.specs.declared.item.CowIndex.{CowIndex}
-use Rattle.first_pass_items.specs.declared.item.Item.{Item}
-use Rattle.first_pass_items.specs.declared.item.ItemBody.{ItemBody}
-use Rattle.first_pass_items.specs.declared.item.ItemBody.TheVariants.{List as ListBody, ListItem as ListItemBody, Paragraph}
-use Rattle.first_pass_items.specs.declared.item.ItemBody.TheVariants.{FootnoteDefinition as FootnoteDefinitionBody, DefinitionList}
-use Rattle.first_pass_items.specs.declared.item.ItemBody.TheVariants.{DefinitionListDefinition, MaybeDefinitionListTitle}
-use Rattle.first_pass_tree.specs.declared.tree_index.TreeIndex.{TreeIndex}
-use Rattle.first_pass_tree.proofs.BodyLemmas.{body-changed}
-use Rattle.first_pass_tree.specs.Forest.{Forest, empty_forest, with_end_at, modify, with_body_at, body_at, map_from, shallower, added}
-use Rattle.std.specs.Prelude.{IsSomeAnd}
-use Rattle.first_pass_grammar.specs.Derivation.{list_flags}
-use Rattle.first_pass_grammar.specs.Order.{is_task_marker}
+use Rattle.std.proofs.Common.{◌≡◌, ℕ, zero, suc, ◌+◌, ◌<◌, ◌≤◌, ◌&&◌, true, false, List, [], ◌∷◌, ◌++◌, length, Option, Some, None, refl, sym, ap, subst}
+use Rattle.std.proofs.Common.{◌∙◌, arith, length-append, true≢false, option_and_then, option_map, IsSomeAnd}
+use Rattle.first_pass_grammar.proofs.Common.{cond_both, and_parts, false_from_ne_true, none-some, cond_some, CowIndex, Item, ItemBody, Paragraph}
+use Rattle.first_pass_grammar.proofs.Common.{DefinitionList, DefinitionListDefinition, MaybeDefinitionListTitle, TreeIndex, body-kept, Forest, empty_forest}
+use Rattle.first_pass_grammar.proofs.Common.{with_end_at, modify, with_body_at, body_at, map_from, shallower, added, length-modify, list_flags}
+use Rattle.first_pass_grammar.proofs.Common.{is_task_marker}
+use Rattle.first_pass_items.specs.declared.item.ItemBody.TheVariants.{List as ListBody, ListItem as ListItemBody}
+use Rattle.first_pass_items.specs.declared.item.ItemBody.TheVariants.{FootnoteDefinition as FootnoteDefinitionBody}
 use Rattle.first_pass_open.specs.OpenBlock.{closed_by, with_child}
-use Rattle.first_pass_open.proofs.PathLemmas.{get_front}
-use Rattle.first_pass_lists.specs.Closing.{state_with, with_tree, loosened_by, loosened_at, top_body, is_definition_list, is_list, is_list_of, is_item}
+use Rattle.first_pass_open.proofs.PathLemmas.{AreIn, get_front}
+use Rattle.first_pass_lists.specs.Closing.{state_with, with_tree, top_body, is_definition_list, is_list, is_list_of, is_item}
 use Rattle.first_pass_lists.specs.Closing.{is_footnote, popped_at, current_moved, definitions_closed, title_by, possible_title, title_closed, top_end}
 use Rattle.first_pass_lists.specs.Closing.{popped_after, popped, empty_item_closed_by, empty_item_closed, list_closed, footnote_left, gap_marked}
-use Rattle.first_pass_lists.specs.Closing.{list_finished, loosened_top, list_kept, begun, footnote_begun, list_continued, blank_read_by, blank_read}
+use Rattle.first_pass_lists.specs.Closing.{list_finished, list_kept, begun, footnote_begun, list_continued, blank_read_by, blank_read}
 use Rattle.first_pass_lists.specs.declared.state.PassState.{PassState}
-use Rattle.first_pass_order.proofs.AlikeNodes.{class_of, AreAlike, NoNodes, OneMore, LooksAlike, like_popped, like_loosened, like_noted, like_kept, like_blank}
-use Rattle.first_pass_order.specs.Ordered.{top_of, AreNested, HasDefinition, CanClose}
+use Rattle.first_pass_lists.proofs.MovedLemmas.{lower_length}
+use Rattle.first_pass_order.proofs.OrderLemmas.{get_mid}
+use Rattle.first_pass_order.proofs.AlikeNodes.{class_of, AreAlike, NoNodes, OneMore, LooksAlike, like_body, like_popped, like_noted, like_kept, like_blank}
+use Rattle.first_pass_order.specs.Ordered.{top_of, AreNested, EndsBeforeTitle, HasDefinition, CanClose}
 
-abbrev pub classes : List (ℕ × Item) → List (Bool × Bool)
-classes nodes = map (λ n. class_of n.1.body) nodes
+-- as many nodes, of the same classes
+pub record AreClassed (old new : List (ℕ × Item)) : Type 0 where
+  pub size : length new ≡ length old
+  pub same : (i : ℕ) → class_of (body_at new i) ≡ class_of (body_at old i)
 
-classes_alike : (old new : List (ℕ × Item)) → AreAlike old new → classes new ≡ classes old
-classes_alike old new NoNodes = refl
-classes_alike old new (OneMore n m xs ys a h) =
-    ap (λ z. z ∷ classes ys) (ap (λ t. t.3) a.body.0) ∙ ap (λ z. class_of n.1.body ∷ z) (classes_alike xs ys h)
+length_alike : (old new : List (ℕ × Item)) → AreAlike old new → length new ≡ length old
+length_alike old new NoNodes = refl
+length_alike old new (OneMore n m xs ys a h) = ap suc (length_alike xs ys h)
 
--- nodes of the same classes have the same nesting
-listed : Option (Bool × Bool) → Bool
-listed None = false
-listed (Some c) = c.0
+class_alike : (old new : List (ℕ × Item)) (i : ℕ) → AreAlike old new → class_of (body_at new i) ≡ class_of (body_at old i)
+class_alike old new i NoNodes = refl
+class_alike old new zero (OneMore n m xs ys a h) = ap (λ t. t.3) a.body.0
+class_alike old new (suc i) (OneMore n m xs ys a h) = class_alike xs ys i h
 
-an_item : Option (Bool × Bool) → Bool
-an_item None = false
-an_item (Some c) = c.1
+classed_alike : (old new : List (ℕ × Item)) → AreAlike old new → AreClassed old new
+classed_alike old new h = record { size = length_alike old new h; same = λ i. class_alike old new i h }
 
-list_by : (o : Option (ℕ × Item)) → is_list (option_map (λ n. n.1.body) o) ≡ listed (option_map (λ n. class_of n.1.body) o)
-unfolding listed
-list_by None = refl
-list_by (Some n) = refl
+top_classed : (old new : List (ℕ × Item)) (spine : List TreeIndex) → AreClassed old new → class_of (top_of new spine) ≡ class_of (top_of old spine)
+top_classed old new [] c = refl
+top_classed old new (ix ∷ spine) c = c.same ix.0
 
-item_by : (o : Option (ℕ × Item)) → is_item (option_map (λ n. n.1.body) o) ≡ an_item (option_map (λ n. class_of n.1.body) o)
-unfolding an_item
-item_by None = refl
-item_by (Some n) = refl
-
-pub list_same : (old new : List (ℕ × Item)) (i : ℕ) → classes new ≡ classes old → is_list (body_at new i) ≡ is_list (body_at old i)
-list_same old new i same =
-    list_by (slice_get new i) ∙ ap listed (sym (slice_get-map (λ n. class_of n.1.body) new i)) ∙ ap (λ c. listed (slice_get c i)) same
-    ∙ ap listed (slice_get-map (λ n. class_of n.1.body) old i) ∙ sym (list_by (slice_get old i))
-
-pub item_same : (old new : List (ℕ × Item)) (i : ℕ) → classes new ≡ classes old → is_item (body_at new i) ≡ is_item (body_at old i)
-item_same old new i same =
-    item_by (slice_get new i) ∙ ap an_item (sym (slice_get-map (λ n. class_of n.1.body) new i)) ∙ ap (λ c. an_item (slice_get c i)) same
-    ∙ ap an_item (slice_get-map (λ n. class_of n.1.body) old i) ∙ sym (item_by (slice_get old i))
-
-pub top_list_same : (old new : List (ℕ × Item)) (spine : List TreeIndex) → classes new ≡ classes old → is_list (top_of new spine) ≡ is_list (top_of old spine)
-top_list_same old new [] same = refl
-top_list_same old new (ix ∷ spine) same = list_same old new ix.0 same
-
-pub top_item_same : (old new : List (ℕ × Item)) (spine : List TreeIndex) → classes new ≡ classes old → is_item (top_of new spine) ≡ is_item (top_of old spine)
-top_item_same old new [] same = refl
-top_item_same old new (ix ∷ spine) same = item_same old new ix.0 same
-
-length_same : (old new : List (ℕ × Item)) → classes new ≡ classes old → length new ≡ length old
-length_same old new same = sym (length-map new (λ n. class_of n.1.body)) ∙ ap length same ∙ length-map old (λ n. class_of n.1.body)
-
-pub nested_same : (old new : List (ℕ × Item)) (spine : List TreeIndex) → classes new ≡ classes old → AreNested old spine → AreNested new spine
-nested_same old new [] same h = tt
-nested_same old new (ix ∷ spine) same h = (
-  (let w = h.0 in let n = length_same old new same in omega arith),
-  λ list. item_same old new ix.0 same ∙ h.1 (sym (top_list_same old new spine same) ∙ list),
-  nested_same old new spine same h.2,
-)
-
--- places before an offset, at which nodes do not change
-abbrev pub AreBefore : ℕ → List TreeIndex → Type 0
-AreBefore n [] = Unit {0}
-AreBefore n (ix ∷ spine) = (ix.0 < n) × AreBefore n spine
-
-pub top_before : (old new : List (ℕ × Item)) (n : ℕ) (spine : List TreeIndex) → ((i : ℕ) → i < n → body_at new i ≡ body_at old i) → AreBefore n spine
-    → top_of new spine ≡ top_of old spine
+-- open nodes before an offset have the same nesting if the nodes before it keep their classes
+pub top_before : (old new : List (ℕ × Item)) (n : ℕ) (spine : List TreeIndex) → ((i : ℕ) → i < n → class_of (body_at new i) ≡ class_of (body_at old i))
+    → AreIn n spine → class_of (top_of new spine) ≡ class_of (top_of old spine)
 top_before old new n [] same h = refl
 top_before old new n (ix ∷ spine) same h = same ix.0 h.0
 
-pub nested_before : (old new : List (ℕ × Item)) (n : ℕ) (spine : List TreeIndex) → ((i : ℕ) → i < n → body_at new i ≡ body_at old i) → n ≤ length new
-    → AreBefore n spine → AreNested old spine → AreNested new spine
+pub nested_before : (old new : List (ℕ × Item)) (n : ℕ) (spine : List TreeIndex) → ((i : ℕ) → i < n → class_of (body_at new i) ≡ class_of (body_at old i))
+    → n ≤ length new → AreIn n spine → AreNested old spine → AreNested new spine
 nested_before old new n [] same more h k = tt
 nested_before old new n (ix ∷ spine) same more h k = (
   (let w = h.0 in omega arith),
-  λ list. ap is_item (same ix.0 h.0) ∙ k.1 (ap is_list (sym (top_before old new n spine same h.1)) ∙ list),
+  λ list. ap (λ t. t.1) (same ix.0 h.0) ∙ k.1 (sym (ap (λ t. t.0) (top_before old new n spine same h.1)) ∙ list),
   nested_before old new n spine same more h.1 k.2,
 )
 
-nested_within : (nodes : List (ℕ × Item)) (spine : List TreeIndex) → AreNested nodes spine → AreBefore (length nodes) spine
+nested_within : (nodes : List (ℕ × Item)) (spine : List TreeIndex) → AreNested nodes spine → AreIn (length nodes) spine
 nested_within nodes [] h = tt
 nested_within nodes (ix ∷ spine) h = (h.0, nested_within nodes spine h.2)
+
+pub nested_classed : (old new : List (ℕ × Item)) (spine : List TreeIndex) → AreClassed old new → AreNested old spine → AreNested new spine
+nested_classed old new spine c h =
+    nested_before old new (length old) spine (λ i low. c.same i) (let n = c.size in omega arith) (nested_within old spine h) h
 
 -- more nodes after them
 pub nested_front : (nodes more : List (ℕ × Item)) (spine : List TreeIndex) → AreNested nodes spine → AreNested (nodes ++ more) spine
 nested_front nodes more spine h =
-    nested_before nodes (nodes ++ more) (length nodes) spine (λ i low. ap (option_map (λ n. n.1.body)) (get_front nodes more i low))
+    nested_before nodes (nodes ++ more) (length nodes) spine (λ i low. ap (λ o. class_of (option_map (λ n. n.1.body) o)) (get_front nodes more i low))
     (let n = length-append nodes more in omega arith) (nested_within nodes spine h) h
 
 pub top_front : (nodes more : List (ℕ × Item)) (spine : List TreeIndex) → AreNested nodes spine → top_of (nodes ++ more) spine ≡ top_of nodes spine
-top_front nodes more spine h =
-    top_before nodes (nodes ++ more) (length nodes) spine (λ i low. ap (option_map (λ n. n.1.body)) (get_front nodes more i low)) (nested_within nodes spine h)
+top_front nodes more [] h = refl
+top_front nodes more (ix ∷ spine) h = ap (option_map (λ n. n.1.body)) (get_front nodes more ix.0 h.0)
 
 -- changes that keep the classes
-pub classes_ended : (nodes : List (ℕ × Item)) (k e : ℕ) → classes (modify nodes k (λ x. record x { «end» = e })) ≡ classes nodes
-classes_ended [] k e = refl
-classes_ended (n ∷ nodes) zero e = refl
-classes_ended (n ∷ nodes) (suc k) e = ap (λ z. class_of n.1.body ∷ z) (classes_ended nodes k e)
+pub classed_ended : (nodes : List (ℕ × Item)) (k e : ℕ) → AreClassed nodes (modify nodes k (λ x. record x { «end» = e }))
+classed_ended nodes k e = record {
+  size = length-modify nodes k (λ x. record x { «end» = e });
+  same = λ i. ap class_of (body-kept nodes k i (λ x. record x { «end» = e }) (λ x. refl));
+}
 
-pub classes_body : (nodes : List (ℕ × Item)) (k : ℕ) (a b : ItemBody) → body_at nodes k ≡ Some a → class_of a ≡ class_of b
-    → classes (modify nodes k (λ x. record x { body = b })) ≡ classes nodes
-classes_body [] k a b is same = refl
-classes_body (n ∷ nodes) zero a b is same =
-    (let e : n.1.body ≡ a = cc in ap (λ z. z ∷ classes nodes) (sym same) ∙ ap (λ z. class_of z ∷ classes nodes) (sym e))
-classes_body (n ∷ nodes) (suc k) a b is same = ap (λ z. class_of n.1.body ∷ z) (classes_body nodes k a b is same)
+pub body-moved : (place : ℕ) (nodes : List (ℕ × Item)) (i : ℕ) → body_at (map_from shallower place nodes) i ≡ body_at nodes i
+body-moved zero [] i = refl
+body-moved zero (n ∷ nodes) zero = refl
+body-moved zero (n ∷ nodes) (suc i) = body-moved zero nodes i
+body-moved (suc place) [] i = refl
+body-moved (suc place) (n ∷ nodes) zero = refl
+body-moved (suc place) (n ∷ nodes) (suc i) = body-moved place nodes i
 
-classes_shallower : (nodes : List (ℕ × Item)) → classes (map shallower nodes) ≡ classes nodes
-classes_shallower [] = refl
-classes_shallower (n ∷ nodes) = ap (λ z. class_of n.1.body ∷ z) (classes_shallower nodes)
+-- trees that look alike
+pub like_nested : (f g : Forest Item) → LooksAlike f g → AreNested f.nodes f.spine → AreNested g.nodes g.spine
+like_nested f g a h = subst (AreNested g.nodes) (sym a.spine) (nested_classed f.nodes g.nodes f.spine (classed_alike f.nodes g.nodes a.nodes) h)
 
-classes_moved : (place : ℕ) (nodes : List (ℕ × Item)) → classes (map_from shallower place nodes) ≡ classes nodes
-classes_moved zero nodes = classes_shallower nodes
-classes_moved (suc place) [] = refl
-classes_moved (suc place) (n ∷ nodes) = ap (λ z. class_of n.1.body ∷ z) (classes_moved place nodes)
+pub like_class : (f g : Forest Item) → LooksAlike f g → class_of (top_body g) ≡ class_of (top_body f)
+like_class f g a = ap (λ s. class_of (top_of g.nodes s)) a.spine ∙ top_classed f.nodes g.nodes f.spine (classed_alike f.nodes g.nodes a.nodes)
 
--- no possible title is last if the innermost open node is no list, or if its last child is an item
-definitions_list : (b : Option ItemBody) → is_definition_list b ≡ true → is_list b ≡ true
-definitions_list None h = cc
-definitions_list (Some (DefinitionList flags)) h = refl
-definitions_list (Some b) h = cc
+-- a definition list is a list, and neither an item nor a footnote definition
+pub definitions_are : (b : Option ItemBody) → is_definition_list b ≡ true → (is_list b ≡ true) × (is_item b ≡ false) × (is_footnote b ≡ false)
+definitions_are None h = cc
+definitions_are (Some (DefinitionList flags)) h = (refl, refl, refl)
+definitions_are (Some b) h = cc
 
-other_list : (b : Option ItemBody) → is_list b ≡ false → is_definition_list b ≡ false
-other_list None h = refl
-other_list (Some (DefinitionList flags)) h = cc
-other_list (Some b) h = refl
+pub other_list : (b : Option ItemBody) → is_list b ≡ false → is_definition_list b ≡ false
+other_list b none = false_from_ne_true (is_definition_list b) (λ list. true≢false (sym (definitions_are b list).0 ∙ none))
 
-untitled_by : (top : Option ItemBody) (ix : TreeIndex) (b : Option ItemBody) → is_definition_list top ≡ false → title_by top ix b ≡ None
-untitled_by top ix (Some MaybeDefinitionListTitle) other = ap (λ (t : Bool). if t then Some ix else None) other
-untitled_by top ix None other = refl
-untitled_by top ix (Some b) other = refl
+-- a list is no item, nor is a footnote definition
+list_other : (b : Option ItemBody) → is_list b ≡ true → is_item b ≡ false
+list_other None h = cc
+list_other (Some (ListBody flags byte number)) h = refl
+list_other (Some (DefinitionList flags)) h = refl
+list_other (Some b) h = cc
 
-untitled_top : (f : Forest Item) (o : Option TreeIndex) → is_definition_list (top_body f) ≡ false
-    → option_and_then (λ ix. title_by (top_body f) ix (body_at f.nodes ix.0)) o ≡ None
-untitled_top f None other = refl
-untitled_top f (Some c) other = untitled_by (top_body f) c (body_at f.nodes c.0) other
+note_other : (b : Option ItemBody) → is_footnote b ≡ true → is_item b ≡ false
+note_other None h = cc
+note_other (Some (FootnoteDefinitionBody label)) h = refl
+note_other (Some b) h = cc
 
-pub no_title : (f : Forest Item) (current : Option TreeIndex) → is_list (top_body f) ≡ false
-    → option_and_then (λ ix. title_by (top_body f) ix (body_at f.nodes ix.0)) current ≡ None
-no_title f current none = untitled_top f current (other_list (top_body f) none)
+-- the current node, a possible title in an open definition list
+pub record TitleThere (f : Forest Item) (title : TreeIndex) : Type 0 where
+  pub current : f.current ≡ Some title
+  pub body : body_at f.nodes title.0 ≡ Some MaybeDefinitionListTitle
+  pub list : is_definition_list (top_body f) ≡ true
 
-unless_item : (top : Option ItemBody) (ix : TreeIndex) (b : Option ItemBody) → is_item b ≡ true → title_by top ix b ≡ None
-unless_item top ix None item = refl
-unless_item top ix (Some MaybeDefinitionListTitle) item = cc
-unless_item top ix (Some b) item = refl
+title_is : (top : Option ItemBody) (c : TreeIndex) (b : Option ItemBody) (title : TreeIndex) → title_by top c b ≡ Some title
+    → (c ≡ title) × (b ≡ Some MaybeDefinitionListTitle) × (is_definition_list top ≡ true)
+title_is top c (Some MaybeDefinitionListTitle) title is = (let both = cond_some (is_definition_list top) c title is in (both.1, refl, both.0))
+title_is top c None title is = cc
+title_is top c (Some b) title is = cc
 
-last_by : (top : Option ItemBody) (ix : TreeIndex) (b : Option ItemBody) (t : Bool) → is_list top ≡ t → (is_list top ≡ true → is_item b ≡ true)
-    → title_by top ix b ≡ None
-last_by top ix b true is item = unless_item top ix b (item is)
-last_by top ix b false is item = untitled_by top ix b (other_list top is)
+there_with : (f : Forest Item) (o : Option TreeIndex) (title : TreeIndex) → f.current ≡ o
+    → option_and_then (λ ix. title_by (top_body f) ix (body_at f.nodes ix.0)) o ≡ Some title → TitleThere f title
+there_with f None title current is = cc
+there_with f (Some c) title current is =
+    let (same, body, list) = title_is (top_body f) c (body_at f.nodes c.0) title is in
+    record { current = current ∙ ap (λ z. Some z) same; body = ap (λ (z : TreeIndex). body_at f.nodes z.0) (sym same) ∙ body; list = list }
+
+pub title_there : (f : Forest Item) (title : TreeIndex) → possible_title f ≡ Some title → TitleThere f title
+title_there f title is = there_with f f.current title refl is
+
+-- no possible title is last if there is none
+untitled_by : (f : Forest Item) (o : Option TreeIndex) → possible_title f ≡ o → ((title : TreeIndex) → TitleThere f title → ⊥) → possible_title f ≡ None
+untitled_by f None is none = is
+untitled_by f (Some title) is none = absurd (none title (title_there f title is))
+
+untitled : (f : Forest Item) → ((title : TreeIndex) → TitleThere f title → ⊥) → possible_title f ≡ None
+untitled f none = untitled_by f (possible_title f) refl none
+
+pub note_untitled : (f : Forest Item) → is_footnote (top_body f) ≡ true → possible_title f ≡ None
+note_untitled f note = untitled f (λ title t. true≢false (sym note ∙ (definitions_are (top_body f) t.list).2))
+
+item_untitled : (f : Forest Item) (ix : TreeIndex) → f.current ≡ Some ix → (is_list (top_body f) ≡ true → is_item (body_at f.nodes ix.0) ≡ true)
+    → possible_title f ≡ None
+item_untitled f ix current item =
+    untitled f (λ title t.
+    let here : title ≡ ix = (let a = t.current in cc) in
+    true≢false (sym (item (definitions_are (top_body f) t.list).0) ∙ ap (λ (z : TreeIndex). is_item (body_at f.nodes z.0)) (sym here) ∙ ap is_item t.body))
 
 -- The innermost open node is closed: the nodes keep their classes, and it is current.
 pub record PopsTo (r q : PassState) (ix : TreeIndex) (rest : List TreeIndex) : Type 0 where
-  pub same : classes q.tree.nodes ≡ classes r.tree.nodes
+  pub same : AreClassed r.tree.nodes q.tree.nodes
   pub spine : q.tree.spine ≡ rest
   pub current : q.tree.current ≡ Some ix
 
@@ -184,7 +167,13 @@ pub pops_at : (e : ℕ) (r : PassState) (ix : TreeIndex) (rest : List TreeIndex)
 pops_at e r ix rest =
     let f : Forest Item = closed_by r.tree e (ix ∷ rest) in
     let like = like_popped r f ix (body_at f.nodes ix.0) in
-    record { same = classes_alike f.nodes _ like.nodes ∙ classes_ended r.tree.nodes ix.0 e; spine = like.spine; current = like.current }
+    let alike = classed_alike f.nodes _ like.nodes in
+    let ended = classed_ended r.tree.nodes ix.0 e in
+    record {
+      same = record { size = alike.size ∙ ended.size; same = λ i. alike.same i ∙ ended.same i };
+      spine = like.spine;
+      current = like.current;
+    }
 
 -- nested; no possible title is last; and an innermost definition list has a last child
 pub record IsSettled (r : PassState) : Type 0 where
@@ -196,11 +185,20 @@ pub record IsSettled (r : PassState) : Type 0 where
 abbrev pub IsOutside : PassState → Type 0
 IsOutside r = AreNested r.tree.nodes r.tree.spine × (is_list (top_body r.tree) ≡ false)
 
-no_list_last : (f : Forest Item) → is_list (top_body f) ≡ false → HasDefinition f
-no_list_last f none list = absurd (true≢false (sym (definitions_list (top_body f) list) ∙ none))
+-- nested, and the innermost open node is no definition list
+other_settled : (r : PassState) → AreNested r.tree.nodes r.tree.spine → is_definition_list (top_body r.tree) ≡ false → IsSettled r
+other_settled r h other = record {
+  nested = h;
+  none = untitled r.tree (λ title t. true≢false (sym t.list ∙ other));
+  last = λ list. absurd (true≢false (sym list ∙ other));
+}
 
 pub outside_settled : (r : PassState) → IsOutside r → IsSettled r
-outside_settled r h = record { nested = h.0; none = no_title r.tree r.tree.current h.1; last = no_list_last r.tree h.1 }
+outside_settled r h = other_settled r h.0 (other_list (top_body r.tree) h.1)
+
+pub item_settled : (r : PassState) → AreNested r.tree.nodes r.tree.spine → is_item (top_body r.tree) ≡ true → IsSettled r
+item_settled r h item =
+    other_settled r h (false_from_ne_true (is_definition_list (top_body r.tree)) (λ list. true≢false (sym item ∙ (definitions_are (top_body r.tree) list).1)))
 
 item_unmarked : (b : Option ItemBody) → is_item b ≡ true → IsSomeAnd b (λ c. is_task_marker c ≡ false)
 item_unmarked None h = cc
@@ -211,244 +209,137 @@ item_unmarked (Some b) h = cc
 pops_nested : (r q : PassState) (ix : TreeIndex) (rest : List TreeIndex) → AreNested r.tree.nodes (ix ∷ rest) → PopsTo r q ix rest
     → AreNested q.tree.nodes q.tree.spine
 pops_nested r q ix rest h p =
-    subst (AreNested q.tree.nodes) (sym p.spine) (nested_same r.tree.nodes q.tree.nodes rest p.same h.2)
+    subst (AreNested q.tree.nodes) (sym p.spine) (nested_classed r.tree.nodes q.tree.nodes rest p.same h.2)
 
--- a list is closed: the innermost open node is then no list
+pops_top : (r q : PassState) (ix : TreeIndex) (rest : List TreeIndex) → PopsTo r q ix rest → is_list (top_body q.tree) ≡ is_list (top_of r.tree.nodes rest)
+pops_top r q ix rest p =
+    ap (λ s. is_list (top_of q.tree.nodes s)) p.spine ∙ ap (λ t. t.0) (top_classed r.tree.nodes q.tree.nodes rest p.same)
+
+-- a node that is no item is closed: the innermost open node is then no list
 pops_outside : (r q : PassState) (ix : TreeIndex) (rest : List TreeIndex) → AreNested r.tree.nodes (ix ∷ rest) → is_item (body_at r.tree.nodes ix.0) ≡ false
     → PopsTo r q ix rest → IsOutside q
 pops_outside r q ix rest h other p = (
   pops_nested r q ix rest h p,
-  elim (cases_Bool (is_list (top_of r.tree.nodes rest))) [
-    | inl list ↦ absurd (true≢false (sym (h.1 list) ∙ other))
-    | inr none ↦ ap (λ s. is_list (top_of q.tree.nodes s)) p.spine ∙ top_list_same r.tree.nodes q.tree.nodes rest p.same ∙ none
-  ],
+  pops_top r q ix rest p ∙ false_from_ne_true (is_list (top_of r.tree.nodes rest)) (λ list. true≢false (sym (h.1 list) ∙ other)),
 )
 
 pops_settled : (r q : PassState) (ix : TreeIndex) (rest : List TreeIndex) → AreNested r.tree.nodes (ix ∷ rest) → PopsTo r q ix rest → IsSettled q
 pops_settled r q ix rest h p =
-    let item : is_list (top_of q.tree.nodes q.tree.spine) ≡ true → is_item (body_at q.tree.nodes ix.0) ≡ true =
-    λ list. item_same r.tree.nodes q.tree.nodes ix.0 p.same
-    ∙ h.1 (sym (ap (λ s. is_list (top_of q.tree.nodes s)) p.spine ∙ top_list_same r.tree.nodes q.tree.nodes rest p.same) ∙ list) in
+    let item : is_list (top_body q.tree) ≡ true → is_item (body_at q.tree.nodes ix.0) ≡ true =
+    λ list. ap (λ t. t.1) (p.same.same ix.0) ∙ h.1 (sym (pops_top r q ix rest p) ∙ list) in
     record {
       nested = pops_nested r q ix rest h p;
-      none = ap (option_and_then (λ c. title_by (top_body q.tree) c (body_at q.tree.nodes c.0))) p.current
-          ∙ last_by (top_of q.tree.nodes q.tree.spine) ix (body_at q.tree.nodes ix.0) (is_list (top_of q.tree.nodes q.tree.spine)) refl item;
+      none = item_untitled q.tree ix p.current item;
       last = λ list. subst (λ o. IsSomeAnd (option_and_then (λ c. body_at q.tree.nodes c.0) o) (λ b. is_task_marker b ≡ false)) (sym p.current)
-          (item_unmarked (body_at q.tree.nodes ix.0) (item (definitions_list (top_body q.tree) list)));
+          (item_unmarked (body_at q.tree.nodes ix.0) (item (definitions_are (top_body q.tree) list).0));
     }
+
+at_outside : (e : ℕ) (r : PassState) (spine : List TreeIndex) → r.tree.spine ≡ spine → AreNested r.tree.nodes r.tree.spine
+    → is_item (top_of r.tree.nodes spine) ≡ false → IsOutside (popped_at e r spine)
+at_outside e r [] is h other = (h, ap (λ s. is_list (top_of r.tree.nodes s)) is)
+at_outside e r (ix ∷ rest) is h other =
+    pops_outside r (popped_at e r (ix ∷ rest)) ix rest (subst (AreNested r.tree.nodes) is h) other (pops_at e r ix rest)
 
 -- The innermost definition list is closed, and its possible title is moved out of it: the innermost open node is then
 -- no list.
 moved_outside : (q : PassState) (o : Option TreeIndex) → IsOutside q → IsOutside (current_moved q o)
 moved_outside q None h = h
 moved_outside q (Some c) h =
-    let same = classes_moved c.0 q.tree.nodes in (
-      nested_same q.tree.nodes (map_from shallower c.0 q.tree.nodes) q.tree.spine same h.0,
-      top_list_same q.tree.nodes (map_from shallower c.0 q.tree.nodes) q.tree.spine same ∙ h.1,
-    )
-
-definitions_other : (b : Option ItemBody) → is_definition_list b ≡ true → is_item b ≡ false
-definitions_other None h = cc
-definitions_other (Some (DefinitionList flags)) h = refl
-definitions_other (Some b) h = cc
-
-closed_outside : (e : ℕ) (r : PassState) (spine : List TreeIndex) → r.tree.spine ≡ spine → AreNested r.tree.nodes r.tree.spine
-    → is_definition_list (top_of r.tree.nodes spine) ≡ true → IsOutside (popped_at e r spine)
-closed_outside e r [] is h list = cc
-closed_outside e r (ix ∷ rest) is h list =
-    pops_outside r (popped_at e r (ix ∷ rest)) ix rest (subst (AreNested r.tree.nodes) is h) (definitions_other (body_at r.tree.nodes ix.0) list)
-    (pops_at e r ix rest)
+    let moved : List (ℕ × Item) = map_from shallower c.0 q.tree.nodes in
+    let same : AreClassed q.tree.nodes moved = record {
+      size = lower_length q.tree.nodes c.0;
+      same = λ i. ap class_of (body-moved c.0 q.tree.nodes i);
+    } in
+    (nested_classed q.tree.nodes moved q.tree.spine same h.0, ap (λ t. t.0) (top_classed q.tree.nodes moved q.tree.spine same) ∙ h.1)
 
 pub definitions_closed_outside : (e : ℕ) (r : PassState) → AreNested r.tree.nodes r.tree.spine → is_definition_list (top_body r.tree) ≡ true
     → IsOutside (definitions_closed e r)
 unfolding definitions_closed
 definitions_closed_outside e r h list =
-    moved_outside (popped_at e r r.tree.spine) r.tree.current (closed_outside e r r.tree.spine refl h list)
+    moved_outside (popped_at e r r.tree.spine) r.tree.current (at_outside e r r.tree.spine refl h (definitions_are (top_body r.tree) list).1)
 
--- the current node, a possible title in an open definition list
-pub record TitleThere (f : Forest Item) (title : TreeIndex) : Type 0 where
-  pub current : f.current ≡ Some title
-  pub body : body_at f.nodes title.0 ≡ Some MaybeDefinitionListTitle
-  pub list : is_definition_list (top_body f) ≡ true
-
-there_if : (f : Forest Item) (c title : TreeIndex) (t : Bool) → f.current ≡ Some c → body_at f.nodes c.0 ≡ Some MaybeDefinitionListTitle
-    → is_definition_list (top_body f) ≡ t → (if t then Some c else None) ≡ Some title → TitleThere f title
-there_if f c title true current body list is =
-    let e : c ≡ title = cc in
-    record { current = current ∙ ap (λ z. Some z) e; body = ap (λ (z : TreeIndex). body_at f.nodes z.0) (sym e) ∙ body; list = list }
-there_if f c title false current body list is = cc
-
-there_by : (f : Forest Item) (c title : TreeIndex) (b : Option ItemBody) → f.current ≡ Some c → body_at f.nodes c.0 ≡ b
-    → title_by (top_body f) c b ≡ Some title → TitleThere f title
-there_by f c title (Some MaybeDefinitionListTitle) current body is = there_if f c title (is_definition_list (top_body f)) current body refl is
-there_by f c title None current body is = cc
-there_by f c title (Some b) current body is = cc
-
-there_with : (f : Forest Item) (o : Option TreeIndex) (title : TreeIndex) → f.current ≡ o
-    → option_and_then (λ ix. title_by (top_body f) ix (body_at f.nodes ix.0)) o ≡ Some title → TitleThere f title
-there_with f None title current is = cc
-there_with f (Some c) title current is = there_by f c title (body_at f.nodes c.0) current refl is
-
-pub title_there : (f : Forest Item) (title : TreeIndex) → possible_title f ≡ Some title → TitleThere f title
-title_there f title is = there_with f f.current title refl is
-
--- none is last in a footnote definition
-note_no_list : (b : Option ItemBody) → is_footnote b ≡ true → is_definition_list b ≡ true → ⊥
-note_no_list None h k = cc
-note_no_list (Some (FootnoteDefinitionBody label)) h k = cc
-note_no_list (Some b) h k = cc
-
-note_by : (f : Forest Item) (o : Option TreeIndex) → possible_title f ≡ o → is_footnote (top_body f) ≡ true → possible_title f ≡ None
-note_by f None is note = is
-note_by f (Some title) is note = absurd (note_no_list (top_body f) note (title_there f title is).list)
-
-pub note_untitled : (f : Forest Item) → is_footnote (top_body f) ≡ true → possible_title f ≡ None
-note_untitled f note = note_by f (possible_title f) refl note
-
--- a possible title is a paragraph again: the nodes keep their classes
-pub untitled_same : (f : Forest Item) (title : TreeIndex) → TitleThere f title → classes (with_body_at f title Paragraph).nodes ≡ classes f.nodes
-untitled_same f title t = classes_body f.nodes title.0 MaybeDefinitionListTitle Paragraph t.body refl
-
-definitions_top : (nodes : List (ℕ × Item)) (i title : ℕ) (b : ItemBody) → body_at nodes title ≡ Some MaybeDefinitionListTitle
-    → is_definition_list (body_at nodes i) ≡ true → is_definition_list (body_at (modify nodes title (λ x. record x { body = b })) i) ≡ true
-definitions_top [] i title b is list = list
-definitions_top (n ∷ nodes) zero zero b is list =
-    (let e : Some n.1.body ≡ Some MaybeDefinitionListTitle = is in let f = sym (ap is_definition_list e) ∙ list in cc)
-definitions_top (n ∷ nodes) (suc i) zero b is list = list
-definitions_top (n ∷ nodes) zero (suc title) b is list = list
-definitions_top (n ∷ nodes) (suc i) (suc title) b is list = definitions_top nodes i title b is list
-
-definitions_still : (nodes : List (ℕ × Item)) (spine : List TreeIndex) (title : ℕ) (b : ItemBody) → body_at nodes title ≡ Some MaybeDefinitionListTitle
-    → is_definition_list (top_of nodes spine) ≡ true → is_definition_list (top_of (modify nodes title (λ x. record x { body = b })) spine) ≡ true
-definitions_still nodes [] title b is list = list
-definitions_still nodes (ix ∷ spine) title b is list = definitions_top nodes ix.0 title b is list
-
+-- a possible title becomes a paragraph first
 pub title_closed_outside : (r : PassState) (title : TreeIndex) → TitleThere r.tree title → AreNested r.tree.nodes r.tree.spine
     → IsOutside (title_closed r title)
 title_closed_outside r title t h =
     let g : Forest Item = with_body_at r.tree title Paragraph in
-    definitions_closed_outside (top_end r.tree) (with_tree r g)
-    (nested_same r.tree.nodes g.nodes r.tree.spine (untitled_same r.tree title t) h)
-    (definitions_still r.tree.nodes r.tree.spine title.0 Paragraph t.body t.list)
+    let like : LooksAlike r.tree g = like_body r.tree title MaybeDefinitionListTitle Paragraph t.body (refl, λ k. refl) in
+    definitions_closed_outside (top_end r.tree) (with_tree r g) (like_nested r.tree g like h) (ap (λ k. k.2) (like_class r.tree g like) ∙ t.list)
 
--- closing the innermost open node
-popped_at_settled : (e : ℕ) (r : PassState) (spine : List TreeIndex) → r.tree.spine ≡ spine → IsSettled r → IsSettled (popped_at e r spine)
-popped_at_settled e r [] is h = h
-popped_at_settled e r (ix ∷ rest) is h =
+-- what holds after the innermost open node is closed: there was no possible title, or it was moved out of its list
+after_both : (e : ℕ) (r : PassState) (P : PassState → Type 0) (o : Option TreeIndex) → possible_title r.tree ≡ o
+    → (possible_title r.tree ≡ None → P (popped_at e r r.tree.spine))
+    → ((title : TreeIndex) → possible_title r.tree ≡ Some title → P (title_closed r title)) → P (popped_after e r o)
+after_both e r P None is none some = none is
+after_both e r P (Some title) is none some = some title is
+
+pub popped_both : (e : ℕ) (r : PassState) (P : PassState → Type 0) → (possible_title r.tree ≡ None → P (popped_at e r r.tree.spine))
+    → ((title : TreeIndex) → possible_title r.tree ≡ Some title → P (title_closed r title)) → P (popped e r)
+unfolding popped
+popped_both e r P none some = after_both e r P (possible_title r.tree) refl none some
+
+at_settled : (e : ℕ) (r : PassState) (spine : List TreeIndex) → r.tree.spine ≡ spine → IsSettled r → IsSettled (popped_at e r spine)
+at_settled e r [] is h = h
+at_settled e r (ix ∷ rest) is h =
     pops_settled r (popped_at e r (ix ∷ rest)) ix rest (subst (AreNested r.tree.nodes) is h.nested) (pops_at e r ix rest)
 
-after_settled : (e : ℕ) (r : PassState) (o : Option TreeIndex) → possible_title r.tree ≡ o → AreNested r.tree.nodes r.tree.spine → HasDefinition r.tree
-    → IsSettled (popped_after e r o)
-after_settled e r None is h last = popped_at_settled e r r.tree.spine refl (record { nested = h; none = is; last = last })
-after_settled e r (Some title) is h last =
-    outside_settled (title_closed r title) (title_closed_outside r title (title_there r.tree title is) h)
-
 pub popped_settled : (e : ℕ) (r : PassState) → AreNested r.tree.nodes r.tree.spine → HasDefinition r.tree → IsSettled (popped e r)
-unfolding popped
-popped_settled e r h last = after_settled e r (possible_title r.tree) refl h last
+popped_settled e r h last =
+    popped_both e r IsSettled (λ none. at_settled e r r.tree.spine refl (record { nested = h; none = none; last = last }))
+    (λ title is. outside_settled (title_closed r title) (title_closed_outside r title (title_there r.tree title is) h))
 
 -- closing an item
-pops_item : (r q : PassState) (ix : TreeIndex) (rest : List TreeIndex) → is_item (body_at r.tree.nodes ix.0) ≡ true → PopsTo r q ix rest
-    → possible_title q.tree ≡ None
-pops_item r q ix rest item p =
-    ap (option_and_then (λ c. title_by (top_body q.tree) c (body_at q.tree.nodes c.0))) p.current
-    ∙ unless_item (top_body q.tree) ix (body_at q.tree.nodes ix.0) (item_same r.tree.nodes q.tree.nodes ix.0 p.same ∙ item)
+at_item : (e : ℕ) (r : PassState) (spine : List TreeIndex) → is_item (top_of r.tree.nodes spine) ≡ true → possible_title (popped_at e r spine).tree ≡ None
+at_item e r [] item = cc
+at_item e r (ix ∷ rest) item =
+    let p = pops_at e r ix rest in
+    item_untitled (popped_at e r (ix ∷ rest)).tree ix p.current (λ list. ap (λ t. t.1) (p.same.same ix.0) ∙ item)
 
-popped_at_item : (e : ℕ) (r : PassState) (spine : List TreeIndex) → is_item (top_of r.tree.nodes spine) ≡ true
-    → possible_title (popped_at e r spine).tree ≡ None
-popped_at_item e r [] item = cc
-popped_at_item e r (ix ∷ rest) item = pops_item r (popped_at e r (ix ∷ rest)) ix rest item (pops_at e r ix rest)
-
-after_item : (e : ℕ) (r : PassState) (o : Option TreeIndex) → possible_title r.tree ≡ o → is_item (top_body r.tree) ≡ true
-    → possible_title (popped_after e r o).tree ≡ None
-after_item e r None is item = popped_at_item e r r.tree.spine item
-after_item e r (Some title) is item = absurd (true≢false (sym item ∙ definitions_other (top_body r.tree) (title_there r.tree title is).list))
+pub title_no_item : (f : Forest Item) (title : TreeIndex) → possible_title f ≡ Some title → is_item (top_body f) ≡ true → ⊥
+title_no_item f title is item = true≢false (sym item ∙ (definitions_are (top_body f) (title_there f title is).list).1)
 
 pub popped_item : (e : ℕ) (r : PassState) → is_item (top_body r.tree) ≡ true → possible_title (popped e r).tree ≡ None
-unfolding popped
-popped_item e r item = after_item e r (possible_title r.tree) refl item
+popped_item e r item =
+    popped_both e r (λ q. possible_title q.tree ≡ None) (λ none. at_item e r r.tree.spine item) (λ title is. absurd (title_no_item r.tree title is item))
 
 -- the same for a list or a footnote definition: no list is innermost then
-at_outside : (e : ℕ) (r : PassState) (spine : List TreeIndex) → r.tree.spine ≡ spine → AreNested r.tree.nodes r.tree.spine
-    → is_some (top_of r.tree.nodes spine) ≡ true → is_item (top_of r.tree.nodes spine) ≡ false → IsOutside (popped_at e r spine)
-at_outside e r [] is h some other = cc
-at_outside e r (ix ∷ rest) is h some other =
-    pops_outside r (popped_at e r (ix ∷ rest)) ix rest (subst (AreNested r.tree.nodes) is h) other (pops_at e r ix rest)
+pub popped_outside : (e : ℕ) (r : PassState) → AreNested r.tree.nodes r.tree.spine → is_item (top_body r.tree) ≡ false → IsOutside (popped e r)
+popped_outside e r h other =
+    popped_both e r IsOutside (λ none. at_outside e r r.tree.spine refl h other)
+    (λ title is. title_closed_outside r title (title_there r.tree title is) h)
 
-after_outside : (e : ℕ) (r : PassState) (o : Option TreeIndex) → possible_title r.tree ≡ o → AreNested r.tree.nodes r.tree.spine
-    → is_some (top_body r.tree) ≡ true → is_item (top_body r.tree) ≡ false → IsOutside (popped_after e r o)
-after_outside e r None is h some other = at_outside e r r.tree.spine refl h some other
-after_outside e r (Some title) is h some other = title_closed_outside r title (title_there r.tree title is) h
+-- what holds after an item that began with two blank lines is closed, if there is one
+finished_by : (r : PassState) (P : Forest Item → Type 0) (o : Option ℕ) → r.begin_list_item ≡ o → P r.tree
+    → ((e : ℕ) → r.begin_list_item ≡ Some e → is_item (top_body r.tree) ≡ true → P (popped e r).tree) → P (empty_item_closed_by r o).tree
+finished_by r P None is same closed = same
+finished_by r P (Some e) is same closed =
+    cond_both (r.blank && is_item (top_body r.tree)) (popped e r) r (λ (q : PassState). P q.tree)
+    (λ b. closed e is (and_parts r.blank (is_item (top_body r.tree)) b).1) (λ b. same)
 
-pub popped_outside : (e : ℕ) (r : PassState) → AreNested r.tree.nodes r.tree.spine → is_some (top_body r.tree) ≡ true → is_item (top_body r.tree) ≡ false
-    → IsOutside (popped e r)
-unfolding popped
-popped_outside e r h some other = after_outside e r (possible_title r.tree) refl h some other
-
-list_parts : (b : Option ItemBody) → is_list b ≡ true → (is_some b ≡ true) × (is_item b ≡ false)
-list_parts None h = cc
-list_parts (Some (ListBody flags byte number)) h = (refl, refl)
-list_parts (Some (DefinitionList flags)) h = (refl, refl)
-list_parts (Some b) h = cc
-
-note_parts : (b : Option ItemBody) → is_footnote b ≡ true → (is_some b ≡ true) × (is_item b ≡ false)
-note_parts None h = cc
-note_parts (Some (FootnoteDefinitionBody label)) h = (refl, refl)
-note_parts (Some b) h = cc
-
--- closing an item that began with two blank lines
-popped_nested : (e : ℕ) (r : PassState) → is_item (top_body r.tree) ≡ true → AreNested r.tree.nodes r.tree.spine → IsSettled (popped e r)
-popped_nested e r item h = popped_settled e r h (λ list. absurd (true≢false (sym item ∙ definitions_other (top_body r.tree) list)))
-
-finished_by_nested : (r : PassState) (o : Option ℕ) → AreNested r.tree.nodes r.tree.spine
-    → AreNested (empty_item_closed_by r o).tree.nodes (empty_item_closed_by r o).tree.spine
-finished_by_nested r None h = h
-finished_by_nested r (Some e) h =
-    cond_both (r.blank && is_item (top_body r.tree)) (popped e r) r (λ (q : PassState). AreNested q.tree.nodes q.tree.spine)
-    (λ b. (popped_nested e r (and_parts r.blank (is_item (top_body r.tree)) b).1 h).nested) (λ b. h)
-
-finished_by_last : (r : PassState) (o : Option ℕ) → AreNested r.tree.nodes r.tree.spine → HasDefinition r.tree → HasDefinition (empty_item_closed_by r o).tree
-finished_by_last r None h last = last
-finished_by_last r (Some e) h last =
-    cond_both (r.blank && is_item (top_body r.tree)) (popped e r) r (λ (q : PassState). HasDefinition q.tree)
-    (λ b. (popped_nested e r (and_parts r.blank (is_item (top_body r.tree)) b).1 h).last) (λ b. last)
-
-pub empty_item_closed_last : (r : PassState) → AreNested r.tree.nodes r.tree.spine → HasDefinition r.tree → HasDefinition (empty_item_closed r).tree
+pub finished_both : (r : PassState) (P : Forest Item → Type 0) → P r.tree
+    → ((e : ℕ) → r.begin_list_item ≡ Some e → is_item (top_body r.tree) ≡ true → P (popped e r).tree) → P (empty_item_closed r).tree
 unfolding empty_item_closed
-empty_item_closed_last r h last = finished_by_last r r.begin_list_item h last
+finished_both r P same closed = finished_by r P r.begin_list_item refl same closed
+
+pub popped_nested : (e : ℕ) (r : PassState) → is_item (top_body r.tree) ≡ true → AreNested r.tree.nodes r.tree.spine → IsSettled (popped e r)
+popped_nested e r item h = popped_settled e r h (item_settled r h item).last
 
 pub empty_item_closed_nested : (r : PassState) → AreNested r.tree.nodes r.tree.spine
     → AreNested (empty_item_closed r).tree.nodes (empty_item_closed r).tree.spine
-unfolding empty_item_closed
-empty_item_closed_nested r h = finished_by_nested r r.begin_list_item h
+empty_item_closed_nested r h = finished_both r (λ f. AreNested f.nodes f.spine) h (λ e is item. (popped_nested e r item h).nested)
 
--- closing an innermost list
-left_by : (e : ℕ) (r : PassState) (t : Bool) → is_list (top_body r.tree) ≡ t → AreNested r.tree.nodes r.tree.spine → IsOutside (if t then popped e r else r)
-left_by e r true list h = (let p = list_parts (top_body r.tree) list in popped_outside e r h p.0 p.1)
-left_by e r false none h = (h, none)
-
+-- closing an innermost list or footnote definition
 pub list_left_outside : (e : ℕ) (r : PassState) → AreNested r.tree.nodes r.tree.spine → IsOutside (list_closed e r)
-list_left_outside e r h = left_by e r (is_list (top_body r.tree)) refl h
-
-note_left_by : (e : ℕ) (r : PassState) (t : Bool) → is_footnote (top_body r.tree) ≡ t → IsOutside r → IsOutside (if t then popped e r else r)
-note_left_by e r true note h = (let p = note_parts (top_body r.tree) note in popped_outside e r h.0 p.0 p.1)
-note_left_by e r false none h = h
+list_left_outside e r h =
+    cond_both (is_list (top_body r.tree)) (popped e r) r IsOutside (λ list. popped_outside e r h (list_other (top_body r.tree) list)) (λ none. (h, none))
 
 pub footnote_left_outside : (e : ℕ) (r : PassState) → IsOutside r → IsOutside (footnote_left e r)
-footnote_left_outside e r h = note_left_by e r (is_footnote (top_body r.tree)) refl h
-
--- nodes that are alike
-pub like_nested : (f g : Forest Item) → LooksAlike f g → AreNested f.nodes f.spine → AreNested g.nodes g.spine
-like_nested f g a h = subst (AreNested g.nodes) (sym a.spine) (nested_same f.nodes g.nodes f.spine (classes_alike f.nodes g.nodes a.nodes) h)
-
-pub like_list : (f g : Forest Item) → LooksAlike f g → is_list (top_body g) ≡ is_list (top_body f)
-like_list f g a = ap (λ s. is_list (top_of g.nodes s)) a.spine ∙ top_list_same f.nodes g.nodes f.spine (classes_alike f.nodes g.nodes a.nodes)
-
-pub like_item : (f g : Forest Item) → LooksAlike f g → is_item (top_body g) ≡ is_item (top_body f)
-like_item f g a = ap (λ s. is_item (top_of g.nodes s)) a.spine ∙ top_item_same f.nodes g.nodes f.spine (classes_alike f.nodes g.nodes a.nodes)
+footnote_left_outside e r h =
+    cond_both (is_footnote (top_body r.tree)) (popped e r) r IsOutside (λ note. popped_outside e r h.0 (note_other (top_body r.tree) note)) (λ none. h)
 
 pub noted_outside : (r : PassState) → IsOutside r → IsOutside (gap_marked r)
-noted_outside r h = (like_nested r.tree (gap_marked r).tree (like_noted r) h.0, like_list r.tree (gap_marked r).tree (like_noted r) ∙ h.1)
+noted_outside r h =
+    (like_nested r.tree (gap_marked r).tree (like_noted r) h.0, ap (λ t. t.0) (like_class r.tree (gap_marked r).tree (like_noted r)) ∙ h.1)
 
 -- before a block that ends a list
 pub list_finished_outside : (e : ℕ) (r : PassState) → AreNested r.tree.nodes r.tree.spine → IsOutside (list_finished e r)
@@ -456,64 +347,33 @@ unfolding list_finished
 list_finished_outside e r h = noted_outside (list_closed e (empty_item_closed r)) (list_left_outside e (empty_item_closed r) (empty_item_closed_nested r h))
 
 -- opening a container
-last_there : (nodes : List (ℕ × Item)) (n : ℕ × Item) → body_at (nodes ++ n ∷ []) (length nodes) ≡ Some n.1.body
-last_there [] n = refl
-last_there (m ∷ nodes) n = last_there nodes n
+pub first_there : (nodes : List (ℕ × Item)) (n : ℕ × Item) (more : List (ℕ × Item)) → body_at (nodes ++ n ∷ more) (length nodes) ≡ Some n.1.body
+first_there nodes n more = ap (option_map (λ n. n.1.body)) (get_mid nodes n more)
 
 pub begun_nested : (start : ℕ) (body : ItemBody) (r : PassState) → (is_list (top_body r.tree) ≡ true → is_item (Some body) ≡ true)
     → AreNested r.tree.nodes r.tree.spine → AreNested (begun start body r).tree.nodes (begun start body r).tree.spine
 begun_nested start body r may h =
     let n : ℕ × Item = (length r.tree.spine + 1, record { start = start; «end» = 0; body = body }) in (
       (let more = length-append r.tree.nodes (n ∷ []) in omega arith),
-      λ list. ap is_item (last_there r.tree.nodes n) ∙ may (sym (ap is_list (top_front r.tree.nodes (n ∷ []) r.tree.spine h)) ∙ list),
+      λ list. ap is_item (first_there r.tree.nodes n []) ∙ may (sym (ap is_list (top_front r.tree.nodes (n ∷ []) r.tree.spine h)) ∙ list),
       nested_front r.tree.nodes (n ∷ []) r.tree.spine h,
     )
 
 pub begun_settled : (start : ℕ) (body : ItemBody) (r : PassState) → is_definition_list (Some body) ≡ false
     → (is_list (top_body r.tree) ≡ true → is_item (Some body) ≡ true) → AreNested r.tree.nodes r.tree.spine → IsSettled (begun start body r)
 begun_settled start body r other may h =
-    let n : ℕ × Item = (length r.tree.spine + 1, record { start = start; «end» = 0; body = body }) in
-    record {
-      nested = begun_nested start body r may h;
-      none = refl;
-      last = λ list. absurd (true≢false (sym list ∙ ap is_definition_list (last_there r.tree.nodes n) ∙ other));
-    }
+    other_settled (begun start body r) (begun_nested start body r may h)
+    (ap is_definition_list (first_there r.tree.nodes (length r.tree.spine + 1, record { start = start; «end» = 0; body = body }) []) ∙ other)
 
 -- the same outside lists
 pub begun_outside : (start : ℕ) (body : ItemBody) (r : PassState) → is_definition_list (Some body) ≡ false → IsOutside r → IsSettled (begun start body r)
 begun_outside start body r other h = begun_settled start body r other (λ list. absurd (true≢false (sym list ∙ h.1))) h.0
 
--- a list of items is no definition list, even if it becomes loose
+-- a list of items is no definition list
 list_of_other : (ch : ℕ) (b : Option ItemBody) → is_list_of ch b ≡ true → is_definition_list b ≡ false
 list_of_other ch None h = cc
 list_of_other ch (Some (ListBody flags byte number)) h = refl
 list_of_other ch (Some b) h = cc
-
-loosened_other : (f : Forest Item) (ix : TreeIndex) (b : Option ItemBody) → body_at f.nodes ix.0 ≡ b → is_definition_list b ≡ false
-    → is_definition_list (body_at (loosened_by f ix b).nodes ix.0) ≡ false
-loosened_other f ix (Some (ListBody flags byte number)) is other =
-    ap is_definition_list
-    (body-changed f.nodes ix.0 (λ x. record x { body = ListBody (list_flags false) byte number }) (ListBody flags byte number)
-    (ListBody (list_flags false) byte number) is (λ x e. refl))
-loosened_other f ix (Some (DefinitionList flags)) is other = absurd (true≢false other)
-loosened_other f ix None is other = ap is_definition_list is ∙ other
-loosened_other f ix (Some b) is other = ap is_definition_list is ∙ other
-
-top_other : (f : Forest Item) (s : List TreeIndex) → f.spine ≡ s → is_definition_list (top_body f) ≡ false
-    → is_definition_list (top_body (loosened_top f s)) ≡ false
-top_other f [] spine other = other
-top_other f (ix ∷ rest) spine other =
-    let g : Forest Item = loosened_at f ix in
-    let top : top_body g ≡ body_at g.nodes ix.0 =
-    ap (λ (s : List TreeIndex). option_and_then (λ ix. body_at g.nodes ix.0) (slice_get s 0)) ((like_loosened f ix).spine ∙ spine) in
-    let here : is_definition_list (body_at f.nodes ix.0) ≡ false =
-    sym (ap (λ (s : List TreeIndex). is_definition_list (option_and_then (λ ix. body_at f.nodes ix.0) (slice_get s 0))) spine) ∙ other in
-    ap is_definition_list top ∙ loosened_other f ix (body_at f.nodes ix.0) refl here
-
-kept_other : (r : PassState) → is_definition_list (top_body r.tree) ≡ false → is_definition_list (top_body (list_kept r).tree) ≡ false
-kept_other r other =
-    cond_both r.blank (record r { tree = loosened_top r.tree r.tree.spine; blank = false }) r (λ (q : PassState). is_definition_list (top_body q.tree) ≡ false)
-    (λ b. top_other r.tree r.tree.spine refl other) (λ b. other)
 
 pub list_continued_settled : (start byte number : ℕ) (r : PassState) → AreNested r.tree.nodes r.tree.spine → IsSettled (list_continued start byte number r)
 unfolding list_continued
@@ -522,12 +382,8 @@ list_continued_settled start byte number r h =
     let k = empty_item_closed_nested r h in
     let body : ItemBody = ListBody (list_flags true) byte number in
     let kept : is_list_of byte (top_body s.tree) ≡ true → IsSettled (list_kept s) =
-    (λ list. let other = kept_other s (list_of_other byte (top_body s.tree) list) in
-    record {
-      nested = like_nested s.tree (list_kept s).tree (like_kept s) k;
-      none = untitled_top (list_kept s).tree (list_kept s).tree.current other;
-      last = λ is. absurd (true≢false (sym is ∙ other));
-    }) in
+    λ list. other_settled (list_kept s) (like_nested s.tree (list_kept s).tree (like_kept s) k)
+    (ap (λ t. t.2) (like_class s.tree (list_kept s).tree (like_kept s)) ∙ list_of_other byte (top_body s.tree) list) in
     cond_both (is_list_of byte (top_body s.tree)) (list_kept s) (begun start body (list_finished start s)) IsSettled kept
     (λ b. begun_outside start body (list_finished start s) refl (list_finished_outside start s k))
 
@@ -551,9 +407,11 @@ pub added_outside : (f : Forest Item) (items : List (ℕ × Item)) → AreNested
 added_outside f items h none = (nested_front f.nodes _ f.spine h, ap is_list (top_front f.nodes _ f.spine h) ∙ none)
 
 -- the nodes can then be closed in order
+pub untitled_closes : (text : List ℕ) (f : Forest Item) (at : ℕ) → possible_title f ≡ None → EndsBeforeTitle text f at
+untitled_closes text f at none title is = absurd (none-some title (sym none ∙ is))
+
 pub settled_closes : (text : List ℕ) (r : PassState) (at : ℕ) → IsSettled r → CanClose text r.tree at
-settled_closes text r at h =
-    record { nested = h.nested; last = h.last; title = λ title is. (let e : None ≡ Some title = sym h.none ∙ is in cc) }
+settled_closes text r at h = record { nested = h.nested; last = h.last; title = untitled_closes text r.tree at h.none }
 
 pub outside_closes : (text : List ℕ) (r : PassState) (at : ℕ) → IsOutside r → CanClose text r.tree at
 outside_closes text r at h = settled_closes text r at (outside_settled r h)
@@ -561,19 +419,19 @@ outside_closes text r at h = settled_closes text r at (outside_settled r h)
 pub tree_closes : (text : List ℕ) (f : Forest Item) (at : ℕ) → AreNested f.nodes f.spine → is_list (top_body f) ≡ false → CanClose text f at
 tree_closes text f at nested none = outside_closes text (state_with f None false) at (nested, none)
 
--- a blank line does not change the last child
-blank_by_last : (r : PassState) (b : Option ItemBody) → top_body r.tree ≡ b → HasDefinition r.tree
-    → is_item (top_body (blank_read_by r b).tree) ≡ is_item (top_body r.tree) → HasDefinition (blank_read_by r b).tree
-blank_by_last r (Some (ListItemBody columns)) is h item =
-    λ list. absurd (true≢false (sym (item ∙ ap is_item is) ∙ definitions_other (top_body (blank_read_by r (Some (ListItemBody columns))).tree) list))
-blank_by_last r (Some (DefinitionListDefinition columns)) is h item =
-    λ list. absurd (true≢false (sym (item ∙ ap is_item is)
-    ∙ definitions_other (top_body (blank_read_by r (Some (DefinitionListDefinition columns))).tree) list))
-blank_by_last r b is h item = h
+-- what holds after a blank line is read: the tree is the same, or an item is innermost
+blank_by_both : (r : PassState) (P : Forest Item → Type 0) (b : Option ItemBody) → top_body r.tree ≡ b → P r.tree
+    → (is_item (top_body r.tree) ≡ true → P (blank_read_by r b).tree) → P (blank_read_by r b).tree
+blank_by_both r P (Some (ListItemBody columns)) is same item = item (ap is_item is)
+blank_by_both r P (Some (DefinitionListDefinition columns)) is same item = item (ap is_item is)
+blank_by_both r P b is same item = same
 
-pub blank_last : (r : PassState) → HasDefinition r.tree → HasDefinition (blank_read r).tree
+pub blank_both : (r : PassState) (P : Forest Item → Type 0) → P r.tree → (is_item (top_body r.tree) ≡ true → P (blank_read r).tree) → P (blank_read r).tree
 unfolding blank_read
-blank_last r h = blank_by_last r (top_body r.tree) refl h (like_item r.tree (blank_read_by r (top_body r.tree)).tree (like_blank r))
+blank_both r P same item = blank_by_both r P (top_body r.tree) refl same item
+
+pub blank_item : (r : PassState) → is_item (top_body (blank_read r).tree) ≡ is_item (top_body r.tree)
+blank_item r = ap (λ t. t.1) (like_class r.tree (blank_read r).tree (like_blank r))
 
 -- before the first block
 pub first_closes : (text : List ℕ) (tree : Forest Item) (root : TreeIndex) (e at : ℕ) → tree ≡ with_end_at empty_forest root e → CanClose text tree at

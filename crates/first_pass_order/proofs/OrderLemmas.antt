@@ -1,60 +1,68 @@
 -- Adding and opening nodes keeps order, and so does closing the innermost open node.
-use Rattle.std.proofs.Common.{◌≡◌, ◌⊎◌, inl, inr, ℕ, zero, suc, ◌+◌, ◌≤◌, Bool, true, false, if◌then◌else◌, List, [], ◌∷◌, ◌++◌, length}
-use Rattle.std.proofs.Common.{slice_get, Option, Some, None, IsUtf8, IsCharBoundary, refl, sym, ap, subst, ◌∙◌, arith}
-use Rattle.std.proofs.lemmas.Str.{IsCharBoundary-start, IsCharBoundary-end}
-use Rattle.std.specs.Option.{option_and_then}
-use Rattle.first_pass_items.specs.declared.item.Item.{Item}
-use Rattle.first_pass_items.specs.declared.item.ItemBody.{ItemBody}
-use Rattle.first_pass_items.specs.declared.item.ItemBody.TheVariants.{List as ListBody, ListItem as ListItemBody, DefinitionList, DefinitionListDefinition}
-use Rattle.first_pass_tree.specs.declared.tree_index.TreeIndex.{TreeIndex}
-use Rattle.first_pass_tree.specs.Forest.{Forest, empty_forest, with_end_at, body_at, modify, at_depth, appended, added}
-use Rattle.first_pass_grammar.specs.Order.{Ranged, is_text_block, is_task_marker, is_list_item, is_definition_list, extent_of, extents, Siblings, Empty, Node}
-use Rattle.first_pass_grammar.specs.Order.{laid, IsBetween, Elsewhere, InItem, Fits, FitsBetween, IsOrdered}
-use Rattle.first_pass_grammar.specs.OpenOrder.{laid_open, AreAt, open_within, FitsOpen, item_on_top, within_top, IsOrderedTo}
-use Rattle.first_pass_grammar.proofs.Order.Orders.{beside, ended_at, extents-append, length-extents, extents-at_depth, laid-at_depth, laid-one, laid_open-beside}
-use Rattle.first_pass_grammar.proofs.Order.Orders.{laid_open-pushed, laid_open-level, laid_open-popped, laid_open-root, length-places, fits-one, fits_open-later}
+use Rattle.std.proofs.Common.{◌≡◌, ℕ, zero, suc, ◌+◌, ◌≤◌, Bool, true, false, if◌then◌else◌, List, [], ◌∷◌, ◌++◌, length, slice_get, Option, Some, None}
+use Rattle.std.proofs.Common.{IsUtf8, IsCharBoundary, refl, sym, ap, subst, ◌∙◌, arith, option_and_then, option_map}
+use Rattle.first_pass_grammar.proofs.Common.{IsCharBoundary-start, IsCharBoundary-end, none-some, Item, ItemBody, DefinitionListDefinition}
+use Rattle.first_pass_grammar.proofs.Common.{some_mapped, TreeIndex, Forest, empty_forest, with_end_at, body_at, modify, at_depth, appended, added, Ranged}
+use Rattle.first_pass_grammar.proofs.Common.{is_text_block, is_task_marker, extent_of, extents, Siblings, Empty, laid, IsBetween, Elsewhere, InItem, Fits}
+use Rattle.first_pass_grammar.proofs.Common.{FitsBetween, laid_open, AreAt, open_within, FitsOpen, item_on_top, within_top, IsOrderedTo}
+use Rattle.std.proofs.lemmas.Option.{slice_get-map}
+use Rattle.first_pass_items.specs.declared.item.ItemBody.TheVariants.{ListItem as ListItemBody}
+use Rattle.first_pass_grammar.specs.Order.{is_list_item, is_definition_list, Node}
+use Rattle.first_pass_grammar.specs.Order.{IsOrdered}
+use Rattle.first_pass_grammar.proofs.Order.Orders.{beside, ended_at, extents-append, length-extents, extents-at_depth, laid-at_depth, laid-one}
+use Rattle.first_pass_grammar.proofs.Order.Orders.{laid_open-beside}
+use Rattle.first_pass_grammar.proofs.Order.Orders.{laid_open-pushed, laid_open-level, laid_open-popped, laid_open-root, length-places, fits-one}
+use Rattle.first_pass_grammar.proofs.Order.Orders.{fits_open-later}
 use Rattle.first_pass_grammar.proofs.Order.Orders.{fits_open-beside, fits_open-pushed, fits_open-popped, extents-ended, extents-kept, fits-whole}
 use Rattle.first_pass_open.specs.OpenBlock.{closed_by}
 use Rattle.first_pass_lists.specs.Closing.{is_item, popped_by, begun}
 use Rattle.first_pass_lists.specs.declared.state.PassState.{PassState}
 use Rattle.first_pass_order.specs.Ordered.{reached, IsOrderedAt}
 
--- a forest with the same extents and open nodes
-pub ordered_same : (text : List ℕ) (f g : Forest Item) (a : ℕ)
-    → extents g.nodes ≡ extents f.nodes → g.spine ≡ f.spine → IsOrderedTo text f a → IsOrderedTo text g a
-ordered_same text f g a nodes spine h = record {
+-- another forest with the same open nodes, in which the innermost one has these below it
+pub ordered_with : (text : List ℕ) (f g : Forest Item) (a b : ℕ) (h : IsOrderedTo text f a) (row : Siblings)
+    → extents g.nodes ≡ laid_open h.root h.levels row → g.spine ≡ f.spine → FitsOpen text b h.levels row → b ≤ length text → IsOrderedTo text g b
+ordered_with text f g a b h row nodes spine fits within = record {
   root = h.root;
   levels = h.levels;
-  row = h.row;
-  nodes = nodes ∙ h.nodes;
+  row = row;
+  nodes = nodes;
   places = subst (λ (s : List TreeIndex). AreAt h.root h.levels s) (sym spine) h.places;
-  fits = h.fits;
-  within = h.within;
-  whole = h.whole;
-}
-
--- up to a later offset
-pub ordered_later : (text : List ℕ) (f : Forest Item) (a b : ℕ) → a ≤ b → b ≤ length text → IsOrderedTo text f a → IsOrderedTo text f b
-ordered_later text f a b later within h = record {
-  root = h.root;
-  levels = h.levels;
-  row = h.row;
-  nodes = h.nodes;
-  places = h.places;
-  fits = fits_open-later text a b h.levels h.row later h.fits;
+  fits = fits;
   within = within;
   whole = h.whole;
 }
 
--- the extent at a place shows whether an item is there
-item_there : (nodes : List (ℕ × Item)) (front : List (ℕ × Ranged)) (n : ℕ × Ranged) (more : List (ℕ × Ranged)) (k : ℕ)
-    → extents nodes ≡ front ++ n ∷ more → k ≡ length front → item_on_top (body_at nodes k) ≡ n.1.item
-item_there [] [] n more k is at = cc
-item_there [] (y ∷ front) n more k is at = cc
-item_there (m ∷ nodes) [] n more zero is at = (let x : (m.0, extent_of m.1) ≡ n = cc in ap (λ (z : ℕ × Ranged). z.1.item) x)
-item_there (m ∷ nodes) [] n more (suc k) is at = absurd (omega arith)
-item_there (m ∷ nodes) (y ∷ front) n more zero is at = absurd (omega arith)
-item_there (m ∷ nodes) (y ∷ front) n more (suc k) is at = (let z : extents nodes ≡ front ++ n ∷ more = cc in item_there nodes front n more k z (omega arith))
+-- a forest with the same extents and open nodes
+pub ordered_same : (text : List ℕ) (f g : Forest Item) (a : ℕ)
+    → extents g.nodes ≡ extents f.nodes → g.spine ≡ f.spine → IsOrderedTo text f a → IsOrderedTo text g a
+ordered_same text f g a nodes spine h = ordered_with text f g a a h h.row (nodes ∙ h.nodes) spine h.fits h.within
+
+-- up to a later offset
+pub ordered_later : (text : List ℕ) (f : Forest Item) (a b : ℕ) → a ≤ b → b ≤ length text → IsOrderedTo text f a → IsOrderedTo text f b
+ordered_later text f a b later within h = ordered_with text f f a b h h.row h.nodes refl (fits_open-later text a b h.levels h.row later h.fits) within
+
+-- the element after the first ones
+pub get_mid : {T : Type 0} (front : List T) (n : T) (more : List T) → slice_get (front ++ n ∷ more) (length front) ≡ Some n
+get_mid [] n more = refl
+get_mid (m ∷ front) n more = get_mid front n more
+
+-- the node at a place has the extent there
+abbrev pub extent_at : ℕ × Item → ℕ × Ranged
+extent_at m = (m.0, extent_of m.1)
+
+pub node_there : (nodes : List (ℕ × Item)) (front : List (ℕ × Ranged)) (n : ℕ × Ranged) (more : List (ℕ × Ranged)) (k : ℕ)
+    → extents nodes ≡ front ++ n ∷ more → k ≡ length front → (m : ℕ × Item) × (slice_get nodes k ≡ Some m) × (extent_at m ≡ n)
+node_there nodes front n more k is at =
+    some_mapped extent_at (slice_get nodes k) n
+    (sym (slice_get-map extent_at nodes k) ∙ ap (λ z. slice_get z k) is ∙ ap (slice_get (front ++ n ∷ more)) at ∙ get_mid front n more)
+
+pub top_there : (nodes : List (ℕ × Item)) (root : Ranged) (level : Siblings × Ranged) (levels : List (Siblings × Ranged)) (row : Siblings) (ix : TreeIndex)
+    → extents nodes ≡ laid_open root (level ∷ levels) row → ix.0 ≡ length (laid_open root levels level.0)
+    → (m : ℕ × Item) × (slice_get nodes ix.0 ≡ Some m) × (extent_at m ≡ (suc (length levels), level.1))
+top_there nodes root level levels row ix is at =
+    node_there nodes (laid_open root levels level.0) (suc (length levels), level.1) (laid (suc (suc (length levels))) row) ix.0
+    (is ∙ laid_open-level root level levels row) at
 
 -- the place of an added node
 within_open : (nodes : List (ℕ × Item)) (root : Ranged) (levels : List (Siblings × Ranged)) (row : Siblings) (spine : List TreeIndex)
@@ -64,9 +72,9 @@ within_open nodes root [] row [] is at = refl
 within_open nodes root [] row (ix ∷ spine) is at = absurd at
 within_open nodes root (level ∷ levels) row [] is at = absurd at
 within_open nodes root (level ∷ levels) row (ix ∷ spine) is at =
+    let (m, here, extent) = top_there nodes root level levels row ix is at.0 in
     ap (λ (t : Bool). if t then InItem else Elsewhere)
-    (sym (item_there nodes (laid_open root levels level.0) (suc (length levels), level.1) (laid (suc (suc (length levels))) row) ix.0
-    (is ∙ laid_open-level root level levels row) at.0))
+    (sym (ap (λ o. item_on_top (option_map (λ n. n.1.body) o)) here ∙ ap (λ (n : ℕ × Ranged). n.1.item) extent))
 
 -- further nodes in the innermost open one
 pub ordered_more : (text : List ℕ) (f g : Forest Item) (a b : ℕ) (more : Siblings)
@@ -74,19 +82,10 @@ pub ordered_more : (text : List ℕ) (f g : Forest Item) (a b : ℕ) (more : Sib
     → IsOrderedTo text f a → IsOrderedTo text g b
 ordered_more text f g a b more nodes spine fits within h =
     let n : length f.spine ≡ length h.levels = length-places h.root h.levels f.spine h.places in
-    record {
-      root = h.root;
-      levels = h.levels;
-      row = beside h.row more;
-      nodes = nodes ∙ ap (λ (z : List (ℕ × Ranged)). z ++ laid (suc (length f.spine)) more) h.nodes
-          ∙ ap (λ (k : ℕ). laid_open h.root h.levels h.row ++ laid (suc k) more) n
-          ∙ sym (laid_open-beside h.root h.levels h.row more);
-      places = subst (λ (s : List TreeIndex). AreAt h.root h.levels s) (sym spine) h.places;
-      fits = fits_open-beside text a b h.levels h.row more h.fits
-          (subst (λ w. Fits text w a b more) (sym (within_open f.nodes h.root h.levels h.row f.spine h.nodes h.places)) fits);
-      within = within;
-      whole = h.whole;
-    }
+    ordered_with text f g a b h (beside h.row more)
+    (cc (laid_open-beside h.root h.levels h.row more)) spine
+    (fits_open-beside text a b h.levels h.row more h.fits
+    (subst (λ w. Fits text w a b more) (sym (within_open f.nodes h.root h.levels h.row f.spine h.nodes h.places)) fits)) within
 
 -- a node is added
 pub ordered_appended : (text : List ℕ) (f : Forest Item) (a b : ℕ) (x : Item)
@@ -94,8 +93,7 @@ pub ordered_appended : (text : List ℕ) (f : Forest Item) (a b : ℕ) (x : Item
 ordered_appended text f a b x between within h =
     let d : length f.spine + 1 ≡ suc (length f.spine) = omega arith in
     ordered_more text f (appended f x) a b (Node (extent_of x) Empty Empty)
-    (extents-append f.nodes ((length f.spine + 1, x) ∷ []) ∙ ap (λ (k : ℕ). extents f.nodes ++ (k, extent_of x) ∷ []) d
-    ∙ ap (λ (z : List (ℕ × Ranged)). extents f.nodes ++ z) (sym (laid-one (suc (length f.spine)) (extent_of x))))
+    (cc (extents-append f.nodes ((length f.spine + 1, x) ∷ []), laid-one (suc (length f.spine)) (extent_of x)))
     refl (fits-one text (within_top f) a b (extent_of x) between) within h
 
 -- a block is added
@@ -104,8 +102,7 @@ pub ordered_added : (text : List ℕ) (f : Forest Item) (a b : ℕ) (items : Lis
 ordered_added text f a b items (row, is, fits, node_bound) within h =
     let d : ℕ = length f.spine + 1 in
     let z : d + 0 ≡ suc (length f.spine) = omega arith in
-    let block : extents (at_depth d items) ≡ laid (suc (length f.spine)) row =
-    extents-at_depth d items ∙ ap (at_depth d) is ∙ laid-at_depth d 0 row ∙ ap (λ (k : ℕ). laid k row) z in
+    let block : extents (at_depth d items) ≡ laid (suc (length f.spine)) row = cc (extents-at_depth d items, laid-at_depth d 0 row) in
     ordered_more text f (added f items) a b row
     (extents-append f.nodes (at_depth d items) ∙ ap (λ (z : List (ℕ × Ranged)). extents f.nodes ++ z) block) refl fits within h
 
@@ -116,13 +113,12 @@ ordered_begun text r a start body later within starts h =
     let f : Forest Item = r.tree in
     let x : Ranged = extent_of (record { start = start; «end» = 0; body = body }) in
     let d : length f.spine + 1 ≡ suc (length h.levels) = (let n = length-places h.root h.levels f.spine h.places in omega arith) in
+    let more = extents-append f.nodes ((length f.spine + 1, record { start = start; «end» = 0; body = body }) ∷ []) in
     record {
       root = h.root;
       levels = (h.row, x) ∷ h.levels;
       row = Empty;
-      nodes = extents-append f.nodes ((length f.spine + 1, record { start = start; «end» = 0; body = body }) ∷ [])
-          ∙ ap (λ (k : ℕ). extents f.nodes ++ (k, x) ∷ []) d
-          ∙ ap (λ (z : List (ℕ × Ranged)). z ++ (suc (length h.levels), x) ∷ []) h.nodes ∙ sym (laid_open-pushed h.root x h.levels h.row);
+      nodes = cc (laid_open-pushed h.root x h.levels h.row);
       places = (sym (length-extents f.nodes) ∙ ap length h.nodes, h.places);
       fits = fits_open-pushed text a x h.levels h.row later starts h.fits;
       within = within;
@@ -167,64 +163,59 @@ ordered_first text tree root utf8 top tree_is =
     let e : tree ≡ with_end_at empty_forest (at_top 0) (length text) = tree_is ∙ ap (λ n. with_end_at empty_forest (at_top n) (length text)) top in
     subst (λ (f : Forest Item). IsOrderedTo text f 0) (sym e) (first_at text utf8)
 
--- the open nodes of a tree, which are in order up to an offset, as levels of siblings, innermost first
-pub record LiesIn (text : List ℕ) (f : Forest Item) (at : ℕ) (spine : List TreeIndex) (levels : List (Siblings × Ranged)) : Type 0 where
+-- the innermost open node of a tree in order, its siblings, and the levels around it
+pub record InnerLevel (text : List ℕ) (f : Forest Item) (at : ℕ) (ix : TreeIndex) (rest : List TreeIndex) : Type 0 where
   pub root : Ranged
+  pub level : Siblings × Ranged
+  pub levels : List (Siblings × Ranged)
   pub row : Siblings
-  pub nodes : extents f.nodes ≡ laid_open root levels row
-  pub places : AreAt root levels spine
-  pub fits : FitsOpen text at levels row
+  pub nodes : extents f.nodes ≡ laid_open root (level ∷ levels) row
+  pub place : ix.0 ≡ length (laid_open root levels level.0)
+  pub outer : AreAt root levels rest
+  pub fits : FitsOpen text at (level ∷ levels) row
   pub whole : IsBetween text 0 (length text) root × (root.start ≡ 0) × (root.«end» ≡ length text)
 
--- a tree in order up to an offset has such levels
-pub lies_in : (text : List ℕ) (f : Forest Item) (at : ℕ) (spine : List TreeIndex) (h : IsOrderedTo text f at) → f.spine ≡ spine
-    → LiesIn text f at spine h.levels
-lies_in text f at spine h is = record {
+inner_by : (text : List ℕ) (f : Forest Item) (at : ℕ) (ix : TreeIndex) (rest : List TreeIndex) (h : IsOrderedTo text f at) (levels : List (Siblings × Ranged))
+    → levels ≡ h.levels → AreAt h.root levels (ix ∷ rest) → InnerLevel text f at ix rest
+inner_by text f at ix rest h [] is places = absurd places
+inner_by text f at ix rest h (level ∷ levels) is places = record {
   root = h.root;
+  level = level;
+  levels = levels;
   row = h.row;
-  nodes = h.nodes;
-  places = subst (λ (s : List TreeIndex). AreAt h.root h.levels s) is h.places;
-  fits = h.fits;
+  nodes = h.nodes ∙ ap (λ z. laid_open h.root z h.row) (sym is);
+  place = places.0;
+  outer = places.1;
+  fits = subst (λ z. FitsOpen text at z h.row) (sym is) h.fits;
   whole = h.whole;
 }
+
+pub inner : (text : List ℕ) (f : Forest Item) (at : ℕ) (ix : TreeIndex) (rest : List TreeIndex) → f.spine ≡ ix ∷ rest → IsOrderedTo text f at
+    → InnerLevel text f at ix rest
+inner text f at ix rest spine h = inner_by text f at ix rest h h.levels refl (subst (λ (s : List TreeIndex). AreAt h.root h.levels s) spine h.places)
 
 -- the innermost open node is closed
-closed_levels : (text : List ℕ) (f : Forest Item) (at e : ℕ) (ix : TreeIndex) (rest : List TreeIndex) (levels : List (Siblings × Ranged))
-    → LiesIn text f at (ix ∷ rest) levels → at ≤ e → e ≤ length text → IsCharBoundary text e → IsOrderedTo text (closed_by f e (ix ∷ rest)) e
-closed_levels text f at e ix rest [] h later within ends = absurd h.places
-closed_levels text f at e ix rest (level ∷ levels) h later within ends = record {
-  root = h.root;
-  levels = levels;
-  row = beside level.0 (Node (ended_at level.1 e) h.row Empty);
-  nodes = extents-ended f.nodes (laid_open h.root levels level.0) (suc (length levels), level.1) (laid (suc (suc (length levels))) h.row) ix.0 e
-      (h.nodes ∙ laid_open-level h.root level levels h.row) h.places.0
-      ∙ sym (laid_open-popped h.root (ended_at level.1 e) levels level.0 h.row);
-  places = h.places.1;
-  fits = fits_open-popped text at e level levels h.row later ends h.fits;
-  within = within;
-  whole = h.whole;
-}
-
 pub ordered_closed : (text : List ℕ) (f : Forest Item) (at e : ℕ) (ix : TreeIndex) (rest : List TreeIndex)
     → f.spine ≡ ix ∷ rest → at ≤ e → e ≤ length text → IsCharBoundary text e → IsOrderedTo text f at → IsOrderedTo text (closed_by f e (ix ∷ rest)) e
 ordered_closed text f at e ix rest spine later within ends h =
-    closed_levels text f at e ix rest h.levels (lies_in text f at (ix ∷ rest) h spine) later within ends
+    let l = inner text f at ix rest spine h in
+    record {
+      root = l.root;
+      levels = l.levels;
+      row = beside l.level.0 (Node (ended_at l.level.1 e) l.row Empty);
+      nodes = extents-ended f.nodes (laid_open l.root l.levels l.level.0) (suc (length l.levels), l.level.1) (laid (suc (suc (length l.levels))) l.row) ix.0 e
+          (l.nodes ∙ laid_open-level l.root l.level l.levels l.row) l.place
+          ∙ sym (laid_open-popped l.root (ended_at l.level.1 e) l.levels l.level.0 l.row);
+      places = l.outer;
+      fits = fits_open-popped text at e l.level l.levels l.row later ends l.fits;
+      within = within;
+      whole = l.whole;
+    }
 
-pub popped_empty : (r : PassState) (f : Forest Item) (ix : TreeIndex) (b : Option ItemBody)
-    → (r.begin_list_item ≡ None) ⊎ (is_item b ≡ true) → (popped_by r f ix b).begin_list_item ≡ None
-popped_empty r f ix None (inl none) = none
-popped_empty r f ix None (inr item) = cc
-popped_empty r f ix (Some (ListBody flags byte number)) (inl none) = none
-popped_empty r f ix (Some (ListBody flags byte number)) (inr item) = cc
-popped_empty r f ix (Some (DefinitionList flags)) (inl none) = none
-popped_empty r f ix (Some (DefinitionList flags)) (inr item) = cc
-popped_empty r f ix (Some (ListItemBody columns)) h = refl
-popped_empty r f ix (Some (DefinitionListDefinition columns)) h = refl
-popped_empty r f ix (Some b) (inl none) = none
-popped_empty r f ix (Some b) (inr item) = cc
-
-no_some : (o : Option ℕ) (e : ℕ) → o ≡ None → o ≡ Some e → ⊥
-no_some o e a b = cc
+pub popped_empty : (r : PassState) (f : Forest Item) (ix : TreeIndex) (b : Option ItemBody) → is_item b ≡ true → (popped_by r f ix b).begin_list_item ≡ None
+popped_empty r f ix (Some (ListItemBody columns)) item = refl
+popped_empty r f ix (Some (DefinitionListDefinition columns)) item = refl
+popped_empty r f ix b item = cc
 
 -- if no item is empty, the order of the state is that of the tree
 pub ordered_none : (text : List ℕ) (r : PassState) (at : ℕ) → r.begin_list_item ≡ None → at ≤ length text → IsOrderedTo text r.tree at → IsOrderedAt text r at
@@ -234,7 +225,7 @@ ordered_none text r at none within h =
       ordered = subst (λ (n : ℕ). IsOrderedTo text r.tree n) (sym same) h;
       later = omega arith;
       within = within;
-      innermost = λ e is. absurd (no_some r.begin_list_item e none is);
+      innermost = λ e is. absurd (none-some e (sym none ∙ is));
     }
 
 later_by : (text : List ℕ) (r : PassState) (at b : ℕ) (o : Option ℕ) → r.begin_list_item ≡ o → at ≤ b → b ≤ length text → IsOrderedTo text r.tree (reached o at)
@@ -258,6 +249,13 @@ pub list_extent : (x : Item) (a b : ItemBody) → x.body ≡ a → flags_of a �
 list_extent x a b is same =
     ap (λ (z : Bool × Bool × Bool × Bool).
     record { start = x.start; «end» = x.«end»; text_block = z.0; marker = z.1; item = z.2; definitions = z.3 }) (sym same ∙ ap flags_of (sym is))
+
+-- a change at a place that changes each extent alike
+pub extents-changed : (nodes : List (ℕ × Item)) (k : ℕ) (g : Item → Item) (h : Ranged → Ranged) → ((x : Item) → extent_of (g x) ≡ h (extent_of x))
+    → extents (modify nodes k g) ≡ modify (extents nodes) k h
+extents-changed [] k g h same = refl
+extents-changed (n ∷ nodes) zero g h same = ap (λ (x : Ranged). (n.0, x) ∷ extents nodes) (same n.1)
+extents-changed (n ∷ nodes) (suc k) g h same = ap (λ (z : List (ℕ × Ranged)). (n.0, extent_of n.1) ∷ z) (extents-changed nodes k g h same)
 
 pub extents-body : (nodes : List (ℕ × Item)) (k : ℕ) (a b : ItemBody) → body_at nodes k ≡ Some a → flags_of a ≡ flags_of b
     → extents (modify nodes k (λ x. record x { body = b })) ≡ extents nodes

@@ -1,27 +1,21 @@
 -- The effect of a step on the tree, proved once for each property that is kept.
-use Rattle.std.proofs.Common.{◌≡◌, ℕ, suc, ◌<◌, ◌≤◌, arith, ◌&&◌, Bool, true, false, if◌then◌else◌, List, [], ◌∷◌, length, slice_get, Option, Some, None}
-use Rattle.std.proofs.Common.{refl, sym, ap, subst, ◌∙◌}
-use Rattle.std.specs.Option.{option_and_then, option_map}
-use Rattle.std.proofs.lemmas.Bool.{cond_both, and_parts}
-use Rattle.std.proofs.lemmas.Option.{none-some, slice_get_within}
-use Rattle.first_pass_items.specs.declared.item.CowIndex.{CowIndex}
-use Rattle.first_pass_items.specs.declared.item.Item.{Item}
-use Rattle.first_pass_items.specs.declared.item.ItemBody.{ItemBody}
-use Rattle.first_pass_items.specs.declared.item.ItemBody.TheVariants.{List as ListBody, ListItem as ListItemBody, Paragraph, DefinitionList}
-use Rattle.first_pass_items.specs.declared.item.ItemBody.TheVariants.{FootnoteDefinition as FootnoteDefinitionBody, MaybeDefinitionListTitle}
-use Rattle.first_pass_tree.specs.declared.tree_index.TreeIndex.{TreeIndex}
-use Rattle.first_pass_tree.specs.Forest.{Forest, IsForest, modify, with_body_at, body_at, map_from, shallower, moved_from}
-use Rattle.first_pass_tree.proofs.Keeps.{modified-is}
-use Rattle.first_pass_grammar.specs.Derivation.{list_flags}
+use Rattle.std.proofs.Common.{◌≡◌, ℕ, suc, ◌<◌, ◌≤◌, arith, Bool, true, false, if◌then◌else◌, List, [], ◌∷◌, length, slice_get, Option, Some, None, refl}
+use Rattle.std.proofs.Common.{sym, ap, subst, ◌∙◌, option_and_then}
+use Rattle.first_pass_grammar.proofs.Common.{cond_both, none-some, slice_get_within, CowIndex, Item, ItemBody, Paragraph, DefinitionListDefinition}
+use Rattle.first_pass_grammar.proofs.Common.{MaybeDefinitionListTitle, some_mapped, TreeIndex, Forest, IsForest, modify, with_body_at, body_at, map_from}
+use Rattle.first_pass_grammar.proofs.Common.{shallower, moved_from, modified-is, list_flags}
+use Rattle.first_pass_items.specs.declared.item.ItemBody.TheVariants.{List as ListBody, ListItem as ListItemBody}
+use Rattle.first_pass_items.specs.declared.item.ItemBody.TheVariants.{FootnoteDefinition as FootnoteDefinitionBody}
 use Rattle.first_pass_open.specs.OpenBlock.{closed_by, opened_block}
 use Rattle.first_pass_lists.specs.Closing.{with_tree, top_body, is_list, is_list_of, is_item, is_footnote, is_definition_list, popped_at}
 use Rattle.first_pass_lists.specs.Closing.{current_moved, definitions_closed}
-use Rattle.first_pass_lists.specs.Closing.{top_end, possible_title, title_closed, popped_after, popped, empty_item_closed_by, empty_item_closed, list_closed, gap_marked}
-use Rattle.first_pass_lists.specs.Closing.{list_finished, list_kept, begun, list_continued, footnote_left, footnote_begun, blank_read}
+use Rattle.first_pass_lists.specs.Closing.{top_end, possible_title, title_closed, popped, empty_item_closed, list_closed, gap_marked}
+use Rattle.first_pass_lists.specs.Closing.{list_finished, list_kept, begun, list_continued, footnote_left, footnote_begun, blank_read, definitions_opened}
+use Rattle.first_pass_lists.specs.Closing.{definition_begun}
 use Rattle.first_pass_lists.specs.declared.state.PassState.{PassState}
 use Rattle.first_pass_lists.proofs.MovedLemmas.{closed_current}
 use Rattle.first_pass_order.specs.Ordered.{reached}
-use Rattle.first_pass_order.proofs.Nests.{TitleThere, title_there, popped_item}
+use Rattle.first_pass_order.proofs.Nests.{TitleThere, title_there, title_no_item, note_untitled, popped_both, popped_item, finished_both}
 use Rattle.first_pass_order.proofs.AlikeNodes.{AreAlike, alike_ended, alike_both, LooksAlike, like_body, like_popped, like_noted, like_kept, like_blank}
 use Rattle.first_pass_lists.proofs.NoEmptyItem.{finished_none}
 
@@ -56,17 +50,6 @@ pub record Property : Type 1 where
   pub opened : (a start k : ℕ) (f : Forest Item) (body : ItemBody) → Goes a start → Bounds start → Opens body → Holds a k f
       → Holds start (suc k) (opened_block f start body)
 
--- an item is no definition list, nor is a footnote definition
-pub no_item_list : (b : Option ItemBody) → is_definition_list b ≡ true → is_item b ≡ true → ⊥
-no_item_list None a b = cc
-no_item_list (Some (DefinitionList flags)) a b = cc
-no_item_list (Some b) a c = cc
-
-no_note_list : (b : Option ItemBody) → is_definition_list b ≡ true → is_footnote b ≡ true → ⊥
-no_note_list None a b = cc
-no_note_list (Some (DefinitionList flags)) a b = cc
-no_note_list (Some b) a c = cc
-
 -- a possible title becomes a paragraph, and is moved out of its list
 abbrev untitled : PassState → TreeIndex → PassState
 untitled r title = with_tree r (with_body_at r.tree title Paragraph)
@@ -76,9 +59,8 @@ some_top : (f : Forest Item) (s : List TreeIndex) → f.spine ≡ s → is_defin
 some_top f [] is list = cc
 some_top f (ix ∷ rest) is list = (ix, rest, is)
 
-body_within : (o : Option (ℕ × Item)) (b : ItemBody) → option_map (λ n. n.1.body) o ≡ Some b → (n : ℕ × Item) × (o ≡ Some n)
-body_within None b is = cc
-body_within (Some n) b is = (n, refl)
+pub body_inside : (nodes : List (ℕ × Item)) (k : ℕ) (b : ItemBody) → body_at nodes k ≡ Some b → k < length nodes
+body_inside nodes k b is = (let there = some_mapped (λ (n : ℕ × Item). n.1.body) (slice_get nodes k) b is in slice_get_within nodes k there.0 there.1)
 
 closed_parts : (q : PassState) (e : ℕ) (s : List TreeIndex) (c : TreeIndex) → q.tree.spine ≡ s → q.tree.current ≡ Some c
     → (definitions_closed e q).tree ≡ moved_from (popped_at e q s).tree c.0
@@ -108,9 +90,8 @@ is_left f r e c ix rest same spine current within forest =
 pub title_is_left : (r : PassState) (title : TreeIndex) → TitleThere r.tree title → IsLeft r.tree (title_closed r title).tree (top_end r.tree) title
 title_is_left r title t =
     let top = some_top r.tree r.tree.spine refl t.list in
-    let there = body_within (slice_get r.tree.nodes title.0) MaybeDefinitionListTitle t.body in
     is_left r.tree (untitled r title) (top_end r.tree) title top.0 top.1 (like_body r.tree title MaybeDefinitionListTitle Paragraph t.body (refl, λ h. refl))
-    top.2 t.current (let low : title.0 < length r.tree.nodes = slice_get_within r.tree.nodes title.0 there.0 there.1 in omega arith)
+    top.2 t.current (let low = body_inside r.tree.nodes title.0 MaybeDefinitionListTitle t.body in omega arith)
     (modified-is r.tree title.0 (λ x. record x { body = Paragraph }))
 
 module _ (p : Property) where
@@ -119,10 +100,7 @@ module _ (p : Property) where
   MayLeave a f = (title : TreeIndex) → possible_title f ≡ Some title → p.MovesOut a (top_end f) f title
 
   item_leaves : (a : ℕ) (f : Forest Item) → is_item (top_body f) ≡ true → MayLeave a f
-  item_leaves a f item title is = absurd (no_item_list (top_body f) (title_there f title is).list item)
-
-  note_leaves : (a : ℕ) (f : Forest Item) → is_footnote (top_body f) ≡ true → MayLeave a f
-  note_leaves a f note title is = absurd (no_note_list (top_body f) (title_there f title is).list note)
+  item_leaves a f item title is = absurd (title_no_item f title is item)
 
   pub none_leaves : (a : ℕ) (f : Forest Item) → possible_title f ≡ None → MayLeave a f
   none_leaves a f none title is = absurd (none-some title (sym none ∙ is))
@@ -135,16 +113,11 @@ module _ (p : Property) where
       let f : Forest Item = closed_by r.tree e (ix ∷ rest) in
       p.like e k f (popped_at e r (ix ∷ rest)).tree (like_popped r f ix (body_at f.nodes ix.0)) (p.closed a e k r.tree ix rest spine goes ends h)
 
-  after_keeps : (a e k : ℕ) (r : PassState) (o : Option TreeIndex) → possible_title r.tree ≡ o → MayLeave a r.tree → p.Goes a e → p.Bounds e
-      → p.Holds a k r.tree → p.Holds e k (popped_after e r o).tree
-  after_keeps a e k r None is leaves goes ends h = popped_at_keeps a e k r r.tree.spine refl goes ends h
-  after_keeps a e k r (Some title) is leaves goes ends h =
-      p.later a e k (title_closed r title).tree goes
-      (p.left a (top_end r.tree) k r.tree (title_closed r title).tree title (title_is_left r title (title_there r.tree title is)) (leaves title is) h)
-
   pub popped_keeps : (a e k : ℕ) (r : PassState) → MayLeave a r.tree → p.Goes a e → p.Bounds e → p.Holds a k r.tree → p.Holds e k (popped e r).tree
-  unfolding popped
-  popped_keeps a e k r leaves goes ends h = after_keeps a e k r (possible_title r.tree) refl leaves goes ends h
+  popped_keeps a e k r leaves goes ends h =
+      popped_both e r (λ q. p.Holds e k q.tree) (λ none. popped_at_keeps a e k r r.tree.spine refl goes ends h)
+      (λ title is. p.later a e k (title_closed r title).tree goes
+      (p.left a (top_end r.tree) k r.tree (title_closed r title).tree title (title_is_left r title (title_there r.tree title is)) (leaves title is) h))
 
   -- The property holds of the state up to the offset at which reading continues; with an empty item, up to the end of
   -- its marker's line.
@@ -159,28 +132,16 @@ module _ (p : Property) where
     pub leaves : MayLeave a r.tree
 
   -- an item that began with two blank lines is closed at the end of its marker's line
-  finished_by_keeps : (b k : ℕ) (r : PassState) (o : Option ℕ) → ((e : ℕ) → o ≡ Some e → p.Goes e e × p.Bounds e) → p.Goes (reached o b) b
-      → p.Holds (reached o b) k r.tree → p.Holds b k (empty_item_closed_by r o).tree
-  finished_by_keeps b k r None marked goes h = h
-  finished_by_keeps b k r (Some e) marked goes h =
-      cond_both (r.blank && is_item (top_body r.tree)) (popped e r) r (λ (q : PassState). p.Holds b k q.tree)
-      (λ t. p.later e b k (popped e r).tree goes
-      (popped_keeps e e k r (item_leaves e r.tree (and_parts r.blank (is_item (top_body r.tree)) t).1) (marked e refl).0 (marked e refl).1 h))
-      (λ t. p.later e b k r.tree goes h)
-
   pub empty_item_closed_keeps : (a k : ℕ) (r : PassState) → HoldsAt a k r → p.Holds a k (empty_item_closed r).tree
-  unfolding empty_item_closed
-  empty_item_closed_keeps a k r h = finished_by_keeps a k r r.begin_list_item h.marked h.goes h.holds
-
-  finished_by_leaves : (a : ℕ) (r : PassState) (o : Option ℕ) → MayLeave a r.tree → MayLeave a (empty_item_closed_by r o).tree
-  finished_by_leaves a r None h = h
-  finished_by_leaves a r (Some e) h =
-      cond_both (r.blank && is_item (top_body r.tree)) (popped e r) r (λ (q : PassState). MayLeave a q.tree)
-      (λ t. none_leaves a (popped e r).tree (popped_item e r (and_parts r.blank (is_item (top_body r.tree)) t).1)) (λ t. h)
+  empty_item_closed_keeps a k r h =
+      finished_both r (λ f. p.Holds a k f) (p.later (reached r.begin_list_item a) a k r.tree h.goes h.holds)
+      (λ e is item.
+      let goes : p.Goes e a = subst (λ o. p.Goes (reached o a) a) is h.goes in
+      let holds : p.Holds e k r.tree = subst (λ o. p.Holds (reached o a) k r.tree) is h.holds in
+      p.later e a k (popped e r).tree goes (popped_keeps e e k r (item_leaves e r.tree item) (h.marked e is).0 (h.marked e is).1 holds))
 
   pub empty_item_closed_leaves : (a : ℕ) (r : PassState) → MayLeave a r.tree → MayLeave a (empty_item_closed r).tree
-  unfolding empty_item_closed
-  empty_item_closed_leaves a r h = finished_by_leaves a r r.begin_list_item h
+  empty_item_closed_leaves a r h = finished_both r (MayLeave a) h (λ e is item. none_leaves a (popped e r).tree (popped_item e r item))
 
   empty_item_closed_before : (a k : ℕ) (r : PassState) → p.Goes a a → HoldsBefore a k r → HoldsBefore a k (empty_item_closed r)
   empty_item_closed_before a k r here h =
@@ -226,12 +187,7 @@ module _ (p : Property) where
     pub short : p.Goes e b
     pub later : p.Goes a b
 
-  -- Reading moves from an offset to the start of a node.
-  pub record GoesToStart (a start : ℕ) : Type 0 where
-    pub goes : p.Goes a start
-    pub starts : p.Bounds start
-
-  -- The same if a list may end at that start.
+  -- Reading moves from an offset to the start of a node, where a list may end.
   pub record GoesToItem (a start : ℕ) : Type 0 where
     pub here : p.Goes a a
     pub goes : p.Goes a start
@@ -248,28 +204,22 @@ module _ (p : Property) where
       (empty_item_closed_keeps a k r h.held))
 
   -- a container is opened there
-  pub quote_keeps : (a e b start k : ℕ) (body : ItemBody) (r : PassState) → HoldsBefore a k r → PassesList a e b r → GoesToStart b start → p.Opens body
-      → p.Holds start (suc k) (begun start body (list_finished e r)).tree
-  quote_keeps a e b start k body r h g there opens =
-      p.opened b start k (list_finished e r).tree body there.goes there.starts opens (list_finished_keeps a e b k r h g)
+  pub quote_keeps : (a e b start k : ℕ) (body : ItemBody) (r : PassState) → HoldsBefore a k r → PassesList a e b r → p.Goes b start → p.Bounds start
+      → p.Opens body → p.Holds start (suc k) (begun start body (list_finished e r)).tree
+  quote_keeps a e b start k body r h g goes starts opens =
+      p.opened b start k (list_finished e r).tree body goes starts opens (list_finished_keeps a e b k r h g)
 
   -- an item is opened, in the list that continues or in a new one
-  continued_by : (a start byte number k : ℕ) (s : PassState) (t : Bool) → s.begin_list_item ≡ None → HoldsBefore a k s
-      → GoesToItem a start → p.Opens (ListBody (list_flags true) byte number)
-      → p.Holds start (suc k) (if t then list_kept s else begun start (ListBody (list_flags true) byte number) (list_finished start s)).tree
-  continued_by a start byte number k s true none h g opens =
-      let holds : p.Holds a k s.tree = subst (λ o. p.Holds (reached o a) k s.tree) none h.held.holds in
-      p.later a start (suc k) (list_kept s).tree g.goes (kept_keeps a (suc k) s (p.more a k s.tree holds))
-  continued_by a start byte number k s false none h g opens =
-      quote_keeps a start start start k (ListBody (list_flags true) byte number) s h
-      (record { closes = λ t. g.goes; ends = g.starts; short = g.there; later = g.goes }) (record { goes = g.there; starts = g.starts }) opens
-
   pub list_continued_keeps : (a start byte number k : ℕ) (r : PassState) → HoldsBefore a k r → GoesToItem a start
       → p.Opens (ListBody (list_flags true) byte number) → p.Holds start (suc k) (list_continued start byte number r).tree
   unfolding list_continued
   list_continued_keeps a start byte number k r h g lists =
       let s : PassState = empty_item_closed r in
-      continued_by a start byte number k s (is_list_of byte (top_body s.tree)) (finished_none r) (empty_item_closed_before a k r g.here h) g lists
+      let list : ItemBody = ListBody (list_flags true) byte number in
+      cond_both (is_list_of byte (top_body s.tree)) (list_kept s) (begun start list (list_finished start s)) (λ (q : PassState). p.Holds start (suc k) q.tree)
+      (λ b. p.later a start (suc k) (list_kept s).tree g.goes (kept_keeps a (suc k) s (p.more a k s.tree (empty_item_closed_keeps a k r h.held))))
+      (λ b. quote_keeps a start start start k list s (empty_item_closed_before a k r g.here h)
+      (record { closes = λ t. g.goes; ends = g.starts; short = g.there; later = g.goes }) g.there g.starts lists)
 
   pub item_keeps : (a start byte number columns k : ℕ) (r : PassState) → HoldsBefore a k r → GoesToItem a start
       → p.Opens (ListBody (list_flags true) byte number) → p.Opens (ListItemBody columns)
@@ -288,6 +238,14 @@ module _ (p : Property) where
       let q : PassState = footnote_left start l in
       p.opened start start k (gap_marked q).tree (FootnoteDefinitionBody index) there starts opens
       (noted_keeps start k q
-      (left_by start start start k l (is_footnote (top_body l.tree)) (λ note. (note_leaves start l.tree note, there)) starts there there
+      (left_by start start start k l (is_footnote (top_body l.tree)) (λ note. (none_leaves start l.tree (note_untitled l.tree note), there)) starts there there
       (left_by a start start k s (is_list (top_body s.tree)) (λ list. (empty_item_closed_leaves a r h.leaves, goes)) starts there goes
       (empty_item_closed_keeps a k r h.held))))
+
+  -- a definition is opened, in a list that is open
+  pub definition_keeps : (a start columns k : ℕ) (r : PassState) → p.Goes a start → p.Bounds start → p.Opens (DefinitionListDefinition columns)
+      → p.Holds a k (definitions_opened r.tree r.tree.current) → p.Holds start (suc k) (definition_begun start columns r).tree
+  unfolding definition_begun
+  definition_keeps a start columns k r goes starts opens h =
+      let q : PassState = with_tree r (definitions_opened r.tree r.tree.current) in
+      p.opened a start k (list_kept q).tree (DefinitionListDefinition columns) goes starts opens (kept_keeps a k q h)

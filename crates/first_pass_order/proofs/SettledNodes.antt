@@ -1,52 +1,21 @@
 -- No node of a derived forest may still become a title.
-use Rattle.std.proofs.Common.{◌≡◌, ℕ, suc, Bool, true, false, List, [], ◌∷◌, length, refl, sym, subst}
-use Rattle.std.proofs.lemmas.Bool.{true≢false}
-use Rattle.first_pass_items.specs.declared.cow_str.CowStr.{CowStr}
-use Rattle.first_pass_items.specs.declared.item.Item.{Item}
-use Rattle.first_pass_items.specs.declared.item.ItemBody.{ItemBody}
-use Rattle.first_pass_items.specs.declared.item.ItemBody.TheVariants.{Paragraph, MaybeDefinitionListTitle}
-use Rattle.first_pass_tree.specs.Forest.{at_depth}
-use Rattle.first_pass_tree.specs.Tight.{tight_body}
-use Rattle.first_pass_tokens.proofs.PieceFacts.{is_markup}
-use Rattle.first_pass_grammar.specs.Before.{nothing}
-use Rattle.first_pass_grammar.specs.Blocks.{LeafBlock}
-use Rattle.first_pass_grammar.specs.Derivation.{block_items, as_title, row_items, tight_in, items_of, Tables, Derives}
-use Rattle.first_pass_grammar.specs.Leaves.{Document}
-use Rattle.first_pass_grammar.specs.Rows.{What, ALeaf, ATitle, Rows, End, OneOf, is_loose}
-use Rattle.first_pass_grammar.specs.Rows.{rows_of}
-use Rattle.first_pass_grammar.proofs.Each.EachLeaf.{HoldsOfBlocks, HoldsInBlocks, IsBlockOf}
+use Rattle.std.proofs.Common.{◌≡◌, ℕ, suc, Bool, true, false, List, [], ◌∷◌, length, refl, sym, subst, true≢false}
+use Rattle.first_pass_grammar.proofs.Common.{Item, ItemBody, Paragraph, MaybeDefinitionListTitle, at_depth, tight_body, nothing, LeafBlock, block_items}
+use Rattle.first_pass_grammar.proofs.Common.{as_title, row_items, tight_in, items_of, Tables, Derives, Document, What, ALeaf, ATitle, Rows, End, OneOf}
+use Rattle.first_pass_grammar.proofs.Common.{is_loose, rows_of}
+use Rattle.first_pass_grammar.proofs.Each.EachLeaf.{IsBlockOf, begins_block, is_inner}
 use Rattle.first_pass_grammar.proofs.Each.EachRow.{HoldsOfRow, HoldsOfEachRow, derived_rows, tight_nodes}
 use Rattle.first_pass_grammar.proofs.Each.EachCell.{both_nodes, deeper_nodes}
-use Rattle.first_pass_grammar.proofs.Names.TokensNamed.{NamesWithin}
 use Rattle.first_pass_order.specs.Settled.{IsSettled, AreSettled}
 
--- no token is a possible title, and no leaf block is or contains one
-markup_settled : (texts : List CowStr) (body : ItemBody) → is_markup body ≡ true → NamesWithin texts body → IsSettled body
-markup_settled texts MaybeDefinitionListTitle h k = absurd (true≢false (sym h))
-markup_settled texts body h k = refl
+-- no leaf block is a possible title or contains one
+block_body : (body : ItemBody) → begins_block body ≡ true → IsSettled body
+block_body MaybeDefinitionListTitle h = absurd (true≢false (sym h))
+block_body body h = refl
 
-inside_settled : (texts : List CowStr) → HoldsInBlocks texts IsSettled
-inside_settled texts = record {
-  tokens = record { text = λ escaped. refl; soft = refl; hard = λ by_backslash. refl; markup = markup_settled texts };
-  raw = record { html = refl; columns = λ ix. refl };
-  head = refl;
-  row = refl;
-  cell = refl;
-  task = λ checked. refl;
-}
-
-blocks_settled : HoldsOfBlocks IsSettled
-blocks_settled = record {
-  paragraph = refl;
-  heading = λ level index. refl;
-  table = λ index. refl;
-  indented = refl;
-  fenced = λ info. refl;
-  metadata = λ kind. refl;
-  html = refl;
-  rule = refl;
-  task = λ checked. refl;
-}
+inner_body : (body : ItemBody) → is_inner body ≡ true → IsSettled body
+inner_body MaybeDefinitionListTitle h = absurd (true≢false (sym h))
+inner_body body h = refl
 
 -- the items of a leaf block, also if its paragraph becomes tight or is a title
 abbrev SettledBlock : List (ℕ × Item) → Type 0
@@ -89,5 +58,5 @@ forest_settled depth tight (OneOf row inner next) h =
 pub derived_settled : (d : Document) (forest : List (ℕ × Item)) (tables : Tables) → Derives d forest tables → AreSettled forest
 derived_settled d forest tables h =
     let rows = rows_of false nothing (length d.text) h.skeleton in
-    let each = derived_rows IsSettled IsSettled d forest tables blocks_settled (inside_settled d.names.texts) h in
+    let each = derived_rows IsSettled IsSettled d forest tables block_body inner_body h in
     subst AreSettled (sym h.forest_is) (refl, forest_settled 1 false rows each)

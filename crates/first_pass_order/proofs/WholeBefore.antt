@@ -1,20 +1,14 @@
 -- Nodes that can be completed already have whole tables: the nodes still open in them are no part of a table.
-use Rattle.std.proofs.Common.{◌≡◌, ℕ, suc, Bool, true, false, List, [], ◌∷◌, ◌++◌, length, map, refl, sym, ap, subst, ◌∙◌, arith}
-use Rattle.std.proofs.lemmas.Bool.{true≢false}
-use Rattle.first_pass_items.specs.declared.item.Item.{Item}
-use Rattle.first_pass_items.specs.declared.item.ItemBody.{ItemBody}
-use Rattle.first_pass_items.specs.declared.item.ItemBody.TheVariants.{Table}
-use Rattle.first_pass_lines.specs.Places.{Place}
+use Rattle.std.proofs.Common.{◌≡◌, ℕ, suc, Bool, true, false, List, [], ◌∷◌, ◌++◌, length, map, refl, sym, ap, subst, ◌∙◌, arith, true≢false, All}
+use Rattle.first_pass_grammar.proofs.Common.{All-nil, All-cons, All-head, All-tail, All-append, All-map, Item, ItemBody, Table, Place, Names, Extends}
+use Rattle.first_pass_grammar.proofs.Common.{index_of, NamesEntry, AreNamed, Document, document, Continues, level, Lines, onward, ItemsOf, Rows, any_gap}
+use Rattle.first_pass_grammar.proofs.Common.{Tables, Derives, ended, Pending, OneList, Unfinished, Further, AreFurther, rows_beyond, rendered, Frame}
+use Rattle.first_pass_grammar.proofs.Common.{InContainer, InList, InDefinitions, definitions_open, containers_of, loosened, container_closed, Becomes}
+use Rattle.first_pass_grammar.proofs.Common.{is_quote, Mark, ATable, ARow, ACell, shown, marks, RowCells, row_marks, TableRows, table_marks, AreFull}
+use Rattle.first_pass_grammar.proofs.Common.{AreWholeTables}
 use Rattle.first_pass_grammar.specs.declared.kind.Container.{Container}
-use Rattle.first_pass_grammar.specs.Names.{Names, Extends, index_of, NamesEntry, AreNamed}
-use Rattle.first_pass_grammar.specs.Leaves.{Document, document}
-use Rattle.first_pass_grammar.specs.Skeleton.{Continues, level, Lines, onward}
-use Rattle.first_pass_grammar.specs.Rows.{ItemsOf, Rows, any_gap}
-use Rattle.first_pass_grammar.specs.Derivation.{Tables, Derives}
-use Rattle.first_pass_grammar.specs.Completion.{ended, Pending, OneList, Unfinished, Further, AreFurther, rows_on, rows_beyond, rendered, Frame, InContainer}
-use Rattle.first_pass_grammar.specs.Completion.{InList, InDefinitions, definitions_open, containers_of, loosened, container_closed, Becomes, Completion}
-use Rattle.first_pass_grammar.specs.Containers.{is_quote}
-use Rattle.first_pass_grammar.specs.WholeTables.{Mark, ATable, ARow, ACell, shown, marks, RowCells, row_marks, TableRows, table_marks, AreFull, AreWholeTables}
+use Rattle.first_pass_grammar.specs.Completion.{rows_on}
+use Rattle.first_pass_grammar.specs.Completion.{Completion}
 use Rattle.first_pass_grammar.proofs.Each.EachRow.{each_row}
 use Rattle.first_pass_grammar.proofs.Sequences.Finishes.{containers-loosened}
 use Rattle.first_pass_grammar.proofs.WholeTables.FullHeads.{heads_are_full}
@@ -89,43 +83,32 @@ is_table (ATable depth columns) = true
 is_table (ARow depth «end») = false
 is_table (ACell depth start) = false
 
-abbrev NoTables : List Mark → Type 0
-NoTables [] = Unit {0}
-NoTables (m ∷ ms) = (is_table m ≡ false) × NoTables ms
+abbrev IsNoTable : Mark → Type 0
+IsNoTable m = is_table m ≡ false
 
-no_tables_both : (a b : List Mark) → NoTables a → NoTables b → NoTables (a ++ b)
-no_tables_both [] b h k = k
-no_tables_both (m ∷ a) b h k = (h.0, no_tables_both a b h.1 k)
-
-cells_no_tables : (depth : ℕ) (starts : List ℕ) → NoTables (map (ACell depth) starts)
-cells_no_tables depth [] = tt
-cells_no_tables depth (start ∷ starts) = (refl, cells_no_tables depth starts)
-
-rows_no_tables : (depth : ℕ) (rows : List RowCells) → NoTables (row_marks depth rows)
+rows_no_tables : (depth : ℕ) (rows : List RowCells) → All IsNoTable (row_marks depth rows)
 unfolding row_marks
-rows_no_tables depth [] = tt
-rows_no_tables depth (row ∷ rows) = (
-  refl,
-  no_tables_both (map (ACell (suc depth)) row.starts) (row_marks depth rows) (cells_no_tables (suc depth) row.starts) (rows_no_tables depth rows),
-)
+rows_no_tables depth [] = All-nil IsNoTable
+rows_no_tables depth (row ∷ rows) =
+    let cells : List Mark = map (ACell (suc depth)) row.starts in
+    All-cons IsNoTable (ARow depth row.«end») (cells ++ row_marks depth rows) refl
+    (All-append IsNoTable cells (row_marks depth rows) (All-map IsNoTable (ACell (suc depth)) row.starts (λ k d low. refl)) (rows_no_tables depth rows))
 
-first_same : (m k : Mark) (ms ks : List Mark) → m ∷ ms ≡ k ∷ ks → m ≡ k
-first_same m k ms ks e = cc
+same_cons : {m k : Mark} {ms ks : List Mark} → m ∷ ms ≡ k ∷ ks → (m ≡ k) × (ms ≡ ks)
+same_cons e = (cc, cc)
 
-rest_same : (m k : Mark) (ms ks : List Mark) → m ∷ ms ≡ k ∷ ks → ms ≡ ks
-rest_same m k ms ks e = cc
-
-after_rows : (rows m all : List Mark) (more : List TableRows) → NoTables rows → m ++ table_marks more ≡ rows ++ all
+after_rows : (rows m all : List Mark) (more : List TableRows) → All IsNoTable rows → m ++ table_marks more ≡ rows ++ all
     → (following : List Mark) × (m ≡ rows ++ following) × (following ++ table_marks more ≡ all)
 unfolding table_marks
 after_rows [] m all more none e = (m, refl, e)
 after_rows (k ∷ rows) [] all [] none e = absurd (let n = ap length e in omega arith)
 after_rows (k ∷ rows) [] all (t ∷ more) none e =
-    absurd (true≢false (ap is_table (first_same (ATable t.depth t.columns) k (row_marks (suc t.depth) t.rows ++ table_marks more) (rows ++ all) e) ∙ none.0))
+    let first = (same_cons e).0 in
+    absurd (true≢false (ap is_table first ∙ All-head IsNoTable k rows none))
 after_rows (k ∷ rows) (b ∷ m) all more none e =
-    let first = first_same b k (m ++ table_marks more) (rows ++ all) e in
-    let (following, is, rest) = after_rows rows m all more none.1 (rest_same b k (m ++ table_marks more) (rows ++ all) e) in
-    (following, ap (λ (z : Mark). z ∷ m) first ∙ ap (λ (z : List Mark). k ∷ z) is, rest)
+    let (first, further) = same_cons e in
+    let (following, is, rest) = after_rows rows m all more (All-tail IsNoTable k rows none) further in
+    (following, cc (first, is), rest)
 
 front_of : (m : List Mark) (more all : List TableRows) → m ++ table_marks more ≡ table_marks all → AreFull all
     → (front : List TableRows) × (m ≡ table_marks front) × AreFull front
@@ -133,14 +116,11 @@ unfolding table_marks AreFull
 front_of [] more all e full = ([], refl, tt)
 front_of (b ∷ m) more [] e full = absurd (let n = ap length e in omega arith)
 front_of (b ∷ m) more (t ∷ all) e full =
-    let rest = row_marks (suc t.depth) t.rows ++ table_marks all in
-    let first = first_same b (ATable t.depth t.columns) (m ++ table_marks more) rest e in
-    let (following, is, further) = after_rows (row_marks (suc t.depth) t.rows) m (table_marks all) more (rows_no_tables (suc t.depth) t.rows)
-    (rest_same b (ATable t.depth t.columns) (m ++ table_marks more) rest e) in
+    let (first, rest) = same_cons e in
+    let (following, is, further) = after_rows (row_marks (suc t.depth) t.rows) m (table_marks all) more (rows_no_tables (suc t.depth) t.rows) rest in
     let (front, same, whole) = front_of following more all further full.2 in (
       t ∷ front,
-      ap (λ (z : Mark). z ∷ m) first
-          ∙ ap (λ (z : List Mark). ATable t.depth t.columns ∷ z) (is ∙ ap (λ (z : List Mark). row_marks (suc t.depth) t.rows ++ z) same),
+      cc (first, is, same),
       (full.0, full.1, whole),
     )
 
@@ -169,8 +149,7 @@ marks_still : (more names : Names) (nodes : List (ℕ × Item)) → Extends more
 unfolding marks AreNamed
 marks_still more names [] e h = refl
 marks_still more names (n ∷ nodes) e h =
-    ap (λ (z : List Mark). z ++ marks more nodes) (shown_still more names n.0 n.1.start n.1.«end» n.1.body e h.0)
-    ∙ ap (λ (z : List Mark). shown names n.0 n.1.start n.1.«end» n.1.body ++ z) (marks_still more names nodes e h.1)
+    cc (shown_still more names n.0 n.1.start n.1.«end» n.1.body e h.0, marks_still more names nodes e h.1)
 
 pub whole_already : (more names : Names) (nodes : List (ℕ × Item)) → Extends more names → AreNamed names nodes → AreWholeTables more nodes
     → AreWholeTables names nodes

@@ -1,35 +1,20 @@
 -- Tables stay whole: closing nodes and noting blank lines ends no row, opening a container adds no part of a table,
 -- and a leaf block adds whole tables. A possible title that turns out to be none has no part of a table, nor does a
 -- paragraph that becomes a title.
-use Rattle.std.proofs.Common.{◌≡◌, ℕ, zero, suc, ◌+◌, ◌||◌, Bool, true, false, List, [], ◌∷◌, ◌++◌, length, map, Option, Some, None, refl, sym, ap, subst, ◌∙◌}
-use Rattle.std.proofs.Common.{inl, inr}
-use Rattle.std.specs.Prelude.{IsSomeAnd}
-use Rattle.std.specs.Option.{option_map_or}
-use Rattle.std.proofs.lemmas.Bool.{true≢false, cases_Bool}
-use Rattle.std.proofs.lemmas.Option.{none-some, same_Some}
-use Rattle.first_pass_items.specs.declared.item.Item.{Item}
-use Rattle.first_pass_items.specs.declared.item.ItemBody.{ItemBody}
-use Rattle.first_pass_items.specs.declared.item.ItemBody.TheVariants.{TableHead, TableRow, TaskListMarker}
-use Rattle.first_pass_items.specs.declared.option_set.Options.{Options}
-use Rattle.first_pass_tree.specs.declared.tree_index.TreeIndex.{TreeIndex}
-use Rattle.first_pass_tree.specs.Forest.{Forest, IsForest, modify, empty_forest, with_end_at, body_at, added, at_depth, map_from, shallower}
-use Rattle.first_pass_lines.specs.Places.{Place, line_end, IsPlaceOf}
+use Rattle.std.proofs.Common.{◌≡◌, ℕ, zero, suc, ◌+◌, ◌||◌, Bool, true, false, List, [], ◌∷◌, ◌++◌, length, Option, Some, None, refl, sym, ap, subst, ◌∙◌}
+use Rattle.std.proofs.Common.{IsSomeAnd, true≢false}
+use Rattle.first_pass_grammar.proofs.Common.{option_map_or, or_parts, false_from_ne_true, Item, ItemBody, TableHead, TableRow, TaskListMarker, Options}
+use Rattle.first_pass_grammar.proofs.Common.{TreeIndex, Forest, IsForest, modify, empty_forest, with_end_at, body_at, added, at_depth, map_from, shallower}
+use Rattle.first_pass_grammar.proofs.Common.{body-kept, Place, line_end, IsPlaceOf, Names, Extends, AreNamed, Kind, Document, document, lines_from}
+use Rattle.first_pass_grammar.proofs.Common.{is_task_marker, leaf_block, Line, OpensLeaf, Taken, IsText, is_row, Mark, shown, marks, AreWholeTables}
+use Rattle.first_pass_grammar.proofs.Common.{ShowsNothing, AreEachNode, SilentFrom, may_be_title, HasWholeTables, CowIndex}
+use Rattle.std.proofs.lemmas.Bool.{or_from}
 use Rattle.first_pass_grammar.specs.declared.kind.Container.{Container}
-use Rattle.first_pass_grammar.specs.Names.{Names, Extends, AreNamed}
-use Rattle.first_pass_grammar.specs.Kinds.{Kind}
-use Rattle.first_pass_grammar.specs.Leaves.{Document, document}
-use Rattle.first_pass_grammar.specs.Completion.{lines_from}
-use Rattle.first_pass_grammar.specs.Order.{is_task_marker}
-use Rattle.first_pass_grammar.specs.Blocks.{leaf_block}
-use Rattle.first_pass_grammar.specs.Skeleton.{Line, OpensLeaf}
-use Rattle.first_pass_grammar.specs.Tables.{Taken}
-use Rattle.first_pass_grammar.specs.Texts.{IsText}
-use Rattle.first_pass_grammar.specs.Counting.{is_row}
-use Rattle.first_pass_grammar.specs.WholeTables.{Mark, shown, marks, AreWholeTables, ShowsNothing, AreEachNode, SilentFrom, may_be_title, HaveNoRows}
-use Rattle.first_pass_grammar.specs.WholeTables.{IsSilentLast, HasWholeTables}
+use Rattle.first_pass_grammar.specs.WholeTables.{HaveNoRows}
+use Rattle.first_pass_grammar.specs.WholeTables.{IsSilentLast}
 use Rattle.first_pass_grammar.proofs.WholeTables.FullHeads.{heads_are_full}
 use Rattle.first_pass_grammar.proofs.Sequences.LinesLeft.{lines_from_at}
-use Rattle.first_pass_completion.proofs.SilentNodes.{IsSilent, from_modified, from_from, marks_moved}
+use Rattle.first_pass_completion.proofs.SilentNodes.{from_modified, from_from, marks_moved}
 use Rattle.first_pass_grammar.proofs.WholeTables.TableMarks.{whole_deeper}
 use Rattle.first_pass_order.proofs.WholeBefore.{whole_still}
 use Rattle.first_pass_completion.proofs.SilentTexts.{silent_past}
@@ -40,11 +25,10 @@ use Rattle.first_pass_names.proofs.NameLemmas.{extends_none}
 use Rattle.first_pass_open.specs.OpenBlock.{closed_by, with_child, begun_item, opened_block}
 use Rattle.first_pass_open.specs.Path.{path_of}
 use Rattle.first_pass_lists.specs.Closing.{popped, empty_item_closed, list_finished, begun, blank_read, footnote_begun, possible_title}
-use Rattle.first_pass_items.specs.declared.item.CowIndex.{CowIndex}
 use Rattle.first_pass_lists.specs.declared.state.PassState.{PassState}
 use Rattle.first_pass_order.specs.LeafBlocks.{AddsKind}
-use Rattle.first_pass_order.proofs.Nests.{title_there}
-use Rattle.first_pass_order.proofs.AlikeNodes.{IsBodyLike, IsAlike, AreAlike, NoNodes, OneMore, LooksAlike}
+use Rattle.first_pass_order.proofs.Nests.{title_there, body-moved, first_there}
+use Rattle.first_pass_order.proofs.AlikeNodes.{IsBodyLike, AreAlike, NoNodes, OneMore, LooksAlike}
 use Rattle.first_pass_order.proofs.PropertyKept.{IsLeft, Property, MayLeave, none_leaves, HoldsAt, HoldsBefore, popped_keeps, empty_item_closed_keeps}
 use Rattle.first_pass_order.proofs.PropertyKept.{list_finished_keeps, quote_keeps, item_keeps, note_keeps, blank_keeps}
 use Rattle.first_pass_lists.proofs.NoEmptyItem.{item_opened}
@@ -64,46 +48,16 @@ pub none_kept : (old new : List (ℕ × Item)) (s : List TreeIndex) → KeepNoRo
 none_kept old new [] k h = tt
 none_kept old new (ix ∷ s) k h = (k ix.0 h.0, none_kept old new s k h.1)
 
-pub modified_keeps : (nodes : List (ℕ × Item)) (place : ℕ) (g : Item → Item)
-    → ((x : Item) → may_not_open x.body ≡ false → may_not_open (g x).body ≡ false)
-    → KeepNoRows nodes (modify nodes place g)
-modified_keeps (n ∷ nodes) zero g k zero h = k n.1 h
-modified_keeps (n ∷ nodes) (suc place) g k (suc i) h = modified_keeps nodes place g k i h
-modified_keeps nodes place g k w h = h
+same_keeps : (old new : List (ℕ × Item)) → ((i : ℕ) → body_at new i ≡ body_at old i) → KeepNoRows old new
+same_keeps old new same i h = subst (λ o. IsSomeAnd o (λ b. may_not_open b ≡ false)) (sym (same i)) h
 
--- a change of a node that is not open
-pub other_keeps : (nodes : List (ℕ × Item)) (place : ℕ) (g : Item → Item) (b : ItemBody) → body_at nodes place ≡ Some b → may_not_open b ≡ true
-    → KeepNoRows nodes (modify nodes place g)
-other_keeps (n ∷ nodes) zero g b is own zero h =
-    (let e : n.1.body ≡ b = same_Some n.1.body b is in absurd (true≢false (sym own ∙ sym (ap may_not_open e) ∙ h)))
-other_keeps (n ∷ nodes) (suc place) g b is own (suc i) h = other_keeps nodes place g b is own i h
-other_keeps nodes place g b is own w h = h
-
-shallower_keeps : (nodes : List (ℕ × Item)) → KeepNoRows nodes (map shallower nodes)
-shallower_keeps [] i h = h
-shallower_keeps (n ∷ nodes) zero h = h
-shallower_keeps (n ∷ nodes) (suc i) h = shallower_keeps nodes i h
-
-moved_keeps : (place : ℕ) (nodes : List (ℕ × Item)) → KeepNoRows nodes (map_from shallower place nodes)
-moved_keeps zero nodes i h = shallower_keeps nodes i h
-moved_keeps (suc place) [] i h = h
-moved_keeps (suc place) (n ∷ nodes) zero h = h
-moved_keeps (suc place) (n ∷ nodes) (suc i) h = moved_keeps place nodes i h
+pub ended_keeps : (nodes : List (ℕ × Item)) (place e : ℕ) → KeepNoRows nodes (modify nodes place (λ x. record x { «end» = e }))
+ended_keeps nodes place e = same_keeps nodes _ (λ i. body-kept nodes place i (λ x. record x { «end» = e }) (λ x. refl))
 
 pub front_keeps : (nodes more : List (ℕ × Item)) → KeepNoRows nodes (nodes ++ more)
 front_keeps [] more i h = absurd h
 front_keeps (n ∷ nodes) more zero h = h
 front_keeps (n ∷ nodes) more (suc i) h = front_keeps nodes more i h
-
-last_is : (nodes : List (ℕ × Item)) (n : ℕ × Item) → may_not_open n.1.body ≡ false → IsNoRow (nodes ++ n ∷ []) (length nodes)
-last_is [] n h = h
-last_is (m ∷ nodes) n h = last_is nodes n h
-
--- a node without any part of a table, at the place of this body
-pub silent_at : (nodes : List (ℕ × Item)) (i : ℕ) (b : ItemBody) → body_at nodes i ≡ Some b → ShowsNothing b → IsSilent nodes i
-silent_at [] i b is h = absurd (none-some b is)
-silent_at (n ∷ nodes) zero b is h = subst ShowsNothing (sym (same_Some n.1.body b is)) h
-silent_at (n ∷ nodes) (suc i) b is h = silent_at nodes i b is h
 
 -- another end of a node that is no row changes no mark
 end_shows : (names : Names) (depth start «end» e : ℕ) (b : ItemBody) → is_row b ≡ false → shown names depth start e b ≡ shown names depth start «end» b
@@ -112,17 +66,10 @@ end_shows names depth start end e TableRow h = absurd (true≢false h)
 end_shows names depth start end e b h = refl
 
 -- a node that may be open is no such text
-or_parts : (t u : Bool) → (t || u) ≡ false → (t ≡ false) × (u ≡ false)
-or_parts true u h = absurd (true≢false h)
-or_parts false u h = (refl, h)
-
 silent_open : (nodes : List (ℕ × Item)) (i : ℕ) (o : Option ItemBody) → body_at nodes i ≡ o → IsSomeAnd o (λ b. may_not_open b ≡ false)
     → option_map_or may_be_title (body_at nodes i) false ≡ false
 silent_open nodes i None is h = absurd h
 silent_open nodes i (Some b) is h = ap (λ o. option_map_or may_be_title o false) is ∙ (or_parts (is_row b) (may_be_title b) h).1
-
-pub open_last : (nodes : List (ℕ × Item)) (ix : TreeIndex) → IsNoRow nodes ix.0 → IsSilentLast nodes (Some ix)
-open_last nodes ix h may = absurd (true≢false (sym may ∙ silent_open nodes ix.0 (body_at nodes ix.0) refl h))
 
 -- the marker of a task has no part of a table
 pub task_shows : (body : ItemBody) → is_task_marker body ≡ true → ShowsNothing body
@@ -133,10 +80,6 @@ task_shows body h = cc
 abbrev pub IsSilentFirst : List (ℕ × Item) → Type 0
 IsSilentFirst [] = Unit {0}
 IsSilentFirst (x ∷ items) = may_be_title x.1.body ≡ true → AreEachNode ShowsNothing (x ∷ items)
-
-first_there : (nodes : List (ℕ × Item)) (n : ℕ × Item) (more : List (ℕ × Item)) → body_at (nodes ++ n ∷ more) (length nodes) ≡ Some n.1.body
-first_there [] n more = refl
-first_there (m ∷ nodes) n more = first_there nodes n more
 
 none_there : (nodes : List (ℕ × Item)) → body_at (nodes ++ []) (length nodes) ≡ None
 none_there [] = refl
@@ -160,18 +103,13 @@ pub record IsKept (names : Names) (f : Forest Item) : Type 0 where
   pub none_open : HaveNoRows f.nodes f.spine
 
 -- alike nodes have the same marks
-shown_alike : (names : Names) (n m : ℕ × Item) → IsAlike n m
-    → shown names m.0 m.1.start m.1.«end» m.1.body ≡ shown names n.0 n.1.start n.1.«end» n.1.body
-shown_alike names n m a =
-    ap (λ t. t.5 names m.0 m.1.start m.1.«end») a.body.0 ∙ ap (λ d. shown names d m.1.start m.1.«end» n.1.body) a.depth
-    ∙ ap (λ s. shown names n.0 s m.1.«end» n.1.body) a.start ∙ ap (λ e. shown names n.0 n.1.start e n.1.body) a.«end»
-
 marks_alike : (names : Names) (old new : List (ℕ × Item)) → AreAlike old new → marks names new ≡ marks names old
 unfolding marks
 marks_alike names old new NoNodes = refl
 marks_alike names old new (OneMore n m xs ys a h) =
-    ap (λ (z : List Mark). z ++ marks names ys) (shown_alike names n m a)
-    ∙ ap (λ (z : List Mark). shown names n.0 n.1.start n.1.«end» n.1.body ++ z) (marks_alike names xs ys h)
+    let rest = marks_alike names xs ys h in
+    let same = ap (λ t. t.5 names m.0 m.1.start m.1.«end») a.body.0 in
+    cc (a.depth, a.start, a.«end»)
 
 silent_like : (b c : ItemBody) → IsBodyLike b c → ShowsNothing b → ShowsNothing c
 silent_like b c like h = λ names depth start end. ap (λ t. t.5 names depth start end) like.0 ∙ h names depth start end
@@ -188,10 +126,8 @@ from_alike old new (suc i) (OneMore n m xs ys a l) h = from_alike xs ys i l h
 still_open : (b c : ItemBody) → IsBodyLike b c → may_not_open b ≡ false → may_not_open c ≡ false
 still_open b c like h =
     let p = or_parts (is_row b) (may_be_title b) h in
-    elim (cases_Bool (may_be_title c)) [
-      | inl title ↦ absurd (true≢false (sym (like.1 title) ∙ p.1))
-      | inr other ↦ ap (λ t. t || may_be_title c) (ap (λ t. t.0) like.0 ∙ p.0) ∙ other
-    ]
+    or_from (is_row c) (may_be_title c) (ap (λ t. t.0) like.0 ∙ p.0)
+    (false_from_ne_true (may_be_title c) (λ title. true≢false (sym (like.1 title) ∙ p.1)))
 
 rows_alike : (old new : List (ℕ × Item)) → AreAlike old new → KeepNoRows old new
 rows_alike old new NoNodes i h = h
@@ -214,8 +150,7 @@ module _ (names : Names) where
   unfolding marks
   marks_ended [] place e h = refl
   marks_ended (n ∷ nodes) zero e h =
-      ap (λ (z : List Mark). z ++ marks names nodes)
-      (end_shows names n.0 n.1.start n.1.«end» e n.1.body (or_parts (is_row n.1.body) (may_be_title n.1.body) h).0)
+      cc (end_shows names n.0 n.1.start n.1.«end» e n.1.body (or_parts (is_row n.1.body) (may_be_title n.1.body) h).0)
   marks_ended (n ∷ nodes) (suc place) e h = ap (λ (z : List Mark). shown names n.0 n.1.start n.1.«end» n.1.body ++ z) (marks_ended nodes place e h)
 
   -- the tables of the state
@@ -225,20 +160,11 @@ module _ (names : Names) where
   pub kept_of : (f : Forest Item) → HasWholeTables names f → IsKept names f
   kept_of f h = record { whole = h.whole; none_open = h.none_open }
 
-  pub same_shown : (f g : Forest Item) → marks names g.nodes ≡ marks names f.nodes → HaveNoRows g.nodes g.spine → IsKept names f → IsKept names g
-  same_shown f g same none h = record { whole = whole_same names f.nodes g.nodes same h.whole; none_open = none }
-
   -- one more node without any part of a table
   one_whole : (nodes : List (ℕ × Item)) (n : ℕ × Item) → ShowsNothing n.1.body → AreWholeTables names nodes → AreWholeTables names (nodes ++ n ∷ [])
   unfolding marks
   one_whole nodes n own h =
       whole_both names nodes (n ∷ []) h (whole_none names (n ∷ []) (ap (λ (z : List Mark). z ++ []) (own names n.0 n.1.start n.1.«end»)))
-
-  pub like_kept_whole : (f g : Forest Item) → LooksAlike f g → IsKept names f → IsKept names g
-  like_kept_whole f g l h = record {
-    whole = whole_same names f.nodes g.nodes (marks_alike names f.nodes g.nodes l.nodes) h.whole;
-    none_open = subst (HaveNoRows g.nodes) (sym l.spine) (none_kept f.nodes g.nodes f.spine (rows_alike f.nodes g.nodes l.nodes) h.none_open);
-  }
 
   pub like_whole : (f g : Forest Item) → LooksAlike f g → HasWholeTables names f → HasWholeTables names g
   like_whole f g l h = record {
@@ -253,11 +179,12 @@ module _ (names : Names) where
   closed_whole f e ix rest spine h =
       let none : HaveNoRows f.nodes (ix ∷ rest) = subst (HaveNoRows f.nodes) spine h.none_open in
       let to : Item → Item = λ x. record x { «end» = e } in
-      let keeps = modified_keeps f.nodes ix.0 to (λ x k. k) in
+      let keeps = ended_keeps f.nodes ix.0 e in
       record {
         whole = whole_same names f.nodes (modify f.nodes ix.0 to) (marks_ended f.nodes ix.0 e none.0) h.whole;
         none_open = none_kept f.nodes (modify f.nodes ix.0 to) rest keeps none.1;
-        last = open_last (modify f.nodes ix.0 to) ix (keeps ix.0 none.0);
+        last = λ may. absurd (true≢false (sym may
+            ∙ silent_open (modify f.nodes ix.0 to) ix.0 (body_at (modify f.nodes ix.0 to) ix.0) refl (keeps ix.0 none.0)));
       }
 
   -- and its last child, which has no part of a table, is moved out of it
@@ -270,7 +197,7 @@ module _ (names : Names) where
       let none : HaveNoRows f.nodes (l.list ∷ l.rest) = subst (HaveNoRows f.nodes) l.spine h.none_open in
       let still : SilentFrom l.mid c.0 = from_alike ended l.mid c.0 l.alike (from_modified f.nodes l.list.0 c.0 to (λ x k. k) silent) in
       let keeps : KeepNoRows f.nodes moved =
-      λ i k. moved_keeps c.0 l.mid i (rows_alike ended l.mid l.alike i (modified_keeps f.nodes l.list.0 to (λ x m. m) i k)) in
+      λ i k. same_keeps l.mid moved (body-moved c.0 l.mid) i (rows_alike ended l.mid l.alike i (ended_keeps f.nodes l.list.0 e i k)) in
       let last : SilentFrom moved c.0 = from_from shallower (λ n k. k) c.0 l.mid c.0 still in
       record {
         whole = whole_same names f.nodes g.nodes
@@ -287,7 +214,10 @@ module _ (names : Names) where
       let n : ℕ × Item = (length f.spine + 1, begun_item start body) in
       record {
         whole = one_whole f.nodes n own h.whole;
-        none_open = (last_is f.nodes n other, none_kept f.nodes (f.nodes ++ n ∷ []) f.spine (front_keeps f.nodes (n ∷ [])) h.none_open);
+        none_open = (
+          subst (λ o. IsSomeAnd o (λ b. may_not_open b ≡ false)) (sym (first_there f.nodes n [])) other,
+          none_kept f.nodes (f.nodes ++ n ∷ []) f.spine (front_keeps f.nodes (n ∷ [])) h.none_open,
+        );
         last = tt;
       }
 
@@ -338,7 +268,7 @@ module _ (names : Names) where
       → IsReadWhole (begun start body (list_finished line r))
   quote_whole line start body r own other forest h =
       quote_keeps whole_kept 0 line 0 start 0 body r (whole_before r forest h) (record { closes = λ list. tt; ends = tt; short = tt; later = tt })
-      (record { goes = tt; starts = tt }) (own, other)
+      tt tt (own, other)
 
   pub note_whole : (start : ℕ) (index : CowIndex) (r : PassState) → IsForest r.tree → IsReadWhole r → IsReadWhole (footnote_begun start index r)
   note_whole start index r forest h =
@@ -397,8 +327,8 @@ pub kind_whole : (text : List ℕ) (options : Options) (names : Names) (p : Plac
     → IsPlaceOf text p → (a : AddsKind (document text options names) p kind gap old new next) → AreWholeTables names a.items
 kind_whole text options names p kind gap old new next place a =
     let d : Document = document text options names in
-    (opens_as d (heads_are_full d) (path_of options old) p (lines_from text (line_end p)) kind
-    (OpensLeaf (leaf_block kind p a.items gap) Line (lines_from text next)) place.left (lines_from_at text (line_end p)) (a.opens names (extends_none names))).0
+    opens_as d (heads_are_full d) (path_of options old) p (lines_from text (line_end p)) kind
+    (OpensLeaf (leaf_block kind p a.items gap) Line (lines_from text next)) place.left (lines_from_at text (line_end p)) (a.opens names (extends_none names))
 
 -- a paragraph, heading or table
 pub added_text_whole : (d : Document) (path : List Container) (p : Place) (marker : Option Item) (lines : List Place) (t : Taken) → IsPlaceOf d.text p

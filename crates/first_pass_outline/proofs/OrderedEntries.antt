@@ -1,18 +1,12 @@
 -- The entries of a derived tree lie one after the other.
-use Rattle.std.proofs.Common.{◌≡◌, ◌⊎◌, inl, inr, ℕ, suc, ◌≤◌, Bool, true, false, List, [], ◌∷◌, ◌++◌, length, Option, Some, None, refl, sym, ap}
-use Rattle.std.proofs.Common.{subst, ◌∙◌, if◌then◌else◌, arith}
+use Rattle.std.proofs.Common.{◌≡◌, ◌⊎◌, inl, inr, ℕ, suc, ◌≤◌, Bool, true, false, List, [], ◌∷◌, ◌++◌, length, Option, Some, None, refl, sym, ap, subst}
+use Rattle.std.proofs.Common.{◌∙◌, if◌then◌else◌, arith, option_map, option_and_then}
+use Rattle.first_pass_grammar.proofs.Common.{HeadingLevel, Item, ItemBody, Heading, Tables, Derives, Document, Names, only_kind, read, Ranged, extent_of}
+use Rattle.first_pass_grammar.proofs.Common.{extents, Siblings, Empty, laid, IsBetween, Within, Elsewhere, InItem, InText, InFirst, below, beyond, Fits}
+use Rattle.first_pass_grammar.proofs.Common.{AreEachNode}
 use Rattle.std.specs.List.{cons_option}
-use Rattle.std.specs.Option.{option_map, option_and_then}
-use Rattle.first_pass_items.specs.declared.item.HeadingLevel.{HeadingLevel}
-use Rattle.first_pass_items.specs.declared.item.Item.{Item}
-use Rattle.first_pass_items.specs.declared.item.ItemBody.{ItemBody}
-use Rattle.first_pass_items.specs.declared.item.ItemBody.TheVariants.{Heading}
-use Rattle.first_pass_grammar.specs.Derivation.{Tables, Derives}
-use Rattle.first_pass_grammar.specs.Leaves.{Document}
-use Rattle.first_pass_grammar.specs.Names.{Names, only_kind, read}
-use Rattle.first_pass_grammar.specs.Order.{Ranged, extent_of, extents, Siblings, Empty, Node, laid, IsBetween, Within, Elsewhere, InItem, InText, InFirst}
-use Rattle.first_pass_grammar.specs.Order.{below, beyond, Fits, IsOrdered}
-use Rattle.first_pass_grammar.specs.WholeTables.{AreEachNode}
+use Rattle.first_pass_grammar.specs.Order.{Node}
+use Rattle.first_pass_grammar.specs.Order.{IsOrdered}
 use Rattle.first_pass_outline.specs.Outline.{Entry, heading_level_of, id_in}
 use Rattle.first_pass_outline.specs.TextOutline.{IsRangeFrom, LieBetween}
 use Rattle.first_pass_outline.proofs.HeadingRows.{IsNoHeading, NoneBelow, NoneInside, derived_inside}
@@ -74,7 +68,7 @@ module _ (names : Names) where
         (fits.range, fits.after)
 
 -- nodes that are all at least this deep
-abbrev AreDeep : {T : Type 0} → ℕ → List (ℕ × T) → Type 0
+abbrev AreDeep : ℕ → List (ℕ × Ranged) → Type 0
 AreDeep depth [] = Unit {0}
 AreDeep depth (n ∷ nodes) = (depth ≤ n.0) × AreDeep depth nodes
 
@@ -88,11 +82,7 @@ laid_deep least depth Empty le = tt
 laid_deep least depth (Node x kids next) le =
     (le, deep_both least (laid (suc depth) kids) (laid depth next) (laid_deep least (suc depth) kids (omega arith)) (laid_deep least depth next le))
 
-extents_deep : (depth : ℕ) (nodes : List (ℕ × Item)) → AreDeep depth (extents nodes) → AreDeep depth nodes
-extents_deep depth [] h = tt
-extents_deep depth (n ∷ nodes) h = (h.0, extents_deep depth nodes h.1)
-
-none_deep : (depth : ℕ) (kids next : List (ℕ × Item)) → AreDeep (suc depth) kids → NoneBelow depth (kids ++ next) → AreEachNode IsNoHeading kids
+none_deep : (depth : ℕ) (kids next : List (ℕ × Item)) → AreDeep (suc depth) (extents kids) → NoneBelow depth (kids ++ next) → AreEachNode IsNoHeading kids
 none_deep depth [] next deep h = tt
 none_deep depth (n ∷ kids) next deep h = (let both = h (omega (arith, deep.0)) in (both.0, none_deep depth kids next deep.1 both.1))
 
@@ -100,16 +90,14 @@ none_below_front : (depth : ℕ) (nodes more : List (ℕ × Item)) → NoneBelow
 none_below_front depth [] more h = tt
 none_below_front depth (n ∷ nodes) more h = λ deeper. (let both = h deeper in (both.0, none_below_front depth nodes more both.1))
 
-inside_front : (nodes more : List (ℕ × Item)) → NoneInside (nodes ++ more) → NoneInside nodes
-inside_front [] more h = tt
-inside_front (n ∷ nodes) more (inl other, h) = (inl other, inside_front nodes more h)
-inside_front (n ∷ nodes) more (inr none, h) = (inr (none_below_front n.0 nodes more none), inside_front nodes more h)
+inside_parts : (nodes more : List (ℕ × Item)) → NoneInside (nodes ++ more) → NoneInside nodes × NoneInside more
+inside_parts [] more h = (tt, h)
+inside_parts (n ∷ nodes) more (inl other, h) = (let (front, back) = inside_parts nodes more h in ((inl other, front), back))
+inside_parts (n ∷ nodes) more (inr none, h) =
+    let (front, back) = inside_parts nodes more h in
+    ((inr (none_below_front n.0 nodes more none), front), back)
 
-inside_back : (nodes more : List (ℕ × Item)) → NoneInside (nodes ++ more) → NoneInside more
-inside_back [] more h = h
-inside_back (n ∷ nodes) more h = inside_back nodes more h.1
-
-leaf_kids : (n : ℕ × Item) (kids next : List (ℕ × Item)) → AreDeep (suc n.0) kids → IsNoHeading n.1.body ⊎ NoneBelow n.0 (kids ++ next)
+leaf_kids : (n : ℕ × Item) (kids next : List (ℕ × Item)) → AreDeep (suc n.0) (extents kids) → IsNoHeading n.1.body ⊎ NoneBelow n.0 (kids ++ next)
     → IsNoHeading n.1.body ⊎ AreEachNode IsNoHeading kids
 leaf_kids n kids next deep (inl other) = inl other
 leaf_kids n kids next deep (inr none) = inr (none_deep n.0 kids next deep none)
@@ -131,7 +119,7 @@ record FirstOfRow (depth : ℕ) (x : Ranged) (n : ℕ × Item) (nodes : List (�
   next : List (ℕ × Item)
   first : ◌≡◌ {A = ℕ × Ranged} (n.0, extent_of n.1) (depth, x)
   is : nodes ≡ kids ++ next
-  deep : AreDeep (suc depth) kids
+  deep : AreDeep (suc depth) (extents kids)
 
 split_row : (depth : ℕ) (x : Ranged) (kids next : Siblings) (n : ℕ × Item) (nodes : List (ℕ × Item)) → extents (n ∷ nodes) ≡ laid depth (Node x kids next)
     → (f : FirstOfRow depth x n nodes) × (extents f.kids ≡ laid (suc depth) kids) × (extents f.next ≡ laid depth next)
@@ -140,8 +128,7 @@ split_row depth x kids next n nodes e =
     let first : ◌≡◌ {A = ℕ × Ranged} (n.0, extent_of n.1) (depth, x) = cc in
     let rest : extents nodes ≡ laid (suc depth) kids ++ laid depth next = cc in
     let (ks, ns, is, a, b) = split_nodes nodes (laid (suc depth) kids) (laid depth next) rest in
-    let deep : AreDeep (suc depth) ks =
-    extents_deep (suc depth) ks (subst (AreDeep (suc depth)) (sym a) (laid_deep (suc depth) (suc depth) kids (omega arith))) in
+    let deep = subst (AreDeep (suc depth)) (sym a) (laid_deep (suc depth) (suc depth) kids (omega arith)) in
     (record { kids = ks; next = ns; first = first; is = is; deep = deep }, a, b)
 
 -- the earliest offset that a row with this context may reach
@@ -188,7 +175,7 @@ module _ (names : Names) (text : List ℕ) where
   node_entries least to depth x n nodes f fits none =
       let own : NodeFits text least to (extent_of n.1) (entries_of names f.kids) (entries_of names f.next) =
       subst (λ (z : ℕ × Ranged). NodeFits text least to z.1 (entries_of names f.kids) (entries_of names f.next)) (sym f.first) fits in
-      let below : AreDeep (suc n.0) f.kids = subst (λ (z : ℕ × Ranged). AreDeep (suc z.0) f.kids) (sym f.first) f.deep in
+      let below : AreDeep (suc n.0) (extents f.kids) = subst (λ (z : ℕ × Ranged). AreDeep (suc z.0) (extents f.kids)) (sym f.first) f.deep in
       let leaf = leaf_kids n f.kids f.next below (subst (λ (z : List (ℕ × Item)). IsNoHeading n.1.body ⊎ NoneBelow n.0 z) f.is none.0) in
       subst (λ (z : List (ℕ × Item)). LieBetween text least to (entries_of names (n ∷ z))) (sym f.is)
       (node_by names text (heading_level_of n.1.body) least to n f.kids f.next refl own leaf)
@@ -203,11 +190,11 @@ module _ (names : Names) (text : List ℕ) where
   row_entries within from to (Node x kids next) depth [] back fits e none = cc
   row_entries within from to (Node x kids next) depth (n ∷ nodes) back (inl (between, inner, after)) e none =
       let (f, a, b) = split_row depth x kids next n nodes e in
-      let apart : NoneInside (f.kids ++ f.next) = subst NoneInside f.is none.1 in
+      let (front, rest) = inside_parts f.kids f.next (subst NoneInside f.is none.1) in
       let reaches = below_reaches within from x back between.following in
-      let kids_in = row_entries (below within from x) x.start x.«end» kids (suc depth) f.kids reaches.1 inner a (inside_front f.kids f.next apart) in
+      let kids_in = row_entries (below within from x) x.start x.«end» kids (suc depth) f.kids reaches.1 inner a front in
       let beyond_is = beyond_reach within x.«end» in
-      let next_in = row_entries (beyond within) x.«end» to next depth f.next (omega (arith, beyond_is)) after b (inside_back f.kids f.next apart) in
+      let next_in = row_entries (beyond within) x.«end» to next depth f.next (omega (arith, beyond_is)) after b rest in
       node_entries (reach within from) to depth x n nodes f
       (record {
         range = range_from text (reach within from) from to x back between;
@@ -216,9 +203,9 @@ module _ (names : Names) (text : List ℕ) where
       }) none
   row_entries (InText before) from to (Node x kids next) depth (n ∷ nodes) back (inr (lead, inner, after)) e none =
       let (f, a, b) = split_row depth x kids next n nodes e in
-      let apart : NoneInside (f.kids ++ f.next) = subst NoneInside f.is none.1 in
-      let kids_in = row_entries Elsewhere x.start x.«end» kids (suc depth) f.kids (omega arith) inner a (inside_front f.kids f.next apart) in
-      let next_in = row_entries Elsewhere from to next depth f.next (omega arith) after b (inside_back f.kids f.next apart) in
+      let (front, rest) = inside_parts f.kids f.next (subst NoneInside f.is none.1) in
+      let kids_in = row_entries Elsewhere x.start x.«end» kids (suc depth) f.kids (omega arith) inner a front in
+      let next_in = row_entries Elsewhere from to next depth f.next (omega arith) after b rest in
       node_entries before to depth x n nodes f
       (record {
         range = range_from text before before from x (omega arith) lead.1;

@@ -1,10 +1,8 @@
 -- The outline of nodes, built node by node.
 use Rattle.std.proofs.Common.{◌≡◌, ℕ, ◌+◌, ◌<◌, List, [], ◌∷◌, ◌++◌, Some, None, length, map, take, get_or, sym, ap, ◌∙◌, append-nil}
-use Rattle.std.proofs.lemmas.List.{take_more, map-append}
+use Rattle.first_pass_grammar.proofs.Common.{take_more, map-append, Item, Names, read, read_nodes}
 use Rattle.std.proofs.lemmas.List.Elements.{filter_map-append}
 use Rattle.std.specs.List.{cons_option}
-use Rattle.first_pass_items.specs.declared.item.Item.{Item}
-use Rattle.first_pass_grammar.specs.Names.{Names, read, read_nodes}
 use Rattle.first_pass_outline.specs.declared.outline.OutlineEntry.{OutlineEntry}
 use Rattle.first_pass_outline.specs.Outline.{Entry, entry_of, outline_of}
 use Rattle.first_pass_outline.specs.Entries.{entry_in}

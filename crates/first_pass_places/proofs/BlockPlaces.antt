@@ -1,16 +1,14 @@
 -- The place of an attribute block: between the last `}` of a heading and the last `{` before it.
-use Rattle.std.proofs.Common.{◌≡◌, ℕ, suc, ◌+◌, ◌-◌, ◌<◌, ◌≤◌, ◌==◌, not, Bool, true, false, List, ◌∷◌, ◌++◌, length, take, drop, get_or, reverse, slice_index}
-use Rattle.std.proofs.Common.{Some, sym, ap, ◌∙◌, arith, append_assoc, eq-eqb, length-append, inl, inr}
-use Rattle.std.specs.List.{suffix_len, slice_range, AllPass}
-use Rattle.std.proofs.lemmas.Bool.{cases_lt}
-use Rattle.std.proofs.lemmas.Bool.Decides.{nat_tests}
-use Rattle.std.proofs.lemmas.List.{get_or-drop, get_or-take, get_or_past, get_or_default, get_or-append-add, get_or-reverse, take-take, drop-drop, drop-take}
-use Rattle.std.proofs.lemmas.List.{length-take}
-use Rattle.std.proofs.lemmas.List.Elements.{All-append}
-use Rattle.std.proofs.lemmas.List.Sums.{prefix_len_passes, suffix_len_is, AllPass-from_list_all}
-use Rattle.std.proofs.Math.Seq.{get_or-append_seam, take-add, take-append_seam, drop-append-add}
-use Rattle.first_pass_items.specs.Bytes.{left_brace, right_brace}
-use Rattle.first_pass_attributes.specs.AttributeBlocks.{is_after_block, is_inside_block, Braces, IsAttributeBlock, attribute_block}
+use Rattle.std.proofs.Common.{◌≡◌, ℕ, suc, ◌+◌, ◌-◌, ◌<◌, ◌≤◌, ◌==◌, not, true, false, List, ◌∷◌, ◌++◌, length, take, drop, slice_index, Some, sym, ap, ◌∙◌}
+use Rattle.std.proofs.Common.{arith, append_assoc, eq-eqb, length-append, inl, inr, slice_range, get_or-drop, get_or-take, get_or-append-add, take-take}
+use Rattle.std.proofs.Common.{drop-drop, length-take, take-add}
+use Rattle.first_pass_grammar.proofs.Common.{cases_lt, nat_tests, get_or_past, drop-take, All-append, take-append_seam, left_brace, right_brace, Braces}
+use Rattle.first_pass_grammar.proofs.Common.{attribute_block}
+use Rattle.std.specs.List.{AllPass}
+use Rattle.std.proofs.lemmas.List.{get_or_default}
+use Rattle.std.proofs.lemmas.List.Sums.{suffix_len_is, AllPass-from_list_all}
+use Rattle.std.proofs.Math.Seq.{get_or-append_seam, drop-append-add}
+use Rattle.first_pass_attributes.specs.AttributeBlocks.{is_after_block, is_inside_block, IsAttributeBlock}
 use Rattle.first_pass_attributes.proofs.BlockFacts.{block-found}
 use Rattle.first_pass_places.specs.AttributeBlockPlaces.{upto_last, block_range}
 use Rattle.first_pass_places.specs.InfoStrings.{bytes_in}
@@ -28,14 +26,6 @@ is_in bs k c e h = elim (cases_lt k (length bs)) as (λ _. k < length bs) [
   | inl low ↦ low
   | inr past ↦ absurd (let none = get_or_past bs k 0 past in omega (arith, none, e))
 ]
-
--- the bytes at the end that pass a test
-pub last_passes : (p : ℕ → Bool) (xs : List ℕ) (k : ℕ) → length xs - suffix_len p xs ≤ k → k < length xs → p (slice_index xs k) ≡ true
-last_passes p xs k low high =
-    let j : ℕ = length xs - 1 - k in
-    let back : length xs - 1 - j ≡ k = omega arith in
-    let read : get_or (reverse xs) j 0 ≡ slice_index xs k = get_or-reverse xs j 0 (omega arith) ∙ ap (slice_index xs) back in
-    ap p (sym read) ∙ prefix_len_passes p (reverse xs) j 0 (omega arith)
 
 -- a part of a part
 part_of_part : (text : List ℕ) (s m a c : ℕ) → a ≤ c → c ≤ m → slice_range (take m (drop s text)) a c ≡ slice_range text (s + a) (s + c)
@@ -115,14 +105,6 @@ inside_no_brace b h = grind (arith, nat_tests, h)
 
 after_no_brace : (b : ℕ) → is_after_block b ≡ true → (b == right_brace) ≡ false
 after_no_brace b h = grind (arith, nat_tests, h)
-
--- the closing brace of a block that is found is among the bytes
-pub block_within : (bs : List ℕ) (block : Braces) → attribute_block bs ≡ Some block → block.closing < length bs
-block_within bs block e =
-    let is : IsAttributeBlock bs block = block-found bs block e in
-    let size = ap length is.parts ∙ length-append is.front (left_brace ∷ (is.inside ++ right_brace ∷ is.following)) in
-    let more = length-append is.inside (right_brace ∷ is.following) in
-    omega (arith, is.closes, size, more)
 
 -- If no `}` of a heading follows a part of it, the block that is found in the part is between the last braces of the
 -- heading.

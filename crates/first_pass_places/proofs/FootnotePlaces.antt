@@ -1,33 +1,19 @@
 -- The label that a footnote definition names is read from its range.
-use Rattle.std.proofs.Common.{◌≡◌, ℕ, ◌+◌, ◌-◌, ◌≤◌, ◌&&◌, true, false, nat_lt, List, [], ◌∷◌, length, drop, min, Option, Some, None, refl, sym, ap}
-use Rattle.std.proofs.Common.{subst, ◌∙◌, drop-drop, arith}
-use Rattle.std.specs.Option.{option_and_then}
+use Rattle.std.proofs.Common.{◌≡◌, ℕ, ◌+◌, ◌-◌, ◌≤◌, ◌&&◌, true, false, nat_lt, List, [], ◌∷◌, length, drop, min, Option, Some, None, refl, sym, ap, subst}
+use Rattle.std.proofs.Common.{◌∙◌, drop-drop, arith, option_and_then, true≢false, length-drop}
+use Rattle.first_pass_grammar.proofs.Common.{and_parts, none-some, same_Some, left_bracket, circumflex, colon, has, footnotes, gfm_footnotes, CowIndex}
+use Rattle.first_pass_grammar.proofs.Common.{begins, Place, offset, indent, some_if, some_unless, begins_footnote_mark, head_after, footnote_head, label_at}
+use Rattle.first_pass_grammar.proofs.Common.{label_len, Context, prefix_crossed, footnote_prefix, footnote_at, footnote_head_at, label_bytes, NamesLabel}
+use Rattle.first_pass_grammar.proofs.Common.{unindented, Document, around}
 use Rattle.std.proofs.Math.Nat.{min-eq_right}
-use Rattle.std.proofs.lemmas.Bool.{and_parts, true≢false}
-use Rattle.std.proofs.lemmas.List.{length-drop}
-use Rattle.std.proofs.lemmas.Option.{none-some, same_Some}
-use Rattle.first_pass_items.specs.Bytes.{left_bracket, circumflex, colon}
-use Rattle.first_pass_items.specs.OptionWords.{has, footnotes, gfm_footnotes}
-use Rattle.first_pass_items.specs.declared.item.CowIndex.{CowIndex}
-use Rattle.first_pass_lines.specs.Lines.{begins}
-use Rattle.first_pass_lines.specs.Places.{Place, offset}
-use Rattle.first_pass_lines.specs.Rest.{indent}
-use Rattle.first_pass_links.specs.Footnotes.{begins_footnote_mark, head_after, footnote_head}
-use Rattle.first_pass_links.specs.Labels.{label_at, label_len}
 use Rattle.first_pass_grammar.specs.declared.kind.Container.{Container}
-use Rattle.first_pass_grammar.specs.Containers.{Context}
-use Rattle.first_pass_grammar.specs.Definitions.{prefix_crossed}
-use Rattle.first_pass_grammar.specs.Footnotes.{footnote_prefix, footnote_at, footnote_head_at, label_bytes, NamesLabel}
-use Rattle.first_pass_grammar.specs.Kinds.{unindented}
-use Rattle.first_pass_grammar.specs.Leaves.{Document, around}
 use Rattle.first_pass_places.specs.AttributePlaces.{range_of}
 use Rattle.first_pass_places.specs.FootnoteLabels.{label_range}
 use Rattle.first_pass_places.specs.NamePlaces.{NamesLabelAt}
 use Rattle.first_pass_places.proofs.LabelPlaces.{IsPlainPrefix, label_ends, plain_prefix}
-use Rattle.first_pass_places.proofs.OptionFacts.{some_if, some_unless}
 
 footnote_plain : (around : Context) → IsPlainPrefix (footnote_prefix around)
-footnote_plain around bs n e = plain_prefix true around bs n (some_unless (gfm_footnotes around.options) (prefix_crossed true around bs) n e)
+footnote_plain around bs n e = plain_prefix true around bs n (some_unless (gfm_footnotes around.options) (prefix_crossed true around bs) n e).1
 
 -- the label of a head
 label_of_head : (bs : List ℕ) (o : Option (ℕ × List ℕ)) (head : ℕ × List ℕ) → option_and_then (head_after bs) o ≡ Some head

@@ -1,36 +1,19 @@
 -- The footnote definitions among the nodes of a derived tree are those of its sequence, in the order of the text.
 use Rattle.std.proofs.Common.{◌≡◌, ℕ, suc, Bool, true, false, List, [], ◌∷◌, ◌++◌, length, map, Option, Some, None, refl, sym, ap, ◌∙◌, append_assoc}
-use Rattle.std.proofs.Common.{if◌then◌else◌}
-use Rattle.std.specs.Option.{option_map, option_map_or}
-use Rattle.std.proofs.lemmas.Bool.{false≢true}
-use Rattle.std.proofs.lemmas.List.{map-append}
-use Rattle.first_pass_items.specs.declared.cow_str.CowStr.{CowStr}
-use Rattle.first_pass_items.specs.declared.item.CowIndex.{CowIndex}
-use Rattle.first_pass_items.specs.declared.item.Item.{Item}
-use Rattle.first_pass_items.specs.declared.item.ItemBody.{ItemBody}
-use Rattle.first_pass_items.specs.declared.item.ItemBody.TheVariants.{FencedCodeBlock, FootnoteDefinition, Paragraph}
-use Rattle.first_pass_tree.specs.Forest.{at_depth}
-use Rattle.first_pass_tree.specs.Tight.{tight_body, tightened}
-use Rattle.first_pass_lines.specs.Places.{lines_at}
-use Rattle.first_pass_tokens.proofs.PieceFacts.{is_markup}
-use Rattle.first_pass_grammar.specs.Before.{Before, nothing, after_blank, after_block, after_container, before_end, begins_paragraph}
-use Rattle.first_pass_grammar.specs.Blocks.{LeafBlock, BlankLine, Block, Opener, QuoteMarker, ItemMarker, FootnoteMarker, DefinitionMarker, label_of, opened}
-use Rattle.first_pass_grammar.specs.Blocks.{Skeleton, Nil, Then, Node}
-use Rattle.first_pass_grammar.specs.Containers.{is_quote}
-use Rattle.first_pass_grammar.specs.Derivation.{as_title, row_items, tight_in, items_of, footnotes_of, Tables, Derives}
-use Rattle.first_pass_grammar.specs.Leaves.{Document}
-use Rattle.first_pass_grammar.specs.Names.{text_named}
-use Rattle.first_pass_grammar.specs.Rows.{What, ALeaf, AFootnote, ATitle, Row, Rows, End, OneOf, gapped}
-use Rattle.first_pass_grammar.specs.Rows.{is_loose, Joins, ItemsOf, DefinitionsTo, end_of_row, continues_list, items_after, list_after, what_of, row_of}
-use Rattle.first_pass_grammar.specs.Rows.{container_row, row_of_leaf, Definitions, definitions_of_row, apart_after, is_untitled, is_run_row, definitions_first}
-use Rattle.first_pass_grammar.specs.Rows.{titled, gap_before, rows_of}
-use Rattle.first_pass_grammar.specs.Skeleton.{Line, level, Lines}
-use Rattle.first_pass_grammar.specs.WholeTables.{AreEachNode}
+use Rattle.std.proofs.Common.{if◌then◌else◌, option_map}
+use Rattle.first_pass_grammar.proofs.Common.{option_map_or, false≢true, map-append, CowIndex, Item, ItemBody, FencedCodeBlock, FootnoteDefinition}
+use Rattle.first_pass_grammar.proofs.Common.{Paragraph, at_depth, tight_body, tightened, Before, nothing, after_blank, after_block, after_container}
+use Rattle.first_pass_grammar.proofs.Common.{before_end, begins_paragraph, LeafBlock, BlankLine, Block, Opener, QuoteMarker, ItemMarker, FootnoteMarker}
+use Rattle.first_pass_grammar.proofs.Common.{DefinitionMarker, label_of, opened, Skeleton, Nil, Then, Node, is_quote, as_title, row_items, tight_in}
+use Rattle.first_pass_grammar.proofs.Common.{items_of, footnotes_of, Tables, Derives, Document, text_named, What, ALeaf, AFootnote, ATitle, Row, Rows, End}
+use Rattle.first_pass_grammar.proofs.Common.{OneOf, gapped, is_loose, Joins, ItemsOf, DefinitionsTo, end_of_row, continues_list, items_after, list_after}
+use Rattle.first_pass_grammar.proofs.Common.{what_of, row_of, container_row, row_of_leaf, Definitions, definitions_of_row, apart_after, is_untitled}
+use Rattle.first_pass_grammar.proofs.Common.{is_run_row, definitions_first, titled, gap_before, rows_of, AreEachNode}
 use Rattle.first_pass_grammar.proofs.Each.EachCell.{deeper_nodes}
-use Rattle.first_pass_grammar.proofs.Each.EachLeaf.{HoldsOfBlocks, HoldsInBlocks, IsBlockOf, HoldsOfEachLeaf, each_leaf}
+use Rattle.first_pass_grammar.proofs.Each.EachLeaf.{IsBlockOf, begins_block, derived_leaves, is_inner}
 use Rattle.first_pass_grammar.proofs.Each.EachRow.{IsEnd, HoldsOfRow, HoldsOfEachRow, each_row, tight_nodes}
-use Rattle.first_pass_grammar.proofs.Names.TokensNamed.{NamesWithin}
-use Rattle.first_pass_places.proofs.MarkedBlocks.{IsReadOpener, AreReadHeads, derived_blocks}
+use Rattle.first_pass_places.proofs.MarkedBlocks.{IsReadOpener, derived_blocks, IsReadHead}
+use Rattle.first_pass_grammar.proofs.Each.EachOpening.{HoldsOfEachHead, HoldsOfEachLeaf}
 
 -- the start and the index of each footnote definition among nodes, rows or blocks
 abbrev pub Footnotes : Type 0
@@ -94,40 +77,20 @@ plain_nodes [] h = tt
 plain_nodes (n ∷ nodes) h = (plain_silent n.1.body h.0, plain_nodes nodes h.1)
 
 -- No node of a leaf block is a footnote definition, and only its first may be a fenced code block.
-blocks_silent : HoldsOfBlocks IsSilent
-blocks_silent = record {
-  paragraph = tt;
-  heading = λ level index. tt;
-  table = λ index. tt;
-  indented = tt;
-  fenced = λ info. tt;
-  metadata = λ kind. tt;
-  html = tt;
-  rule = tt;
-  task = λ checked. tt;
-}
+block_body : (body : ItemBody) → begins_block body ≡ true → IsSilent body
+block_body (FootnoteDefinition ix) h = absurd (false≢true h)
+block_body body h = tt
 
-markup_plain : (texts : List CowStr) (body : ItemBody) → is_markup body ≡ true → NamesWithin texts body → IsPlain body
-markup_plain texts (FencedCodeBlock ix) h k = absurd (false≢true h)
-markup_plain texts (FootnoteDefinition ix) h k = absurd (false≢true h)
-markup_plain texts _ h k = tt
-
-within_plain : (texts : List CowStr) → HoldsInBlocks texts IsPlain
-within_plain texts = record {
-  tokens = record { text = λ escaped. tt; soft = tt; hard = λ by_backslash. tt; markup = markup_plain texts };
-  raw = record { html = tt; columns = λ ix. tt };
-  head = tt;
-  row = tt;
-  cell = tt;
-  task = λ checked. tt;
-}
+inner_body : (body : ItemBody) → is_inner body ≡ true → IsPlain body
+inner_body (FencedCodeBlock ix) h = absurd (false≢true h)
+inner_body (FootnoteDefinition ix) h = absurd (false≢true h)
+inner_body body h = tt
 
 abbrev pub IsLeafBlock : List (ℕ × Item) → Type 0
 IsLeafBlock items = IsBlockOf IsSilent IsPlain items
 
-pub derived_leaves : (d : Document) (nodes : List (ℕ × Item)) (tables : Tables) (h : Derives d nodes tables) → HoldsOfEachLeaf IsLeafBlock h.skeleton
-derived_leaves d nodes tables h =
-    each_leaf IsSilent IsPlain d blocks_silent (within_plain d.names.texts) h.skeleton (level [] nothing) Line (lines_at 0 d.text) (Lines []) tt h.sequence
+pub leaves_plain : (d : Document) (nodes : List (ℕ × Item)) (tables : Tables) (h : Derives d nodes tables) → HoldsOfEachLeaf IsLeafBlock h.skeleton
+leaves_plain d = derived_leaves IsSilent IsPlain d block_body inner_body
 
 block_silent : (items : List (ℕ × Item)) → IsLeafBlock items → AreEachNode IsSilent items
 block_silent [] h = tt
@@ -271,8 +234,8 @@ opener_label : (d : Document) (start : ℕ) (opener : Opener) → IsReadOpener d
 opener_label d start (FootnoteMarker columns index label) h = ap (λ (l : List ℕ). l ∷ []) h.1
 opener_label d start opener h = refl
 
-sequence_labels : (d : Document) (s : Skeleton) → AreReadHeads d s → labels_named d (sequence_footnotes s) ≡ footnotes_of s
-unfolding AreReadHeads sequence_footnotes footnotes_of
+sequence_labels : (d : Document) (s : Skeleton) → HoldsOfEachHead (IsReadHead d) s → labels_named d (sequence_footnotes s) ≡ footnotes_of s
+unfolding HoldsOfEachHead sequence_footnotes footnotes_of
 sequence_labels d Nil h = refl
 sequence_labels d (Then leaf next) h = sequence_labels d next h
 sequence_labels d (Node head e kids next) h =
@@ -291,7 +254,7 @@ pub derived_labels : (d : Document) (nodes : List (ℕ × Item)) (tables : Table
     → labels_named d (node_footnotes nodes) ≡ footnotes_of h.skeleton
 derived_labels d nodes tables h =
     let rows : Rows = rows_of false nothing (length d.text) h.skeleton in
-    let leaves = derived_leaves d nodes tables h in
+    let leaves = leaves_plain d nodes tables h in
     let holds = each_row IsLeafBlock false nothing (length d.text) h.skeleton leaves in
     ap (labels_named d) (ap node_footnotes h.forest_is ∙ rows_nodes 1 false rows holds ∙ rows_same false nothing (length d.text) h.skeleton leaves)
     ∙ sequence_labels d h.skeleton (derived_blocks d nodes tables h).1

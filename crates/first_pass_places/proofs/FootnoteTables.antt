@@ -1,32 +1,14 @@
 -- The table of the nodes of footnote definitions: it grows by one node after the other, and has the labels of the
 -- table of footnotes.
 use Rattle.std.proofs.Common.{◌≡◌, ℕ, ◌+◌, ◌<◌, List, [], ◌∷◌, ◌++◌, length, map, take, get_or, refl, sym, ap, subst, ◌∙◌, zero, suc, append_assoc}
-use Rattle.std.proofs.Common.{length-append, arith, true, false, Bool, cond, Option, None, Some, is_some}
-use Rattle.std.specs.declared.cmp.Ordering.{Ordering}
-use Rattle.std.specs.declared.cmp.Ordering.TheVariants.{Less, Equal, Greater}
-use Rattle.std.specs.BTreeMap.{is_at, insert_entry}
-use Rattle.std.specs.Cmp.{on_total}
-use Rattle.std.specs.Cmp.Lexicographic.{texts_ties, nat_list_cmp_total}
-use Rattle.std.specs.List.Sorted.{IsStrictlySortedBy}
-use Rattle.std.specs.Map.{lookup}
-use Rattle.std.specs.Ordering.{match_ordering, is_eq}
-use Rattle.std.proofs.lemmas.List.{append-nil, map-append, length-take-le, take_more}
+use Rattle.std.proofs.Common.{length-append, arith, append-nil, length-take-le}
+use Rattle.first_pass_grammar.proofs.Common.{map-append, take_more, CowStr, CowIndex, Item, ItemBody, FootnoteDefinition, with_first, folded, folding_of}
+use Rattle.first_pass_grammar.proofs.Common.{Names, text_named, Tables, footnotes_of, Derives, Document, with_labels}
 use Rattle.std.proofs.lemmas.Simd.{map-map}
-use Rattle.std.proofs.lemmas.Map.{lookup-none}
-use Rattle.std.proofs.lemmas.Map.Entries.{none_below_head}
-use Rattle.first_pass_items.specs.declared.cow_str.CowStr.{CowStr}
-use Rattle.first_pass_items.specs.declared.item.CowIndex.{CowIndex}
-use Rattle.first_pass_items.specs.declared.item.Item.{Item}
-use Rattle.first_pass_items.specs.declared.item.ItemBody.{ItemBody}
-use Rattle.first_pass_items.specs.declared.item.ItemBody.TheVariants.{FootnoteDefinition}
-use Rattle.first_pass_items.specs.CowText.{text_of}
-use Rattle.first_pass_labels.specs.LabelTables.{table_of, with_first, with_all, IsInOrder}
-use Rattle.first_pass_labels.specs.Foldings.{folding_of, label_cmp}
-use Rattle.first_pass_labels.proofs.TextOrder.{in_order_table}
-use Rattle.first_pass_grammar.specs.Names.{Names, text_named}
-use Rattle.first_pass_grammar.specs.Derivation.{Tables, footnotes_of, Derives}
-use Rattle.first_pass_grammar.specs.Leaves.{Document}
-use Rattle.first_pass_grammar.specs.LinkTables.{with_label, with_labels}
+use Rattle.first_pass_labels.specs.LabelTables.{table_of, with_all}
+use Rattle.first_pass_labels.proofs.FirstOfEach.{map_put_all}
+use Rattle.first_pass_labels.proofs.TextOrder.{label_of, table_is}
+use Rattle.first_pass_grammar.proofs.LinkTables.FirstLinks.{itself, put_labels}
 use Rattle.first_pass_places.specs.FootnoteNodes.{label_with_index, labels_from, entry_bytes, AreFirstFootnotes, AddsNode, entry_label}
 use Rattle.first_pass_places.proofs.FootnoteRows.{footnote_in, node_footnotes, labels_named, derived_labels}
 
@@ -102,53 +84,11 @@ pub some_labels : (names : Names) (nodes : List (ℕ × Item)) (table : List (Co
     → 0 < length (labels_from names 0 nodes)
 some_labels names nodes table some h = none_of names nodes h.definitions h.labels (omega (arith, some, ap length h.first))
 
--- the labels of a table after one definition is added are those that `with_label` gives
-label_after : (found : Bool) (e : CowStr × ℕ) (es more : List (CowStr × ℕ))
-    → map entry_label (cond found (e ∷ es) (e ∷ more)) ≡ entry_label e ∷ map entry_label (cond found es more)
-label_after true e es more = refl
-label_after false e es more = refl
-
-abbrev put : CowStr → ℕ → List (CowStr × ℕ) → List (CowStr × ℕ)
-put label x es = cond (is_some (lookup (is_at (label_cmp label)) es)) es (insert_entry label_cmp es label x)
-
-put_is : (label : CowStr) (x : ℕ) (es : List (CowStr × ℕ)) → with_first es label x ≡ put label x es
-put_is label x es = λ i. cond (is_some (lookup (λ l. texts_ties (folding_of label) (folding_of l) i) es)) es (insert_entry label_cmp es label x)
-
-put_by : (label : CowStr) (x : ℕ) (e : CowStr × ℕ) (es : List (CowStr × ℕ)) (more : List (List ℕ)) → IsInOrder (e ∷ es) → (o : Ordering)
-    → label_cmp label e.0 ≡ o → map entry_label (put label x es) ≡ more
-    → map entry_label (cond (is_some (cond (is_eq o) (Some e.1) (lookup (is_at (label_cmp label)) es))) (e ∷ es)
-    (match_ordering o ((label, x) ∷ e ∷ es) ((e.0, x) ∷ es) (e ∷ insert_entry label_cmp es label x)))
-    ≡ match_ordering o (text_of label ∷ entry_label e ∷ map entry_label es) (entry_label e ∷ map entry_label es) (entry_label e ∷ more)
-put_by label x e es more order Less is rest =
-    let none = lookup-none (is_at (label_cmp label)) (e ∷ es) (none_below_head (on_total folding_of nat_list_cmp_total) label e es order is) in
-    let here : lookup (is_at (label_cmp label)) es ≡ None = sym (ap (λ o. cond (is_eq o) (Some e.1) (lookup (is_at (label_cmp label)) es)) is) ∙ none in
-    ap (λ (r : Option ℕ). map entry_label (cond (is_some r) (e ∷ es) ((label, x) ∷ e ∷ es))) here
-put_by label x e es more order Equal is rest = refl
-put_by label x e es more order Greater is rest =
-    label_after (is_some (lookup (is_at (label_cmp label)) es)) e es (insert_entry label_cmp es label x)
-    ∙ ap (λ (ls : List (List ℕ)). entry_label e ∷ ls) rest
-
-put_label : (label : CowStr) (x : ℕ) (es : List (CowStr × ℕ)) → IsInOrder es
-    → map entry_label (put label x es) ≡ with_label (text_of label) (map entry_label es)
-unfolding with_label IsStrictlySortedBy
-put_label label x [] order = refl
-put_label label x (e ∷ es) order = put_by label x e es _ order (label_cmp label e.0) refl (put_label label x es order.1)
-
--- the labels of a table with more definitions
-more_labels : (front definitions : List (CowStr × ℕ))
-    → map entry_label (with_all (table_of front) definitions) ≡ with_labels (map entry_label (table_of front)) (map entry_label definitions)
-unfolding with_all with_labels
-more_labels front [] = refl
-more_labels front (x ∷ definitions) =
-    let next : with_first (table_of front) x.0 x.1 ≡ table_of (front ++ x ∷ []) = sym (all_after [] front (x ∷ [])) in
-    let one : map entry_label (table_of (front ++ x ∷ [])) ≡ with_label (text_of x.0) (map entry_label (table_of front)) =
-    ap (map entry_label) (sym next ∙ put_is x.0 x.1 (table_of front)) ∙ put_label x.0 x.1 (table_of front) (in_order_table front) in
-    ap (λ (es : List (CowStr × ℕ)). map entry_label (with_all es definitions)) next ∙ more_labels (front ++ x ∷ []) definitions
-    ∙ ap (λ (ls : List (List ℕ)). with_labels ls (map entry_label definitions)) one
-
+-- the labels of a table, as `with_labels` makes them
 all_labels : (definitions : List (CowStr × ℕ)) → map entry_label (table_of definitions) ≡ with_labels [] (map entry_label definitions)
-unfolding with_all
-all_labels definitions = more_labels [] definitions
+all_labels definitions =
+    ap (map entry_label) (table_is definitions) ∙ map_put_all folding_of label_of folded itself entry_label (λ d. refl) [] definitions
+    ∙ sym (put_labels [] (map entry_label definitions))
 
 -- the labels of nodes are those that the indices of their footnote definitions name
 body_labels : (d : Document) (index start : ℕ) (body : ItemBody)

@@ -1,23 +1,13 @@
 -- The attributes that a heading names are those of its block's range.
-use Rattle.std.proofs.Common.{◌≡◌, ℕ, ◌+◌, List, drop, Option, Some, None, refl, sym, ap, ◌∙◌, arith}
-use Rattle.std.specs.Option.{option_map}
-use Rattle.std.specs.List.{slice_range}
-use Rattle.first_pass_items.specs.OptionWords.{has, heading_attributes}
-use Rattle.first_pass_items.specs.declared.item.HeadingIndex.{HeadingIndex}
-use Rattle.first_pass_items.specs.declared.item.HeadingLevel.{HeadingLevel}
-use Rattle.first_pass_items.specs.declared.item.Item.{Item}
-use Rattle.first_pass_items.specs.declared.option_set.Options.{Options}
-use Rattle.first_pass_lines.specs.Lines.{line_len, level_number}
-use Rattle.first_pass_attributes.specs.AttributeBlocks.{Braces, attribute_block}
-use Rattle.first_pass_attributes.specs.Attributes.{attributes_of}
-use Rattle.first_pass_grammar.specs.Headings.{heading_attribute_block}
-use Rattle.first_pass_grammar.specs.Leaves.{Document, IsHeading, heading_text_at, line_bytes, heading_block}
-use Rattle.first_pass_grammar.specs.Names.{Names, NamesAttributes}
+use Rattle.std.proofs.Common.{◌≡◌, ℕ, ◌+◌, List, drop, Option, Some, None, refl, sym, ap, ◌∙◌, arith, option_map, slice_range}
+use Rattle.first_pass_grammar.proofs.Common.{has, HeadingIndex, HeadingLevel, Item, Options, line_len, level_number, some_if, Braces, attribute_block}
+use Rattle.first_pass_grammar.proofs.Common.{attributes_of, heading_attribute_block, Document, IsHeading, heading_text_at, line_bytes, heading_block, Names}
+use Rattle.first_pass_grammar.proofs.Common.{NamesAttributes}
+use Rattle.first_pass_items.specs.OptionWords.{heading_attributes}
 use Rattle.first_pass_places.specs.AttributeBlockPlaces.{block_range}
 use Rattle.first_pass_places.specs.InfoStrings.{bytes_in}
 use Rattle.first_pass_places.specs.NamePlaces.{NamesAttributesIn, FirstIsReadFromText}
 use Rattle.first_pass_places.proofs.BlockPlaces.{found_between}
-use Rattle.first_pass_places.proofs.OptionFacts.{some_if}
 
 -- a heading's index names the attributes of `inside`, if that has the bytes between the braces of the block in `bs`
 pub named_by : (names : Names) (options : Options) (index : Option HeadingIndex) (bs inside : List ℕ) (o : Option Braces)

@@ -1,23 +1,13 @@
 -- The range of an info string has its bytes.
-use Rattle.std.proofs.Common.{◌≡◌, ℕ, ◌+◌, ◌-◌, ◌<◌, ◌&&◌, not, Bool, true, false, nat_le, List, [], ◌∷◌, length, take, drop, slice_index, Some, None}
-use Rattle.std.proofs.Common.{refl, sym, ap, subst, ◌∙◌, arith, if◌then◌else◌}
-use Rattle.std.specs.List.{prefix_len, suffix_len, slice_range}
-use Rattle.std.proofs.lemmas.Bool.{eqb-true, true≢false}
-use Rattle.std.proofs.lemmas.List.{take-take, drop-drop, length-take-le}
-use Rattle.std.proofs.lemmas.List.Sums.{suffix_len-le-length}
-use Rattle.std.proofs.lemmas.Option.{none-some, same_Some}
-use Rattle.first_pass_items.specs.Bytes.{backquote, tilde, ascii_end}
-use Rattle.first_pass_items.specs.declared.item.Item.{Item}
-use Rattle.first_pass_lines.specs.Lines.{is_white, is_white_or_line_end, begins, line_len}
-use Rattle.first_pass_lines.proofs.LineFacts.{line_len-fits}
-use Rattle.first_pass_scan.specs.LeafLines.{run_len, has_backquote, code_fence}
-use Rattle.first_pass_grammar.specs.CodeBlocks.{trimmed, info_string, NamesInfo, IsFencedCode}
-use Rattle.first_pass_grammar.specs.Leaves.{Document}
-use Rattle.first_pass_lines.specs.Places.{Place}
+use Rattle.std.proofs.Common.{◌≡◌, ℕ, ◌+◌, ◌-◌, ◌<◌, ◌&&◌, not, Bool, true, false, nat_le, List, [], ◌∷◌, length, take, drop, slice_index, Some, None, refl}
+use Rattle.std.proofs.Common.{sym, ap, subst, ◌∙◌, arith, if◌then◌else◌, slice_range, eqb-true, true≢false, take-take, drop-drop, length-take-le}
+use Rattle.first_pass_grammar.proofs.Common.{prefix_len, suffix_len, suffix_len-le-length, none-some, same_Some, backquote, tilde, ascii_end, Item}
+use Rattle.first_pass_grammar.proofs.Common.{is_white, is_white_or_line_end, begins, line_len, line_len-fits, run_len, code_fence, trimmed, info_string}
+use Rattle.first_pass_grammar.proofs.Common.{NamesInfo, IsFencedCode, Document, Place, some_if}
+use Rattle.first_pass_scan.specs.LeafLines.{has_backquote}
 use Rattle.first_pass_places.specs.AttributePlaces.{range_of}
 use Rattle.first_pass_places.specs.InfoStrings.{bytes_in, fence_end, info_start, info_range}
 use Rattle.first_pass_places.specs.NamePlaces.{FirstIsReadFromText}
-use Rattle.first_pass_places.proofs.OptionFacts.{some_if}
 
 -- the length of an info string
 pub trimmed_length : (bs : List ℕ) → length (trimmed (take (line_len bs) bs)) ≡ line_len bs - suffix_len is_white_or_line_end (take (line_len bs) bs)

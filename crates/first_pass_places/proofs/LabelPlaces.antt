@@ -1,25 +1,15 @@
 -- The label of a footnote definition ends at the first bracket of the text that is not escaped: the prefixes of lines
 -- have no bracket and no backslash.
 use Rattle.std.proofs.Common.{◌≡◌, ℕ, zero, suc, ◌+◌, ◌==◌, ◌&&◌, Bool, true, false, List, [], ◌∷◌, length, take, drop, slice_index, Option, Some, None}
-use Rattle.std.proofs.Common.{refl, sym, ap, subst, ◌∙◌, arith, inl, inr, if◌then◌else◌}
-use Rattle.std.specs.Option.{option_map_or}
+use Rattle.std.proofs.Common.{refl, sym, ap, subst, ◌∙◌, arith, inl, inr, if◌then◌else◌, true≢false}
+use Rattle.first_pass_grammar.proofs.Common.{option_map_or, and_parts, cases_Bool, nat_tests, same_Some, take-append_seam, backslash, right_bracket, begins}
+use Rattle.first_pass_grammar.proofs.Common.{ends_line, Rest, after_columns, line_rest, some_if, some_unless, some_mapped, begins_escape, is_bracket}
+use Rattle.first_pass_grammar.proofs.Common.{joined, bytes_of, offsets_of, label_len, label_at, Context, front, crossed, prefix_crossed}
 use Rattle.std.specs.List.{list_all}
 use Rattle.std.specs.Char.{is_ascii_punctuation}
-use Rattle.std.proofs.lemmas.Bool.{and_parts, cases_Bool, true≢false}
-use Rattle.std.proofs.lemmas.Bool.Decides.{nat_tests}
-use Rattle.std.proofs.lemmas.Option.{same_Some}
-use Rattle.std.proofs.Math.Seq.{take-append_seam}
-use Rattle.first_pass_items.specs.Bytes.{backslash, right_bracket}
-use Rattle.first_pass_lines.specs.Lines.{begins, ends_line}
-use Rattle.first_pass_lines.specs.Rest.{Rest, after_columns}
-use Rattle.first_pass_lines.specs.Places.{line_rest}
-use Rattle.first_pass_links.specs.Escapes.{begins_escape}
-use Rattle.first_pass_links.specs.Labels.{is_bracket, is_label, joined, bytes_of, offsets_of, label_len, label_at, as_read}
+use Rattle.first_pass_links.specs.Labels.{is_label, as_read}
 use Rattle.first_pass_links.proofs.Destinations.{second, upto-stop, upto-byte, upto-escape}
-use Rattle.first_pass_grammar.specs.Containers.{Context, front}
-use Rattle.first_pass_grammar.specs.Definitions.{crossed, prefix_crossed}
 use Rattle.first_pass_grammar.proofs.Sequences.PrefixBytes.{is_prefix_byte, Skips, line_skips}
-use Rattle.first_pass_places.proofs.OptionFacts.{some_if, some_unless, some_mapped}
 
 -- a prefix that is left out of a label has only prefix bytes
 abbrev pub IsPlainPrefix : (List ℕ → Option ℕ) → Type 0
@@ -182,7 +172,7 @@ plain_prefix in_label around bs n e =
     let found = some_mapped (λ (r : Rest). r.taken) (crossed in_label around (line_rest bs)) n e in
     let s : Rest = found.0 in
     let end : Rest = after_columns 4 (front around.path (line_rest bs)) in
-    let same = same_Some end s (some_unless _ (Some end) s found.1) in
+    let same = same_Some end s (some_unless _ (Some end) s found.1).1 in
     let skips : Skips (line_rest bs) s = subst (Skips (line_rest bs)) same (line_skips around.path 4 (line_rest bs)) in
     let size : n ≡ length skips.bytes = sym found.2 ∙ skips.taken ∙ omega arith in
     ap (λ k. list_all is_prefix_byte (take k bs)) size ∙ ap (λ l. list_all is_prefix_byte (take (length skips.bytes) l)) skips.left

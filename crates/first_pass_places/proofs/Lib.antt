@@ -7,7 +7,6 @@ pub mod InfoFacts
 pub mod LabelPlaces
 pub mod MarkedBlocks
 pub mod MarkedNodes
-pub mod OptionFacts
 pub mod PlacedWords
 pub mod RangeBoundaries
 pub mod SetextPlaces

@@ -1,24 +1,15 @@
 -- Each node of a derived tree that starts on a character boundary meets `HasWholeStart`.
 use Rattle.std.proofs.Common.{ℕ, ◌+◌, ◌==◌, suc, Bool, true, false, List, [], ◌∷◌, ◌++◌, length, map, IsCharBoundary, sym, subst}
-use Rattle.std.proofs.Common.{if◌then◌else◌}
-use Rattle.first_pass_items.specs.declared.item.Item.{Item}
-use Rattle.first_pass_items.specs.declared.item.ItemBody.{ItemBody}
-use Rattle.first_pass_items.specs.declared.item.ItemBody.TheVariants.{FencedCodeBlock, FootnoteDefinition, Paragraph}
-use Rattle.first_pass_tree.specs.Forest.{at_depth}
-use Rattle.first_pass_tree.specs.Tight.{tight_body, tightened}
-use Rattle.first_pass_grammar.specs.Before.{nothing}
-use Rattle.first_pass_grammar.specs.Blocks.{Opener, FootnoteMarker, Skeleton, Nil, Then, Node}
-use Rattle.first_pass_grammar.specs.Derivation.{as_title, row_items, tight_in, items_of, root_of, Tables, Derives}
-use Rattle.first_pass_grammar.specs.Leaves.{Document}
-use Rattle.first_pass_grammar.specs.Rows.{What, ALeaf, AFootnote, ATitle, Rows, End, OneOf}
-use Rattle.first_pass_grammar.specs.Rows.{is_loose, rows_of}
-use Rattle.first_pass_grammar.specs.WholeTables.{AreEachNode}
+use Rattle.first_pass_grammar.proofs.Common.{Item, ItemBody, FencedCodeBlock, FootnoteDefinition, Paragraph, at_depth, tight_body, tightened, nothing}
+use Rattle.first_pass_grammar.proofs.Common.{Opener, FootnoteMarker, Skeleton, Nil, Then, Node, as_title, row_items, tight_in, items_of, root_of, Tables}
+use Rattle.first_pass_grammar.proofs.Common.{Derives, Document, What, ALeaf, AFootnote, ATitle, Rows, End, OneOf, is_loose, rows_of, AreEachNode, cond_both}
 use Rattle.first_pass_grammar.proofs.Each.EachRow.{HoldsOfRow, HoldsOfEachRow, each_row}
 use Rattle.first_pass_places.specs.NamePlaces.{HasWholeStart, HaveWholeStarts}
 use Rattle.first_pass_places.specs.RangeEnds.{IsAsciiAt}
 use Rattle.first_pass_places.proofs.FootnoteRows.{Footnotes, what_footnotes, row_footnotes, opener_footnotes, sequence_footnotes, IsPlain, IsLeafBlock}
-use Rattle.first_pass_places.proofs.FootnoteRows.{derived_leaves, rows_same}
-use Rattle.first_pass_places.proofs.MarkedBlocks.{IsMarked, FirstMarked, IsReadOpener, AreReadHeads, derived_blocks}
+use Rattle.first_pass_places.proofs.FootnoteRows.{leaves_plain, rows_same}
+use Rattle.first_pass_places.proofs.MarkedBlocks.{IsMarked, FirstMarked, IsReadOpener, derived_blocks, IsReadHead}
+use Rattle.first_pass_grammar.proofs.Each.EachOpening.{HoldsOfEachHead}
 
 -- No node inside a leaf block has a mark of its own; only the block's first node may.
 plain_mark : (text : List ℕ) (start : ℕ) (body : ItemBody) → IsPlain body → IsCharBoundary text start → HasWholeStart body text start
@@ -47,14 +38,12 @@ tight_mark : (text : List ℕ) (start : ℕ) (body : ItemBody) → HasWholeStart
 tight_mark text start Paragraph h = h
 tight_mark text start body h = h
 
-tight_by : (text : List ℕ) (t : Bool) (x : Item) → IsMarked text x
-    → IsMarked text (if◌then◌else◌ {A = Item} t (record { start = x.start; «end» = x.«end»; body = tight_body x.body }) x)
-tight_by text true x h = λ b. tight_mark text x.start x.body (h b)
-tight_by text false x h = h
-
 tight_marks : (text : List ℕ) (depth : ℕ) (nodes : List (ℕ × Item)) → HaveWholeStarts text nodes → HaveWholeStarts text (map (tightened depth) nodes)
 tight_marks text depth [] h = tt
-tight_marks text depth (n ∷ nodes) h = (tight_by text (n.0 == depth) n.1 h.0, tight_marks text depth nodes h.1)
+tight_marks text depth (n ∷ nodes) h = (
+  cond_both (n.0 == depth) _ _ (IsMarked text) (λ t b. tight_mark text n.1.start n.1.body (h.0 b)) (λ t. h.0),
+  tight_marks text depth nodes h.1,
+)
 
 both_marks : (text : List ℕ) (nodes more : List (ℕ × Item)) → HaveWholeStarts text nodes → HaveWholeStarts text more → HaveWholeStarts text (nodes ++ more)
 both_marks text [] more h k = k
@@ -77,8 +66,8 @@ opener_marked : (d : Document) (start : ℕ) (opener : Opener) → IsReadOpener 
 opener_marked d start (FootnoteMarker columns index label) h = (h.0, tt)
 opener_marked d start opener h = tt
 
-sequence_marked : (d : Document) (s : Skeleton) → AreReadHeads d s → AreMarked d.text (sequence_footnotes s)
-unfolding AreReadHeads sequence_footnotes
+sequence_marked : (d : Document) (s : Skeleton) → HoldsOfEachHead (IsReadHead d) s → AreMarked d.text (sequence_footnotes s)
+unfolding HoldsOfEachHead sequence_footnotes
 sequence_marked d Nil h = tt
 sequence_marked d (Then leaf next) h = sequence_marked d next h
 sequence_marked d (Node head e kids next) h =
@@ -118,7 +107,7 @@ derived_marks d nodes tables h =
     let n : ℕ = length d.text in
     let rows : Rows = rows_of false nothing n s in
     let blocks = derived_blocks d nodes tables h in
-    let leaves = derived_leaves d nodes tables h in
+    let leaves = leaves_plain d nodes tables h in
     let marked = subst (AreMarked d.text) (sym (rows_same false nothing n s leaves)) (sequence_marked d s blocks.1) in
     let all = rows_marks d.text 1 false _ (each_row (FirstMarked d.text) false nothing n s blocks.0) (each_row IsLeafBlock false nothing n s leaves) marked in
     subst (HaveWholeStarts d.text) (sym h.forest_is) (both_marks d.text (root_of n ∷ []) (items_of 1 false rows) ((λ b. b), tt) all)

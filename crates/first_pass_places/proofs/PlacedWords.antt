@@ -1,20 +1,15 @@
 -- The attributes that `attributes_from_places` reads at the ranges from `attribute_ranges` are those of the words of
 -- the block.
-use Rattle.std.proofs.Common.{◌≡◌, ℕ, suc, ◌+◌, ◌-◌, ◌<◌, ◌≤◌, ◌==◌, cond, Bool, true, false, nat_lt, List, [], ◌∷◌, ◌++◌, All, length}
-use Rattle.std.proofs.Common.{take, drop, map, filter, position, slice_index, Option, Some, None, refl, sym, ap, subst, ◌∙◌, arith, inl, inr, if◌then◌else◌}
-use Rattle.std.specs.List.{slice_range, slice_split, onto_first}
-use Rattle.std.specs.Option.{option_map_or}
-use Rattle.std.specs.declared.ops.Range.{Range}
-use Rattle.std.proofs.lemmas.Bool.{cases_Bool, eqb-true, le-ltb, ltb-false, ltb-true, ne_eqb}
-use Rattle.std.proofs.lemmas.Bool.Decides.{nat_tests}
-use Rattle.std.proofs.lemmas.List.{drop-drop, drop-take, take-append-drop, take-take}
-use Rattle.std.proofs.lemmas.List.Elements.{All-head, All-tail, filter_passes}
+use Rattle.std.proofs.Common.{◌≡◌, ℕ, suc, ◌+◌, ◌-◌, ◌<◌, ◌≤◌, ◌==◌, cond, Bool, true, false, nat_lt, List, [], ◌∷◌, ◌++◌, All, length, take, drop, map}
+use Rattle.std.proofs.Common.{filter, position, slice_index, Option, Some, None, refl, sym, ap, subst, ◌∙◌, arith, inl, inr, if◌then◌else◌, slice_range}
+use Rattle.std.proofs.Common.{eqb-true, le-ltb, ltb-false, ltb-true, ne_eqb, drop-drop, take-append-drop, take-take}
+use Rattle.first_pass_grammar.proofs.Common.{option_map_or, Range, cases_Bool, nat_tests, drop-take, All-head, All-tail, number_sign, full_stop}
+use Rattle.first_pass_grammar.proofs.Common.{equals_sign, Item, begins, is_between_words, no_attributes, attributes_of}
+use Rattle.std.specs.List.{slice_split, onto_first}
+use Rattle.std.proofs.lemmas.List.Elements.{filter_passes}
 use Rattle.std.proofs.lemmas.List.Quantifiers.{position-Some}
-use Rattle.first_pass_items.specs.Bytes.{number_sign, full_stop, equals_sign}
-use Rattle.first_pass_items.specs.declared.item.Item.{Item}
-use Rattle.first_pass_lines.specs.Lines.{begins}
-use Rattle.first_pass_attributes.specs.Attributes.{is_between_words, is_attribute_word, words, marked, gives_key, key_and_value}
-use Rattle.first_pass_attributes.specs.Attributes.{no_attributes, with_words, attributes_of}
+use Rattle.first_pass_attributes.specs.Attributes.{is_attribute_word, words, marked, gives_key, key_and_value}
+use Rattle.first_pass_attributes.specs.Attributes.{with_words}
 use Rattle.first_pass_places.specs.declared.attributes.AttributeKind.TheVariants.{Id, Class, Key}
 use Rattle.first_pass_places.specs.declared.attributes.AttributeRanges.{AttributeRanges}
 use Rattle.first_pass_places.specs.AttributeBlockPlaces.{attribute_block_range}
@@ -183,9 +178,6 @@ chosen : (f : Range ℕ → List ℕ) (range : Range ℕ) (part : List ℕ) (ran
 chosen f range part ranges parts true e h = ap (λ (l : List ℕ). l ∷ map f ranges) e ∙ ap (λ (ls : List (List ℕ)). part ∷ ls) h
 chosen f range part ranges parts false e h = h
 
-shifted : (at n : ℕ) → nat_lt (at + 1) (at + n) ≡ nat_lt 1 n
-shifted at n = grind (arith, nat_tests)
-
 ranges_have : (text : List ℕ) (at : ℕ) (parts : List (List ℕ)) → AreAt text at parts
     → map (bytes_in text) (filter is_word_range (ranges_from at parts)) ≡ filter is_attribute_word parts
 ranges_have text at [] h = refl
@@ -195,7 +187,8 @@ ranges_have text at (part ∷ parts) h =
     let ranges : List (Range ℕ) = filter is_word_range (ranges_from (at + n + 1) parts) in
     let size : at + n - at ≡ n = omega arith in
     let bytes : bytes_in text range ≡ part = ap (λ k. take k (drop at text)) size ∙ h.0 in
-    ap (λ t. map (bytes_in text) (cond t (range ∷ ranges) ranges)) (shifted at n)
+    let long : nat_lt (at + 1) (at + n) ≡ nat_lt 1 n = grind (arith, nat_tests) in
+    ap (λ t. map (bytes_in text) (cond t (range ∷ ranges) ranges)) long
     ∙ chosen (bytes_in text) range part ranges (filter is_attribute_word parts) (is_attribute_word part) bytes (ranges_have text (at + n + 1) parts h.1)
 
 -- dropping empty parts first does not change which words have two bytes or more

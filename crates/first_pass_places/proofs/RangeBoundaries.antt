@@ -1,36 +1,22 @@
 -- In a text in UTF-8, both ends of the range of an info string, a label or attributes are on character boundaries.
-use Rattle.std.proofs.Common.{◌≡◌, ℕ, zero, suc, ◌+◌, ◌-◌, ◌<◌, ◌≤◌, ◌==◌, not, Bool, true, false, List, [], ◌∷◌, All, length, take, drop, min, reverse, get_or}
-use Rattle.std.proofs.Common.{slice_index, Option, Some, None, IfSome, IsUtf8, IsCharBoundary, refl, sym, ap, subst, ◌∙◌, arith, inl, inr}
-use Rattle.std.proofs.Common.{if◌then◌else◌}
-use Rattle.std.specs.List.{prefix_len, suffix_len}
-use Rattle.std.specs.declared.ops.Range.{Range}
-use Rattle.std.proofs.lemmas.Bool.{and_parts, cases_lt, eqb-true, not-false}
-use Rattle.std.proofs.lemmas.Bool.Decides.{nat_tests}
-use Rattle.std.proofs.lemmas.List.{drop-drop, get_or-drop, get_or-reverse, get_or-take, length-drop, length-reverse, length-take, length-take-le}
-use Rattle.std.proofs.lemmas.List.Elements.{All-cons, All-nil}
-use Rattle.std.proofs.lemmas.List.Sums.{prefix_len_stops, suffix_len-le-length}
-use Rattle.std.proofs.lemmas.Str.{IsCharBoundary-after_ascii, IsCharBoundary-before_ascii, IsCharBoundary-end}
-use Rattle.first_pass_items.specs.Bytes.{left_bracket, circumflex, left_brace, right_brace, ascii_end}
-use Rattle.first_pass_items.specs.declared.item.CowIndex.{CowIndex}
-use Rattle.first_pass_items.specs.declared.item.Item.{Item}
-use Rattle.first_pass_items.specs.declared.item.ItemBody.{ItemBody}
-use Rattle.first_pass_items.specs.declared.item.ItemBody.TheVariants.{FencedCodeBlock, FootnoteDefinition}
-use Rattle.first_pass_lines.specs.Lines.{is_white, is_white_or_line_end, begins, line_len}
-use Rattle.first_pass_lines.specs.Places.{line_place}
-use Rattle.first_pass_lines.proofs.LineFacts.{line_len-fits}
-use Rattle.first_pass_lines.proofs.PlaceFacts.{line_end_boundary, line_is_place, prefix_keeps, white_keeps}
-use Rattle.first_pass_scan.specs.LeafLines.{run_len, code_fence}
-use Rattle.first_pass_links.specs.Destinations.{unescaped_upto}
-use Rattle.first_pass_links.specs.Escapes.{begins_escape}
-use Rattle.first_pass_links.specs.Footnotes.{begins_footnote_mark}
-use Rattle.first_pass_links.specs.Labels.{is_bracket, label_len}
-use Rattle.first_pass_grammar.specs.CodeBlocks.{trimmed, info_string}
+use Rattle.std.proofs.Common.{◌≡◌, ℕ, zero, suc, ◌+◌, ◌-◌, ◌<◌, ◌≤◌, ◌==◌, not, Bool, true, false, List, [], ◌∷◌, All, length, take, drop, min, reverse}
+use Rattle.std.proofs.Common.{get_or, slice_index, Option, Some, None, IfSome, IsUtf8, IsCharBoundary, refl, sym, ap, subst, ◌∙◌, arith, inl, inr}
+use Rattle.std.proofs.Common.{if◌then◌else◌, eqb-true, drop-drop, get_or-drop, get_or-take, length-drop, length-take, length-take-le}
+use Rattle.first_pass_grammar.proofs.Common.{prefix_len, suffix_len, Range, cond_both, and_parts, cases_lt, nat_tests, get_or-reverse, length-reverse}
+use Rattle.first_pass_grammar.proofs.Common.{All-cons, All-nil, prefix_len_stops, suffix_len-le-length, IsCharBoundary-after_ascii}
+use Rattle.first_pass_grammar.proofs.Common.{IsCharBoundary-before_ascii, IsCharBoundary-end, left_bracket, circumflex, left_brace, right_brace, ascii_end}
+use Rattle.first_pass_grammar.proofs.Common.{CowIndex, Item, ItemBody, FencedCodeBlock, FootnoteDefinition, is_white, is_white_or_line_end, begins}
+use Rattle.first_pass_grammar.proofs.Common.{line_len, line_place, line_len-fits, line_is_place, white_keeps, run_len, code_fence, unescaped_upto}
+use Rattle.first_pass_grammar.proofs.Common.{begins_escape, begins_footnote_mark, is_bracket, label_len, trimmed, info_string}
+use Rattle.std.proofs.lemmas.Bool.{not-false}
+use Rattle.first_pass_lines.proofs.PlaceFacts.{prefix_keeps}
 use Rattle.first_pass_places.specs.AttributeBlockPlaces.{attribute_block_range, block_range, has_attributes, upto_last}
 use Rattle.first_pass_places.specs.FootnoteLabels.{label_range}
 use Rattle.first_pass_places.specs.InfoStrings.{fence_end, info_range}
 use Rattle.first_pass_places.specs.NamePlaces.{HasWholeStart, HasNameOnBoundaries, HaveWholeStarts, name_range, name_range_by}
 use Rattle.first_pass_places.specs.RangeEnds.{IsAsciiAt, EndsAreBoundaries}
-use Rattle.first_pass_places.proofs.BlockPlaces.{part_at, last_passes}
+use Rattle.first_pass_tokens.proofs.OrderLemmas.{trimmed_boundary}
+use Rattle.first_pass_places.proofs.BlockPlaces.{part_at}
 use Rattle.first_pass_places.proofs.InfoFacts.{begins_with, fence_is, trimmed_length}
 
 -- the first byte after an offset
@@ -79,40 +65,16 @@ white_between text at u b =
     let e : at + (0 + prefix_len is_white (drop at text)) ≡ at + prefix_len is_white (drop at text) = omega arith in
     subst (IsCharBoundary text) e (white_keeps text (line_place at (drop at text)) u (line_is_place text at b)).boundary
 
-white_is_ascii : (b : ℕ) → is_white_or_line_end b ≡ true → b < ascii_end
-white_is_ascii b h = grind (arith, nat_tests, h)
-
--- the end of a line
-line_between : (text : List ℕ) (at : ℕ) → IsUtf8 text → IsCharBoundary text at → IsCharBoundary text (at + line_len (drop at text))
-line_between text at u b = elim (cases_lt at (length text)) as (λ _. IsCharBoundary text (at + line_len (drop at text))) [
-  | inl less ↦ line_end_boundary text at u b less
-  | inr past ↦ (
-      let fits = line_len-fits (drop at text) in
-      let size = length-drop at text in
-      let e : at ≡ at + line_len (drop at text) = omega (arith, fits, size, past) in
-      subst (IsCharBoundary text) e b)
-]
-
 -- the end of a line without the white space there
 trimmed_between : (text : List ℕ) (at : ℕ) → IsUtf8 text → IsCharBoundary text at
     → IsCharBoundary text (at + length (trimmed (take (line_len (drop at text)) (drop at text))))
 trimmed_between text at u b =
     let m : ℕ = line_len (drop at text) in
     let line : List ℕ = take m (drop at text) in
-    let w : ℕ = suffix_len is_white_or_line_end line in
-    let size : length (trimmed line) ≡ m - w = trimmed_length (drop at text) in
-    let whole : length line ≡ m = length-take-le m (drop at text) (line_len-fits (drop at text)) in
-    let short : w ≤ length line = suffix_len-le-length is_white_or_line_end line in
-    elim (cases_lt 0 w) as (λ _. IsCharBoundary text (at + length (trimmed line))) [
-      | inl some ↦ (
-          let k : ℕ = length line - w in
-          let small = white_is_ascii (slice_index line k) (last_passes is_white_or_line_end line k (omega arith) (omega (arith, short, some))) in
-          let e : at + k ≡ at + length (trimmed line) = omega (arith, size, whole) in
-          subst (IsCharBoundary text) e (around_ascii text at m k u (omega (arith, short, some)) small).0)
-      | inr none ↦ (
-          let e : at + m ≡ at + length (trimmed line) = omega (arith, size, none) in
-          subst (IsCharBoundary text) e (line_between text at u b))
-    ]
+    let whole = length-take-le m (drop at text) (line_len-fits (drop at text)) in
+    let short = suffix_len-le-length is_white_or_line_end line in
+    let e : at + m - suffix_len is_white_or_line_end line ≡ at + length (trimmed line) = omega (arith, trimmed_length (drop at text), whole, short) in
+    subst (IsCharBoundary text) e (trimmed_boundary text at u b)
 
 -- an info string
 pub info_between : (text : List ℕ) (start : ℕ) → IsUtf8 text → start ≤ length text → IsAsciiAt text start
@@ -150,9 +112,6 @@ upto_stops stops zero (b ∷ bs) =
     stops_by (begins_escape (b ∷ bs)) (stops b) stops b bs (unescaped_upto stops 1 bs) (unescaped_upto stops zero bs) refl (upto_stops stops 1 bs)
     (upto_stops stops zero bs)
 
-bracket_is_ascii : (b : ℕ) → is_bracket b ≡ true → b < ascii_end
-bracket_is_ascii b h = grind (arith, nat_tests, h)
-
 -- the label of a footnote
 label_start : (text : List ℕ) (start : ℕ) → IsUtf8 text → IsAsciiAt text (start + 1) → IsCharBoundary text (min (length text) (start + 2))
 label_start text start u small = elim (cases_lt (start + 1) (length text)) as (λ _. IsCharBoundary text (min (length text) (start + 2))) [
@@ -171,7 +130,8 @@ label_end text at within =
     let fits = stop.0 in
     elim (cases_lt k (length bs)) as (λ _. IsCharBoundary text (at + label_len (drop at text))) [
       | inl less ↦ (
-          let small = bracket_is_ascii (slice_index bs k) (stop.1 less) in
+          let met = stop.1 less in
+          let small : slice_index bs k < ascii_end = grind (arith, nat_tests, met) in
           let read : slice_index bs k ≡ slice_index text (at + k) = get_or-drop at text k 0 in
           IsCharBoundary-before_ascii text (at + k) (omega (arith, less, size)) (omega (arith, small, read)))
       | inr past ↦ (let e : length text ≡ at + k = omega (arith, past, fits, size, within) in subst (IsCharBoundary text) e (IsCharBoundary-end text))
@@ -228,14 +188,11 @@ block_between text start e u b =
     let closing : ℕ = upto_last right_brace part - 1 in
     (after_brace text start n closing u b (upto_last left_brace (take closing part)) refl, before_brace text start n u b (upto_last right_brace part) refl)
 
-range_if : (text : List ℕ) (t : Bool) (range : Range ℕ) → EndsAreBoundaries text range
-    → IfSome (if t then Some range else None) (λ r. EndsAreBoundaries text r)
-range_if text true range h = h
-range_if text false range h = tt
-
 pub attributes_between : (text : List ℕ) (x : Item) → IsUtf8 text → IsCharBoundary text x.start
     → IfSome (attribute_block_range text x) (λ range. EndsAreBoundaries text range)
-attributes_between text x u b = range_if text (has_attributes x.body) (block_range text x.start x.«end») (block_between text x.start x.«end» u b)
+attributes_between text x u b =
+    cond_both (has_attributes x.body) (Some (block_range text x.start x.«end»)) None (λ o. IfSome o (λ range. EndsAreBoundaries text range))
+    (λ _. block_between text x.start x.«end» u b) (λ _. tt)
 
 -- what a node names
 name_by : (body : ItemBody) (text : List ℕ) (x : Item) → IsUtf8 text → x.start ≤ length text → HasWholeStart body text x.start

@@ -1,47 +1,32 @@
 -- The attributes that a setext heading names are those of its block's range.
 use Rattle.std.proofs.Common.{◌≡◌, inl, inr, ℕ, zero, suc, ◌+◌, ◌-◌, ◌<◌, ◌≤◌, ◌==◌, Bool, true, false, nat_lt, List, [], ◌∷◌, ◌++◌, length, drop}
-use Rattle.std.proofs.Common.{slice_index, Option, Some, None, MatchOption, IfSome, is_some, refl, sym, ap, subst, ◌∙◌, arith, if◌then◌else◌}
-use Rattle.std.specs.Option.{option_map}
-use Rattle.std.specs.List.{slice_range, prefix_len}
-use Rattle.std.proofs.lemmas.Bool.{cases_lt, eqb-true}
-use Rattle.std.proofs.lemmas.Bool.Decides.{nat_tests}
-use Rattle.std.proofs.lemmas.List.{drop-drop, length-append, length-drop}
-use Rattle.std.proofs.lemmas.List.Sums.{AllPass-from_list_all, prefix_len_passes, prefix_len-le-length}
+use Rattle.std.proofs.Common.{slice_index, Option, Some, None, MatchOption, IfSome, is_some, refl, sym, ap, subst, ◌∙◌, arith, if◌then◌else◌, option_map}
+use Rattle.std.proofs.Common.{slice_range, eqb-true, drop-drop, length-append, length-drop}
+use Rattle.first_pass_grammar.proofs.Common.{prefix_len, nat_tests, prefix_len_passes, prefix_len-le-length, none-some, hyphen, equals_sign, right_brace}
+use Rattle.first_pass_grammar.proofs.Common.{HeadingLevel, Item, is_content, is_white, eol_len, blank_len, begins, line_len, Place, line_place, offset}
+use Rattle.first_pass_grammar.proofs.Common.{start_of, Rest, indent, line_len-fits, start_of-lines, some_if, some_mapped, run_len, setext_underline}
+use Rattle.first_pass_grammar.proofs.Common.{MathBraces, no_braces, add_tokens, Spot, spot, AreLineTokens, IsBreak, Braces, attribute_block, lines_from}
+use Rattle.first_pass_grammar.proofs.Common.{at_rest, after, front, chain_end, heading_attribute_block, all_taken, unindented, underline_of, Document}
+use Rattle.first_pass_grammar.proofs.Common.{content_at, add_break, marker_items, TextLines, AreTextLines, Taken, IsPlainText, IsUnderlined, plain_text}
+use Rattle.first_pass_grammar.proofs.Common.{underline_first, heading_bytes}
+use Rattle.std.proofs.lemmas.List.Sums.{AllPass-from_list_all}
 use Rattle.std.proofs.Math.ListN.{get_or-append}
-use Rattle.std.proofs.lemmas.Option.{none-some}
-use Rattle.first_pass_items.specs.Bytes.{hyphen, equals_sign, right_brace}
-use Rattle.first_pass_items.specs.declared.item.HeadingLevel.{HeadingLevel}
 use Rattle.first_pass_items.specs.declared.item.HeadingLevel.TheVariants.{H1, H2}
-use Rattle.first_pass_items.specs.declared.item.Item.{Item}
-use Rattle.first_pass_lines.specs.Lines.{is_content, is_white, eol_len, blank_len, begins, line_len}
-use Rattle.first_pass_lines.specs.Places.{Place, line_place, offset, start_of}
-use Rattle.first_pass_lines.specs.Rest.{Rest, indent}
-use Rattle.first_pass_lines.proofs.LineFacts.{line_len-content_first, line_len-blank, line_len-fits, lines_at-line, lines_at-end}
-use Rattle.first_pass_lines.proofs.PlaceFacts.{start_of-lines}
-use Rattle.first_pass_scan.specs.LeafLines.{run_len, underline_len, setext_underline}
-use Rattle.first_pass_tokens.specs.Braces.{MathBraces, no_braces}
-use Rattle.first_pass_tokens.specs.Chains.{add_tokens}
-use Rattle.first_pass_tokens.specs.LineTokens.{Spot, spot, AreLineTokens, IsBreak}
+use Rattle.first_pass_lines.proofs.LineFacts.{line_len-content_first, line_len-blank, first_line}
+use Rattle.first_pass_scan.specs.LeafLines.{underline_len}
 use Rattle.first_pass_tokens.proofs.LineLemmas.{ends_line}
-use Rattle.first_pass_attributes.specs.AttributeBlocks.{Braces, attribute_block}
+use Rattle.first_pass_attributes.proofs.BlockFacts.{block-within}
 use Rattle.first_pass_grammar.specs.declared.kind.Container.{Container}
-use Rattle.first_pass_grammar.specs.Completion.{lines_from}
-use Rattle.first_pass_grammar.specs.Containers.{at_rest, after, front}
-use Rattle.first_pass_grammar.specs.Headings.{chain_end, heading_attribute_block}
-use Rattle.first_pass_grammar.specs.Kinds.{all_taken, unindented, underline_left, underline_of}
-use Rattle.first_pass_grammar.specs.Leaves.{Document, content_at, add_break, marker_items, TextLines, AreTextLines}
-use Rattle.first_pass_grammar.specs.Tables.{Taken}
-use Rattle.first_pass_grammar.specs.Texts.{IsPlainText, IsUnderlined, plain_text, underline_first, heading_bytes}
-use Rattle.first_pass_grammar.proofs.Sequences.PlacesKept.{IsAt, at_front}
+use Rattle.first_pass_grammar.specs.Kinds.{underline_left}
+use Rattle.first_pass_grammar.proofs.Sequences.PlacesKept.{IsAt, at_front, at_kept}
 use Rattle.first_pass_places.specs.AttributeBlockPlaces.{block_range}
 use Rattle.first_pass_places.specs.InfoStrings.{bytes_in}
 use Rattle.first_pass_places.specs.NamePlaces.{FirstIsReadFromText}
-use Rattle.first_pass_places.proofs.BlockPlaces.{block_within, found_between, part_short}
+use Rattle.first_pass_places.proofs.BlockPlaces.{found_between, part_short}
 use Rattle.first_pass_places.proofs.HeadingPlaces.{named_by}
 use Rattle.first_pass_grammar.proofs.Sequences.PrefixBytes.{is_prefix_byte, Skips, line_skips}
 use Rattle.first_pass_places.proofs.TokenBraces.{HasNoBrace, both_none, none_from, nothing_none, Reaches, reach_further, tokens_end, line_reaches, later_end}
 use Rattle.first_pass_places.proofs.TokenBraces.{white_none}
-use Rattle.first_pass_places.proofs.OptionFacts.{some_if, some_mapped}
 
 -- if a line begins with `n` bytes of content, its length is `n` plus the length of what is left of it
 content_run : (n : ℕ) (bs : List ℕ) → n ≤ length bs → ((k : ℕ) → k < n → is_content (slice_index bs k) ≡ true) → line_len bs ≡ n + line_len (drop n bs)
@@ -50,12 +35,6 @@ content_run (suc n) [] within h = absurd (omega arith)
 content_run (suc n) (b ∷ bs) within h =
     let more = content_run n bs (omega arith) (λ k low. h (suc k) (omega arith)) in
     line_len-content_first b bs (h 0 (omega arith)) ∙ omega (arith, more)
-
-prefix_content : (b : ℕ) → is_prefix_byte b ≡ true → is_content b ≡ true
-prefix_content b h = grind (arith, nat_tests, h)
-
-prefix_none : (b : ℕ) → is_prefix_byte b ≡ true → (b == right_brace) ≡ false
-prefix_none b h = grind (arith, nat_tests, h)
 
 -- the place in a line of a text after the prefixes of containers and the indentation
 pub record IsAfterPrefix (text : List ℕ) (at to : ℕ) : Type 0 where
@@ -74,11 +53,11 @@ skipped text at r s within left none skips =
     let byte : (k : ℕ) → k < n → is_prefix_byte (slice_index (drop at text) k) ≡ true =
     (λ k low. ap (λ (l : List ℕ). is_prefix_byte (slice_index l k)) parts ∙ ap is_prefix_byte (get_or-append skips.bytes s.left 0 k low)
     ∙ AllPass-from_list_all is_prefix_byte skips.bytes skips.plain k 0 low) in
-    let long = content_run n (drop at text) (omega (arith, size)) (λ k low. prefix_content (slice_index (drop at text) k) (byte k low)) in
+    let long = content_run n (drop at text) (omega (arith, size)) (λ k low. let passes = byte k low in grind (arith, nat_tests, passes)) in
     let all : IsAfterPrefix text at (at + n) = record {
       order = omega arith;
       within = omega (arith, size, rest);
-      none = none_from text at n (λ j low. prefix_none (slice_index (drop at text) j) (byte j low));
+      none = none_from text at n (λ j low. let passes = byte j low in grind (arith, nat_tests, passes));
       line = (let same = ap line_len (drop-drop n at text) in omega (arith, long, same));
     } in
     subst (λ k. IsAfterPrefix text at (at + k)) (sym count) all
@@ -94,19 +73,7 @@ prefix_left : (text : List ℕ) (path : List Container) (at : ℕ) (line : Place
 prefix_left text path at line is =
     let here : Place = line_place at (drop at text) in
     let same : at ≡ at + 0 = omega arith in
-    at_front text path line (subst (IsAt text) (sym is) (ap (λ n. drop n text) same))
-
--- the first of the lines from an offset on
-first_line : (text : List ℕ) (at : ℕ) (line : Place) (lines : List Place) → line ∷ lines ≡ lines_from text at
-    → (at < length text) × (line ≡ line_place at (drop at text)) × (lines ≡ lines_from text (at + line_len (drop at text)))
-first_line text at line lines e = elim (cases_lt at (length text)) [
-  | inl inside ↦ (
-      let here : Place = line_place at (drop at text) in
-      let more : List Place = lines_from text (at + line_len (drop at text)) in
-      let same : line ∷ lines ≡ here ∷ more = e ∙ lines_at-line text at inside in
-      (inside, (cc), ap (λ (l : List Place). drop 1 l) same))
-  | inr past ↦ absurd (let none : line ∷ lines ≡ [] = e ∙ lines_at-end text at past in cc)
-]
+    at_front (IsAt text) (at_kept text) path line (subst (IsAt text) (sym is) (ap (λ n. drop n text) same))
 
 -- the lines of a text are read up to an offset, and no closing brace is between the end of their chain and that offset
 pub record AreReadUpTo (text : List ℕ) (start : ℕ) (l : TextLines) : Type 0 where
@@ -259,7 +226,7 @@ block_is d path start marker l found block before read underline is =
     let last : ℕ = chain_end start (marker_items marker ++ l.chain) in
     let m : ℕ = last - start in
     let short = part_short d.text start m in
-    let some = block_within (heading_bytes d start marker l) block is in
+    let some = (block-within (heading_bytes d start marker l) block is).1 in
     let same : last ≡ chain_end start l.chain = marked_end start marker l.chain before (omega arith) in
     let under = underline_none d.text path read.to l.left found underline read.within read.left in
     let order = read.reaches.order in

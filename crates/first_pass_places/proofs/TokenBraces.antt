@@ -1,29 +1,19 @@
 -- In a line, no closing brace follows the last token.
-use Rattle.std.proofs.Common.{◌≡◌, ℕ, zero, suc, ◌+◌, ◌-◌, ◌%◌, ◌<◌, ◌≤◌, ◌==◌, ◌&&◌, ◌||◌, Bool, true, false, nat_lt, nat_le, min, List, [], ◌∷◌, length, drop}
-use Rattle.std.proofs.Common.{slice_index, Option, refl, sym, ap, subst, ◌∙◌, arith, inl, inr, if◌then◌else◌}
-use Rattle.std.specs.List.{slice_range, suffix_len}
-use Rattle.std.proofs.lemmas.Bool.{and_parts, cases_lt, eqb-true}
-use Rattle.std.proofs.lemmas.Bool.Decides.{nat_tests}
-use Rattle.std.proofs.Math.Bool.{or-false}
-use Rattle.std.proofs.lemmas.List.{get_or-drop, get_or_past, length-take, length-drop}
-use Rattle.std.proofs.lemmas.List.Sums.{suffix_len-le-length}
-use Rattle.first_pass_items.specs.Bytes.{line_feed, carriage_return, backslash, right_brace}
-use Rattle.first_pass_items.specs.declared.cow_str.CowStr.{CowStr}
-use Rattle.first_pass_items.specs.declared.item.Item.{Item}
-use Rattle.first_pass_items.specs.declared.item.ItemBody.TheVariants.{MaybeEmphasis}
-use Rattle.first_pass_lines.specs.Lines.{is_line_end, is_white}
-use Rattle.first_pass_tokens.specs.declared.pieces.Piece.{Piece}
-use Rattle.first_pass_tokens.specs.declared.pieces.Piece.TheVariants.{Left, Begins, Token, Run}
-use Rattle.first_pass_tokens.specs.Braces.{MathBraces, braces_after}
-use Rattle.first_pass_tokens.specs.Chains.{text_token, token, run_tokens, touches, add_token, add_tokens, add_text}
-use Rattle.first_pass_tokens.specs.LineTokens.{Spot, spot, content_ends_at, ends_cell, ArePieces, add_piece, add_pieces, text_end, line_end_len}
-use Rattle.first_pass_tokens.specs.LineTokens.{breaks_by_backslash, backslashes_at_end, blanks_at_end, AreLineTokens}
-use Rattle.first_pass_tokens.specs.Pieces.{Inline, found_at, size}
+use Rattle.std.proofs.Common.{◌≡◌, ℕ, zero, suc, ◌+◌, ◌-◌, ◌%◌, ◌<◌, ◌≤◌, ◌==◌, ◌&&◌, ◌||◌, Bool, true, false, nat_lt, nat_le, min, List, [], ◌∷◌, length}
+use Rattle.std.proofs.Common.{drop, slice_index, Option, refl, sym, ap, subst, ◌∙◌, arith, inl, inr, if◌then◌else◌, eqb-true, get_or-drop}
+use Rattle.first_pass_grammar.proofs.Common.{cond_both, and_parts, cases_lt, nat_tests, or-false, get_or_past, line_feed, carriage_return, backslash}
+use Rattle.first_pass_grammar.proofs.Common.{right_brace, CowStr, Item, MaybeEmphasis, is_line_end, is_white, Piece, Token, MathBraces, text_token, touches}
+use Rattle.first_pass_grammar.proofs.Common.{add_token, add_tokens, add_text, Spot, spot, content_ends_at, add_pieces, text_end, line_end_len}
+use Rattle.first_pass_grammar.proofs.Common.{breaks_by_backslash, blanks_at_end, AreLineTokens, Inline, found_at, add_text-none, add_text-some, chain_end}
+use Rattle.first_pass_tokens.specs.declared.pieces.Piece.TheVariants.{Left, Begins, Run}
+use Rattle.first_pass_tokens.specs.Braces.{braces_after}
+use Rattle.first_pass_tokens.specs.Chains.{token, run_tokens}
+use Rattle.first_pass_tokens.specs.LineTokens.{ends_cell, ArePieces, add_piece}
+use Rattle.first_pass_tokens.specs.LineTokens.{backslashes_at_end}
+use Rattle.first_pass_tokens.specs.Pieces.{size}
 use Rattle.first_pass_tokens.proofs.LineLemmas.{piece_of, pieces_reach as pieces_order}
-use Rattle.first_pass_tokens.proofs.ChainLemmas.{add_text-none, add_text-some}
 use Rattle.first_pass_tokens.proofs.PieceFacts.{IsPieceAt}
-use Rattle.first_pass_grammar.specs.Headings.{chain_end}
-use Rattle.first_pass_places.proofs.BlockPlaces.{part_at, last_passes}
+use Rattle.first_pass_tokens.proofs.LineLemmas.{content_passes}
 
 -- no closing brace is in the bytes of a text from one offset up to another
 abbrev pub HasNoBrace : List ℕ → ℕ → ℕ → Type 0
@@ -57,13 +47,10 @@ pub later_end : (s : ℕ) (x : Item) (xs : List Item) → chain_end s (x ∷ xs)
 later_end s x [] = refl
 later_end s x (y ∷ ys) = same_end s x.«end» y ys
 
-joined_end : (t : Bool) (s : ℕ) (x y : Item) → chain_end s (if t then record x { «end» = y.«end» } ∷ [] else x ∷ y ∷ []) ≡ y.«end»
-joined_end true s x y = refl
-joined_end false s x y = refl
-
 pub token_end : (s : ℕ) (chain : List Item) (y : Item) → chain_end s (add_token chain y) ≡ y.«end»
 token_end s [] y = refl
-token_end s (x ∷ []) y = joined_end (touches x y) s x y
+token_end s (x ∷ []) y =
+    cond_both (touches x y) (record x { «end» = y.«end» } ∷ []) (x ∷ y ∷ []) (λ (l : List Item). chain_end s l ≡ y.«end») (λ _. refl) (λ _. refl)
 token_end s (x ∷ z ∷ zs) y = later_end s x (add_token (z ∷ zs) y) ∙ token_end x.«end» (z ∷ zs) y
 
 pub tokens_end : (s : ℕ) (chain tokens : List Item) → chain_end s (add_tokens chain tokens) ≡ chain_end (chain_end s chain) tokens
@@ -134,20 +121,6 @@ pieces_reach texts s e stop at b (p ∷ ps) to chain tail are h =
     pieces_reach texts s e stop next (braces_after (found_at s at) b) ps to (add_piece stop at p chain) tail are.2
     (piece_reaches s.text e stop to.at at p chain tail more (piece_of texts b s at p are.0 are.1) h)
 
--- the bytes at the end of a part that pass a test
-passes_at : (p : ℕ → Bool) (text : List ℕ) (start end k : ℕ) → start ≤ end → k < length text → end - suffix_len p (slice_range text start end) ≤ k → k < end
-    → p (slice_index text k) ≡ true
-passes_at p text start end k order inside low high =
-    let xs : List ℕ = slice_range text start end in
-    let cut = length-take (end - start) (drop start text) in
-    let rest = length-drop start text in
-    let short = suffix_len-le-length p xs in
-    let j : ℕ = k - start in
-    let ahead : start ≤ k = omega arith in
-    let on : start + j ≡ k = omega arith in
-    let there : slice_index xs j ≡ slice_index text k = part_at text start (end - start) j (omega arith) ∙ ap (slice_index text) on in
-    ap p (sym there) ∙ last_passes p xs j (omega arith) (omega arith)
-
 pub white_none : (b : ℕ) → is_white b ≡ true → (b == right_brace) ≡ false
 white_none b h = grind (arith, nat_tests, h)
 
@@ -168,9 +141,9 @@ tail_by true s end order is k low high =
     let odd = (and_parts (backslashes_at_end s end % 2 == 1) (nat_lt (end + line_end_len s end) (length s.text)) is).0 in
     let one : backslashes_at_end s end % 2 ≡ 1 = eqb-true (backslashes_at_end s end % 2) 1 odd in
     unless_past s.text k (λ inside. byte_none s.text k backslash
-    (eqb-true (slice_index s.text k) backslash (passes_at (λ b. b == backslash) s.text s.start end k order inside (omega arith) high)) refl)
+    (eqb-true (slice_index s.text k) backslash (content_passes (λ b. b == backslash) s.text s.start end k order inside (omega arith) high)) refl)
 tail_by false s end order is k low high =
-    unless_past s.text k (λ inside. white_none (slice_index s.text k) (passes_at is_white s.text s.start end k order inside low high))
+    unless_past s.text k (λ inside. white_none (slice_index s.text k) (content_passes is_white s.text s.start end k order inside low high))
 
 -- the line ending
 two_by : (t : Bool) (text : List ℕ) (end : ℕ) → is_line_end (slice_index text end) ≡ true

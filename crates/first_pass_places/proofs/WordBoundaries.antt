@@ -1,19 +1,11 @@
 -- In a text in UTF-8, the name and the value of an attribute begin and end on character boundaries.
 use Rattle.std.proofs.Common.{◌≡◌, ℕ, zero, suc, ◌+◌, ◌-◌, ◌<◌, ◌≤◌, ◌==◌, not, Bool, true, false, List, [], ◌∷◌, ◌++◌, All, length, drop, position}
-use Rattle.std.proofs.Common.{slice_index, slice_index_or, Option, Some, None, IfSome, IsUtf8, IsCharBoundary, refl, subst, arith, inl, inr}
-use Rattle.std.proofs.Common.{if◌then◌else◌}
-use Rattle.std.specs.List.{prefix_len, slice_range}
-use Rattle.std.specs.Option.{option_map_or}
-use Rattle.std.specs.declared.ops.Range.{Range}
-use Rattle.std.proofs.lemmas.Bool.{cases_lt, eqb-true}
-use Rattle.std.proofs.lemmas.List.{length-drop, length-take}
-use Rattle.std.proofs.lemmas.List.Elements.{All-append, All-cons, All-filter, All-map, All-nil, All-same}
+use Rattle.std.proofs.Common.{slice_index, slice_index_or, Option, Some, None, IfSome, IsUtf8, IsCharBoundary, refl, subst, arith, inl, inr, if◌then◌else◌}
+use Rattle.std.proofs.Common.{slice_range, eqb-true, length-drop, length-take}
+use Rattle.first_pass_grammar.proofs.Common.{prefix_len, option_map_or, Range, cases_lt, All-append, All-cons, All-map, All-nil, prefix_len-le-length}
+use Rattle.first_pass_grammar.proofs.Common.{IsCharBoundary-after_ascii, number_sign, full_stop, equals_sign, ascii_end, Item, is_between_words}
+use Rattle.std.proofs.lemmas.List.Elements.{All-filter, All-same}
 use Rattle.std.proofs.lemmas.List.Quantifiers.{position-Some}
-use Rattle.std.proofs.lemmas.List.Sums.{prefix_len-le-length}
-use Rattle.std.proofs.lemmas.Str.{IsCharBoundary-after_ascii}
-use Rattle.first_pass_items.specs.Bytes.{number_sign, full_stop, equals_sign, ascii_end}
-use Rattle.first_pass_items.specs.declared.item.Item.{Item}
-use Rattle.first_pass_attributes.specs.Attributes.{is_between_words}
 use Rattle.first_pass_attributes.proofs.WordFacts.{in_word, separator_is_ascii, stops}
 use Rattle.first_pass_places.specs.declared.attributes.AttributeKind.TheVariants.{Id, Class, Key}
 use Rattle.first_pass_places.specs.AttributeBlockPlaces.{attribute_block_range}

@@ -1,16 +1,10 @@
 -- The ranges of words, one after the other.
-use Rattle.std.proofs.Common.{◌≡◌, ℕ, ◌+◌, ◌-◌, ◌<◌, ◌≤◌, not, List, [], ◌∷◌, ◌++◌, length, filter, take, drop, sym}
-use Rattle.std.proofs.Common.{map, Option, Some, ap, ◌∙◌, arith, inl, inr}
-use Rattle.std.specs.List.{slice_range, slice_split, prefix_len}
-use Rattle.std.specs.Option.{option_map_or}
-use Rattle.std.specs.declared.ops.Range.{Range}
-use Rattle.std.proofs.lemmas.Bool.{cases_lt}
-use Rattle.std.proofs.lemmas.Bool.Decides.{nat_tests}
-use Rattle.std.proofs.lemmas.List.{append-nil, drop-drop, drop-take, length-take, length-drop, length-map}
+use Rattle.std.proofs.Common.{◌≡◌, ℕ, ◌+◌, ◌-◌, ◌<◌, ◌≤◌, not, List, [], ◌∷◌, ◌++◌, length, filter, take, drop, sym, map, Option, Some, ap, ◌∙◌, arith, inl}
+use Rattle.std.proofs.Common.{inr, slice_range, append-nil, drop-drop, length-take, length-drop}
+use Rattle.first_pass_grammar.proofs.Common.{prefix_len, option_map_or, Range, cases_lt, nat_tests, drop-take, length-map, prefix_len-le-length, Item}
+use Rattle.first_pass_grammar.proofs.Common.{is_between_words}
+use Rattle.std.specs.List.{slice_split}
 use Rattle.std.proofs.lemmas.List.Elements.{filter-append}
-use Rattle.std.proofs.lemmas.List.Sums.{prefix_len-le-length}
-use Rattle.first_pass_items.specs.declared.item.Item.{Item}
-use Rattle.first_pass_attributes.specs.Attributes.{is_between_words}
 use Rattle.first_pass_attributes.proofs.WordFacts.{in_word, split-next, split-last}
 use Rattle.first_pass_places.specs.AttributeBlockPlaces.{attribute_block_range}
 use Rattle.first_pass_places.specs.AttributePlaces.{range_of, is_word_range, word_range, ranges_from, word_ranges, attribute_place, places_in, attribute_ranges}

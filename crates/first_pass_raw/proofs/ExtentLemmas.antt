@@ -1,36 +1,21 @@
 -- The raw lines of a leaf block, one after the other.
-use Rattle.std.proofs.Common.{◌≡◌, ℕ, ◌+◌, ◌<◌, ◌≤◌, List, [], ◌∷◌, length, drop, slice_get, Option, Some, None, IsSome, IsUtf8, IsCharBoundary, refl, sym, ap}
-use Rattle.std.proofs.Common.{false, subst, ◌∙◌, arith}
-use Rattle.first_pass_items.specs.declared.item.Item.{Item}
-use Rattle.first_pass_items.specs.declared.option_set.Options.{Options}
-use Rattle.first_pass_tree.specs.Forest.{Forest, added}
-use Rattle.first_pass_lines.specs.Lines.{line_len}
-use Rattle.first_pass_lines.specs.Rest.{Rest}
-use Rattle.first_pass_lines.specs.Places.{Place, place_at, offset, line_end, line_rest, line_place}
-use Rattle.first_pass_tokens.specs.TreeTokens.{with_tokens, chained, JoinsNone}
-use Rattle.first_pass_tokens.specs.Chains.{add_tokens}
-use Rattle.first_pass_tokens.proofs.ChainLemmas.{with_tokens-chained}
+use Rattle.std.proofs.Common.{◌≡◌, ℕ, ◌+◌, ◌<◌, List, [], ◌∷◌, length, drop, slice_get, Option, Some, None, IsSome, IsUtf8, IsCharBoundary, refl, sym, ap}
+use Rattle.std.proofs.Common.{false, subst, ◌∙◌, arith, option_map}
+use Rattle.first_pass_grammar.proofs.Common.{Item, Options, Forest, added, line_len, Rest, Place, place_at, offset, line_end, line_rest, line_place}
+use Rattle.first_pass_grammar.proofs.Common.{with_tokens, chained, JoinsNone, add_tokens, with_tokens-chained, Names, Extends, Document, document}
+use Rattle.first_pass_grammar.proofs.Common.{block_with, Ranges, IsRawLine, AreRawLines, Extent, with_line, extent_to, Verdict, extent_by, extent, judged}
+use Rattle.first_pass_grammar.proofs.Common.{in_containers, lines_from, ItemBody, line_len-within, lines_at-line, lines_at-end, line_is_place}
+use Rattle.first_pass_grammar.proofs.Common.{line_end_boundary, at_rest, after}
 use Rattle.first_pass_grammar.specs.declared.kind.Container.{Container}
-use Rattle.first_pass_grammar.specs.Names.{Names, Extends}
-use Rattle.first_pass_grammar.specs.Leaves.{Document, document, block_with}
-use Rattle.first_pass_grammar.specs.RawLines.{Ranges, IsRawLine, AreRawLines}
-use Rattle.first_pass_grammar.specs.Extents.{Extent, with_line, extent_to, Verdict, extent_by, extent, judged, in_containers}
-use Rattle.first_pass_grammar.specs.Completion.{lines_from}
-use Rattle.first_pass_raw.specs.declared.raw_line.RawKind.{RawKind}
-use Rattle.first_pass_raw.specs.RawBlocks.{range_of, said, AppendsRaw, AppendsLines, after_line_at, extent_from}
+use Rattle.first_pass_raw.specs.RawBlocks.{said, AppendsRaw, AppendsLines, after_line_at, extent_from}
 use Rattle.first_pass_open.specs.Path.{path_of, container_of, with_container, has_quote_after}
-use Rattle.first_pass_items.specs.declared.item.ItemBody.{ItemBody}
 use Rattle.first_pass_open.specs.OpenBlock.{begun_item, opened_block, closed_by}
 use Rattle.first_pass_open.proofs.BlockLemmas.{still_open, block_closed}
 use Rattle.first_pass_open.proofs.PathLemmas.{AreIn, path_of-chained, path_of-opened}
 use Rattle.first_pass_open.proofs.QuoteLemmas.{quote_after-chained}
-use Rattle.first_pass_lines.proofs.LineFacts.{line_len-within, lines_at-line, lines_at-end}
-use Rattle.first_pass_lines.proofs.PlaceFacts.{line_is_place, line_end_boundary}
-use Rattle.std.specs.Option.{option_map}
 use Rattle.first_pass_grammar.specs.Extents as Judged
 use Rattle.first_pass_raw.specs.declared.verdict.Verdict.{Verdict as Answer}
 use Rattle.first_pass_raw.specs.declared.verdict.Verdict.TheVariants.{GoesOn, IsLast, Closes, Stops}
-use Rattle.first_pass_grammar.specs.Containers.{at_rest, after}
 use Rattle.first_pass_open.proofs.PlaceLemmas.{after_keeps, line_start_end, place_end}
 use Rattle.first_pass_names.proofs.NameLemmas.{extends_both}
 
@@ -66,53 +51,42 @@ pub record LineAppended (range : Ranges) (d : Document) (p : Place) (now : Fores
 -- Its items stay what they are if more is named later.
 pub line_under : {range : Ranges} {d : Document} {p : Place} {now : Forest Item} (l : LineAppended range d p now) (more : Names)
     → Extends more l.named → IsRawLine range (document d.text d.options more) p.rest.owed (offset p) (line_end p) l.line.items
-line_under {range} {d} {p} {now} l more f =
-    let later : Document = document d.text d.options more in
-    subst (λ k. IsRawLine range later p.rest.owed (offset p) k l.line.items) l.to_is
-    (subst (λ k. IsRawLine range later p.rest.owed k l.to l.line.items) l.from_is
-    (subst (λ k. IsRawLine range later k l.from l.to l.line.items) l.owed_is (l.line.are d.options more f)))
+line_under {range} {d} {p} {now} l more f = rw (← l.to_is, ← l.from_is, ← l.owed_is) (l.line.are d.options more f)
 
--- after a line
-pub lines_more : (range : Ranges) (d : Document) (whole rest further : Extent) (p : Place) (old now : Forest Item) → JoinsNone old
-    → LinesSoFar range d whole rest old now → rest ≡ with_line p further → (l : LineAppended range d p now)
-    → LinesSoFar range (document d.text d.options l.named) whole further old l.new
-unfolding AreRawLines
-lines_more range d whole rest further p old now apart s is l =
-    record {
-      chain = add_tokens s.chain l.line.items;
-      tree_is = l.line.tree_is ∙ ap (λ f. with_tokens f l.line.items) s.tree_is ∙ with_tokens-chained old s.chain l.line.items apart;
-      continues = λ more last f lines. s.continues more last (extends_both more l.named d.names f l.extends)
-          (subst (λ (x : Extent). AreRawLines range (document d.text d.options more) s.chain x.places last) (sym is)
-          (l.line.items, line_under l more f, lines));
-      end_is = s.end_is ∙ ap (λ (x : Extent). x.«end») is;
-      left_is = s.left_is ∙ ap (λ (x : Extent). x.left) is;
-    }
+module _ {range : Ranges} {d : Document} {whole rest : Extent} {old now : Forest Item} (s : LinesSoFar range d whole rest old now) where
+  -- after a line
+  pub lines_more : (further : Extent) (p : Place) → JoinsNone old → rest ≡ with_line p further → (l : LineAppended range d p now)
+      → LinesSoFar range (document d.text d.options l.named) whole further old l.new
+  unfolding AreRawLines
+  lines_more further p apart is l = record {
+    chain = add_tokens s.chain l.line.items;
+    tree_is = l.line.tree_is ∙ ap (λ f. with_tokens f l.line.items) s.tree_is ∙ with_tokens-chained old s.chain l.line.items apart;
+    continues = λ more last f lines. s.continues more last (extends_both more l.named d.names f l.extends)
+        (subst (λ (x : Extent). AreRawLines range (document d.text d.options more) s.chain x.places last) (sym is)
+        (l.line.items, line_under l more f, lines));
+    end_is = s.end_is ∙ ap (λ (x : Extent). x.«end») is;
+    left_is = s.left_is ∙ ap (λ (x : Extent). x.left) is;
+  }
 
--- after the last line
-pub lines_end : (range : Ranges) (d : Document) (whole rest : Extent) (old now : Forest Item) (e next : ℕ)
-    → LinesSoFar range d whole rest old now → rest ≡ extent_to e (lines_from d.text next) → AppendsLines range d whole old now e next
-unfolding AreRawLines
-lines_end range d whole rest old now e next s is =
-    record {
-      chain = s.chain;
-      tree_is = s.tree_is;
-      lines = λ more f. s.continues more s.chain f
-          (subst (λ ps. AreRawLines range (document d.text d.options more) s.chain ps s.chain) (sym (ap (λ (x : Extent). x.places) is)) refl);
-      end_is = sym (s.end_is ∙ ap (λ (x : Extent). x.«end») is);
-      left_is = sym (s.left_is ∙ ap (λ (x : Extent). x.left) is);
-    }
+  -- after the last line
+  pub lines_end : (e next : ℕ) → rest ≡ extent_to e (lines_from d.text next) → AppendsLines range d whole old now e next
+  unfolding AreRawLines
+  lines_end e next is = record {
+    chain = s.chain;
+    tree_is = s.tree_is;
+    lines = λ more f. s.continues more s.chain f
+        (subst (λ ps. AreRawLines range (document d.text d.options more) s.chain ps s.chain) (sym (ap (λ (x : Extent). x.places) is)) refl);
+    end_is = sym (s.end_is ∙ ap (λ (x : Extent). x.«end») is);
+    left_is = sym (s.left_is ∙ ap (λ (x : Extent). x.left) is);
+  }
 
--- the containers around the block are the same while its lines are read
-pub lines_path : (range : Ranges) (d : Document) (whole rest : Extent) (old now : Forest Item)
-    → LinesSoFar range d whole rest old now → AreIn (length old.nodes) old.spine → path_of d.options now ≡ path_of d.options old
-lines_path range d whole rest old now s there = ap (path_of d.options) s.tree_is ∙ path_of-chained d.options old s.chain there
+  -- the containers around the block are the same while its lines are read
+  pub lines_path : AreIn (length old.nodes) old.spine → path_of d.options now ≡ path_of d.options old
+  lines_path there = ap (path_of d.options) s.tree_is ∙ path_of-chained d.options old s.chain there
 
--- no block quote is open further inside
-pub lines_quotes : (range : Ranges) (d : Document) (whole rest : Extent) (old now : Forest Item) (n : ℕ)
-    → LinesSoFar range d whole rest old now → AreIn (length old.nodes) old.spine → has_quote_after d.options old n ≡ false
-    → has_quote_after d.options now n ≡ false
-lines_quotes range d whole rest old now n s there none =
-    ap (λ f. has_quote_after d.options f n) s.tree_is ∙ quote_after-chained d.options old s.chain n there ∙ none
+  -- no block quote is open further inside
+  pub lines_quotes : (n : ℕ) → AreIn (length old.nodes) old.spine → has_quote_after d.options old n ≡ false → has_quote_after d.options now n ≡ false
+  lines_quotes n there none = ap (λ f. has_quote_after d.options f n) s.tree_is ∙ quote_after-chained d.options old s.chain n there ∙ none
 
 -- a line of the text, from its start up to the start of the next one
 pub record IsLineAt (text : List ℕ) (at next : ℕ) : Type 0 where
@@ -141,40 +115,22 @@ pub after_path : (text : List ℕ) (path : List Container) (at next : ℕ) (r : 
 after_path text path at next r u line e =
     (after_keeps text at path (line_rest (drop at text)) r u e (line_is_place text at line.here)).1 ∙ line_start_end text at ∙ sym line.next_is
 
-pub within_line : (at from next : ℕ) (r : Rest) → from ≡ at + r.taken → line_end (place_at at r) ≡ next → from ≤ next
-within_line at from next r e f = omega arith
-
--- no lines remain
-pub none_left : (text : List ℕ) (at : ℕ) → length text ≤ at → lines_from text at ≡ []
-none_left text at past = lines_at-end text at past
-
-extent_none : (judge : Place → Verdict) (n : ℕ) → extent judge n [] ≡ extent_to n []
-unfolding extent
-extent_none judge n = refl
-
-extent_first : (judge : Place → Verdict) (n : ℕ) (line : Place) (lines : List Place)
-    → extent judge n (line ∷ lines) ≡ extent_by (judge line) line lines (extent judge n lines)
-unfolding extent
-extent_first judge n line lines = refl
-
 -- at the end of the text
-extent_at_end : (text : List ℕ) (path : List Container) (judge : Place → Place → Verdict) (at : ℕ)
+pub extent_at_end : (text : List ℕ) (path : List Container) (judge : Place → Place → Verdict) (at : ℕ)
     → at ≡ length text → extent_from text path judge at ≡ extent_to at (lines_from text at)
-extent_at_end text path judge at past =
-    let none = none_left text at (omega arith) in
-    ap (extent (in_containers path judge) (length text)) none ∙ extent_none (in_containers path judge) (length text) ∙ ap (λ n. extent_to n []) (sym past)
-    ∙ ap (extent_to at) (sym none)
+unfolding extent
+extent_at_end text path judge at past = rw (lines_at-end text at (omega arith)) (ap (λ n. extent_to n []) (sym past))
 
 -- at a line
 extent_here : (text : List ℕ) (path : List Container) (judge : Place → Place → Verdict) (at next : ℕ) (o : Option Rest) (v : Verdict)
     → IsLineAt text at next → after path (line_rest (drop at text)) ≡ o
     → judged judge (line_place at (drop at text)) (option_map (at_rest (line_place at (drop at text))) o) ≡ v
     → extent_from text path judge at ≡ extent_by v (line_place at (drop at text)) (lines_from text next) (extent_from text path judge next)
+unfolding extent
 extent_here text path judge at next o v line goes is =
     let first : Place = line_place at (drop at text) in
-    ap (extent (in_containers path judge) (length text)) line.lines ∙ extent_first (in_containers path judge) (length text) first (lines_from text next)
-    ∙ ap (λ o. extent_by (judged judge first (option_map (at_rest first) o)) first (lines_from text next) (extent_from text path judge next)) goes
-    ∙ ap (λ v. extent_by v first (lines_from text next) (extent_from text path judge next)) is
+    ap (extent (in_containers path judge) (length text)) line.lines ∙ ap (λ v. extent_by v first (lines_from text next) (extent_from text path judge next))
+    (ap (λ o. judged judge first (option_map (at_rest first) o)) goes ∙ is)
 
 -- a line that does none of the others continues the block
 pub goes_by : (a : Answer) → ((e : ℕ) → ¬ (a ≡ Stops e)) → ((e : ℕ) → ¬ (a ≡ Closes e)) → ¬ (a ≡ IsLast) → a ≡ GoesOn
@@ -188,25 +144,15 @@ abbrev pub ReadSoFar : Ranges → Document → (Place → Place → Verdict) →
 ReadSoFar range d judge start at old now =
     LinesSoFar range d (extent_from d.text (path_of d.options old) judge start) (extent_from d.text (path_of d.options old) judge at) old now
 
--- the text ends
-pub read_end : (range : Ranges) (d : Document) (judge : Place → Place → Verdict) (start at : ℕ) (old now : Forest Item)
-    → ReadSoFar range d judge start at old now → at ≡ length d.text
-    → AppendsLines range d (extent_from d.text (path_of d.options old) judge start) old now at at
-read_end range d judge start at old now s past = lines_end range d (extent_from d.text (path_of d.options old) judge start)
-    (extent_from d.text (path_of d.options old) judge at) old now at at s (extent_at_end d.text (path_of d.options old) judge at past)
-
 -- the line does not continue the containers
-pub read_left : (range : Ranges) (d : Document) (judge : Place → Place → Verdict) (start at next : ℕ) (old now : Forest Item)
+pub read_left : {range : Ranges} (d : Document) (judge : Place → Place → Verdict) (start at next : ℕ) {old now : Forest Item}
     → ReadSoFar range d judge start at old now → AreIn (length old.nodes) old.spine → IsLineAt d.text at next
     → None ≡ after (path_of d.options now) (line_rest (drop at d.text))
     → AppendsLines range d (extent_from d.text (path_of d.options old) judge start) old now at at
-read_left range d judge start at next old now s there line none =
-    let whole : Extent = extent_from d.text (path_of d.options old) judge start in
-    let rest : Extent = extent_from d.text (path_of d.options old) judge at in
-    lines_end range d whole rest old now at at s
+read_left d judge start at next {old} {now} s there line none =
+    lines_end s at at
     (extent_here d.text (path_of d.options old) judge at next None (Judged.Stops at) line
-    (ap (λ path. after path (line_rest (drop at d.text))) (sym (lines_path range d whole rest old now s there)) ∙ sym none) refl
-    ∙ ap (extent_to at) (sym line.lines))
+    (ap (λ path. after path (line_rest (drop at d.text))) (sym (lines_path s there)) ∙ sym none) refl ∙ ap (extent_to at) (sym line.lines))
 
 -- The lines of a block are read up to a line that continues the containers, and that line is judged. It has one rest
 -- before the call, and another after it.
@@ -223,50 +169,37 @@ pub record LineJudged (range : Ranges) (d : Document) (judge : Place → Place �
 
 module _ {range : Ranges} {d : Document} {judge : Place → Place → Verdict} {start at : ℕ} {old now : Forest Item}
     (j : LineJudged range d judge start at old now) where
-  abbrev whole : Extent
-  whole = extent_from d.text (path_of d.options old) judge start
-
-  abbrev rest : Extent
-  rest = extent_from d.text (path_of d.options old) judge at
-
   -- the place of the text of the line
   abbrev text_place : Place
   text_place = place_at at j.following
 
-  rest_by : (v : Answer) → j.answer ≡ v → rest
+  rest_by : (v : Answer) → j.answer ≡ v → extent_from d.text (path_of d.options old) judge at
       ≡ extent_by (said v text_place) (line_place at (drop at d.text)) (lines_from d.text j.next) (extent_from d.text (path_of d.options old) judge j.next)
   rest_by v e =
       extent_here d.text (path_of d.options old) judge at j.next (Some j.before) (said v text_place) j.line
-      (ap (λ path. after path (line_rest (drop at d.text))) (sym (lines_path range d whole rest old now j.so_far j.there)) ∙ sym j.taken)
+      (ap (λ path. after path (line_rest (drop at d.text))) (sym (lines_path j.so_far j.there)) ∙ sym j.taken)
       (j.is ∙ ap (λ (a : Answer). said a text_place) e)
 
   -- the line does not belong to the block
   pub read_stops : (e : ℕ) → j.answer ≡ Stops e → AppendsLines range d (extent_from d.text (path_of d.options old) judge start) old now e at
-  read_stops e stops = lines_end range d whole rest old now e at j.so_far (rest_by (Stops e) stops ∙ ap (extent_to e) (sym j.line.lines))
+  read_stops e stops = lines_end j.so_far e at (rest_by (Stops e) stops ∙ ap (extent_to e) (sym j.line.lines))
 
   -- it closes the block
   pub read_closes : (e : ℕ) → j.answer ≡ Closes e → AppendsLines range d (extent_from d.text (path_of d.options old) judge start) old now e j.next
-  read_closes e closes = lines_end range d whole rest old now e j.next j.so_far (rest_by (Closes e) closes)
+  read_closes e closes = lines_end j.so_far e j.next (rest_by (Closes e) closes)
 
   -- it belongs to the block
-  pub read_more : JoinsNone old → (l : LineAppended range d (place_at at j.following) now) → j.answer ≡ GoesOn
+  pub read_more : JoinsNone old → (l : LineAppended range d text_place now) → j.answer ≡ GoesOn
       → ReadSoFar range (document d.text d.options l.named) judge start j.next old l.new
-  read_more apart l goes =
-      lines_more range d whole rest (extent_from d.text (path_of d.options old) judge j.next) text_place old now apart j.so_far (rest_by GoesOn goes) l
+  read_more apart l goes = lines_more j.so_far (extent_from d.text (path_of d.options old) judge j.next) text_place apart (rest_by GoesOn goes) l
 
   -- it is the last
-  pub read_last : JoinsNone old → (l : LineAppended range d (place_at at j.following) now) → j.next ≡ line_end (place_at at j.following) → j.answer ≡ IsLast
+  pub read_last : JoinsNone old → (l : LineAppended range d text_place now) → j.next ≡ line_end text_place → j.answer ≡ IsLast
       → AppendsLines range (document d.text d.options l.named) (extent_from d.text (path_of d.options old) judge start) old l.new j.next j.next
   read_last apart l next_is last =
       let ends : Extent = extent_to j.next (lines_from d.text j.next) in
-      lines_end range (document d.text d.options l.named) whole ends old l.new j.next j.next
-      (lines_more range d whole rest ends text_place old now apart j.so_far
-      (rest_by IsLast last ∙ ap (λ k. with_line text_place (extent_to k (lines_from d.text j.next))) (sym next_is)) l) refl
-
--- a raw line, by a kind equal to its own
-pub line_as : (text : List ℕ) (names : Names) (kind named : RawKind) (owed from to : ℕ) (old new : Forest Item) → kind ≡ named
-    → AppendsRaw (range_of kind) text names owed from to old new → AppendsRaw (range_of named) text names owed from to old new
-line_as text names kind named owed from to old new is = subst (λ k. AppendsRaw (range_of k) text names owed from to old new) is
+      lines_end (lines_more j.so_far ends text_place apart
+      (rest_by IsLast last ∙ ap (λ k. with_line text_place (extent_to k (lines_from d.text j.next))) (sym next_is)) l) j.next j.next refl
 
 -- the end of the line containing an offset
 pub first_read : (text bytes : List ℕ) (start first : ℕ) → IsUtf8 bytes → IsCharBoundary text start → bytes ≡ text

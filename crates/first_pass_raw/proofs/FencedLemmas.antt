@@ -1,50 +1,31 @@
 -- The closing fence, the info string and the lines of a fenced code block.
-use Rattle.std.proofs.Common.{◌≡◌, inl, inr, ℕ, ◌+◌, ◌-◌, ◌<◌, ◌≤◌, ◌==◌, ◌&&◌, not, Bool, nat_lt, nat_le, true, false, List, length, take, drop, get_or}
-use Rattle.std.proofs.Common.{reverse, Option, Some, None, is_some, slice_index_or, not-suc-le-zero, ◌∷◌, [], IsUtf8, IsCharBoundary, if◌then◌else◌}
-use Rattle.std.proofs.Common.{refl, sym, ap, subst, ◌∙◌, arith, length-drop, length-take-le, get_or-drop, drop-drop}
-use Rattle.std.specs.Option.{option_map}
-use Rattle.std.specs.List.{prefix_len, suffix_len}
-use Rattle.std.proofs.lemmas.Bool.{cases_lt, eqb-true, leb-false, lt-ltb, lt-leb, ne_eqb}
-use Rattle.std.proofs.lemmas.Bool.Decides.{nat_tests}
-use Rattle.std.proofs.lemmas.List.{get_or-reverse, get_or-take, take-take}
-use Rattle.std.proofs.lemmas.List.Sums.{prefix_len_passes, suffix_len-le-length}
-use Rattle.std.proofs.lemmas.Option.{none-some}
-use Rattle.std.proofs.lemmas.Str.{IsCharBoundary-before_ascii}
-use Rattle.first_pass_items.specs.Bytes.{backquote, tilde, ascii_end}
-use Rattle.first_pass_items.specs.declared.item.CowIndex.{CowIndex}
-use Rattle.first_pass_items.specs.declared.item.Item.{Item}
-use Rattle.first_pass_items.specs.declared.item.ItemBody.TheVariants.{FencedCodeBlock}
-use Rattle.first_pass_tree.specs.Forest.{Forest}
-use Rattle.first_pass_lines.specs.Lines.{is_white, is_white_or_line_end, begins, line_len}
-use Rattle.first_pass_scan.specs.LeafLines.{run_len, has_backquote, code_fence, closing_fence_len}
-use Rattle.first_pass_lines.specs.Rest.{Rest, indent, next_column, after_columns}
-use Rattle.first_pass_lines.specs.Places.{line_place, place_at, offset, IsPlaceOf}
-use Rattle.first_pass_lines.proofs.LineFacts.{line_len-fits}
-use Rattle.first_pass_lines.proofs.PlaceFacts.{all_columns_up_to, line_is_place, white_keeps, prefix_keeps}
-use Rattle.first_pass_grammar.specs.Names.{Names, Extends}
-use Rattle.first_pass_grammar.specs.Kinds.{all_taken, unindented}
-use Rattle.first_pass_grammar.specs.Leaves.{Document, block_with}
-use Rattle.first_pass_grammar.specs.CodeBlocks.{closing_fence_end, fence_judge, trimmed, info_string, NamesInfo, IsFencedCode}
-use Rattle.first_pass_grammar.specs.Extents.{Extent}
-use Rattle.first_pass_grammar.specs.RawLines.{range_text}
+use Rattle.std.proofs.Common.{◌≡◌, ℕ, ◌+◌, ◌-◌, ◌<◌, ◌≤◌, ◌==◌, ◌&&◌, not, Bool, nat_lt, nat_le, true, false, List, length, take, drop, Option, Some, None}
+use Rattle.std.proofs.Common.{is_some, slice_index_or, not-suc-le-zero, ◌∷◌, [], IsUtf8, IsCharBoundary, if◌then◌else◌, refl, sym, ap, subst, ◌∙◌, arith}
+use Rattle.std.proofs.Common.{length-drop, length-take-le, drop-drop, option_map, eqb-true, leb-false, lt-ltb, ne_eqb, take-take}
+use Rattle.first_pass_grammar.proofs.Common.{prefix_len, suffix_len, cond_both, cond-true, lt-leb, none-some, cond_some, backquote, tilde, ascii_end}
+use Rattle.first_pass_grammar.proofs.Common.{CowIndex, Item, FencedCodeBlock, Forest, is_content, is_white, is_white_or_line_end, begins, line_len, run_len}
+use Rattle.first_pass_grammar.proofs.Common.{code_fence, closing_fence_len, Rest, indent, next_column, after_columns, line_place, place_at, offset}
+use Rattle.first_pass_grammar.proofs.Common.{IsPlaceOf, line_len-fits, all_columns_up_to, line_is_place, white_keeps, Names, Extends, all_taken, unindented}
+use Rattle.first_pass_grammar.proofs.Common.{Document, block_with, fence_judge, trimmed, info_string, NamesInfo, IsFencedCode, Extent, range_text}
+use Rattle.first_pass_scan.specs.LeafLines.{has_backquote}
+use Rattle.first_pass_lines.proofs.PlaceFacts.{prefix_keeps}
+use Rattle.first_pass_tokens.proofs.OrderLemmas.{trimmed_boundary}
+use Rattle.first_pass_grammar.specs.CodeBlocks.{closing_fence_end}
 use Rattle.first_pass_open.specs.OpenBlock.{closed_by}
 use Rattle.first_pass_open.specs.Path.{path_of}
 use Rattle.first_pass_raw.specs.RawBlocks.{AddsRaw, fenced_after}
 use Rattle.first_pass_raw.proofs.ExtentLemmas.{Filled, OpenedAt, lines_of, block_done}
 use Rattle.first_pass_open.proofs.PlainLemmas.{none_few, none_all}
-use Rattle.first_pass_open.proofs.PlaceLemmas.{all_keep, place_end, line_start_end}
+use Rattle.first_pass_open.proofs.PlaceLemmas.{all_keep}
 
--- a place after the columns of a line
-pub indented_place : (text : List ℕ) (start n : ℕ) (r : Rest) → IsUtf8 text → n ≡ (all_taken r).taken → IsPlaceOf text (place_at start r)
-    → (start + n ≡ offset (unindented (place_at start r))) × IsPlaceOf text (unindented (place_at start r))
-indented_place text start n r u f i = (ap (λ k. start + k) f, all_keep text start r u i)
-
--- fewer than four columns are all taken when up to four are
-pub few_taken : (r s : Rest) (four : Bool) (n : ℕ) → four ≡ false → four ≡ nat_le 4 (indent r) → s ≡ after_columns 4 r → n ≡ s.taken
-    → (indent r < 4) × (n ≡ (all_taken r).taken)
-few_taken r s four n less value after is =
+-- a place after the columns of a line: fewer than four are all taken when up to four are
+pub indented_place : (text : List ℕ) (start n : ℕ) (r s : Rest) (four : Bool) → IsUtf8 text → IsPlaceOf text (place_at start r)
+    → four ≡ false → four ≡ nat_le 4 (indent r) → s ≡ after_columns 4 r → n ≡ s.taken
+    → (indent r < 4) × (start + n ≡ offset (unindented (place_at start r))) × IsPlaceOf text (unindented (place_at start r))
+indented_place text start n r s four u i less value after is =
     let few : indent r < 4 = omega (arith, leb-false 4 (indent r) (sym value ∙ less)) in
-    (few, is ∙ ap (λ (t : Rest). t.taken) (after ∙ all_columns_up_to 4 r (omega (arith, few))))
+    let taken = is ∙ ap (λ (t : Rest). t.taken) (after ∙ all_columns_up_to 4 r (omega (arith, few))) in
+    (few, ap (λ k. start + k) taken, all_keep text start r u i)
 
 -- a line that begins with another byte than the fence is no closing fence
 pub no_run : (bs : List ℕ) (byte count : ℕ) → 1 ≤ length bs → (slice_index_or bs 0 0 ≡ byte → ⊥) → 0 < count → closing_fence_len byte count bs ≡ None
@@ -66,15 +47,10 @@ no_fence r byte count start none filled other many =
 
 -- the result of a search for a closing fence in the rest after the columns
 pub closing_end : (text : List ℕ) (start n byte count : ℕ) (r : Rest) (o : Option ℕ)
-    → nat_lt (indent r) 4 ≡ true → IsUtf8 text → n ≡ (all_taken r).taken → IsPlaceOf text (place_at start r)
+    → (indent r < 4) × (start + n ≡ offset (unindented (place_at start r))) × IsPlaceOf text (unindented (place_at start r))
     → o ≡ closing_fence_len byte count (drop (start + n) text)
     → closing_fence_end byte count (place_at start r) ≡ option_map (λ k. start + n + k) o
-closing_end text start n byte count r o node_bound u f i k =
-    let (same, p) = indented_place text start n r u f i in
-    let left : drop (start + n) text ≡ (all_taken r).left = ap (λ m. drop m text) same ∙ sym p.left in
-    ap (λ t. if t then option_map (λ m. offset (unindented (place_at start r)) + m) (closing_fence_len byte count (all_taken r).left) else None) node_bound
-    ∙ ap (λ m. option_map (λ l. m + l) (closing_fence_len byte count (all_taken r).left)) (sym same)
-    ∙ ap (λ bs. option_map (λ l. start + n + l) (closing_fence_len byte count bs)) (sym left) ∙ ap (option_map (λ l. start + n + l)) (sym k)
+closing_end text start n byte count r o (few, same, p) k = rw (k, same, ← p.left) (cond-true _ _ _ (lt-ltb (indent r) 4 few))
 
 -- an info string after an offset: the white space before it, the end of its line, and the white space before that end
 pub record IsInfo (text : List ℕ) (start from next white : ℕ) : Type 0 where
@@ -85,20 +61,7 @@ pub record IsInfo (text : List ℕ) (start from next white : ℕ) : Type 0 where
 pub info_read : (text bytes : List ℕ) (start n next white : ℕ)
     → bytes ≡ text → n ≡ prefix_len is_white (drop start bytes) → next ≡ start + n + line_len (drop (start + n) bytes)
     → white ≡ suffix_len is_white_or_line_end (take (next - (start + n)) (drop (start + n) bytes)) → IsInfo text start (start + n) next white
-info_read text bytes start n next white e g j k =
-    record {
-      from_is = ap (λ m. start + m) (g ∙ ap (λ bs. prefix_len is_white (drop start bs)) e);
-      next_is = j ∙ ap (λ bs. start + n + line_len (drop (start + n) bs)) e;
-      white_is = k ∙ ap (λ bs. suffix_len is_white_or_line_end (take (next - (start + n)) (drop (start + n) bs))) e;
-    }
-
--- the first of the bytes at the end that pass a test
-last_passes : (p : ℕ → Bool) (xs : List ℕ) → 0 < suffix_len p xs → p (get_or xs (length xs - suffix_len p xs) 0) ≡ true
-last_passes p xs some =
-    let n : ℕ = suffix_len p xs in
-    let fits : n ≤ length xs = suffix_len-le-length p xs in
-    let place : length xs - 1 - (n - 1) ≡ length xs - n = omega arith in
-    ap p (sym (get_or-reverse xs (n - 1) 0 (omega arith) ∙ ap (λ k. get_or xs k 0) place)) ∙ prefix_len_passes p (reverse xs) (n - 1) 0 (omega arith)
+info_read text bytes start n next white e g j k = rw (← e) (record { from_is = ap (λ m. start + m) g; next_is = j; white_is = k })
 
 module _ (text : List ℕ) (start from next white : ℕ) (info : IsInfo text start from next white) (u : IsUtf8 text) (b : IsCharBoundary text start) where
   -- its start is between characters
@@ -115,39 +78,14 @@ module _ (text : List ℕ) (start from next white : ℕ) (info : IsInfo text sta
       let n = info.next_is in
       (length-take-le (next - from) (drop from text) (omega arith), omega arith, omega arith)
 
-  -- the end of its line is between characters
-  info_next : IsCharBoundary text next
-  info_next =
-      let i = line_is_place text from info_from in
-      subst (IsCharBoundary text) (line_start_end text from ∙ sym info.next_is) (place_end text (line_place from (drop from text)) u i)
-
-  white_within : white ≤ next - from
-  white_within =
-      let f = suffix_len-le-length is_white_or_line_end (take (next - from) (drop from text)) in
-      let l = info_line.0 in let w = info.white_is in omega arith
-
-  info_stops : 0 < white → IsCharBoundary text (next - white)
-  info_stops some =
-      let line : List ℕ = take (next - from) (drop from text) in
-      let l = info_line in
-      let n : length line ≡ next - from = l.0 in
-      let m = white_within in
-      let same = info.white_is in
-      let passes = last_passes is_white_or_line_end line (omega arith) in
-      let place : length line - suffix_len is_white_or_line_end line ≡ next - from - white = omega arith in
-      let following : from + (next - from - white) ≡ next - white = omega (arith, l.1) in
-      let read : get_or line (length line - suffix_len is_white_or_line_end line) 0 ≡ get_or text (next - white) 0 =
-      ap (λ k. get_or line k 0) place ∙ get_or-take (next - from) (drop from text) (next - from - white) 0 (omega arith)
-      ∙ get_or-drop from text (next - from - white) 0 ∙ ap (λ k. get_or text k 0) following in
-      let ascii : (k : ℕ) → is_white_or_line_end k ≡ true → k < ascii_end = λ k h. grind (arith, nat_tests, h) in
-      IsCharBoundary-before_ascii text (next - white) (omega (arith, l.1, l.2)) (ascii _ (ap is_white_or_line_end (sym read) ∙ passes))
-
   -- its end is between characters
   pub info_end : IsCharBoundary text (next - white)
-  info_end = elim (cases_lt 0 white) [
-    | inl some ↦ info_stops some
-    | inr none ↦ (let e : next ≡ next - white = omega arith in subst (IsCharBoundary text) e info_next)
-  ]
+  info_end =
+      let line : List ℕ = drop from text in
+      let size : next - from ≡ line_len line = omega (arith, info.next_is) in
+      let same = info.white_is ∙ ap (λ n. suffix_len is_white_or_line_end (take n line)) size in
+      let e : from + line_len line - suffix_len is_white_or_line_end (take (line_len line) line) ≡ next - white = omega (arith, info.next_is, same) in
+      subst (IsCharBoundary text) e (trimmed_boundary text from u info_from)
 
   -- its bytes
   pub info_is : take (next - white - from) (drop from text) ≡ info_string (drop start text)
@@ -167,33 +105,33 @@ module _ (text : List ℕ) (start from next white : ℕ) (info : IsInfo text sta
 abbrev fence_if : Bool → ℕ × ℕ → Option (ℕ × ℕ)
 fence_if t fence = if t then Some fence else None
 
--- a code fence is a run of its byte
-fence_by : (t u v w : Bool) (bs : List ℕ) (n c : ℕ)
-    → (if t then fence_if u (run_len backquote bs, backquote) else (if v then fence_if w (run_len tilde bs, tilde) else None)) ≡ Some (n, c)
-    → (n ≡ run_len c bs) × (c < ascii_end)
-fence_by true true v w bs n c h =
-    let e : (run_len backquote bs, backquote) ≡ (n, c) = cc in
-    let f : backquote ≡ c = ap (λ (p : ℕ × ℕ). p.1) e in
-    (sym (ap (λ (p : ℕ × ℕ). p.0) e) ∙ ap (λ k. run_len k bs) f, omega arith)
-fence_by true false v w bs n c h = absurd (none-some (n, c) h)
-fence_by false u true true bs n c h =
-    let e : (run_len tilde bs, tilde) ≡ (n, c) = cc in
-    let f : tilde ≡ c = ap (λ (p : ℕ × ℕ). p.1) e in
-    (sym (ap (λ (p : ℕ × ℕ). p.0) e) ∙ ap (λ k. run_len k bs) f, omega arith)
-fence_by false u true false bs n c h = absurd (none-some (n, c) h)
-fence_by false u false w bs n c h = absurd (none-some (n, c) h)
+-- a code fence is a run of its byte, which is ASCII and none of a line ending
+abbrev IsFence : List ℕ → ℕ × ℕ → Type 0
+IsFence bs fence = (fence.0 ≡ run_len fence.1 bs) × (fence.1 < ascii_end) × (is_content fence.1 ≡ true)
 
-fence_run : (bs : List ℕ) (n c : ℕ) → code_fence bs ≡ Some (n, c) → (n ≡ run_len c bs) × (c < ascii_end)
+fence_by : (t : Bool) (byte : ℕ) (bs : List ℕ) (fence : ℕ × ℕ)
+    → byte < ascii_end → is_content byte ≡ true → fence_if t (run_len byte bs, byte) ≡ Some fence → IsFence bs fence
+fence_by t byte bs fence small plain h = subst (IsFence bs) (cond_some t (run_len byte bs, byte) fence h).1 (refl, small, plain)
+
+fence_run : (bs : List ℕ) (fence : ℕ × ℕ) → code_fence bs ≡ Some fence → IsFence bs fence
 unfolding code_fence
-fence_run bs n c h =
-    fence_by (begins backquote bs) (nat_le 3 (run_len backquote bs) && not (has_backquote (drop (run_len backquote bs) bs))) (begins tilde bs)
-    (nat_le 3 (run_len tilde bs)) bs n c h
+fence_run bs fence h =
+    let back : Bool = nat_le 3 (run_len backquote bs) && not (has_backquote (drop (run_len backquote bs) bs)) in
+    let waves : Bool = nat_le 3 (run_len tilde bs) in
+    let other : Option (ℕ × ℕ) = fence_if waves (run_len tilde bs, tilde) in
+    cond_both (begins backquote bs) (fence_if back (run_len backquote bs, backquote)) (if begins tilde bs then other else None)
+    (λ (o : Option (ℕ × ℕ)). o ≡ Some fence → IsFence bs fence) (λ b e. fence_by back backquote bs fence (omega arith) refl e)
+    (λ b e. cond_both (begins tilde bs) other None (λ (o : Option (ℕ × ℕ)). o ≡ Some fence → IsFence bs fence)
+    (λ c f. fence_by waves tilde bs fence (omega arith) refl f) (λ c f. absurd (none-some fence f)) e) h
+
+pub fence_plain : (bs : List ℕ) (fence : ℕ × ℕ) → code_fence bs ≡ Some fence → is_content fence.1 ≡ true
+fence_plain bs fence h = (fence_run bs fence h).2
 
 -- The end of a fence is between characters.
 pub fence_end : (text : List ℕ) (start n c : ℕ)
     → IsUtf8 text → IsCharBoundary text start → code_fence (drop start text) ≡ Some (n, c) → IsCharBoundary text (start + n)
 fence_end text start n c u b h =
-    let f = fence_run (drop start text) n c h in
+    let f = fence_run (drop start text) (n, c) h in
     let ascii : (k : ℕ) → (k == c) ≡ true → k < ascii_end = λ k g. let e = eqb-true k c g in let small = f.1 in omega arith in
     let e : start + (0 + run_len c (drop start text)) ≡ start + n = omega (arith, f.0) in
     subst (IsCharBoundary text) e (prefix_keeps (λ k. k == c) ascii text (line_place start (drop start text)) u (line_is_place text start b)).boundary

@@ -1,42 +1,31 @@
 -- The lines of an HTML block, and its end.
 use Rattle.std.proofs.Common.{◌≡◌, ◌⊎◌, inl, inr, ℕ, zero, suc, ◌+◌, ◌-◌, ◌||◌, Bool, true, false, List, [], ◌∷◌, ◌++◌, length, take, drop, if◌then◌else◌}
-use Rattle.std.proofs.Common.{None, IsSome, slice_get, refl, sym, ap, subst, ◌∙◌, arith, append_assoc}
-use Rattle.std.specs.Bool.{Decides, MatchBool, one_answer}
-use Rattle.std.specs.List.{slice_range}
+use Rattle.std.proofs.Common.{None, IsSome, slice_get, refl, sym, ap, subst, ◌∙◌, arith, append_assoc, Decides, MatchBool, slice_range, take-append-drop}
+use Rattle.std.proofs.Common.{append-nil}
+use Rattle.first_pass_grammar.proofs.Common.{cond_both, take-append_seam, Item, HtmlBlock, Options, Forest, is_text, appended, BlockEnd, line_len, Place}
+use Rattle.first_pass_grammar.proofs.Common.{offset, line_end, IsPlaceOf, place_length, add_token, add_tokens, with_tokens, chained, JoinsNone}
+use Rattle.first_pass_grammar.proofs.Common.{chained-append, joins_none-fresh, Names, Extends, Document, document, block_with, AreColumns, ends_with_both}
+use Rattle.first_pass_grammar.proofs.Common.{range_html, raw_items, IsRawLine, AreRawLines, Extent, with_line, extent_to, GoesOn, IsLast, Closes, extent_by}
+use Rattle.first_pass_grammar.proofs.Common.{holds_end, tag_judge, blank_judge, IsHtml, lines_from}
+use Rattle.std.specs.Bool.{one_answer}
 use Rattle.std.specs.Str.Iter.{HasSubslice}
 use Rattle.std.specs.Str.Pattern.{FindsText, HasMatch}
-use Rattle.std.proofs.lemmas.Bool.{cond_both}
 use Rattle.std.proofs.lemmas.Bool.Decides.{Decides-like, Decides-or}
-use Rattle.std.proofs.lemmas.List.{take-append-drop, append-nil}
 use Rattle.std.proofs.lemmas.Slice.Eq.{bytes_eq-Decides}
 use Rattle.std.proofs.lemmas.Str.Pattern.{contains_text}
-use Rattle.std.proofs.Math.Seq.{take-append_seam}
-use Rattle.first_pass_items.specs.declared.item.Item.{Item}
-use Rattle.first_pass_items.specs.declared.item.ItemBody.TheVariants.{HtmlBlock}
-use Rattle.first_pass_items.specs.declared.option_set.Options.{Options}
-use Rattle.first_pass_tree.specs.Forest.{Forest, is_text, appended}
-use Rattle.first_pass_html.specs.Ends.{BlockEnd, AtRawEndTag, AtText, holds_raw_end_tag}
+use Rattle.first_pass_html.specs.Ends.{AtRawEndTag, AtText, holds_raw_end_tag}
 use Rattle.first_pass_html.specs.Starts.{begins_with}
-use Rattle.first_pass_lines.specs.Lines.{line_len}
-use Rattle.first_pass_lines.specs.Places.{Place, offset, line_of, line_end, IsPlaceOf}
-use Rattle.first_pass_lines.proofs.PlaceFacts.{place_length}
-use Rattle.first_pass_tokens.specs.Chains.{add_token, add_tokens}
-use Rattle.first_pass_tokens.specs.TreeTokens.{with_tokens, chained, JoinsNone}
-use Rattle.first_pass_tokens.proofs.ChainLemmas.{chained-append, with_token-plain, joins_none-fresh, joins_none-appended}
-use Rattle.first_pass_grammar.specs.declared.kind.Container.{Container}
-use Rattle.first_pass_grammar.specs.Names.{Names, Extends}
-use Rattle.first_pass_grammar.specs.Leaves.{Document, document, block_with}
-use Rattle.first_pass_grammar.specs.RawLines.{AreColumns, ends_with_both, range_html, raw_items, IsRawLine, AreRawLines}
-use Rattle.first_pass_grammar.specs.Extents.{Extent, with_line, extent_to, Verdict, GoesOn, IsLast, Closes, extent_by}
-use Rattle.first_pass_grammar.specs.HtmlBlocks.{holds, holds_end, is_empty, tag_judge, blank_judge, owing, IsHtml}
-use Rattle.first_pass_grammar.specs.Completion.{lines_from}
+use Rattle.first_pass_lines.specs.Places.{line_of}
+use Rattle.first_pass_tokens.proofs.ChainLemmas.{with_token-plain, joins_none-appended}
+use Rattle.first_pass_grammar.specs.HtmlBlocks.{holds, is_empty, owing}
 use Rattle.first_pass_names.proofs.NameLemmas.{extends_none, extends_both}
-use Rattle.first_pass_open.specs.OpenBlock.{closed_by, opened_block}
+use Rattle.first_pass_open.specs.OpenBlock.{begun_item, closed_by, opened_block}
 use Rattle.first_pass_open.specs.Path.{path_of}
 use Rattle.first_pass_open.proofs.PathLemmas.{AreIn}
+use Rattle.first_pass_open.proofs.BlockLemmas.{still_open}
 use Rattle.first_pass_raw.specs.RawBlocks.{IsPlaceAt, AppendsRaw, AppendsLines, AddsRaw, after_line_at, extent_from, html_to_end, html_to_blank}
 use Rattle.first_pass_raw.proofs.IndentedLemmas.{first_at, first_is}
-use Rattle.first_pass_raw.proofs.ExtentLemmas.{LinesSoFar, Filled, lines_start, lines_more, lines_end, lines_path, opened_path, block_open, block_done}
+use Rattle.first_pass_raw.proofs.ExtentLemmas.{LinesSoFar, Filled, lines_start, lines_more, lines_end, lines_path, opened_path, block_done}
 
 -- a text at the start of bytes is part of them
 begun : (text bs : List ℕ) → Decides (begins_with text bs) ((b : List ℕ) × (bs ≡ text ++ b))
@@ -45,12 +34,6 @@ begun text bs =
       λ e. (drop (length text) bs, sym (take-append-drop (length text) bs) ∙ ap (λ xs. xs ++ drop (length text) bs) (sym (d.0 e))),
       λ s. d.1 (sym (take-append_seam text s.0) ∙ ap (take (length text)) (sym s.1)),
     )
-
-stands_first : (text bs : List ℕ) → ((b : List ℕ) × (bs ≡ text ++ b)) → HasSubslice bs text
-stands_first text bs s = ([], s.0, s.1)
-
-stands_past : (text : List ℕ) (b : ℕ) (bs : List ℕ) → HasSubslice bs text → HasSubslice (b ∷ bs) text
-stands_past text b bs s = (b ∷ s.0, s.1, ap (λ xs. b ∷ xs) s.2)
 
 stands_either : (text : List ℕ) (b : ℕ) (bs : List ℕ) → HasSubslice (b ∷ bs) text → ((c : List ℕ) × (b ∷ bs ≡ text ++ c)) ⊎ HasSubslice bs text
 stands_either text b bs ([], c, e) = inl (c, e)
@@ -63,10 +46,10 @@ none_before text (a ∷ before, c, e) = cc
 -- a text is somewhere in the bytes exactly if it is a part of them
 pub holds-decides : (text bs : List ℕ) → Decides (holds text bs) (HasSubslice bs text)
 unfolding holds
-holds-decides text [] = Decides-like (begins_with text []) (stands_first text []) (none_before text) (begun text [])
+holds-decides text [] = Decides-like (begins_with text []) (λ s. ([], s.0, s.1)) (none_before text) (begun text [])
 holds-decides text (b ∷ bs) =
     Decides-like (begins_with text (b ∷ bs) || holds text bs)
-    (λ s. elim s [ inl first ↦ stands_first text (b ∷ bs) first | inr following ↦ stands_past text b bs following ]) (stands_either text b bs)
+    (λ s. elim s [ inl first ↦ ([], first.0, first.1) | inr past ↦ (b ∷ past.0, past.1, ap (λ xs. b ∷ xs) past.2) ]) (stands_either text b bs)
     (Decides-or (begins_with text (b ∷ bs)) (holds text bs) (begun text (b ∷ bs)) (holds-decides text bs))
 
 -- the result of a search in a line
@@ -84,10 +67,8 @@ text_held until text line found until_is m = rw until_is (sym (one_answer (holds
 pub held_is : (text : List ℕ) (until : BlockEnd) (p : Place) (at next : ℕ) (found : Bool) (piece : List ℕ)
     → IsPlaceAt text at p → next ≡ line_end p → piece ≡ slice_range text at next → found ≡ holds_end until piece → holds_end until (line_of p) ≡ found
 held_is text until p at next found piece i next_is piece_is is =
-    let start = i.offset_is in
-    let k : next - at ≡ line_len p.rest.left = omega arith in
-    ap (λ n. holds_end until (take n p.rest.left)) (sym k) ∙ ap (λ bs. holds_end until (take (next - at) bs)) i.left_is ∙ ap (holds_end until) (sym piece_is)
-    ∙ sym is
+    let size : line_len p.rest.left ≡ next - at = omega (arith, i.offset_is) in
+    rw (is, piece_is, size, i.left_is)
 
 some_left : (bs : List ℕ) → ¬ (length bs ≡ 0) → is_empty bs ≡ false
 some_left [] e = absurd (e refl)
@@ -155,7 +136,7 @@ html_after d before chain (p ∷ ps) whole (line, is, further) =
     (line, is, subst (λ c. AreRawLines range_html d c ps (before ++ whole)) (sym same) (html_after d before (add_tokens chain line) ps whole further))
 
 -- The first line of an HTML block, with columns owed at its start, is appended to a tree in which the block is open.
-module _ (text : List ℕ) (options : Options) (named : Names) (start columns next : ℕ) (g one : Forest Item)
+module _ {text : List ℕ} {named : Names} {start columns next : ℕ} {one : Forest Item} (options : Options) (g : Forest Item)
     (first : AppendsRaw range_html text named columns start next (opened_block g start HtmlBlock) one) (next_is : next ≡ after_line_at text start) where
   abbrev opened : Forest Item
   opened = opened_block g start HtmlBlock
@@ -163,33 +144,22 @@ module _ (text : List ℕ) (options : Options) (named : Names) (start columns ne
   apart : JoinsNone opened
   apart = joins_none-fresh opened refl
 
-  -- the block with the lines of an extent
-  abbrev block_filled : (names : Names) (whole : Extent) (filled : Forest Item) (stop left : ℕ)
-      → AppendsLines range_html (document text options names) whole opened filled stop left
-      → Filled range_html (document text options names) whole g start HtmlBlock
-  block_filled names whole filled stop left lines = record {
-    opened = opened;
-    filled = filled;
-    stop = stop;
-    next = left;
-    is = refl;
-    lines = lines;
-  }
-
   -- the following tokens are not joined to it
   pub first_apart : JoinsNone one
   first_apart = subst JoinsNone (sym first.tree_is) (plain_apart opened first.items apart
       (plain_line (document text options named) columns start next first.items (first.are options named (extends_none named))))
 
   module _ (p : Place) (i : IsPlaceAt text start p) where
+    -- the next line begins at its end
+    next_at : next ≡ after_line_at text (offset p)
+    next_at = next_is ∙ ap (after_line_at text) (sym i.offset_is)
+
     pub first_end : next ≡ line_end p
-    first_end = next_is ∙ ap (after_line_at text) (sym i.offset_is) ∙ ap (λ bs. offset p + line_len bs) (ap (λ k. drop k text) i.offset_is ∙ sym i.left_is)
+    first_end = next_at ∙ ap (λ bs. offset p + line_len bs) (ap (λ k. drop k text) i.offset_is ∙ sym i.left_is)
 
     first_read : (further : Extent) → LinesSoFar range_html (document text options named) (with_line (owing columns p) further) further opened one
     first_read further =
-        let d : Document = document text options named in
-        let whole : Extent = with_line (owing columns p) further in
-        lines_more range_html d whole whole further (owing columns p) opened opened apart (lines_start range_html d whole opened) refl
+        lines_more (lines_start range_html (document text options named) (with_line (owing columns p) further) opened) further (owing columns p) apart refl
         (record {
           new = one;
           named = named;
@@ -203,104 +173,83 @@ module _ (text : List ℕ) (options : Options) (named : Names) (start columns ne
           to_is = first_end;
         })
 
-    -- a block with only this line
-    only_first : AppendsLines range_html (document text options named)
-        (with_line (owing columns p) (extent_to next (lines_from text next))) opened one next next
-    only_first =
-        let further : Extent = extent_to next (lines_from text next) in
-        lines_end range_html (document text options named) (with_line (owing columns p) further) further opened one next next (first_read further) refl
-
-    -- a block with more lines after it
-    first_then : (names : Names) (further : Extent) (two : Forest Item) (e stop : ℕ)
-        → Extends names named → AppendsLines range_html (document text options names) further one two e stop
-        → AppendsLines range_html (document text options names) (with_line (owing columns p) further) opened two e stop
-    first_then names further two e stop extends lines =
-        let s = first_read further in
-        record {
-          chain = s.chain ++ lines.chain;
-          tree_is = lines.tree_is ∙ ap (λ f. chained f lines.chain) s.tree_is ∙ chained-append opened s.chain lines.chain;
-          lines = λ more f. s.continues more (s.chain ++ lines.chain) (extends_both more names named f extends)
-              (subst (λ c. AreRawLines range_html (document text options more) c further.places (s.chain ++ lines.chain)) (append-nil s.chain)
-              (html_after (document text options more) s.chain [] further.places lines.chain (lines.lines more f)));
-          end_is = lines.end_is ∙ sym s.end_is;
-          left_is = lines.left_is ∙ sym s.left_is;
-        }
-
     -- the block with its lines, closed
     whole_added : (names : Names) (e further : Extent) (two new : Forest Item) (stop left : ℕ)
         → e ≡ with_line p further → AppendsLines range_html (document text options names) (with_line (owing columns p) further) opened two stop left
         → new ≡ closed_by two stop two.spine → AddsRaw (document text options names) (λ d. IsHtml d start columns e.places e.«end») e.left g new left
     whole_added names e further two new stop left e_is lines new_is =
+        let filled : Filled range_html (document text options names) (with_line (owing columns p) further) g start HtmlBlock =
+        record { opened = opened; filled = two; stop = stop; next = left; is = refl; lines = lines } in
         subst (λ (x : Extent). AddsRaw (document text options names) (λ d. IsHtml d start columns x.places x.«end») x.left g new left) (sym e_is)
         (record {
           items = block_with start further.«end» HtmlBlock lines.chain;
-          tree_is = block_done (block_filled names (with_line (owing columns p) further) two stop left lines) new new_is;
+          tree_is = block_done filled new new_is;
           are = λ more f. record { chain = lines.chain; lines = lines.lines more f; items_are = refl };
           left_is = lines.left_is;
         })
 
-    -- the lines after the first one begin at its end
-    after_first : (path : List Container) (judge : Place → Place → Verdict)
-        → extent_from text path judge (after_line_at text (offset p)) ≡ extent_from text path judge next
-    after_first path judge = ap (extent_from text path judge) (ap (after_line_at text) i.offset_is ∙ sym next_is)
-
-    -- the first line contains the end of the block
-    held_extent : (path : List Container) (until : BlockEnd)
-        → holds_end until (line_of p) ≡ true → html_to_end text path until p ≡ with_line p (extent_to next (lines_from text next))
-    held_extent path until held =
-        ap (λ t. extent_by (if t then IsLast p else GoesOn p) p (lines_from text (after_line_at text (offset p)))
-        (extent_from text path (tag_judge until) (after_line_at text (offset p)))) held
-        ∙ ap (λ k. with_line p (extent_to k (lines_from text (after_line_at text (offset p))))) (sym first_end)
-        ∙ ap (λ k. with_line p (extent_to next (lines_from text k))) (ap (after_line_at text) i.offset_is ∙ sym next_is)
-
-    -- it does not, or none is looked for
-    pub tag_extent : (path : List Container) (until : BlockEnd)
-        → holds_end until (line_of p) ≡ false → html_to_end text path until p ≡ with_line p (extent_from text path (tag_judge until) next)
-    tag_extent path until held =
-        ap (λ t. extent_by (if t then IsLast p else GoesOn p) p (lines_from text (after_line_at text (offset p)))
-        (extent_from text path (tag_judge until) (after_line_at text (offset p)))) held
-        ∙ ap (with_line p) (after_first path (tag_judge until))
-
-    pub blank_extent : (path : List Container) → html_to_blank text path p ≡ with_line p (extent_from text path blank_judge next)
-    blank_extent path = ap (with_line p) (after_first path blank_judge)
-
-    -- the containers around the block are those around its lines
-    path_by : AreIn (length g.nodes) g.spine → AreIn (length opened.nodes) opened.spine → path_of options one ≡ path_of options g
-    path_by there in_opened =
-        lines_path range_html (document text options named) (with_line (owing columns p) (extent_to next [])) (extent_to next []) opened one
-        (first_read (extent_to next [])) in_opened ∙ opened_path options g opened start HtmlBlock refl refl there
-
-    -- the block has one line
+    -- the block has one line, which contains its end
     pub html_one : (until : BlockEnd) (new : Forest Item) → holds_end until (line_of p) ≡ true → new ≡ closed_by one next one.spine
         → (
         let e = html_to_end text (path_of options g) until p in
         AddsRaw (document text options named) (λ d. IsHtml d start columns e.places e.«end») e.left g new next)
-    html_one until new held new_is = whole_added named (html_to_end text (path_of options g) until p) (extent_to next (lines_from text next)) one new next next
-        (held_extent (path_of options g) until held) only_first new_is
+    html_one until new held new_is =
+        let further : Extent = extent_to next (lines_from text next) in
+        whole_added named (html_to_end text (path_of options g) until p) further one new next next
+        (ap (λ t. extent_by (if t then IsLast p else GoesOn p) p (lines_from text (after_line_at text (offset p)))
+        (extent_from text (path_of options g) (tag_judge until) (after_line_at text (offset p)))) held
+        ∙ ap (λ k. with_line p (extent_to k (lines_from text (after_line_at text (offset p))))) (sym first_end)
+        ∙ ap (λ k. with_line p (extent_to next (lines_from text k))) (sym next_at))
+        (lines_end (first_read further) next next refl) new_is
 
-    -- it has more lines after the first
-    module _ (names : Names) (judge : Place → Place → Verdict) (two : Forest Item) (e : Extent) (stop left : ℕ) (path : path_of options one ≡ path_of options g)
-        (lines : AppendsLines range_html (document text options names) (extent_from text (path_of options one) judge next) one two stop left)
-        (e_is : e ≡ with_line p (extent_from text (path_of options g) judge next)) where
-      pub html_more : (new : Forest Item) → Extends names named → new ≡ closed_by two stop two.spine
+    -- the first line does not contain the end of the block, or none is looked for
+    pub tag_extent : (until : BlockEnd)
+        → holds_end until (line_of p) ≡ false
+        → html_to_end text (path_of options g) until p ≡ with_line p (extent_from text (path_of options g) (tag_judge until) next)
+    tag_extent until held =
+        ap (λ t. extent_by (if t then IsLast p else GoesOn p) p (lines_from text (after_line_at text (offset p)))
+        (extent_from text (path_of options g) (tag_judge until) (after_line_at text (offset p)))) held
+        ∙ ap (λ k. with_line p (extent_from text (path_of options g) (tag_judge until) k)) (sym next_at)
+
+    pub blank_extent : html_to_blank text (path_of options g) p ≡ with_line p (extent_from text (path_of options g) blank_judge next)
+    blank_extent = ap (λ k. with_line p (extent_from text (path_of options g) blank_judge k)) (sym next_at)
+
+    -- the block has more lines after the first
+    module _ {names : Names} {further : Extent} {two : Forest Item} {stop left : ℕ} (extends : Extends names named)
+        (lines : AppendsLines range_html (document text options names) further one two stop left) where
+      more_read : AppendsLines range_html (document text options names) (with_line (owing columns p) further) opened two stop left
+      more_read =
+          let s = first_read further in
+          record {
+            chain = s.chain ++ lines.chain;
+            tree_is = lines.tree_is ∙ ap (λ f. chained f lines.chain) s.tree_is ∙ chained-append opened s.chain lines.chain;
+            lines = λ more f. s.continues more (s.chain ++ lines.chain) (extends_both more names named f extends)
+                (subst (λ c. AreRawLines range_html (document text options more) c further.places (s.chain ++ lines.chain)) (append-nil s.chain)
+                (html_after (document text options more) s.chain [] further.places lines.chain (lines.lines more f)));
+            end_is = lines.end_is ∙ sym s.end_is;
+            left_is = lines.left_is ∙ sym s.left_is;
+          }
+
+      pub html_more : (e : Extent) (new : Forest Item) → e ≡ with_line p further → new ≡ closed_by two stop two.spine
           → AddsRaw (document text options names) (λ d. IsHtml d start columns e.places e.«end») e.left g new left
-      html_more new extends new_is =
-          let further : Extent = extent_from text (path_of options g) judge next in
-          let here = subst (λ path. AppendsLines range_html (document text options names) (extent_from text path judge next) one two stop left) path lines in
-          whole_added names e further two new stop left e_is (first_then names further two stop left extends here) new_is
+      html_more e new e_is new_is = whole_added names e further two new stop left e_is more_read new_is
 
   -- it is still open after its first line, and after the others
+  open_with : {d : Document} {whole : Extent} {two : Forest Item} {stop left : ℕ} → AppendsLines range_html d whole opened two stop left
+      → IsSome (slice_get two.spine 0)
+  open_with {d} {whole} {two} {stop} {left} lines =
+      still_open g two (begun_item start HtmlBlock) lines.chain (record { 0 = length g.nodes }) refl lines.tree_is
+
   pub one_open : IsSome (slice_get one.spine 0)
   one_open =
-      let p : Place = first_at text start 0 in
-      block_open (block_filled named (with_line (owing columns p) (extent_to next (lines_from text next))) one next next (only_first p (first_is text start 0)))
+      open_with (lines_end (first_read (first_at text start 0) (first_is text start 0) (extent_to next (lines_from text next))) next next refl)
 
-  pub more_open : (names : Names) (further : Extent) (two : Forest Item) (stop left : ℕ)
+  pub more_open : {names : Names} {further : Extent} {two : Forest Item} {stop left : ℕ}
       → Extends names named → AppendsLines range_html (document text options names) further one two stop left → IsSome (slice_get two.spine 0)
-  more_open names further two stop left extends lines =
-      let p : Place = first_at text start 0 in
-      block_open (block_filled names (with_line (owing columns p) further) two stop left
-      (first_then p (first_is text start 0) names further two stop left extends lines))
+  more_open extends lines = open_with (more_read (first_at text start 0) (first_is text start 0) extends lines)
 
+  -- the containers around the block are those around its lines
   pub first_path : AreIn (length g.nodes) g.spine → AreIn (length opened.nodes) opened.spine → path_of options one ≡ path_of options g
-  first_path there in_opened = path_by (first_at text start 0) (first_is text start 0) there in_opened
+  first_path there in_opened =
+      lines_path (first_read (first_at text start 0) (first_is text start 0) (extent_to next [])) in_opened
+      ∙ opened_path options g opened start HtmlBlock refl refl there

@@ -1,13 +1,8 @@
 -- The lines and the end of a metadata block.
 use Rattle.std.proofs.Common.{◌≡◌, ℕ, refl, ap, ◌∙◌}
-use Rattle.first_pass_items.specs.declared.item.Item.{Item}
-use Rattle.first_pass_items.specs.declared.item.ItemBody.TheVariants.{MetadataBlock}
+use Rattle.first_pass_grammar.proofs.Common.{Item, MetadataBlock, Forest, added, Document, block_with, range_text, Extent, metadata_judge, metadata_kind}
+use Rattle.first_pass_grammar.proofs.Common.{IsMetadata}
 use Rattle.first_pass_items.specs.declared.item.MetadataBlockKind.{MetadataBlockKind}
-use Rattle.first_pass_tree.specs.Forest.{Forest, added}
-use Rattle.first_pass_grammar.specs.Leaves.{Document, block_with}
-use Rattle.first_pass_grammar.specs.RawLines.{range_text}
-use Rattle.first_pass_grammar.specs.Extents.{Extent}
-use Rattle.first_pass_grammar.specs.CodeBlocks.{metadata_judge, metadata_kind, IsMetadata}
 use Rattle.first_pass_open.specs.OpenBlock.{closed_by}
 use Rattle.first_pass_open.specs.Path.{path_of}
 use Rattle.first_pass_raw.specs.RawBlocks.{AddsRaw, metadata_after}

@@ -1,27 +1,10 @@
 -- Raw lines after the nodes of a tree: the owed columns, and the bytes.
-use Rattle.std.proofs.Common.{◌≡◌, ℕ, zero, suc, ◌-◌, ◌≤◌, true, false, List, ◌∷◌, ◌++◌, length, refl, sym, ap, ◌∙◌, arith, []}
-use Rattle.std.specs.List.{slice_range}
-use Rattle.std.proofs.lemmas.Bool.{cond-true, cond-false}
-use Rattle.first_pass_items.specs.Bytes.{space}
-use Rattle.first_pass_items.specs.declared.cow_str.CowStr.{CowStr}
-use Rattle.first_pass_items.specs.CowText.{text_of}
-use Rattle.first_pass_items.specs.declared.item.CowIndex.{CowIndex}
-use Rattle.first_pass_items.specs.declared.item.Item.{Item}
-use Rattle.first_pass_items.specs.declared.item.ItemBody.TheVariants.{SynthesizeText}
-use Rattle.first_pass_tree.specs.Forest.{Forest, appended}
-use Rattle.first_pass_tokens.specs.TreeTokens.{with_tokens, chained}
+use Rattle.std.proofs.Common.{◌≡◌, ℕ, zero, suc, ◌-◌, ◌≤◌, true, false, List, ◌∷◌, ◌++◌, refl, sym, ap, ◌∙◌, arith, [], slice_range}
+use Rattle.first_pass_grammar.proofs.Common.{cond-true, cond-false, space, CowIndex, Item, SynthesizeText, Forest, with_tokens, chained, Names, NamesText}
+use Rattle.first_pass_grammar.proofs.Common.{spaces, AreColumns, ends_with_both, Ranges, raw_items}
 use Rattle.first_pass_tokens.proofs.ChainLemmas.{with_tokens-append, with_token-plain}
-use Rattle.first_pass_grammar.specs.Names.{Names, NamesText, Extends}
-use Rattle.first_pass_grammar.specs.RawLines.{spaces, AreColumns, ends_with_both, Ranges, raw_items}
-use Rattle.first_pass_names.specs.TableEntries.{with_named}
-use Rattle.first_pass_names.proofs.NameLemmas.{extends_none, text_last}
+use Rattle.first_pass_names.proofs.NameLemmas.{extends_none}
 use Rattle.first_pass_raw.specs.RawBlocks.{AppendsColumns, AppendsRaw}
-
--- the index of a newly appended text names it, also if more is named later
-pub named_last : (old new more : Names) (cow : CowStr) (ix : CowIndex) (text : List ℕ)
-    → new ≡ with_named old cow → ix.0 ≡ length old.texts → text_of cow ≡ text → Extends more new → NamesText more ix text
-named_last old new more cow ix text e at is f =
-    (cow, text_last old new more ix cow at e f, is)
 
 -- up to three spaces
 pub spaces_taken : (n : ℕ) → n ≤ 3 → slice_range (space ∷ space ∷ space ∷ []) 0 n ≡ spaces n
@@ -31,37 +14,23 @@ spaces_taken (suc (suc zero)) h = refl
 spaces_taken (suc (suc (suc zero))) h = refl
 spaces_taken (suc (suc (suc (suc n)))) h = absurd (omega arith)
 
-abbrev columns_item : ℕ → CowIndex → Item
+abbrev pub columns_item : ℕ → CowIndex → Item
 columns_item at ix = record { start = at; «end» = at; body = SynthesizeText ix }
 
-some_columns : (names : Names) (n at : ℕ) (ix : CowIndex) → ¬ (n ≡ 0) → NamesText names ix (spaces n) → AreColumns names n at (columns_item at ix ∷ [])
+-- Owed columns are one text.
+pub some_columns : (names : Names) (n at : ℕ) (ix : CowIndex) → ¬ (n ≡ 0) → NamesText names ix (spaces n) → AreColumns names n at (columns_item at ix ∷ [])
 some_columns names zero at ix h named = absurd (h refl)
 some_columns names (suc n) at ix h named = (ix, named, refl)
-
--- Owed columns are appended as one text.
-pub columns_appended : (names : Names) (ix : CowIndex) (n at : ℕ) (old new : Forest Item)
-    → ¬ (n ≡ 0) → ((more : Names) → Extends more names → NamesText more ix (spaces n))
-    → new ≡ appended old (record { start = at; «end» = at; body = SynthesizeText ix }) → AppendsColumns names n at old new
-columns_appended names ix n at old new some named new_is =
-    record { items = columns_item at ix ∷ []; tree_is = new_is; are = λ more h. some_columns more n at ix some (named more h) }
 
 -- columns are no text, so nothing is joined to them
 columns_plain : (names : Names) (n at : ℕ) (items : List Item) (f : Forest Item) → AreColumns names n at items → chained f items ≡ with_tokens f items
 columns_plain names zero at items f h = ap (chained f) h ∙ sym (ap (with_tokens f) h)
 columns_plain names (suc n) at items f (ix, named, is) = ap (chained f) is ∙ sym (with_token-plain f (columns_item at ix) refl) ∙ sym (ap (with_tokens f) is)
 
--- the bytes of a line
-
+-- the bytes of a line that does not end with `\r\n`
 pub raw_one : (range : Ranges) (text : List ℕ) (from to : ℕ) → ends_with_both text from to ≡ false → raw_items range text from to ≡ range from to
 unfolding raw_items
 raw_one range text from to h = cond-false _ _ _ h
-
-pub raw_two : (range : Ranges) (text : List ℕ) (from to : ℕ)
-    → ends_with_both text from to ≡ true → raw_items range text from to ≡ range from (to - 2) ++ range (to - 1) to
-unfolding raw_items
-raw_two range text from to h = cond-true _ _ _ h
-
--- at the end of a line with `\r\n` are these two bytes
 
 raw_appended : (range : Ranges) (text : List ℕ) (names : Names) (owed from to : ℕ) (old mid new : Forest Item)
     → AppendsColumns names owed from old mid → new ≡ with_tokens mid (raw_items range text from to) → AppendsRaw range text names owed from to old new
@@ -84,6 +53,7 @@ line_one range text names owed from to old mid new c h e =
 pub line_two : (range : Ranges) (text : List ℕ) (names : Names) (owed from to : ℕ) (old mid new : Forest Item)
     → AppendsColumns names owed from old mid → ends_with_both text from to ≡ true
     → new ≡ with_tokens (with_tokens mid (range from (to - 2))) (range (to - 1) to) → AppendsRaw range text names owed from to old new
+unfolding raw_items
 line_two range text names owed from to old mid new c h e =
     raw_appended range text names owed from to old mid new c
-    (e ∙ sym (with_tokens-append mid (range from (to - 2)) (range (to - 1) to)) ∙ ap (with_tokens mid) (sym (raw_two range text from to h)))
+    (e ∙ sym (with_tokens-append mid (range from (to - 2)) (range (to - 1) to)) ∙ ap (with_tokens mid) (sym (cond-true _ _ _ h)))

@@ -1,22 +1,13 @@
 -- Lines without the byte of a fence and without `\r` are whole lines of the fenced code block.
-use Rattle.std.proofs.Common.{◌≡◌, inl, inr, ℕ, zero, suc, ◌+◌, ◌-◌, ◌<◌, ◌≤◌, ◌==◌, ◌&&◌, Bool, true, false, List, [], ◌∷◌, length, drop, get_or, nat_lt}
-use Rattle.std.proofs.Common.{Option, Some, None, unwrap_or, if◌then◌else◌, refl, sym, ap, subst, ◌∙◌, arith, get_or-drop, length-drop, drop-drop}
-use Rattle.std.specs.List.{prefix_len}
-use Rattle.std.specs.Option.{option_map}
-use Rattle.std.proofs.lemmas.Bool.{cases_lt, true≢false}
-use Rattle.std.proofs.lemmas.Bool.Decides.{nat_tests}
-use Rattle.std.proofs.lemmas.List.{drop_more}
-use Rattle.std.proofs.lemmas.List.Sums.{prefix_len_passes, prefix_len_stops}
-use Rattle.std.proofs.lemmas.Option.{none-some}
-use Rattle.first_pass_items.specs.Bytes.{line_feed, carriage_return}
-use Rattle.first_pass_lines.specs.Lines.{is_content, eol_len, line_len}
-use Rattle.first_pass_lines.specs.Rest.{Rest, indent, next_column, column_of, column_of_byte, after_columns}
-use Rattle.first_pass_lines.specs.Places.{line_place, line_rest, offset}
-use Rattle.first_pass_lines.proofs.Columns.{after-more, after-none}
+use Rattle.std.proofs.Common.{◌≡◌, inl, inr, ℕ, zero, suc, ◌+◌, ◌-◌, ◌<◌, ◌≤◌, ◌==◌, ◌&&◌, Bool, true, false, List, ◌∷◌, length, drop, get_or, nat_lt}
+use Rattle.std.proofs.Common.{Option, Some, None, unwrap_or, if◌then◌else◌, refl, sym, ap, ◌∙◌, arith, get_or-drop, length-drop, drop-drop, option_map}
+use Rattle.std.proofs.Common.{true≢false}
+use Rattle.first_pass_grammar.proofs.Common.{prefix_len, cases_lt, nat_tests, drop_more, prefix_len_passes, prefix_len_stops, line_feed, carriage_return}
+use Rattle.first_pass_grammar.proofs.Common.{is_content, eol_len, line_len, Rest, indent, after_columns, line_place, line_rest, offset, all_taken}
+use Rattle.first_pass_grammar.proofs.Common.{unindented, ends_with_both, fence_judge}
 use Rattle.first_pass_lines.proofs.LineFacts.{line_len-content_end}
-use Rattle.first_pass_grammar.specs.Kinds.{all_taken, unindented}
-use Rattle.first_pass_grammar.specs.RawLines.{ends_with_both}
-use Rattle.first_pass_grammar.specs.CodeBlocks.{closing_fence_end, fence_verdict, fence_judge}
+use Rattle.first_pass_lines.proofs.PlaceFacts.{columns_hold}
+use Rattle.first_pass_grammar.specs.CodeBlocks.{closing_fence_end, fence_verdict}
 use Rattle.first_pass_raw.specs.declared.raw_line.RawKind.TheVariants.{Code}
 use Rattle.first_pass_raw.specs.RawBlocks.{is_unmarked, IsWhole, AreWhole, after_line_at}
 use Rattle.first_pass_raw.proofs.FencedLemmas.{no_run}
@@ -27,27 +18,12 @@ module _ (bs : List ℕ) (n : ℕ) (feed : get_or bs n 0 ≡ line_feed) where
   abbrev IsInLine : Rest → Type 0
   IsInLine r = (r.left ≡ drop r.taken bs) × (r.taken ≤ n)
 
-  byte_taken : (r s : Rest) (left : List ℕ) → left ≡ drop r.taken bs → r.taken ≤ n → column_of_byte r left ≡ Some s → IsInLine s
-  byte_taken r s [] is within taken = absurd (none-some s taken)
-  byte_taken r s (b ∷ cs) is within taken =
-      let first : b ≡ get_or bs r.taken 0 = ap (λ xs. get_or xs 0 0) is ∙ get_or-drop r.taken bs 0 0 ∙ ap (λ k. get_or bs k 0) (omega arith) in
-      let blank : ¬ (b ≡ line_feed) = λ e. grind (arith, nat_tests, e, taken) in
-      let before : ¬ (r.taken ≡ n) = λ e. blank (first ∙ ap (λ k. get_or bs k 0) e ∙ feed) in
-      let parts : (s.left ≡ cs) × (s.taken ≡ r.taken + 1) = grind (arith, nat_tests, taken) in
-      (parts.0 ∙ ap (drop 1) is ∙ drop-drop 1 r.taken bs ∙ ap (λ k. drop k bs) (sym parts.1), omega (arith, parts.1, before))
-
-  column_taken : (owed : ℕ) (r s : Rest) → IsInLine r → column_of owed r ≡ Some s → IsInLine s
-  column_taken zero r s inside taken = byte_taken r s r.left inside.0 inside.1 taken
-  column_taken (suc owed) r s inside taken = let e : record r { owed = owed } ≡ s = cc in subst IsInLine e inside
-
-  columns_by : (k : ℕ) (r : Rest) (o : Option Rest) → next_column r ≡ o → ((s : Rest) → IsInLine s → IsInLine (after_columns k s)) → IsInLine r
-      → IsInLine (after_columns (suc k) r)
-  columns_by k r None e more inside = subst IsInLine (sym (after-none (suc k) r e)) inside
-  columns_by k r (Some s) e more inside = subst IsInLine (sym (after-more (suc k) k r s refl e)) (more s (column_taken r.owed r s inside e))
-
   columns_taken : (k : ℕ) (r : Rest) → IsInLine r → IsInLine (after_columns k r)
-  columns_taken zero r inside = inside
-  columns_taken (suc k) r inside = columns_by k r (next_column r) refl (columns_taken k) inside
+  columns_taken = columns_hold IsInLine (λ o r inside. inside) (λ b r s small plain left taken inside.
+      let first : b ≡ get_or bs r.taken 0 =
+      ap (λ xs. get_or xs 0 0) (left ∙ inside.0) ∙ get_or-drop r.taken bs 0 0 ∙ ap (λ k. get_or bs k 0) (omega arith) in
+      let before : ¬ (r.taken ≡ n) = λ e. absurd (true≢false (sym plain ∙ ap is_content (first ∙ ap (λ k. get_or bs k 0) e ∙ feed))) in
+      (ap (drop 1) (left ∙ inside.0) ∙ drop-drop 1 r.taken bs ∙ ap (λ k. drop k bs) (sym taken), omega (arith, taken, before, inside.1)))
 
 no_fence_if : (few : Bool) (f : ℕ → ℕ) (o : Option ℕ) → o ≡ None → (if few then option_map f o else None) ≡ None
 no_fence_if true f o none = ap (option_map f) none

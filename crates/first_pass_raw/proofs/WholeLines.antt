@@ -1,25 +1,14 @@
 -- Whole lines of code that no container is around: together they are one text.
-use Rattle.std.proofs.Common.{◌≡◌, ◌⊎◌, inl, inr, ℕ, zero, suc, ◌<◌, ◌≤◌, Bool, true, false, List, [], ◌∷◌, length, drop, reverse, slice_index_or, slice_get, Option, Some, None}
+use Rattle.std.proofs.Common.{◌≡◌, ◌⊎◌, inl, inr, ℕ, zero, suc, ◌<◌, ◌≤◌, Bool, true, false, List, [], ◌∷◌, length, drop, reverse, slice_index_or, Some}
 use Rattle.std.proofs.Common.{IsUtf8, IsCharBoundary, if◌then◌else◌, nat_lt, refl, sym, ap, subst, ◌∙◌, arith}
-use Rattle.std.specs.Option.{option_map, option_and_then}
-use Rattle.std.proofs.lemmas.Bool.{cases_lt}
+use Rattle.first_pass_grammar.proofs.Common.{cases_lt, Item, CowIndex, FencedCodeBlock, Options, TreeIndex, Forest, item_at, Place, line_place, line_rest}
+use Rattle.first_pass_grammar.proofs.Common.{JoinsNone, with_tokens, chained, text_token, add_text, add_token, add_tokens, add_text-none}
+use Rattle.first_pass_grammar.proofs.Common.{with_tokens-chained, after, Document, Verdict, range_text}
 use Rattle.std.proofs.lemmas.List.{reverse-reverse}
-use Rattle.std.proofs.lemmas.Option.{none-some}
-use Rattle.first_pass_items.specs.declared.item.Item.{Item}
-use Rattle.first_pass_items.specs.declared.item.CowIndex.{CowIndex}
-use Rattle.first_pass_items.specs.declared.item.ItemBody.TheVariants.{FencedCodeBlock}
-use Rattle.first_pass_items.specs.declared.option_set.Options.{Options}
-use Rattle.first_pass_tree.specs.declared.tree_index.TreeIndex.{TreeIndex}
-use Rattle.first_pass_tree.specs.Forest.{Forest, item_at, with_text}
-use Rattle.first_pass_lines.specs.Places.{Place, line_place, line_rest}
-use Rattle.first_pass_tokens.specs.TreeTokens.{JoinsNone, with_tokens, chained}
-use Rattle.first_pass_tokens.specs.Chains.{text_token, add_text, add_token, add_tokens}
-use Rattle.first_pass_tokens.proofs.ChainLemmas.{add_text-none, add_text-joined, with_tokens-chained, with_text-chained, with_text-none}
-use Rattle.first_pass_grammar.specs.Containers.{after}
-use Rattle.first_pass_grammar.specs.Leaves.{Document}
-use Rattle.first_pass_grammar.specs.Extents.{Verdict}
-use Rattle.first_pass_grammar.specs.RawLines.{range_text}
+use Rattle.first_pass_tree.specs.Forest.{with_text}
+use Rattle.first_pass_tokens.proofs.ChainLemmas.{add_text-joined, with_text-chained, with_text-none}
 use Rattle.first_pass_open.specs.Path.{path_of, container_of, with_container}
+use Rattle.first_pass_open.proofs.FrontLemmas.{container_is}
 use Rattle.first_pass_open.proofs.PathLemmas.{AreIn}
 use Rattle.first_pass_open.proofs.PlaceLemmas.{line_start_end}
 use Rattle.first_pass_names.proofs.NameLemmas.{extends_none}
@@ -41,17 +30,12 @@ only_open spine [] none is some one = absurd (omega arith)
 only_open spine (x ∷ y ∷ xs) none is some one = absurd (omega arith)
 only_open spine (x ∷ []) none is some one = sym (reverse-reverse spine) ∙ sym (ap reverse is)
 
-body_here : (options : Options) (n : Option (ℕ × Item)) (code : Item)
-    → option_map (λ n. n.1) n ≡ Some code → option_and_then (container_of options) (option_map (λ n. n.1.body) n) ≡ container_of options code.body
-body_here options (Some n) code is = let e : n.1 ≡ code = cc in ap (λ x. container_of options x.body) e
-body_here options None code is = absurd (none-some code is)
-
 -- no container is open if the only open node is a fenced code block
 pub code_path : (options : Options) (f : Forest Item) (ix : TreeIndex) (code : Item) (info : CowIndex)
     → f.spine ≡ ix ∷ [] → item_at f ix ≡ Some code → code.body ≡ FencedCodeBlock info → path_of options f ≡ []
 code_path options f ix code info alone is leaf =
     ap (λ s. path_of options (record f { spine = s })) alone
-    ∙ ap (λ c. with_container c []) (body_here options (slice_get f.nodes ix.0) code is ∙ ap (container_of options) leaf)
+    ∙ ap (λ c. with_container c []) (container_is options f.nodes ix code is ∙ ap (container_of options) leaf)
 
 added_if : (chain : List Item) (x : Item) (t : Bool) → add_tokens chain (if t then x ∷ [] else []) ≡ if t then add_token chain x else chain
 added_if chain x true = refl
@@ -95,7 +79,7 @@ module _ (kind : RawKind) (d : Document) (judge : Place → Place → Verdict) (
         so_far = read;
         there = there;
         line = line;
-        taken = sym (ap (λ path. after path (line_rest (drop at d.text))) (lines_path (range_of kind) d _ _ old (text_to at) read there ∙ none));
+        taken = sym (ap (λ path. after path (line_rest (drop at d.text))) (lines_path read there ∙ none));
         is = whole.goes_on;
       } in
       let appended : LineAppended (range_of kind) d (line_place at (drop at d.text)) (text_to at) = record {

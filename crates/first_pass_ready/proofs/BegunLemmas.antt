@@ -1,32 +1,20 @@
 -- A container is opened in the tree, after the nodes that are already open.
-use Rattle.std.proofs.Common.{◌≡◌, ℕ, suc, ◌+◌, ◌<◌, ◌==◌, Bool, true, false, List, [], ◌∷◌, ◌++◌, length, map, slice_index, Option, Some, None}
-use Rattle.std.proofs.Common.{IfSome, MatchOption, inl, inr, refl, sym, ap, subst, ◌∙◌, arith}
-use Rattle.std.proofs.lemmas.List.{length-map}
-use Rattle.std.proofs.lemmas.Bool.{cases_lt, cases_eq}
-use Rattle.std.specs.Option.{option_and_then}
-use Rattle.first_pass_items.specs.declared.item.Item.{Item}
-use Rattle.first_pass_items.specs.declared.item.ItemBody.{ItemBody}
-use Rattle.first_pass_items.specs.declared.item.ItemBody.TheVariants.{BlockQuote as BlockQuoteBody, List as ListBody, ListItem as ListItemBody}
-use Rattle.first_pass_items.specs.declared.item.ItemBody.TheVariants.{FootnoteDefinition as FootnoteDefinitionBody, DefinitionList, DefinitionListDefinition}
-use Rattle.first_pass_items.specs.declared.option_set.Options.{Options}
-use Rattle.first_pass_tree.specs.declared.tree_index.TreeIndex.{TreeIndex}
-use Rattle.first_pass_tree.specs.Forest.{Forest, IsForest, IsOpenPath, IsLastAt, depths, body_at, in_table, in_table_by, appended, pushed}
-use Rattle.first_pass_lines.specs.Places.{Place}
+use Rattle.std.proofs.Common.{◌≡◌, ℕ, suc, ◌+◌, Bool, false, List, [], ◌∷◌, ◌++◌, length, map, Option, Some, None, IfSome, MatchOption, refl, sym, ap}
+use Rattle.std.proofs.Common.{subst, ◌∙◌, arith, option_and_then}
+use Rattle.first_pass_grammar.proofs.Common.{length-map, Item, ItemBody, DefinitionList, Options, TreeIndex, Forest, IsForest, IsOpenPath, IsLastAt, depths}
+use Rattle.first_pass_grammar.proofs.Common.{body_at, in_table, appended, pushed, Place, Document, around, footnote_head_at, Start, start_at, Continues}
+use Rattle.first_pass_grammar.proofs.Common.{Opening, Level, may_define, opening_of, OpensBy, OpensFootnote, Opens, Tables, OtherClosed, Frame, InContainer}
+use Rattle.first_pass_grammar.proofs.Common.{containers_of, AreBelow, IsPlain, last-order}
+use Rattle.first_pass_tree.specs.Forest.{in_table_by}
 use Rattle.first_pass_grammar.specs.declared.kind.Container.{Container}
-use Rattle.first_pass_grammar.specs.Leaves.{Document, around}
-use Rattle.first_pass_grammar.specs.Footnotes.{footnote_head_at}
-use Rattle.first_pass_grammar.specs.Openers.{Start, start_at}
-use Rattle.first_pass_grammar.specs.Skeleton.{Continues, Opening, Level, may_define, opening_of, OpensBy, OpensFootnote, Opens}
-use Rattle.first_pass_grammar.specs.Derivation.{Tables}
-use Rattle.first_pass_grammar.specs.Completion.{OtherClosed, Frame, InContainer, InList, InDefinitions, containers_of, AreBelow, IsPlain}
 use Rattle.first_pass_completion.proofs.Completions.{fresh}
 use Rattle.first_pass_grammar.proofs.Sequences.Finishes.{CompletesAt}
 use Rattle.first_pass_open.specs.Path.{path_of}
 use Rattle.first_pass_lists.specs.Closing.{top_body, is_list}
 use Rattle.first_pass_lists.specs.declared.state.PassState.{PassState}
 use Rattle.first_pass_ready.specs.State.{is_footnote_in_another, frame_of, AreOpen, closed_none, closed_in, ReadyAt}
-use Rattle.first_pass_ready.proofs.ClosedIn.{definitions_no_container, list_at, definitions_at, IsTop, top_of}
-use Rattle.first_pass_ready.proofs.OpenLemmas.{open_path, open_below, frame-append, get_end}
+use Rattle.first_pass_ready.proofs.ClosedIn.{plain_top, top_of}
+use Rattle.first_pass_ready.proofs.OpenLemmas.{open_path, open_below, HasFrame, has_frame, frame-append, get_end}
 use Rattle.first_pass_ready.proofs.PopLemmas.{ready_as}
 
 -- a node that is opened after others
@@ -44,8 +32,8 @@ pub depth_of : (s : List TreeIndex) → suc (length (map (λ (i : TreeIndex). i.
 depth_of s = let k = length-map s (λ (i : TreeIndex). i.0) in omega arith
 
 -- an innermost node whose frame is a container has no child yet
-none_there : (options : Options) (b : ItemBody) (c : Container) → frame_of options b ≡ Some (InContainer c) → closed_none (Some b) ≡ OtherClosed
-none_there options (DefinitionList flags) c h = absurd (definitions_no_container (flags.0 == 1) (flags.0 == 0) c h)
+none_there : (options : Options) (b : ItemBody) (c : Container) → HasFrame options (Some b) (InContainer c) → closed_none (Some b) ≡ OtherClosed
+none_there options (DefinitionList flags) c h = cc
 none_there options b c h = refl
 
 -- the tree with an item opened in the innermost open node
@@ -76,7 +64,8 @@ pub begun_ready : (d : Document) (defined : Tables) (f : Forest Item) (x : Item)
 begun_ready d defined f x c frames from lines is apart o k =
     let g : Forest Item = with_open f x in
     let os : List ℕ = map (λ (i : TreeIndex). i.0) f.spine in
-    let none : closed_in g ≡ OtherClosed = ap closed_none (top_opened f x) ∙ none_there d.options x.body c is in
+    let none : closed_in g ≡ OtherClosed =
+    ap closed_none (top_opened f x) ∙ none_there d.options x.body c (has_frame d.options (Some x.body) (InContainer c) is) in
     let open_now = opened_too d.options f.nodes (length f.spine + 1) x f.spine frames (InContainer c) is apart k.below.1 o in
     record {
       ready = ready_as d defined g false from lines (InContainer c ∷ frames) OtherClosed none open_now tt
@@ -100,40 +89,15 @@ opens_start d l p lines s bare begins =
     opens_bare d l p lines opening bare (subst (λ o. OpensBy d l.path p lines o opening) (sym begins) refl)
 
 -- if the innermost open node is no list, neither is its frame
-pub plain_top : (options : Options) (top : Option ItemBody) (frames : List Frame) → IsTop options top frames → is_list top ≡ false → IsPlain frames
-plain_top options top [] is none = tt
-plain_top options top (InContainer c ∷ frames) is none = tt
-plain_top options top (InList byte loose ∷ frames) is none =
-    let b = list_at options top byte loose is in let t : is_list top ≡ true = ap is_list b.3 in cc
-plain_top options top (InDefinitions loose ∷ frames) is none =
-    let b = definitions_at options top loose is in let t : is_list top ≡ true = ap is_list b.1 in cc
-
 pub plain_open : (options : Options) (f : Forest Item) (frames : List Frame) → AreOpen options f.nodes f.spine frames → is_list (top_body f) ≡ false
     → IsPlain frames
 plain_open options f frames o none = plain_top options (top_body f) frames (top_of options f.nodes f.spine frames o) none
 
 -- the current node is after the open nodes
-not_before : (ds : List ℕ) (d i c : ℕ) → IsLastAt ds d i → IsLastAt ds (suc d) c → c < i → ⊥
-not_before ds d i c first last h = let b = last.following i h first.within in let e = first.depth in absurd (omega arith)
-
-not_same : (ds : List ℕ) (d i c : ℕ) → IsLastAt ds d i → IsLastAt ds (suc d) c → c ≡ i → ⊥
-not_same ds d i c first last h = let e = first.depth in let k = ap (slice_index ds) h in let l = last.depth in absurd (omega arith)
-
-last_after : (ds : List ℕ) (d i c : ℕ) → IsLastAt ds d i → IsLastAt ds (suc d) c → i < c
-last_after ds d i c first last = elim (cases_lt i c) [
-  | inl less ↦ less
-  | inr more ↦ elim (cases_eq c i) [
-    | inl same ↦ absurd (not_same ds d i c first last same)
-    | inr other ↦ absurd (not_before ds d i c first last (omega arith))
-  ]
-]
-
 current_by : (ds : List ℕ) (n c : ℕ) (s : List TreeIndex) → IsOpenPath ds s → IsLastAt ds (length s + 1) c
     → AreBelow n (map (λ (i : TreeIndex). i.0) s) → AreBelow c (map (λ (i : TreeIndex). i.0) s)
 current_by ds n c [] path last below = tt
-current_by ds n c (ix ∷ s) path last below =
-    let k : length (ix ∷ s) + 1 ≡ suc (length s + 1) = omega arith in
-    (last_after ds (length s + 1) ix.0 c path.0 (subst (λ z. IsLastAt ds z c) k last), below.1)
+current_by ds n c (ix ∷ s) path last below = (last-order ds (length s + 1) (length (ix ∷ s) + 1) ix.0 c path.0 last (omega arith), below.1)
 
 pub current_after : (f : Forest Item) (c : TreeIndex) → IsForest f → f.current ≡ Some c
     → AreBelow (length f.nodes) (map (λ (i : TreeIndex). i.0) f.spine) → AreBelow c.0 (map (λ (i : TreeIndex). i.0) f.spine)
@@ -142,19 +106,9 @@ current_after f c forest current below =
     (subst (λ z. IfSome z (λ (c : TreeIndex). IsLastAt (depths f.nodes) (length f.spine + 1) c.0)) current forest.at_current) below
 
 -- If only containers and lists are open, no table is.
-no_table_by : (options : Options) (b : ItemBody) (frame : Frame) (outer : Bool) → frame_of options b ≡ Some frame → in_table_by outer (Some b) ≡ false
-no_table_by options (BlockQuoteBody kind) frame outer is = refl
-no_table_by options (ListItemBody columns) frame outer is = refl
-no_table_by options (FootnoteDefinitionBody label) frame outer is = refl
-no_table_by options (DefinitionListDefinition columns) frame outer is = refl
-no_table_by options (ListBody flags byte number) frame outer is = refl
-no_table_by options (DefinitionList flags) frame outer is = refl
-no_table_by options b frame outer is = cc
-
 no_table_at : (options : Options) (o : Option ItemBody) (frame : Frame) (outer : Bool) → option_and_then (frame_of options) o ≡ Some frame
     → in_table_by outer o ≡ false
-no_table_at options None frame outer is = refl
-no_table_at options (Some b) frame outer is = no_table_by options b frame outer is
+no_table_at options o frame outer is = grind (arith, is)
 
 pub no_table : (options : Options) (nodes : List (ℕ × Item)) (spine : List TreeIndex) (frames : List Frame) → AreOpen options nodes spine frames
     → in_table nodes spine ≡ false

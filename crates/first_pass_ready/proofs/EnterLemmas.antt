@@ -1,37 +1,21 @@
 -- A line is entered after the prefixes of the containers that it continues: a blank line is read, or blocks begin at
 -- a place in it.
-use Rattle.std.proofs.Common.{◌≡◌, ℕ, zero, suc, ◌+◌, ◌<◌, ◌==◌, nat_lt, Bool, true, false, not, ◌||◌, ◌&&◌, List, [], ◌∷◌, length, map, drop}
-use Rattle.std.proofs.Common.{Option, Some, None, is_some, refl, sym, ap, subst, ◌∙◌, arith, if◌then◌else◌, MatchOption}
-use Rattle.std.proofs.lemmas.Bool.Decides.{nat_tests}
-use Rattle.std.specs.List.{prefix_len}
-use Rattle.std.specs.Option.{option_map, option_map_or, option_and_then}
-use Rattle.first_pass_items.specs.declared.item.Item.{Item}
-use Rattle.first_pass_items.specs.declared.item.ItemBody.{ItemBody}
-use Rattle.first_pass_items.specs.declared.item.ItemBody.TheVariants.{BlockQuote as BlockQuoteBody, List as ListBody, ListItem as ListItemBody}
-use Rattle.first_pass_items.specs.declared.item.ItemBody.TheVariants.{FootnoteDefinition as FootnoteDefinitionBody, DefinitionList, DefinitionListDefinition}
-use Rattle.first_pass_tree.specs.declared.tree_index.TreeIndex.{TreeIndex}
-use Rattle.first_pass_tree.specs.Forest.{Forest, with_body_at, body_at}
-use Rattle.first_pass_items.specs.Bytes.{tab, line_feed, carriage_return, space, colon, greater_than, left_bracket, circumflex}
-use Rattle.first_pass_items.specs.OptionWords.{has, footnotes}
-use Rattle.first_pass_links.specs.Footnotes.{footnote_head}
-use Rattle.first_pass_lines.specs.Lines.{begins, is_white, eol_len, blank_len}
-use Rattle.first_pass_lines.specs.Rest.{Rest, column_of_byte, next_column, after_columns, indent, past_quote_byte}
-use Rattle.first_pass_scan.specs.LeafLines.{hrule_len}
-use Rattle.first_pass_scan.specs.Markers.{bullet_marker, ordered_marker, list_marker, item_by, item_of, definition_of}
-use Rattle.first_pass_lines.specs.Places.{Place}
+use Rattle.std.proofs.Common.{◌≡◌, ℕ, zero, suc, ◌+◌, ◌<◌, ◌==◌, nat_lt, Bool, true, false, not, ◌||◌, ◌&&◌, List, [], ◌∷◌, length, map, drop, Option, Some}
+use Rattle.std.proofs.Common.{None, is_some, refl, sym, ap, subst, ◌∙◌, arith, if◌then◌else◌, MatchOption, option_map, option_and_then}
+use Rattle.first_pass_grammar.proofs.Common.{nat_tests, prefix_len, option_map_or, Item, ItemBody, DefinitionListDefinition, TreeIndex, Forest}
+use Rattle.first_pass_grammar.proofs.Common.{with_body_at, body_at, line_feed, carriage_return, colon, greater_than, left_bracket, circumflex, has}
+use Rattle.first_pass_grammar.proofs.Common.{footnotes, footnote_head, begins, is_white, eol_len, blank_len, Rest, column_of_byte, next_column}
+use Rattle.first_pass_grammar.proofs.Common.{after_columns, indent, past_quote_byte, hrule_len, list_marker, item_of, definition_of, Place, Context}
+use Rattle.first_pass_grammar.proofs.Common.{at_rest, has_columns, prefix, after, is_quote, Before, Last, list_is_open, Blank, all_taken, unindented}
+use Rattle.first_pass_grammar.proofs.Common.{is_blank_rest, definition_marker_at, footnote_prefix, footnote_at, footnote_head_at, start_at, Document}
+use Rattle.first_pass_grammar.proofs.Common.{around, BlankLine, Line, Inside, Blanks, Opening, OpensLeaf, OpensFootnote, OpensAs, Opens, is_blank_after}
+use Rattle.first_pass_grammar.proofs.Common.{next_is_blank, Level, level, may_define, Lines, end_before, OpensBy, Tables, node_of, Closed, Frame}
+use Rattle.first_pass_grammar.proofs.Common.{InContainer, containers_of, AreBelow, last_plain, body-changed, body-other, or-true, or-false, and-true}
+use Rattle.first_pass_grammar.proofs.Common.{cond-false, and_left, and_right, Options}
+use Rattle.first_pass_scan.specs.Markers.{bullet_marker, ordered_marker, item_by}
 use Rattle.first_pass_grammar.specs.declared.kind.Container.{Container}
-use Rattle.first_pass_grammar.specs.declared.kind.Container.TheVariants.{BlockQuote, ListItem, FootnoteDefinition, Definition}
-use Rattle.first_pass_grammar.specs.Containers.{Context, at_rest, has_columns, prefix, after, footnote_columns, is_quote, in_quote}
-use Rattle.first_pass_grammar.specs.Before.{Before, Last, LastItem, list_is_open}
-use Rattle.first_pass_grammar.specs.Kinds.{Blank, all_taken, unindented, is_blank_rest, item_at, definition_marker_at}
-use Rattle.first_pass_grammar.specs.Footnotes.{footnote_prefix, footnote_at, footnote_head_at}
-use Rattle.first_pass_grammar.specs.Openers.{start_at}
-use Rattle.first_pass_grammar.specs.Leaves.{Document, around}
-use Rattle.first_pass_grammar.specs.Blocks.{BlankLine}
-use Rattle.first_pass_grammar.specs.Skeleton.{Continues, Line, Inside, Blanks, Opening, OpensLeaf, OpensFootnote, OpensAs, Opens, is_blank_after}
-use Rattle.first_pass_grammar.specs.Skeleton.{next_is_blank, Level, level, may_define, Lines, end_before, OpensBy}
-use Rattle.first_pass_grammar.specs.Derivation.{Tables, node_of}
-use Rattle.first_pass_grammar.specs.Completion.{Closed, Frame, InContainer, InList, InDefinitions, containers_of, AreBelow, last_plain, last_defined}
+use Rattle.first_pass_grammar.specs.declared.kind.Container.TheVariants.{BlockQuote}
+use Rattle.first_pass_grammar.specs.Kinds.{item_at}
 use Rattle.first_pass_grammar.proofs.Sequences.Finishes.{CompletesAt, Tail}
 use Rattle.first_pass_completion.proofs.Extending.{tail, lvl}
 use Rattle.first_pass_grammar.proofs.Sequences.Goings.{stops_blank}
@@ -39,28 +23,23 @@ use Rattle.first_pass_open.proofs.BlankPlaces.{blank_kind}
 use Rattle.first_pass_completion.proofs.States.{open_nodes}
 use Rattle.first_pass_completion.proofs.Completions.{counted_after, completes-enter, completes-blank_line, completes-only_blank}
 use Rattle.first_pass_open.specs.OpenBlock.{closed_by}
-use Rattle.first_pass_lists.specs.Closing.{top_body, is_item, popped_by, popped, empty_item_closed_by, empty_item_closed, item_without_indent, definition_without_indent, blank_read_by}
-use Rattle.first_pass_lists.specs.Closing.{blank_read}
+use Rattle.first_pass_lists.specs.Closing.{top_body, is_item, popped, empty_item_closed_by, empty_item_closed, blank_read_by, blank_read}
 use Rattle.first_pass_lists.specs.declared.state.PassState.{PassState}
 use Rattle.first_pass_open.specs.Path.{container_of, container_at, with_container, path_in, path_of}
-use Rattle.first_pass_ready.specs.State.{frame_of, item_columns, body_without_indent, top_without_indent, closed_in, AreOpen, ReadyAt, ReadyBeforeLine}
+use Rattle.first_pass_ready.specs.State.{item_columns, body_without_indent, top_without_indent, closed_in, AreOpen, ReadyAt, ReadyBeforeLine}
 use Rattle.first_pass_ready.specs.State.{ReadyInItem, ReadyEmpty, ReadyWith, Ready}
 use Rattle.first_pass_ready.proofs.OpenLemmas.{open_path}
 use Rattle.first_pass_ready.proofs.OldFootnotes.{ends_here, stays_unblank, stays_in_list, goes_on_at}
-use Rattle.first_pass_tree.proofs.BodyLemmas.{body-changed, body-other, not_changed}
+use Rattle.first_pass_tree.proofs.BodyLemmas.{not_changed}
 use Rattle.first_pass_ready.proofs.PopLemmas.{innermost_in, leave_container}
-use Rattle.first_pass_ready.proofs.StateLemmas.{ready_plain, popped_as, same_path, closed_containers}
-use Rattle.first_pass_ready.proofs.ClosedIn.{items_no_container, definitions_no_container, definitions_at, list_at, top_in, HasDefined, open_defined}
-use Rattle.first_pass_ready.proofs.ClosedIn.{defined_open, plain_not_open}
-use Rattle.first_pass_ready.proofs.ItemBodies.{item_body, item_container, columns_are, item_is, item_columns_of, item_frame, item_path, item_true}
-use Rattle.first_pass_ready.proofs.ItemBodies.{item_no_list, item_no_quote, without_indent_is, after_zero}
-use Rattle.first_pass_items.specs.declared.option_set.Options.{Options}
-use Rattle.first_pass_grammar.proofs.Sequences.OpenerFacts.{marker_where, start_none}
+use Rattle.first_pass_ready.proofs.StateLemmas.{ready_plain, item_popped, same_path, closed_containers}
+use Rattle.first_pass_ready.proofs.ClosedIn.{IsTop, top_of, top_in, HasDefined, open_defined, plain_not_open}
+use Rattle.first_pass_ready.proofs.ItemBodies.{item_body, item_container, item_columns_of, item_path, without_indent_is, after_zero, item_own, item_kind}
+use Rattle.first_pass_grammar.proofs.Sequences.OpenerFacts.{start_none}
 
 -- Columns do not change whether a line is blank.
 some_mapped : (o : Option ℕ) (f : ℕ → ℕ) → is_some (option_map f o) ≡ is_some o
-some_mapped None f = refl
-some_mapped (Some n) f = refl
+some_mapped o f = grind arith
 
 white_first : (b : ℕ) (bs : List ℕ) → is_white b ≡ true → is_some (blank_len (b ∷ bs)) ≡ is_some (blank_len bs)
 white_first b bs h =
@@ -71,25 +50,9 @@ white_first b bs h =
     some_mapped (eol_len (drop m (b ∷ bs))) (λ k. m + k) ∙ ap (λ j. is_some (eol_len (drop j (b ∷ bs)))) (first ∙ z)
     ∙ sym (some_mapped (eol_len (drop n bs)) (λ k. n + k))
 
-space_white : (b : ℕ) → (b == space) ≡ true → is_white b ≡ true
-space_white b h = grind (arith, nat_tests, h)
-
-tab_white : (b : ℕ) → (b == tab) ≡ true → is_white b ≡ true
-tab_white b h = grind (arith, nat_tests, h)
-
-byte_by : (t u : Bool) (s x y : Rest) (b : ℕ) (bs : List ℕ) → (b == space) ≡ t → (b == tab) ≡ u → x.left ≡ bs → y.left ≡ bs
-    → (if t then Some x else (if u then Some y else None)) ≡ Some s → is_some (blank_len s.left) ≡ is_some (blank_len (b ∷ bs))
-byte_by true u s x y b bs h g e f k =
-    let z : x ≡ s = cc in
-    ap (λ (q : Rest). is_some (blank_len q.left)) (sym z) ∙ ap (λ l. is_some (blank_len l)) e ∙ sym (white_first b bs (space_white b h))
-byte_by false true s x y b bs h g e f k =
-    let z : y ≡ s = cc in
-    ap (λ (q : Rest). is_some (blank_len q.left)) (sym z) ∙ ap (λ l. is_some (blank_len l)) f ∙ sym (white_first b bs (tab_white b g))
-byte_by false false s x y b bs h g e f k = cc
-
 byte_column : (r s : Rest) (left : List ℕ) → column_of_byte r left ≡ Some s → is_some (blank_len s.left) ≡ is_some (blank_len left)
 byte_column r s [] h = cc
-byte_column r s (b ∷ bs) h = byte_by (b == space) (b == tab) s _ _ b bs refl refl refl refl h
+byte_column r s (b ∷ bs) h = grind (arith, nat_tests, h, white_first b bs)
 
 column_by : (o : ℕ) (r s : Rest) → r.owed ≡ o → next_column r ≡ Some s → is_blank_rest s ≡ is_blank_rest r
 column_by zero r s e h = byte_column r s r.left (let z : column_of_byte r r.left ≡ next_column r = rw e refl in z ∙ h)
@@ -106,18 +69,14 @@ blank_columns zero r = refl
 blank_columns (suc k) r = columns_by k r (next_column r) refl (λ s. blank_columns k s)
 
 item_blank_by : (t : Bool) (n : ℕ) (q : Rest) → is_blank_after (if t then Some (after_columns n q) else None) ≡ true → is_blank_rest q ≡ true
-item_blank_by true n q h = sym (blank_columns n q) ∙ h
-item_blank_by false n q h = cc
-
-item_blank : (b : ItemBody) (n : ℕ) (q : Rest) → is_blank_after (prefix (item_container b n) q) ≡ true → is_blank_rest q ≡ true
-unfolding prefix
-item_blank (DefinitionListDefinition columns) n q h = item_blank_by (has_columns n q) n q h
-item_blank b n q h = item_blank_by (has_columns n q) n q h
+item_blank_by t n q h = grind (arith, h, blank_columns)
 
 blank_after_item : (b : ItemBody) (n : ℕ) (o : Option Rest) → is_blank_after (option_and_then (prefix (item_container b n)) o) ≡ true
     → is_blank_after o ≡ true
+unfolding prefix
 blank_after_item b n None h = h
-blank_after_item b n (Some q) h = item_blank b n q h
+blank_after_item (DefinitionListDefinition columns) n (Some q) h = item_blank_by (has_columns n q) n q h
+blank_after_item b n (Some q) h = item_blank_by (has_columns n q) n q h
 
 -- a line that is blank after the prefix of an item or a definition is blank after those of the containers around it
 pub blank_after : (b : ItemBody) (n : ℕ) (path : List Container) (r : Rest)
@@ -134,19 +93,24 @@ first_by t u v b bs e f g h = refl
 first_of_blank : (b : ℕ) (bs : List ℕ) → is_some (blank_len (b ∷ bs)) ≡ true → (is_white b || ((b == line_feed) || (b == carriage_return))) ≡ true
 first_of_blank b bs h = first_by (is_white b) (b == line_feed) (b == carriage_return) b bs refl refl refl h
 
+-- nor does a byte that is neither white space nor a line ending
+blank_begins : (c : ℕ) → (is_white c || ((c == line_feed) || (c == carriage_return))) ≡ false → (bs : List ℕ) → is_some (blank_len bs) ≡ true
+    → begins c bs ≡ false
+blank_begins c other [] h = refl
+blank_begins c other (b ∷ bs) h = let f = first_of_blank b bs h in grind (arith, nat_tests, f, other)
+
+none_if : {A : Type 0} (t : Bool) (o : Option A) → o ≡ None → (if t then o else None) ≡ None
+none_if t o none = grind (arith, none)
+
 no_quote_byte : (r : Rest) (left : List ℕ) → is_some (blank_len left) ≡ true → past_quote_byte r left ≡ None
 no_quote_byte r [] h = refl
-no_quote_byte r (b ∷ bs) h = let f = first_of_blank b bs h in let z : (b == greater_than) ≡ false = grind (arith, nat_tests, f) in rw z refl
-
-no_quote_rest : (t : Bool) (r : Rest) → is_blank_rest r ≡ true → (if t then past_quote_byte r r.left else None) ≡ None
-no_quote_rest true r h = no_quote_byte r r.left h
-no_quote_rest false r h = refl
+no_quote_byte r (b ∷ bs) h = cond-false (b == greater_than) _ None (blank_begins greater_than refl (b ∷ bs) h)
 
 no_quote : (r : Rest) → is_blank_rest r ≡ true → prefix (BlockQuote None) r ≡ None
 unfolding prefix
 no_quote r h =
     let q : Rest = after_columns 3 r in
-    ap (option_map (after_columns 1)) (no_quote_rest (q.owed == 0) q (blank_columns 3 r ∙ h))
+    ap (option_map (after_columns 1)) (none_if (q.owed == 0) _ (no_quote_byte q q.left (blank_columns 3 r ∙ h)))
 
 marker_by : (b : ℕ) (bs : List ℕ)
     → (is_white b || ((b == line_feed) || (b == carriage_return))) ≡ true
@@ -158,72 +122,33 @@ unfolding list_marker
 no_marker [] h = refl
 no_marker (b ∷ bs) h = let f = first_of_blank b bs h in marker_by b bs f
 
-no_item_of : (t : Bool) (outer : ℕ) (r : Rest) → is_blank_rest r ≡ true → (if t then item_by outer r (list_marker r.left) else None) ≡ None
-no_item_of true outer r h = ap (item_by outer r) (no_marker r.left h)
-no_item_of false outer r h = refl
-
-no_item_by : (t : Bool) (r : Rest) → is_blank_rest r ≡ true
-    → (if t then (let q : Rest = all_taken r in if (q.owed == 0) && not (is_some (hrule_len q.left)) then item_by (indent r) q (list_marker q.left) else None)
-    else None) ≡ None
-no_item_by true r h = no_item_of _ (indent r) (all_taken r) (blank_columns (indent r) r ∙ h)
-no_item_by false r h = refl
-
 no_item : (r : Rest) → is_blank_rest r ≡ true → item_at r ≡ None
 unfolding item_at item_of
-no_item r h = no_item_by (nat_lt (indent r) 4) r h
+no_item r h =
+    let q : Rest = all_taken r in
+    none_if (nat_lt (indent r) 4) _
+    (none_if ((q.owed == 0) && not (is_some (hrule_len q.left))) _ (ap (item_by (indent r) q) (no_marker q.left (blank_columns (indent r) r ∙ h))))
 
 -- nor does a definition
-colon_by : (b : ℕ) → (is_white b || ((b == line_feed) || (b == carriage_return))) ≡ true → (b == colon) ≡ false
-colon_by b f = grind (arith, nat_tests, f)
-
-no_colon : (bs : List ℕ) → is_some (blank_len bs) ≡ true → begins colon bs ≡ false
-no_colon [] h = refl
-no_colon (b ∷ bs) h = colon_by b (first_of_blank b bs h)
-
-no_definition_of : (t u : Bool) (x : ℕ × Rest) → u ≡ false → (if t && u then Some x else None) ≡ None
-no_definition_of true u x h = rw h refl
-no_definition_of false u x h = refl
-
-no_definition_by : (t : Bool) (o : Option (ℕ × Rest)) → o ≡ None → (if t then o else None) ≡ None
-no_definition_by true o h = h
-no_definition_by false o h = refl
-
 no_definition : (r : Rest) → is_blank_rest r ≡ true → definition_marker_at r ≡ None
 unfolding definition_marker_at definition_of
 no_definition r h =
     let q : Rest = all_taken r in
-    no_definition_by (nat_lt (indent r) 4) _
-    (no_definition_of (q.owed == 0) (begins colon q.left) _ (no_colon q.left (blank_columns (indent r) r ∙ h)))
-
-no_marker_where : (may : Bool) (p : Place) → is_blank_rest p.rest ≡ true → marker_where may p ≡ None
-no_marker_where true p h = no_definition p.rest h
-no_marker_where false p h = refl
+    none_if (nat_lt (indent r) 4) _ (cond-false ((q.owed == 0) && begins colon q.left) _ None
+    (and_right (q.owed == 0) (begins colon q.left) (blank_begins colon refl q.left (blank_columns (indent r) r ∙ h))))
 
 -- nor does a footnote definition
-bracket_by : (b : ℕ) → (is_white b || ((b == line_feed) || (b == carriage_return))) ≡ true → (b == left_bracket) ≡ false
-bracket_by b f = grind (arith, nat_tests, f)
-
-no_bracket : (bs : List ℕ) → is_some (blank_len bs) ≡ true → begins left_bracket bs ≡ false
-no_bracket [] h = refl
-no_bracket (b ∷ bs) h = bracket_by b (first_of_blank b bs h)
-
-if_not : (t u : Bool) (o : Option (ℕ × List ℕ)) → t ≡ false → (if t && u then o else None) ≡ None
-if_not true u o h = cc
-if_not false u o h = refl
-
 no_head_by : (prefix : List ℕ → Option ℕ) (bs : List ℕ) → begins left_bracket bs ≡ false → footnote_head prefix false bs ≡ None
 unfolding footnote_head
-no_head_by prefix bs h = if_not (begins left_bracket bs) (begins circumflex (drop 1 bs)) _ h
-
-if_none : (t : Bool) (o : Option (ℕ × List ℕ)) → o ≡ None → (if t then o else None) ≡ None
-if_none true o none = none
-if_none false o none = refl
+no_head_by prefix bs h =
+    cond-false (begins left_bracket bs && begins circumflex (drop 1 bs)) _ None (and_left (begins left_bracket bs) (begins circumflex (drop 1 bs)) h)
 
 no_head_at : (around : Context) (p : Place) → is_blank_rest p.rest ≡ true → footnote_head_at around p ≡ None
 unfolding footnote_head_at
 no_head_at around p h =
-    if_none (has around.options footnotes && nat_lt (indent p.rest) 4) (footnote_at false around (unindented p).rest.left)
-    (no_head_by (footnote_prefix around) (unindented p).rest.left (no_bracket (unindented p).rest.left (blank_columns (indent p.rest) p.rest ∙ h)))
+    let left : List ℕ = (unindented p).rest.left in
+    none_if (has around.options footnotes && nat_lt (indent p.rest) 4) (footnote_at false around left)
+    (no_head_by (footnote_prefix around) left (blank_begins left_bracket refl left (blank_columns (indent p.rest) p.rest ∙ h)))
 
 -- a blank line at a place
 pub opens_blank : (d : Document) (l : Level) (p : Place) (lines : List Place)
@@ -235,7 +160,7 @@ opens_blank d l p lines h =
     subst (λ o. MatchOption o (OpensBy d l.path p lines (start_at d.options may p) opening) (λ head. OpensFootnote d p lines head opening))
     (sym (no_head_at (around d l.path) p h))
     (subst (λ o. OpensBy d l.path p lines o opening)
-    (sym (start_none d.options may p (no_item p.rest h) (no_marker_where may p h) (no_quote p.rest h)))
+    (sym (start_none d.options may p (no_item p.rest h) (none_if may _ (no_definition p.rest h)) (no_quote p.rest h)))
     (Blank, blank_kind d.options p.rest h, refl))
 
 -- in a line that all open containers continue
@@ -253,67 +178,27 @@ ready_enter d defined f run line lines r is stays ready =
       silent = ready.silent;
     }
 
-or_true : (a : Bool) → (a || true) ≡ true
-or_true true = refl
-or_true false = refl
-
-or_false : (a : Bool) → (a || false) ≡ a
-or_false true = refl
-or_false false = refl
-
 -- whether a blank line counts, by the innermost open node
 plain_counts : (run quote : Bool) (closed : Closed) → (run || (not quote || list_is_open (last_plain closed))) ≡ (run || not quote)
-plain_counts run quote closed = ap (λ t. run || (not quote || t)) (plain_not_open closed) ∙ ap (λ t. run || t) (or_false (not quote))
+plain_counts run quote closed = ap (λ t. run || (not quote || t)) (plain_not_open closed) ∙ ap (λ t. run || t) (or-false (not quote))
 
 open_counts : (run a : Bool) (last : Last) → list_is_open last ≡ true → (run || (a || list_is_open last)) ≡ true
-open_counts run a last h = ap (λ t. run || (a || t)) h ∙ ap (λ t. run || t) (or_true a) ∙ or_true run
+open_counts run a last h = ap (λ t. run || (a || t)) h ∙ ap (λ t. run || t) (or-true a) ∙ or-true run
 
-container_counts : (options : Options) (r : PassState) (b : Option ItemBody) (c : Container) → option_and_then (frame_of options) b ≡ Some (InContainer c)
+container_counts : (options : Options) (r : PassState) (b : Option ItemBody) (c : Container) → option_and_then (container_of options) b ≡ Some c
     → (r.blank || not (is_quote c)) ≡ (blank_read_by r b).blank
-container_counts options r None c h = cc
-container_counts options r (Some (BlockQuoteBody kind)) c h =
-    let same : BlockQuote kind ≡ c = cc in ap (λ z. r.blank || not (is_quote z)) (sym same) ∙ or_false r.blank
-container_counts options r (Some (ListItemBody columns)) c h =
-    let same : ListItem columns ≡ c = cc in ap (λ z. r.blank || not (is_quote z)) (sym same) ∙ or_true r.blank
-container_counts options r (Some (DefinitionListDefinition columns)) c h =
-    let same : Definition columns ≡ c = cc in ap (λ z. r.blank || not (is_quote z)) (sym same) ∙ or_true r.blank
-container_counts options r (Some (FootnoteDefinitionBody label)) c h =
-    let same : FootnoteDefinition (footnote_columns options) ≡ c = cc in ap (λ z. r.blank || not (is_quote z)) (sym same) ∙ or_true r.blank
-container_counts options r (Some (ListBody flags list number)) c h = absurd (items_no_container (flags.0 == 1) (flags.0 == 0) list c h)
-container_counts options r (Some (DefinitionList flags)) c h = absurd (definitions_no_container (flags.0 == 1) (flags.0 == 0) c h)
-container_counts options r (Some b) c h = cc
+container_counts options r b c h = grind (arith, h)
 
-counts_by : (options : Options) (r : PassState) (closed : Closed) (b : Option ItemBody) (frame : Frame) (frames : List Frame)
-    → option_and_then (frame_of options) b ≡ Some frame → HasDefined (frame ∷ frames) closed
-    → counted_after (frame ∷ frames) (tail closed r.blank) ≡ (blank_read_by r b).blank
-counts_by options r closed b (InContainer c) frames h has = plain_counts r.blank (is_quote c) closed ∙ container_counts options r b c h
-counts_by options r closed b (InList byte loose) frames h has =
-    let l = list_at options b byte loose h in
-    open_counts r.blank (not (in_quote (containers_of frames))) LastItem refl ∙ ap (λ z. (blank_read_by r z).blank) (sym l.3)
-counts_by options r closed b (InDefinitions loose) frames h has =
-    let l = definitions_at options b loose h in
-    open_counts r.blank (not (in_quote (containers_of frames))) (last_defined closed) (defined_open closed has)
-    ∙ ap (λ z. (blank_read_by r z).blank) (sym l.1)
+counts_by : (options : Options) (r : PassState) (closed : Closed) (top : Option ItemBody) (frames : List Frame)
+    → IsTop options top frames → HasDefined frames closed → counted_after frames (tail closed r.blank) ≡ (blank_read_by r top).blank
+counts_by options r closed top frames is has = grind (arith, is, has, container_counts, plain_counts, open_counts)
 
 module _ (d : Document) (defined : Tables) (r : PassState) (p : Place) (lines : List Place) (blank : is_blank_rest p.rest ≡ true) where
-  blank_at : (closed : Closed) (frames : List Frame) (s : List TreeIndex) → AreOpen d.options r.tree.nodes s frames → HasDefined frames closed
-      → counted_after frames (tail closed r.blank) ≡ (blank_read_by r (top_in r.tree.nodes s)).blank
-  blank_at closed [] [] o has = plain_counts r.blank false closed ∙ or_true r.blank
-  blank_at closed (frame ∷ frames) [] o has = absurd o
-  blank_at closed [] (ix ∷ rest) o has = absurd o
-  blank_at closed (frame ∷ frames) (ix ∷ rest) o has = counts_by d.options r closed (body_at r.tree.nodes ix.0) frame frames o.0 has
-
   same_tree : (b : Option ItemBody) → r.begin_list_item ≡ None → (blank_read_by r b).tree ≡ r.tree
-  same_tree (Some (ListItemBody columns)) none = rw none refl
-  same_tree (Some (DefinitionListDefinition columns)) none = rw none refl
-  same_tree b none = refl
+  same_tree b none = grind (arith, none)
 
   same_none : (b : Option ItemBody) → (blank_read_by r b).begin_list_item ≡ r.begin_list_item
-  same_none None = refl
-  same_none (Some (BlockQuoteBody kind)) = refl
-  same_none (Some (ListItemBody columns)) = refl
-  same_none (Some (DefinitionListDefinition columns)) = refl
-  same_none (Some b) = refl
+  same_none b = grind arith
 
   -- a blank line is read, and no item is empty
   pub ready_blank : r.begin_list_item ≡ None → ReadyAt d defined r.tree r.blank (Inside p) lines → Ready d defined (blank_read r) lines
@@ -322,7 +207,8 @@ module _ (d : Document) (defined : Tables) (r : PassState) (p : Place) (lines : 
       let b : Option ItemBody = top_body r.tree in
       let t : Tail = tail (closed_in r.tree) r.blank in
       let counts : counted_after ready.frames t ≡ (blank_read_by r b).blank =
-      blank_at (closed_in r.tree) ready.frames r.tree.spine ready.are_open (open_defined d.options r.tree ready.frames ready.are_open) in
+      counts_by d.options r (closed_in r.tree) b ready.frames (top_of d.options r.tree.nodes r.tree.spine ready.frames ready.are_open)
+      (open_defined d.options r.tree ready.frames ready.are_open) in
       let now : ReadyAt d defined r.tree (counted_after ready.frames t) Line lines = record {
         frames = ready.frames;
         are_open = ready.are_open;
@@ -338,38 +224,6 @@ blank_place : (line : Place) (o : Option Rest) → is_blank_after o ≡ true →
 blank_place line None h = cc
 blank_place line (Some q) h = (q, refl, h)
 
--- the innermost open node is an item or a definition that takes only blank lines
-record InnermostEmptied (f : Forest Item) : Type 0 where
-  place : TreeIndex
-  outer : List TreeIndex
-  body : ItemBody
-  spine : f.spine ≡ place ∷ outer
-  is : body_at f.nodes place.0 ≡ Some (item_body body 0)
-
--- a blank line in it
-only_blank : (d : Document) (defined : Tables) (f : Forest Item) (run : Bool) (e : ℕ) (line : Place) (lines : List Place) (it : InnermostEmptied f)
-    → is_blank_after (after (item_container it.body 0 ∷ path_in d.options f.nodes it.outer) line.rest) ≡ true
-    → ReadyAt d defined f run (Blanks e) (line ∷ lines) → ReadyAt d defined f true (Blanks e) lines
-only_blank d defined f run e line lines it blank ready =
-    let t : Tail = tail (closed_in f) run in
-    let c : Container = item_container it.body 0 in
-    let os : List ℕ = it.place.0 ∷ map (λ (i : TreeIndex). i.0) it.outer in
-    let inner = innermost_in d defined f run (Blanks e) (line ∷ lines) it.place it.outer c it.spine
-    (ap (option_and_then (frame_of d.options)) it.is ∙ item_frame d.options it.body 0) ready in
-    let frames : List Frame = InContainer c ∷ inner.outer in
-    let path : path_in d.options f.nodes it.outer ≡ containers_of inner.outer = open_path d.options f.nodes it.outer inner.outer inner.are_open.1 in
-    let b = blank_place line (after (containers_of frames) line.rest) (subst (λ z. is_blank_after (after (c ∷ z) line.rest) ≡ true) path blank) in
-    record {
-      frames = frames;
-      are_open = subst (λ s. AreOpen d.options f.nodes s frames) (sym it.spine) inner.are_open;
-      completes = subst (λ s. CompletesAt d defined (tail (closed_in f) true) frames f.nodes (map (λ (i : TreeIndex). i.0) s) (Blanks e) lines)
-          (sym it.spine)
-          (completes-only_blank d (open_nodes defined inner.outer f.nodes os) t c e line (at_rest line b.0) lines (item_no_quote it.body 0)
-          (record { continues = ap (option_map (at_rest line)) b.1; blank = b.2 })
-          (opens_blank d (lvl frames t) (at_rest line b.0) lines b.2) inner.completes);
-      silent = ready.silent;
-    }
-
 -- only the nodes before a place matter
 pub path_below : (options : Options) (nodes other : List (ℕ × Item)) (n : ℕ) (s : List TreeIndex)
     → ((i : ℕ) → i < n → body_at other i ≡ body_at nodes i) → AreBelow n (map (λ ix. ix.0) s) → path_in options other s ≡ path_in options nodes s
@@ -379,31 +233,17 @@ path_below options nodes other n (ix ∷ s) h b =
     ap (λ o. with_container (option_and_then (container_of options) o) (path_in options other s)) (h ix.0 w)
     ∙ ap (with_container (container_at options nodes ix)) (path_below options nodes other ix.0 s (λ i l. h i (omega arith)) b.1)
 
-and_true : (a : Bool) → (a && true) ≡ a
-and_true true = refl
-and_true false = refl
-
 -- a blank line is read in an empty item or definition
 blank_item_is : (r : PassState) (e : ℕ) (b : ItemBody) (n : ℕ) → r.begin_list_item ≡ Some e
     → blank_read_by r (Some (item_body b n)) ≡ record r { tree = body_without_indent r.tree (Some (item_body b n)); blank = true }
-blank_item_is r e (DefinitionListDefinition columns) n some =
-    ap (λ o. record r { tree = if is_some o then definition_without_indent r.tree r.tree.spine else r.tree; blank = true }) some
-blank_item_is r e b n some = ap (λ o. record r { tree = if is_some o then item_without_indent r.tree r.tree.spine else r.tree; blank = true }) some
-
--- an item or a definition is closed
-item_popped : (r : PassState) (g : Forest Item) (ix : TreeIndex) (b : ItemBody) (n : ℕ)
-    → popped_by r g ix (Some (item_body b n)) ≡ record r { tree = g; begin_list_item = None }
-item_popped r g ix (DefinitionListDefinition columns) n = refl
-item_popped r g ix b n = refl
+blank_item_is r e b n some = grind (arith, some)
 
 module _ (d : Document) (defined : Tables) (r : PassState) (line : Place) (lines : List Place) (rest : Rest)
     (goes : after (path_of d.options r.tree) line.rest ≡ Some rest) where
   module _ (e : ℕ) (empty : ReadyEmpty d defined r e (line ∷ lines)) where
     -- the empty item or definition
     own : (b : ItemBody) × (body_at r.tree.nodes empty.place.0 ≡ Some (item_body b empty.columns))
-    own =
-        let b = columns_are (body_at r.tree.nodes empty.place.0) empty.columns empty.item in
-        (b.0, b.1 ∙ ap (λ z. Some z) (sym (item_is b.0 empty.columns b.2)))
+    own = item_own (body_at r.tree.nodes empty.place.0) empty.columns empty.item
 
     abbrev path : List Container
     path = path_in d.options r.tree.nodes empty.outer
@@ -437,31 +277,38 @@ module _ (d : Document) (defined : Tables) (r : PassState) (line : Place) (lines
           (not_changed r.tree.nodes empty.place.0 change (item_body b 0) (is ∙ ap (λ n. Some (item_body b n)) none)
           (λ x h. ap (λ z. node_of x.start x.«end» z) (sym h)))
 
-      -- the nodes around the item are unchanged
-      outer_path : (run : Bool) (from : Continues) (ls : List Place) → ReadyAt d defined zero_tree run from ls
-          → path_in d.options zero_tree.nodes empty.outer ≡ path
-      outer_path run from ls ready =
-          let below = subst (λ s. AreBelow (length zero_tree.nodes) (map (λ (i : TreeIndex). i.0) s)) empty.spine ready.completes.below in
-          path_below d.options r.tree.nodes zero_tree.nodes empty.place.0 empty.outer (λ i h. body-other r.tree.nodes empty.place.0 i change h) below.1
+      -- the item that takes only blank lines, before the blank line and after it
+      zero_ready : (blank : Bool) → r.blank ≡ blank → is_blank_rest rest ≡ true → ReadyInItem d defined r.tree e (line ∷ lines) blank
+          → ReadyAt d defined zero_tree blank (Blanks e) (line ∷ lines)
+      zero_ready true run h ready = subst (λ f. ReadyAt d defined f true (Blanks e) (line ∷ lines)) (sym (zero_same (empty.none run))) ready
+      zero_ready false run h ready =
+          subst (λ f. ReadyAt d defined f false (Blanks e) (line ∷ lines)) zero_is
+          (subst (ReadyBeforeLine d defined r.tree e (line ∷ lines)) (ap is_blank_after goes ∙ h) ready)
 
-      without_indent_blank : (blank : Bool) → r.blank ≡ blank → is_blank_rest rest ≡ true → ReadyInItem d defined r.tree e (line ∷ lines) blank
-          → ReadyAt d defined zero_tree true (Blanks e) lines
-      without_indent_blank true run h ready =
-          let none = empty.none run in
-          let item : body_at r.tree.nodes empty.place.0 ≡ Some (item_body b 0) = is ∙ ap (λ n. Some (item_body b n)) none in
-          subst (λ f. ReadyAt d defined f true (Blanks e) lines) (sym (zero_same none))
-          (only_blank d defined r.tree true e line lines
-          (record { place = empty.place; outer = empty.outer; body = b; spine = empty.spine; is = item }) (blank_item h) ready)
-      without_indent_blank false run h ready =
-          let test : next_is_blank (path_of d.options r.tree) (line ∷ lines) ≡ true = ap is_blank_after goes ∙ h in
-          let now : ReadyAt d defined (top_without_indent r.tree) false (Blanks e) (line ∷ lines) =
-          subst (ReadyBeforeLine d defined r.tree e (line ∷ lines)) test ready in
-          let zero : ReadyAt d defined zero_tree false (Blanks e) (line ∷ lines) =
-          subst (λ f. ReadyAt d defined f false (Blanks e) (line ∷ lines)) zero_is now in
-          only_blank d defined zero_tree false e line lines
-          (record { place = empty.place; outer = empty.outer; body = b; spine = empty.spine; is = zero_body })
-          (subst (λ z. is_blank_after (after (item_container b 0 ∷ z) line.rest) ≡ true) (sym (outer_path false (Blanks e) (line ∷ lines) zero))
-          (blank_item h)) zero
+      without_indent_blank : is_blank_rest rest ≡ true → ReadyAt d defined zero_tree true (Blanks e) lines
+      without_indent_blank h =
+          let ready = zero_ready r.blank refl h empty.ready in
+          let t : Tail = tail (closed_in zero_tree) r.blank in
+          let c : Container = item_container b 0 in
+          let os : List ℕ = empty.place.0 ∷ map (λ (i : TreeIndex). i.0) empty.outer in
+          let inner = innermost_in d defined zero_tree r.blank (Blanks e) (line ∷ lines) empty.place empty.outer empty.spine c
+          (ap (option_and_then (container_of d.options)) zero_body ∙ item_path d.options b 0) ready in
+          let frames : List Frame = InContainer c ∷ inner.outer in
+          let same : path ≡ containers_of inner.outer =
+          sym (path_below d.options r.tree.nodes zero_tree.nodes empty.place.0 empty.outer (λ i h. body-other r.tree.nodes empty.place.0 i change h)
+          inner.completes.below.1) ∙ open_path d.options zero_tree.nodes empty.outer inner.outer inner.are_open.1 in
+          let q = blank_place line (after (containers_of frames) line.rest)
+          (subst (λ z. is_blank_after (after (c ∷ z) line.rest) ≡ true) same (blank_item h)) in
+          record {
+            frames = frames;
+            are_open = subst (λ s. AreOpen d.options zero_tree.nodes s frames) (sym empty.spine) inner.are_open;
+            completes = subst (λ s. CompletesAt d defined (tail (closed_in zero_tree) true) frames zero_tree.nodes (map (λ (i : TreeIndex). i.0) s) (Blanks e)
+                lines) (sym empty.spine)
+                (completes-only_blank d (open_nodes defined inner.outer zero_tree.nodes os) t c e line (at_rest line q.0) lines (item_kind b 0).2
+                (record { continues = ap (option_map (at_rest line)) q.1; blank = q.2 })
+                (opens_blank d (lvl frames t) (at_rest line q.0) lines q.2) inner.completes);
+            silent = ready.silent;
+          }
 
       -- the state after the blank line is read
       read_is : r.begin_list_item ≡ Some e → blank_read r ≡ record r { tree = zero_tree; blank = true }
@@ -480,7 +327,7 @@ module _ (d : Document) (defined : Tables) (r : PassState) (line : Place) (lines
             spine = empty.spine;
             item = ap (option_and_then item_columns) zero_body ∙ item_columns_of b 0;
             none = λ on. refl;
-            ready = without_indent_blank r.blank refl h empty.ready;
+            ready = without_indent_blank h;
           } in
           subst (λ q. ReadyWith d defined q lines q.begin_list_item) (sym (read_is some)) (subst (λ o. ReadyWith d defined now lines o) (sym some) ready)
 
@@ -501,8 +348,8 @@ module _ (d : Document) (defined : Tables) (r : PassState) (line : Place) (lines
     finished_is blank is =
         let b = own e empty in
         ap (λ o. record (if r.blank && is_item o then popped e r else r) { begin_list_item = None }) (top_item e empty b.0 b.1)
-        ∙ ap (λ t. record (if r.blank && t then popped e r else r) { begin_list_item = None }) (item_true b.0 empty.columns)
-        ∙ ap (λ t. record (if t then popped e r else r) { begin_list_item = None }) (and_true r.blank ∙ is)
+        ∙ ap (λ t. record (if r.blank && t then popped e r else r) { begin_list_item = None }) (item_kind b.0 empty.columns).0
+        ∙ ap (λ t. record (if t then popped e r else r) { begin_list_item = None }) (and-true r.blank ∙ is)
 
     -- the item ends before a line that is not blank
     without_indent_ends : (blank : Bool) → r.blank ≡ blank → is_blank_rest rest ≡ false → ReadyInItem d defined r.tree e (line ∷ lines) blank
@@ -521,16 +368,13 @@ module _ (d : Document) (defined : Tables) (r : PassState) (line : Place) (lines
         let outer : after path line.rest ≡ Some rest = sym (after_zero b path line.rest) ∙ on in
         let last : e ≡ end_before (length d.text) path (Blanks e) (Lines (line ∷ lines)) = sym (ap (λ t. if t then e else line.line) (ap is_some outer)) in
         let before : Before = record { last = last_plain (closed_in r.tree); counted = true } in
-        let left = leave_container d defined r.tree true (Blanks e) (line ∷ lines) e empty.place empty.outer (item_container b 0) (record {
-          spine = empty.spine;
-          frame = ap (option_and_then (frame_of d.options)) item ∙ item_frame d.options b 0;
-          ends = stops_blank d.options (level (item_container b 0 ∷ path) before) e (line ∷ lines) (ap is_blank_after on ∙ h);
-          at_end = last;
-        }) ready in
+        let left = leave_container d defined r.tree true (line ∷ lines) e empty.place empty.outer (item_container b 0) empty.spine
+        (ap (option_and_then (container_of d.options)) item ∙ item_path d.options b 0) (Blanks e)
+        (stops_blank d.options (level (item_container b 0 ∷ path) before) e (line ∷ lines) (ap is_blank_after on ∙ h)) last ready in
         let now : popped e r ≡ record r { tree = g; begin_list_item = None } =
-        popped_as e r empty.place empty.outer (item_body b 0) empty.spine item (item_no_list b 0) ∙ item_popped r g empty.place b 0 in
+        item_popped e r empty.place empty.outer b 0 empty.spine item in
         let same : path_of d.options g ≡ path =
-        same_path d.options r.tree.nodes g.nodes (closed_containers e r empty.place empty.outer d.options) empty.outer in
+        same_path r.tree.nodes g.nodes (closed_containers e r.tree empty.place empty.outer) d.options empty.outer in
         let inside : ReadyAt d defined g true (Inside (at_rest line rest)) lines =
         ready_enter d defined g true line lines rest (ap (λ z. after z line.rest) same ∙ outer)
         (stays_in_list d defined g true (line ∷ lines) left.ready b 0 left.stands) left.ready in

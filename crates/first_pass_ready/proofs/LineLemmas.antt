@@ -1,18 +1,8 @@
 -- A line is read: containers are closed, and the line is entered.
-use Rattle.std.proofs.Common.{◌≡◌, ℕ, ◌+◌, ◌<◌, ◌≤◌, true, false, List, ◌∷◌, length, drop, Some, None, is_some, IsUtf8, IsCharBoundary, refl, ap, subst, ◌∙◌}
-use Rattle.first_pass_items.specs.declared.item.Item.{Item}
-use Rattle.first_pass_tree.specs.declared.tree_index.TreeIndex.{TreeIndex}
-use Rattle.first_pass_tree.specs.Forest.{Forest}
-use Rattle.first_pass_lines.specs.Lines.{blank_len, line_len}
-use Rattle.first_pass_lines.specs.Rest.{Rest}
-use Rattle.first_pass_lines.specs.Places.{Place, line_rest, line_place, place_at, line_end, start_of, IsPlaceOf}
-use Rattle.first_pass_lines.proofs.LineFacts.{lines_at-line}
-use Rattle.first_pass_lines.proofs.PlaceFacts.{line_is_place}
-use Rattle.first_pass_grammar.specs.Containers.{after}
-use Rattle.first_pass_grammar.specs.Leaves.{Document}
-use Rattle.first_pass_grammar.specs.Skeleton.{Inside}
-use Rattle.first_pass_grammar.specs.Derivation.{Tables}
-use Rattle.first_pass_grammar.specs.Completion.{lines_from}
+use Rattle.std.proofs.Common.{◌≡◌, ℕ, ◌+◌, ◌<◌, ◌≤◌, true, false, List, ◌∷◌, length, drop, Some, None, is_some, IsUtf8, IsCharBoundary, refl, ap, subst}
+use Rattle.std.proofs.Common.{◌∙◌}
+use Rattle.first_pass_grammar.proofs.Common.{Item, TreeIndex, Forest, blank_len, line_len, Rest, Place, line_rest, line_place, place_at, line_end, start_of}
+use Rattle.first_pass_grammar.proofs.Common.{IsPlaceOf, lines_at-line, line_is_place, after, Document, Inside, Tables, lines_from, Options}
 use Rattle.first_pass_lists.specs.Closing.{empty_item_closed, blank_read, footnote_ended}
 use Rattle.first_pass_lists.specs.declared.state.PassState.{PassState}
 use Rattle.first_pass_open.specs.Path.{path_in, path_of, outer}
@@ -20,7 +10,6 @@ use Rattle.first_pass_ready.specs.State.{NoMore, Ready, ReadyAt}
 use Rattle.first_pass_open.proofs.PlaceLemmas.{after_keeps, line_start_end}
 use Rattle.first_pass_ready.proofs.EnterLemmas.{ready_blank_line, ready_line}
 use Rattle.first_pass_ready.proofs.OldFootnotes.{ends_here, ended_path, ended_ready}
-use Rattle.first_pass_items.specs.declared.option_set.Options.{Options}
 
 -- a line and those after it, after the containers that it does not continue are closed
 pub record IsAtLine (d : Document) (defined : Tables) (old new : PassState) (start : ℕ) (r : Rest) : Type 0 where

@@ -1,40 +1,24 @@
 -- A footnote definition in the old form ends at a line, after a counting blank line.
-use Rattle.std.proofs.Common.{◌≡◌, ◌⊎◌, inl, inr, ℕ, ◌==◌, Bool, true, false, not, ◌&&◌, List, [], ◌∷◌, Option, Some, None, refl, sym}
-use Rattle.std.proofs.Common.{ap, subst, ◌∙◌, if◌then◌else◌}
-use Rattle.std.proofs.Math.Bool.{and-false}
-use Rattle.std.proofs.lemmas.Bool.{true≢false}
-use Rattle.std.specs.Option.{option_and_then}
-use Rattle.first_pass_items.specs.declared.item.Item.{Item}
-use Rattle.first_pass_items.specs.declared.item.ItemBody.{ItemBody}
-use Rattle.first_pass_items.specs.declared.item.ItemBody.TheVariants.{BlockQuote as BlockQuoteBody, List as ListBody, ListItem as ListItemBody}
-use Rattle.first_pass_items.specs.declared.item.ItemBody.TheVariants.{FootnoteDefinition as FootnoteDefinitionBody, DefinitionList, DefinitionListDefinition}
-use Rattle.first_pass_items.specs.declared.item.CowIndex.{CowIndex}
-use Rattle.first_pass_items.specs.declared.option_set.Options.{Options}
-use Rattle.first_pass_items.specs.OptionWords.{gfm_footnotes}
-use Rattle.first_pass_tree.specs.declared.tree_index.TreeIndex.{TreeIndex}
-use Rattle.first_pass_tree.specs.Forest.{Forest, body_at}
-use Rattle.first_pass_lines.specs.Rest.{Rest}
-use Rattle.first_pass_lines.specs.Places.{Place, line_place}
+use Rattle.std.proofs.Common.{arith, ◌≡◌, ◌⊎◌, inl, inr, ℕ, ◌==◌, Bool, true, false, not, ◌&&◌, List, [], ◌∷◌, Option, Some, None, refl, sym, ap, subst}
+use Rattle.std.proofs.Common.{◌∙◌, if◌then◌else◌, option_and_then}
+use Rattle.first_pass_grammar.proofs.Common.{and-false, Item, ItemBody, DefinitionListDefinition, CowIndex, Options, gfm_footnotes, TreeIndex, Forest}
+use Rattle.first_pass_grammar.proofs.Common.{body_at, Rest, Place, line_place, Before, footnote_columns, after, in_footnote, in_old_footnote, Document}
+use Rattle.first_pass_grammar.proofs.Common.{Line, level, ends_old_footnote, Tables, no_tables, Closed, Frame, InContainer, containers_of, last_plain}
+use Rattle.first_pass_grammar.proofs.Common.{StandsIn}
+use Rattle.first_pass_items.specs.declared.item.ItemBody.TheVariants.{FootnoteDefinition as FootnoteDefinitionBody}
 use Rattle.first_pass_grammar.specs.declared.kind.Container.{Container}
-use Rattle.first_pass_grammar.specs.declared.kind.Container.TheVariants.{BlockQuote, ListItem, FootnoteDefinition, Definition}
-use Rattle.first_pass_grammar.specs.Before.{Before}
-use Rattle.first_pass_grammar.specs.Containers.{footnote_columns, after, in_footnote, in_old_footnote}
-use Rattle.first_pass_grammar.specs.Leaves.{Document}
-use Rattle.first_pass_grammar.specs.Skeleton.{Line, level, ends_old_footnote}
-use Rattle.first_pass_grammar.specs.Derivation.{Tables, no_tables}
-use Rattle.first_pass_grammar.specs.Completion.{Closed, Frame, InContainer, InList, InDefinitions, containers_of, last_plain, StandsIn}
+use Rattle.first_pass_grammar.specs.declared.kind.Container.TheVariants.{FootnoteDefinition}
 use Rattle.first_pass_completion.proofs.Extending.{tail, lvl}
 use Rattle.first_pass_grammar.proofs.Sequences.Goings.{ends_old}
 use Rattle.first_pass_open.specs.OpenBlock.{closed_by}
 use Rattle.first_pass_open.specs.Path.{container_of, with_container, path_in, path_of}
 use Rattle.first_pass_lists.specs.Closing.{top_body, is_footnote, popped, footnote_ended}
 use Rattle.first_pass_lists.specs.declared.state.PassState.{PassState}
-use Rattle.first_pass_ready.specs.State.{frame_of, item_columns, closed_in, AreOpen, ReadyAt, ReadyWith, Ready}
-use Rattle.first_pass_ready.proofs.ClosedIn.{items_no_container, definitions_no_container, definitions_at, list_at, top_in, HasDefined, open_defined}
-use Rattle.first_pass_ready.proofs.ClosedIn.{defined_open, plain_not_open}
+use Rattle.first_pass_ready.specs.State.{item_columns, closed_in, AreOpen, ReadyAt, ReadyWith, Ready}
+use Rattle.first_pass_ready.proofs.ClosedIn.{IsTop, top_of, top_in, HasDefined, open_defined, plain_not_open}
 use Rattle.first_pass_ready.proofs.ItemBodies.{item_container}
 use Rattle.first_pass_ready.proofs.PopLemmas.{leave_container}
-use Rattle.first_pass_ready.proofs.StateLemmas.{ready_plain, popped_as, popped_paths, popped_spine}
+use Rattle.first_pass_ready.proofs.StateLemmas.{ready_plain, popped_as, popped_kept, popped_spine}
 use Rattle.first_pass_grammar.proofs.Sequences.FootnoteHeads.{after_by}
 
 -- the innermost open node is a footnote definition that ends at the next line: one in the old form, after a counting
@@ -46,96 +30,46 @@ pub stays_unblank : (options : Options) (f : Forest Item) → ends_here options 
 stays_unblank options f = and-false (is_footnote (top_body f))
 
 -- no footnote definition, by the frames
-no_footnote_by : (options : Options) (b : Option ItemBody) (frame : Frame) (frames : List Frame) → option_and_then (frame_of options) b ≡ Some frame
-    → in_footnote (containers_of (frame ∷ frames)) ≡ false → is_footnote b ≡ false
-no_footnote_by options None frame frames h out = refl
-no_footnote_by options (Some (FootnoteDefinitionBody label)) (InContainer (FootnoteDefinition n)) frames h out = absurd (true≢false out)
-no_footnote_by options (Some (FootnoteDefinitionBody label)) (InContainer (BlockQuote kind)) frames h out = cc
-no_footnote_by options (Some (FootnoteDefinitionBody label)) (InContainer (ListItem n)) frames h out = cc
-no_footnote_by options (Some (FootnoteDefinitionBody label)) (InContainer (Definition n)) frames h out = cc
-no_footnote_by options (Some (FootnoteDefinitionBody label)) (InList byte loose) frames h out = cc
-no_footnote_by options (Some (FootnoteDefinitionBody label)) (InDefinitions loose) frames h out = cc
-no_footnote_by options (Some b) frame frames h out = refl
+container_no_footnote : (options : Options) (b : Option ItemBody) (c : Container) → option_and_then (container_of options) b ≡ Some c
+    → in_footnote (c ∷ []) ≡ false → is_footnote b ≡ false
+container_no_footnote options b c h out = grind (arith, h, out)
 
-no_footnote_in : (options : Options) (nodes : List (ℕ × Item)) (s : List TreeIndex) (frames : List Frame) → AreOpen options nodes s frames
-    → in_footnote (containers_of frames) ≡ false → is_footnote (top_in nodes s) ≡ false
-no_footnote_in options nodes [] frames o out = refl
-no_footnote_in options nodes (ix ∷ s) [] o out = absurd o
-no_footnote_in options nodes (ix ∷ s) (frame ∷ frames) o out = no_footnote_by options (body_at nodes ix.0) frame frames o.0 out
+no_footnote_in : (options : Options) (top : Option ItemBody) (frames : List Frame) → IsTop options top frames
+    → in_footnote (containers_of frames) ≡ false → is_footnote top ≡ false
+no_footnote_in options top frames is out = grind (arith, is, out, container_no_footnote)
 
 -- a list remains after an item or a definition in it is closed
 item_in_container : (b : ItemBody) (n : ℕ) (c : Container) (frames : List Frame) → StandsIn (item_container b n) (InContainer c ∷ frames) → ⊥
 item_in_container (DefinitionListDefinition columns) n c frames stands = stands
 item_in_container b n c frames stands = stands
 
-no_footnote_around : (options : Options) (nodes : List (ℕ × Item)) (s : List TreeIndex) (frames : List Frame) (b : ItemBody) (n : ℕ)
-    → AreOpen options nodes s frames → StandsIn (item_container b n) frames → is_footnote (top_in nodes s) ≡ false
-no_footnote_around options nodes [] frames b n o stands = refl
-no_footnote_around options nodes (ix ∷ s) [] b n o stands = absurd o
-no_footnote_around options nodes (ix ∷ s) (InContainer c ∷ frames) b n o stands = absurd (item_in_container b n c frames stands)
-no_footnote_around options nodes (ix ∷ s) (InList byte loose ∷ frames) b n o stands =
-    let l = list_at options (body_at nodes ix.0) byte loose o.0 in ap is_footnote l.3
-no_footnote_around options nodes (ix ∷ s) (InDefinitions loose ∷ frames) b n o stands =
-    let l = definitions_at options (body_at nodes ix.0) loose o.0 in ap is_footnote l.1
+no_footnote_around : (options : Options) (top : Option ItemBody) (frames : List Frame) (b : ItemBody) (n : ℕ)
+    → IsTop options top frames → StandsIn (item_container b n) frames → is_footnote top ≡ false
+no_footnote_around options top frames b n is stands = grind (arith, is, stands, item_in_container)
 
 pub stays_in_list : (d : Document) (defined : Tables) (f : Forest Item) (run : Bool) (lines : List Place) (ready : ReadyAt d defined f run Line lines)
     (b : ItemBody) (n : ℕ) → StandsIn (item_container b n) ready.frames → ends_here d.options f run ≡ false
 stays_in_list d defined f run lines ready b n stands =
     ap (λ (t : Bool). t && (run && not (gfm_footnotes d.options)))
-    (no_footnote_around d.options f.nodes f.spine ready.frames b n ready.are_open stands)
+    (no_footnote_around d.options (top_body f) ready.frames b n (top_of d.options f.nodes f.spine ready.frames ready.are_open) stands)
 
 -- If the innermost open node does not end here, it does not end in the grammar.
-columns_by : (options : Options) (g run : Bool) → gfm_footnotes options ≡ g → (run && not g) ≡ false
-    → ((footnote_columns options == 0) && (run && true)) ≡ false
-columns_by options true run is h = ap (λ (t : Bool). ((if t then 4 else 0) == 0) && (run && true)) is
-columns_by options false run is h = ap (λ (t : Bool). ((if t then 4 else 0) == 0) && (run && true)) is ∙ h
-
-old_by : (options : Options) (b : Option ItemBody) (n : ℕ) (run : Bool) → option_and_then (frame_of options) b ≡ Some (InContainer (FootnoteDefinition n))
+old_by : (options : Options) (b : Option ItemBody) (n : ℕ) (run : Bool) → option_and_then (container_of options) b ≡ Some (FootnoteDefinition n)
     → (is_footnote b && (run && not (gfm_footnotes options))) ≡ false → ((n == 0) && (run && true)) ≡ false
-old_by options None n run is h = cc
-old_by options (Some (BlockQuoteBody kind)) n run is h = cc
-old_by options (Some (ListItemBody columns)) n run is h = cc
-old_by options (Some (FootnoteDefinitionBody label)) n run is h =
-    let frame : Some (InContainer (FootnoteDefinition (footnote_columns options))) ≡ Some (InContainer (FootnoteDefinition n)) = is in
-    let same : footnote_columns options ≡ n = cc in
-    ap (λ (k : ℕ). (k == 0) && (run && true)) (sym same) ∙ columns_by options (gfm_footnotes options) run refl h
-old_by options (Some (ListBody flags byte number)) n run is h = absurd (items_no_container (flags.0 == 1) (flags.0 == 0) byte (FootnoteDefinition n) is)
-old_by options (Some (DefinitionList flags)) n run is h = absurd (definitions_no_container (flags.0 == 1) (flags.0 == 0) (FootnoteDefinition n) is)
-old_by options (Some b) n run is h = cc
+old_by options b n run is h = grind (arith, is, h)
 
 list_stays : (a run : Bool) → (a && (run && false)) ≡ false
 list_stays a run = ap (λ (t : Bool). a && t) (and-false run) ∙ and-false a
 
-continues_in : (options : Options) (nodes : List (ℕ × Item)) (s : List TreeIndex) (frames : List Frame) (closed : Closed) (run : Bool)
-    → AreOpen options nodes s frames → HasDefined frames closed
-    → (is_footnote (top_in nodes s) && (run && not (gfm_footnotes options))) ≡ false
+continues_in : (options : Options) (top : Option ItemBody) (frames : List Frame) (closed : Closed) (run : Bool)
+    → IsTop options top frames → HasDefined frames closed → (is_footnote top && (run && not (gfm_footnotes options))) ≡ false
     → ends_old_footnote (lvl frames (tail closed run)) ≡ false
-continues_in options nodes [] (frame ∷ frames) closed run o has h = absurd o
-continues_in options nodes (ix ∷ s) [] closed run o has h = absurd o
-continues_in options nodes (ix ∷ s) (InContainer (FootnoteDefinition n) ∷ frames) closed run o has h =
-    ap (λ (t : Bool). (n == 0) && (run && not t)) (plain_not_open closed) ∙ old_by options (body_at nodes ix.0) n run o.0 h
-continues_in options nodes (ix ∷ s) (InList byte loose ∷ frames) closed run o has h = list_stays (in_old_footnote (containers_of frames)) run
-continues_in options nodes (ix ∷ s) (InDefinitions loose ∷ frames) closed run o has h =
-    ap (λ (t : Bool). in_old_footnote (containers_of frames) && (run && not t)) (defined_open closed has)
-    ∙ list_stays (in_old_footnote (containers_of frames)) run
-continues_in options nodes s frames closed run o has h = refl
+continues_in options top frames closed run is has h = grind (arith, is, has, h, old_by, plain_not_open, list_stays)
 
 pub goes_on_at : (options : Options) (f : Forest Item) (frames : List Frame) (run : Bool) → AreOpen options f.nodes f.spine frames
     → ends_here options f run ≡ false → ends_old_footnote (lvl frames (tail (closed_in f) run)) ≡ false
-goes_on_at options f frames run o h = continues_in options f.nodes f.spine frames (closed_in f) run o (open_defined options f frames o) h
-
--- the innermost open node at a line
-ended_by : (options : Options) (e : ℕ) (r : PassState) (g b t : Bool) → gfm_footnotes options ≡ g → r.blank ≡ b → is_footnote (top_body r.tree) ≡ t
-    → ((if g then r else (if b then (if t then popped e r else r) else r)) ≡ footnote_ended options e r)
-    × ((t && (b && not g)) ≡ ends_here options r.tree r.blank)
-ended_by options e r g b t g_is b_is t_is =
-    let now : Bool → Bool → Bool → PassState = λ g b t. if g then r else (if b then (if t then popped e r else r) else r) in
-    let tested : Bool → Bool → Bool → Bool = λ g b t. t && (b && not g) in (
-      ap (λ (x : Bool). now x b t) (sym g_is) ∙ ap (λ (x : Bool). now (gfm_footnotes options) x t) (sym b_is)
-          ∙ ap (λ (x : Bool). now (gfm_footnotes options) r.blank x) (sym t_is),
-      ap (λ (x : Bool). tested x b t) (sym g_is) ∙ ap (λ (x : Bool). tested (gfm_footnotes options) x t) (sym b_is)
-          ∙ ap (λ (x : Bool). tested (gfm_footnotes options) r.blank x) (sym t_is),
-    )
+goes_on_at options f frames run o h =
+    continues_in options (top_body f) frames (closed_in f) run (top_of options f.nodes f.spine frames o) (open_defined options f frames o) h
 
 -- it stays open; or it is a footnote definition in the old form after a counting blank line, and is closed
 abbrev pub Stays : Options → ℕ → PassState → Type 0
@@ -147,12 +81,10 @@ IsLeft options e r =
 
 ended_cases : (options : Options) (e : ℕ) (r : PassState) (g b t : Bool) → gfm_footnotes options ≡ g → r.blank ≡ b → is_footnote (top_body r.tree) ≡ t
     → Stays options e r ⊎ IsLeft options e r
-ended_cases options e r true b t g_is b_is t_is =
-    let z = ended_by options e r true b t g_is b_is t_is in inl (sym z.0, sym z.1 ∙ ap (λ (x : Bool). t && x) (and-false b) ∙ and-false t)
-ended_cases options e r false false t g_is b_is t_is = let z = ended_by options e r false false t g_is b_is t_is in inl (sym z.0, sym z.1 ∙ and-false t)
-ended_cases options e r false true false g_is b_is t_is = let z = ended_by options e r false true false g_is b_is t_is in inl (sym z.0, sym z.1)
-ended_cases options e r false true true g_is b_is t_is =
-    let z = ended_by options e r false true true g_is b_is t_is in inr (sym z.0, g_is, b_is, t_is)
+ended_cases options e r true b t g b_is t_is = inl (rw g refl, rw g (list_stays (is_footnote (top_body r.tree)) r.blank))
+ended_cases options e r false false t g b t_is = inl (rw (g, b) refl, rw (g, b) (and-false (is_footnote (top_body r.tree))))
+ended_cases options e r false true false g b t = inl (rw (g, b, t) refl, rw (g, b, t) refl)
+ended_cases options e r false true true g b t = inr (rw (g, b, t) refl, g, b, t)
 
 pub ended_as : (options : Options) (e : ℕ) (r : PassState) → Stays options e r ⊎ IsLeft options e r
 ended_as options e r = ended_cases options e r (gfm_footnotes options) r.blank (is_footnote (top_body r.tree)) refl refl refl
@@ -169,8 +101,8 @@ footnote_top nodes [] h = cc
 footnote_top nodes (ix ∷ rest) h = let b = footnote_is (body_at nodes ix.0) h in (ix, rest, b.0, refl, b.1)
 
 -- one in the old form has no prefix
-columns_none : (options : Options) (g : Bool) → gfm_footnotes options ≡ g → g ≡ false → footnote_columns options ≡ 0
-columns_none options g is h = let old : gfm_footnotes options ≡ false = is ∙ h in ap (λ (t : Bool). if t then 4 else 0) old
+columns_none : (options : Options) → gfm_footnotes options ≡ false → footnote_columns options ≡ 0
+columns_none options old = ap (λ (t : Bool). if t then 4 else 0) old
 
 -- it is then the innermost container
 pub in_old : (options : Options) (r : PassState) → gfm_footnotes options ≡ false → is_footnote (top_body r.tree) ≡ true
@@ -180,7 +112,7 @@ in_old options r old top =
     let path : List Container = path_in options r.tree.nodes t.1 in
     let inner : path_of options r.tree ≡ FootnoteDefinition (footnote_columns options) ∷ path =
     ap (path_in options r.tree.nodes) t.3 ∙ ap (λ o. with_container (option_and_then (container_of options) o) path) t.4 in
-    ap in_old_footnote (inner ∙ ap (λ (n : ℕ). FootnoteDefinition n ∷ path) (columns_none options false old refl))
+    ap in_old_footnote (inner ∙ ap (λ (n : ℕ). FootnoteDefinition n ∷ path) (columns_none options old))
 
 after_old : (path : List Container) (r : Rest) → after (FootnoteDefinition 0 ∷ path) r ≡ after path r
 unfolding after
@@ -197,9 +129,9 @@ module _ (d : Document) (defined : Tables) (r : PassState) (line : Place) (lines
       let inner : path_of d.options r.tree ≡ FootnoteDefinition columns ∷ path =
       ap (path_in d.options r.tree.nodes) spine ∙ ap (λ o. with_container (option_and_then (container_of d.options) o) path) body in
       let outer : path_of d.options (popped e r).tree ≡ path =
-      popped_paths e r ix rest d.options spine (popped e r).tree.spine ∙ ap (path_in d.options r.tree.nodes) (popped_spine e r ix rest spine) in
+      (popped_kept e r ix rest spine).paths d.options (popped e r).tree.spine ∙ ap (path_in d.options r.tree.nodes) (popped_spine e r ix rest spine) in
       ap (λ z. after z x) outer ∙ sym (after_old path x)
-      ∙ ap (λ (n : ℕ). after (FootnoteDefinition n ∷ path) x) (sym (columns_none d.options false old refl)) ∙ ap (λ z. after z x) (sym inner)
+      ∙ ap (λ (n : ℕ). after (FootnoteDefinition n ∷ path) x) (sym (columns_none d.options old)) ∙ ap (λ z. after z x) (sym inner)
 
   left_with : (o : Option ℕ) → r.begin_list_item ≡ o → line.line ≡ e → ReadyWith d defined r (line ∷ lines) o
       → Ready d defined (popped e r) (line ∷ lines) × (ends_here d.options (popped e r).tree (popped e r).blank ≡ false)
@@ -217,19 +149,16 @@ module _ (d : Document) (defined : Tables) (r : PassState) (line : Place) (lines
       let before : Before = record { last = last_plain (closed_in r.tree); counted = r.blank } in
       let ends : ends_old_footnote (level (FootnoteDefinition columns ∷ path) before) ≡ true =
       ap (λ (t : Bool). (columns == 0) && (r.blank && not t)) (plain_not_open (closed_in r.tree))
-      ∙ ap (λ (n : ℕ). (n == 0) && (r.blank && true)) (columns_none d.options false old refl) ∙ ap (λ (b : Bool). b && true) blank in
-      let left = leave_container d defined r.tree r.blank Line (line ∷ lines) e ix rest (FootnoteDefinition columns) (record {
-        spine = spine;
-        frame = ap (option_and_then (frame_of d.options)) body;
-        ends = ends_old d.options (level (FootnoteDefinition columns ∷ path) before) (line ∷ lines) ends;
-        at_end = sym e_is;
-      }) ready in
+      ∙ ap (λ (n : ℕ). (n == 0) && (r.blank && true)) (columns_none d.options old) ∙ ap (λ (b : Bool). b && true) blank in
+      let left = leave_container d defined r.tree r.blank (line ∷ lines) e ix rest (FootnoteDefinition columns) spine
+      (ap (option_and_then (container_of d.options)) body) Line
+      (ends_old d.options (level (FootnoteDefinition columns ∷ path) before) (line ∷ lines) ends) (sym e_is) ready in
       let now : popped e r ≡ record r { tree = g } = popped_as e r ix rest (FootnoteDefinitionBody label) spine body refl in
       let out : in_footnote (containers_of left.ready.frames) ≡ false = left.apart in (
         subst (λ (q : PassState). Ready d defined q (line ∷ lines)) (sym now) (ready_plain d defined (record r { tree = g }) (line ∷ lines) none left.ready),
         subst (λ (q : PassState). ends_here d.options q.tree q.blank ≡ false) (sym now)
             (ap (λ (t : Bool). t && (r.blank && not (gfm_footnotes d.options)))
-            (no_footnote_in d.options g.nodes g.spine left.ready.frames left.ready.are_open out)),
+            (no_footnote_in d.options (top_body g) left.ready.frames (top_of d.options g.nodes g.spine left.ready.frames left.ready.are_open) out)),
       )
 
   left_ready : line.line ≡ e → Ready d defined r (line ∷ lines)

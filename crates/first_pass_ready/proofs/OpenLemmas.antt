@@ -1,57 +1,60 @@
 -- The frames of the open nodes, as the tree grows and nodes are closed.
-use Rattle.std.proofs.Common.{◌≡◌, ℕ, zero, suc, ◌<◌, ◌==◌, Bool, true, false, List, [], ◌∷◌, ◌++◌, length, map, Option, Some, None}
-use Rattle.std.proofs.Common.{refl, sym, ap, ◌∙◌, arith, if◌then◌else◌}
-use Rattle.std.specs.Option.{option_map, option_and_then}
-use Rattle.first_pass_items.specs.declared.item.Item.{Item}
-use Rattle.first_pass_items.specs.declared.item.ItemBody.{ItemBody}
+use Rattle.std.proofs.Common.{◌≡◌, ℕ, zero, suc, ◌<◌, ◌==◌, Bool, true, false, List, [], ◌∷◌, ◌++◌, length, map, Option, Some, None, IfSome, not, refl, ap}
+use Rattle.std.proofs.Common.{subst, ◌∙◌, arith, if◌then◌else◌, option_map, option_and_then}
+use Rattle.first_pass_grammar.proofs.Common.{nat_tests, Item, ItemBody, DefinitionList, DefinitionListDefinition, TreeIndex, map_from, body_at, tightened}
+use Rattle.first_pass_grammar.proofs.Common.{ended, list_closed, Frame, InContainer, InList, InDefinitions, containers_of, AreBelow, ListFlags, list_flags}
+use Rattle.first_pass_grammar.proofs.Common.{body-kept, body-other, Options}
 use Rattle.first_pass_items.specs.declared.item.ItemBody.TheVariants.{BlockQuote as BlockQuoteBody, List as ListBody, ListItem as ListItemBody}
-use Rattle.first_pass_items.specs.declared.item.ItemBody.TheVariants.{FootnoteDefinition as FootnoteDefinitionBody, DefinitionList, DefinitionListDefinition}
-use Rattle.first_pass_tree.specs.declared.tree_index.TreeIndex.{TreeIndex}
-use Rattle.first_pass_tree.specs.Forest.{map_from, body_at}
-use Rattle.first_pass_tree.specs.Tight.{tightened}
+use Rattle.first_pass_items.specs.declared.item.ItemBody.TheVariants.{FootnoteDefinition as FootnoteDefinitionBody}
 use Rattle.first_pass_grammar.specs.declared.kind.Container.{Container}
-use Rattle.first_pass_grammar.specs.Completion.{ended, list_closed, Frame, InContainer, InList, InDefinitions, containers_of, AreBelow}
-use Rattle.first_pass_open.specs.Path.{container_of, with_container, path_in}
-use Rattle.first_pass_ready.specs.State.{frame_of, frame_at, AreOpen}
+use Rattle.first_pass_open.specs.Path.{container_of, container_at, with_container, path_in}
+use Rattle.first_pass_ready.specs.State.{list_frame, frame_of, frame_at, AreOpen}
 use Rattle.first_pass_open.proofs.PathLemmas.{get_front}
-use Rattle.first_pass_tree.proofs.BodyLemmas.{body-kept, body-other}
-use Rattle.first_pass_items.specs.declared.option_set.Options.{Options}
 
--- the container of a frame, if it has one
-abbrev framed : Option Frame → Option Container
-framed None = None
-framed (Some (InContainer c)) = Some c
-framed (Some (InList byte loose)) = None
-framed (Some (InDefinitions loose)) = None
+-- a list of either kind has the flags that its frame shows
+listed_by : (of : Bool → Frame) (a b : Bool) (flags : ListFlags) (frame : Frame) → (flags.0 == 1) ≡ a → (flags.0 == 0) ≡ b
+    → (if a then Some (of false) else (if b then Some (of true) else None)) ≡ Some frame
+    → (loose : Bool) × (flags ≡ list_flags (not loose)) × (of loose ≡ frame)
+listed_by of true b flags frame s t h = let x : flags.0 ≡ 1 = grind (arith, nat_tests, s) in (false, ap (λ n. record { 0 = n }) x, cc)
+listed_by of false true flags frame s t h = let x : flags.0 ≡ 0 = grind (arith, nat_tests, t) in (true, ap (λ n. record { 0 = n }) x, cc)
+listed_by of false false flags frame s t h = cc
 
-framed_list : (a b : Bool) (byte : ℕ) → framed (if a then Some (InList byte false) else (if b then Some (InList byte true) else None)) ≡ None
-framed_list true b byte = refl
-framed_list false true byte = refl
-framed_list false false byte = refl
+listed : (of : Bool → Frame) (flags : ListFlags) (frame : Frame) → list_frame of flags.0 ≡ Some frame
+    → (loose : Bool) × (flags ≡ list_flags (not loose)) × (of loose ≡ frame)
+listed of flags frame h = listed_by of (flags.0 == 1) (flags.0 == 0) flags frame refl refl h
 
-framed_definitions : (a b : Bool) → framed (if a then Some (InDefinitions false) else (if b then Some (InDefinitions true) else None)) ≡ None
-framed_definitions true b = refl
-framed_definitions false true = refl
-framed_definitions false false = refl
+-- the body of a node with this frame
+abbrev pub HasFrame : Options → Option ItemBody → Frame → Type 0
+HasFrame options b (InContainer c) = option_and_then (container_of options) b ≡ Some c
+HasFrame options b (InList byte loose) = (number : ℕ) × (b ≡ Some (ListBody (list_flags (not loose)) byte number))
+HasFrame options b (InDefinitions loose) = b ≡ Some (DefinitionList (list_flags (not loose)))
 
-container_framed : (options : Options) (b : ItemBody) (frame : Frame) → frame_of options b ≡ Some frame → container_of options b ≡ framed (Some frame)
-container_framed options (BlockQuoteBody kind) frame is = ap framed is
-container_framed options (ListItemBody columns) frame is = ap framed is
-container_framed options (FootnoteDefinitionBody label) frame is = ap framed is
-container_framed options (DefinitionListDefinition columns) frame is = ap framed is
-container_framed options (DefinitionList flags) frame is = sym (framed_definitions (flags.0 == 1) (flags.0 == 0)) ∙ ap framed is
-container_framed options (ListBody flags byte number) frame is = sym (framed_list (flags.0 == 1) (flags.0 == 0) byte) ∙ ap framed is
-container_framed options b frame is = cc
+pub has_frame : (options : Options) (b : Option ItemBody) (frame : Frame) → option_and_then (frame_of options) b ≡ Some frame → HasFrame options b frame
+has_frame options None frame h = cc
+has_frame options (Some (BlockQuoteBody kind)) frame h = subst (λ z. IfSome z (HasFrame options (Some (BlockQuoteBody kind)))) h refl
+has_frame options (Some (ListItemBody columns)) frame h = subst (λ z. IfSome z (HasFrame options (Some (ListItemBody columns)))) h refl
+has_frame options (Some (FootnoteDefinitionBody label)) frame h = subst (λ z. IfSome z (HasFrame options (Some (FootnoteDefinitionBody label)))) h refl
+has_frame options (Some (DefinitionListDefinition columns)) frame h = subst (λ z. IfSome z (HasFrame options (Some (DefinitionListDefinition columns)))) h refl
+has_frame options (Some (ListBody flags byte number)) frame h =
+    let l = listed (InList byte) flags frame h in
+    subst (HasFrame options (Some (ListBody flags byte number))) l.2 (number, ap (λ z. Some (ListBody z byte number)) l.1)
+has_frame options (Some (DefinitionList flags)) frame h =
+    let l = listed InDefinitions flags frame h in subst (HasFrame options (Some (DefinitionList flags))) l.2 (ap (λ z. Some (DefinitionList z)) l.1)
+has_frame options (Some b) frame h = cc
 
-container_framed_at : (options : Options) (o : Option ItemBody) (frame : Frame) → option_and_then (frame_of options) o ≡ Some frame
-    → option_and_then (container_of options) o ≡ framed (Some frame)
-container_framed_at options None frame is = cc
-container_framed_at options (Some b) frame is = container_framed options b frame is
+pub container_frame : (options : Options) (b : Option ItemBody) (frame : Frame) (c : Container) → option_and_then (container_of options) b ≡ Some c
+    → HasFrame options b frame → frame ≡ InContainer c
+container_frame options b frame c is h = grind (arith, is, h)
 
-with_frame : (frame : Frame) (frames : List Frame) → with_container (framed (Some frame)) (containers_of frames) ≡ containers_of (frame ∷ frames)
-with_frame (InContainer c) frames = refl
-with_frame (InList byte loose) frames = refl
-with_frame (InDefinitions loose) frames = refl
+pub definitions_frame : (options : Options) (flags : ListFlags) (frame : Frame) → HasFrame options (Some (DefinitionList flags)) frame
+    → (loose : Bool) × (frame ≡ InDefinitions loose) × (flags ≡ list_flags (not loose))
+definitions_frame options flags (InContainer c) h = cc
+definitions_frame options flags (InList byte loose) h = (let list = h.1 in cc)
+definitions_frame options flags (InDefinitions loose) h = (loose, refl, cc)
+
+with_frame : (options : Options) (b : Option ItemBody) (frame : Frame) (frames : List Frame) → HasFrame options b frame
+    → with_container (option_and_then (container_of options) b) (containers_of frames) ≡ containers_of (frame ∷ frames)
+with_frame options b frame frames h = grind (arith, h)
 
 -- the containers of the frames are those of the path
 pub open_path : (options : Options) (nodes : List (ℕ × Item)) (spine : List TreeIndex) (frames : List Frame)
@@ -60,8 +63,8 @@ open_path options nodes [] [] o = refl
 open_path options nodes [] (frame ∷ frames) o = absurd o
 open_path options nodes (ix ∷ spine) [] o = absurd o
 open_path options nodes (ix ∷ spine) (frame ∷ frames) o =
-    ap (λ c. with_container c (path_in options nodes spine)) (container_framed_at options (body_at nodes ix.0) frame o.0)
-    ∙ ap (with_container (framed (Some frame))) (open_path options nodes spine frames o.1) ∙ with_frame frame frames
+    ap (with_container (container_at options nodes ix)) (open_path options nodes spine frames o.1)
+    ∙ with_frame options (body_at nodes ix.0) frame frames (has_frame options (body_at nodes ix.0) frame o.0)
 
 -- only the nodes before a place matter
 pub open_below : (options : Options) (nodes other : List (ℕ × Item)) (n : ℕ) (spine : List TreeIndex) (frames : List Frame)
@@ -74,14 +77,11 @@ open_below options nodes other n (ix ∷ spine) (frame ∷ frames) same below o 
     let b : ix.0 < n = below.0 in
     (same ix.0 b ∙ o.0, open_below options nodes other ix.0 spine frames (λ i h. same i (omega arith)) below.1 o.1, o.2)
 
-frame_by : (options : Options) (a b : Option ItemBody) → a ≡ b → option_and_then (frame_of options) a ≡ option_and_then (frame_of options) b
-frame_by options a b e = ap (option_and_then (frame_of options)) e
-
 -- more nodes
 pub frame-append : (options : Options) (nodes more : List (ℕ × Item)) (i : ℕ) → i < length nodes
     → frame_at options (nodes ++ more) i ≡ frame_at options nodes i
 frame-append options nodes more i h =
-    frame_by options (body_at (nodes ++ more) i) (body_at nodes i) (ap (option_map (λ n. n.1.body)) (get_front nodes more i h))
+    ap (λ o. option_and_then (frame_of options) (option_map (λ n. n.1.body) o)) (get_front nodes more i h)
 
 body-front : (nodes : List (ℕ × Item)) (o i depth : ℕ) → i < o → body_at (map_from (tightened depth) o nodes) i ≡ body_at nodes i
 body-front nodes zero i depth h = absurd (omega arith)
@@ -93,17 +93,19 @@ body-front (n ∷ nodes) (suc o) (suc i) depth h = body-front nodes o i depth (o
 pub frame-closed : (options : Options) (nodes : List (ℕ × Item)) (o depth : ℕ) (loose : Bool) (e i : ℕ) → i < o
     → frame_at options (list_closed nodes o depth loose e) i ≡ frame_at options nodes i
 unfolding list_closed
-frame-closed options nodes o depth true e i h = frame_by options _ _ (body-other nodes o i _ h)
-frame-closed options nodes o depth false e i h = frame_by options _ _ (body-other (map_from (tightened depth) o nodes) o i _ h ∙ body-front nodes o i depth h)
+frame-closed options nodes o depth true e i h = ap (option_and_then (frame_of options)) (body-other nodes o i _ h)
+frame-closed options nodes o depth false e i h =
+    ap (option_and_then (frame_of options)) (body-other (map_from (tightened depth) o nodes) o i _ h ∙ body-front nodes o i depth h)
 
 -- a node with its end
 pub frame-ended : (options : Options) (nodes : List (ℕ × Item)) (place e i : ℕ) → frame_at options (ended nodes place e) i ≡ frame_at options nodes i
 unfolding ended
-frame-ended options nodes place e i = frame_by options _ _ (body-kept nodes place i _ (λ x. refl))
+frame-ended options nodes place e i = ap (option_and_then (frame_of options)) (body-kept nodes place i _ (λ x. refl))
 
--- the last node
+-- the first of further nodes
+pub body_after : (nodes more : List (ℕ × Item)) → body_at (nodes ++ more) (length nodes) ≡ body_at more 0
+body_after [] more = refl
+body_after (n ∷ nodes) more = body_after nodes more
+
 pub get_end : (nodes : List (ℕ × Item)) (x : ℕ × Item) (more : List (ℕ × Item)) (i : ℕ) → i ≡ length nodes → body_at (nodes ++ x ∷ more) i ≡ Some x.1.body
-get_end [] x more zero h = refl
-get_end [] x more (suc i) h = absurd (omega arith)
-get_end (n ∷ nodes) x more zero h = absurd (omega arith)
-get_end (n ∷ nodes) x more (suc i) h = get_end nodes x more i (omega arith)
+get_end nodes x more i at = ap (body_at (nodes ++ x ∷ more)) at ∙ body_after nodes (x ∷ more)

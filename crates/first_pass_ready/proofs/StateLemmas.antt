@@ -1,47 +1,31 @@
 -- The tree between two blocks and the completions of its nodes: open nodes are closed before the next line.
 use Rattle.std.proofs.Common.{◌≡◌, ℕ, zero, suc, ◌+◌, ◌-◌, ◌<◌, ◌≤◌, ◌==◌, nat_lt, Bool, true, false, List, [], ◌∷◌, length, map, drop, Option, Some, None}
-use Rattle.std.proofs.Common.{is_some, refl, sym, ap, subst, ◌∙◌, arith, if◌then◌else◌}
-use Rattle.std.proofs.lemmas.Bool.{true≢false}
-use Rattle.std.specs.Int.RustNames.{bit_and}
-use Rattle.std.specs.Option.{option_and_then}
-use Rattle.first_pass_items.specs.declared.item.Item.{Item}
-use Rattle.first_pass_items.specs.declared.item.ItemBody.{ItemBody}
-use Rattle.first_pass_items.specs.declared.item.ItemBody.TheVariants.{Paragraph as ParagraphBody, BlockQuote as BlockQuoteBody, List as ListBody}
-use Rattle.first_pass_items.specs.declared.item.ItemBody.TheVariants.{ListItem as ListItemBody, FootnoteDefinition as FootnoteDefinitionBody}
-use Rattle.first_pass_items.specs.declared.item.ItemBody.TheVariants.{DefinitionList, DefinitionListDefinition, MaybeDefinitionListTitle}
-use Rattle.first_pass_items.specs.declared.item.ListFlags.{ListFlags}
-use Rattle.first_pass_items.specs.declared.option_set.Options.{Options}
-use Rattle.first_pass_tree.specs.declared.tree_index.TreeIndex.{TreeIndex}
-use Rattle.first_pass_tree.specs.Forest.{Forest, IsForest, modify, empty_forest, moved_from, with_end_at, with_body_at, body_at}
-use Rattle.first_pass_tree.specs.Tight.{tight_body, tightened, tight_run, tight_at, tight_items}
-use Rattle.first_pass_lines.specs.Rest.{Rest}
-use Rattle.first_pass_lines.specs.Places.{Place, start_of}
-use Rattle.first_pass_grammar.specs.Names.{Names}
+use Rattle.std.proofs.Common.{is_some, refl, sym, ap, subst, ◌∙◌, arith, if◌then◌else◌, true≢false, drop-drop, bit_and, option_and_then}
+use Rattle.first_pass_grammar.proofs.Common.{cond_both, Item, ItemBody, DefinitionList, MaybeDefinitionListTitle, ListFlags, Options, TreeIndex, Forest}
+use Rattle.first_pass_grammar.proofs.Common.{IsForest, modify, empty_forest, with_end_at, with_body_at, body_at, tight_body, tightened, tight_run, tight_at}
+use Rattle.first_pass_grammar.proofs.Common.{tight_items, Rest, Place, start_of, Names, after, next_goes_on, Document, document, Line, Blanks, level}
+use Rattle.first_pass_grammar.proofs.Common.{is_blank_after, next_is_blank, Tables, no_tables, Derives, lines_from, Frame, InContainer, last_plain}
+use Rattle.first_pass_grammar.proofs.Common.{InDefinitions, InList, body-kept, body_of}
+use Rattle.first_pass_items.specs.declared.item.ItemBody.TheVariants.{Paragraph as ParagraphBody, List as ListBody}
 use Rattle.first_pass_grammar.specs.declared.kind.Container.{Container}
-use Rattle.first_pass_grammar.specs.declared.kind.Container.TheVariants.{BlockQuote, ListItem, FootnoteDefinition, Definition}
-use Rattle.first_pass_grammar.specs.Containers.{footnote_columns, after, next_goes_on}
-use Rattle.first_pass_grammar.specs.Before.{Before}
-use Rattle.first_pass_grammar.specs.Leaves.{Document, document}
-use Rattle.first_pass_grammar.specs.Skeleton.{Line, Blanks, level, Lines, is_blank_after, next_is_blank, end_before}
-use Rattle.first_pass_grammar.specs.Derivation.{Tables, no_tables, Derives}
-use Rattle.first_pass_grammar.specs.Completion.{lines_from, Frame, InContainer, last_plain}
 use Rattle.first_pass_grammar.proofs.Sequences.Finishes.{CompletesAt, Tail}
 use Rattle.first_pass_completion.proofs.Extending.{tail}
 use Rattle.first_pass_grammar.proofs.Sequences.Goings.{stops, stops_blank}
 use Rattle.first_pass_completion.proofs.Completions.{completes-first, completes-end}
 use Rattle.first_pass_open.specs.OpenBlock.{closed_by}
-use Rattle.first_pass_lists.specs.Closing.{state_with, top_body, top_end, is_definition_list, title_by, possible_title, popped_by, popped_at, popped_after}
-use Rattle.first_pass_lists.specs.Closing.{current_moved, definitions_closed, with_tree, popped}
+use Rattle.first_pass_lists.specs.Closing.{state_with, top_body, top_end, is_definition_list, possible_title, popped_by, popped_at, popped_after}
+use Rattle.first_pass_lists.specs.Closing.{with_tree, popped, is_item, is_list, list_closed}
 use Rattle.first_pass_lists.specs.declared.state.PassState.{PassState}
 use Rattle.first_pass_open.specs.Path.{container_of, container_at, with_container, path_in, path_of, outer}
-use Rattle.first_pass_ready.specs.State.{frame_of, frame_at, closed_in, AreOpen, ReadyAt, ReadyBeforeLine, ReadyInItem, ReadyWith, NoMore, Ready}
+use Rattle.first_pass_ready.specs.State.{closed_in, AreOpen, ReadyAt, ReadyBeforeLine, ReadyInItem, ReadyWith, NoMore, Ready, item_columns}
 use Rattle.first_pass_open.proofs.FrontLemmas.{outer-all}
-use Rattle.first_pass_tree.proofs.BodyLemmas.{body-kept, body_of}
-use Rattle.first_pass_ready.proofs.ClosedIn.{top_in, closed_definition, IsTitle, title_is}
-use Rattle.first_pass_ready.proofs.ItemBodies.{item_body, item_container, columns_are, item_is, item_frame, item_path, item_no_list, after_zero}
+use Rattle.first_pass_ready.proofs.ClosedIn.{top_in, title_is, list_class}
+use Rattle.first_pass_ready.proofs.ItemBodies.{item_body, item_container, item_own, item_path, after_zero, item_kind}
 use Rattle.first_pass_ready.proofs.ListLemmas.{list_flags_of}
-use Rattle.first_pass_ready.proofs.PopLemmas.{HasDefinition, list_popped, list_spine, leave_container, pop_list}
-use Rattle.first_pass_ready.proofs.TitlePops.{title_popped, body-moved, pop_title}
+use Rattle.first_pass_ready.proofs.PopLemmas.{list_popped, list_spine, leave_container, PlainList, innermost_of, line_ends, shut_list}
+use Rattle.first_pass_ready.proofs.TitlePops.{body-moved, TitledList, shut_title, title_closed}
+use Rattle.first_pass_ready.proofs.OpenLemmas.{HasFrame}
+use Rattle.first_pass_ready.proofs.TitleMoved.{definitions_closed_is}
 
 -- before the first block
 pub ready_first : (text : List ℕ) (options : Options) (names : Names) (tree : Forest Item) (root : TreeIndex) → root.0 ≡ 0
@@ -94,64 +78,57 @@ not_on b path [] h = refl
 not_on b path (line ∷ lines) h = ap is_some (sym (after_zero b path line.rest)) ∙ h
 
 -- a possible title is last only in a definition list
-title_off : (top : Option ItemBody) (ix : TreeIndex) (b : Option ItemBody) → is_definition_list top ≡ false → title_by top ix b ≡ None
-title_off top ix None h = refl
-title_off top ix (Some MaybeDefinitionListTitle) h = rw h refl
-title_off top ix (Some b) h = refl
+untitled : (f : Forest Item) (o : Option TreeIndex) → possible_title f ≡ o → is_definition_list (top_body f) ≡ false → o ≡ None
+untitled f None is h = refl
+untitled f (Some title) is h = absurd (true≢false (sym (ap is_definition_list (title_is f title is).top) ∙ h))
 
-title_none : (top : Option ItemBody) (nodes : List (ℕ × Item)) (c : Option TreeIndex) → is_definition_list top ≡ false
-    → option_and_then (λ (ix : TreeIndex). title_by top ix (body_at nodes ix.0)) c ≡ None
-title_none top nodes None h = refl
-title_none top nodes (Some c) h = title_off top c (body_at nodes c.0) h
-
-pub no_title : (f : Forest Item) → is_definition_list (top_body f) ≡ false → possible_title f ≡ None
-no_title f h = title_none (top_body f) f.nodes f.current h
-
-pub no_title_at : (f : Forest Item) (ix : TreeIndex) (rest : List TreeIndex) (b : ItemBody) → f.spine ≡ ix ∷ rest → body_at f.nodes ix.0 ≡ Some b
+no_title_at : (f : Forest Item) (ix : TreeIndex) (rest : List TreeIndex) (b : ItemBody) → f.spine ≡ ix ∷ rest → body_at f.nodes ix.0 ≡ Some b
     → is_definition_list (Some b) ≡ false → possible_title f ≡ None
-no_title_at f ix rest b spine is h = no_title f (ap (λ s. is_definition_list (top_in f.nodes s)) spine ∙ ap is_definition_list is ∙ h)
+no_title_at f ix rest b spine is h =
+    untitled f (possible_title f) refl (ap (λ s. is_definition_list (top_in f.nodes s)) spine ∙ ap is_definition_list is ∙ h)
 
 -- the innermost open node is closed, if its last child is no possible title
-pub popped_is : (e : ℕ) (r : PassState) (ix : TreeIndex) (rest : List TreeIndex) → r.tree.spine ≡ ix ∷ rest → possible_title r.tree ≡ None
+popped_is : (e : ℕ) (r : PassState) (ix : TreeIndex) (rest : List TreeIndex) → r.tree.spine ≡ ix ∷ rest → possible_title r.tree ≡ None
     → popped e r ≡ popped_by r (closed_by r.tree e (ix ∷ rest)) ix (body_at r.tree.nodes ix.0)
 unfolding popped
 popped_is e r ix rest spine none =
     ap (popped_after e r) none ∙ ap (popped_at e r) spine ∙ ap (popped_by r (closed_by r.tree e (ix ∷ rest)) ix)
     (body-kept r.tree.nodes ix.0 ix.0 (λ x. record { start = x.start; «end» = e; body = x.body }) (λ x. refl))
 
--- one that is no definition list
-pub popped_as : (e : ℕ) (r : PassState) (ix : TreeIndex) (rest : List TreeIndex) (b : ItemBody) → r.tree.spine ≡ ix ∷ rest → body_at r.tree.nodes ix.0 ≡ Some b
-    → is_definition_list (Some b) ≡ false → popped e r ≡ popped_by r (closed_by r.tree e (ix ∷ rest)) ix (Some b)
-popped_as e r ix rest b spine is h =
-    popped_is e r ix rest spine (no_title_at r.tree ix rest b spine is h) ∙ ap (popped_by r (closed_by r.tree e (ix ∷ rest)) ix) is
-
 -- a list
-list_by : (e : ℕ) (r : PassState) (ix : TreeIndex) (rest : List TreeIndex) (b : ItemBody) (flags : ListFlags) → list_flags_of b ≡ Some flags
-    → popped_by r (closed_by r.tree e (ix ∷ rest)) ix (Some b) ≡ record r { tree = list_popped r.tree e ix rest flags }
-list_by e r ix rest (ListBody flags byte number) other h = (let same : flags ≡ other = cc in ap (λ z. record r { tree = list_popped r.tree e ix rest z }) same)
-list_by e r ix rest (DefinitionList flags) other h = (let same : flags ≡ other = cc in ap (λ z. record r { tree = list_popped r.tree e ix rest z }) same)
-list_by e r ix rest b other h = cc
+list_by : (e : ℕ) (r : PassState) (ix : TreeIndex) (rest : List TreeIndex) (b : Option ItemBody) (flags : ListFlags)
+    → option_and_then list_flags_of b ≡ Some flags → popped_by r (closed_by r.tree e (ix ∷ rest)) ix b ≡ record r { tree = list_popped r.tree e ix rest flags }
+list_by e r ix rest b flags h = grind (arith, h)
 
-pub popped_list : (e : ℕ) (r : PassState) (ix : TreeIndex) (rest : List TreeIndex) (b : ItemBody) (flags : ListFlags) → r.tree.spine ≡ ix ∷ rest
-    → body_at r.tree.nodes ix.0 ≡ Some b → list_flags_of b ≡ Some flags → possible_title r.tree ≡ None
+pub popped_list : (e : ℕ) (r : PassState) (ix : TreeIndex) (rest : List TreeIndex) (flags : ListFlags) → r.tree.spine ≡ ix ∷ rest
+    → possible_title r.tree ≡ None → option_and_then list_flags_of (body_at r.tree.nodes ix.0) ≡ Some flags
     → popped e r ≡ record r { tree = list_popped r.tree e ix rest flags }
-popped_list e r ix rest b flags spine is listed none =
-    popped_is e r ix rest spine none ∙ ap (popped_by r (closed_by r.tree e (ix ∷ rest)) ix) is ∙ list_by e r ix rest b flags listed
+popped_list e r ix rest flags spine none listed = popped_is e r ix rest spine none ∙ list_by e r ix rest (body_at r.tree.nodes ix.0) flags listed
 
--- a definition list, out of which its last child is moved
-moved_by : (e : ℕ) (r : PassState) (ix : TreeIndex) (rest : List TreeIndex) (flags : ListFlags) (title : TreeIndex) → r.tree.spine ≡ ix ∷ rest
-    → body_at r.tree.nodes ix.0 ≡ Some (DefinitionList flags)
-    → current_moved (popped_at e r r.tree.spine) (Some title) ≡ record r { tree = moved_from (list_popped r.tree e ix rest flags) title.0 }
-moved_by e r ix rest flags title spine is =
-    ap (λ (q : PassState). with_tree q (moved_from q.tree title.0)) (ap (popped_at e r) spine ∙ ap (popped_by r (closed_by r.tree e (ix ∷ rest)) ix)
-    (body-kept r.tree.nodes ix.0 ix.0 (λ x. record { start = x.start; «end» = e; body = x.body }) (λ x. refl) ∙ is))
+listed_as : (b : Option ItemBody) → is_list b ≡ true → (flags : ListFlags) × (option_and_then list_flags_of b ≡ Some flags)
+listed_as (Some (ListBody flags byte number)) h = (flags, refl)
+listed_as (Some (DefinitionList flags)) h = (flags, refl)
+listed_as b h = cc
 
-pub definitions_closed_is : (e : ℕ) (r : PassState) (ix : TreeIndex) (rest : List TreeIndex) (flags : ListFlags) (c : TreeIndex) → r.tree.spine ≡ ix ∷ rest
-    → body_at r.tree.nodes ix.0 ≡ Some (DefinitionList flags) → r.tree.current ≡ Some c
-    → definitions_closed e r ≡ record r { tree = moved_from (list_popped r.tree e ix rest flags) c.0 }
-unfolding definitions_closed
-definitions_closed_is e r ix rest flags c spine is current =
-    ap (current_moved (popped_at e r r.tree.spine)) current ∙ moved_by e r ix rest flags c spine is
+-- another node
+other_by : (r : PassState) (g : Forest Item) (ix : TreeIndex) (b : Option ItemBody) → is_list b ≡ false
+    → popped_by r g ix b ≡ record r { tree = g; begin_list_item = if is_item b then None else r.begin_list_item }
+other_by r g ix b h = grind (arith, h)
+
+-- one that is no list
+pub popped_as : (e : ℕ) (r : PassState) (ix : TreeIndex) (rest : List TreeIndex) (b : ItemBody) → r.tree.spine ≡ ix ∷ rest → body_at r.tree.nodes ix.0 ≡ Some b
+    → is_list (Some b) ≡ false
+    → popped e r ≡ record r { tree = closed_by r.tree e (ix ∷ rest); begin_list_item = if is_item (Some b) then None else r.begin_list_item }
+popped_as e r ix rest b spine is h =
+    popped_is e r ix rest spine (no_title_at r.tree ix rest b spine is (list_class (Some b) h)) ∙ ap (popped_by r (closed_by r.tree e (ix ∷ rest)) ix) is
+    ∙ other_by r (closed_by r.tree e (ix ∷ rest)) ix (Some b) h
+
+-- an item or a definition
+pub item_popped : (e : ℕ) (r : PassState) (ix : TreeIndex) (rest : List TreeIndex) (b : ItemBody) (n : ℕ) → r.tree.spine ≡ ix ∷ rest
+    → body_at r.tree.nodes ix.0 ≡ Some (item_body b n) → popped e r ≡ record r { tree = closed_by r.tree e (ix ∷ rest); begin_list_item = None }
+item_popped e r ix rest b n spine is =
+    popped_as e r ix rest (item_body b n) spine is (item_kind b n).1
+    ∙ ap (λ t. record r { tree = closed_by r.tree e (ix ∷ rest); begin_list_item = if t then None else r.begin_list_item }) (item_kind b n).0
 
 -- its last child is a possible title
 body_apart : (nodes : List (ℕ × Item)) (place i : ℕ) (g : Item → Item) (a b : ItemBody) → (a ≡ b → ⊥) → body_at nodes place ≡ Some a
@@ -165,182 +142,244 @@ body_apart (n ∷ nodes) (suc place) (suc i) g a b apart here there = body_apart
 title_no_list : (flags : ListFlags) → MaybeDefinitionListTitle ≡ DefinitionList flags → ⊥
 title_no_list flags h = cc
 
-pub popped_title : (e : ℕ) (r : PassState) (ix : TreeIndex) (rest : List TreeIndex) (title : TreeIndex) (t : IsTitle r.tree title) → r.tree.spine ≡ ix ∷ rest
-    → possible_title r.tree ≡ Some title
-    → popped e r ≡ record r { tree = title_popped r.tree (top_end r.tree) ix rest t.flags title }
+popped_title : (e : ℕ) (r : PassState) (l : TitledList r.tree) → possible_title r.tree ≡ Some l.title → popped e r ≡ record r { tree = title_closed r.tree l }
 unfolding popped
-popped_title e r ix rest title t spine is =
-    let q : PassState = with_tree r (with_body_at r.tree title ParagraphBody) in
-    let listed : body_at r.tree.nodes ix.0 ≡ Some (DefinitionList t.flags) = ap (top_in r.tree.nodes) (sym spine) ∙ t.top in
+popped_title e r l is =
+    let t = l.titled in
+    let q : PassState = with_tree r (with_body_at r.tree l.title ParagraphBody) in
+    let listed : body_at r.tree.nodes l.list.0 ≡ Some (DefinitionList t.flags) = ap (top_in r.tree.nodes) (sym l.spine) ∙ t.top in
     ap (popped_after e r) is
-    ∙ definitions_closed_is (top_end r.tree) q ix rest t.flags title spine
-    (body_apart r.tree.nodes title.0 ix.0 (λ x. record { start = x.start; «end» = x.«end»; body = ParagraphBody }) MaybeDefinitionListTitle
-    (DefinitionList t.flags) (title_no_list t.flags) (body_of r.tree title t.item t.is ∙ ap (λ z. Some z) t.body) listed) t.current
+    ∙ definitions_closed_is (top_end r.tree) q l.list l.outer t.flags l.title l.spine
+    (body_apart r.tree.nodes l.title.0 l.list.0 (λ x. record { start = x.start; «end» = x.«end»; body = ParagraphBody }) MaybeDefinitionListTitle
+    (DefinitionList t.flags) (title_no_list t.flags) (body_of r.tree l.title t.item t.is ∙ ap (λ z. Some z) t.body) listed) t.current
 
--- an open node has a frame
-framed_open : (options : Options) (nodes : List (ℕ × Item)) (ix : TreeIndex) (rest : List TreeIndex) (frames : List Frame)
-    → AreOpen options nodes (ix ∷ rest) frames → (frame : Frame) × (frame_at options nodes ix.0 ≡ Some frame)
-framed_open options nodes ix rest [] o = absurd o
-framed_open options nodes ix rest (frame ∷ frames) o = (frame, o.0)
+-- The innermost open node is closed: a list, a definition list whose last child is a possible title, or another node.
+module _ (e : ℕ) (r : PassState) (ix : TreeIndex) (rest : List TreeIndex) (spine : r.tree.spine ≡ ix ∷ rest) (P : PassState → Type 0)
+    (list : (l : PlainList r.tree) → P (record r { tree = list_popped r.tree e l.list l.outer l.flags }))
+    (titled : (l : TitledList r.tree) → P (record r { tree = title_closed r.tree l }))
+    (other : is_list (body_at r.tree.nodes ix.0) ≡ false → P (record r {
+      tree = closed_by r.tree e (ix ∷ rest);
+      begin_list_item = if is_item (body_at r.tree.nodes ix.0) then None else r.begin_list_item;
+    })) where
+  untitled_cases : (t : Bool) → is_list (body_at r.tree.nodes ix.0) ≡ t → possible_title r.tree ≡ None
+      → P (popped_by r (closed_by r.tree e (ix ∷ rest)) ix (body_at r.tree.nodes ix.0))
+  untitled_cases true is none =
+      let l = listed_as (body_at r.tree.nodes ix.0) is in
+      subst P (sym (list_by e r ix rest (body_at r.tree.nodes ix.0) l.0 l.1))
+      (list (record { list = ix; outer = rest; flags = l.0; spine = spine; listed = l.1; none = none }))
+  untitled_cases false is none = subst P (sym (other_by r (closed_by r.tree e (ix ∷ rest)) ix (body_at r.tree.nodes ix.0) is)) (other is)
 
--- the state beside the tree
-kept_by : (e : ℕ) (r : PassState) (ix : TreeIndex) (rest : List TreeIndex) (b : Option ItemBody)
-    → (let q : PassState = popped_by r (closed_by r.tree e (ix ∷ rest)) ix b in (q.blank ≡ r.blank) × (r.begin_list_item ≡ None → q.begin_list_item ≡ None))
-kept_by e r ix rest (Some (ListItemBody columns)) = (refl, λ none. refl)
-kept_by e r ix rest (Some (DefinitionListDefinition columns)) = (refl, λ none. refl)
-kept_by e r ix rest b = (refl, λ none. none)
+  title_cases : (o : Option TreeIndex) → possible_title r.tree ≡ o → P (popped e r)
+  title_cases None none = subst P (sym (popped_is e r ix rest spine none)) (untitled_cases (is_list (body_at r.tree.nodes ix.0)) refl none)
+  title_cases (Some title) is =
+      let l : TitledList r.tree = record { list = ix; outer = rest; title = title; spine = spine; titled = title_is r.tree title is } in
+      subst P (sym (popped_title e r l is)) (titled l)
 
-keeps_by : (e : ℕ) (r : PassState) (ix : TreeIndex) (rest : List TreeIndex) (o : Option TreeIndex) → possible_title r.tree ≡ o → r.tree.spine ≡ ix ∷ rest
-    → ((popped e r).blank ≡ r.blank) × (r.begin_list_item ≡ None → (popped e r).begin_list_item ≡ None)
-keeps_by e r ix rest None none spine =
-    subst (λ (q : PassState). (q.blank ≡ r.blank) × (r.begin_list_item ≡ None → q.begin_list_item ≡ None)) (sym (popped_is e r ix rest spine none))
-    (kept_by e r ix rest (body_at r.tree.nodes ix.0))
-keeps_by e r ix rest (Some title) is spine =
-    let t = title_is r.tree title is in
-    subst (λ (q : PassState). (q.blank ≡ r.blank) × (r.begin_list_item ≡ None → q.begin_list_item ≡ None)) (sym (popped_title e r ix rest title t spine is))
-    (refl, λ none. none)
+  pub popped_cases : P (popped e r)
+  popped_cases = title_cases (possible_title r.tree) refl
 
-pub popped_keeps : (e : ℕ) (r : PassState) (ix : TreeIndex) (rest : List TreeIndex) → r.tree.spine ≡ ix ∷ rest
-    → ((popped e r).blank ≡ r.blank) × (r.begin_list_item ≡ None → (popped e r).begin_list_item ≡ None)
-popped_keeps e r ix rest spine = keeps_by e r ix rest (possible_title r.tree) refl spine
+-- the same for a list that is innermost, if there is one
+module _ (e : ℕ) (r : PassState) (P : PassState → Type 0) (still : is_list (top_body r.tree) ≡ false → P r)
+    (list : (l : PlainList r.tree) → P (record r { tree = list_popped r.tree e l.list l.outer l.flags }))
+    (titled : (l : TitledList r.tree) → P (record r { tree = title_closed r.tree l })) where
+  spine_cases : (t : Bool) (s : List TreeIndex) → r.tree.spine ≡ s → is_list (top_in r.tree.nodes s) ≡ t → P (if t then popped e r else r)
+  spine_cases false s spine is = still (ap (λ z. is_list (top_in r.tree.nodes z)) spine ∙ is)
+  spine_cases true [] spine is = cc
+  spine_cases true (ix ∷ rest) spine is = popped_cases e r ix rest spine P list titled (λ other. absurd (true≢false (sym is ∙ other)))
 
-pub has_definition : (f : Forest Item) (ix : TreeIndex) (rest : List TreeIndex) (b : ItemBody) → f.spine ≡ ix ∷ rest → body_at f.nodes ix.0 ≡ Some b
-    → possible_title f ≡ None → HasDefinition b (closed_in f)
-has_definition f ix rest (DefinitionList flags) spine is none = closed_definition f flags (ap (top_in f.nodes) spine ∙ is) none
-has_definition f ix rest b spine is none = tt
+  pub list_cases : P (list_closed e r)
+  list_cases = spine_cases (is_list (top_body r.tree)) r.tree.spine refl refl
 
--- The innermost open node, which is closed before the next line, and the offset at which that line starts.
-record ClosesBefore (d : Document) (f : Forest Item) (lines : List Place) : Type 0 where
-  node : TreeIndex
-  outer : List TreeIndex
-  forest : IsForest f
-  spine : f.spine ≡ node ∷ outer
-  next : ℕ
-  starts : start_of (length d.text) lines ≡ next
+-- closing changes no container
+abbrev pub SameContainers : List (ℕ × Item) → List (ℕ × Item) → Type 0
+SameContainers nodes other =
+    (options : Options) (i : ℕ) → option_and_then (container_of options) (body_at other i) ≡ option_and_then (container_of options) (body_at nodes i)
 
-module _ (d : Document) (defined : Tables) (r : PassState) (lines : List Place) (w : ClosesBefore d r.tree lines) where
-  -- what precedes the next block, after a run of blank lines that counts or not
-  abbrev after_run : Bool → Before
-  after_run run = record { last = last_plain (closed_in r.tree); counted = run }
+pub same_path : (nodes other : List (ℕ × Item)) → SameContainers nodes other → (options : Options) (s : List TreeIndex)
+    → path_in options other s ≡ path_in options nodes s
+same_path nodes other h options [] = refl
+same_path nodes other h options (ix ∷ s) =
+    ap (λ c. with_container c (path_in options other s)) (h options ix.0)
+    ∙ ap (with_container (container_at options nodes ix)) (same_path nodes other h options s)
 
+tight_container : (options : Options) (b : ItemBody) → container_of options (tight_body b) ≡ container_of options b
+tight_container options b = grind arith
+
+tightened_container : (options : Options) (t : Bool) (x : Item)
+    → container_of options (if t then record { start = x.start; «end» = x.«end»; body = tight_body x.body } else x).body ≡ container_of options x.body
+tightened_container options t x = grind (arith, tight_container)
+
+run_containers : (depth : ℕ) (nodes : List (ℕ × Item)) → SameContainers nodes (tight_run depth nodes)
+unfolding tight_run
+run_containers depth [] options i = refl
+run_containers depth (n ∷ nodes) options zero =
+    cond_both (nat_lt depth n.0) (tightened (depth + 2) n ∷ tight_run depth nodes) (n ∷ nodes)
+    (λ z. option_and_then (container_of options) (body_at z 0) ≡ container_of options n.1.body)
+    (λ t. tightened_container options (n.0 == (depth + 2)) n.1) (λ t. refl)
+run_containers depth (n ∷ nodes) options (suc i) =
+    cond_both (nat_lt depth n.0) (tightened (depth + 2) n ∷ tight_run depth nodes) (n ∷ nodes)
+    (λ z. option_and_then (container_of options) (body_at z (suc i)) ≡ option_and_then (container_of options) (body_at nodes i))
+    (λ t. run_containers depth nodes options i) (λ t. refl)
+
+tight_containers : (depth from : ℕ) (nodes : List (ℕ × Item)) → SameContainers nodes (tight_at depth from nodes)
+unfolding tight_at
+tight_containers depth zero nodes options i = run_containers depth nodes options i
+tight_containers depth (suc from) [] options i = refl
+tight_containers depth (suc from) (n ∷ nodes) options zero = refl
+tight_containers depth (suc from) (n ∷ nodes) options (suc i) = tight_containers depth from nodes options i
+
+module _ (e : ℕ) (f : Forest Item) (ix : TreeIndex) (rest : List TreeIndex) where
+  pub closed_containers : SameContainers f.nodes (closed_by f e (ix ∷ rest)).nodes
+  closed_containers options i =
+      ap (option_and_then (container_of options)) (body-kept f.nodes ix.0 i (λ x. record { start = x.start; «end» = e; body = x.body }) (λ x. refl))
+
+  list_containers : (t : Bool) → SameContainers f.nodes (if t then tight_items (closed_by f e (ix ∷ rest)) ix else closed_by f e (ix ∷ rest)).nodes
+  list_containers true options i = tight_containers _ (ix.0 + 1) (closed_by f e (ix ∷ rest)).nodes options i ∙ closed_containers options i
+  list_containers false options i = closed_containers options i
+
+-- a body that is no container's changes to another that is none
+pub unnamed : (nodes : List (ℕ × Item)) (place : ℕ) (a b : ItemBody)
+    → ((options : Options) → (container_of options a ≡ None) × (container_of options b ≡ None))
+    → body_at nodes place ≡ Some a → SameContainers nodes (modify nodes place (λ x. record { start = x.start; «end» = x.«end»; body = b }))
+unnamed (n ∷ nodes) zero a b none is options zero =
+    (let h : n.1.body ≡ a = cc in (none options).1 ∙ sym (ap (container_of options) h ∙ (none options).0))
+unnamed (n ∷ nodes) (suc place) a b none is options (suc i) = unnamed nodes place a b none is options i
+unnamed nodes place a b none is options w = refl
+
+-- What is left after the innermost open node is closed: the other open nodes, their containers, and the state beside
+-- the tree.
+pub record KeptPopped (old new : PassState) : Type 0 where
+  pub spine : new.tree.spine ≡ drop 1 old.tree.spine
+  pub paths : (options : Options) (s : List TreeIndex) → path_in options new.tree.nodes s ≡ path_in options old.tree.nodes s
+  pub blank : new.blank ≡ old.blank
+  pub none : old.begin_list_item ≡ None → new.begin_list_item ≡ None
+
+none_if : (t : Bool) (o : Option ℕ) → o ≡ None → (if t then None else o) ≡ None
+none_if t o none = grind (arith, none)
+
+pub popped_kept : (e : ℕ) (r : PassState) (ix : TreeIndex) (rest : List TreeIndex) → r.tree.spine ≡ ix ∷ rest → KeptPopped r (popped e r)
+popped_kept e r ix rest spine = popped_cases e r ix rest spine (KeptPopped r)
+    (λ l. record {
+      spine = list_spine r.tree e l.list l.outer l.flags ∙ ap (drop 1) (sym l.spine);
+      paths = same_path r.tree.nodes _ (list_containers e r.tree l.list l.outer (bit_and l.flags.0 1 == 1));
+      blank = refl;
+      none = λ none. none;
+    })
+    (λ l. let f : Forest Item = with_body_at r.tree l.title ParagraphBody in record {
+      spine = list_spine f (top_end r.tree) l.list l.outer l.titled.flags ∙ ap (drop 1) (sym l.spine);
+      paths = same_path r.tree.nodes (title_closed r.tree l).nodes (λ options i.
+          ap (option_and_then (container_of options)) (body-moved (list_popped f (top_end r.tree) l.list l.outer l.titled.flags).nodes l.title.0 i)
+          ∙ list_containers (top_end r.tree) f l.list l.outer (bit_and l.titled.flags.0 1 == 1) options i
+          ∙ unnamed r.tree.nodes l.title.0 MaybeDefinitionListTitle ParagraphBody (λ options. (refl, refl))
+          (body_of r.tree l.title l.titled.item l.titled.is ∙ ap (λ z. Some z) l.titled.body) options i);
+      blank = refl;
+      none = λ none. none;
+    })
+    (λ other. record {
+      spine = ap (drop 1) (sym spine);
+      paths = same_path r.tree.nodes _ (closed_containers e r.tree ix rest);
+      blank = refl;
+      none = none_if (is_item (body_at r.tree.nodes ix.0)) r.begin_list_item;
+    })
+
+pub popped_spine : (e : ℕ) (r : PassState) (ix : TreeIndex) (rest : List TreeIndex) → r.tree.spine ≡ ix ∷ rest → (popped e r).tree.spine ≡ rest
+popped_spine e r ix rest spine = (popped_kept e r ix rest spine).spine ∙ ap (drop 1) spine
+
+-- a closed list is in the same containers
+list_outside : (options : Options) (b : Option ItemBody) → is_list b ≡ true → option_and_then (container_of options) b ≡ None
+list_outside options b h = grind (arith, h)
+
+pub list_path : (options : Options) (nodes : List (ℕ × Item)) (ix : TreeIndex) (rest : List TreeIndex) → is_list (body_at nodes ix.0) ≡ true
+    → path_in options nodes (ix ∷ rest) ≡ path_in options nodes rest
+list_path options nodes ix rest is = ap (λ z. with_container z (path_in options nodes rest)) (list_outside options (body_at nodes ix.0) is)
+
+-- what is left after an innermost list, if there is one, is closed
+pub record KeptLeft (old new : PassState) : Type 0 where
+  pub path : (options : Options) → path_of options new.tree ≡ path_of options old.tree
+  pub blank : new.blank ≡ old.blank
+  pub none : old.begin_list_item ≡ None → new.begin_list_item ≡ None
+
+left_kept : (e : ℕ) (r : PassState) (t : Bool) (s : List TreeIndex) → r.tree.spine ≡ s → is_list (top_in r.tree.nodes s) ≡ t
+    → KeptLeft r (if t then popped e r else r)
+left_kept e r false s spine is = record { path = λ options. refl; blank = refl; none = λ none. none }
+left_kept e r true [] spine is = cc
+left_kept e r true (ix ∷ rest) spine is =
+    let kept = popped_kept e r ix rest spine in
+    record {
+      path = λ options. kept.paths options (popped e r).tree.spine ∙ ap (path_in options r.tree.nodes) (popped_spine e r ix rest spine)
+          ∙ sym (ap (path_in options r.tree.nodes) spine ∙ list_path options r.tree.nodes ix rest is);
+      blank = kept.blank;
+      none = kept.none;
+    }
+
+pub kept_left : (e : ℕ) (r : PassState) → KeptLeft r (list_closed e r)
+kept_left e r = left_kept e r (is_list (top_body r.tree)) r.tree.spine refl refl
+
+module _ (d : Document) (defined : Tables) (r : PassState) (lines : List Place) (e : ℕ) (ix : TreeIndex) (rest : List TreeIndex) (forest : IsForest r.tree)
+    (spine : r.tree.spine ≡ ix ∷ rest) (starts : start_of (length d.text) lines ≡ e) (ends : next_goes_on (path_of d.options r.tree) lines ≡ false) where
   abbrev path : List Container
-  path = path_in d.options r.tree.nodes w.outer
+  path = path_in d.options r.tree.nodes rest
 
-  -- the innermost open node, a container, is closed before the next line
-  pop_container : (run : Bool) (c : Container) → frame_at d.options r.tree.nodes w.node.0 ≡ Some (InContainer c) → next_goes_on (c ∷ path) lines ≡ false
-      → ReadyAt d defined r.tree run Line lines → ReadyAt d defined (closed_by r.tree w.next (w.node ∷ w.outer)) run Line lines
-  pop_container run c frame ends ready =
-      (leave_container d defined r.tree run Line lines w.next w.node w.outer c
-      (record { spine = w.spine; frame = frame; ends = stops d.options (level (c ∷ path) (after_run run)) lines ends; at_end = sym w.starts }) ready).ready
+  -- a line does not continue the innermost open node, a container
+  container_ends : (c : Container) → container_at d.options r.tree.nodes ix ≡ Some c → next_goes_on (c ∷ path) lines ≡ false
+  container_ends c is =
+      subst (λ o. next_goes_on (with_container o path) lines ≡ false) is (subst (λ s. next_goes_on (path_in d.options r.tree.nodes s) lines ≡ false) spine ends)
 
-  -- any innermost open node, and no item is empty
-  pop_as : (b : Option ItemBody) (frame : Frame) → possible_title r.tree ≡ None → body_at r.tree.nodes w.node.0 ≡ b
-      → option_and_then (frame_of d.options) b ≡ Some frame
-      → next_goes_on (with_container (option_and_then (container_of d.options) b) path) lines ≡ false
-      → ReadyAt d defined r.tree r.blank Line lines
-      → ReadyAt d defined (popped_by r (closed_by r.tree w.next (w.node ∷ w.outer)) w.node b).tree r.blank Line lines
-  pop_as None frame none is framed ends ready = cc
-  pop_as (Some (BlockQuoteBody kind)) frame none is framed ends ready =
-      pop_container r.blank (BlockQuote kind) (ap (option_and_then (frame_of d.options)) is) ends ready
-  pop_as (Some (ListItemBody columns)) frame none is framed ends ready =
-      pop_container r.blank (ListItem columns) (ap (option_and_then (frame_of d.options)) is) ends ready
-  pop_as (Some (DefinitionListDefinition columns)) frame none is framed ends ready =
-      pop_container r.blank (Definition columns) (ap (option_and_then (frame_of d.options)) is) ends ready
-  pop_as (Some (FootnoteDefinitionBody label)) frame none is framed ends ready =
-      pop_container r.blank (FootnoteDefinition (footnote_columns d.options)) (ap (option_and_then (frame_of d.options)) is) ends ready
-  pop_as (Some (ListBody flags list number)) frame none is framed ends ready =
-      pop_list d defined r.tree r.blank lines w.next w.node w.outer (ListBody flags list number) flags w.forest w.spine is refl tt w.starts ends ready
-  pop_as (Some (DefinitionList flags)) frame none is framed ends ready =
-      pop_list d defined r.tree r.blank lines w.next w.node w.outer (DefinitionList flags) flags w.forest w.spine is refl
-      (has_definition r.tree w.node w.outer (DefinitionList flags) w.spine is none) w.starts ends ready
-  pop_as (Some b) frame none is framed ends ready = cc
+  -- it is closed before the next line
+  pop_container : (run : Bool) (c : Container) → container_at d.options r.tree.nodes ix ≡ Some c
+      → ReadyAt d defined r.tree run Line lines → ReadyAt d defined (closed_by r.tree e (ix ∷ rest)) run Line lines
+  pop_container run c is ready =
+      (leave_container d defined r.tree run lines e ix rest c spine is Line
+      (stops d.options (level (c ∷ path) (record { last = last_plain (closed_in r.tree); counted = run })) lines (container_ends c is)) (sym starts)
+      ready).ready
 
-  ends_at : next_goes_on (path_of d.options r.tree) lines ≡ false → next_goes_on (path_in d.options r.tree.nodes (w.node ∷ w.outer)) lines ≡ false
-  ends_at ends = subst (λ s. next_goes_on (path_in d.options r.tree.nodes s) lines ≡ false) w.spine ends
+  pop_framed : (frame : Frame) → HasFrame d.options (body_at r.tree.nodes ix.0) frame → is_list (body_at r.tree.nodes ix.0) ≡ false
+      → ReadyAt d defined r.tree r.blank Line lines → ReadyAt d defined (closed_by r.tree e (ix ∷ rest)) r.blank Line lines
+  pop_framed (InContainer c) h other ready = pop_container r.blank c h ready
+  pop_framed (InList byte loose) h other ready = absurd (true≢false (sym (ap is_list h.1) ∙ other))
+  pop_framed (InDefinitions loose) h other ready = absurd (true≢false (sym (ap is_list h) ∙ other))
 
-  pop_by : (o : Option TreeIndex) → possible_title r.tree ≡ o → next_goes_on (path_of d.options r.tree) lines ≡ false
-      → ReadyAt d defined r.tree r.blank Line lines → ReadyAt d defined (popped w.next r).tree r.blank Line lines
-  pop_by None none ends ready =
-      let o : AreOpen d.options r.tree.nodes (w.node ∷ w.outer) ready.frames =
-      subst (λ s. AreOpen d.options r.tree.nodes s ready.frames) w.spine ready.are_open in
-      let frame = framed_open d.options r.tree.nodes w.node w.outer ready.frames o in
-      subst (λ (q : PassState). ReadyAt d defined q.tree r.blank Line lines) (sym (popped_is w.next r w.node w.outer w.spine none))
-      (pop_as (body_at r.tree.nodes w.node.0) frame.0 none refl frame.1 (ends_at ends) ready)
-  pop_by (Some title) is ends ready =
-      let t = title_is r.tree title is in
-      subst (λ (q : PassState). ReadyAt d defined q.tree r.blank Line lines) (sym (popped_title w.next r w.node w.outer title t w.spine is))
-      (pop_title d defined r.tree r.blank lines
-      (record { list = w.node; outer = w.outer; title = title; forest = w.forest; spine = w.spine; titled = t }) ends ready)
+  pop_plain : ReadyAt d defined r.tree r.blank Line lines → ReadyAt d defined (popped e r).tree r.blank Line lines
+  pop_plain ready = popped_cases e r ix rest spine (λ q. ReadyAt d defined q.tree r.blank Line lines)
+      (λ l. (shut_list d defined r.tree r.blank lines e forest l Line (line_ends d (path_of d.options r.tree) lines e ends starts) ready).ready)
+      (λ l. (shut_title d defined r.tree r.blank lines forest l Line e (line_ends d (path_of d.options r.tree) lines e ends starts) ready).ready)
+      (λ other. let i = innermost_of d defined r.tree r.blank Line lines ix rest spine ready in pop_framed i.0 i.1 other ready)
 
-  pop_plain : next_goes_on (path_of d.options r.tree) lines ≡ false → ReadyAt d defined r.tree r.blank Line lines
-      → ReadyAt d defined (popped w.next r).tree r.blank Line lines
-  pop_plain ends ready = pop_by (possible_title r.tree) refl ends ready
+  pop_none : r.begin_list_item ≡ None → ReadyAt d defined r.tree r.blank Line lines → Ready d defined (popped e r) lines
+  pop_none none ready =
+      let kept = popped_kept e r ix rest spine in
+      ready_plain d defined (popped e r) lines (kept.none none)
+      (subst (λ b. ReadyAt d defined (popped e r).tree b Line lines) (sym kept.blank) (pop_plain ready))
 
-  pop_none : r.begin_list_item ≡ None → next_goes_on (path_of d.options r.tree) lines ≡ false → ReadyAt d defined r.tree r.blank Line lines
-      → Ready d defined (popped w.next r) lines
-  pop_none none ends ready =
-      let kept = popped_keeps w.next r w.node w.outer w.spine in
-      ready_plain d defined (popped w.next r) lines (kept.1 none)
-      (subst (λ b. ReadyAt d defined (popped w.next r).tree b Line lines) (sym kept.0) (pop_plain ends ready))
+  -- the innermost open node is an item or a definition, which may be empty
+  module _ (b : ItemBody) (columns : ℕ) (item : body_at r.tree.nodes ix.0 ≡ Some (item_body b columns)) where
+    item_in : container_at d.options r.tree.nodes ix ≡ Some (item_container b columns)
+    item_in = ap (option_and_then (container_of d.options)) item ∙ item_path d.options b columns
 
-  -- The innermost open node is an item or a definition, which may be empty.
-  record ItemNode : Type 0 where
-    body : ItemBody
-    columns : ℕ
-    item : body_at r.tree.nodes w.node.0 ≡ Some (item_body body columns)
-
-  -- it is closed
-  module _ (m : ItemNode) (ends : next_goes_on (path_of d.options r.tree) lines ≡ false) where
-    item_ends : next_goes_on (item_container m.body m.columns ∷ path) lines ≡ false
-    item_ends =
-        let c : container_at d.options r.tree.nodes w.node ≡ Some (item_container m.body m.columns) =
-        ap (option_and_then (container_of d.options)) m.item ∙ item_path d.options m.body m.columns in
-        subst (λ o. next_goes_on (with_container o path) lines ≡ false) c (ends_at ends)
-
-    framed_item : frame_at d.options r.tree.nodes w.node.0 ≡ Some (InContainer (item_container m.body m.columns))
-    framed_item = ap (option_and_then (frame_of d.options)) m.item ∙ item_frame d.options m.body m.columns
-
-    closed_item : (x : ℕ) (blank : Bool) → r.blank ≡ blank → (blank ≡ true → m.columns ≡ 0) → ReadyInItem d defined r.tree x lines blank
-        → ReadyAt d defined (closed_by r.tree w.next (w.node ∷ w.outer)) blank Line lines
+    closed_item : (x : ℕ) (blank : Bool) → r.blank ≡ blank → (blank ≡ true → columns ≡ 0) → ReadyInItem d defined r.tree x lines blank
+        → ReadyAt d defined (closed_by r.tree e (ix ∷ rest)) blank Line lines
     closed_item x true is none ready =
-        let ends0 : next_goes_on (item_container m.body 0 ∷ path) lines ≡ false =
-        subst (λ n. next_goes_on (item_container m.body n ∷ path) lines ≡ false) (none refl) item_ends in
-        let last : w.next ≡ end_before (length d.text) path (Blanks x) (Lines lines) =
-        sym (ap (λ t. if t then x else start_of (length d.text) lines) (not_on m.body path lines ends0) ∙ w.starts) in
-        let c : Container = item_container m.body m.columns in
-        (leave_container d defined r.tree true (Blanks x) lines w.next w.node w.outer c (record {
-          spine = w.spine;
-          frame = framed_item;
-          ends = stops_blank d.options (level (c ∷ path) (after_run true)) x lines (not_blank (c ∷ path) lines item_ends);
-          at_end = last;
-        }) ready).ready
+        let c : Container = item_container b columns in
+        let empty : next_goes_on (item_container b 0 ∷ path) lines ≡ false =
+        subst (λ n. next_goes_on (item_container b n ∷ path) lines ≡ false) (none refl) (container_ends c item_in) in
+        (leave_container d defined r.tree true lines e ix rest c spine item_in (Blanks x)
+        (stops_blank d.options (level (c ∷ path) (record { last = last_plain (closed_in r.tree); counted = true })) x lines
+        (not_blank (c ∷ path) lines (container_ends c item_in)))
+        (sym (ap (λ t. if t then x else start_of (length d.text) lines) (not_on b path lines empty) ∙ starts)) ready).ready
     closed_item x false is none ready =
-        let now : ReadyAt d defined r.tree false Line lines =
-        subst (ReadyBeforeLine d defined r.tree x lines) (not_blank (path_of d.options r.tree) lines ends) ready in
-        pop_container false (item_container m.body m.columns) framed_item item_ends now
+        pop_container false (item_container b columns) item_in
+        (subst (ReadyBeforeLine d defined r.tree x lines) (not_blank (path_of d.options r.tree) lines ends) ready)
 
-    item_by : (a : ItemBody) → popped_by r (closed_by r.tree w.next (w.node ∷ w.outer)) w.node (Some (item_body a m.columns))
-        ≡ record r { tree = closed_by r.tree w.next (w.node ∷ w.outer); begin_list_item = None }
-    item_by (DefinitionListDefinition n) = refl
-    item_by a = refl
-
-    popped_item : popped w.next r ≡ record r { tree = closed_by r.tree w.next (w.node ∷ w.outer); begin_list_item = None }
-    popped_item = popped_as w.next r w.node w.outer (item_body m.body m.columns) w.spine m.item (item_no_list m.body m.columns) ∙ item_by m.body
-
-  pop_with : (o : Option ℕ) → r.begin_list_item ≡ o → next_goes_on (path_of d.options r.tree) lines ≡ false → ReadyWith d defined r lines o
-      → Ready d defined (popped w.next r) lines
-  pop_with None none ends ready = pop_none none ends ready
-  pop_with (Some x) some ends ready =
-      let same : ready.place ∷ ready.outer ≡ w.node ∷ w.outer = sym ready.spine ∙ w.spine in
-      let at : ready.place ≡ w.node = cc in
-      let b = columns_are (body_at r.tree.nodes ready.place.0) ready.columns ready.item in
-      let item : body_at r.tree.nodes w.node.0 ≡ Some (item_body b.0 ready.columns) =
-      subst (λ (i : TreeIndex). body_at r.tree.nodes i.0 ≡ Some (item_body b.0 ready.columns)) at
-      (b.1 ∙ ap (λ z. Some z) (sym (item_is b.0 ready.columns b.2))) in
-      let m : ItemNode = record { body = b.0; columns = ready.columns; item = item } in
-      subst (λ q. Ready d defined q lines) (sym (popped_item m ends))
-      (ready_plain d defined (record r { tree = closed_by r.tree w.next (w.node ∷ w.outer); begin_list_item = None }) lines refl
-      (closed_item m ends x r.blank refl ready.none ready.ready))
+  pop_with : (o : Option ℕ) → r.begin_list_item ≡ o → ReadyWith d defined r lines o → Ready d defined (popped e r) lines
+  pop_with None none ready = pop_none none ready
+  pop_with (Some x) some ready =
+      let same : ready.place ∷ ready.outer ≡ ix ∷ rest = sym ready.spine ∙ spine in
+      let at : ready.place ≡ ix = cc in
+      let own = item_own (body_at r.tree.nodes ix.0) ready.columns
+      (subst (λ (i : TreeIndex). option_and_then item_columns (body_at r.tree.nodes i.0) ≡ Some ready.columns) at ready.item) in
+      subst (λ q. Ready d defined q lines) (sym (item_popped e r ix rest own.0 ready.columns spine own.1))
+      (ready_plain d defined (record r { tree = closed_by r.tree e (ix ∷ rest); begin_list_item = None }) lines refl
+      (closed_item own.0 ready.columns own.1 x r.blank refl ready.none ready.ready))
 
 -- the innermost open node is closed before the next line
 pub ready_pop : (d : Document) (defined : Tables) (r : PassState) (lines : List Place) (e : ℕ) (ix : TreeIndex) (rest : List TreeIndex)
@@ -348,135 +387,13 @@ pub ready_pop : (d : Document) (defined : Tables) (r : PassState) (lines : List 
     → Ready d defined r lines → Ready d defined (popped e r) lines
 unfolding Ready
 ready_pop d defined r lines e ix rest forest spine e_is ends ready =
-    pop_with d defined r lines (record { node = ix; outer = rest; forest = forest; spine = spine; next = e; starts = e_is }) r.begin_list_item refl ends ready
-
--- closing changes no container
-pub same_path : (options : Options) (nodes other : List (ℕ × Item))
-    → ((i : ℕ) → option_and_then (container_of options) (body_at other i) ≡ option_and_then (container_of options) (body_at nodes i)) → (s : List TreeIndex)
-    → path_in options other s ≡ path_in options nodes s
-same_path options nodes other h [] = refl
-same_path options nodes other h (ix ∷ s) =
-    ap (λ c. with_container c (path_in options other s)) (h ix.0) ∙ ap (with_container (container_at options nodes ix)) (same_path options nodes other h s)
-
-tight_container : (options : Options) (b : ItemBody) → container_of options (tight_body b) ≡ container_of options b
-tight_container options ParagraphBody = refl
-tight_container options b = refl
-
-tightened_container : (options : Options) (t : Bool) (x : Item)
-    → container_of options (if t then record { start = x.start; «end» = x.«end»; body = tight_body x.body } else x).body ≡ container_of options x.body
-tightened_container options true x = tight_container options x.body
-tightened_container options false x = refl
-
-run_by : (options : Options) (t : Bool) (depth : ℕ) (n : ℕ × Item) (nodes : List (ℕ × Item)) (i : ℕ)
-    → ((j : ℕ) → option_and_then (container_of options) (body_at (tight_run depth nodes) j) ≡ option_and_then (container_of options) (body_at nodes j))
-    → option_and_then (container_of options) (body_at (if t then tightened (depth + 2) n ∷ tight_run depth nodes else n ∷ nodes) i)
-    ≡ option_and_then (container_of options) (body_at (n ∷ nodes) i)
-run_by options true depth n nodes zero h = tightened_container options (n.0 == (depth + 2)) n.1
-run_by options true depth n nodes (suc i) h = h i
-run_by options false depth n nodes i h = refl
-
-run_containers : (options : Options) (depth : ℕ) (nodes : List (ℕ × Item)) (i : ℕ)
-    → option_and_then (container_of options) (body_at (tight_run depth nodes) i) ≡ option_and_then (container_of options) (body_at nodes i)
-unfolding tight_run
-run_containers options depth [] i = refl
-run_containers options depth (n ∷ nodes) i = run_by options (nat_lt depth n.0) depth n nodes i (λ j. run_containers options depth nodes j)
-
-tight_containers : (options : Options) (depth from : ℕ) (nodes : List (ℕ × Item)) (i : ℕ)
-    → option_and_then (container_of options) (body_at (tight_at depth from nodes) i) ≡ option_and_then (container_of options) (body_at nodes i)
-unfolding tight_at
-tight_containers options depth zero nodes i = run_containers options depth nodes i
-tight_containers options depth (suc from) [] i = refl
-tight_containers options depth (suc from) (n ∷ nodes) zero = refl
-tight_containers options depth (suc from) (n ∷ nodes) (suc i) = tight_containers options depth from nodes i
-
-module _ (e : ℕ) (r : PassState) (ix : TreeIndex) (rest : List TreeIndex) where
-  pub closed_containers : (options : Options) (i : ℕ) → option_and_then (container_of options) (body_at (closed_by r.tree e (ix ∷ rest)).nodes i)
-      ≡ option_and_then (container_of options) (body_at r.tree.nodes i)
-  closed_containers options i =
-      ap (option_and_then (container_of options)) (body-kept r.tree.nodes ix.0 i (λ x. record { start = x.start; «end» = e; body = x.body }) (λ x. refl))
-
-  list_containers : (options : Options) (t : Bool) (i : ℕ)
-      → option_and_then (container_of options) (body_at (if t then tight_items (closed_by r.tree e (ix ∷ rest)) ix else closed_by r.tree e (ix ∷ rest)).nodes i)
-      ≡ option_and_then (container_of options) (body_at r.tree.nodes i)
-  list_containers options true i = tight_containers options _ (ix.0 + 1) (closed_by r.tree e (ix ∷ rest)).nodes i ∙ closed_containers options i
-  list_containers options false i = closed_containers options i
-
-  popped_containers : (options : Options) (b : Option ItemBody) (i : ℕ)
-      → option_and_then (container_of options) (body_at (popped_by r (closed_by r.tree e (ix ∷ rest)) ix b).tree.nodes i)
-      ≡ option_and_then (container_of options) (body_at r.tree.nodes i)
-  popped_containers options None i = closed_containers options i
-  popped_containers options (Some (ListBody flags list number)) i = list_containers options (bit_and flags.0 1 == 1) i
-  popped_containers options (Some (DefinitionList flags)) i = list_containers options (bit_and flags.0 1 == 1) i
-  popped_containers options (Some (ListItemBody columns)) i = closed_containers options i
-  popped_containers options (Some (DefinitionListDefinition columns)) i = closed_containers options i
-  popped_containers options (Some b) i = closed_containers options i
-
-  list_spine_by : (t : Bool) → (if t then tight_items (closed_by r.tree e (ix ∷ rest)) ix else closed_by r.tree e (ix ∷ rest)).spine ≡ rest
-  list_spine_by true = refl
-  list_spine_by false = refl
-
-  spine_by : (b : Option ItemBody) → (popped_by r (closed_by r.tree e (ix ∷ rest)) ix b).tree.spine ≡ rest
-  spine_by (Some (ListBody flags list number)) = list_spine_by (bit_and flags.0 1 == 1)
-  spine_by (Some (DefinitionList flags)) = list_spine_by (bit_and flags.0 1 == 1)
-  spine_by b = refl
-
--- a body that is no container's changes to another that is none
-pub unnamed : (options : Options) (nodes : List (ℕ × Item)) (place : ℕ) (a b : ItemBody) → container_of options a ≡ None → container_of options b ≡ None
-    → body_at nodes place ≡ Some a → (i : ℕ)
-    → option_and_then (container_of options) (body_at (modify nodes place (λ x. record { start = x.start; «end» = x.«end»; body = b })) i)
-    ≡ option_and_then (container_of options) (body_at nodes i)
-unnamed options (n ∷ nodes) zero a b old new is zero = (let h : n.1.body ≡ a = cc in new ∙ sym (ap (container_of options) h ∙ old))
-unnamed options (n ∷ nodes) (suc place) a b old new is (suc i) = unnamed options nodes place a b old new is i
-unnamed options nodes place a b old new is w = refl
-
-module _ (e : ℕ) (r : PassState) (ix : TreeIndex) (rest : List TreeIndex) where
-  -- a possible title that becomes a paragraph is no container, before or after
-  title_containers_at : (options : Options) (title : TreeIndex) (t : IsTitle r.tree title) (i : ℕ)
-      → option_and_then (container_of options) (body_at (title_popped r.tree (top_end r.tree) ix rest t.flags title).nodes i)
-      ≡ option_and_then (container_of options) (body_at r.tree.nodes i)
-  title_containers_at options title t i =
-      let e : ℕ = top_end r.tree in
-      let f : Forest Item = with_body_at r.tree title ParagraphBody in
-      ap (option_and_then (container_of options)) (body-moved (list_popped f e ix rest t.flags).nodes title.0 i)
-      ∙ list_containers e (with_tree r f) ix rest options (bit_and t.flags.0 1 == 1) i
-      ∙ unnamed options r.tree.nodes title.0 MaybeDefinitionListTitle ParagraphBody refl refl (body_of r.tree title t.item t.is ∙ ap (λ z. Some z) t.body) i
-
-  path_by : (options : Options) (o : Option TreeIndex) → possible_title r.tree ≡ o → r.tree.spine ≡ ix ∷ rest → (s : List TreeIndex)
-      → path_in options (popped e r).tree.nodes s ≡ path_in options r.tree.nodes s
-  path_by options None none spine s =
-      ap (λ (q : PassState). path_in options q.tree.nodes s) (popped_is e r ix rest spine none)
-      ∙ same_path options r.tree.nodes (popped_by r (closed_by r.tree e (ix ∷ rest)) ix (body_at r.tree.nodes ix.0)).tree.nodes
-      (popped_containers e r ix rest options (body_at r.tree.nodes ix.0)) s
-  path_by options (Some title) is spine s =
-      let t = title_is r.tree title is in
-      ap (λ (q : PassState). path_in options q.tree.nodes s) (popped_title e r ix rest title t spine is)
-      ∙ same_path options r.tree.nodes (title_popped r.tree (top_end r.tree) ix rest t.flags title).nodes (title_containers_at options title t) s
-
-  pub popped_paths : (options : Options)
-      → r.tree.spine ≡ ix ∷ rest → (s : List TreeIndex) → path_in options (popped e r).tree.nodes s ≡ path_in options r.tree.nodes s
-  popped_paths options spine s = path_by options (possible_title r.tree) refl spine s
-
-  spine_or : (o : Option TreeIndex) → possible_title r.tree ≡ o → r.tree.spine ≡ ix ∷ rest → (popped e r).tree.spine ≡ rest
-  spine_or None none spine = ap (λ (q : PassState). q.tree.spine) (popped_is e r ix rest spine none) ∙ spine_by e r ix rest (body_at r.tree.nodes ix.0)
-  spine_or (Some title) is spine =
-      let t = title_is r.tree title is in
-      ap (λ (q : PassState). q.tree.spine) (popped_title e r ix rest title t spine is)
-      ∙ list_spine (with_body_at r.tree title ParagraphBody) (top_end r.tree) ix rest t.flags
-
-  pub popped_spine : r.tree.spine ≡ ix ∷ rest → (popped e r).tree.spine ≡ rest
-  popped_spine spine = spine_or (possible_title r.tree) refl spine
-
-drop_next : (k : ℕ) (s : List TreeIndex) (x : TreeIndex) (xs : List TreeIndex) → drop k s ≡ x ∷ xs → drop (suc k) s ≡ xs
-drop_next zero [] x xs h = cc
-drop_next zero (y ∷ s) x xs h = cc
-drop_next (suc k) [] x xs h = cc
-drop_next (suc k) (y ∷ s) x xs h = drop_next k s x xs h
+    pop_with d defined r lines e ix rest forest spine e_is ends r.begin_list_item refl ready
 
 outer_next : (s : List TreeIndex) (x : TreeIndex) (xs : List TreeIndex)
     → suc (length xs) ≤ length s → x ∷ xs ≡ outer (suc (length xs)) s → xs ≡ outer (length xs) s
 outer_next s x xs l h =
-    let z : suc (length s - suc (length xs)) ≡ length s - length xs = omega arith in
-    sym (drop_next (length s - suc (length xs)) s x xs (sym h)) ∙ ap (λ k. drop k s) z
+    let z : (length s - suc (length xs)) + 1 ≡ length s - length xs = omega arith in
+    ap (drop 1) h ∙ drop-drop 1 (length s - suc (length xs)) s ∙ ap (λ k. drop k s) z
 
 -- The nodes of a tree that are closed so far, and the lines before which it is ready.
 pub record ClosedSoFar (old now : PassState) (kept at : ℕ) : Type 0 where
@@ -510,7 +427,7 @@ closed_more old now kept at (ix ∷ rest) forest spine more c =
         enough = omega arith;
         fewer = omega arith;
         spine = after_it ∙ left ∙ ap (λ n. outer n old.tree.spine) (sym k);
-        paths = λ options s. popped_paths at now ix rest options spine s ∙ c.paths options s;
+        paths = λ options s. (popped_kept at now ix rest spine).paths options s ∙ c.paths options s;
         ready = λ d defined lines e none ready. ready_pop d defined now lines at ix rest forest spine e
             (subst (λ p. next_goes_on p lines ≡ false) (sym (c.paths d.options now.tree.spine ∙ ap (path_in d.options old.tree.nodes) (spine ∙ here)))
             (none (suc (length rest)) (omega arith) (omega arith))) (c.ready d defined lines e none ready);

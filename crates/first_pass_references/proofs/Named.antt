@@ -1,17 +1,11 @@
 -- The link definition of a label, among the entries of a table and among their views in contracts.
-use Rattle.std.proofs.Common.{◌≡◌, ℕ, ◌==◌, Bool, true, false, cond, List, [], ◌∷◌, map, length, Option, Some, None, refl, sym, ap, ◌∙◌, nat_eq}
-use Rattle.std.specs.Prelude.{IsUtf8, if◌then◌else◌}
-use Rattle.std.specs.Option.{option_map, option_and_then}
+use Rattle.std.proofs.Common.{◌≡◌, ℕ, ◌==◌, Bool, true, false, cond, List, [], ◌∷◌, map, length, Option, Some, None, refl, sym, ap, ◌∙◌, nat_eq, IsUtf8}
+use Rattle.std.proofs.Common.{if◌then◌else◌, option_map, option_and_then}
+use Rattle.first_pass_grammar.proofs.Common.{CowStr, text_of, folded, folding_of, defined_under, LinkDef, label_at, LinkEntry}
 use Rattle.std.specs.Str.{is_utf8}
 use Rattle.std.specs.Cmp.Lexicographic.{pointwise}
 use Rattle.std.proofs.lemmas.Str.{IsUtf8-from_is_utf8, is_utf8-from_IsUtf8}
-use Rattle.first_pass_items.specs.declared.cow_str.CowStr.{CowStr}
-use Rattle.first_pass_items.specs.CowText.{text_of}
-use Rattle.first_pass_labels.specs.Foldings.{folded, folding_of}
-use Rattle.first_pass_labels.specs.LabelTables.{defined_under}
-use Rattle.first_pass_labels.specs.declared.label_table.LinkDef.{LinkDef}
-use Rattle.first_pass_links.specs.Labels.{label_at}
-use Rattle.first_pass_grammar.specs.LinkTables.{LinkEntry, link_under}
+use Rattle.first_pass_grammar.specs.LinkTables.{link_under}
 use Rattle.first_pass_names.specs.TableEntries.{link_entry, link_at}
 use Rattle.first_pass_references.specs.References.{link_named}
 

@@ -1,10 +1,7 @@
 -- The lines of nodes, node by node.
-use Rattle.std.proofs.Common.{◌≡◌, ℕ, zero, suc, ◌+◌, ◌-◌, ◌<◌, List, [], ◌∷◌, ◌++◌, length, drop, arith, refl, sym, ap, ◌∙◌}
-use Rattle.std.proofs.lemmas.List.{drop-drop}
+use Rattle.std.proofs.Common.{◌≡◌, ℕ, zero, suc, ◌+◌, ◌-◌, ◌<◌, List, [], ◌∷◌, ◌++◌, length, drop, arith, refl, sym, ap, ◌∙◌, drop-drop}
+use Rattle.first_pass_grammar.proofs.Common.{Item, Names, LinkEntry}
 use Rattle.std.specs.Range.{range_steps}
-use Rattle.first_pass_items.specs.declared.item.Item.{Item}
-use Rattle.first_pass_grammar.specs.Names.{Names}
-use Rattle.first_pass_grammar.specs.LinkTables.{LinkEntry}
 use Rattle.first_pass_host.specs.Held.{Calls, CallsAppendLine, AreItemLines}
 use Rattle.first_pass_references.specs.Lines.{first_lines, node_lines}
 

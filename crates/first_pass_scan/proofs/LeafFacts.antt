@@ -1,10 +1,10 @@
 -- Facts on the spaces and tabs at the start of bytes.
-use Rattle.std.proofs.Common.{◌≡◌, ℕ, ◌+◌, ◌<◌, ◌≤◌, Bool, true, ◌==◌, List, ◌∷◌, ◌++◌, length, take, drop, get_or, refl, sym, ap, ◌∙◌, arith, []}
-use Rattle.std.proofs.Common.{inl, inr, if◌then◌else◌}
+use Rattle.std.proofs.Common.{◌≡◌, ℕ, ◌+◌, ◌<◌, ◌≤◌, Bool, true, ◌==◌, List, ◌∷◌, ◌++◌, length, take, drop, get_or, refl, sym, ap, ◌∙◌, arith, [], inl, inr}
+use Rattle.std.proofs.Common.{if◌then◌else◌, append-nil, length-take-le, get_or-take, take-append-drop, take-take}
 use Rattle.std.specs.List.{list_all}
 use Rattle.std.proofs.lemmas.Bool.{cases_lt, and_parts}
 use Rattle.std.proofs.lemmas.Bool.Decides.{nat_tests}
-use Rattle.std.proofs.lemmas.List.{append-nil, length-take-le, drop_more, get_or-take, take-append-drop, take-take}
+use Rattle.std.proofs.lemmas.List.{drop_more}
 use Rattle.first_pass_items.specs.Bytes.{tab}
 use Rattle.first_pass_lines.specs.Rest.{columns_of}
 use Rattle.first_pass_lines.specs.Lines.{is_space_or_tab}

@@ -1,9 +1,8 @@
 -- Facts on the digits of a list marker, and on the indent of an item.
-use Rattle.std.proofs.Common.{◌≡◌, ℕ, zero, suc, [], ◌∷◌, sym, ◌+◌, ◌<◌, ◌≤◌, min, nat_le, List, Bool, true, false, is_some, length, take, get_or}
-use Rattle.std.proofs.Common.{refl, ap, ◌∙◌, arith, if◌then◌else◌}
+use Rattle.std.proofs.Common.{◌≡◌, ℕ, zero, suc, [], ◌∷◌, ◌+◌, ◌<◌, ◌≤◌, min, List, true, false, is_some, length, take, get_or, refl, ap}
+use Rattle.std.proofs.Common.{◌∙◌, arith, get_or-take, length-take-le}
 use Rattle.std.specs.List.{prefix_len}
 use Rattle.std.specs.Char.{is_ascii_digit}
-use Rattle.std.proofs.lemmas.List.{get_or-take, length-take-le}
 use Rattle.std.proofs.lemmas.List.Sums.{prefix_len_passes, prefix_len-le-length}
 use Rattle.std.proofs.lemmas.Bool.Decides.{nat_tests}
 use Rattle.std.proofs.lemmas.Bool.{lt-leb}
@@ -25,25 +24,14 @@ digits-at bs n e l i h =
     (grind (arith, nat_tests, q), grind (arith, nat_tests, q))
 
 -- the run of digits among the first n bytes
-digits_by : (t : Bool) (n k m : ℕ) → k ≡ min n m → (if t then 1 + k else 0) ≡ min (1 + n) (if t then 1 + m else 0)
-digits_by true n k m h = omega (arith, h)
-digits_by false n k m h = omega arith
-
 digits_near : (n : ℕ) (bs : List ℕ) → prefix_len is_ascii_digit (take n bs) ≡ min n (prefix_len is_ascii_digit bs)
 digits_near zero bs = let none : prefix_len is_ascii_digit (take 0 bs) ≡ 0 = refl in omega (arith, none)
 digits_near (suc n) [] = omega arith
-digits_near (suc n) (b ∷ bs) =
-    let more : suc n ≡ 1 + n = omega arith in
-    digits_by (is_ascii_digit b) n (prefix_len is_ascii_digit (take n bs)) (prefix_len is_ascii_digit bs) (digits_near n bs)
-    ∙ ap (λ k. min k (prefix_len is_ascii_digit (b ∷ bs))) (sym more)
+digits_near (suc n) (b ∷ bs) = grind (arith, digits_near n bs)
 
 -- ten digits are enough to tell a list marker's run of digits from a longer one
 pub ten_digits : (bs : List ℕ) (n k : ℕ) → n ≡ min (length bs) 10 → k ≡ prefix_len is_ascii_digit (take n bs) → k ≡ min 10 (prefix_len is_ascii_digit bs)
 ten_digits bs n k size run = omega (arith, size, run, digits_near n bs, prefix_len-le-length is_ascii_digit bs)
-
-few_columns : (t u : Bool) (n k : ℕ) (r s : Rest)
-    → t ≡ false → u ≡ false → let content : ℕ × Rest = if t then (n, r) else (if u then (n, r) else (n + k, s)) in (n + k ≡ content.0) × (s ≡ content.1)
-few_columns t u n k r s h h' = rw (h, h') (refl, refl)
 
 -- the content of an item after fewer than four columns
 pub content_indent-bound : (n k : ℕ) (r s : Rest) → is_some (blank_len r.left) ≡ false → s ≡ after_columns 4 r → k ≡ min 4 (indent r) → (k ≡ 4 → ⊥)
@@ -53,4 +41,4 @@ content_indent-bound n k r s h e m bound =
     let small : indent r < 4 = omega arith in
     let same : k ≡ indent r = omega arith in
     let all : s ≡ after_columns (indent r) r = e ∙ all_columns_up_to 4 r (omega arith) in
-    rw (same, all) (few_columns (is_some (blank_len r.left)) (nat_le 4 (indent r)) n (indent r) r (after_columns (indent r) r) h (lt-leb 4 (indent r) small))
+    rw (same, all, h, lt-leb 4 (indent r) small) (refl, refl)

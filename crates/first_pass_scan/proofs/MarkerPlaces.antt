@@ -1,16 +1,16 @@
 -- Facts on the part of a line that a marker takes: bytes of its content, the last of them ASCII, and columns.
-use Rattle.std.proofs.Common.{◌≡◌, inl, inr, ℕ, zero, suc, ◌+◌, ◌-◌, ◌<◌, ◌≤◌, nat_le, Bool, true, false, ◌==◌, ◌&&◌, ◌||◌, not, List, ◌∷◌, length, [], take}
-use Rattle.std.proofs.Common.{drop, get_or, slice_index, Option, Some, None, is_some, IsUtf8, refl, sym, ap, subst, ◌∙◌, arith, length-drop, get_or-drop}
-use Rattle.std.proofs.Common.{if◌then◌else◌}
-use Rattle.std.specs.Option.{option_map}
+use Rattle.std.proofs.Common.{◌≡◌, inl, inr, ℕ, zero, suc, ◌+◌, ◌-◌, ◌<◌, ◌≤◌, nat_le, Bool, true, false, ◌==◌, ◌&&◌, ◌||◌, not, List, ◌∷◌, length, []}
+use Rattle.std.proofs.Common.{take, drop, get_or, slice_index, Option, Some, None, is_some, IsUtf8, refl, sym, ap, subst, ◌∙◌, arith, length-drop}
+use Rattle.std.proofs.Common.{get_or-drop, if◌then◌else◌, option_map, eqb-true}
 use Rattle.std.specs.List.{prefix_len}
 use Rattle.std.specs.Char.{is_ascii_digit}
 use Rattle.std.proofs.lemmas.List.{get_or_past}
 use Rattle.std.proofs.lemmas.List.Sums.{prefix_len_passes, prefix_len_stops, prefix_len-le-length}
-use Rattle.std.proofs.lemmas.Bool.{cases_lt, eqb-true, and_parts, both_ways, false≢true}
+use Rattle.std.proofs.lemmas.Bool.{cases_lt, cond_both, and_parts, both_ways, false≢true}
 use Rattle.std.proofs.lemmas.Bool.Decides.{nat_tests}
-use Rattle.std.proofs.lemmas.Option.{cond_some, none-some, same_Some}
+use Rattle.std.proofs.lemmas.Option.{cond_some, none-some}
 use Rattle.first_pass_items.specs.Bytes.{right_parenthesis, full_stop, colon, left_bracket, right_bracket, ascii_end}
+use Rattle.first_pass_lines.proofs.OptionFacts.{some_if, some_mapped}
 use Rattle.first_pass_lines.specs.Lines.{is_content, is_white, is_white_or_line_end, begins, blank_len, at_line_end}
 use Rattle.first_pass_lines.specs.Rest.{Rest, past_bytes, after_columns, indent}
 use Rattle.first_pass_lines.specs.Places.{place_at, line_end, moved_bytes, IsPlaceOf}
@@ -65,14 +65,6 @@ pub record IsFrontOf (bs : List ℕ) (n : ℕ) : Type 0 where
 marked_by : (r s : Rest) (n j k : ℕ) → IsFrontOf r.left n → r.owed ≡ 0 → s ≡ after_columns k (after_columns j (past_bytes n r)) → IsMarked r s
 marked_by r s n j k f o e = record { width = n; first = j; further = k; some = f.some; within = f.within; ascii = f.ascii; none_owed = o; same = e }
 
-when_some : {A : Type 0} (t : Bool) (o : Option A) (x : A) → (if t then o else None) ≡ Some x → (t ≡ true) × (o ≡ Some x)
-when_some true o x h = (refl, h)
-when_some false o x h = absurd (none-some x h)
-
-mapped : {A B : Type 0} (f : A → B) (o : Option A) (y : B) → option_map f o ≡ Some y → (x : A) × (o ≡ Some x) × (f x ≡ y)
-mapped f None y h = absurd (none-some y h)
-mapped f (Some x) y h = (x, refl, same_Some (f x) y h)
-
 -- the first byte
 first_front : (c : ℕ) (bs : List ℕ) → c < ascii_end → is_content c ≡ true → begins c bs ≡ true → IsFrontOf bs 1
 first_front c [] l e h = absurd (false≢true h)
@@ -80,8 +72,6 @@ first_front c (b ∷ bs) l e h =
     let same : b ≡ c = eqb-true b c h in
     let content : is_content b ≡ true = ap is_content same ∙ e in
     record { some = omega arith; within = rw content (omega arith); ascii = omega arith }
-
--- the block quote marker
 
 -- list markers
 bullet_front : (bs : List ℕ) (m : ℕ × ℕ × ℕ) → bullet_marker bs ≡ Some m → IsFrontOf bs m.0
@@ -125,26 +115,24 @@ delimited_front bs n number (d ∷ ds) m e same h =
 ordered_front : (bs : List ℕ) (m : ℕ × ℕ × ℕ) → ordered_marker bs ≡ Some m → IsFrontOf bs m.0
 ordered_front bs m h =
     let n : ℕ = prefix_len is_ascii_digit bs in
-    let p = when_some (nat_le 1 n && nat_le n 9) (delimited n (number_from 0 (take n bs)) (drop n bs)) m h in
+    let p = some_if (nat_le 1 n && nat_le n 9) (delimited n (number_from 0 (take n bs)) (drop n bs)) m h in
     delimited_front bs n (number_from 0 (take n bs)) (drop n bs) m refl refl p.1
-
-either_front : (t : Bool) (bs : List ℕ) (m : ℕ × ℕ × ℕ) → (if t then bullet_marker bs else ordered_marker bs) ≡ Some m → IsFrontOf bs m.0
-either_front true bs m h = bullet_front bs m h
-either_front false bs m h = ordered_front bs m h
 
 marker_front : (bs : List ℕ) (m : ℕ × ℕ × ℕ) → list_marker bs ≡ Some m → IsFrontOf bs m.0
 unfolding list_marker
-marker_front bs m h = either_front (is_some (bullet_marker bs)) bs m h
-
-content_by : (t u : Bool) (n : ℕ) (s : Rest)
-    → let c : ℕ × Rest = if t then (n, s) else (if u then (n, s) else (n + indent s, after_columns (indent s) s)) in (k : ℕ) × (c.1 ≡ after_columns k s)
-content_by true u n s = (0, refl)
-content_by false true n s = (0, refl)
-content_by false false n s = (indent s, refl)
+marker_front bs m h =
+    cond_both (is_some (bullet_marker bs)) (bullet_marker bs) (ordered_marker bs) (λ o. o ≡ Some m → IsFrontOf bs m.0)
+    (λ _. bullet_front bs m) (λ _. ordered_front bs m) h
 
 content_columns : (n : ℕ) (s : Rest) → (k : ℕ) × ((content_indent n s).1 ≡ after_columns k s)
 unfolding content_indent
-content_columns n s = content_by (is_some (blank_len s.left)) (nat_le 4 (indent s)) n s
+content_columns n s = by (is_some (blank_len s.left)) (nat_le 4 (indent s))
+  where
+    by : (t u : Bool)
+        → let c : ℕ × Rest = if t then (n, s) else (if u then (n, s) else (n + indent s, after_columns (indent s) s)) in (k : ℕ) × (c.1 ≡ after_columns k s)
+    by true u = (0, refl)
+    by false true = (0, refl)
+    by false false = (indent s, refl)
 
 past_columns : (n : ℕ) (q : Rest) (content : ℕ × Rest) → after_marker n q ≡ Some content → (k : ℕ) × (content.1 ≡ after_columns k (after_columns 1 q))
 unfolding after_marker
@@ -157,14 +145,14 @@ item_marked : (outer : ℕ) (r : Rest) (o : Option (ℕ × ℕ × ℕ)) (item : 
     → list_marker r.left ≡ o → r.owed ≡ 0 → item_by outer r o ≡ Some item → IsMarked r item.1
 item_marked outer r None item e o h = absurd (none-some item h)
 item_marked outer r (Some m) item e o h =
-    let parts = mapped _ (after_marker (outer + m.0) (past_bytes m.0 r)) item h in
+    let parts = some_mapped _ (after_marker (outer + m.0) (past_bytes m.0 r)) item h in
     let k = past_columns (outer + m.0) (past_bytes m.0 r) parts.0 parts.1 in
     marked_by r item.1 m.0 1 k.0 (marker_front r.left m e) o (sym (ap (λ (x : (ℕ × ℕ × ℕ) × Rest). x.1) parts.2) ∙ k.1)
 
 pub item-marked : (outer : ℕ) (r : Rest) (item : (ℕ × ℕ × ℕ) × Rest) → item_of outer r ≡ Some item → IsMarked r item.1
 unfolding item_of
 item-marked outer r item h =
-    let p = when_some ((r.owed == 0) && not (is_some (hrule_len r.left))) (item_by outer r (list_marker r.left)) item h in
+    let p = some_if ((r.owed == 0) && not (is_some (hrule_len r.left))) (item_by outer r (list_marker r.left)) item h in
     item_marked outer r (list_marker r.left) item refl (eqb-true r.owed 0 ((and_parts _ _ p.0).0)) p.1
 
 -- the marker of a definition
@@ -218,8 +206,6 @@ pub task-marked : (r : Rest) (task : Bool × Rest) → task_of r ≡ Some task �
 unfolding task_of
 task-marked r task h =
     let box : Rest = after_columns 3 r in
-    let p = when_some (box.owed == 0) (option_map (λ (checked : Bool). (checked, past_bytes 3 box)) (task_box box.left)) task h in
-    let parts = mapped (λ (checked : Bool). (checked, past_bytes 3 box)) (task_box box.left) task p.1 in
+    let p = some_if (box.owed == 0) (option_map (λ (checked : Bool). (checked, past_bytes 3 box)) (task_box box.left)) task h in
+    let parts = some_mapped (λ (checked : Bool). (checked, past_bytes 3 box)) (task_box box.left) task p.1 in
     marked_by box task.1 3 0 0 (box_front box.left parts.0 parts.1) (eqb-true box.owed 0 p.0) (sym (ap (λ (x : Bool × Rest). x.1) parts.2))
-
--- the tag of a block quote reaches to the end of its line

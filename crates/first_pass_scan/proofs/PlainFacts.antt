@@ -1,8 +1,8 @@
 -- With a plain byte no line ending, marker, thematic break, ATX heading or code fence begins. With an inert byte no
 -- column, block quote or list item begins.
-use Rattle.std.proofs.Common.{◌≡◌, inl, inr, ℕ, if◌then◌else◌, ◌+◌, ◌==◌, ◌||◌, not, Bool, true, false, true≢false, List, [], ◌∷◌}
-use Rattle.std.proofs.Common.{None, refl, sym, ap, ◌∙◌, arith}
-use Rattle.std.proofs.lemmas.Bool.{cases_eq, ne_eqb}
+use Rattle.std.proofs.Common.{◌≡◌, inl, inr, ℕ, ◌+◌, ◌==◌, Bool, true, false, true≢false, List, [], ◌∷◌, None, refl, sym, ap, ◌∙◌}
+use Rattle.std.proofs.Common.{arith, ne_eqb}
+use Rattle.std.proofs.lemmas.Bool.{cases_eq, or_parts, not-true, cond_both}
 use Rattle.std.proofs.lemmas.Bool.Decides.{nat_tests}
 use Rattle.std.specs.Char.{is_ascii_digit}
 use Rattle.first_pass_items.specs.Bytes.{tab, line_feed, line_tabulation, form_feed, carriage_return, space, number_sign, asterisk, plus_sign, hyphen}
@@ -15,7 +15,7 @@ use Rattle.first_pass_lines.proofs.Columns.{after-none}
 use Rattle.first_pass_lines.specs.Plain.{is_plain, begins_plain, is_inert, begins_inert}
 
 -- a byte that passes a test differs from a byte that fails it
-isnt : (test : ℕ → Bool) (b c : ℕ) → test b ≡ true → test c ≡ false → b == c ≡ false
+pub isnt : (test : ℕ → Bool) (b c : ℕ) → test b ≡ true → test c ≡ false → b == c ≡ false
 isnt test b c h k = elim (cases_eq b c) [
   | inl same ↦ absurd (true≢false (sym h ∙ ap test same ∙ k))
   | inr other ↦ ne_eqb b c other
@@ -67,20 +67,9 @@ unfolding code_fence is_plain
 plain_fence [] h = absurd (true≢false (sym h))
 plain_fence (b ∷ bs) h = rw (isnt is_plain b backquote h refl) (rw (isnt is_plain b tilde h refl) refl)
 
--- the last of the tests that every inert byte fails
-last_off : (p q r s t u v : Bool) → not (p || q || r || s || t || u || v) ≡ true → v ≡ false
-last_off true q r s t u v h = absurd (true≢false (sym h))
-last_off false true r s t u v h = absurd (true≢false (sym h))
-last_off false false true s t u v h = absurd (true≢false (sym h))
-last_off false false false true t u v h = absurd (true≢false (sym h))
-last_off false false false false true u v h = absurd (true≢false (sym h))
-last_off false false false false false true v h = absurd (true≢false (sym h))
-last_off false false false false false false true h = absurd (true≢false (sym h))
-last_off false false false false false false false h = refl
-
 inert_digit : (b : ℕ) → is_inert b ≡ true → is_ascii_digit b ≡ false
 unfolding is_inert
-inert_digit b h = last_off (b == tab) (b == space) (b == asterisk) (b == plus_sign) (b == hyphen) (b == greater_than) (is_ascii_digit b) h
+inert_digit b h = (or_parts _ (is_ascii_digit b) (not-true _ h)).1
 
 -- there is no column
 inert_columns : (bs : List ℕ) (column : ℕ) → begins_inert bs ≡ true → columns_of bs column ≡ 0
@@ -121,13 +110,9 @@ inert_marker [] h = absurd (true≢false (sym h))
 inert_marker (b ∷ bs) h =
     rw (isnt is_inert b hyphen h refl) (rw (isnt is_inert b plus_sign h refl) (rw (isnt is_inert b asterisk h refl) (rw (inert_digit b h) refl)))
 
-item_none : (t : Bool) (n : ℕ) (r : Rest) → (if t then item_by n r None else None) ≡ None
-item_none true n r = refl
-item_none false n r = refl
-
 pub inert_item : (n : ℕ) (r : Rest) → r.owed ≡ 0 → begins_inert r.left ≡ true → item_of n r ≡ None
 unfolding item_of
-inert_item n r o h = rw (inert_marker r.left h) (item_none _ n r)
+inert_item n r o h = rw (inert_marker r.left h) (cond_both _ (item_by n r None) None (λ x. x ≡ None) (λ _. refl) (λ _. refl))
 
 pub plain_listitem : (bs : List ℕ) → begins_plain bs ≡ true → listitem bs ≡ None
 unfolding listitem

@@ -1,11 +1,10 @@
 -- Facts on thematic breaks: offsets where none can begin, since none begins before them.
 use Rattle.std.proofs.Common.{◌≡◌, ℕ, zero, suc, ◌+◌, ◌-◌, ◌<◌, ◌≤◌, Bool, true, false, ◌==◌, nat_le, List, [], ◌∷◌, length, get_or, take, drop, count_by}
-use Rattle.std.proofs.Common.{Option, Some, None, refl, sym, ap, ◌∙◌, true≢false, arith, drop-drop, if◌then◌else◌}
-use Rattle.std.specs.Option.{option_map}
+use Rattle.std.proofs.Common.{Option, Some, None, refl, sym, ap, ◌∙◌, true≢false, arith, drop-drop, if◌then◌else◌, option_map, length-take}
 use Rattle.std.specs.List.{prefix_len}
+use Rattle.std.proofs.lemmas.Bool.{cond-false, cond_both, lt-leb}
 use Rattle.std.proofs.lemmas.Bool.Decides.{nat_tests}
 use Rattle.std.proofs.lemmas.List.Sums.{sum_by-cons, count_by-le-length}
-use Rattle.std.proofs.lemmas.List.{length-take}
 use Rattle.first_pass_lines.specs.Plain.{is_plain, begins_plain}
 use Rattle.first_pass_lines.specs.Lines.{eol_len}
 use Rattle.first_pass_scan.specs.LeafLines.{is_rule_byte, in_rule, rule_len, hrule_len, HasNoRule}
@@ -28,16 +27,10 @@ rule-shorter c b bs h e =
 same_byte : (c b : ℕ) → in_rule c b ≡ true → is_rule_byte b ≡ true → b ≡ c
 same_byte c b h e = grind (arith, nat_tests, h, e)
 
-here_by : (t : Bool) (c b : ℕ) (bs : List ℕ)
-    → is_rule_byte b ≡ t → in_rule c b ≡ true → (is_rule_byte c ≡ true → rule_len c (b ∷ bs) ≡ None) → (if t then rule_len b (b ∷ bs) else None) ≡ None
-here_by false c b bs e h f = refl
-here_by true c b bs e h f =
-    let same : b ≡ c = same_byte c b h e in
-    ap (λ x. rule_len x (b ∷ bs)) same ∙ f (ap is_rule_byte (sym same) ∙ e)
-
 here : (c b : ℕ) (bs : List ℕ) → in_rule c b ≡ true → (is_rule_byte c ≡ true → rule_len c (b ∷ bs) ≡ None) → hrule_len (b ∷ bs) ≡ None
 unfolding hrule_len
-here c b bs h f = here_by (is_rule_byte b) c b bs refl h f
+here c b bs h f = cond_both (is_rule_byte b) (rule_len b (b ∷ bs)) None (λ o. o ≡ None)
+    (λ e. let same = same_byte c b h e in ap (λ x. rule_len x (b ∷ bs)) same ∙ f (ap is_rule_byte (sym same) ∙ e)) (λ _. refl)
 
 none_by : (c b : ℕ) (bs : List ℕ) (k : ℕ) (t : Bool)
     → in_rule c b ≡ t → (is_rule_byte c ≡ true → rule_len c (b ∷ bs) ≡ None) → k < prefix_len (in_rule c) (b ∷ bs)
@@ -75,26 +68,15 @@ none_further bs s n f =
     }
 
 -- a run that ends before the third byte has at most two bytes
-prefix_two : (p : ℕ → Bool) (a b d : ℕ) (bs : List ℕ) (s t : Bool) → p a ≡ s → p b ≡ t → p d ≡ false → prefix_len p (a ∷ b ∷ d ∷ bs) ≤ 2
-prefix_two p a b d bs false t e f g = let q : prefix_len p (a ∷ b ∷ d ∷ bs) ≡ 0 = rw e refl in omega arith
-prefix_two p a b d bs true false e f g = let q : prefix_len p (a ∷ b ∷ d ∷ bs) ≡ 1 = rw e (rw f refl) in omega arith
-prefix_two p a b d bs true true e f g = let q : prefix_len p (a ∷ b ∷ d ∷ bs) ≡ 2 = rw e (rw f (rw g refl)) in omega arith
+prefix_two : (p : ℕ → Bool) (a b d : ℕ) (bs : List ℕ) → p d ≡ false → prefix_len p (a ∷ b ∷ d ∷ bs) ≤ 2
+prefix_two p a b d bs g = grind (arith, g)
 
 -- a thematic break has at least three characters
-too_few : (n k : ℕ) (o : Option ℕ) → k ≤ 2 → (if nat_le 3 k then option_map (λ j. n + j) o else None) ≡ None
-too_few n k None h = grind (arith, nat_tests)
-too_few n k (Some j) h = grind (arith, nat_tests)
-
 rule_few : (c : ℕ) (bs : List ℕ) → prefix_len (in_rule c) bs ≤ 2 → rule_len c bs ≡ None
 rule_few c bs h =
     let n : ℕ = prefix_len (in_rule c) bs in
     let bound : count_by (λ x. x == c) (take n bs) ≤ 2 = omega (arith, count_by-le-length (λ x. x == c) (take n bs), length-take n bs) in
-    too_few n _ (eol_len (drop n bs)) bound
-
-rule_third : (t : Bool) (a : ℕ) (bs : List ℕ) → is_rule_byte a ≡ t → (is_rule_byte a ≡ true → rule_len a bs ≡ None)
-    → (if t then rule_len a bs else None) ≡ None
-rule_third false a bs e f = refl
-rule_third true a bs e f = f e
+    cond-false _ _ None (lt-leb 3 (count_by (λ x. x == c) (take n bs)) (omega arith))
 
 plain_in_rule : (a d : ℕ) → is_rule_byte a ≡ true → is_plain d ≡ true → in_rule a d ≡ false
 unfolding is_plain
@@ -107,5 +89,5 @@ none_before_plain [] h = refl
 none_before_plain (a ∷ []) h = absurd (true≢false (sym h))
 none_before_plain (a ∷ b ∷ []) h = absurd (true≢false (sym h))
 none_before_plain (a ∷ b ∷ d ∷ bs) h =
-    let bound = λ (e : is_rule_byte a ≡ true). prefix_two (in_rule a) a b d bs (in_rule a a) (in_rule a b) refl refl (plain_in_rule a d e h) in
-    rule_third (is_rule_byte a) a (a ∷ b ∷ d ∷ bs) refl (λ e. rule_few a (a ∷ b ∷ d ∷ bs) (bound e))
+    cond_both (is_rule_byte a) (rule_len a (a ∷ b ∷ d ∷ bs)) None (λ o. o ≡ None)
+    (λ e. rule_few a (a ∷ b ∷ d ∷ bs) (prefix_two (in_rule a) a b d bs (plain_in_rule a d e h))) (λ _. refl)

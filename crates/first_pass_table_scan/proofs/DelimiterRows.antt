@@ -1,15 +1,15 @@
 -- Facts on the first byte of a delimiter row, and on its number of alignments.
 use Rattle.std.proofs.Common.{◌≡◌, subst, ℕ, zero, suc, ◌+◌, ◌-◌, ◌<◌, ◌≤◌, ◌==◌, ◌&&◌, ◌||◌, ◌⊎◌, Bool, true, false, nat_le, nat_lt, List, ◌∷◌, length, []}
-use Rattle.std.proofs.Common.{map, take, drop, Option, Some, None, refl, sym, ap, ◌∙◌, arith, inl, inr, if◌then◌else◌}
-use Rattle.std.specs.Option.{option_map}
-use Rattle.std.specs.List.{prefix_len, suffix_len, take_while, position_or_len, list_any, slice_split}
-use Rattle.std.proofs.lemmas.Bool.{cases_lt}
+use Rattle.std.proofs.Common.{map, take, drop, Option, Some, None, refl, sym, ap, ◌∙◌, arith, inl, inr, if◌then◌else◌, take_while}
+use Rattle.std.specs.List.{prefix_len, suffix_len, position_or_len, list_any, slice_split}
+use Rattle.std.proofs.lemmas.Bool.{cases_lt, cond_both, or_parts, or_from}
 use Rattle.std.proofs.lemmas.Bool.Decides.{nat_tests}
 use Rattle.std.proofs.lemmas.List.Sums.{prefix_len-le-length}
 use Rattle.first_pass_items.specs.Bytes.{tab, space, hyphen, colon, pipe}
 use Rattle.first_pass_items.specs.declared.item.Alignment.{Alignment}
 use Rattle.first_pass_lines.specs.Lines.{is_space_or_tab, is_content, begins, ends}
 use Rattle.first_pass_scan.specs.LeafLines.{run_len}
+use Rattle.first_pass_lines.proofs.OptionFacts.{some_if, some_mapped}
 use Rattle.first_pass_lines.specs.Rest.{Rest, indent, after_columns, columns_of}
 use Rattle.first_pass_lines.proofs.PlaceFacts.{all_columns, all_columns_up_to}
 use Rattle.first_pass_table_scan.specs.TableHead.{is_pipe, stripped, without_first, without_last, is_hyphens, alignment_by, delimiter_cell, each_of}
@@ -93,10 +93,6 @@ cells-refused-at b bs blank h k f =
     let n : ℕ = position_or_len is_pipe bs in
     cells-refused bs n refl (prefix_len-le-length _ bs) (sym (cell-refused b (take n bs) blank h k (fronted-take b n bs f)))
 
-if_none : (t : Bool) (o : Option (List Alignment)) → o ≡ None → (if t then o else None) ≡ None
-if_none true o h = h
-if_none false o h = refl
-
 -- bytes that begin with another byte are no delimiter row
 row_refused : (b : ℕ) (bs : List ℕ)
     → is_space_or_tab b ≡ false → (b == pipe) ≡ false → (b == hyphen) ≡ false → (b == colon) ≡ false → Fronted b bs → delimiter_row bs ≡ None
@@ -107,25 +103,17 @@ row_refused b bs blank p h k f =
     let inner : List ℕ = without_first pipe row in
     let same : inner ≡ row = without_first-other b pipe row p front in
     let inner_front : Fronted b inner = subst (Fronted b) (sym same) front in
-    if_none (nat_le (columns_of bs 0) 3 && list_any is_pipe row) (delimiter_cells (without_last pipe inner))
-    (cells-refused-at b (without_last pipe inner) blank h k (last_or_not b inner (ends pipe inner) inner_front))
-
-pub either_no : (s t : Bool) → (s || t) ≡ false → (s ≡ false) × (t ≡ false)
-either_no false false h = (refl, refl)
-either_no false true h = absurd cc
-either_no true t h = absurd cc
-
-neither : (s t : Bool) → s ≡ false → t ≡ false → (s || t) ≡ false
-neither s t e f = ap (λ u. u || t) e ∙ f
+    cond_both (nat_le (columns_of bs 0) 3 && list_any is_pipe row) (delimiter_cells (without_last pipe inner)) None (λ o. o ≡ None)
+    (λ _. cells-refused-at b (without_last pipe inner) blank h k (last_or_not b inner (ends pipe inner) inner_front)) (λ _. refl)
 
 -- a delimiter row without leading spaces and tabs begins with a pipe, a hyphen or a colon
 pub row-refused : (bs : List ℕ)
     → begins space bs ≡ false → begins tab bs ≡ false → (begins pipe bs || begins hyphen bs || begins colon bs) ≡ false → delimiter_row bs ≡ None
 row-refused [] no_space no_tab h = row_refused 0 [] refl refl refl refl (inl refl)
 row-refused (b ∷ bs) no_space no_tab h =
-    let some = either_no ((b == pipe) || (b == hyphen)) (b == colon) h in
-    let two = either_no (b == pipe) (b == hyphen) some.0 in
-    row_refused b (b ∷ bs) (neither (b == tab) (b == space) no_tab no_space) two.0 two.1 some.1 (inr (bs, refl))
+    let some = or_parts ((b == pipe) || (b == hyphen)) (b == colon) h in
+    let two = or_parts (b == pipe) (b == hyphen) some.0 in
+    row_refused b (b ∷ bs) (or_from (b == tab) (b == space) no_tab no_space) two.0 two.1 some.1 (inr (bs, refl))
 
 -- the delimiter row after an indentation of fewer than four columns
 pub row_of-bound : (r s : Rest) → s ≡ after_columns 4 r → nat_le 4 (indent r) ≡ false → delimiter_row_of r ≡ delimiter_row s.left
@@ -145,16 +133,9 @@ row_of-refused r s e h look =
     sym (row_of-bound r s e h ∙ row-refused s.left (ap (λ q. begins space q.left) (sym same) ∙ front.1) (ap (λ q. begins tab q.left) (sym same) ∙ front.2) look)
 
 -- each delimiter row has an alignment
-cons-some : (x : Alignment) (o : Option (List Alignment)) (xs : List Alignment) → option_map (λ ys. x ∷ ys) o ≡ Some xs → 0 < length xs
-cons-some x None xs h = absurd cc
-cons-some x (Some ys) xs h =
-    let same : x ∷ ys ≡ xs = cc in
-    let long : suc (length ys) ≡ length xs = ap length same in
-    omega arith
-
 each-some : (o : Option Alignment) (os : List (Option Alignment)) (xs : List Alignment) → each_of (o ∷ os) ≡ Some xs → 0 < length xs
 each-some None os xs h = absurd cc
-each-some (Some x) os xs h = cons-some x (each_of os) xs h
+each-some (Some x) os xs h = let m = some_mapped (λ ys. x ∷ ys) (each_of os) xs h in omega (arith, ap length m.2)
 
 cells-some : (bs : List ℕ) (xs : List Alignment) → delimiter_cells bs ≡ Some xs → 0 < length xs
 cells-some bs xs h =
@@ -166,19 +147,15 @@ cells-some bs xs h =
       | inr all ↦ each-some o [] xs (sym (cells-last bs n o refl (omega arith) refl) ∙ h)
     ]
 
-if_some : (t : Bool) (o : Option (List Alignment)) (xs : List Alignment) → (if t then o else None) ≡ Some xs → o ≡ Some xs
-if_some true o xs h = h
-if_some false o xs h = absurd cc
-
 row-some : (bs : List ℕ) (xs : List Alignment) → delimiter_row bs ≡ Some xs → 0 < length xs
 unfolding delimiter_row
 row-some bs xs h =
     let row : List ℕ = stripped (take_while is_content bs) in
     let cells : List ℕ = without_last pipe (without_first pipe row) in
-    cells-some cells xs (if_some (nat_le (columns_of bs 0) 3 && list_any is_pipe row) (delimiter_cells cells) xs h)
+    cells-some cells xs (some_if (nat_le (columns_of bs 0) 3 && list_any is_pipe row) (delimiter_cells cells) xs h).1
 
 pub row_of-some : (r : Rest) (xs : List Alignment) → delimiter_row_of r ≡ Some xs → 0 < length xs
 unfolding delimiter_row_of
 row_of-some r xs h =
     let row : List ℕ = (after_columns (indent r) r).left in
-    row-some row xs (if_some (nat_lt (indent r) 4) (delimiter_row row) xs h)
+    row-some row xs (some_if (nat_lt (indent r) 4) (delimiter_row row) xs h).1

@@ -1,15 +1,15 @@
 -- Facts on the pipes of a header row, and on its columns.
 use Rattle.std.proofs.Common.{◌≡◌, ℕ, suc, ◌+◌, ◌-◌, ◌<◌, ◌≤◌, ◌⊎◌, Bool, true, false, List, ◌∷◌, length, take, drop, Option, Some, None, refl, sym, ap, []}
-use Rattle.std.proofs.Common.{◌∙◌, arith, inl, inr, if◌then◌else◌, ◌==◌, ◌&&◌, not, get_or, nat_lt, slice_index}
+use Rattle.std.proofs.Common.{◌∙◌, arith, inl, inr, if◌then◌else◌, ◌==◌, ◌&&◌, not, get_or, nat_lt, slice_index, take_while, take-take}
 use Rattle.std.specs.Option.{option_map_or}
-use Rattle.std.specs.List.{prefix_len, take_while, list_any}
+use Rattle.std.specs.List.{prefix_len, list_any}
+use Rattle.std.proofs.lemmas.Bool.{or_parts}
 use Rattle.std.proofs.lemmas.Bool.Decides.{nat_tests}
-use Rattle.std.proofs.lemmas.List.{drop_more, drop_all, take-take}
+use Rattle.std.proofs.lemmas.List.{drop_more, drop_all}
 use Rattle.std.proofs.lemmas.List.Folds.{length-prefix_len}
 use Rattle.first_pass_items.specs.Bytes.{backslash}
 use Rattle.first_pass_lines.specs.Lines.{is_content}
 use Rattle.first_pass_table_scan.specs.TableHead.{is_pipe, pipes_after, pipes_of, last_pipe_after, header_columns, columns_by_pipes, head_columns}
-use Rattle.first_pass_table_scan.proofs.DelimiterRows.{either_no}
 
 -- the offset after the last pipe of a row: of the bytes from an offset on, or the one found before
 abbrev pub end_past : ℕ → ℕ → ℕ → List ℕ → ℕ
@@ -47,11 +47,8 @@ none-cases true None h = absurd cc
 none-cases false None h = (refl, refl)
 none-cases t (Some k) h = absurd cc
 
-one_if : (t : Bool) → t ≡ true → ◌≡◌ {A = ℕ} (if t then 1 else 0) 1
-one_if t e = ap (λ u. if u then 1 else 0) e
-
-none_if : (t : Bool) → t ≡ false → ◌≡◌ {A = ℕ} (if t then 1 else 0) 0
-none_if t e = ap (λ u. if u then 1 else 0) e
+abbrev counted_by : Bool → ℕ
+counted_by t = if t then 1 else 0
 
 -- no pipes if there is no last pipe
 pub pipes-none : (b : ℕ) (bs : List ℕ) → last_pipe_after b bs ≡ None → pipes_after b bs ≡ 0
@@ -59,25 +56,16 @@ pipes-none b [] h = refl
 pipes-none b (c ∷ cs) h =
     let parts = none-cases (is_pipe c && not (b == backslash)) (last_pipe_after c cs) h in
     let rest = pipes-none c cs parts.0 in
-    let no = none_if (is_pipe c && not (b == backslash)) parts.1 in
+    let no = ap counted_by parts.1 in
     omega arith
 
--- at least one pipe if there is a last one
-pub pipes-some : (b : ℕ) (bs : List ℕ) (n : ℕ) → last_pipe_after b bs ≡ Some n → 1 ≤ pipes_after b bs
-pipes-some b [] n h = absurd cc
-pipes-some b (c ∷ cs) n h =
-    elim (last-cases (is_pipe c && not (b == backslash)) (last_pipe_after c cs) n h) as (λ _. 1 ≤ pipes_after b (c ∷ cs)) [
-      | inl here ↦ (let one = one_if (is_pipe c && not (b == backslash)) here.1 in omega arith)
-      | inr more ↦ (let rest = pipes-some c cs more.0 more.1 in omega arith)
-    ]
-
--- the last pipe is one of the bytes
-pub last-within : (b : ℕ) (bs : List ℕ) (n : ℕ) → last_pipe_after b bs ≡ Some n → n < length bs
-last-within b [] n h = absurd cc
-last-within b (c ∷ cs) n h =
-    elim (last-cases (is_pipe c && not (b == backslash)) (last_pipe_after c cs) n h) as (λ _. n < length (c ∷ cs)) [
-      | inl here ↦ (let at = here.2 in omega arith)
-      | inr more ↦ (let at = more.2 in let rest = last-within c cs more.0 more.1 in omega arith)
+-- If there is a last pipe, it is one of the bytes, and there is at least one pipe.
+last-facts : (b : ℕ) (bs : List ℕ) (n : ℕ) → last_pipe_after b bs ≡ Some n → (1 ≤ pipes_after b bs) × (n < length bs)
+last-facts b [] n h = absurd cc
+last-facts b (c ∷ cs) n h =
+    elim (last-cases (is_pipe c && not (b == backslash)) (last_pipe_after c cs) n h) as (λ _. (1 ≤ pipes_after b (c ∷ cs)) × (n < length (c ∷ cs))) [
+      | inl here ↦ (let one = ap counted_by here.1 in let at = here.2 in (omega arith, omega arith))
+      | inr more ↦ (let at = more.2 in let rest = last-facts c cs more.0 more.1 in (omega arith, omega arith))
     ]
 
 -- no pipe follows the last one
@@ -121,8 +109,7 @@ pub open_at : (row : List ℕ) (at : ℕ)
 open_at row at = ap (λ t. is_pipe (get_or row at 0) && not t) (sym (backslash_if (nat_lt 0 at) (slice_index row (at - 1))))
 
 count_if : (t : Bool) (n : ℕ) → (if t then n + 1 else n) ≡ n + (if t then 1 else 0)
-count_if true n = refl
-count_if false n = omega arith
+count_if t n = grind arith
 
 -- a row with one more byte, which is a pipe that counts, or not
 pub step : (row : List ℕ) (i pipes end : ℕ) (t : Bool) → i < length row → is_open_at row i ≡ t → IsCounted row i pipes end
@@ -144,7 +131,7 @@ pub pipes-first : (row : List ℕ) (i : ℕ) → i < length row → is_open_at r
 pipes-first row i l t =
     let y : ℕ = get_or row i 0 in
     let b : ℕ = byte_before row i in
-    let one = one_if (is_open_at row i) t in
+    let one = ap counted_by t in
     let counted = pipes-at row i b y l refl in
     omega arith
 
@@ -184,7 +171,7 @@ head-some bs n h = ap (λ o. option_map_or (header_columns bs) o 0) h
 last-unpiped : (b : ℕ) (bs : List ℕ) → list_any is_pipe bs ≡ false → last_pipe_after b bs ≡ None
 last-unpiped b [] h = refl
 last-unpiped b (c ∷ cs) h =
-    let parts = either_no (is_pipe c) (list_any is_pipe cs) h in
+    let parts = or_parts (is_pipe c) (list_any is_pipe cs) h in
     ap (λ o. option_map_or (λ k. Some (k + 1)) o (if is_pipe c && not (b == backslash) then Some 0 else None)) (last-unpiped c cs parts.1)
     ∙ ap (λ t. if t && not (b == backslash) then Some 0 else None) parts.0
 
@@ -192,13 +179,10 @@ last-unpiped b (c ∷ cs) h =
 pub head-unpiped : (bs : List ℕ) → list_any is_pipe (take_while is_content bs) ≡ false → head_columns bs ≡ 0
 head-unpiped bs h = head-none bs (last-unpiped 0 (take_while is_content bs) h)
 
-line_len-content : (bs : List ℕ) → length (take_while is_content bs) ≡ prefix_len is_content bs
-line_len-content bs = length-prefix_len is_content bs
-
 pub last-in-line : (bs : List ℕ) (n : ℕ) → last_pipe_after 0 (take_while is_content bs) ≡ Some n → n < prefix_len is_content bs
 last-in-line bs n h =
-    let long = line_len-content bs in
-    let within = last-within 0 (take_while is_content bs) n h in
+    let long = length-prefix_len is_content bs in
+    let within = (last-facts 0 (take_while is_content bs) n h).1 in
     omega arith
 
 -- the pipes of a line are those up to its last one
@@ -216,7 +200,7 @@ head-by-pipes bs n h = head-some bs n h ∙ ap (λ k. columns_by_pipes k bs n) (
 
 no_last : (bs : List ℕ) (o : Option ℕ) → last_pipe_after 0 bs ≡ o → pipes_of bs ≡ 0 → o ≡ None
 no_last bs None e h = refl
-no_last bs (Some n) e h = let one = pipes-some 0 bs n e in absurd (omega arith)
+no_last bs (Some n) e h = let one = (last-facts 0 bs n e).0 in absurd (omega arith)
 
 pub head-without-pipes : (bs : List ℕ) → pipes_of (take_while is_content bs) ≡ 0 → head_columns bs ≡ 0
 head-without-pipes bs h = head-none bs (no_last (take_while is_content bs) (last_pipe_after 0 (take_while is_content bs)) refl h)
@@ -234,7 +218,7 @@ last-found bs row end e at some = ap (last_pipe_after 0) (sym e) ∙ end-some (l
 pub counted-some : (bs row : List ℕ) (pipes last : ℕ)
     → row ≡ take_while is_content bs → pipes ≡ pipes_of row → last_pipe_after 0 (take_while is_content bs) ≡ Some last → 1 ≤ pipes
 counted-some bs row pipes last e p h =
-    let some = pipes-some 0 (take_while is_content bs) last h in
+    let some = (last-facts 0 (take_while is_content bs) last h).0 in
     let same : pipes_of row ≡ pipes_of (take_while is_content bs) = ap (pipes_after 0) e in
     omega arith
 

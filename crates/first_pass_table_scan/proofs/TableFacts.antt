@@ -1,11 +1,9 @@
 -- Facts on the cells of a delimiter row, and on the pipes of a header row.
 use Rattle.std.proofs.Common.{◌≡◌, ℕ, ◌+◌, ◌<◌, ◌≤◌, ◌||◌, nat_lt, true, true≢false, List, [], ◌∷◌, ◌++◌, length, map, take, drop, Option, Some, None, refl}
-use Rattle.std.proofs.Common.{sym, ap, ◌∙◌, append_assoc, arith, inl, inr}
-use Rattle.std.specs.Option.{option_map, is_some}
+use Rattle.std.proofs.Common.{sym, ap, ◌∙◌, append_assoc, arith, inl, inr, option_map, is_some, take_all}
 use Rattle.std.specs.List.{position_or_len, list_any, slice_split}
 use Rattle.std.proofs.lemmas.Bool.{cases_lt, false_from_ne_true}
 use Rattle.std.proofs.lemmas.Bool.Decides.{nat_tests}
-use Rattle.std.proofs.lemmas.List.{take_all}
 use Rattle.std.proofs.lemmas.List.Sums.{position_or_len_is, fails_before_first}
 use Rattle.std.proofs.lemmas.List.Splits.{slice_split_none, slice_split_first}
 use Rattle.memchr.specs.Find.{IsFirstByte}

@@ -1,26 +1,13 @@
 -- The rows of a table's body, one after the other.
 use Rattle.std.proofs.Common.{◌≡◌, inl, inr, ℕ, ◌+◌, ◌-◌, ◌<◌, Bool, true, false, List, [], ◌∷◌, ◌++◌, append_assoc, append-nil, length, drop, Option, Some}
 use Rattle.std.proofs.Common.{None, is_some, IsUtf8, IsCharBoundary, refl, sym, ap, subst, ◌∙◌, arith}
-use Rattle.std.proofs.lemmas.Bool.{cases_lt}
-use Rattle.std.proofs.lemmas.Option.{none-some}
-use Rattle.first_pass_items.specs.declared.item.Item.{Item}
-use Rattle.first_pass_items.specs.declared.item.ItemBody.TheVariants.{TableHead, TableRow}
-use Rattle.first_pass_tree.specs.declared.tree_index.TreeIndex.{TreeIndex}
-use Rattle.first_pass_tree.specs.Forest.{Forest, added, at_depth, with_end_at}
-use Rattle.first_pass_tree.proofs.Blocks.{at_depth-append}
+use Rattle.first_pass_grammar.proofs.Common.{cases_lt, none-some, Item, TableHead, TableRow, TreeIndex, Forest, added, at_depth, with_end_at}
+use Rattle.first_pass_grammar.proofs.Common.{at_depth-append, line_len, Place, line_place, lines_at-line, lines_at-end, line_len-within, line_end_boundary}
+use Rattle.first_pass_grammar.proofs.Common.{MathBraces, no_braces, spot, Names, Extends, Document, document, around, lines_from, AreCells, inserted}
+use Rattle.first_pass_grammar.proofs.Common.{row_block, row_text, Taken, taking, FoundRow, HasCells, TableSoFar, table_so_far, AreRows, most_inserted}
+use Rattle.first_pass_grammar.proofs.Common.{Options}
 use Rattle.first_pass_tree.proofs.Callers.{more-added}
-use Rattle.first_pass_lines.specs.Lines.{line_len}
-use Rattle.first_pass_lines.specs.Places.{Place, line_place}
-use Rattle.first_pass_lines.proofs.LineFacts.{lines_at-line, lines_at-end, line_len-within}
-use Rattle.first_pass_lines.proofs.PlaceFacts.{line_end_boundary}
-use Rattle.first_pass_tokens.specs.Braces.{MathBraces, no_braces}
-use Rattle.first_pass_tokens.specs.LineTokens.{spot}
 use Rattle.first_pass_grammar.specs.declared.kind.Container.{Container}
-use Rattle.first_pass_grammar.specs.Names.{Names, Extends}
-use Rattle.first_pass_grammar.specs.Leaves.{Document, document, around}
-use Rattle.first_pass_grammar.specs.Completion.{lines_from}
-use Rattle.first_pass_grammar.specs.Tables.{AreCells, inserted, row_block, row_text, Taken, taking, FoundRow, HasCells, TableSoFar, table_so_far, AreRows}
-use Rattle.first_pass_grammar.specs.Tables.{most_inserted}
 use Rattle.first_pass_grammar.proofs.Count.RowsWithRoom.{is_row, with_row, RowsWithRoom, counted, are_rows}
 use Rattle.first_pass_grammar.proofs.Names.MoreNames.{extends_both}
 use Rattle.first_pass_grammar.proofs.Names.TextsMore.{cells_more}
@@ -31,7 +18,6 @@ use Rattle.first_pass_tables.specs.Appends.{with_below, AddsHead, keeps_row, Ope
 use Rattle.first_pass_tables.specs.RowsRead.{AppendsBody}
 use Rattle.first_pass_tables.proofs.BodySoFar.{BodySoFar}
 use Rattle.first_pass_tables.proofs.RowPlaces.{row_line, row_within}
-use Rattle.first_pass_items.specs.declared.option_set.Options.{Options}
 
 -- more nodes after an open node's own open and close nothing
 pub same_path : (options : Options) (f g : Forest Item) (more : List (ℕ × Item))

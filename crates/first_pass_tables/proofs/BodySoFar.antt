@@ -1,11 +1,6 @@
 -- The rows of a table that are read so far.
 use Rattle.std.proofs.Common.{◌≡◌, ℕ, ◌+◌, ◌≤◌, List, ◌++◌, length, None, IsCharBoundary}
-use Rattle.first_pass_items.specs.declared.item.Item.{Item}
-use Rattle.first_pass_tree.specs.Forest.{at_depth}
-use Rattle.first_pass_grammar.specs.Names.{Names, Extends}
-use Rattle.first_pass_grammar.specs.Leaves.{Document, document}
-use Rattle.first_pass_grammar.specs.Completion.{lines_from}
-use Rattle.first_pass_grammar.specs.Tables.{Taken, taking, AreRows}
+use Rattle.first_pass_grammar.proofs.Common.{Item, at_depth, Names, Extends, Document, document, lines_from, Taken, taking, AreRows}
 use Rattle.first_pass_open.specs.Path.{path_of}
 use Rattle.first_pass_tables.specs.Appends.{OpenTable, so_far}
 

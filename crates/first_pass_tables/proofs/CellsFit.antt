@@ -1,29 +1,15 @@
 -- The cells of a row, and the row itself, are in order between the start and the end of the row.
 use Rattle.std.proofs.Common.{◌≡◌, inl, inr, ℕ, zero, suc, ◌+◌, ◌-◌, ◌*◌, ◌<◌, ◌≤◌, ◌==◌, Bool, true, false, true≢false, List, [], ◌∷◌, ◌++◌, length, take}
-use Rattle.std.proofs.Common.{drop, replicate, slice_index, None, IsUtf8, IsCharBoundary, refl, sym, ap, subst, ◌∙◌, arith, if◌then◌else◌}
-use Rattle.std.specs.List.{prefix_len}
-use Rattle.std.proofs.lemmas.Bool.{cases_lt, eqb-true}
-use Rattle.std.proofs.lemmas.List.{append-nil, get_or_past}
-use Rattle.std.proofs.lemmas.Str.{IsCharBoundary-after_ascii}
-use Rattle.first_pass_items.specs.Bytes.{pipe}
-use Rattle.first_pass_items.specs.declared.item.Item.{Item}
-use Rattle.first_pass_items.specs.declared.item.ItemBody.{ItemBody}
-use Rattle.first_pass_items.specs.declared.item.ItemBody.TheVariants.{TableCell}
-use Rattle.first_pass_tree.specs.Forest.{at_depth, block_of}
-use Rattle.first_pass_lines.specs.Lines.{is_white, at_line_end}
-use Rattle.first_pass_lines.specs.Places.{line_place}
-use Rattle.first_pass_lines.proofs.PlaceFacts.{line_is_place, white_keeps}
-use Rattle.first_pass_tokens.specs.Braces.{MathBraces}
-use Rattle.first_pass_tokens.specs.LineTokens.{Spot, IsCell}
-use Rattle.first_pass_tokens.proofs.InOrder.{AreInOrder}
-use Rattle.first_pass_tokens.specs.TreeTokens.{leaves}
+use Rattle.std.proofs.Common.{drop, replicate, slice_index, None, IsUtf8, IsCharBoundary, refl, sym, ap, subst, ◌∙◌, arith, if◌then◌else◌, eqb-true}
+use Rattle.std.proofs.Common.{append-nil}
+use Rattle.first_pass_grammar.proofs.Common.{prefix_len, cases_lt, get_or_past, IsCharBoundary-after_ascii, pipe, Item, ItemBody, TableCell, at_depth}
+use Rattle.first_pass_grammar.proofs.Common.{block_of, is_white, at_line_end, line_place, line_is_place, white_keeps, MathBraces, Spot, IsCell, AreInOrder}
+use Rattle.first_pass_grammar.proofs.Common.{leaves, cell_ends, order_from, cell_end_place, counted_nodes, Document, Ranged, extent_of, extents, Siblings}
+use Rattle.first_pass_grammar.proofs.Common.{Empty, laid, IsBetween, Elsewhere, below, Fits, cell_start, cell_text, cell_block, AreCells, inserted}
+use Rattle.first_pass_grammar.proofs.Common.{side_by_side, row_cells, row_block}
 use Rattle.first_pass_tokens.proofs.BytesLemmas.{few_in_cell}
-use Rattle.first_pass_tokens.proofs.LineLemmas.{cell_ends}
-use Rattle.first_pass_tokens.proofs.OrderLemmas.{order_from, cell_in_order, cell_end_place}
-use Rattle.first_pass_grammar.specs.Counting.{counted_nodes}
-use Rattle.first_pass_grammar.specs.Leaves.{Document}
-use Rattle.first_pass_grammar.specs.Order.{Ranged, extent_of, extents, Siblings, Empty, Node, laid, IsBetween, Elsewhere, below, Fits}
-use Rattle.first_pass_grammar.specs.Tables.{cell_start, cell_text, cell_block, AreCells, inserted, side_by_side, row_cells, row_block}
+use Rattle.first_pass_tokens.proofs.OrderLemmas.{cell_in_order}
+use Rattle.first_pass_grammar.specs.Order.{Node}
 use Rattle.first_pass_grammar.proofs.Order.Orders.{beside, extents-append, extents-at_depth, laid-beside, laid-at_depth, fits-order, fits-later, fits-any}
 use Rattle.first_pass_grammar.proofs.Order.Orders.{fits-beside, row_of, row_of-fits, length-block}
 use Rattle.first_pass_grammar.proofs.Count.CountedNodes.{own_at_most, own_join, own_at_depth, AreCellsAt, own_inserted}

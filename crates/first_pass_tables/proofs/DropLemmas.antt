@@ -1,12 +1,10 @@
 -- The nodes after the current node are dropped: the tree is as before.
-use Rattle.std.proofs.Common.{◌≡◌, ℕ, ◌+◌, ◌-◌, List, ◌∷◌, ◌++◌, length, get_or, take, drop, Some, None, true, false, nat_lt, IfSome, Option, refl, sym, ◌∙◌}
-use Rattle.std.proofs.Common.{ap, subst, arith}
-use Rattle.std.proofs.lemmas.List.{length-append, map-append, length-map, get_or-drop, length-drop, get_or_append_left, get_or_at}
+use Rattle.std.proofs.Common.{◌≡◌, ℕ, ◌+◌, ◌-◌, List, ◌∷◌, ◌++◌, length, get_or, take, drop, Some, None, true, false, nat_lt, IfSome, Option, refl, sym}
+use Rattle.std.proofs.Common.{◌∙◌, ap, subst, arith, length-append, get_or-drop, length-drop}
+use Rattle.first_pass_grammar.proofs.Common.{map-append, length-map, nat_tests, take-append_seam, TreeIndex, Forest, IsForest, IsLastAt, depths}
+use Rattle.std.proofs.lemmas.List.{get_or_append_left, get_or_at}
 use Rattle.std.proofs.lemmas.List.Sums.{prefix_len_is}
-use Rattle.std.proofs.lemmas.Bool.Decides.{nat_tests}
-use Rattle.std.proofs.Math.Seq.{take-append_seam}
-use Rattle.first_pass_tree.specs.declared.tree_index.TreeIndex.{TreeIndex}
-use Rattle.first_pass_tree.specs.Forest.{Forest, IsForest, IsLastAt, depths, end_of, kept_after, childless}
+use Rattle.first_pass_tree.specs.Forest.{end_of, kept_after, childless}
 
 -- the descendants of the last node of a depth end at the next node of that depth
 pub end_before : (ds more : List ℕ) (d i : ℕ) → IsLastAt ds d i → end_of (ds ++ d ∷ more) i ≡ length ds

@@ -1,13 +1,6 @@
 -- A line that begins with a pipe ends no table.
-use Rattle.std.proofs.Common.{◌≡◌, ◌&&◌, ◌||◌, ℕ, true, false, true≢false, List, [], ◌∷◌, refl, sym, ap, ◌∙◌, subst}
-use Rattle.std.proofs.Math.Bool.{and-false}
-use Rattle.std.proofs.lemmas.Bool.{eqb-true}
-use Rattle.first_pass_items.specs.Bytes.{pipe}
-use Rattle.first_pass_items.specs.declared.option_set.Options.{Options}
-use Rattle.first_pass_items.specs.OptionWords.{has, footnotes}
-use Rattle.first_pass_lines.specs.Lines.{begins}
-use Rattle.first_pass_links.specs.Footnotes.{footnote_head}
-use Rattle.first_pass_grammar.specs.Tables.{interrupts_row}
+use Rattle.std.proofs.Common.{◌≡◌, ◌&&◌, ◌||◌, ℕ, true, false, true≢false, List, [], ◌∷◌, refl, sym, ap, ◌∙◌, subst, eqb-true}
+use Rattle.first_pass_grammar.proofs.Common.{and-false, pipe, Options, has, footnotes, begins, footnote_head, interrupts_row}
 use Rattle.first_pass_kinds.specs.Marks.{cannot_interrupt_by_standard}
 use Rattle.first_pass_kinds.proofs.MarkBytes.{unmarked_interrupts}
 

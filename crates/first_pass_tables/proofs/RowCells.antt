@@ -1,22 +1,12 @@
 -- The cells of a row, read one after the other.
-use Rattle.std.proofs.Common.{◌≡◌, ℕ, ◌+◌, ◌≤◌, ◌<◌, ◌==◌, Bool, true, false, List, [], ◌∷◌, ◌++◌, length, drop, slice_index, Option, Some, None}
-use Rattle.std.proofs.Common.{is_some, inl, inr, refl, sym, ap, subst, ◌∙◌, arith, append_assoc, if◌then◌else◌}
-use Rattle.std.proofs.lemmas.Bool.{cases_lt, lt-leb, or_from, and_right}
-use Rattle.std.proofs.lemmas.Bool.Decides.{nat_tests}
-use Rattle.std.proofs.lemmas.List.{append-nil, length-append, at_drop_all, at_drop_more}
-use Rattle.std.proofs.lemmas.Option.{none-some}
-use Rattle.first_pass_items.specs.Bytes.{pipe}
-use Rattle.first_pass_items.specs.OptionWords.{has, tables}
-use Rattle.first_pass_items.specs.declared.item.Item.{Item}
-use Rattle.first_pass_tree.specs.Forest.{Forest, at_depth, added}
+use Rattle.std.proofs.Common.{◌≡◌, ℕ, ◌+◌, ◌≤◌, ◌<◌, ◌==◌, Bool, true, false, List, [], ◌∷◌, ◌++◌, length, drop, slice_index, Option, Some, None, is_some}
+use Rattle.std.proofs.Common.{inl, inr, refl, sym, ap, subst, ◌∙◌, arith, append_assoc, if◌then◌else◌, append-nil, length-append}
+use Rattle.first_pass_grammar.proofs.Common.{cases_lt, lt-leb, and_right, nat_tests, at_drop_all, at_drop_more, none-some, pipe, has, tables, Item, Forest}
+use Rattle.first_pass_grammar.proofs.Common.{at_depth, added, is_line_end, begins, eol_len, at_line_end, MathBraces, Spot, spot, content_ends_at, IsCell}
+use Rattle.first_pass_grammar.proofs.Common.{cell_ends, Names, Extends, Document, document, cell_content, cell_start, cell_text, cell_block, AreCells}
+use Rattle.first_pass_grammar.proofs.Common.{side_by_side}
+use Rattle.std.proofs.lemmas.Bool.{or_from}
 use Rattle.first_pass_tree.proofs.Callers.{more-added}
-use Rattle.first_pass_lines.specs.Lines.{is_line_end, begins, eol_len, at_line_end}
-use Rattle.first_pass_tokens.specs.Braces.{MathBraces}
-use Rattle.first_pass_tokens.specs.LineTokens.{Spot, spot, content_ends_at, IsCell}
-use Rattle.first_pass_tokens.proofs.LineLemmas.{cell_ends}
-use Rattle.first_pass_grammar.specs.Names.{Names, Extends}
-use Rattle.first_pass_grammar.specs.Leaves.{Document, document}
-use Rattle.first_pass_grammar.specs.Tables.{cell_content, cell_start, cell_text, cell_block, AreCells, side_by_side}
 use Rattle.first_pass_grammar.proofs.Names.MoreNames.{extends_none, extends_both}
 use Rattle.first_pass_grammar.proofs.Order.RowEnds.{begun_there}
 use Rattle.first_pass_grammar.proofs.Names.TextsMore.{cell_later}

@@ -1,19 +1,10 @@
 -- A row is opened, its cells and the inserted ones are added, and it is closed, or dropped again.
-use Rattle.std.proofs.Common.{◌≡◌, ℕ, ◌+◌, ◌-◌, true, zero, suc, List, [], ◌∷◌, ◌++◌, length, take, replicate, Option}
-use Rattle.std.proofs.Common.{Some, None, is_some, IsSome, MatchOption, slice_get, refl, sym, ap, subst, ◌∙◌, append_assoc}
-use Rattle.std.proofs.lemmas.List.{length-append}
-use Rattle.std.specs.Option.{option_map}
-use Rattle.first_pass_items.specs.declared.item.Item.{Item}
-use Rattle.first_pass_items.specs.declared.item.ItemBody.{ItemBody}
-use Rattle.first_pass_items.specs.declared.item.ItemBody.TheVariants.{TableRow}
-use Rattle.first_pass_tree.specs.declared.tree_index.TreeIndex.{TreeIndex}
-use Rattle.first_pass_tree.specs.Forest.{Forest, at_depth, added, popped}
-use Rattle.first_pass_tree.proofs.Blocks.{at_depth-append, BlockCalls, block-built}
-use Rattle.first_pass_tokens.specs.TreeTokens.{chained, leaves}
-use Rattle.first_pass_tokens.proofs.ChainLemmas.{chained-spine, chained-nodes}
-use Rattle.first_pass_tokens.specs.LineTokens.{Spot, spot}
-use Rattle.first_pass_grammar.specs.Leaves.{Document}
-use Rattle.first_pass_grammar.specs.Tables.{cell_block, AreCells, inserted, side_by_side, row_cells, row_block, FoundRow, most_inserted}
+use Rattle.std.proofs.Common.{◌≡◌, ℕ, ◌+◌, ◌-◌, true, zero, suc, List, [], ◌∷◌, ◌++◌, length, take, replicate, Option, Some, None, is_some, IsSome}
+use Rattle.std.proofs.Common.{MatchOption, slice_get, refl, sym, ap, subst, ◌∙◌, append_assoc, length-append, option_map}
+use Rattle.first_pass_grammar.proofs.Common.{Item, ItemBody, TableRow, TreeIndex, Forest, at_depth, added, popped, at_depth-append, chained, leaves}
+use Rattle.first_pass_grammar.proofs.Common.{chained-spine, chained-nodes, Spot, spot, Document, cell_block, AreCells, inserted, side_by_side, row_cells}
+use Rattle.first_pass_grammar.proofs.Common.{row_block, FoundRow, most_inserted}
+use Rattle.first_pass_tree.proofs.Blocks.{BlockCalls, block-built}
 use Rattle.first_pass_open.specs.OpenBlock.{IsJustPushed, opened_block, begun_item, closed_by}
 use Rattle.first_pass_tables.specs.Appends.{AppendsCells, empty_cell, keeps_row, OpenTable, AddsRow, ReadsRow}
 use Rattle.first_pass_tables.proofs.RowCells.{side_more}

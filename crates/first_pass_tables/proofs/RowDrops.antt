@@ -1,20 +1,10 @@
 -- The nodes after the last child of the innermost open node are dropped; and a row with the cells that are kept.
-use Rattle.std.proofs.Common.{◌≡◌, ℕ, ◌+◌, ◌<◌, List, [], ◌∷◌, ◌++◌, length, take, Option, Some, None, IfSome, slice_get, refl, sym, ap, inl, inr}
-use Rattle.std.proofs.Common.{subst, ◌∙◌, arith}
-use Rattle.std.proofs.lemmas.Bool.{cases_Bool}
-use Rattle.std.proofs.lemmas.List.{length-append, length-map, append-nil}
-use Rattle.std.proofs.Math.Seq.{take-append_seam}
-use Rattle.first_pass_items.specs.declared.item.Item.{Item}
-use Rattle.first_pass_items.specs.declared.item.ItemBody.TheVariants.{TableCell}
-use Rattle.first_pass_tree.specs.declared.tree_index.TreeIndex.{TreeIndex}
-use Rattle.first_pass_tree.specs.Forest.{Forest, IsForest, IsLastAt, IsChild, depths, at_depth}
-use Rattle.first_pass_tree.proofs.Depths.{open-last, last-order}
+use Rattle.std.proofs.Common.{◌≡◌, ℕ, ◌+◌, ◌<◌, List, [], ◌∷◌, ◌++◌, length, take, Option, Some, None, IfSome, slice_get, refl, sym, ap, inl, inr, subst}
+use Rattle.std.proofs.Common.{◌∙◌, arith, length-append, append-nil}
+use Rattle.first_pass_grammar.proofs.Common.{cases_Bool, length-map, take-append_seam, Item, TableCell, TreeIndex, Forest, IsForest, IsLastAt, IsChild}
+use Rattle.first_pass_grammar.proofs.Common.{depths, at_depth, last-order, leaves, MathBraces, Spot, spot, Document, cell_start, AreCells, side_by_side}
+use Rattle.first_pass_tree.proofs.Depths.{open-last}
 use Rattle.first_pass_tree.proofs.Callers.{child-kept}
-use Rattle.first_pass_tokens.specs.TreeTokens.{leaves}
-use Rattle.first_pass_tokens.specs.Braces.{MathBraces}
-use Rattle.first_pass_tokens.specs.LineTokens.{Spot, spot}
-use Rattle.first_pass_grammar.specs.Leaves.{Document}
-use Rattle.first_pass_grammar.specs.Tables.{cell_start, AreCells, side_by_side}
 use Rattle.first_pass_open.specs.OpenBlock.{IsJustPushed}
 use Rattle.first_pass_tables.specs.declared.row.CellsRead.{CellsRead}
 use Rattle.first_pass_tables.specs.Appends.{IsOpenNode, without_after, without_children, AppendsCells}

@@ -1,22 +1,10 @@
 -- The start of a row's text, and the parts that do not change while rows are added.
-use Rattle.std.proofs.Common.{◌≡◌, ◌⊎◌, inl, inr, ℕ, ◌+◌, ◌<◌, ◌≤◌, arith, Bool, true, false, true≢false, List, length, drop, Option, []}
-use Rattle.std.proofs.Common.{Some, None, IsUtf8, IsCharBoundary, refl, sym, ap, subst, ◌∙◌, if◌then◌else◌}
-use Rattle.std.specs.Option.{option_map, option_and_then}
-use Rattle.std.proofs.lemmas.Bool.{cases_lt}
-use Rattle.std.proofs.lemmas.Option.{none-some}
-use Rattle.first_pass_items.specs.declared.option_set.Options.{Options}
-use Rattle.first_pass_lines.specs.Rest.{Rest, indent, after_columns}
-use Rattle.first_pass_lines.specs.Places.{Place, offset, line_end, line_rest, line_place, place_at, IsPlaceOf}
-use Rattle.first_pass_lines.proofs.Columns.{after-none}
-use Rattle.first_pass_lines.proofs.PlaceFacts.{line_is_place, columns_line_end}
-use Rattle.first_pass_grammar.specs.Containers.{Context, at_rest, after}
-use Rattle.first_pass_grammar.specs.Kinds.{all_taken, unindented}
-use Rattle.first_pass_items.specs.declared.item.Item.{Item}
-use Rattle.first_pass_lines.specs.Lines.{line_len}
-use Rattle.first_pass_tokens.specs.LineTokens.{Spot, spot}
+use Rattle.std.proofs.Common.{◌≡◌, ◌⊎◌, inl, inr, ℕ, ◌+◌, ◌<◌, ◌≤◌, arith, Bool, true, false, true≢false, List, length, drop, Option, [], Some, None}
+use Rattle.std.proofs.Common.{IsUtf8, IsCharBoundary, refl, sym, ap, subst, ◌∙◌, if◌then◌else◌, option_map, option_and_then}
+use Rattle.first_pass_grammar.proofs.Common.{cases_lt, none-some, Options, Rest, indent, after_columns, Place, offset, line_end, line_rest, line_place}
+use Rattle.first_pass_grammar.proofs.Common.{place_at, IsPlaceOf, after-none, line_is_place, columns_line_end, Context, at_rest, after, all_taken}
+use Rattle.first_pass_grammar.proofs.Common.{unindented, Item, line_len, Spot, spot, Document, around, AreCells, interrupts_row, row_text}
 use Rattle.first_pass_grammar.specs.declared.kind.Container.{Container}
-use Rattle.first_pass_grammar.specs.Leaves.{Document, around}
-use Rattle.first_pass_grammar.specs.Tables.{AreCells, interrupts_row, row_text}
 use Rattle.first_pass_grammar.proofs.Order.RowEnds.{row_ends_at_place}
 use Rattle.first_pass_open.proofs.PathLemmas.{after-end}
 use Rattle.first_pass_open.proofs.PlaceLemmas.{after_keeps, all_keep, ends_past, line_start_end}

@@ -1,23 +1,9 @@
 -- A row that is read is in order where it is added, and so are the rows of a table before the table is closed.
 use Rattle.std.proofs.Common.{◌≡◌, ◌⊎◌, inl, inr, ℕ, ◌-◌, ◌<◌, ◌≤◌, List, ◌++◌, length, Option, Some, None, IfSome, IsUtf8, IsCharBoundary, refl, sym, ap}
 use Rattle.std.proofs.Common.{subst, arith}
-use Rattle.std.proofs.lemmas.Bool.{cases_lt}
-use Rattle.std.proofs.lemmas.Option.{none-some}
-use Rattle.first_pass_items.specs.declared.item.Item.{Item}
-use Rattle.first_pass_items.specs.declared.item.ItemBody.{ItemBody}
-use Rattle.first_pass_items.specs.declared.item.ItemBody.TheVariants.{TableHead, TableRow}
-use Rattle.first_pass_tree.specs.declared.tree_index.TreeIndex.{TreeIndex}
-use Rattle.first_pass_tree.specs.Forest.{Forest}
-use Rattle.first_pass_lines.specs.Places.{start_of}
-use Rattle.first_pass_lines.proofs.LineFacts.{line_len-within}
-use Rattle.first_pass_lines.proofs.PlaceFacts.{start_of-lines}
-use Rattle.first_pass_tokens.specs.Braces.{no_braces}
-use Rattle.first_pass_tokens.specs.LineTokens.{Spot, spot}
-use Rattle.first_pass_grammar.specs.Completion.{lines_from}
-use Rattle.first_pass_grammar.specs.Leaves.{Document, around}
-use Rattle.first_pass_grammar.specs.OpenOrder.{within_top}
-use Rattle.first_pass_grammar.specs.Order.{Within, Elsewhere, FitsBetween}
-use Rattle.first_pass_grammar.specs.Tables.{AreCells, inserted, row_block, taking, table_so_far, most_inserted}
+use Rattle.first_pass_grammar.proofs.Common.{cases_lt, none-some, Item, ItemBody, TableHead, TableRow, TreeIndex, Forest, start_of, line_len-within}
+use Rattle.first_pass_grammar.proofs.Common.{start_of-lines, no_braces, Spot, spot, lines_from, Document, around, within_top, Within, Elsewhere}
+use Rattle.first_pass_grammar.proofs.Common.{FitsBetween, AreCells, inserted, row_block, taking, table_so_far, most_inserted}
 use Rattle.first_pass_grammar.proofs.Order.Orders.{between-any}
 use Rattle.first_pass_grammar.proofs.Count.CountedNodes.{own_join}
 use Rattle.first_pass_grammar.proofs.Order.RowEnds.{row_ends_its_line}

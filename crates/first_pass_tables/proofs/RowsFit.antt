@@ -1,19 +1,10 @@
 -- The rows of a table's body are in order between the first of its lines and the first line that is no row of it.
-use Rattle.std.proofs.Common.{◌≡◌, inl, inr, ℕ, ◌+◌, ◌-◌, ◌*◌, ◌<◌, ◌≤◌, List, [], ◌∷◌, ◌++◌, length, drop, None, nat_lt}
-use Rattle.std.proofs.Common.{nat_le, IsUtf8, IsCharBoundary, sym, ap, subst, ◌∙◌, arith}
-use Rattle.std.proofs.lemmas.Bool.{cases_lt, and_parts, ltb-true}
-use Rattle.first_pass_items.specs.declared.item.Item.{Item}
-use Rattle.first_pass_items.specs.declared.item.ItemBody.TheVariants.{TableRow}
-use Rattle.first_pass_lines.specs.Lines.{line_len}
-use Rattle.first_pass_lines.specs.Places.{Place, line_place, start_of}
-use Rattle.first_pass_lines.proofs.LineFacts.{lines_at-line, lines_at-end}
-use Rattle.first_pass_lines.proofs.PlaceFacts.{start_of-lines}
-use Rattle.first_pass_tokens.specs.LineTokens.{Spot, spot}
+use Rattle.std.proofs.Common.{◌≡◌, inl, inr, ℕ, ◌+◌, ◌-◌, ◌*◌, ◌<◌, ◌≤◌, List, [], ◌∷◌, ◌++◌, length, drop, None, nat_lt, nat_le, IsUtf8, IsCharBoundary}
+use Rattle.std.proofs.Common.{sym, ap, subst, ◌∙◌, arith, ltb-true}
+use Rattle.first_pass_grammar.proofs.Common.{cases_lt, and_parts, Item, TableRow, line_len, Place, line_place, start_of, lines_at-line, lines_at-end}
+use Rattle.first_pass_grammar.proofs.Common.{start_of-lines, Spot, spot, lines_from, counted_nodes, Document, around, AreCells, inserted, row_block}
+use Rattle.first_pass_grammar.proofs.Common.{row_text, Taken, taking, TableSoFar, AreRows}
 use Rattle.first_pass_grammar.specs.declared.kind.Container.{Container}
-use Rattle.first_pass_grammar.specs.Completion.{lines_from}
-use Rattle.first_pass_grammar.specs.Counting.{counted_nodes}
-use Rattle.first_pass_grammar.specs.Leaves.{Document, around}
-use Rattle.first_pass_grammar.specs.Tables.{AreCells, inserted, row_block, row_text, Taken, taking, TableSoFar, AreRows}
 use Rattle.first_pass_grammar.proofs.Count.RowsWithRoom.{with_row, RowsWithRoom, counted}
 use Rattle.first_pass_grammar.proofs.Count.CountedNodes.{own_at_most, own_join}
 use Rattle.first_pass_tables.proofs.RowPlaces.{begins_row, row_line}

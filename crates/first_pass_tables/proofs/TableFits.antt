@@ -1,19 +1,9 @@
 -- The nodes of a table are in order between its start and its end, at most four of its own for each byte.
 use Rattle.std.proofs.Common.{◌≡◌, ℕ, ◌-◌, ◌<◌, ◌≤◌, List, ◌++◌, length, drop, None, IsUtf8, IsCharBoundary, sym, ap, subst, arith}
-use Rattle.first_pass_items.specs.declared.item.Alignment.{Alignment}
-use Rattle.first_pass_items.specs.declared.item.Item.{Item}
-use Rattle.first_pass_items.specs.declared.item.ItemBody.TheVariants.{Table, TableHead}
-use Rattle.first_pass_tree.specs.Forest.{block_of}
-use Rattle.first_pass_lines.specs.Places.{Place, offset, IsPlaceOf, start_of}
-use Rattle.first_pass_lines.proofs.LineFacts.{lines_at-line, line_len-within}
-use Rattle.first_pass_lines.proofs.PlaceFacts.{line_end_boundary, start_of-lines}
-use Rattle.first_pass_tokens.specs.Braces.{no_braces}
-use Rattle.first_pass_tokens.specs.LineTokens.{spot}
+use Rattle.first_pass_grammar.proofs.Common.{Alignment, Item, Table, TableHead, block_of, Place, offset, IsPlaceOf, start_of, lines_at-line}
+use Rattle.first_pass_grammar.proofs.Common.{line_len-within, line_end_boundary, start_of-lines, no_braces, spot, lines_from, Document, Within, Elsewhere}
+use Rattle.first_pass_grammar.proofs.Common.{FitsBetween, inserted, row_block, taking, table_so_far, most_inserted, IsTable}
 use Rattle.first_pass_grammar.specs.declared.kind.Container.{Container}
-use Rattle.first_pass_grammar.specs.Completion.{lines_from}
-use Rattle.first_pass_grammar.specs.Leaves.{Document}
-use Rattle.first_pass_grammar.specs.Order.{Within, Elsewhere, FitsBetween}
-use Rattle.first_pass_grammar.specs.Tables.{inserted, row_block, taking, table_so_far, most_inserted, IsTable}
 use Rattle.first_pass_grammar.proofs.Order.Orders.{between-any}
 use Rattle.first_pass_grammar.proofs.Count.CountedNodes.{own_join}
 use Rattle.first_pass_grammar.proofs.Order.RowEnds.{row_ends_its_line}

@@ -1,16 +1,9 @@
 -- The rows of a table that were added are whole.
 use Rattle.std.proofs.Common.{◌≡◌, ℕ, suc, ◌-◌, List, [], ◌∷◌, ◌++◌, map, refl, sym, ap, subst, ◌∙◌, arith}
-use Rattle.first_pass_items.specs.declared.item.Item.{Item}
-use Rattle.first_pass_items.specs.declared.item.ItemBody.{ItemBody}
-use Rattle.first_pass_items.specs.declared.item.ItemBody.TheVariants.{Table, TableHead}
-use Rattle.first_pass_tree.specs.Forest.{Forest}
-use Rattle.first_pass_tokens.specs.Braces.{no_braces}
-use Rattle.first_pass_tokens.specs.LineTokens.{Spot, spot}
-use Rattle.first_pass_grammar.specs.Names.{Names}
-use Rattle.first_pass_grammar.specs.Leaves.{Document}
-use Rattle.first_pass_grammar.specs.Completion.{lines_from}
-use Rattle.first_pass_grammar.specs.Tables.{inserted, row_block, taking, TableSoFar, table_so_far, most_inserted}
-use Rattle.first_pass_grammar.specs.WholeTables.{Mark, ATable, ARow, ACell, shown, marks, RowCells, row_marks, inserted_in, HaveCells}
+use Rattle.first_pass_grammar.proofs.Common.{Item, ItemBody, Table, TableHead, Forest, no_braces, Spot, spot, Names, Document, lines_from, inserted}
+use Rattle.first_pass_grammar.proofs.Common.{row_block, taking, TableSoFar, table_so_far, most_inserted, Mark, ATable, ARow, ACell, shown, marks, RowCells}
+use Rattle.first_pass_grammar.proofs.Common.{row_marks, HaveCells}
+use Rattle.first_pass_grammar.specs.WholeTables.{inserted_in}
 use Rattle.first_pass_grammar.proofs.WholeTables.HeadCells.{head_has_cells}
 use Rattle.first_pass_grammar.proofs.WholeTables.TableMarks.{marks-append, row_shows, rows_show}
 use Rattle.first_pass_open.specs.Path.{path_of}

@@ -1,17 +1,8 @@
 -- The front of the line after a paragraph is the same when the paragraph is closed.
-use Rattle.std.proofs.Common.{◌≡◌, inl, inr, ℕ, zero, suc, ◌+◌, ◌-◌, ◌<◌, ◌≤◌, min, List, [], ◌∷◌, ◌++◌, length, drop, None, sym, ap, ◌∙◌, subst, arith}
-use Rattle.std.proofs.Common.{length-append}
+use Rattle.std.proofs.Common.{◌≡◌, inl, inr, ℕ, zero, suc, ◌+◌, ◌-◌, ◌≤◌, min, List, [], ◌∷◌, ◌++◌, length, drop, None, sym, ap, ◌∙◌, arith, length-append}
+use Rattle.first_pass_grammar.proofs.Common.{cases_lt, Item, Options, TreeIndex, Forest, appended, pushed, added, at_depth, Rest, line_rest, after, chained}
+use Rattle.first_pass_grammar.proofs.Common.{leaves, chained-spine, chained-nodes}
 use Rattle.std.proofs.Math.Nat.{min-eq_left, min-eq_right, min-le_right}
-use Rattle.std.proofs.lemmas.Bool.{cases_lt}
-use Rattle.first_pass_items.specs.declared.item.Item.{Item}
-use Rattle.first_pass_items.specs.declared.option_set.Options.{Options}
-use Rattle.first_pass_tree.specs.declared.tree_index.TreeIndex.{TreeIndex}
-use Rattle.first_pass_tree.specs.Forest.{Forest, appended, pushed, added, at_depth}
-use Rattle.first_pass_lines.specs.Rest.{Rest}
-use Rattle.first_pass_lines.specs.Places.{line_rest}
-use Rattle.first_pass_grammar.specs.Containers.{after}
-use Rattle.first_pass_tokens.specs.TreeTokens.{chained, leaves}
-use Rattle.first_pass_tokens.proofs.ChainLemmas.{chained-spine, chained-nodes}
 use Rattle.first_pass_open.specs.Path.{container_at, with_container, path_in, outer}
 use Rattle.first_pass_open.specs.declared.source.Source.{Source}
 use Rattle.first_pass_open.proofs.PathLemmas.{AreIn, AreIn-more, path_in-append}
@@ -56,40 +47,22 @@ module _ (source : Source) (t f : Forest Item) (ix : TreeIndex) (n : ℕ)
   abbrev limited : ℕ → ℕ
   limited continued = min continued (length f.spine)
 
-  fewer_open : (start continued : ℕ) (rest : Rest) → IsFrontAt source t start continued rest → continued ≤ length f.spine
-      → IsFrontAt source f start (limited continued) rest
-  fewer_open start continued rest h low =
-      let line : Rest = line_rest (drop start source.text.now) in
-      let is : min continued (length f.spine) ≡ continued = min-eq_left low in
-      let longer : length t.spine ≡ suc (length f.spine) = ap length opened in
-      record {
-        within = min-le_right continued (length f.spine);
-        taken = ap (λ k. after (path_in source.options f.nodes (outer k f.spine)) line) is
-            ∙ ap (λ path. after path line) (sym (same_path continued low)) ∙ h.taken;
-        stops = λ m more within.
-            ap (λ path. after path line) (sym (same_path m within)) ∙ h.stops m (subst (λ k. k < m) is more) (omega arith);
-      }
-
-  all_open : (start continued : ℕ) (rest : Rest) → IsFrontAt source t start continued rest → length f.spine < continued
-      → IsFrontAt source f start (limited continued) rest
-  all_open start continued rest h more =
-      let line : Rest = line_rest (drop start source.text.now) in
-      let longer : length t.spine ≡ suc (length f.spine) = ap length opened in
-      let within = h.within in
-      let is : min continued (length f.spine) ≡ length f.spine = min-eq_right (omega arith) in
-      let all : continued ≡ suc (length f.spine) = omega arith in
-      record {
-        within = min-le_right continued (length f.spine);
-        taken = ap (λ k. after (path_in source.options f.nodes (outer k f.spine)) line) is
-            ∙ ap (λ path. after path line) (sym (whole_path continued all)) ∙ h.taken;
-        stops = λ m low high. (let past = subst (λ k. k < m) is low in absurd (omega arith));
-      }
+  limited_path : (continued : ℕ) → continued ≤ suc (length f.spine)
+      → path_in source.options t.nodes (outer continued t.spine) ≡ path_in source.options f.nodes (outer (limited continued) f.spine)
+  limited_path continued within = elim (cases_lt (length f.spine) continued) [
+    | inl more ↦ whole_path continued (omega arith) ∙ ap (λ k. path_in source.options f.nodes (outer k f.spine)) (sym (min-eq_right (omega arith)))
+    | inr low ↦ same_path continued low ∙ ap (λ k. path_in source.options f.nodes (outer k f.spine)) (sym (min-eq_left low))
+  ]
 
   pub closed_front : (start continued : ℕ) (rest : Rest) → IsFrontAt source t start continued rest → IsFrontAt source f start (limited continued) rest
-  closed_front start continued rest h = elim (cases_lt (length f.spine) continued) [
-    | inl more ↦ all_open start continued rest h more
-    | inr low ↦ fewer_open start continued rest h low
-  ]
+  closed_front start continued rest h =
+      let line : Rest = line_rest (drop start source.text.now) in
+      let longer : length t.spine ≡ suc (length f.spine) = ap length opened in
+      record {
+        within = min-le_right continued (length f.spine);
+        taken = ap (λ path. after path line) (sym (limited_path continued (omega (arith, h.within)))) ∙ h.taken;
+        stops = λ m more within. ap (λ path. after path line) (sym (same_path m within)) ∙ h.stops m (omega arith) (omega arith);
+      }
 
 -- A block was added that may have been read as a paragraph with these nodes.
 pub same_paths : (options : Options) (g t f : Forest Item) (x : Item) (ix : TreeIndex) (chain : List Item) (block : List (ℕ × Item))

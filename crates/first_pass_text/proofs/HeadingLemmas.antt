@@ -1,35 +1,19 @@
 -- The text of a heading.
-use Rattle.std.proofs.Common.{◌≡◌, ℕ, ◌+◌, ◌-◌, ◌≤◌, ◌==◌, Bool, true, false, List, [], ◌∷◌, length, take, drop, slice_get, Option, Some, None, refl, sym}
-use Rattle.std.proofs.Common.{IfSome, length-drop, length-take, length-take-le, ap, subst, ◌∙◌, arith}
-use Rattle.std.proofs.lemmas.Bool.Decides.{nat_tests}
-use Rattle.std.specs.List.{prefix_len, slice_range}
-use Rattle.std.proofs.lemmas.List.{drop-drop}
-use Rattle.first_pass_items.specs.declared.item.Item.{Item}
-use Rattle.first_pass_items.specs.declared.item.HeadingLevel.{HeadingLevel}
-use Rattle.first_pass_tree.specs.declared.tree_index.TreeIndex.{TreeIndex}
-use Rattle.first_pass_tree.specs.Forest.{Forest, open_place, childless, cut_siblings}
-use Rattle.first_pass_lines.specs.Lines.{is_content, is_white, is_number_sign, line_len, level_number, atx_level}
-use Rattle.first_pass_lines.specs.Places.{line_place}
-use Rattle.first_pass_lines.proofs.HeadingFacts.{atx_level-signs}
-use Rattle.first_pass_lines.proofs.PlaceFacts.{bytes_line_end}
-use Rattle.first_pass_tokens.specs.Chains.{add_tokens, close_break, cut}
-use Rattle.first_pass_tokens.specs.Pieces.{Inline, text_upto}
-use Rattle.first_pass_tokens.specs.TreeTokens.{chained, AppendsLine}
-use Rattle.first_pass_tokens.proofs.ChainLemmas.{with_tokens-chained, joins_none-fresh, chained-spine, childless-chained, cut_siblings-chained}
-use Rattle.first_pass_grammar.specs.Headings.{heading_attribute_block, before_attributes, heading_attributes_of, text_before_attributes}
-use Rattle.first_pass_items.specs.declared.cow_str.CowStr.{CowStr}
-use Rattle.first_pass_grammar.specs.Names.{Names, NamesAttributes, Extends}
-use Rattle.first_pass_tokens.proofs.NamedTexts.{line_more}
-use Rattle.first_pass_tokens.specs.Braces.{MathBraces, no_braces}
-use Rattle.first_pass_grammar.specs.Leaves.{Document, document, kept_len, heading_chain, heading_text_at, IsHeading}
-use Rattle.first_pass_items.specs.declared.item.HeadingIndex.{HeadingIndex}
-use Rattle.first_pass_items.specs.declared.option_set.Options.{Options}
-use Rattle.first_pass_lines.proofs.LineFacts.{line_len-fits}
-use Rattle.first_pass_tokens.specs.LineTokens.{AreLineTokens}
+use Rattle.std.proofs.Common.{◌≡◌, ℕ, ◌+◌, ◌-◌, ◌≤◌, ◌==◌, Bool, true, false, List, [], length, take, drop, slice_get, Option, Some, None, refl, sym, inl}
+use Rattle.std.proofs.Common.{inr, IfSome, length-drop, length-take, length-take-le, ap, subst, ◌∙◌, arith, true≢false, slice_range, drop-drop, option_map}
+use Rattle.std.proofs.Common.{unwrap_or}
+use Rattle.first_pass_grammar.proofs.Common.{cases_lt, nat_tests, prefix_len, prefix_len-le-length, prefix_len_passes, prefix_len_stops, Item, HeadingLevel}
+use Rattle.first_pass_grammar.proofs.Common.{TreeIndex, Forest, open_place, cut_siblings, is_content, is_white, line_len, level_number, atx_level}
+use Rattle.first_pass_grammar.proofs.Common.{line_place, atx_level-signs, bytes_line_end, add_tokens, close_break, cut, Inline, text_upto, chained}
+use Rattle.first_pass_grammar.proofs.Common.{AppendsLine, with_tokens-chained, joins_none-fresh, chained-spine, heading_attribute_block, before_attributes}
+use Rattle.first_pass_grammar.proofs.Common.{heading_attributes_of, text_before_attributes, CowStr, Names, NamesAttributes, Extends, line_more, MathBraces}
+use Rattle.first_pass_grammar.proofs.Common.{no_braces, Document, document, kept_len, heading_chain, heading_text_at, IsHeading, HeadingIndex, Options}
+use Rattle.first_pass_grammar.proofs.Common.{AreLineTokens, Braces, option_map_or}
+use Rattle.first_pass_tree.specs.Forest.{childless}
+use Rattle.first_pass_lines.specs.Lines.{is_number_sign}
+use Rattle.first_pass_tokens.proofs.ChainLemmas.{childless-chained, cut_siblings-chained}
 use Rattle.first_pass_text.proofs.AttributeEnds.{content_read, before_none, length_some, braces_within}
-use Rattle.first_pass_attributes.specs.AttributeBlocks.{Braces}
 use Rattle.first_pass_text.specs.declared.heading.AttributeBlock.{AttributeBlock}
-use Rattle.std.specs.Option.{option_map, option_map_or, unwrap_or}
 use Rattle.first_pass_open.specs.Between.{line_end_at}
 use Rattle.first_pass_text.specs.Appends.{with_closed_break, AppendsHeading, attribute_place}
 use Rattle.first_pass_open.specs.OpenBlock.{IsJustPushed}
@@ -43,17 +27,16 @@ pub chain_kept : (kept start : ℕ) (chain : List Item) → (kept ≡ 0 → ⊥)
 unfolding heading_chain
 chain_kept kept start chain h = let t : (kept == 0) ≡ false = grind (arith, nat_tests, h) in rw t refl
 
-module _ (texts : List CowStr) (s : Inline) (kept : ℕ) (old read last : Forest Item) (answer : ℕ × Option Item) (ix : TreeIndex) (pushed : IsJustPushed old ix)
-    {after : MathBraces} (line : AppendsLine texts s old read answer after) (last_is : last ≡ with_closed_break read answer.1) where
+module _ {texts : List CowStr} {s : Inline} {old read last : Forest Item} {answer : ℕ × Option Item} {ix : TreeIndex} {after : MathBraces}
+    (pushed : IsJustPushed old ix) (line : AppendsLine texts s old read answer after) (last_is : last ≡ with_closed_break read answer.1) where
   -- the chain of the line
-  whole : List Item
+  abbrev whole : List Item
   whole = close_break answer.1 (add_tokens [] line.tokens)
 
   innermost : open_place old.spine + 1 ≡ length old.nodes
   innermost = ap (λ s. open_place s + 1) pushed.innermost ∙ pushed.last
 
   read_is : last ≡ chained old whole
-  unfolding whole
   read_is =
       let apart = joins_none-fresh old pushed.none in
       let tree : read ≡ chained old (add_tokens [] line.tokens) = line.tree_is ∙ with_tokens-chained old [] line.tokens apart in
@@ -62,32 +45,27 @@ module _ (texts : List CowStr) (s : Inline) (kept : ℕ) (old read last : Forest
   pub heading_open : slice_get last.spine 0 ≡ Some ix
   heading_open = ap (λ (f : Forest Item). slice_get f.spine 0) read_is ∙ ap (λ s. slice_get s 0) (chained-spine old whole ∙ pushed.innermost)
 
-  -- nothing of the text is kept
-  pub heading_empty : (new : Forest Item)
-      → new ≡ childless last ix → kept ≡ 0 → (content : List ℕ) → kept ≡ kept_len content → AppendsHeading texts s content old new
-  unfolding whole
-  heading_empty new new_is none content kept_is = record {
-    tokens = line.tokens;
-    answer = answer;
-    after = after;
-    line = line.line;
-    tree_is = new_is ∙ ap (λ f. childless f ix) read_is ∙ childless-chained old whole ix pushed.last pushed.none
-        ∙ ap (chained old) (sym (chain_none (kept_len content) s.start (close_break answer.1 (add_tokens [] line.tokens)) (sym kept_is ∙ none)));
-  }
+  module _ (kept : ℕ) (content : List ℕ) (kept_is : kept ≡ kept_len content) (new : Forest Item) where
+    appends : new ≡ chained old (heading_chain kept s.start whole) → AppendsHeading texts s content old new
+    appends new_is = record {
+      tokens = line.tokens;
+      answer = answer;
+      after = after;
+      line = line.line;
+      tree_is = new_is ∙ ap (λ n. chained old (heading_chain n s.start whole)) kept_is;
+    }
 
-  -- some of it is kept
-  pub heading_cut : (new : Forest Item)
-      → new ≡ cut_siblings last (s.start + kept) → (kept ≡ 0 → ⊥) → (content : List ℕ) → kept ≡ kept_len content → AppendsHeading texts s content old new
-  unfolding whole
-  heading_cut new new_is some content kept_is = record {
-    tokens = line.tokens;
-    answer = answer;
-    after = after;
-    line = line.line;
-    tree_is = new_is ∙ ap (λ f. cut_siblings f (s.start + kept)) read_is ∙ cut_siblings-chained old whole (s.start + kept) innermost pushed.none
-        ∙ ap (chained old) (sym (chain_kept kept s.start (close_break answer.1 (add_tokens [] line.tokens)) some)
-        ∙ ap (λ n. heading_chain n s.start (close_break answer.1 (add_tokens [] line.tokens))) kept_is);
-  }
+    -- nothing of the text is kept
+    pub heading_empty : new ≡ childless last ix → kept ≡ 0 → AppendsHeading texts s content old new
+    heading_empty new_is none =
+        appends (new_is ∙ ap (λ f. childless f ix) read_is ∙ childless-chained old whole ix pushed.last pushed.none
+        ∙ ap (chained old) (sym (chain_none kept s.start whole none)))
+
+    -- some of it is kept
+    pub heading_cut : new ≡ cut_siblings last (s.start + kept) → (kept ≡ 0 → ⊥) → AppendsHeading texts s content old new
+    heading_cut new_is some =
+        appends (new_is ∙ ap (λ f. cut_siblings f (s.start + kept)) read_is ∙ cut_siblings-chained old whole (s.start + kept) innermost pushed.none
+        ∙ ap (chained old) (sym (chain_kept kept s.start whole some)))
 
 -- the line of a heading whose text begins at an offset
 abbrev heading_line : List ℕ → ℕ → List ℕ
@@ -101,19 +79,14 @@ line_between text start to e = let size : to - start ≡ line_len (drop start te
 abbrev cut_by : ℕ → Option Braces → Option ℕ
 cut_by start block = option_map (λ (b : Braces). start + b.opening) block
 
--- the text from which the line is read, and the bytes of the line before the block
-cut_text : (text : List ℕ) (start : ℕ) (o : Option Braces)
-    → text_upto text (cut_by start o) ≡ option_map_or (λ (b : Braces). take (start + b.opening) text) o text
-cut_text text start None = refl
-cut_text text start (Some block) = refl
-
+-- the bytes of the line before the block
 cut_content : (options : Options) (text : List ℕ) (start next : ℕ) (o : Option Braces) → heading_attribute_block options (heading_line text start) ≡ o
     → next ≡ line_end_at (text_upto text (cut_by start o)) start
     → slice_range text start (unwrap_or (cut_by start o) next) ≡ before_attributes options (heading_line text start)
 cut_content options text start next None h e =
     line_between text start next e ∙ sym (before_none options (heading_line text start) h)
 cut_content options text start next (Some block) h e =
-    content_read options text start (line_len (drop start text)) (start + block.opening) (line_len-fits (drop start text))
+    content_read options text start (line_len (drop start text)) (start + block.opening)
     (ap (λ n. start + n) (sym (length_some options (heading_line text start) block h)))
 
 -- The chain of an ATX heading's line that was read, up to the attribute block, and the attributes that were found.
@@ -131,7 +104,11 @@ heading_read d start next cut index old new cut_is next_is a named =
     let line : List ℕ = heading_line text start in
     let o : Option Braces = heading_attribute_block d.options line in
     let upto : text_upto text cut ≡ text_upto text (cut_by start o) = ap (text_upto text) cut_is in
-    let text_is : text_upto text cut ≡ text_before_attributes d.options text start line = upto ∙ cut_text text start o in
+    let text_is : text_upto text cut ≡ text_before_attributes d.options text start line = upto
+    ∙ elim o as (λ o. text_upto text (cut_by start o) ≡ option_map_or (λ (b : Braces). take (start + b.opening) text) o text) [
+      | None ↦ refl
+      | Some b ↦ refl
+    ] in
     let whole : slice_range text start (unwrap_or cut next) ≡ before_attributes d.options line =
     ap (λ c. slice_range text start (unwrap_or c next)) cut_is
     ∙ cut_content d.options text start next o refl (next_is ∙ ap (λ xs. line_end_at xs start) upto) in (
@@ -153,30 +130,22 @@ heading_read d start next cut index old new cut_is next_is a named =
     )
 
 -- the end of a heading's line, from the place of its block or after its content
-place_at : List ℕ → ℕ → Braces → AttributeBlock
+abbrev place_at : List ℕ → ℕ → Braces → AttributeBlock
 place_at text start b = record { opening = start + b.opening; line_end = line_end_at text start }
-
-cut_of : (text : List ℕ) (start : ℕ) (o : Option Braces) → option_map (λ (p : AttributeBlock). p.opening) (option_map (place_at text start) o) ≡ cut_by start o
-unfolding place_at
-cut_of text start None = refl
-cut_of text start (Some b) = refl
 
 end_of : (text : List ℕ) (start next : ℕ) (o : Option Braces) → next ≡ line_end_at (text_upto text (cut_by start o)) start
     → option_map_or (λ (p : AttributeBlock). p.line_end) (option_map (place_at text start) o) next ≡ line_end_at text start
-unfolding place_at
 end_of text start next None e = e
 end_of text start next (Some b) e = refl
 
 pub place_none : (options : Options) (text : List ℕ) (start : ℕ) → heading_attribute_block options (heading_line text start) ≡ None
     → attribute_place options text start ≡ None
-unfolding place_at
 place_none options text start h = ap (option_map (place_at text start)) h
 
 pub place_some : (options : Options) (text : List ℕ) (start opening to : ℕ) (block : Braces)
     → heading_attribute_block options (heading_line text start) ≡ Some block
     → opening ≡ start + length (before_attributes options (heading_line text start)) → to ≡ line_end_at text start
     → Some (record { opening = opening; line_end = to }) ≡ attribute_place options text start
-unfolding place_at
 place_some options text start opening to block h e f =
     let at : opening ≡ start + block.opening = e ∙ ap (λ n. start + n) (length_some options (heading_line text start) block h) in
     rw (at, f) (sym (ap (option_map (place_at text start)) h))
@@ -184,9 +153,9 @@ place_some options text start opening to block h e f =
 pub place_cut : (text : List ℕ) (options : Options) (start : ℕ) (place : Option AttributeBlock) → place ≡ attribute_place options text start
     → option_map (λ (p : AttributeBlock). p.opening) place
     ≡ option_map (λ (b : Braces). start + b.opening) (heading_attribute_block options (heading_line text start))
-unfolding place_at
 place_cut text options start place e =
-    ap (option_map (λ (p : AttributeBlock). p.opening)) e ∙ cut_of text start (heading_attribute_block options (heading_line text start))
+    ap (option_map (λ (p : AttributeBlock). p.opening)) e ∙ elim (heading_attribute_block options (heading_line text start))
+    as (λ o. option_map (λ (p : AttributeBlock). p.opening) (option_map (place_at text start) o) ≡ cut_by start o) [ None ↦ refl | Some b ↦ refl ]
 
 fits_by : (text : List ℕ) (options : Options) (start : ℕ) (o : Option Braces) → heading_attribute_block options (heading_line text start) ≡ o
     → start ≤ length text
@@ -211,21 +180,20 @@ place_fits text options start place cut e f within =
 pub place_end : (text : List ℕ) (options : Options) (start next : ℕ) (place : Option AttributeBlock) → place ≡ attribute_place options text start
     → next ≡ line_end_at (text_upto text (option_map (λ (p : AttributeBlock). p.opening) place)) start
     → option_map_or (λ (p : AttributeBlock). p.line_end) place next ≡ line_end_at text start
-unfolding place_at
 place_end text options start next place e f =
     ap (λ o. option_map_or (λ (p : AttributeBlock). p.line_end) o next) e
     ∙ end_of text start next (heading_attribute_block options (heading_line text start))
     (f ∙ ap (λ c. line_end_at (text_upto text c) start) (place_cut text options start place e))
 
 -- bytes that pass a test, all of which are content
-prefix_by : (t : Bool) (p : ℕ → Bool) (b : ℕ) (bs : List ℕ)
-    → p b ≡ t → (p b ≡ true → is_content b ≡ true) → prefix_len p bs ≤ prefix_len is_content bs → prefix_len p (b ∷ bs) ≤ prefix_len is_content (b ∷ bs)
-prefix_by true p b bs h f r = let k = f h in rw (h, k) (omega arith)
-prefix_by false p b bs h f r = rw h (omega arith)
-
 pub prefix_in : (p : ℕ → Bool) → ((b : ℕ) → p b ≡ true → is_content b ≡ true) → (bs : List ℕ) → prefix_len p bs ≤ prefix_len is_content bs
-prefix_in p f [] = omega arith
-prefix_in p f (b ∷ bs) = prefix_by (p b) p b bs refl (f b) (prefix_in p f bs)
+prefix_in p f bs =
+    let n : ℕ = prefix_len is_content bs in
+    elim (cases_lt n (prefix_len p bs)) [
+      | inl past ↦ absurd (true≢false (sym (f _ (prefix_len_passes p bs n 0 past))
+          ∙ prefix_len_stops is_content bs 0 (omega (arith, prefix_len-le-length p bs))))
+      | inr within ↦ within
+    ]
 
 sign_content : (b : ℕ) → is_number_sign b ≡ true → is_content b ≡ true
 sign_content b h = grind (arith, nat_tests, h)

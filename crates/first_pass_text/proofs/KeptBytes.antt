@@ -1,13 +1,14 @@
 -- The number of bytes of an ATX heading's text that are kept, counted from its end.
-use Rattle.std.proofs.Common.{◌≡◌, inl, inr, ℕ, zero, suc, ◌+◌, ◌-◌, ◌<◌, ◌≤◌, ◌==◌, ◌&&◌, ◌||◌, Bool, true, false, List, length, take, get_or, nat_lt, refl}
-use Rattle.std.proofs.Common.{sym, ap, ◌∙◌, arith, length-take-le, if◌then◌else◌}
-use Rattle.std.specs.List.{suffix_len}
-use Rattle.std.proofs.lemmas.Bool.{cases_Bool, cases_lt, true≢false}
-use Rattle.std.proofs.lemmas.Bool.Decides.{nat_tests}
-use Rattle.std.proofs.lemmas.List.{take_all, take-take}
-use Rattle.std.proofs.lemmas.List.Sums.{suffix_len-le-length, suffix_len-take_yes, suffix_len-take_no}
-use Rattle.first_pass_items.specs.Bytes.{space, number_sign}
-use Rattle.first_pass_grammar.specs.Leaves.{is_space_or_line_end, without_closing, kept_len}
+use Rattle.std.proofs.Common.{◌≡◌, inl, inr, ℕ, zero, suc, ◌+◌, ◌-◌, ◌<◌, ◌≤◌, ◌==◌, ◌&&◌, ◌||◌, Bool, true, false, List, length, take, get_or, nat_lt}
+use Rattle.std.proofs.Common.{refl, sym, ap, ◌∙◌, arith, length-take-le, if◌then◌else◌, ltb-false, true≢false, take_all, take-take}
+use Rattle.first_pass_grammar.proofs.Common.{suffix_len, cases_Bool, cases_lt, cond_both, cond-true, cond-false, and_parts, nat_tests, suffix_len-le-length}
+use Rattle.first_pass_grammar.proofs.Common.{space, number_sign, is_space_or_line_end, kept_len}
+use Rattle.std.proofs.lemmas.Bool.{and_cases}
+use Rattle.std.proofs.lemmas.List.Sums.{suffix_len-take_yes, suffix_len-take_no}
+use Rattle.first_pass_grammar.specs.Leaves.{without_closing}
+
+pub suffix_all : (p : ℕ → Bool) (xs : List ℕ) → suffix_len p (take (length xs) xs) ≡ suffix_len p xs
+suffix_all p xs = ap (suffix_len p) (take_all (length xs) xs (omega arith))
 
 -- the last byte does not pass if none passes at the end
 pub run_none : (p : ℕ → Bool) (xs : List ℕ) → 0 < length xs → suffix_len p xs ≡ 0 → p (get_or xs (length xs - 1) 0) ≡ false
@@ -15,8 +16,7 @@ run_none p xs some none =
     elim (cases_Bool (p (get_or xs (length xs - 1) 0))) [
       | inl passes ↦
           let one = suffix_len-take_yes p xs (length xs) 0 some (omega arith) passes in
-          let all : suffix_len p (take (length xs) xs) ≡ suffix_len p xs = ap (suffix_len p) (take_all (length xs) xs (omega arith)) in
-          absurd (omega arith)
+          absurd (omega (arith, suffix_all p xs))
       | inr fails ↦ fails
     ]
 
@@ -39,6 +39,9 @@ no_more p xs (suc n) within =
           ap (λ (k : ℕ). suffix_len p (take k xs)) place ∙ none
     ]
 
+none_before : (p : ℕ → Bool) (xs : List ℕ) → suffix_len p (take (length xs - suffix_len p xs) xs) ≡ 0
+none_before p xs = ap (λ (k : ℕ). suffix_len p (take (length xs - k) xs)) (sym (suffix_all p xs)) ∙ no_more p xs (length xs) (omega arith)
+
 pub space_aside : (b : ℕ) → (b == space) ≡ true → is_space_or_line_end b ≡ true
 space_aside b h = grind (arith, nat_tests, h)
 
@@ -51,30 +54,13 @@ no_spaces xs none =
           elim (cases_Bool (last == space)) [
             | inl blank ↦ absurd (true≢false (sym (space_aside last blank) ∙ run_none is_space_or_line_end xs some none))
             | inr other ↦
-                ap (λ (ys : List ℕ). suffix_len (λ b. b == space) ys) (sym (take_all (length xs) xs (omega arith)))
+                sym (suffix_all (λ b. b == space) xs)
                 ∙ suffix_len-take_no (λ b. b == space) xs (length xs) 0 some (omega arith) other
           ]
       | inr empty ↦ (let node_bound = suffix_len-le-length (λ b. b == space) xs in omega arith)
     ]
 
 -- by the counts: the number signs at the end, and the spaces before them
-choose_len : (t : Bool) (xs ys : List ℕ) → length (if t then ys else xs) ≡ (if t then length ys else length xs)
-choose_len true xs ys = refl
-choose_len false xs ys = refl
-
-same_either : (t : Bool) (a b : ℕ) → a ≡ b → b ≡ (if t then a else b)
-same_either true a b e = sym e
-same_either false a b e = refl
-
-by_signs : (t : Bool) (signs size before spaces : ℕ) → nat_lt 0 signs ≡ t → before ≡ size - signs → (signs ≡ 0 → spaces ≡ 0)
-    → (if t && ((before == 0) || nat_lt 0 spaces) then before - spaces else size) ≡ (if (before == 0) || nat_lt 0 spaces then before - spaces else size)
-by_signs true signs size before spaces h e none = refl
-by_signs false signs size before spaces h e none =
-    let no_sign : signs ≡ 0 = grind (arith, nat_tests, h) in
-    let no_space : spaces ≡ 0 = none no_sign in
-    let all : before - spaces ≡ size = omega arith in
-    same_either ((before == 0) || nat_lt 0 spaces) (before - spaces) size all
-
 closing_len : (xs : List ℕ) → suffix_len (λ b. b == space) xs ≡ 0
     → (let o : ℕ = length xs - suffix_len (λ b. b == number_sign) xs in let n : ℕ = suffix_len (λ b. b == space) (take o xs) in
     length (without_closing xs) ≡ (if (o == 0) || nat_lt 0 n then o - n else length xs))
@@ -84,12 +70,19 @@ closing_len xs none =
     let bs : List ℕ = take o xs in
     let n : ℕ = suffix_len (λ b. b == space) bs in
     let size : length bs ≡ o = length-take-le o xs (omega arith) in
-    let kept : length (take (length bs - n) bs) ≡ length bs - n = length-take-le (length bs - n) bs (omega arith) in
-    choose_len (nat_lt 0 s && ((length bs == 0) || nat_lt 0 n)) xs (take (length bs - n) bs)
-    ∙ ap (λ (z : ℕ). if nat_lt 0 s && ((length bs == 0) || nat_lt 0 n) then z else length xs) kept
-    ∙ ap (λ (z : ℕ). if nat_lt 0 s && ((z == 0) || nat_lt 0 n) then z - n else length xs) size
-    ∙ by_signs (nat_lt 0 s) s (length xs) o n refl refl
-    (λ no_sign. ap (suffix_len (λ b. b == space)) (take_all o xs (omega arith)) ∙ none)
+    let same : ((o == 0) || nat_lt 0 n) ≡ ((length bs == 0) || nat_lt 0 n) = ap (λ (z : ℕ). (z == 0) || nat_lt 0 n) (sym size) in
+    cond_both (nat_lt 0 s && ((length bs == 0) || nat_lt 0 n)) (take (length bs - n) bs) xs
+    (λ (ys : List ℕ). length ys ≡ (if (o == 0) || nat_lt 0 n then o - n else length xs))
+    (λ closes.
+    let last = (and_parts (nat_lt 0 s) ((length bs == 0) || nat_lt 0 n) closes).1 in
+    length-take-le (length bs - n) bs (omega arith) ∙ ap (λ (z : ℕ). z - n) size ∙ sym (cond-true _ _ _ (same ∙ last)))
+    (λ rest. elim (and_cases (nat_lt 0 s) ((length bs == 0) || nat_lt 0 n) rest) [
+      | inl no_sign ↦
+          let zero : s ≡ 0 = omega (arith, ltb-false 0 s no_sign) in
+          let no_space : n ≡ 0 = ap (suffix_len (λ b. b == space)) (take_all o xs (omega arith)) ∙ none in
+          cond_both ((o == 0) || nat_lt 0 n) (o - n) (length xs) (λ (z : ℕ). length xs ≡ z) (λ t. omega arith) (λ f. refl)
+      | inr other ↦ sym (cond-false _ _ _ (same ∙ other))
+    ])
 
 -- The number of kept bytes is the counted one: without the bytes that are left out, the number signs before these,
 -- and the spaces before those.
@@ -102,32 +95,24 @@ kept_counted text =
     let xs : List ℕ = take t text in
     let s : ℕ = suffix_len (λ b. b == number_sign) xs in
     let size : length xs ≡ t = length-take-le t text (omega arith) in
-    let whole : suffix_len is_space_or_line_end (take (length text) text) ≡ suffix_len is_space_or_line_end text =
-    ap (suffix_len is_space_or_line_end) (take_all (length text) text (omega arith)) in
-    let aside : suffix_len is_space_or_line_end xs ≡ 0 =
-    ap (λ (k : ℕ). suffix_len is_space_or_line_end (take (length text - k) text)) (sym whole) ∙ no_more is_space_or_line_end text (length text) (omega arith) in
-    closing_len xs (no_spaces xs aside)
+    closing_len xs (no_spaces xs (none_before is_space_or_line_end text))
     ∙ ap (λ (z : ℕ). let o : ℕ = z - s in let n : ℕ = suffix_len (λ b. b == space) (take o xs) in if (o == 0) || nat_lt 0 n then o - n else z) size
     ∙ ap (λ (ys : List ℕ). let o : ℕ = t - s in let n : ℕ = suffix_len (λ b. b == space) ys in if (o == 0) || nat_lt 0 n then o - n else t)
     (take-take (t - s) t text (omega arith))
 
 choose_all : (t o n : ℕ) → o ≡ t → n ≡ 0 → (if (o == 0) || nat_lt 0 n then o - n else t) ≡ t
-choose_all t o n e f = sym (same_either ((o == 0) || nat_lt 0 n) (o - n) t (omega arith))
+choose_all t o n e f = cond_both ((o == 0) || nat_lt 0 n) (o - n) t (λ (z : ℕ). z ≡ t) (λ all. omega arith) (λ none. refl)
 
 unclosed : (text : List ℕ)
     → suffix_len (λ b. b == number_sign) (take (length text - suffix_len is_space_or_line_end text) text) ≡ 0
     → kept_len text ≡ length text - suffix_len is_space_or_line_end text
 unclosed text none =
     let t : ℕ = length text - suffix_len is_space_or_line_end text in
-    let whole : suffix_len is_space_or_line_end (take (length text) text) ≡ suffix_len is_space_or_line_end text =
-    ap (suffix_len is_space_or_line_end) (take_all (length text) text (omega arith)) in
-    let aside : suffix_len is_space_or_line_end (take t text) ≡ 0 =
-    ap (λ (k : ℕ). suffix_len is_space_or_line_end (take (length text - k) text)) (sym whole) ∙ no_more is_space_or_line_end text (length text) (omega arith) in
     let o : ℕ = t - suffix_len (λ b. b == number_sign) (take t text) in
     let all : o ≡ t = omega arith in
     kept_counted text
     ∙ choose_all t o (suffix_len (λ b. b == space) (take o text)) all
-    (ap (λ (k : ℕ). suffix_len (λ b. b == space) (take k text)) all ∙ no_spaces (take t text) aside)
+    (ap (λ (k : ℕ). suffix_len (λ b. b == space) (take k text)) all ∙ no_spaces (take t text) (none_before is_space_or_line_end text))
 
 -- Only the bytes that are left out at the end are removed if no number sign is before them.
 pub kept_unclosed : (text front : List ℕ) (a n : ℕ)

@@ -1,31 +1,22 @@
 -- The tokens of a paragraph or of a setext heading are in order.
-use Rattle.std.proofs.Common.{◌≡◌, inl, inr, ℕ, ◌≤◌, true, false, List, [], ◌∷◌, length, drop, Option, Some, None, IfSome, IsUtf8, IsCharBoundary, refl, sym}
-use Rattle.std.proofs.Common.{ap, subst, ◌∙◌, arith, length-drop}
-use Rattle.std.proofs.lemmas.Bool.{cases_lt, false≢true}
-use Rattle.first_pass_items.specs.declared.item.Item.{Item}
-use Rattle.first_pass_tree.specs.Forest.{is_escaped}
-use Rattle.first_pass_lines.specs.Places.{Place, offset, line_rest, line_place, place_at, IsPlaceOf, start_of}
-use Rattle.first_pass_lines.proofs.LineFacts.{lines_at-line, lines_at-end, line_len-fits}
-use Rattle.first_pass_lines.proofs.PlaceFacts.{start_of-lines}
-use Rattle.first_pass_tokens.specs.Braces.{MathBraces, no_braces}
-use Rattle.first_pass_tokens.specs.LineTokens.{spot, AreLineTokens, IsBreak, is_break, EndsLine, text_end}
-use Rattle.first_pass_tokens.specs.Chains.{add_tokens, close_break, cut}
-use Rattle.first_pass_tokens.proofs.InOrder.{AreInOrder, HaveBytes}
-use Rattle.first_pass_tokens.proofs.BytesLemmas.{bytes_adds, bytes_closed, bytes_append, line_has_bytes}
-use Rattle.first_pass_tokens.proofs.Escapes.{EscapesStand, escapes_adds, escapes_append, line_escapes, cut_escaped, cut_has_bytes}
+use Rattle.std.proofs.Common.{◌≡◌, inl, inr, ℕ, ◌≤◌, true, false, List, [], ◌∷◌, length, drop, Option, Some, None, IfSome, IsUtf8, IsCharBoundary, refl}
+use Rattle.std.proofs.Common.{sym, ap, subst, ◌∙◌, arith}
+use Rattle.first_pass_grammar.proofs.Common.{cases_lt, false≢true, Item, is_escaped, Place, offset, line_rest, place_at, IsPlaceOf, start_of, lines_at-line}
+use Rattle.first_pass_grammar.proofs.Common.{lines_at-end, line_len-within, start_of-lines, MathBraces, no_braces, spot, AreLineTokens, IsBreak, EndsLine}
+use Rattle.first_pass_grammar.proofs.Common.{text_end, add_tokens, close_break, cut, AreInOrder, bytes_closed, EscapesStand, line_in_order, order_to}
+use Rattle.first_pass_grammar.proofs.Common.{order_from, order_adds, at_rest, front, unindented, Document, content_at, add_break, TextLines, text_lines}
+use Rattle.first_pass_grammar.proofs.Common.{AreTextLines, lines_from, chain_end, ItemBody, Text}
+use Rattle.first_pass_lines.proofs.LineFacts.{first_line}
+use Rattle.first_pass_tokens.specs.LineTokens.{is_break}
+use Rattle.first_pass_tokens.proofs.InOrder.{HaveBytes}
+use Rattle.first_pass_tokens.proofs.BytesLemmas.{bytes_adds, bytes_append, line_has_bytes}
+use Rattle.first_pass_tokens.proofs.Escapes.{escapes_adds, escapes_append, line_escapes, cut_escaped, cut_has_bytes}
 use Rattle.first_pass_tokens.proofs.LineLemmas.{ends_line}
-use Rattle.first_pass_tokens.proofs.OrderLemmas.{StandsAfter, LineInOrder, line_in_order, order_to, order_from, order_append, order_adds, order_closed}
+use Rattle.first_pass_tokens.proofs.OrderLemmas.{StandsAfter, LineInOrder, order_append, order_closed}
 use Rattle.first_pass_grammar.specs.declared.kind.Container.{Container}
-use Rattle.first_pass_grammar.specs.Containers.{at_rest, front}
-use Rattle.first_pass_grammar.specs.Kinds.{unindented}
-use Rattle.first_pass_grammar.specs.Leaves.{Document, content_at, add_break, TextLines, text_lines, AreTextLines}
-use Rattle.first_pass_grammar.specs.Completion.{lines_from}
-use Rattle.first_pass_grammar.specs.Headings.{chain_end}
 use Rattle.first_pass_open.specs.Between.{line_end_at}
 use Rattle.first_pass_text.proofs.ParagraphLemmas.{line_end-text}
 use Rattle.first_pass_open.proofs.PlaceLemmas.{text_place}
-use Rattle.first_pass_items.specs.declared.item.ItemBody.{ItemBody}
-use Rattle.first_pass_items.specs.declared.item.ItemBody.TheVariants.{Text}
 
 -- A chain in order ends within its bounds, at a character boundary.
 pub chain_end_place : (text : List ℕ) (from to : ℕ) (chain : List Item) → AreInOrder text from to chain → IsCharBoundary text from
@@ -54,15 +45,6 @@ chain_break text from at start next (Some x) chain h later following is = (
   escapes_append text from chain x h.1 (break_unescaped x.body is.kind),
   bytes_append chain (x ∷ []) h.2 (is.before, tt),
 )
-
--- the first of the lines from an offset on, and the others
-first_line : (text : List ℕ) (n : ℕ) (line : Place) (lines : List Place)
-    → line ∷ lines ≡ lines_from text n → (line ≡ line_place n (drop n text)) × (lines ≡ lines_from text (line_end_at text n))
-first_line text n line lines is =
-    elim (cases_lt n (length text)) [
-      | inl within ↦ let e : line ∷ lines ≡ line_place n (drop n text) ∷ lines_from text (line_end_at text n) = is ∙ lines_at-line text n within in (cc, cc)
-      | inr past ↦ let e : line ∷ lines ≡ [] = is ∙ lines_at-end text n past in cc
-    ]
 
 -- a line, and its tokens after a chain
 record OneLine (d : Document) (from ix : ℕ) (chain tokens : List Item) (answer : ℕ × Option Item) : Type 0 where
@@ -143,39 +125,24 @@ module _ (d : Document) (path : List Container) (utf8 : IsUtf8 d.text) (from : �
       let first = first_line d.text n line lines (is ∙ ap (lines_from d.text) (sym l.place)) in
       let at : ℕ = offset (unindented (place_at n (front path (line_rest (drop n d.text))))) in
       let at_is : offset (unindented (at_rest line (front path line.rest))) ≡ at =
-      ap (λ (p : Place). offset (unindented (at_rest p (front path p.rest)))) first.0 in
+      ap (λ (p : Place). offset (unindented (at_rest p (front path p.rest)))) first.1 in
       let place : IsPlaceOf d.text (unindented (place_at n (front path (line_rest (drop n d.text))))) = (text_place d.text n path utf8 l.ends).0 in
       let chain_next : List Item = add_break answer.1 (add_tokens chain tokens) in
       let next = chain_break d.text from l.stop ix n answer.1 (add_tokens chain tokens) l.stands l.before l.break_fits l.broken in
-      lines_in_order lines at after chain_next t (first.1 ∙ ap (lines_from d.text) (sym (line_end-text path d.text n utf8 l.ends))) place.boundary
+      lines_in_order lines at after chain_next t (first.2 ∙ ap (lines_from d.text) (sym (line_end-text path d.text n utf8 l.ends))) place.boundary
       (order_to d.text from n at chain_next next.0 (omega arith), next.1, next.2)
       (subst (λ z. AreTextLines d path (spot z after) chain_next lines t) at_is more)
-
--- of the lines from an offset on, the first begins before the second does
-first_later : (text : List ℕ) (m : ℕ) → m ≤ length text → start_of (length text) (lines_from text m) ≤ start_of (length text) (drop 1 (lines_from text m))
-first_later text m within =
-    elim (cases_lt m (length text)) [
-      | inl some ↦
-          let e = lines_at-line text m some in
-          let fits = line_len-fits (drop m text) in
-          let size = length-drop m text in
-          let end : line_end_at text m ≤ length text = omega arith in
-          let here = start_of-lines text m within in
-          let there : start_of (length text) (drop 1 (lines_from text m)) ≡ line_end_at text m =
-          ap (λ (ls : List Place). start_of (length text) (drop 1 ls)) e ∙ start_of-lines text (line_end_at text m) end in
-          omega arith
-      | inr none ↦
-          let e = lines_at-end text m none in
-          let here : start_of (length text) (lines_from text m) ≡ length text = ap (start_of (length text)) e in
-          let there : start_of (length text) (drop 1 (lines_from text m)) ≡ length text = ap (λ (ls : List Place). start_of (length text) (drop 1 ls)) e in
-          omega arith
-    ]
 
 -- the first of the remaining lines begins before the second does
 pub text_later : (text : List ℕ) (left : List Place) (m : ℕ)
     → left ≡ lines_from text m → m ≤ length text → start_of (length text) left ≤ start_of (length text) (drop 1 left)
 text_later text left m is within =
-    subst (λ (ls : List Place). start_of (length text) ls ≤ start_of (length text) (drop 1 ls)) (sym is) (first_later text m within)
+    rw is (elim (cases_lt m (length text)) [
+      | inl some ↦
+          let end : line_end_at text m ≤ length text = (line_len-within text m some).1 in
+          rw (lines_at-line text m some) (omega (arith, start_of-lines text (line_end_at text m) end))
+      | inr none ↦ rw (lines_at-end text m none) (omega arith)
+    ])
 
 -- The chain of the lines of a text is in order from the start of the text.
 pub text_is_in_order : (d : Document) (path : List Container) (start : ℕ) (t : TextLines) → IsUtf8 d.text → IsCharBoundary d.text start

@@ -1,48 +1,26 @@
 -- The block of a paragraph or of a setext heading is between two offsets in order.
-use Rattle.std.proofs.Common.{◌≡◌, inl, inr, ℕ, ◌+◌, ◌-◌, ◌*◌, ◌<◌, ◌≤◌, suc, Bool, true, false, if◌then◌else◌, List, [], ◌∷◌, ◌++◌, length, drop, Option}
-use Rattle.std.proofs.Common.{Some, None, IsUtf8, IsCharBoundary, refl, sym, ap, subst, ◌∙◌, arith, MatchOption, get_or, slice_index, take, ◌==◌}
-use Rattle.std.proofs.Common.{length-take-le, get_or-drop}
-use Rattle.std.proofs.lemmas.List.{append-nil, get_or-take, take_all}
-use Rattle.std.proofs.lemmas.Bool.{cases_lt, false≢true, cond-true, cond-false, cond_both, lt-ltb, le-ltb, and_left}
-use Rattle.first_pass_items.specs.declared.item.Item.{Item}
-use Rattle.first_pass_tree.specs.Forest.{Forest, is_text, is_escaped}
-use Rattle.first_pass_lines.specs.Places.{start_of}
-use Rattle.first_pass_lines.proofs.PlaceFacts.{start_of-lines}
-use Rattle.first_pass_tokens.specs.Chains.{close_break, cut}
-use Rattle.first_pass_tokens.proofs.InOrder.{AreInOrder, HaveBytes}
-use Rattle.first_pass_tokens.proofs.BytesLemmas.{few_in_order, bytes_closed}
-use Rattle.first_pass_tokens.proofs.OrderLemmas.{order_bound, order_to, order_closed, suffix_first}
-use Rattle.first_pass_grammar.specs.Leaves.{Document, marker_items, TextLines, block_with}
-use Rattle.first_pass_grammar.specs.Completion.{lines_from}
-use Rattle.first_pass_grammar.specs.Counting.{counted_nodes}
+use Rattle.std.proofs.Common.{◌≡◌, inl, inr, ℕ, ◌+◌, ◌-◌, ◌*◌, ◌<◌, ◌≤◌, suc, Bool, true, false, List, [], ◌∷◌, ◌++◌, length, drop, Option, Some, None}
+use Rattle.std.proofs.Common.{IsUtf8, IsCharBoundary, refl, sym, ap, subst, ◌∙◌, arith, MatchOption, get_or, slice_index, take, ◌==◌, get_or-drop}
+use Rattle.std.proofs.Common.{append-nil, get_or-take, lt-ltb, le-ltb, slice_range}
+use Rattle.first_pass_grammar.proofs.Common.{cases_lt, false≢true, cond-true, cond-false, and_left, Item, Forest, is_text, is_escaped, Place, start_of}
+use Rattle.first_pass_grammar.proofs.Common.{start_of-lines, close_break, cut, AreInOrder, bytes_closed, order_bound, order_to, Document, marker_items}
+use Rattle.first_pass_grammar.proofs.Common.{TextLines, block_with, lines_from, counted_nodes, is_task_marker, Ranged, Empty, extent_of, extents, laid}
+use Rattle.first_pass_grammar.proofs.Common.{Within, Elsewhere, InItem, below, Fits, FitsBetween, IsBetween, within_top, ItemBody, TaskListMarker}
+use Rattle.first_pass_grammar.proofs.Common.{HeadingLevel, underline_first, plain_text, text_children, by_backslash, heading_bytes, heading_children}
+use Rattle.first_pass_grammar.proofs.Common.{IsUnderlined, Taken, taking, nat_tests, IsCharBoundary-before_ascii, suffix_len, left_brace, ascii_end}
+use Rattle.first_pass_grammar.proofs.Common.{Options, is_white, Braces, heading_attribute_block, chain_end, kept_before}
+use Rattle.first_pass_tokens.proofs.InOrder.{HaveBytes}
+use Rattle.first_pass_tokens.proofs.BytesLemmas.{few_in_order}
+use Rattle.first_pass_tokens.proofs.OrderLemmas.{order_closed, suffix_first}
 use Rattle.first_pass_grammar.proofs.Count.CountedNodes.{own_at_most}
-use Rattle.first_pass_grammar.specs.Order.{is_task_marker, Ranged, Empty, Node, extent_of, extents, laid, Within, Elsewhere, InItem, below, Fits}
-use Rattle.first_pass_grammar.specs.Order.{FitsBetween, IsBetween}
-use Rattle.first_pass_grammar.specs.OpenOrder.{is_in_item, within_top}
+use Rattle.first_pass_grammar.specs.Order.{Node}
 use Rattle.first_pass_text.specs.Appends.{AddsPlainText}
 use Rattle.first_pass_grammar.proofs.Order.Orders.{length-block, row_of, row_of-laid, row_of-fits}
 use Rattle.first_pass_open.specs.Between.{AddsBetween, MarkerIsInItem, MarkerBetween}
 use Rattle.first_pass_open.specs.Path.{path_of}
-use Rattle.first_pass_items.specs.declared.item.ItemBody.{ItemBody}
-use Rattle.first_pass_items.specs.declared.item.ItemBody.TheVariants.{TaskListMarker, Paragraph as ParagraphBody, Heading as HeadingBody}
-use Rattle.first_pass_items.specs.declared.item.HeadingLevel.{HeadingLevel}
-use Rattle.first_pass_grammar.specs.Texts.{underline_first, plain_text, text_children, by_backslash, heading_bytes, heading_children, IsUnderlined}
-use Rattle.first_pass_grammar.specs.Tables.{Taken, taking}
-use Rattle.std.proofs.Math.Seq.{get_or-append_seam}
-use Rattle.std.proofs.lemmas.List.Sums.{suffix_len-le-length}
-use Rattle.std.proofs.lemmas.Bool.Decides.{nat_tests}
-use Rattle.std.proofs.lemmas.Option.{none-some}
-use Rattle.std.proofs.lemmas.Str.{IsCharBoundary-before_ascii}
-use Rattle.std.specs.List.{slice_range, suffix_len}
-use Rattle.first_pass_items.specs.Bytes.{left_brace, right_brace, ascii_end}
-use Rattle.first_pass_items.specs.OptionWords.{has, heading_attributes}
-use Rattle.first_pass_items.specs.declared.option_set.Options.{Options}
-use Rattle.first_pass_lines.specs.Lines.{is_white}
-use Rattle.first_pass_attributes.specs.AttributeBlocks.{Braces, attribute_block}
-use Rattle.first_pass_attributes.proofs.BlockFacts.{block-found}
-use Rattle.first_pass_grammar.specs.Headings.{heading_attribute_block, chain_end, kept_before}
+use Rattle.first_pass_items.specs.declared.item.ItemBody.TheVariants.{Paragraph as ParagraphBody, Heading as HeadingBody}
 use Rattle.first_pass_grammar.proofs.Names.MoreNames.{extends_none}
-use Rattle.first_pass_text.proofs.AttributeEnds.{length_between, braces_within}
+use Rattle.first_pass_text.proofs.AttributeEnds.{length_between, braces_within, opens_with}
 use Rattle.first_pass_text.proofs.OrderParagraph.{TextInOrder, text_is_in_order, cut_text_in_order, chain_end_place, text_later}
 use Rattle.first_pass_text.proofs.ParagraphLemmas.{closed_past}
 use Rattle.first_pass_text.proofs.PlainTexts.{children_by}
@@ -93,12 +71,9 @@ unfolding laid
 block_laid start next body chain =
     ap (λ (row : List (ℕ × Ranged)). (0, extent_of (text_node start next body)) ∷ row) (row_of-laid 1 chain ∙ sym (append-nil (laid 1 (row_of chain))))
 
-inside_top : (t : Bool) → t ≡ true → (if t then InItem else Elsewhere) ≡ InItem
-inside_top t h = rw h refl
-
 top_stands : (old : Forest Item) (marker : Option Item) → MarkerIsInItem old marker → StandsIn (within_top old) marker
 top_stands old None h = h
-top_stands old (Some m) h = inside_top (is_in_item old) h
+top_stands old (Some m) h = cond-true _ _ _ h
 
 -- a task list item marker is no text
 marker_plain : (body : ItemBody) → is_task_marker body ≡ true → (is_text body ≡ false) × (is_escaped body ≡ false)
@@ -140,42 +115,17 @@ children_between text w from start to next body kids is less c =
       block_few from start next body c.lead c.chain fitting.0 (few_in_order text start next c.chain h c.bytes),
     )
 
--- the first of the white space that bytes end with
-white_first : (bs : List ℕ) → 0 < suffix_len is_white bs → get_or bs (length bs - suffix_len is_white bs) 0 < ascii_end
-white_first bs some =
-    let all : take (length bs) bs ≡ bs = take_all (length bs) bs (omega arith) in
-    let white : is_white (get_or bs (length bs - suffix_len is_white bs) 0) ≡ true =
-    ap (λ (xs : List ℕ). is_white (get_or bs (length bs - suffix_len is_white xs) 0)) (sym all)
-    ∙ (suffix_first is_white bs (length bs) (omega arith) (subst (λ (xs : List ℕ). 0 < suffix_len is_white xs) (sym all) some)).1 in
-    grind (arith, nat_tests, white)
-
--- a brace is at the opening of an attribute block
-brace_first : (options : Options) (bs : List ℕ) (block : Braces) → heading_attribute_block options bs ≡ Some block → slice_index bs block.opening ≡ left_brace
-unfolding heading_attribute_block
-brace_first options bs block =
-    cond_both (has options heading_attributes) (attribute_block bs) None (λ (o : Option Braces). o ≡ Some block → slice_index bs block.opening ≡ left_brace)
-    (λ b e.
-    let is = block-found bs block e in
-    ap (λ (xs : List ℕ). get_or xs block.opening 0) is.parts
-    ∙ ap (λ (k : ℕ). get_or (is.front ++ left_brace ∷ (is.inside ++ right_brace ∷ is.following)) k 0) is.opens
-    ∙ get_or-append_seam is.front left_brace (is.inside ++ right_brace ∷ is.following) 0)
-    (λ b e. absurd (none-some block e))
-
--- the bytes that are cut off begin with that brace, or with white space
+-- the bytes that are cut off begin with the brace of an attribute block, or with white space
 kept_byte : (broken : Bool) (bs : List ℕ) (opening : ℕ) → opening < length bs → slice_index bs opening ≡ left_brace
     → (kept_before broken opening bs ≤ opening) × (slice_index bs (kept_before broken opening bs) < ascii_end)
 kept_byte true bs opening within is = (omega arith, omega (arith, is))
 kept_byte false bs opening within is =
-    let front : List ℕ = take opening bs in
-    let white : ℕ = suffix_len is_white front in
-    let size : length front ≡ opening = length-take-le opening bs (omega arith) in
+    let white : ℕ = suffix_len is_white (take opening bs) in
     elim (cases_lt 0 white) [
       | inl some ↦
-          let node_bound = suffix_len-le-length is_white front in
-          let at : get_or front (length front - white) 0 ≡ get_or bs (opening - white) 0 =
-          get_or-take opening bs (length front - white) 0 (omega arith) ∙ ap (λ (k : ℕ). get_or bs (k - white) 0) size in
-          let small = white_first front some in
-          (omega arith, omega arith)
+          let first = suffix_first is_white bs opening (omega arith) some in
+          let small : (b : ℕ) → is_white b ≡ true → b < ascii_end = λ b h. grind (arith, nat_tests, h) in
+          (omega arith, small (get_or bs (opening - white) 0) first.1)
       | inr none ↦
           let same : opening - white ≡ opening = omega arith in
           let at : get_or bs (opening - white) 0 ≡ left_brace = ap (slice_index bs) same ∙ is in
@@ -191,7 +141,7 @@ kept_place text options start last broken block within e =
     let k : ℕ = kept_before broken block.opening bs in
     let inside = braces_within options bs block e in
     let size : length bs ≡ last - start = length_between text start last within in
-    let kept = kept_byte broken bs block.opening (omega (arith, inside.0, inside.1)) (brace_first options bs block e) in
+    let kept = kept_byte broken bs block.opening (omega (arith, inside.0, inside.1)) (opens_with options bs block e) in
     let before : k < last - start = omega (arith, inside.0, inside.1, kept.0) in
     let at : slice_index bs k ≡ slice_index text (start + k) = get_or-take (last - start) (drop start text) k 0 before ∙ get_or-drop start text k 0 in
     (omega arith, omega arith, IsCharBoundary-before_ascii text (start + k) (omega arith) (omega (arith, kept.1)))
@@ -287,29 +237,26 @@ record TextStands (d : Document) (w : Within) (from start : ℕ) (marker : Optio
   heading : ChildrenStand d.text w from start (start_of (length d.text) l.left) (heading_children d start marker l)
 
 -- A paragraph or a setext heading is between an offset before its marker or its text, and the line after it.
-ended_between : (d : Document) (w : Within) (from start : ℕ) (marker : Option Item) (l : TextLines) (items : List (ℕ × Item)) (next : ℕ)
-    (o : Option (ℕ × HeadingLevel)) → IsCharBoundary d.text next → TextStands d w from start marker l
-    → MatchOption o (taking items (lines_from d.text next) ≡ plain_text d start marker l)
-    (λ underline. IsUnderlined d start marker l underline.1 (taking items (lines_from d.text next)))
-    → FitsBetween d.text w from next items
-ended_between d w from start marker l items next None ends s e =
-    let left : lines_from d.text next ≡ l.left = ap (λ (z : Taken). z.left) e in
-    let stop : start_of (length d.text) l.left ≡ next = ap (start_of (length d.text)) (sym left) ∙ start_of-lines d.text next ends.0 in
-    let is : items ≡ block_with start next ParagraphBody (text_children marker l) =
-    ap (λ (z : Taken). z.items) e ∙ ap (λ k. block_with start k ParagraphBody (text_children marker l)) stop in
-    subst (FitsBetween d.text w from next) (sym is)
-    (children_between d.text w from start (start_of (length d.text) l.left) next ParagraphBody (text_children marker l)
-    (record { extent = refl; starts = s.starts; ends = ends }) (omega arith) s.paragraph)
-ended_between d w from start marker l items next (Some underline) ends s (index, named, e) =
-    let left : lines_from d.text next ≡ drop 1 l.left = ap (λ (z : Taken). z.left) e in
-    let stop : start_of (length d.text) (drop 1 l.left) ≡ next = ap (start_of (length d.text)) (sym left) ∙ start_of-lines d.text next ends.0 in
-    let body : ItemBody = HeadingBody underline.1 index in
-    let is : items ≡ block_with start next body (heading_children d start marker l) =
-    ap (λ (z : Taken). z.items) e ∙ ap (λ k. block_with start k body (heading_children d start marker l)) stop in
-    let later = s.later in
-    subst (FitsBetween d.text w from next) (sym is)
-    (children_between d.text w from start (start_of (length d.text) l.left) next body (heading_children d start marker l)
-    (record { extent = refl; starts = s.starts; ends = ends }) (omega arith) s.heading)
+module _ (d : Document) (w : Within) (from start : ℕ) (marker : Option Item) (l : TextLines) (items : List (ℕ × Item)) (next : ℕ)
+    (ends : IsCharBoundary d.text next) (s : TextStands d w from start marker l) where
+  ended_by : (left : List Place) (body : ItemBody) (kids : List Item)
+      → lines_from d.text next ≡ left → items ≡ block_with start (start_of (length d.text) left) body kids
+      → extent_of (text_node start next body) ≡ text_extent start next → start_of (length d.text) l.left ≤ start_of (length d.text) left
+      → ChildrenStand d.text w from start (start_of (length d.text) l.left) kids → FitsBetween d.text w from next items
+  ended_by left body kids left_is items_are extent later stand =
+      let stop : start_of (length d.text) left ≡ next = ap (start_of (length d.text)) (sym left_is) ∙ start_of-lines d.text next ends.0 in
+      subst (FitsBetween d.text w from next) (sym (items_are ∙ ap (λ k. block_with start k body kids) stop))
+      (children_between d.text w from start (start_of (length d.text) l.left) next body kids
+      (record { extent = extent; starts = s.starts; ends = ends }) (omega arith) stand)
+
+  ended_between : (o : Option (ℕ × HeadingLevel)) → MatchOption o (taking items (lines_from d.text next) ≡ plain_text d start marker l)
+      (λ underline. IsUnderlined d start marker l underline.1 (taking items (lines_from d.text next)))
+      → FitsBetween d.text w from next items
+  ended_between None e =
+      ended_by l.left ParagraphBody (text_children marker l) (ap (λ (z : Taken). z.left) e) (ap (λ (z : Taken). z.items) e) refl (omega arith) s.paragraph
+  ended_between (Some underline) (index, named, e) =
+      ended_by (drop 1 l.left) (HeadingBody underline.1 index) (heading_children d start marker l) (ap (λ (z : Taken). z.left) e)
+      (ap (λ (z : Taken). z.items) e) refl s.later s.heading
 
 -- The text is after an offset before its marker.
 low_start : (text : List ℕ) (from start : ℕ) (marker : Option Item) → MarkerBetween text from start marker → from ≤ start
@@ -329,7 +276,7 @@ plain_fits d start marker old new next adds utf8 boundary inside from stands =
     record {
       items = adds.items;
       tree_is = adds.tree_is;
-      fits = ended_between d w from start marker l adds.items next (underline_first (path_of d.options old) l.left) adds.boundary
+      fits = ended_between d w from start marker l adds.items next adds.boundary
           (record {
             starts = boundary;
             later = text_later d.text l.left h.left_at h.left_is h.left_within;
@@ -337,5 +284,5 @@ plain_fits d start marker old new next adds utf8 boundary inside from stands =
             heading =
                 heading_stand d w from start l h low marker (heading_attribute_block d.options (heading_bytes d start marker l)) refl boundary stands within;
           })
-          ended;
+          (underline_first (path_of d.options old) l.left) ended;
     }

@@ -1,43 +1,29 @@
 -- The lines of a text, one after the other.
-use Rattle.std.proofs.Common.{◌≡◌, ◌⊎◌, inl, inr, ℕ, ◌+◌, ◌<◌, ◌≤◌, ◌==◌, ◌&&◌, Bool, true, false, List, [], ◌∷◌, ◌++◌, length, drop, ◌^◌}
-use Rattle.std.proofs.Common.{if◌then◌else◌, Option, Some, None, is_some, IfSome, IsUtf8, IsCharBoundary, refl, sym, ap, subst, ◌∙◌, arith, ◌||◌}
-use Rattle.std.proofs.lemmas.Bool.{cases_lt, false≢true, cond-false, cond_both, and_left, and_right}
-use Rattle.std.proofs.lemmas.Str.{IsCharBoundary-end}
-use Rattle.first_pass_items.specs.declared.item.Item.{Item}
-use Rattle.first_pass_items.specs.declared.option_set.Options.{Options}
-use Rattle.first_pass_tree.specs.Forest.{Forest, appended, pushed, is_text}
-use Rattle.first_pass_tree.specs.declared.tree_index.TreeIndex.{TreeIndex}
-use Rattle.first_pass_lines.specs.Lines.{line_len}
-use Rattle.first_pass_lines.specs.Rest.{Rest}
-use Rattle.first_pass_lines.specs.Places.{Place, offset, line_rest, line_place, place_at, IsPlaceOf}
-use Rattle.first_pass_lines.proofs.LineFacts.{lines_at-line, lines_at-end}
-use Rattle.first_pass_lines.proofs.PlaceFacts.{line_end_boundary}
+use Rattle.std.proofs.Common.{◌≡◌, inl, inr, ℕ, ◌+◌, ◌<◌, ◌≤◌, ◌==◌, ◌&&◌, Bool, true, false, List, [], ◌∷◌, ◌++◌, length, drop, ◌^◌, if◌then◌else◌, Option}
+use Rattle.std.proofs.Common.{Some, None, is_some, IfSome, IsUtf8, IsCharBoundary, refl, sym, ap, subst, ◌∙◌, arith, ◌||◌, option_map}
+use Rattle.first_pass_grammar.proofs.Common.{cases_lt, false≢true, cond-false, cond_both, and_left, and_right, or_parts, Item, Options, Forest, appended}
+use Rattle.first_pass_grammar.proofs.Common.{pushed, is_text, TreeIndex, line_len, Rest, offset, line_rest, line_place, place_at, IsPlaceOf, lines_at-line}
+use Rattle.first_pass_grammar.proofs.Common.{lines_at-end, AreLineTokens, EndsLine, IsBreak, Spot, spot, text_token, add_text, add_token, add_tokens}
+use Rattle.first_pass_grammar.proofs.Common.{close_break, is_backslash_break, chained, with_tokens, JoinsNone, AppendsLine, add_text-some}
+use Rattle.first_pass_grammar.proofs.Common.{with_tokens-chained, Context, context, after, front, unindented, Continued, continued, interrupts}
+use Rattle.first_pass_grammar.proofs.Common.{underline_of, Names, Extends, line_more, MathBraces, no_braces, Document, document, around, content_at}
+use Rattle.first_pass_grammar.proofs.Common.{marker_items, add_break, TextLines, text_lines, AreTextLines, lines_from, HeadingLevel, underline_first}
+use Rattle.first_pass_grammar.proofs.Common.{setext_underline, none-some}
+use Rattle.first_pass_tree.specs.Forest.{with_text}
 use Rattle.first_pass_grammar.specs.declared.kind.Container.{Container}
-use Rattle.first_pass_tokens.specs.LineTokens.{AreLineTokens, EndsLine, IsBreak, Spot, spot}
-use Rattle.first_pass_tokens.specs.Chains.{text_token, add_text, add_token, add_tokens, close_break, is_backslash_break}
-use Rattle.first_pass_tokens.specs.TreeTokens.{chained, with_tokens, JoinsNone, AppendsLine}
-use Rattle.first_pass_tokens.proofs.ChainLemmas.{add_text-some, with_tokens-chained, with_text-chained, appended-chained}
-use Rattle.first_pass_grammar.specs.Containers.{Context, context, after, front}
-use Rattle.first_pass_grammar.specs.Kinds.{unindented, Continued, continued, interrupts, ends_paragraph, colon_ends, ends_text, underline_left, underline_of}
-use Rattle.first_pass_grammar.specs.Names.{Names, Extends}
+use Rattle.first_pass_tokens.proofs.ChainLemmas.{with_text-chained, appended-chained}
+use Rattle.first_pass_grammar.specs.Kinds.{ends_paragraph, colon_ends, ends_text, underline_left}
 use Rattle.first_pass_grammar.proofs.Names.MoreNames.{extends_both}
-use Rattle.first_pass_tokens.proofs.NamedTexts.{line_more}
-use Rattle.first_pass_tokens.specs.Braces.{MathBraces, no_braces}
-use Rattle.first_pass_grammar.specs.Leaves.{Document, document, around, content_at, add_break, TextLines, text_lines, AreTextLines}
-use Rattle.first_pass_grammar.specs.Completion.{lines_from}
 use Rattle.first_pass_open.specs.Between.{line_end_at}
 use Rattle.first_pass_text.specs.Appends.{with_closed_break, AppendsLines}
 use Rattle.first_pass_open.specs.OpenBlock.{with_child}
 use Rattle.first_pass_open.specs.Path.{container_of, with_container, path_of}
 use Rattle.first_pass_text.proofs.SoFar.{LinesSoFar}
 use Rattle.first_pass_kinds.specs.NextLines.{next_by, next_line_of}
-use Rattle.first_pass_open.proofs.PathLemmas.{AreIn, front-end, path_in-append, path_of-chained, path_of-opened, opened_in}
+use Rattle.first_pass_open.proofs.BlockLemmas.{marked_chain}
+use Rattle.first_pass_open.proofs.PathLemmas.{AreIn, front-end, path_of-chained, path_of-opened, opened_in}
+use Rattle.first_pass_text.proofs.OrderHeading.{line_stops}
 use Rattle.first_pass_open.proofs.PlaceLemmas.{ends_past, text_place}
-use Rattle.first_pass_items.specs.declared.item.HeadingLevel.{HeadingLevel}
-use Rattle.first_pass_grammar.specs.Texts.{underline_first}
-use Rattle.first_pass_scan.specs.LeafLines.{setext_underline}
-use Rattle.std.specs.Option.{option_map}
-use Rattle.std.proofs.lemmas.Option.{none-some}
 use Rattle.first_pass_kinds.specs.declared.interrupt.NextLine.{NextLine}
 use Rattle.first_pass_kinds.specs.declared.interrupt.NextLine.TheVariants.{More, Underline, NotText}
 
@@ -45,15 +31,6 @@ use Rattle.first_pass_kinds.specs.declared.interrupt.NextLine.TheVariants.{More,
 interrupts-end : (c : Context) (how : Continued) → interrupts c how (line_rest []) ≡ true
 unfolding interrupts
 interrupts-end c how = refl
-
-pub goes_within : (c : Context) (text : List ℕ) (n : ℕ) → ends_paragraph c (line_rest (drop n text)) ≡ false → n < length text
-goes_within c text n h =
-    elim (cases_lt n (length text)) [
-      | inl more ↦ more
-      | inr past ↦ absurd (false≢true (sym h ∙ ap (λ bs. ends_paragraph c (line_rest bs)) (ends_past text n past)
-          ∙ ap (interrupts c (continued c.path (line_rest []))) (front-end c.path)
-          ∙ interrupts-end c (continued c.path (line_rest []))))
-    ]
 
 -- There is no underline there.
 underline-end : (path : List Container) → underline_of path (line_rest []) ≡ None
@@ -63,19 +40,17 @@ underline-end path =
     cond_both (is_some (after path (line_rest []))) (underline_left (front path (line_rest []))) None (λ (o : Option (ℕ × HeadingLevel)). o ≡ None)
     (λ e. none) (λ e. refl)
 
-second_none : (t u : Bool) → (t || u) ≡ false → u ≡ false
-second_none true u h = cc
-second_none false u h = h
-
-first_none : (t u : Bool) → (t || u) ≡ false → t ≡ false
-first_none true u h = cc
-first_none false u h = refl
-
 text_within : (c : Context) (text : List ℕ) (n : ℕ) → ends_text c (line_rest (drop n text)) ≡ false → n < length text
 text_within c text n h =
-    let line : Rest = line_rest (drop n text) in
-    goes_within c text n (first_none (ends_paragraph c line) (colon_ends c line)
-    (second_none (is_some (underline_of c.path line)) (ends_paragraph c line || colon_ends c line) h))
+    elim (cases_lt n (length text)) [
+      | inl more ↦ more
+      | inr past ↦
+          let line : Rest = line_rest (drop n text) in
+          let other = (or_parts (is_some (underline_of c.path line)) (ends_paragraph c line || colon_ends c line) h).1 in
+          let goes = (or_parts (ends_paragraph c line) (colon_ends c line) other).0 in
+          absurd (false≢true (sym goes ∙ ap (λ bs. ends_paragraph c (line_rest bs)) (ends_past text n past)
+          ∙ ap (interrupts c (continued c.path (line_rest []))) (front-end c.path) ∙ interrupts-end c (continued c.path (line_rest []))))
+    ]
 
 pub underline_within : (path : List Container) (text : List ℕ) (n : ℕ) (underline : ℕ × HeadingLevel)
     → underline_of path (line_rest (drop n text)) ≡ Some underline → n < length text
@@ -133,35 +108,18 @@ lines_more path d ix chain t l goes u b more =
     subst (λ lines. AreTextLines d path ix chain lines t) (sym first ∙ ap (lines_from d.text) l.place) all
 
 -- If the next line does not continue the text, the line is the last.
-last_by : (path : List Container) (d : Document) (ix : Spot) (chain : List Item) (l : LineOf d ix) (lines : List Place)
-    → (lines ≡ []) ⊎ ((more : List Place) × (lines ≡ line_place l.next (drop l.next d.text) ∷ more))
-    → ends_text (around d path) (line_rest (drop l.next d.text)) ≡ true
-    → AreTextLines d path ix chain lines (text_lines (add_tokens chain l.tokens) l.line_break lines)
-unfolding AreTextLines front
-last_by path d ix chain l lines (inl none) ends =
-    let given : TextLines = text_lines (add_tokens chain l.tokens) l.line_break [] in
-    let p : AreTextLines d path ix chain [] given = (l.tokens, (l.next, l.line_break), l.braces, l.are, refl) in
-    subst (λ ls. AreTextLines d path ix chain ls (text_lines (add_tokens chain l.tokens) l.line_break ls)) (sym none) p
-last_by path d ix chain l lines (inr (more, some)) ends =
-    let here : List Place = line_place l.next (drop l.next d.text) ∷ more in
-    let given : TextLines = text_lines (add_tokens chain l.tokens) l.line_break here in
-    let p : AreTextLines d path ix chain here given = (l.tokens, (l.next, l.line_break), l.braces, l.are, inl (ends, refl)) in
-    subst (λ ls. AreTextLines d path ix chain ls (text_lines (add_tokens chain l.tokens) l.line_break ls)) (sym some) p
-
--- the same for the lines from the next one on
 lines_last : (path : List Container) (d : Document) (ix : Spot) (chain : List Item) (l : LineOf d ix)
     → ends_text (around d path) (line_rest (drop l.next d.text)) ≡ true
     → AreTextLines d path ix chain (lines_from d.text (line_end_at d.text ix.at))
     (text_lines (add_tokens chain l.tokens) l.line_break (lines_from d.text l.next))
+unfolding AreTextLines front
 lines_last path d ix chain l ends =
     let n : ℕ = l.next in
-    let lines : (lines_from d.text n ≡ []) ⊎ ((more : List Place) × (lines_from d.text n ≡ line_place n (drop n d.text) ∷ more)) =
-    elim (cases_lt n (length d.text)) [
-      | inl within ↦ inr (lines_from d.text (line_end_at d.text n), lines_at-line d.text n within)
-      | inr past ↦ inl (lines_at-end d.text n past)
-    ] in
     subst (λ e. AreTextLines d path ix chain (lines_from d.text e) (text_lines (add_tokens chain l.tokens) l.line_break (lines_from d.text n))) l.place
-    (last_by path d ix chain l (lines_from d.text n) lines ends)
+    (elim (cases_lt n (length d.text)) [
+      | inl within ↦ rw (lines_at-line d.text n within) (l.tokens, (n, l.line_break), l.braces, l.are, inl (ends, refl))
+      | inr past ↦ rw (lines_at-end d.text n past) (l.tokens, (n, l.line_break), l.braces, l.are, refl)
+    ])
 
 -- the break after a chain in the tree
 pub with_child-chained : (f : Forest Item) (chain : List Item) (line_break : Option Item)
@@ -169,15 +127,15 @@ pub with_child-chained : (f : Forest Item) (chain : List Item) (line_break : Opt
 with_child-chained f chain None = refl
 with_child-chained f chain (Some x) = appended-chained f chain x
 
-closed_by : (t : Bool) (f : Forest Item) (chain : List Item) (x : Item)
-    → is_backslash_break x.body ≡ t → JoinsNone f → with_closed_break (chained f chain) (Some x) ≡ chained f (close_break (Some x) chain)
-closed_by true f chain x h apart = rw h (with_text-chained f chain x.start (x.start + 1) false apart (omega arith))
-closed_by false f chain x h apart = rw h refl
-
 pub with_closed_break-chained : (f : Forest Item) (chain : List Item) (line_break : Option Item)
     → JoinsNone f → with_closed_break (chained f chain) line_break ≡ chained f (close_break line_break chain)
 with_closed_break-chained f chain None apart = refl
-with_closed_break-chained f chain (Some x) apart = closed_by (is_backslash_break x.body) f chain x refl apart
+with_closed_break-chained f chain (Some x) apart = elim (is_backslash_break x.body)
+    as (λ t. (if t then with_text (chained f chain) x.start (x.start + 1) false else chained f chain)
+    ≡ chained f (if t then add_text x.start (x.start + 1) false chain else chain)) [
+      | true ↦ with_text-chained f chain x.start (x.start + 1) false apart (omega arith)
+      | false ↦ refl
+    ]
 
 -- a token that is no text stays first, whatever follows it
 token_after : (m y : Item) (chain : List Item) → is_text m.body ≡ false → add_token (m ∷ chain) y ≡ m ∷ add_token chain y
@@ -185,16 +143,16 @@ token_after m y [] plain =
     cond-false _ _ _ (and_right (is_text y.body) (is_text m.body && (m.«end» == y.start)) (and_left (is_text m.body) (m.«end» == y.start) plain))
 token_after m y (z ∷ zs) plain = refl
 
-closed_if : (t : Bool) (m : Item) (s : ℕ) (chain : List Item) → is_text m.body ≡ false
-    → (if t then add_text s (s + 1) false (m ∷ chain) else m ∷ chain) ≡ m ∷ (if t then add_text s (s + 1) false chain else chain)
-closed_if true m s chain plain =
-    add_text-some s (s + 1) false (m ∷ chain) (omega arith) ∙ token_after m (text_token s (s + 1) false) chain plain
-    ∙ ap (λ (c : List Item). m ∷ c) (sym (add_text-some s (s + 1) false chain (omega arith)))
-closed_if false m s chain plain = refl
-
 pub closed_past : (m : Item) (break : Option Item) (chain : List Item) → is_text m.body ≡ false → close_break break (m ∷ chain) ≡ m ∷ close_break break chain
 closed_past m None chain plain = refl
-closed_past m (Some x) chain plain = closed_if (is_backslash_break x.body) m x.start chain plain
+closed_past m (Some x) chain plain =
+    let s : ℕ = x.start in
+    elim (is_backslash_break x.body)
+    as (λ t. (if t then add_text s (s + 1) false (m ∷ chain) else m ∷ chain) ≡ m ∷ (if t then add_text s (s + 1) false chain else chain)) [
+      | true ↦ add_text-some s (s + 1) false (m ∷ chain) (omega arith) ∙ token_after m (text_token s (s + 1) false) chain plain
+          ∙ ap (λ (c : List Item). m ∷ c) (sym (add_text-some s (s + 1) false chain (omega arith)))
+      | false ↦ refl
+    ]
 
 -- before the first line
 pub so_far_start : (d : Document) (start : ℕ) (old : Forest Item) → IsCharBoundary d.text start → LinesSoFar d start old old (spot start no_braces)
@@ -203,14 +161,7 @@ so_far_start d start old boundary = record { chain = []; tree_is = refl; boundar
 -- A line ends at a character boundary.
 pub next_boundary : (d : Document) (ix n : ℕ) (b : MathBraces) (line_break : Option Item)
     → IsUtf8 d.text → IsCharBoundary d.text ix → EndsLine (content_at d (spot ix b)) (n, line_break) → IsCharBoundary d.text n
-next_boundary d ix n b line_break utf8 boundary ends =
-    let place : n ≡ line_end_at d.text ix = ends.place in
-    let within : n ≤ length d.text = ends.within in
-    let from : ix ≤ n = ends.from in
-    elim (cases_lt ix (length d.text)) [
-      | inl more ↦ subst (IsCharBoundary d.text) (sym place) (line_end_boundary d.text ix utf8 boundary more)
-      | inr past ↦ let e : n ≡ length d.text = omega arith in subst (IsCharBoundary d.text) (sym e) (IsCharBoundary-end d.text)
-    ]
+next_boundary d ix n b line_break utf8 boundary ends = subst (IsCharBoundary d.text) (sym ends.place) (line_stops d.text ix utf8 boundary)
 
 -- the next line
 pub goes_by : (o : Option (ℕ × HeadingLevel)) (t : Bool) (v at : ℕ) (next : NextLine)
@@ -292,6 +243,13 @@ module _ {d : Document} {start : ℕ} {old : Forest Item} (l : LineRead d start 
   line_boundary : IsCharBoundary d.text l.next
   line_boundary = next_boundary d l.ix.at l.next l.ix.braces l.line_break l.utf8 l.so_far.boundary l.ends
 
+  -- It ends after the first line of the text, or with it.
+  line_later : line_end_at d.text start ≤ l.next
+  line_later = elim l.so_far.from [
+    | inl same ↦ omega (arith, ap (line_end_at d.text) same, l.ends.place)
+    | inr past ↦ omega (arith, l.ends.from)
+  ]
+
   -- If the next line continues the text, the lines so far include this line, and the next one begins after it.
   pub so_far_next : (at : ℕ) (new : Forest Item) (found : NextLine)
       → found ≡ next_line_of (context d.options line_path) l.next (line_rest (drop l.next d.text)) → found ≡ More at
@@ -311,10 +269,7 @@ module _ {d : Document} {start : ℕ} {old : Forest Item} (l : LineRead d start 
           chain = add_break l.line_break chain_read;
           tree_is = new_is ∙ ap (λ f. with_child f l.line_break) chain_is ∙ with_child-chained old chain_read l.line_break;
           boundary = subst (IsCharBoundary d.text) (sym at_is) i.boundary;
-          from = inr (elim l.so_far.from [
-            | inl same ↦ (let e = ap (line_end_at d.text) same in let p : n ≡ line_end_at d.text ix.at = l.ends.place in omega arith)
-            | inr past ↦ omega arith
-          ]);
+          from = inr (omega (arith, line_later));
           continues = λ more e t p.
               let later : Document = document d.text d.options more in
               l.so_far.continues more (extends_both more l.names d.names e l.grown) t
@@ -345,10 +300,7 @@ module _ {d : Document} {start : ℕ} {old : Forest Item} (l : LineRead d start 
         tree_is = chain_is;
         underline = said.1 ∙ ap (option_map (λ (found : ℕ × HeadingLevel). found.1))
             (sym (underline_there line_path d.text n) ∙ ap (λ c. underline_first c (lines_from d.text n)) same_path);
-        later = elim l.so_far.from [
-          | inl same ↦ (let e = ap (line_end_at d.text) same in let p : n ≡ line_end_at d.text l.ix.at = l.ends.place in omega arith)
-          | inr past ↦ (let from : l.ix.at ≤ n = l.ends.from in omega arith)
-        ];
+        later = line_later;
         boundary = line_boundary;
         short = break_fits d l.ix n l.line_break small l.ends;
       }
@@ -357,9 +309,8 @@ module _ {d : Document} {start : ℕ} {old : Forest Item} (l : LineRead d start 
 pub path_of-paragraph : (options : Options) (g p m : Forest Item) (x : Item) (ix : TreeIndex) (marker : Option Item)
     → container_of options x.body ≡ None → p ≡ pushed (appended g x) ix → m ≡ with_child p marker → ix.0 ≡ length g.nodes
     → AreIn (length g.nodes) g.spine → path_of options m ≡ path_of options g
-path_of-paragraph options g p m x ix None leaf e f at a =
-    ap (path_of options) (f ∙ e) ∙ path_of-opened options g x ix at a ∙ ap (λ c. with_container c (path_of options g)) leaf
-path_of-paragraph options g p m x ix (Some y) leaf e f at a =
-    ap (path_of options) (f ∙ ap (λ q. appended q y) e)
-    ∙ path_in-append options (g.nodes ++ (length g.spine + 1, x) ∷ []) ((length (ix ∷ g.spine) + 1, y) ∷ []) (ix ∷ g.spine) (opened_in g x ix at a)
-    ∙ path_of-opened options g x ix at a ∙ ap (λ c. with_container c (path_of options g)) leaf
+path_of-paragraph options g p m x ix marker leaf e f at a =
+    let opened : Forest Item = pushed (appended g x) ix in
+    ap (path_of options) (marked_chain opened m m marker [] (f ∙ ap (λ q. with_child q marker) e) refl)
+    ∙ path_of-chained options opened (marker_items marker ++ []) (opened_in g x ix at a) ∙ path_of-opened options g x ix at a
+    ∙ ap (λ c. with_container c (path_of options g)) leaf

@@ -1,30 +1,19 @@
 -- The headings that have at most one token, a text.
-use Rattle.std.proofs.Common.{◌≡◌, ◌<◌, ◌≤◌, ℕ, ◌+◌, ◌-◌, ◌==◌, nat_le, nat_lt, min, Bool, true, false, List, [], ◌∷◌, length, take, slice_index}
-use Rattle.std.proofs.Common.{Option, None, Some, is_some, inl, inr, refl, sym, ap, subst, ◌∙◌, arith}
-use Rattle.std.specs.List.{slice_index_or, slice_range, suffix_len}
-use Rattle.std.proofs.lemmas.Bool.{cases_Bool, cases_lt, eqb-true, cond-true, cond-false, cond_both, le-ltb, lt-ltb, true≢false}
-use Rattle.first_pass_lines.proofs.OptionFacts.{none_is}
-use Rattle.first_pass_items.specs.Bytes.{backslash}
-use Rattle.first_pass_items.specs.declared.cow_str.CowStr.{CowStr}
-use Rattle.first_pass_items.specs.declared.item.Item.{Item}
-use Rattle.first_pass_items.specs.declared.option_set.Options.{Options}
+use Rattle.std.proofs.Common.{◌≡◌, ◌<◌, ◌≤◌, ℕ, ◌+◌, ◌-◌, ◌==◌, nat_le, nat_lt, min, Bool, true, false, List, [], ◌∷◌, length, take, slice_index, Option}
+use Rattle.std.proofs.Common.{None, Some, is_some, inl, inr, refl, sym, ap, subst, ◌∙◌, arith, slice_index_or, slice_range, eqb-true, ltb-true, ltb-false}
+use Rattle.std.proofs.Common.{le-ltb, lt-ltb, true≢false, option_map}
+use Rattle.first_pass_grammar.proofs.Common.{suffix_len, cases_Bool, cases_lt, cond-true, cond-false, cond_both, none_is, none_mapped, backslash, CowStr}
+use Rattle.first_pass_grammar.proofs.Common.{Item, Options, add_text, add_tokens, close_break, cut, text_token, text_end, breaks_by_backslash}
+use Rattle.first_pass_grammar.proofs.Common.{blanks_at_end, line_end_len, add_pieces, AreLineTokens, IsCell, Inline, text_upto, leaves, add_text-some}
+use Rattle.first_pass_grammar.proofs.Common.{add_text-none, kept_len, heading_chain, Document, document, IsHeading, heading_attribute_block}
+use Rattle.first_pass_grammar.proofs.Common.{before_attributes, heading_attributes_of, text_before_attributes, Names, NamesAttributes, Extends}
+use Rattle.first_pass_grammar.proofs.Common.{HeadingIndex, Braces, no_braces, option_map_or}
+use Rattle.std.proofs.lemmas.Bool.{eqb-false}
 use Rattle.first_pass_walk.specs.Walk.{is_special, IsNextMarked, MarksSpecial}
-use Rattle.first_pass_tree.specs.Forest.{cut_item, text_between}
-use Rattle.first_pass_tokens.specs.Chains.{add_text, add_tokens, close_break, cut, text_token}
-use Rattle.first_pass_tokens.specs.LineTokens.{text_end, line_break, breaks_by_backslash, backslashes_at_end, blanks_at_end, line_end_len, break_of}
-use Rattle.first_pass_tokens.specs.LineTokens.{add_pieces, AreLineTokens, IsCell}
-use Rattle.first_pass_tokens.specs.Pieces.{Inline, text_upto}
-use Rattle.first_pass_tokens.specs.TreeTokens.{leaves}
-use Rattle.first_pass_tokens.proofs.ChainLemmas.{add_text-some, add_text-none}
+use Rattle.first_pass_tree.specs.Forest.{text_between}
+use Rattle.first_pass_tokens.specs.LineTokens.{line_break, backslashes_at_end, break_of}
 use Rattle.first_pass_tokens.proofs.LineLemmas.{end_bounded, ends_line}
-use Rattle.first_pass_grammar.specs.Leaves.{kept_len, heading_chain, Document, document, IsHeading}
-use Rattle.first_pass_grammar.specs.Headings.{heading_attribute_block, before_attributes, heading_attributes_of, text_before_attributes}
-use Rattle.first_pass_grammar.specs.Names.{Names, NamesAttributes, Extends}
-use Rattle.first_pass_items.specs.declared.item.HeadingIndex.{HeadingIndex}
-use Rattle.first_pass_attributes.specs.AttributeBlocks.{Braces}
-use Rattle.first_pass_tokens.specs.Braces.{no_braces}
 use Rattle.first_pass_open.specs.Between.{line_end_at}
-use Rattle.std.specs.Option.{option_map, option_map_or}
 use Rattle.first_pass_text.specs.declared.heading.AttributeBlock.{AttributeBlock}
 use Rattle.first_pass_text.specs.Appends.{line_from, attribute_place}
 use Rattle.first_pass_text.proofs.AttributeEnds.{before_none}
@@ -44,32 +33,29 @@ none_cut kept start = elim (cases_lt 0 kept) [ inl some ↦ chain_kept kept star
 
 -- a chain of at most a text, cut after the kept bytes
 text_cut : (start to kept : ℕ) → leaves (heading_chain kept start (add_text start to false [])) ≡ text_between start (min (start + kept) to)
-text_cut start to kept = elim (cases_lt start to) [
-  | inl some ↦ elim (cases_lt 0 kept) [
-    | inl more ↦
-        let chain : heading_chain kept start (add_text start to false []) ≡ cut (start + kept) (text_token start to false ∷ []) =
-        chain_kept kept start (add_text start to false []) (λ h. omega arith) ∙ ap (cut (start + kept)) (add_text-some start to false [] some) in
-        let before : nat_lt start (start + kept) ≡ true = lt-ltb start (start + kept) (omega arith) in
-        let first : cut (start + kept) (text_token start to false ∷ []) ≡ cut_item (start + kept) (text_token start to false) ∷ [] =
-        cond-true _ _ _ before in
-        elim (cases_lt (start + kept) to) [
-          | inl within ↦
-              let least : min (start + kept) to ≡ start + kept = omega arith in
-              ap leaves (chain ∙ first ∙ ap (λ (x : Item). x ∷ []) (cond-true _ _ _ (lt-ltb (start + kept) to within)))
-              ∙ sym (ap (text_between start) least ∙ cond-true _ _ _ before)
-          | inr past ↦
-              let least : min (start + kept) to ≡ to = omega arith in
-              ap leaves (chain ∙ first ∙ ap (λ (x : Item). x ∷ []) (cond-false _ _ _ (le-ltb (start + kept) to past)))
-              ∙ sym (ap (text_between start) least ∙ cond-true _ _ _ (lt-ltb start to some))
-        ]
-    | inr none ↦
-        ap leaves (chain_none kept start (add_text start to false []) (omega arith))
-        ∙ sym (cond-false _ _ _ (le-ltb start (min (start + kept) to) (omega arith)))
-  ]
-  | inr none ↦
-      ap leaves (ap (heading_chain kept start) (add_text-none start to false [] none) ∙ none_cut kept start)
-      ∙ sym (cond-false _ _ _ (le-ltb start (min (start + kept) to) (omega arith)))
-]
+unfolding heading_chain
+text_cut start to kept =
+    let stop : ℕ = min (start + kept) to in
+    elim (cases_lt start to) [
+      | inl some ↦
+          let t : Item = text_token start to false in
+          rw (add_text-some start to false [] some)
+          (cond_both (kept == 0) [] (cut (start + kept) (t ∷ [])) (λ c. leaves c ≡ text_between start stop)
+          (λ none. sym (cond-false _ _ _ (le-ltb start stop (omega (arith, eqb-true kept 0 none)))))
+          (λ more.
+          let before : start < start + kept = omega (arith, eqb-false kept 0 more) in
+          ap leaves (cond-true _ _ _ (lt-ltb start (start + kept) before))
+          ∙ cond_both (nat_lt (start + kept) to) (record t { «end» = start + kept }) t (λ x. leaves (x ∷ []) ≡ text_between start stop)
+          (λ within.
+          let least : stop ≡ start + kept = omega (arith, ltb-true (start + kept) to within) in
+          sym (ap (text_between start) least ∙ cond-true _ _ _ (lt-ltb start (start + kept) before)))
+          (λ past.
+          let least : stop ≡ to = omega (arith, ltb-false (start + kept) to past) in
+          sym (ap (text_between start) least ∙ cond-true _ _ _ (lt-ltb start to some)))))
+      | inr none ↦
+          ap leaves (ap (heading_chain kept start) (add_text-none start to false [] none) ∙ none_cut kept start)
+          ∙ sym (cond-false _ _ _ (le-ltb start stop (omega arith)))
+    ]
 
 special_backslash : (options : Options) → is_special options backslash ≡ true
 unfolding is_special
@@ -146,11 +132,6 @@ upto_all text bytes cut none same = ap (text_upto text) (none_is cut none) ∙ s
 pub upto_within : (text bytes : List ℕ) (at : ℕ) (cut : Option ℕ) → is_some cut ≡ false → bytes ≡ text → at < length (text_upto text cut) → at < length bytes
 upto_within text bytes at cut none same within = subst (λ t. at < length t) (upto_all text bytes cut none same) within
 
--- a value that becomes none was none
-none_before : {A B : Type 0} (f : A → B) (o : Option A) → None ≡ option_map f o → o ≡ None
-none_before f None h = refl
-none_before f (Some x) h = absurd (let z : Some (f x) ≡ None = sym h in cc)
-
 -- The heading that has no attribute block is one of the grammar, and its chain is at most a text.
 pub plain_read : (d : Document) (start next text_end : ℕ) (cut : Option ℕ) (place : Option AttributeBlock) (index : Option HeadingIndex)
     → place ≡ attribute_place d.options d.text start → cut ≡ option_map (λ (p : AttributeBlock). p.opening) place → cut ≡ None
@@ -163,7 +144,7 @@ plain_read d start next text_end cut place index place_is cut_is none plain name
     let line : List ℕ = line_from text start in
     let s : List ℕ → Inline = λ t. record { options = d.options; whole = text; text = t; start = start; row = false; braces = no_braces } in
     let block : heading_attribute_block d.options line ≡ None =
-    none_before (λ (b : Braces). start + b.opening) (heading_attribute_block d.options line)
+    none_mapped (λ (b : Braces). start + b.opening) (heading_attribute_block d.options line)
     (sym none ∙ cut_is ∙ place_cut text d.options start place place_is) in
     let h : IsPlainHeading (s text) text_end next = subst (λ o. IsPlainHeading (s (text_upto text o)) text_end next) none plain in
     let whole : text_before_attributes d.options text start line ≡ text =

@@ -1,52 +1,26 @@
 -- A paragraph or a setext heading is added to the tree.
-use Rattle.std.proofs.Common.{◌≡◌, Bool, ◌≤◌, ℕ, ◌+◌, List, [], ◌++◌, length, drop, Option, Some, None, IfSome, MatchOption, IsUtf8}
-use Rattle.std.proofs.Common.{IsCharBoundary, refl, sym, ap, subst, ◌∙◌, arith, false, IsSome, slice_get}
-use Rattle.first_pass_items.specs.declared.item.Item.{Item}
-use Rattle.first_pass_items.specs.declared.item.HeadingLevel.{HeadingLevel}
-use Rattle.first_pass_tree.specs.Forest.{Forest, added, appended, pushed, is_text, item_at}
-use Rattle.first_pass_lines.specs.Places.{Place, start_of}
-use Rattle.first_pass_lines.proofs.LineFacts.{lines_at-line}
-use Rattle.first_pass_lines.proofs.PlaceFacts.{start_of-lines}
-use Rattle.first_pass_grammar.specs.Leaves.{Document, document, TextLines, text_lines, AreTextLines, paragraph_block, heading_block, marker_items}
-use Rattle.first_pass_grammar.specs.Names.{Names, Extends, NamesAttributes}
+use Rattle.std.proofs.Common.{◌≡◌, Bool, ◌≤◌, ℕ, ◌+◌, List, [], ◌++◌, length, drop, Option, Some, None, IfSome, MatchOption, IsUtf8, IsCharBoundary, refl}
+use Rattle.std.proofs.Common.{sym, ap, subst, ◌∙◌, arith, false, IsSome, slice_get, option_map}
+use Rattle.first_pass_grammar.proofs.Common.{Item, HeadingLevel, Forest, appended, pushed, is_text, item_at, Place, start_of, lines_at-line, start_of-lines}
+use Rattle.first_pass_grammar.proofs.Common.{Document, document, TextLines, text_lines, AreTextLines, heading_block, marker_items, Names, Extends}
+use Rattle.first_pass_grammar.proofs.Common.{NamesAttributes, heading_attribute_block, heading_attributes_of, chain_bytes, kept_before, Braces, Options}
+use Rattle.first_pass_grammar.proofs.Common.{option_map_or, underline_first, text_children, plain_text, underlined_text, by_backslash, heading_bytes}
+use Rattle.first_pass_grammar.proofs.Common.{children_without, heading_children, IsUnderlined, Taken, taking, lines_from, TreeIndex, no_braces, spot}
+use Rattle.first_pass_grammar.proofs.Common.{chained, close_break, cut, joins_none-fresh, Paragraph, Heading, none_mapped, some_mapped}
+use Rattle.first_pass_grammar.specs.Leaves.{paragraph_block}
 use Rattle.first_pass_grammar.proofs.Names.MoreNames.{extends_both}
-use Rattle.first_pass_grammar.specs.Headings.{heading_attribute_block, heading_attributes_of, chain_bytes, kept_before}
-use Rattle.first_pass_attributes.specs.AttributeBlocks.{Braces}
 use Rattle.first_pass_names.specs.TableEntries.{no_names}
-use Rattle.first_pass_items.specs.declared.option_set.Options.{Options}
-use Rattle.first_pass_items.specs.declared.item.HeadingIndex.{HeadingIndex}
-use Rattle.std.specs.Option.{option_map, option_map_or}
-use Rattle.first_pass_grammar.specs.Texts.{underline_first, text_children, plain_text, underlined_text, by_backslash, heading_bytes, children_without}
-use Rattle.first_pass_grammar.specs.Texts.{heading_children, IsUnderlined}
-use Rattle.first_pass_grammar.specs.Tables.{Taken, taking}
-use Rattle.first_pass_grammar.specs.Completion.{lines_from}
 use Rattle.first_pass_open.specs.Path.{path_of}
 use Rattle.first_pass_open.specs.Between.{line_end_at}
 use Rattle.first_pass_text.specs.Appends.{AddsPlainText, with_closed_break}
 use Rattle.first_pass_text.proofs.ParagraphLemmas.{underline_there, underline_within, with_closed_break-chained, closed_past}
-use Rattle.std.proofs.lemmas.Option.{same_Some}
-use Rattle.first_pass_tree.specs.declared.tree_index.TreeIndex.{TreeIndex}
-use Rattle.first_pass_tokens.specs.Braces.{no_braces}
-use Rattle.first_pass_tokens.specs.LineTokens.{spot}
-use Rattle.first_pass_tokens.specs.TreeTokens.{chained}
-use Rattle.first_pass_tokens.specs.Chains.{close_break, cut}
-use Rattle.first_pass_tokens.proofs.ChainLemmas.{joins_none-fresh, pushed-fresh}
+use Rattle.first_pass_tokens.proofs.ChainLemmas.{pushed-fresh}
 use Rattle.first_pass_open.specs.OpenBlock.{closed_by}
 use Rattle.first_pass_open.proofs.BlockLemmas.{still_open, block_closed, open_place_of, open_item_of, open_named}
-use Rattle.first_pass_items.specs.declared.item.ItemBody.TheVariants.{Paragraph, Heading}
 use Rattle.first_pass_text.specs.declared.paragraph.TextEnd.{TextEnd}
 use Rattle.first_pass_text.proofs.OrderHeading.{line_stops}
 use Rattle.first_pass_text.specs.CutTexts.{cut_chain, CutsBlock, BecomesHeading}
 use Rattle.first_pass_text.proofs.AttributeEnds.{cut_none}
-
-no_underline : (o : Option (ℕ × HeadingLevel)) → None ≡ option_map (λ (found : ℕ × HeadingLevel). found.1) o → o ≡ None
-no_underline None h = refl
-no_underline (Some underline) h = cc
-
-some_underline : (level : HeadingLevel) (o : Option (ℕ × HeadingLevel))
-    → Some level ≡ option_map (λ (found : ℕ × HeadingLevel). found.1) o → (n : ℕ) × (o ≡ Some (n, level))
-some_underline level None h = cc
-some_underline level (Some underline) h = (underline.0, ap (λ z. Some (underline.0, z)) (sym (same_Some level underline.1 h)))
 
 -- the break after a chain with a marker before it is closed in the same way
 closed_marked : (marker line_break : Option Item) (chain : List Item) → IfSome marker (λ y. is_text y.body ≡ false)
@@ -70,70 +44,6 @@ children_by d start marker l o e = ap (children_without d start marker l) e
 -- the result for the lines of a text, with the remaining lines from an offset on
 abbrev pub given : List ℕ → ℕ → List Item → Option Item → TextLines
 given text next chain line_break = text_lines chain line_break (lines_from text next)
-
-module _ (text : List ℕ) (options : Options) (names : Names) (start n : ℕ) (marker : Option Item) (old new : Forest Item) (chain : List Item)
-    (line_break : Option Item)
-    (are : (more : Names) → Extends more names
-    → AreTextLines (document text options more) (path_of options old) (spot start no_braces) [] (lines_from text (line_end_at text start))
-    (given text n chain line_break))
-    (later : line_end_at text start ≤ n) (boundary : IsCharBoundary text n) where
-  abbrev lines : TextLines
-  lines = given text n chain line_break
-
-  -- if no underline follows
-  pub paragraph_added : None ≡ option_map (λ (found : ℕ × HeadingLevel). found.1) (underline_first (path_of options old) (lines_from text n))
-      → new ≡ added old (paragraph_block start n (text_children marker lines)) → AddsPlainText (document text options names) start marker old new n
-  paragraph_added said tree_is =
-      let none = no_underline (underline_first (path_of options old) (lines_from text n)) said in
-      let t : Taken = taking (paragraph_block start n (text_children marker lines)) (lines_from text n) in
-      record {
-        items = t.items;
-        is = λ more e.
-            let d = document text options more in
-            let same : t ≡ plain_text d start marker lines =
-            ap (λ k. taking (paragraph_block start k (text_children marker lines)) (lines_from text n)) (sym (start_of-lines text n boundary.0)) in (
-              lines,
-              are more e,
-              subst (λ o. MatchOption o (t ≡ plain_text d start marker lines) (λ underline. IsUnderlined d start marker lines underline.1 t)) (sym none) same,
-            );
-        tree_is = tree_is;
-        later = later;
-        boundary = boundary;
-      }
-
-  -- if one follows
-  pub heading_added : (level : HeadingLevel) (index : Option HeadingIndex) (next : ℕ)
-      → Some level ≡ option_map (λ (found : ℕ × HeadingLevel). found.1) (underline_first (path_of options old) (lines_from text n))
-      → next ≡ line_end_at text n → IsCharBoundary text next
-      → ((more : Names) → Extends more names
-      → NamesAttributes more index (heading_attributes_of options (chain_bytes text start (marker_items marker ++ chain))))
-      → new ≡ added old (heading_block start next level index (heading_children (document text options no_names) start marker lines))
-      → AddsPlainText (document text options names) start marker old new next
-  heading_added level index next said next_is ends named tree_is =
-      let (size, some) = some_underline level (underline_first (path_of options old) (lines_from text n)) said in
-      let within = underline_within (path_of options old) text n (size, level) (sym (underline_there (path_of options old) text n) ∙ some) in
-      let following : drop 1 (lines_from text n) ≡ lines_from text next =
-      ap (λ (ls : List Place). drop 1 ls) (lines_at-line text n within) ∙ ap (lines_from text) (sym next_is) in
-      let kids : List Item = heading_children (document text options no_names) start marker lines in
-      let t : Taken = taking (heading_block start next level index kids) (lines_from text next) in
-      record {
-        items = t.items;
-        is = λ more e.
-            let d = document text options more in
-            let same : t ≡ underlined_text d start marker level index lines =
-            ap (λ k. taking (heading_block start k level index kids) (lines_from text next)) (sym (start_of-lines text next ends.0))
-            ∙ ap (λ (ls : List Place). taking (heading_block start (start_of (length text) ls) level index kids) ls) (sym following)
-            ∙ ap (λ ks. taking (heading_block start (start_of (length text) (drop 1 lines.left)) level index ks) (drop 1 lines.left))
-            (children_renamed text options no_names more start marker lines) in (
-              lines,
-              are more e,
-              subst (λ o. MatchOption o (t ≡ plain_text d start marker lines) (λ underline. IsUnderlined d start marker lines underline.1 t)) (sym some)
-                  (index, named more e, same),
-            );
-        tree_is = tree_is;
-        later = let more = later in let e = next_is in omega arith;
-        boundary = ends;
-      }
 
 -- the paragraph that is opened at an offset
 abbrev pub opened_item : ℕ → Item
@@ -187,9 +97,25 @@ module _ {text : List ℕ} {options : Options} {read_names : Names} {start : ℕ
 
   pub closed_paragraph : (n new : Forest Item) → n ≡ with_closed_break r end.line_break → None ≡ end.underline → new ≡ closed_by n end.next n.spine
       → AddsPlainText (document text options read_names) start marker g new end.next
-  closed_paragraph n new n_is none is =
-      paragraph_added text options read_names start end.next marker g new t.chain end.line_break t.are t.later t.boundary (none ∙ t.said)
-      (block_closed g n (opened_item start) (text_children marker read_lines) ix t.at (text_filled n n_is) new end.next is)
+  closed_paragraph n new n_is said is =
+      let none = none_mapped (λ (found : ℕ × HeadingLevel). found.1) (underline_first (path_of options g) (lines_from text end.next)) (said ∙ t.said) in
+      let all : Taken = taking (paragraph_block start end.next (text_children marker read_lines)) (lines_from text end.next) in
+      record {
+        items = all.items;
+        is = λ more e.
+            let d = document text options more in
+            let same : all ≡ plain_text d start marker read_lines =
+            ap (λ k. taking (paragraph_block start k (text_children marker read_lines)) (lines_from text end.next))
+            (sym (start_of-lines text end.next t.boundary.0)) in (
+              read_lines,
+              t.are more e,
+              subst (λ o. MatchOption o (all ≡ plain_text d start marker read_lines)
+                  (λ underline. IsUnderlined d start marker read_lines underline.1 all)) (sym none) same,
+            );
+        tree_is = block_closed g n (opened_item start) (text_children marker read_lines) ix t.at (text_filled n n_is) new end.next is;
+        later = t.later;
+        boundary = t.boundary;
+      }
 
   -- the rest of the chain of a heading, after its last line is ended, forms its children
   cut_is : (o : Option Braces) → heading_attribute_block options (chain_bytes text start whole_chain) ≡ o
@@ -238,8 +164,31 @@ module _ {text : List ℕ} {options : Options} {read_names : Names} {start : ℕ
     pub closed_heading : (new : Forest Item) (next : ℕ)
         → Some level ≡ end.underline → next ≡ line_end_at text end.next → IsUtf8 text → new ≡ closed_by n next n.spine
         → AddsPlainText (document text options names) start marker g new next
-    closed_heading new next some next_is utf8 is =
-        heading_added text options names start end.next marker g new t.chain end.line_break
-        (λ more e. t.are more (extends_both more names read_names e grown)) t.later t.boundary level heads.index next (some ∙ t.said) next_is
-        (subst (IsCharBoundary text) (sym next_is) (line_stops text end.next utf8 t.boundary)) cut_off.1
-        (block_closed g n heading_item kids ix t.at heading_filled new next is)
+    closed_heading new next said next_is utf8 is =
+        let m : ℕ = end.next in
+        let (found, found_is, level_is) = some_mapped (λ (found : ℕ × HeadingLevel). found.1) (underline_first (path_of options g) (lines_from text m)) level
+        (sym (said ∙ t.said)) in
+        let some = found_is ∙ ap (λ z. Some (found.0, z)) level_is in
+        let within = underline_within (path_of options g) text m (found.0, level) (sym (underline_there (path_of options g) text m) ∙ some) in
+        let following : drop 1 (lines_from text m) ≡ lines_from text next =
+        ap (λ (ls : List Place). drop 1 ls) (lines_at-line text m within) ∙ ap (lines_from text) (sym next_is) in
+        let ends : IsCharBoundary text next = subst (IsCharBoundary text) (sym next_is) (line_stops text m utf8 t.boundary) in
+        let all : Taken = taking (heading_block start next level heads.index kids) (lines_from text next) in
+        record {
+          items = all.items;
+          is = λ more e.
+              let d = document text options more in
+              let same : all ≡ underlined_text d start marker level heads.index read_lines =
+              ap (λ k. taking (heading_block start k level heads.index kids) (lines_from text next)) (sym (start_of-lines text next ends.0))
+              ∙ ap (λ (ls : List Place). taking (heading_block start (start_of (length text) ls) level heads.index kids) ls) (sym following)
+              ∙ ap (λ ks. taking (heading_block start (start_of (length text) (drop 1 read_lines.left)) level heads.index ks) (drop 1 read_lines.left))
+              (children_renamed text options no_names more start marker read_lines) in (
+                read_lines,
+                t.are more (extends_both more names read_names e grown),
+                subst (λ o. MatchOption o (all ≡ plain_text d start marker read_lines)
+                    (λ underline. IsUnderlined d start marker read_lines underline.1 all)) (sym some) (heads.index, cut_off.1 more e, same),
+              );
+          tree_is = block_closed g n heading_item kids ix t.at heading_filled new next is;
+          later = omega (arith, t.later, next_is);
+          boundary = ends;
+        }

@@ -1,13 +1,7 @@
 -- How far the lines of a paragraph are read (only private functions cite this).
-use Rattle.std.specs.Prelude.{◌≡◌, ◌⊎◌, ◌≤◌, ℕ, List, [], IsCharBoundary}
-use Rattle.first_pass_items.specs.declared.item.Item.{Item}
-use Rattle.first_pass_tree.specs.Forest.{Forest}
-use Rattle.first_pass_tokens.specs.Braces.{no_braces}
-use Rattle.first_pass_tokens.specs.LineTokens.{Spot, spot}
-use Rattle.first_pass_tokens.specs.TreeTokens.{chained}
-use Rattle.first_pass_grammar.specs.Leaves.{Document, document, TextLines, AreTextLines}
-use Rattle.first_pass_grammar.specs.Names.{Names, Extends}
-use Rattle.first_pass_grammar.specs.Completion.{lines_from}
+use Rattle.std.proofs.Common.{◌≡◌, ◌⊎◌, ◌≤◌, ℕ, List, [], IsCharBoundary}
+use Rattle.first_pass_grammar.proofs.Common.{Item, Forest, no_braces, Spot, spot, chained, Document, document, TextLines, AreTextLines, Names, Extends}
+use Rattle.first_pass_grammar.proofs.Common.{lines_from}
 use Rattle.first_pass_open.specs.Between.{line_end_at}
 use Rattle.first_pass_open.specs.Path.{path_of}
 

@@ -1,9 +1,7 @@
 -- The front of a text that ends at a character boundary: order in it is order in the text.
-use Rattle.std.proofs.Common.{◌≡◌, ℕ, ◌≤◌, List, [], ◌∷◌, length, take, IsUtf8, IsCharBoundary, sym, subst, arith, length-take-le}
-use Rattle.std.proofs.lemmas.List.{take-take}
+use Rattle.std.proofs.Common.{◌≡◌, ℕ, ◌≤◌, List, [], ◌∷◌, length, take, IsUtf8, IsCharBoundary, sym, subst, arith, length-take-le, take-take}
+use Rattle.first_pass_grammar.proofs.Common.{Item, AreInOrder}
 use Rattle.std.proofs.lemmas.Str.{IsUtf8-take, IsCharBoundary-from_take}
-use Rattle.first_pass_items.specs.declared.item.Item.{Item}
-use Rattle.first_pass_tokens.proofs.InOrder.{AreInOrder}
 
 module _ (text : List ℕ) (e : ℕ) (utf8 : IsUtf8 text) (ends : IsCharBoundary text e) where
   pub front_len : length (take e text) ≡ e

@@ -1,14 +1,12 @@
 -- Successive runs of the pass, their number and their least time.
 use Rattle.std.proofs.Common.{inl, inr, zero, ◌≡◌, ℕ, ◌+◌, ◌-◌, ◌<◌, ◌≤◌, suc, min, true, false, Option, None, Some, List, [], ◌∷◌, ◌++◌, length}
-use Rattle.std.proofs.Common.{length-append, map, take, refl, sym, ap, ◌∙◌, subst, arith}
+use Rattle.std.proofs.Common.{length-append, map, take, refl, sym, ap, ◌∙◌, subst, arith, leb-false, leb-true, All, Contains}
 use Rattle.std.proofs.Math.Nat.{min-eq_left}
 use Rattle.std.proofs.Math.Seq.{take-append_seam}
-use Rattle.std.proofs.lemmas.Bool.{leb-false, leb-true}
 use Rattle.std.proofs.lemmas.Bool.Decides.{leb_tells}
 use Rattle.std.proofs.lemmas.List.{map-append, take-append-le, flat_map_more}
 use Rattle.std.proofs.lemmas.List.Elements.{All-append, Contains-append_left, Contains-append_right}
 use Rattle.std.proofs.KnownBytes.{Consumes-trans}
-use Rattle.std.specs.Prelude.{All, Contains}
 use Rattle.std.specs.Io.KnownBytes.{Consumes}
 use Rattle.first_pass_timing.specs.Timing.{AreEnough, AreTimed, IsLeast, IsTimed, elapsed, enough, end_of_runs, time_of}
 

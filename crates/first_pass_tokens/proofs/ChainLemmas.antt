@@ -1,17 +1,16 @@
 -- Chains and trees: the token that is added or joined, the chain after a cut, and the block that a chain closes to.
 use Rattle.std.proofs.Common.{ℕ, suc, zero, ◌≡◌, ◌+◌, ◌≤◌, ◌<◌, ◌==◌, ◌&&◌, Bool, true, false, List, ◌∷◌, ◌++◌, length, take, drop, Option, Some, None, []}
-use Rattle.std.proofs.Common.{MatchOption, nat_lt, slice_get, slice_index, refl, sym, ap, ◌∙◌, inl, inr, arith, length-append, append_assoc}
-use Rattle.std.specs.Option.{option_map}
-use Rattle.std.proofs.lemmas.List.{append-nil}
+use Rattle.std.proofs.Common.{nat_lt, slice_get, slice_index, refl, sym, ap, ◌∙◌, inl, inr, arith, length-append, append_assoc, option_map, append-nil}
+use Rattle.std.proofs.Common.{lt-ltb, le-ltb, ltb-true, ltb-false, eq-eqb, ne_eqb}
 use Rattle.std.proofs.Math.Seq.{take-append_seam, drop-append_seam}
-use Rattle.std.proofs.lemmas.Bool.{lt-ltb, le-ltb, cond-true, cond-false, cond_both, cases_Bool, cases_lt, and_parts, and_from, and_left, and_right, eq-eqb}
-use Rattle.std.proofs.lemmas.Bool.{ne_eqb, false≢true}
+use Rattle.std.proofs.lemmas.Bool.{cond-true, cond-false, cond_both, cases_Bool, cases_lt, and_parts, and_from, and_left, and_right}
+use Rattle.std.proofs.lemmas.Bool.{false≢true}
 use Rattle.first_pass_items.specs.declared.item.Item.{Item}
 use Rattle.first_pass_tree.specs.declared.tree_index.TreeIndex.{TreeIndex}
 use Rattle.first_pass_tree.specs.Forest.{Forest, depths, item_at, modify, modified, appended, pushed, popped, childless, is_text, is_escaped, cut_item}
 use Rattle.first_pass_tree.specs.Forest.{cut_tokens, cut_siblings, last_before, last_child, open_place, HasLeaves, ends_text_at, joins_at, with_end}
 use Rattle.first_pass_tree.specs.Forest.{with_end_at, with_text, at_depth, added, block_of, text_between}
-use Rattle.first_pass_tree.proofs.Blocks.{modify-at, forest-eq, BlockCalls, block-built}
+use Rattle.first_pass_tree.proofs.Blocks.{modify-at, forest-eq, block-built}
 use Rattle.first_pass_tokens.specs.Chains.{text_token, touches, AreApart, add_token, add_tokens, add_text, cut}
 use Rattle.first_pass_tokens.specs.TreeTokens.{with_token, with_tokens, chained, leaves, JoinsNone}
 
@@ -25,11 +24,7 @@ add_text-some from to escaped chain some = cond-true _ _ _ (lt-ltb from to some)
 
 -- a chain of only a text as nodes
 pub leaves_text : (from to : ℕ) → leaves (add_text from to false []) ≡ text_between from to
-leaves_text from to =
-    elim (cases_lt from to) [
-      | inl some ↦ ap leaves (add_text-some from to false [] some) ∙ sym (cond-true _ _ _ (lt-ltb from to some))
-      | inr none ↦ ap leaves (add_text-none from to false [] none) ∙ sym (cond-false _ _ _ (le-ltb from to none))
-    ]
+leaves_text from to = elim (cases_Bool (nat_lt from to)) [ inl some ↦ rw some refl | inr none ↦ rw none refl ]
 
 -- the first token of a chain stays at its place
 add_token-cons : (x z : Item) (zs : List Item) (t u : Item) → add_token (x ∷ add_token (z ∷ zs) t) u ≡ x ∷ add_token (add_token (z ∷ zs) t) u
@@ -46,10 +41,8 @@ add_token-joined : (chain : List Item) (from mid to : ℕ) (escaped : Bool)
 add_token-joined [] from mid to escaped = cond-true _ _ _ (eq-eqb mid mid refl)
 add_token-joined (x ∷ []) from mid to escaped =
     elim (cases_Bool (is_text x.body && (x.«end» == from))) [
-      | inl joins ↦ ap (λ (ys : List Item). add_token ys (text_token mid to false)) (cond-true _ _ _ joins)
-          ∙ add_token-longer x mid to (and_parts _ _ joins).0 ∙ sym (cond-true _ _ _ joins)
-      | inr apart ↦ ap (λ (ys : List Item). add_token ys (text_token mid to false)) (cond-false _ _ _ apart)
-          ∙ ap (λ (ys : List Item). x ∷ ys) (cond-true _ _ _ (eq-eqb mid mid refl)) ∙ sym (cond-false _ _ _ apart)
+      | inl joins ↦ rw joins (add_token-longer x mid to (and_parts _ _ joins).0)
+      | inr apart ↦ rw apart (ap (λ (ys : List Item). x ∷ ys) (cond-true _ _ _ (eq-eqb mid mid refl)))
     ]
 add_token-joined (x ∷ z ∷ zs) from mid to escaped =
     add_token-cons x z zs (text_token from mid escaped) (text_token mid to false)
@@ -80,15 +73,6 @@ add_token-apart [] t h = tt
 add_token-apart (x ∷ []) t h = cond_both (touches x t) (record x { «end» = t.«end» } ∷ []) (x ∷ t ∷ []) AreApart (λ b. tt) (λ b. (b, tt))
 add_token-apart (x ∷ z ∷ zs) t h = apart_past x z zs t h.0 (add_token-apart (z ∷ zs) t h.1)
 
-pub add_tokens-apart : (chain tokens : List Item) → AreApart chain → AreApart (add_tokens chain tokens)
-add_tokens-apart chain [] h = h
-add_tokens-apart chain (x ∷ xs) h = add_tokens-apart (add_token chain x) xs (add_token-apart chain x h)
-
-pub add_text-apart : (from to : ℕ) (escaped : Bool) (chain : List Item) → AreApart chain → AreApart (add_text from to escaped chain)
-add_text-apart from to escaped chain h =
-    cond_both (nat_lt from to) (add_token chain (text_token from to escaped)) chain AreApart
-    (λ b. add_token-apart chain (text_token from to escaped) h) (λ b. h)
-
 -- a token that does not touch the last one is appended to the chain
 add_token-following : (front : List Item) (x y : Item) → touches x y ≡ false → add_token (front ++ x ∷ []) y ≡ (front ++ x ∷ []) ++ y ∷ []
 add_token-following [] x y apart = cond-false _ _ _ apart
@@ -105,8 +89,6 @@ add_tokens-following front x (y ∷ ys) h =
 pub add_tokens-none : (tokens : List Item) → AreApart tokens → add_tokens [] tokens ≡ tokens
 add_tokens-none [] h = refl
 add_tokens-none (x ∷ xs) h = add_tokens-following [] x xs h
-
--- a token that is no text is appended to the chain
 
 pub add_tokens-append : (chain xs ys : List Item) → add_tokens chain (xs ++ ys) ≡ add_tokens (add_tokens chain xs) ys
 add_tokens-append chain [] ys = refl
@@ -130,7 +112,7 @@ ends_moved : (at e next : ℕ) (o : Option Item)
 ends_moved at e next None h same = absurd (false≢true h)
 ends_moved at e next (Some x) h same = and_from _ _ (and_parts _ _ h).0 same
 
-slice_get-following : (xs : List (ℕ × Item)) (y : ℕ × Item) → slice_get (xs ++ y ∷ []) (length xs) ≡ Some y
+pub slice_get-following : {X : Type 0} (xs : List X) (y : X) → slice_get (xs ++ y ∷ []) (length xs) ≡ Some y
 slice_get-following [] y = refl
 slice_get-following (x ∷ xs) y = slice_get-following xs y
 
@@ -196,11 +178,9 @@ with_text-some f s e b some = cond-false _ _ _ (ne_eqb s e (λ same. omega arith
 pub with_tokens-text : (f : Forest Item) (chain : List Item) (s e : ℕ) (b : Bool)
     → s ≤ e → with_tokens f (add_text s e b chain) ≡ with_text (with_tokens f chain) s e b
 with_tokens-text f chain s e b order =
-    elim (cases_lt s e) [
-      | inl some ↦ ap (with_tokens f) (add_text-some s e b chain some) ∙ with_tokens-add f chain (text_token s e b)
-          ∙ sym (with_text-some (with_tokens f chain) s e b some)
-      | inr none ↦ ap (with_tokens f) (add_text-none s e b chain none) ∙ sym (with_text-none (with_tokens f chain) s e b (omega arith))
-    ]
+    cond_both (nat_lt s e) (add_token chain (text_token s e b)) chain (λ (ys : List Item). with_tokens f ys ≡ with_text (with_tokens f chain) s e b)
+    (λ some. with_tokens-add f chain (text_token s e b) ∙ sym (with_text-some (with_tokens f chain) s e b (ltb-true s e some)))
+    (λ none. sym (with_text-none (with_tokens f chain) s e b (omega (arith, ltb-false s e none))))
 
 pub with_token-plain : (f : Forest Item) (x : Item) → is_text x.body ≡ false → with_token f x ≡ appended f x
 with_token-plain f x plain = cond-false _ _ _ (and_left _ _ plain)
@@ -234,17 +214,13 @@ with_tokens-chained f chain (x ∷ xs) none =
 pub with_text-chained : (f : Forest Item) (chain : List Item) (s e : ℕ) (b : Bool)
     → JoinsNone f → s ≤ e → with_text (chained f chain) s e b ≡ chained f (add_text s e b chain)
 with_text-chained f chain s e b none order =
-    elim (cases_lt s e) [
-      | inl some ↦ with_text-some (chained f chain) s e b some ∙ with_token-chained f chain (text_token s e b) none
-          ∙ ap (chained f) (sym (add_text-some s e b chain some))
-      | inr empty ↦ with_text-none (chained f chain) s e b (omega arith) ∙ ap (chained f) (sym (add_text-none s e b chain empty))
-    ]
+    cond_both (nat_lt s e) (add_token chain (text_token s e b)) chain (λ (ys : List Item). with_text (chained f chain) s e b ≡ chained f ys)
+    (λ some. with_text-some (chained f chain) s e b (ltb-true s e some) ∙ with_token-chained f chain (text_token s e b) none)
+    (λ empty. with_text-none (chained f chain) s e b (omega (arith, ltb-false s e empty)))
 
 pub appended-chained : (f : Forest Item) (chain : List Item) (x : Item) → appended (chained f chain) x ≡ chained f (chain ++ x ∷ [])
 appended-chained f [] x = refl
 appended-chained f (y ∷ ys) x = appended-chained (appended f y) ys x
-
--- a chain before a break by a backslash at the end of the block, and any other chain
 
 pub chained-append : (f : Forest Item) (xs ys : List Item) → chained (chained f xs) ys ≡ chained f (xs ++ ys)
 chained-append f [] ys = refl
@@ -288,26 +264,11 @@ pub pushed-fresh : (g : Forest Item) (x : Item) (ix : TreeIndex) → ix.0 ≡ le
     → (open_place (pushed (appended g x) ix).spine + 1 ≡ length (pushed (appended g x) ix).nodes) × ((pushed (appended g x) ix).current ≡ None)
 pushed-fresh g x ix at = (omega (arith, at, length-append g.nodes ((length g.spine + 1, x) ∷ [])), refl)
 
--- a node that was appended and opened
-pub record IsOpened (f : Forest Item) (x : Item) (place : TreeIndex) (f₂ : Forest Item) : Type 0 where
-  pub at : place.0 ≡ length f.nodes
-  pub is : f₂ ≡ pushed (appended f x) place
-
--- the clauses of append and push, in their form
-
-module _ {f f₂ : Forest Item} {x : Item} {place : TreeIndex} (o : IsOpened f x place f₂) where
-  pub opened-spine : f₂.spine ≡ place ∷ f.spine
-  opened-spine = ap (λ (v : Forest Item). v.spine) o.is
-  -- the node is the last one
-
-leaf_depth : (d : ℕ) (chain : List Item) (k : ℕ) → k < length (at_depth d (leaves chain)) → slice_index (depths (at_depth d (leaves chain))) k ≡ d
-leaf_depth d [] k within = absurd (omega arith)
-leaf_depth d (x ∷ xs) zero within = omega arith
-leaf_depth d (x ∷ xs) (suc k) within = leaf_depth d xs k (omega arith)
-
 after_depth : (ns : List (ℕ × Item)) (d : ℕ) (chain : List Item) (k : ℕ)
     → length ns ≤ k → k < length (ns ++ at_depth d (leaves chain)) → slice_index (depths (ns ++ at_depth d (leaves chain))) k ≡ d
-after_depth [] d chain k low high = leaf_depth d chain k high
+after_depth [] d [] k low high = absurd (omega arith)
+after_depth [] d (x ∷ xs) zero low high = omega arith
+after_depth [] d (x ∷ xs) (suc k) low high = after_depth [] d xs k (omega arith) (omega arith)
 after_depth (n ∷ ns) d chain zero low high = absurd (omega arith)
 after_depth (n ∷ ns) d chain (suc k) low high = after_depth ns d chain k (omega arith) (omega arith)
 
@@ -327,14 +288,8 @@ cut_tokens-leaves e d [] = refl
 cut_tokens-leaves e d (x ∷ xs) =
     cond-false _ _ _ (le-ltb d (d + 0) (omega arith))
     ∙ elim (cases_Bool (nat_lt x.start e)) [
-      | inl before ↦ cond-true _ _ _ before ∙ ap (λ (ns : List (ℕ × Item)). (d + 0, cut_item e x) ∷ ns) (cut_tokens-leaves e d xs)
-          ∙ ap (λ (c : List Item). at_depth d (leaves c)) (sym (cond-true _ _ _ before))
-      | inr following ↦ cond-false _ _ _ following
-          ∙ elim (cases_Bool (is_escaped x.body && (x.start == e))) [
-            | inl escaped ↦ cond-true _ _ _ escaped ∙ ap (λ (c : List Item). at_depth d (leaves c)) (sym (cond-true _ _ _ escaped))
-            | inr other ↦ cond-false _ _ _ other ∙ ap (λ (c : List Item). at_depth d (leaves c)) (sym (cond-false _ _ _ other))
-          ]
-          ∙ ap (λ (c : List Item). at_depth d (leaves c)) (sym (cond-false _ _ _ following))
+      | inl before ↦ rw before (ap (λ (ns : List (ℕ × Item)). (d + 0, cut_item e x) ∷ ns) (cut_tokens-leaves e d xs))
+      | inr following ↦ rw following (elim (cases_Bool (is_escaped x.body && (x.start == e))) [ inl escaped ↦ rw escaped refl | inr other ↦ rw other refl ])
     ]
 
 last_at : (ds : List ℕ) (d n k : ℕ) → n ≡ suc k → slice_index ds k ≡ d → last_before ds d n ≡ k
@@ -355,6 +310,12 @@ last_chained f (x ∷ xs) last none =
     let place : last_before (depths g.nodes) (length f.spine + 1) (length g.nodes) ≡ k = last_at (depths g.nodes) _ _ k (omega arith) at in
     cond-true _ _ _ (lt-ltb (open_place f.spine + 1) (length g.nodes) (omega arith)) ∙ ap (λ (m : ℕ). Some (place_at m)) place ∙ sym (chained-current f x xs)
 
+-- the nodes before a chain
+taken_chained : (f : Forest Item) (chain : List Item) (n : ℕ) → n ≡ length f.nodes → take n (chained f chain).nodes ≡ f.nodes
+taken_chained f chain n same =
+    ap (λ (m : ℕ). take m (chained f chain).nodes) same ∙ ap (take (length f.nodes)) (chained-nodes f chain)
+    ∙ take-append_seam f.nodes (at_depth (length f.spine + 1) (leaves chain))
+
 pub cut_siblings-chained : (f : Forest Item) (chain : List Item) (e : ℕ)
     → open_place f.spine + 1 ≡ length f.nodes → f.current ≡ None → cut_siblings (chained f chain) e ≡ chained f (cut e chain)
 cut_siblings-chained f chain e last none =
@@ -363,76 +324,32 @@ cut_siblings-chained f chain e last none =
     let spine = chained-spine f chain in
     let depth : length g.spine + 1 ≡ d = ap (λ (is : List TreeIndex). length is + 1) spine in
     let place : open_place g.spine + 1 ≡ length f.nodes = omega (arith, last, ap open_place spine) in
-    let front : take (open_place g.spine + 1) g.nodes ≡ f.nodes =
-    ap (λ (n : ℕ). take n g.nodes) place ∙ ap (take (length f.nodes)) (chained-nodes f chain) ∙ take-append_seam f.nodes (at_depth d (leaves chain)) in
+    let front : take (open_place g.spine + 1) g.nodes ≡ f.nodes = taken_chained f chain (open_place g.spine + 1) place in
     let back : drop (open_place g.spine + 1) g.nodes ≡ at_depth d (leaves chain) =
     ap (λ (n : ℕ). drop n g.nodes) place ∙ ap (drop (length f.nodes)) (chained-nodes f chain) ∙ drop-append_seam f.nodes (at_depth d (leaves chain)) in
     let nodes : (cut_siblings g e).nodes ≡ (chained f (cut e chain)).nodes =
-    ap (λ (ns : List (ℕ × Item)). ns ++ cut_tokens e (length g.spine + 1) (drop (open_place g.spine + 1) g.nodes)) front
-    ∙ ap (λ (ns : List (ℕ × Item)). f.nodes ++ cut_tokens e (length g.spine + 1) ns) back
-    ∙ ap (λ (k : ℕ). f.nodes ++ cut_tokens e k (at_depth d (leaves chain))) depth
-    ∙ ap (λ (ns : List (ℕ × Item)). f.nodes ++ ns) (cut_tokens-leaves e d chain) ∙ sym (chained-nodes f (cut e chain)) in
+    rw (front, back, depth) (ap (λ (ns : List (ℕ × Item)). f.nodes ++ ns) (cut_tokens-leaves e d chain) ∙ sym (chained-nodes f (cut e chain))) in
     forest-eq (cut_siblings g e) (chained f (cut e chain)) nodes (spine ∙ sym (chained-spine f (cut e chain)))
     (ap (λ (is : List TreeIndex). last_child is (cut_siblings g e).nodes) spine ∙ ap (λ (ns : List (ℕ × Item)). last_child f.spine ns) nodes
     ∙ last_chained f (cut e chain) last none)
-
--- the nodes before a chain
-taken_chained : (f : Forest Item) (chain : List Item) (n : ℕ) → n ≡ length f.nodes → take n (chained f chain).nodes ≡ f.nodes
-taken_chained f chain n same =
-    ap (λ (m : ℕ). take m (chained f chain).nodes) same ∙ ap (take (length f.nodes)) (chained-nodes f chain)
-    ∙ take-append_seam f.nodes (at_depth (length f.spine + 1) (leaves chain))
-
-no_open : (s : List TreeIndex) (i : TreeIndex) (is : List TreeIndex) → s ≡ [] → s ≡ i ∷ is → ⊥
-no_open s i is a b = cc
 
 -- the innermost open node without its chain
 pub childless-chained : (f : Forest Item) (chain : List Item) (ix : TreeIndex)
     → ix.0 + 1 ≡ length f.nodes → f.current ≡ None → childless (chained f chain) ix ≡ f
 childless-chained f chain ix last none = forest-eq (childless (chained f chain) ix) f (taken_chained f chain (ix.0 + 1) last) (chained-spine f chain) (sym none)
 
--- a chain under the node that was opened, and the node closed: the block is added, with any change of its item
-pub record IsClosed (f : Forest Item) (x : Item) (chain : List Item) (place : TreeIndex) (f₄ : Forest Item) : Type 0 where
-  pub within : place.0 < length f₄.nodes
-  pub block : (h : Item → Item) → modified f₄ place h ≡ added f (block_of (h x) (leaves chain))
-
-module _ {f f₂ : Forest Item} {x : Item} {place : TreeIndex} (o : IsOpened f x place f₂) (f₃ f₄ : Forest Item) (chain : List Item)
-    (chain_is : f₃ ≡ chained f₂ chain) where
-  closed_spine : f₃.spine ≡ place ∷ f.spine
-  closed_spine = ap (λ (v : Forest Item). v.spine) chain_is ∙ chained-spine f₂ chain ∙ opened-spine o
-
-  closed_length : length f₃.nodes ≡ length f.nodes + 1 + length chain
-  closed_length =
-      ap (λ (v : Forest Item). length v.nodes) chain_is ∙ chained-length f₂ chain
-      ∙ ap (λ (v : Forest Item). length v.nodes + length chain) o.is ∙ ap (λ (n : ℕ). n + length chain) (length-append f.nodes ((length f.spine + 1, x) ∷ []))
-
-  -- the clause of pop, in its form
-  pub closed-calls : (r : Option TreeIndex)
-      → MatchOption r ((f₃.spine ≡ []) × (f₄ ≡ f₃)) (λ ix. (f₃.spine ≡ ix ∷ f₄.spine) × (f₄ ≡ popped f₃ ix f₄.spine)) → IsClosed f x chain place f₄
-  closed-calls None m = absurd (no_open f₃.spine place f.spine m.0 closed_spine)
-  closed-calls (Some ix) m =
-      let nodes : f₄.nodes ≡ f₃.nodes = ap (λ (v : Forest Item). v.nodes) m.1 in
-      let spine : f₃.spine ≡ place ∷ f.spine = closed_spine in
-      let popped_from : f₃.spine ≡ ix ∷ f₄.spine = m.0 in
-      let same : ix ≡ place = cc in
-      let calls : BlockCalls f x (leaves chain) place f₄ = record {
-        opened = f₂;
-        filled = f₃;
-        at = o.at;
-        opened_is = o.is;
-        nodes = ap (λ (v : Forest Item). v.nodes) chain_is ∙ chained-nodes f₂ chain;
-        spine = ap (λ (v : Forest Item). v.spine) chain_is ∙ chained-spine f₂ chain;
-        around = popped_from ∙ ap (λ (i : TreeIndex). i ∷ f₄.spine) same;
-        closed_is = m.1 ∙ ap (λ (i : TreeIndex). popped f₃ i f₄.spine) same;
-      } in
-      record {
-        within = omega (arith, o.at, closed_length, ap length nodes);
-        block = λ h. block-built f x h (leaves chain) place f₄ calls;
-      }
-
--- the same for trees in full
+-- a chain under a node that is opened, and the node closed: the block is added, with any change of its item
 pub closed-chained : (g : Forest Item) (x : Item) (h : Item → Item) (chain : List Item) (ix : TreeIndex)
     → ix.0 ≡ length g.nodes → modified (popped (chained (pushed (appended g x) ix) chain) ix g.spine) ix h ≡ added g (block_of (h x) (leaves chain))
 closed-chained g x h chain ix at =
-    let f₂ = pushed (appended g x) ix in
-    let o : IsOpened g x ix f₂ = record { at = at; is = refl } in
-    (closed-calls o (chained f₂ chain) (popped (chained f₂ chain) ix g.spine) chain refl (Some ix) (chained-spine f₂ chain, refl)).block h
+    let f = pushed (appended g x) ix in
+    block-built g x h (leaves chain) ix (popped (chained f chain) ix g.spine) (record {
+      opened = f;
+      filled = chained f chain;
+      at = at;
+      opened_is = refl;
+      nodes = chained-nodes f chain;
+      spine = chained-spine f chain;
+      around = chained-spine f chain;
+      closed_is = refl;
+    })

@@ -1,8 +1,6 @@
 -- Dashes: a text repeated n times, and the offsets at which it may be cut.
-use Rattle.std.proofs.Common.{◌≡◌, ℕ, zero, suc, ◌+◌, ◌-◌, ◌*◌, ◌≤◌, List, [], ◌∷◌, ◌++◌, length, take, drop, encode_utf8, IsUtf8, IsCharBoundary, refl, sym}
-use Rattle.std.proofs.Common.{ap, subst, ◌∙◌, arith, length-append, append_assoc}
-use Rattle.std.specs.List.{slice_range}
-use Rattle.std.proofs.lemmas.List.{append-nil}
+use Rattle.std.proofs.Common.{◌≡◌, ℕ, zero, suc, ◌+◌, ◌-◌, ◌*◌, ◌≤◌, List, [], ◌∷◌, ◌++◌, length, take, drop, encode_utf8, IsUtf8, IsCharBoundary, refl}
+use Rattle.std.proofs.Common.{sym, ap, subst, ◌∙◌, arith, length-append, append_assoc, slice_range, append-nil}
 use Rattle.std.proofs.lemmas.Str.{IsCharBoundary-at_seam, IsUtf8-append, IsUtf8-nil, IsUtf8-encode}
 use Rattle.std.proofs.Math.Seq.{take-append_seam, drop-append_seam}
 use Rattle.std.proofs.Math.Utf8.{encode}
@@ -32,12 +30,14 @@ times_add (suc k) m t =
     let next : suc k + m ≡ suc (k + m) = omega arith in
     ap (λ (n : ℕ). times n t) next ∙ ap (λ (xs : List ℕ). t ++ xs) (times_add k m t) ∙ sym (append_assoc t (times k t) (times m t))
 
+times_parts : (n k m : ℕ) (t : List ℕ) → n ≡ k + m → times n t ≡ times k t ++ times m t
+times_parts n k m t is = ap (λ (j : ℕ). times j t) is ∙ times_add k m t
+
 -- one more repetition at the end
 pub times_more : (k : ℕ) (t : List ℕ) → times k t ++ t ≡ times (suc k) t
 times_more k t =
     let one : times 1 t ≡ t = append-nil t in
-    let next : k + 1 ≡ suc k = omega arith in
-    ap (λ (xs : List ℕ). times k t ++ xs) (sym one) ∙ sym (times_add k 1 t) ∙ ap (λ (n : ℕ). times n t) next
+    ap (λ (xs : List ℕ). times k t ++ xs) (sym one) ∙ sym (times_parts (suc k) k 1 t (omega arith))
 
 times_length : (k : ℕ) (t : List ℕ) → length t ≡ 3 → length (times k t) ≡ 3 * k
 times_length zero t three = refl
@@ -54,20 +54,15 @@ module _ (t u : List ℕ) (first : length t ≡ 3) (second : length u ≡ 3) (ut
 
   halves : both ≡ times (7 - k) t ++ (times k t ++ (times m u ++ times (7 - m) u))
   halves =
-      let k_is : 7 - k + k ≡ 7 = omega arith in
-      let m_is : m + (7 - m) ≡ 7 = omega arith in
-      ap (λ (n : ℕ). times n t ++ times 7 u) (sym k_is) ∙ ap (λ (xs : List ℕ). xs ++ times 7 u) (times_add (7 - k) k t)
-      ∙ append_assoc (times (7 - k) t) (times k t) (times 7 u)
-      ∙ ap (λ (n : ℕ). times (7 - k) t ++ (times k t ++ times n u)) (sym m_is)
-      ∙ ap (λ (xs : List ℕ). times (7 - k) t ++ (times k t ++ xs)) (times_add m (7 - m) u)
+      ap (λ (xs : List ℕ). xs ++ times 7 u) (times_parts 7 (7 - k) k t (omega arith))
+      ∙ ap (λ (xs : List ℕ). (times (7 - k) t ++ times k t) ++ xs) (times_parts 7 m (7 - m) u (omega arith))
+      ∙ append_assoc (times (7 - k) t) (times k t) (times m u ++ times (7 - m) u)
 
   -- the second half may be cut
   pub half_boundary : IsCharBoundary both (3 * (7 + m))
   half_boundary =
-      let m_is : m + (7 - m) ≡ 7 = omega arith in
       let parts : both ≡ (times 7 t ++ times m u) ++ times (7 - m) u =
-      ap (λ (n : ℕ). times 7 t ++ times n u) (sym m_is) ∙ ap (λ (xs : List ℕ). times 7 t ++ xs) (times_add m (7 - m) u)
-      ∙ sym (append_assoc (times 7 t) (times m u) (times (7 - m) u)) in
+      ap (λ (xs : List ℕ). times 7 t ++ xs) (times_parts 7 m (7 - m) u (omega arith)) ∙ sym (append_assoc (times 7 t) (times m u) (times (7 - m) u)) in
       let size : length (times 7 t ++ times m u) ≡ 3 * (7 + m) =
       (let a = length-append (times 7 t) (times m u) in let b = times_length 7 t first in let c = times_length m u second in omega arith) in
       subst (IsCharBoundary both) size (IsCharBoundary-at_seam both (times 7 t ++ times m u) (times (7 - m) u) parts (times_utf8 (7 - m) u utf8))

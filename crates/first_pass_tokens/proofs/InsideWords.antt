@@ -1,19 +1,20 @@
 -- An underscore between two ASCII letters or digits.
-use Rattle.std.proofs.Common.{◌≡◌, ℕ, ◌+◌, ◌-◌, ◌<◌, ◌≤◌, ◌==◌, true, false, List, length, take, Option, Some, IsUtf8}
-use Rattle.std.proofs.Common.{nat_lt, slice_index, get_or, refl, sym, ap, ◌∙◌, arith, length-take}
+use Rattle.std.proofs.Common.{◌≡◌, ℕ, ◌+◌, ◌-◌, ◌<◌, ◌==◌, true, false, length, take, Some, IsUtf8, nat_lt, slice_index, refl, sym, ap, ◌∙◌, arith}
+use Rattle.std.proofs.Common.{eqb-true, ltb-true, lt-ltb}
 use Rattle.std.specs.Char.{is_ascii_alphanumeric}
-use Rattle.std.proofs.lemmas.Bool.{and_parts, eqb-true, ltb-true, lt-ltb}
+use Rattle.std.proofs.lemmas.Bool.{and_parts}
 use Rattle.std.proofs.lemmas.Bool.Decides.{nat_tests}
-use Rattle.std.proofs.lemmas.List.{get_or-take}
 use Rattle.first_pass_items.specs.Bytes.{underscore}
 use Rattle.first_pass_flank.specs.declared.flank.DelimiterRun.{DelimiterRun}
-use Rattle.first_pass_flank.specs.Flank.{can_open, can_close, opens_between, closes_between, last_char}
+use Rattle.first_pass_flank.specs.Flank.{can_open, can_close, opens_between, closes_between}
 use Rattle.first_pass_flank.proofs.WordFacts.{word_underscore, opens_not, closes_not, last_word, first_word, no_pipe}
 use Rattle.first_pass_tokens.specs.declared.pieces.Piece.TheVariants.{Left}
 use Rattle.first_pass_tokens.specs.declared.pieces.TokenStart.TheVariants.{Ready}
-use Rattle.first_pass_tokens.specs.Pieces.{Inline, special_found, special_piece, delimiter_piece, run_at, run_size, run_in, run_piece, char_before, is_inside_word, IsReadyAt}
+use Rattle.first_pass_tokens.specs.Pieces.{Inline, special_found, special_piece, delimiter_piece, run_size, run_in, run_piece, char_before, is_inside_word}
+use Rattle.first_pass_tokens.specs.Pieces.{IsReadyAt}
 use Rattle.first_pass_tokens.proofs.PieceFacts.{at_byte}
 use Rattle.first_pass_tokens.proofs.QuickPieces.{run_one}
+use Rattle.first_pass_tokens.proofs.RunPlaces.{front_byte}
 
 -- a run that neither opens nor closes is plain text
 stays_plain : (r : DelimiterRun) → can_open r ≡ false → can_close r ≡ false → run_piece r ≡ Left r.size
@@ -27,36 +28,23 @@ closes_never : (r : DelimiterRun) (p n : ℕ) → r.before ≡ Some p → r.afte
 unfolding can_close closes_between
 closes_never r p n before after e = rw (before, after) e
 
-size_one : (text : List ℕ) (at : ℕ) → slice_index text at ≡ underscore → run_at text at ≡ 1 → run_size text at ≡ 1
-unfolding run_size
-size_one text at here one = rw here one
-
-char_last : (z : Inline) (at : ℕ) (o : Option ℕ) → z.start < at → last_char (take at z.whole) ≡ o → char_before z at ≡ o
-unfolding char_before
-char_last z at o some e = rw (lt-ltb z.start at some) e
-
-underscore_ready : (z : Inline) (at : ℕ) → slice_index z.text at ≡ underscore → delimiter_piece z at ≡ Left 1 → IsReadyAt z at (Left 1)
-unfolding special_found special_piece
-underscore_ready z at here piece = rw here (ap Ready piece)
-
 -- an underscore inside a word is plain text
 inside_word_piece : (z : Inline) (at : ℕ) → IsUtf8 z.whole → z.text ≡ take (length z.text) z.whole → slice_index z.text at ≡ underscore → z.start < at
     → is_ascii_alphanumeric (slice_index z.text (at - 1)) ≡ true → is_ascii_alphanumeric (slice_index z.text (at + 1)) ≡ true → delimiter_piece z at ≡ Left 1
-unfolding delimiter_piece run_in
+unfolding delimiter_piece run_in run_size char_before
 inside_word_piece z at utf8 front here some before after =
     let p = slice_index z.text (at - 1) in
     let n = slice_index z.text (at + 1) in
     let next : at + 1 < length z.text = at_byte z.text (at + 1) (grind (arith, nat_tests, after)) in
-    let seen : (k : ℕ) → k < length z.text → slice_index z.text k ≡ slice_index z.whole k =
-    λ k l. ap (λ xs. get_or xs k 0) front ∙ get_or-take (length z.text) z.whole k 0 l in
-    let fits : length z.text ≤ length z.whole = omega (arith, ap length front, length-take (length z.text) z.whole) in
+    let seen : (k : ℕ) → k < length z.text → slice_index z.text k ≡ slice_index z.whole k = λ k l. (front_byte z.whole z.text k front l).0 in
+    let fits = (front_byte z.whole z.text (at + 1) front next).1 in
     let low : slice_index z.whole at < 128 = omega (arith, here, seen at (omega arith)) in
     let p_is = seen (at - 1) (omega arith) in
     let n_is = seen (at + 1) next in
-    let last = char_last z at (Some p) some
+    let last : char_before z at ≡ Some p = rw (lt-ltb z.start at some)
     (last_word z.whole at utf8 (omega arith) (omega arith) low (ap is_ascii_alphanumeric (sym p_is) ∙ before) ∙ ap Some (sym p_is)) in
     let first = first_word z.whole at utf8 (omega arith) low (ap is_ascii_alphanumeric (sym n_is) ∙ after) ∙ ap Some (sym n_is) in
-    let one = size_one z.text at here (run_one z.text at underscore (omega arith) here (word_underscore n after)) in
+    let one : run_size z.text at ≡ 1 = rw here (run_one z.text at underscore (omega arith) here (word_underscore n after)) in
     let r : DelimiterRun = run_in z at 1 in
     let no_pipe_is = no_pipe z.text z.start at some (omega arith) before in
     ap (λ k. run_piece (run_in z at k)) one
@@ -66,9 +54,10 @@ inside_word_piece z at utf8 front here some before after =
 
 pub inside_word_ready : (z : Inline) (at : ℕ) → IsUtf8 z.whole → z.text ≡ take (length z.text) z.whole → is_inside_word z.text z.start at ≡ true
     → IsReadyAt z at (Left 1)
+unfolding special_found special_piece
 inside_word_ready z at utf8 front h =
     let (is_mark, beside) = and_parts (slice_index z.text at == underscore) _ h in
     let (less, words) = and_parts (nat_lt z.start at) _ beside in
     let (before, after) = and_parts (is_ascii_alphanumeric (slice_index z.text (at - 1))) _ words in
     let here : slice_index z.text at ≡ underscore = eqb-true (slice_index z.text at) underscore is_mark in
-    underscore_ready z at here (inside_word_piece z at utf8 front here (ltb-true z.start at less) before after)
+    rw here (ap Ready (inside_word_piece z at utf8 front here (ltb-true z.start at less) before after))

@@ -1,30 +1,37 @@
 -- The division of a content: one more piece, its uniqueness, that it has no line ending, and the end of the line.
 use Rattle.std.proofs.Common.{ℕ, min, zero, suc, ◌≡◌, ◌⊎◌, ◌+◌, ◌-◌, ◌≤◌, ◌<◌, ◌==◌, ◌&&◌, ◌||◌, ◌%◌, if◌then◌else◌, Bool, true, false, List, ◌∷◌, ◌++◌, []}
-use Rattle.std.proofs.Common.{length, take, drop, get_or, slice_index, nat_lt, nat_le, Option, None, IfSome, Result, Ok, Err, IfOk, unwrap_or, refl, sym, ap}
-use Rattle.std.proofs.Common.{subst, ◌∙◌, inl, inr, arith, length-drop}
-use Rattle.std.specs.List.{suffix_len, slice_range, prefix_len}
+use Rattle.std.proofs.Common.{length, reverse, drop, get_or, slice_index, nat_lt, nat_le, Option, None, IfSome, Result, Ok, Err, IfOk, unwrap_or, refl, sym}
+use Rattle.std.proofs.Common.{ap, subst, ◌∙◌, inl, inr, arith, length-drop, length-take, slice_range, get_or-drop, get_or-take, drop-drop, eqb-true, le-leb}
+use Rattle.std.proofs.Common.{leb-false, leb-true, ltb-true}
+use Rattle.std.specs.List.{suffix_len, prefix_len}
 use Rattle.std.specs.declared.alloc.AllocError.{AllocError}
-use Rattle.std.proofs.lemmas.List.{get_or-drop, get_or_past, drop-drop, at_drop_all, at_drop_more}
-use Rattle.std.proofs.lemmas.List.Sums.{suffix_len-le-length, suffix_len-take_yes, suffix_len-take_no, prefix_len_is, prefix_len_stops}
-use Rattle.std.proofs.lemmas.Bool.{false≢true, cases_lt, cases_Bool, cond_both, cond-true, cond-false, eqb-true, or_parts, or_cases, and_parts, and_cases}
-use Rattle.std.proofs.lemmas.Bool.{lt-leb, le-leb, leb-false, leb-true, not_from_true, not_from_false}
-use Rattle.first_pass_items.specs.Bytes.{line_feed, carriage_return, backslash, pipe}
+use Rattle.std.proofs.lemmas.List.{get_or-reverse, get_or_past, at_drop_all, at_drop_more}
+use Rattle.std.proofs.lemmas.List.Sums.{suffix_len-le-length, prefix_len_passes, prefix_len_is, prefix_len_stops}
+use Rattle.std.proofs.lemmas.Bool.{false≢true, cases_lt, cond_both, cond-true, cond-false, or_parts, or_cases, and_parts}
+use Rattle.std.proofs.Math.Bool.{or-false}
+use Rattle.std.proofs.lemmas.Bool.{lt-leb, not_from_true, not_from_false}
+use Rattle.first_pass_items.specs.Bytes.{line_feed, carriage_return, backslash, backquote, pipe}
 use Rattle.first_pass_items.specs.OptionWords.{has, tables}
 use Rattle.first_pass_items.specs.declared.item.Item.{Item}
-use Rattle.first_pass_tree.specs.Forest.{Forest}
+use Rattle.first_pass_items.specs.declared.item.ItemBody.TheVariants.{MaybeEmphasis}
+use Rattle.first_pass_tree.specs.Forest.{Forest, is_text, is_escaped}
 use Rattle.first_pass_lines.specs.Lines.{is_line_end, is_content, is_white, begins, eol_len, line_len}
+use Rattle.first_pass_lines.proofs.LineFacts.{line_len-fits, line_len-within}
 use Rattle.first_pass_tokens.specs.declared.pieces.Piece.{Piece}
 use Rattle.first_pass_tokens.specs.declared.pieces.Piece.TheVariants.{Left, Begins, Token, Run}
 use Rattle.first_pass_items.specs.declared.cow_str.CowStr.{CowStr}
 use Rattle.first_pass_tokens.specs.Braces.{MathBraces, braces_after}
 use Rattle.first_pass_tokens.specs.NamedTexts.{MakesPiece}
-use Rattle.first_pass_tokens.specs.Pieces.{Inline, found_at, size}
-use Rattle.first_pass_tokens.specs.LineTokens.{Spot, spot, text_end, content_ends_at, ends_cell, ArePieces, IsInPieces, AreLineTokens, IsCell, IsBreak, EndsLine, EndsCell}
+use Rattle.first_pass_tokens.specs.Pieces.{Inline, found_at, size, is_delimiter, run_at}
+use Rattle.first_pass_tokens.specs.MarkupBytes.{StandsOver, HasNoBackquote}
+use Rattle.first_pass_tokens.specs.LineTokens.{Spot, spot, text_end, content_ends_at, ends_cell, ArePieces, IsInPieces, AreLineTokens, IsCell, IsBreak}
+use Rattle.first_pass_tokens.specs.LineTokens.{EndsLine, EndsCell}
 use Rattle.first_pass_tokens.specs.LineTokens.{add_piece, add_pieces, line_end_len, line_break, breaks_by_backslash, backslashes_at_end, blanks_at_end}
 use Rattle.first_pass_tokens.specs.TreeTokens.{AppendsLine, AppendsCell, with_tokens, chained, JoinsNone}
-use Rattle.first_pass_tokens.specs.Chains.{token, run_tokens, add_tokens, AreApart}
-use Rattle.first_pass_tokens.proofs.PieceFacts.{IsPieceAt, found_facts, becomes_facts, visible_plain, visible_fits}
-use Rattle.first_pass_tokens.proofs.ChainLemmas.{add_token-apart, add_tokens-apart, add_text-apart, add_tokens-none, with_tokens-chained}
+use Rattle.first_pass_tokens.specs.Chains.{text_token, token, run_tokens, add_token, add_tokens, add_text, AreApart}
+use Rattle.first_pass_tokens.proofs.PieceFacts.{IsPieceAt, found_facts, becomes_facts, piece_byte, piece_fits, visible_plain, run_next, markup_plain}
+use Rattle.first_pass_tokens.proofs.PieceFacts.{markup_unescaped}
+use Rattle.first_pass_tokens.proofs.ChainLemmas.{add_token-apart, add_tokens-none, with_tokens-chained}
 
 -- one more piece
 pub are_more : (texts : List CowStr) (s : Inline) (at : ℕ) (b : MathBraces) (ps : List Piece) (mid : Spot) (q : Piece) → ArePieces texts s at b ps mid
@@ -62,49 +69,18 @@ not_ended s at on = (let h = not_ended_cell s at on in (h.0, h.1))
 
 -- with tables, there is no pipe at such a place in a row
 pub not_ended_pipe : (s : Inline) (at : ℕ) → s.row ≡ true → has s.options tables ≡ true → content_ends_at s at ≡ false → (slice_index s.text at == pipe) ≡ false
-not_ended_pipe s at row on runs =
-    let b = slice_index s.text at in
-    elim (and_cases s.row (has s.options tables && b == pipe) (not_ended_cell s at runs).2) [
-      | inl plain ↦ absurd (false≢true (sym plain ∙ row))
-      | inr rest ↦ elim (and_cases (has s.options tables) (b == pipe) rest) [ inl off ↦ absurd (false≢true (sym off ∙ on)) | inr other ↦ other ]
-    ]
+not_ended_pipe s at row on runs = rw (row, on) at (not_ended_cell s at runs).2
 
 -- the piece at a place of a content
 pub piece_of : (texts : List CowStr) (b : MathBraces) (s : Inline) (at : ℕ) (p : Piece) → content_ends_at s at ≡ false → MakesPiece texts b (found_at s at) p
     → IsPieceAt s.text at p
 piece_of texts b s at p on is = becomes_facts texts b s.text at (found_at s at) p (found_facts s at (not_ended s at on).0) is
 
--- a piece has at least one byte
-pub piece_some : (text : List ℕ) (at : ℕ) (p : Piece) → IsPieceAt text at p → 0 < size p
-piece_some text at (Left n) facts = facts.some
-piece_some text at (Run n opens closes) facts = facts.some
-piece_some text at (Begins dropped escaped) facts = omega arith
-piece_some text at (Token dropped n body) facts = omega (arith, facts.some)
-
--- a piece is within the text, and has no line ending
-pub record IsInLine (text : List ℕ) (at : ℕ) (p : Piece) : Type 0 where
-  pub fits : at + size p ≤ length text
-  pub plain : (k : ℕ) → at ≤ k → k < at + size p → is_line_end (slice_index text k) ≡ false
-
-piece_in_line : (s : Inline) (at : ℕ) (p : Piece) → content_ends_at s at ≡ false → IsPieceAt s.text at p → IsInLine s.text at p
-piece_in_line s at (Left n) on facts =
-    let here = not_ended s at on in
-    record { fits = facts.fits; plain = λ k low high. ap is_line_end (facts.same k low high) ∙ here.1 }
-piece_in_line s at (Run n opens closes) on facts =
-    record {
-      fits = visible_fits s.text at n facts.some facts.bytes;
-      plain = λ k low high. visible_plain (slice_index s.text k) (facts.bytes k low high);
-    }
-piece_in_line s at (Begins dropped escaped) on facts =
-    record {
-      fits = visible_fits s.text at (dropped + 1) (omega arith) facts.bytes;
-      plain = λ k low high. visible_plain (slice_index s.text k) (facts.bytes k low high);
-    }
-piece_in_line s at (Token dropped n body) on facts =
-    record {
-      fits = visible_fits s.text at (dropped + n) (omega (arith, facts.some)) facts.bytes;
-      plain = λ k low high. visible_plain (slice_index s.text k) (facts.bytes k low high);
-    }
+-- a piece has no line ending
+piece_plain : (s : Inline) (at : ℕ) (p : Piece) → content_ends_at s at ≡ false → IsPieceAt s.text at p → (k : ℕ) → at ≤ k → k < at + size p
+    → is_line_end (slice_index s.text k) ≡ false
+piece_plain s at (Left n) on facts k low high = ap is_line_end (facts.same k low high) ∙ (not_ended s at on).1
+piece_plain s at p on facts k low high = visible_plain (slice_index s.text k) (piece_byte s.text at p facts k low high)
 
 -- a content is within the text, and has no line ending
 pub record IsContent (text : List ℕ) (start end : ℕ) : Type 0 where
@@ -118,12 +94,15 @@ content_from texts s at b [] to within is =
     let same : at ≡ to.at = ap (λ (t : Spot). t.at) is in
     record { order = omega arith; within = omega arith; plain = λ k low high. absurd (omega arith) }
 content_from texts s at b (p ∷ ps) to within h =
-    let first = piece_in_line s at p h.0 (piece_of texts b s at p h.0 h.1) in
-    let rest = content_from texts s (at + size p) (braces_after (found_at s at) b) ps to first.fits h.2 in
+    let facts = piece_of texts b s at p h.0 h.1 in
+    let rest = content_from texts s (at + size p) (braces_after (found_at s at) b) ps to (piece_fits s.text at p facts) h.2 in
     record {
       order = omega (arith, rest.order);
       within = rest.within;
-      plain = λ k low high. elim (cases_lt k (at + size p)) [ inl inside ↦ first.plain k low inside | inr following ↦ rest.plain k following high ];
+      plain = λ k low high. elim (cases_lt k (at + size p)) [
+        | inl inside ↦ piece_plain s at p h.0 facts k low inside
+        | inr following ↦ rest.plain k following high
+      ];
     }
 
 pub content_of : {texts : List CowStr} {s : Inline} {ps : List Piece} {to : Spot} → s.start ≤ length s.text → IsInPieces texts s ps to
@@ -141,25 +120,17 @@ ended_by s end h =
       | inr byte ↦ inr (or_cases (is_line_end b) (ends_cell s b) byte)
     ]
 
--- the same for a line
-line_ended_by : (s : Inline) (end : ℕ) → s.row ≡ false → content_ends_at s end ≡ true → (length s.text ≤ end) ⊎ (is_line_end (slice_index s.text end) ≡ true)
-line_ended_by s end plain h =
-    elim (ended_by s end h) [
-      | inl text ↦ inl text
-      | inr byte ↦ elim byte [
-        | inl line ↦ inr line
-        | inr cell ↦ absurd (false≢true (sym plain ∙ (and_parts s.row _ cell).0))
-      ]
-    ]
+-- a line that ends before the end of the text ends at a line ending
+line_ended_by : (s : Inline) (end : ℕ) → s.row ≡ false → content_ends_at s end ≡ true → end < length s.text → is_line_end (slice_index s.text end) ≡ true
+unfolding content_ends_at
+line_ended_by s end plain h within = sym (or-false (is_line_end (slice_index s.text end))) ∙ rw (lt-leb (length s.text) end within, plain) at h
 
 -- the line ending in the rest of a text
 end_here : (b : ℕ) (bs : List ℕ) → is_line_end b ≡ true → unwrap_or (eol_len (b ∷ bs)) 0 ≡ (if b == carriage_return && begins line_feed bs then 2 else 1)
 end_here b bs line =
     elim (or_cases (b == line_feed) (b == carriage_return) line) [
-      | inl lf ↦ subst (λ (x : ℕ). unwrap_or (eol_len (x ∷ bs)) 0 ≡ (if x == carriage_return && begins line_feed bs then 2 else 1))
-          (sym (eqb-true b line_feed lf)) refl
-      | inr cr ↦ subst (λ (x : ℕ). unwrap_or (eol_len (x ∷ bs)) 0 ≡ (if x == carriage_return && begins line_feed bs then 2 else 1))
-          (sym (eqb-true b carriage_return cr)) refl
+      | inl lf ↦ rw (eqb-true b line_feed lf) refl
+      | inr cr ↦ rw (eqb-true b carriage_return cr) refl
     ]
 
 begins_drop : (text : List ℕ) (at : ℕ) → begins line_feed (drop at text) ≡ (slice_index text at == line_feed)
@@ -175,13 +146,10 @@ line_end_at s end plain h =
     elim (cases_lt end (length s.text)) [
       | inl within ↦
           let b = slice_index s.text end in
-          elim (line_ended_by s end plain h) [
-            | inl past ↦ absurd (omega arith)
-            | inr line ↦
-                at_drop_more (λ (bs : List ℕ). unwrap_or (eol_len bs) 0) s.text end 0 within ∙ end_here b (drop (end + 1) s.text) line
-                ∙ ap (λ (next : Bool). if b == carriage_return && next then 2 else 1) (begins_drop s.text (end + 1))
-                ∙ sym (cond-false _ _ _ (lt-leb (length s.text) end within))
-          ]
+          at_drop_more (λ (bs : List ℕ). unwrap_or (eol_len bs) 0) s.text end 0 within
+          ∙ end_here b (drop (end + 1) s.text) (line_ended_by s end plain h within)
+          ∙ ap (λ (next : Bool). if b == carriage_return && next then 2 else 1) (begins_drop s.text (end + 1))
+          ∙ sym (cond-false _ _ _ (lt-leb (length s.text) end within))
       | inr past ↦ at_drop_all (λ (bs : List ℕ). unwrap_or (eol_len bs) 0) s.text end past ∙ sym (cond-true _ _ _ (le-leb (length s.text) end past))
     ]
 
@@ -196,7 +164,7 @@ content_len s end plain c ended =
     (λ below.
     let place : s.start + (end - s.start) ≡ end = omega arith in
     ap is_content (get_or-drop s.start s.text (end - s.start) 0 ∙ ap (slice_index s.text) place)
-    ∙ elim (line_ended_by s end plain ended) [ inl past ↦ absurd (omega arith) | inr line ↦ not_from_true _ line ])
+    ∙ not_from_true _ (line_ended_by s end plain ended (omega arith)))
 
 -- a line ends after the line ending after its content
 line_place : (s : Inline) (end : ℕ) → s.row ≡ false → IsContent s.text s.start end → content_ends_at s end ≡ true
@@ -204,82 +172,60 @@ line_place : (s : Inline) (end : ℕ) → s.row ≡ false → IsContent s.text s
 unfolding line_len
 line_place s end plain c ended =
     let order = c.order in
-    let n = content_len s end plain c ended in
     let place : s.start + (end - s.start) ≡ end = omega arith in
-    let rest : drop (prefix_len is_content (drop s.start s.text)) (drop s.start s.text) ≡ drop end s.text =
-    ap (λ (k : ℕ). drop k (drop s.start s.text)) n ∙ drop-drop (end - s.start) s.start s.text ∙ ap (λ (k : ℕ). drop k s.text) place in
-    let following : unwrap_or (eol_len (drop (prefix_len is_content (drop s.start s.text)) (drop s.start s.text))) 0 ≡ line_end_len s end =
-    ap (λ (bs : List ℕ). unwrap_or (eol_len bs) 0) rest ∙ line_end_at s end plain ended in
-    omega arith
+    let rest : drop (end - s.start) (drop s.start s.text) ≡ drop end s.text =
+    drop-drop (end - s.start) s.start s.text ∙ ap (λ (k : ℕ). drop k s.text) place in
+    rw (content_len s end plain c ended, rest, line_end_at s end plain ended) (omega arith)
 
--- a line ending is within the text, and is not empty
-line_end_fits : (s : Inline) (end : ℕ) → end ≤ length s.text → end + line_end_len s end ≤ length s.text
-unfolding line_end_len
-line_end_fits s end within =
-    cond_both (nat_le (length s.text) end) 0 _ (λ (n : ℕ). end + n ≤ length s.text) (λ b. omega arith)
-    (λ b. let inside = leb-false (length s.text) end b in
-    cond_both (slice_index s.text end == carriage_return && slice_index s.text (end + 1) == line_feed) 2 1 (λ (n : ℕ). end + n ≤ length s.text)
-    (λ two. elim (cases_lt (end + 1) (length s.text)) [
-      | inl more ↦ omega arith
-      | inr past ↦ absurd (false≢true (ap (λ (x : ℕ). x == line_feed) (sym (get_or_past s.text (end + 1) 0 past))
-          ∙ (and_parts (slice_index s.text end == carriage_return) (slice_index s.text (end + 1) == line_feed) two).1))
-    ])
-    (λ one. omega arith))
-
+-- a line ending is not empty
 line_end_some : (s : Inline) (end : ℕ) → end < length s.text → 0 < line_end_len s end
 unfolding line_end_len
 line_end_some s end within =
-    cond_both (nat_le (length s.text) end) 0 _ (λ (n : ℕ). 0 < n) (λ b. let past = leb-true (length s.text) end b in absurd (omega arith))
-    (λ b. cond_both (slice_index s.text end == carriage_return && slice_index s.text (end + 1) == line_feed) 2 1 (λ (n : ℕ). 0 < n) (λ two. omega arith)
-    (λ one. omega arith))
+    cond_both (nat_le (length s.text) end) 0 _ (λ (n : ℕ). 0 < n) (λ past. absurd (omega (arith, leb-true (length s.text) end past)))
+    (λ inside. cond_both (slice_index s.text end == carriage_return && slice_index s.text (end + 1) == line_feed) 2 1 (λ (n : ℕ). 0 < n)
+    (λ two. omega arith) (λ one. omega arith))
 
--- a bound on the number of bytes that pass a test at the end of the first bytes of a list, if one fails or there are
--- no more
-suffix_bounded : (p : ℕ → Bool) (xs : List ℕ) (n k : ℕ)
-    → n ≤ length xs → k ≤ n → (k ≡ 0) ⊎ ((0 < k) × (p (get_or xs (k - 1) 0) ≡ false)) → suffix_len p (take n xs) ≤ n - k
-suffix_bounded p xs zero k within order stops = omega (arith, suffix_len-le-length p (take 0 xs))
-suffix_bounded p xs (suc n) k within order stops =
-    elim (cases_lt k (suc n)) [
-      | inl more ↦
-          let back : suc n - 1 ≡ n = omega arith in
-          elim (cases_Bool (p (get_or xs (suc n - 1) 0))) [
-            | inl passes ↦
-                let one = suffix_len-take_yes p xs (suc n) 0 (omega arith) within passes in
-                let rest = suffix_bounded p xs n k (omega arith) (omega arith) stops in
-                let same : suffix_len p (take (suc n - 1) xs) ≡ suffix_len p (take n xs) = ap (λ (x : ℕ). suffix_len p (take x xs)) back in
-                omega arith
-            | inr fails ↦ let none = suffix_len-take_no p xs (suc n) 0 (omega arith) within fails in omega arith
-          ]
-      | inr whole ↦
-          let all : k ≡ suc n = omega arith in
-          elim stops [
-            | inl none ↦ absurd (omega arith)
-            | inr at ↦
-                let none = suffix_len-take_no p xs (suc n) 0 (omega arith) within (ap (λ (x : ℕ). p (get_or xs (x - 1) 0)) (sym all) ∙ at.1) in
-                omega arith
-          ]
-    ]
+-- the bytes at the end of a list that pass a test
+pub last_passes : (p : ℕ → Bool) (xs : List ℕ) (k : ℕ) → length xs - suffix_len p xs ≤ k → k < length xs → p (get_or xs k 0) ≡ true
+last_passes p xs k low high =
+    let j : ℕ = length xs - 1 - k in
+    let back : length xs - 1 - j ≡ k = omega arith in
+    ap p (sym (get_or-reverse xs j 0 (omega arith) ∙ ap (λ (i : ℕ). get_or xs i 0) back)) ∙ prefix_len_passes p (reverse xs) j 0 (omega arith)
 
 -- the same at the end of a content
+pub content_passes : (p : ℕ → Bool) (text : List ℕ) (start end k : ℕ) → start ≤ end → k < length text → end - suffix_len p (slice_range text start end) ≤ k
+    → k < end → p (slice_index text k) ≡ true
+content_passes p text start end k order inside low high =
+    let rest = length-drop start text in
+    let size = length-take (end - start) (drop start text) in
+    let short = suffix_len-le-length p (slice_range text start end) in
+    let there : start + (k - start) ≡ k = omega arith in
+    ap p (sym (get_or-take (end - start) (drop start text) (k - start) 0 (omega arith) ∙ get_or-drop start text (k - start) 0 ∙ ap (slice_index text) there))
+    ∙ last_passes p (slice_range text start end) (k - start) (omega arith) (omega arith)
+
+-- none of them is before a place if the content begins there, or the byte before it fails the test
 pub end_bounded : (p : ℕ → Bool) (text : List ℕ) (start begin end : ℕ) → start ≤ begin → begin ≤ end → end ≤ length text
     → (begin ≡ start) ⊎ ((0 < begin) × (p (slice_index text (begin - 1)) ≡ false)) → suffix_len p (slice_range text start end) ≤ end - begin
-end_bounded p text start begin end low high within stops =
-    let len = length-drop start text in
-    let bound = suffix_bounded p (drop start text) (end - start) (begin - start) (omega arith) (omega arith)
-    (elim stops [
-      | inl same ↦ inl (omega arith)
-      | inr at ↦ elim (cases_lt start begin) [
-        | inl more ↦
-            let place : start + (begin - start - 1) ≡ begin - 1 = omega arith in
-            inr (omega arith, ap p (get_or-drop start text (begin - start - 1) 0 ∙ ap (slice_index text) place) ∙ at.1)
-        | inr none ↦ inl (omega arith)
-      ]
-    ]) in
-    omega arith
+end_bounded p text start begin end low high within (inl same) =
+    let rest = length-drop start text in
+    let size = length-take (end - start) (drop start text) in
+    omega (arith, suffix_len-le-length p (slice_range text start end))
+end_bounded p text start begin end low high within (inr fails) =
+    elim (cases_lt (end - begin) (suffix_len p (slice_range text start end))) [
+      | inl more ↦
+          let before : begin - 1 < begin = omega (arith, fails.0) in
+          absurd (false≢true (sym fails.1 ∙ content_passes p text start end (begin - 1) (omega arith) (omega arith) (omega arith) (omega arith)))
+      | inr most ↦ most
+    ]
+
+-- a backslash that breaks a line is at the end of its content
+pub break_some : (s : Inline) (end : ℕ) → breaks_by_backslash s end ≡ true → 0 < backslashes_at_end s end
+unfolding breaks_by_backslash
+break_some s end breaks = (let odd = eqb-true (backslashes_at_end s end % 2) 1 (and_parts (backslashes_at_end s end % 2 == 1) _ breaks).0 in omega arith)
 
 -- a break is within its line, and ends with it
 break_in_line : (s : Inline) (end : ℕ) → s.start ≤ end → end ≤ length s.text → IfSome (line_break s end) (λ x. IsBreak s.start (end + line_end_len s end) x)
-unfolding line_break breaks_by_backslash backslashes_at_end blanks_at_end
+unfolding line_break backslashes_at_end blanks_at_end
 break_in_line s end order within =
     let next = end + line_end_len s end in
     let white : suffix_len is_white (slice_range s.text s.start end) ≤ end - s.start =
@@ -289,9 +235,7 @@ break_in_line s end order within =
     cond_both (nat_le (length s.text) end) None _ (λ (o : Option Item). IfSome o (λ x. IsBreak s.start next x)) (λ b. tt)
     (λ b. let some = line_end_some s end (leb-false (length s.text) end b) in
     cond_both (breaks_by_backslash s end) _ _ (λ (x : Item). IsBreak s.start next x)
-    (λ breaks.
-    let odd = eqb-true (backslashes_at_end s end % 2) 1 (and_parts (backslashes_at_end s end % 2 == 1) (nat_lt next (length s.text)) breaks).0 in
-    record { from = omega arith; before = omega arith; to = refl; kind = refl })
+    (λ breaks. let one = break_some s end breaks in record { from = omega arith; before = omega arith; to = refl; kind = refl })
     (λ other. cond_both (nat_le 2 (blanks_at_end s end)) _ _ (λ (x : Item). IsBreak s.start next x)
     (λ hard. let two = leb-true 2 (blanks_at_end s end) hard in record { from = omega arith; before = omega arith; to = refl; kind = refl })
     (λ soft. record { from = order; before = omega arith; to = refl; kind = refl })))
@@ -302,14 +246,12 @@ pub ends_line : {texts : List CowStr} {s : Inline} {tokens : List Item} {answer 
 ends_line {texts} {s} {tokens} {answer} {after} within line =
     let end = line.content_end in
     let c = content_of within line.division in
+    let place = line_place s end line.no_cell c line.division.ended in
     subst (λ (a : ℕ × Option Item). EndsLine s a) (sym line.answer_is) (record {
-      within = line_end_fits s end c.within;
-      from = omega (arith, c.order);
-      later = λ some. elim (cases_lt end (length s.text)) [
-        | inl more ↦ omega (arith, c.order, line_end_some s end more)
-        | inr past ↦ omega arith
-      ];
-      place = line_place s end line.no_cell c line.division.ended;
+      within = omega (arith, place, line_len-fits (drop s.start s.text), length-drop s.start s.text);
+      from = omega (arith, place);
+      later = λ some. omega (arith, place, (line_len-within s.text s.start some).0);
+      place = place;
       broken = break_in_line s end c.order c.within;
     })
 
@@ -334,14 +276,6 @@ content_reach s end c =
       | inr whole ↦ omega arith
     ]
 
-begun : (texts : List CowStr) (s : Inline) (at : ℕ) (b : MathBraces) (ps : List Piece) (to : Spot)
-    → ArePieces texts s at b ps to → content_ends_at s to.at ≡ true → content_ends_at s at ≡ false → at < to.at
-begun texts s at b [] to same ended on = absurd (false≢true (sym on ∙ ap (λ (t : Spot). content_ends_at s t.at) same ∙ ended))
-begun texts s at b (p ∷ ps) to h ended on =
-    let some = piece_some s.text at p (piece_of texts b s at p h.0 h.1) in
-    let rest = pieces_reach texts s (at + size p) (braces_after (found_at s at) b) ps to h.2 in
-    omega arith
-
 pub cell_ends : {texts : List CowStr} {s : Inline} {tokens : List Item} {end : ℕ} {after : MathBraces}
     → s.start ≤ length s.text → IsCell texts s tokens end after → EndsCell s end
 cell_ends {texts} {s} {tokens} {end} {after} within cell =
@@ -351,27 +285,99 @@ cell_ends {texts} {s} {tokens} {end} {after} within cell =
       within = c.within;
       in_line = content_reach s end c;
       ended = cell.division.ended;
-      later = begun texts s s.start s.braces cell.pieces (spot end after) cell.division.divided cell.division.ended;
+      later = λ on. elim (cases_lt s.start end) [
+        | inl more ↦ more
+        | inr none ↦ let same : s.start ≡ end = omega (arith, c.order) in absurd (false≢true (sym on ∙ ap (content_ends_at s) same ∙ cell.division.ended))
+      ];
     }
 
--- no token of a line or a cell touches the one before it
-add_pieces-apart : (stop at : ℕ) (ps : List Piece) (chain : List Item) → AreApart chain → AreApart (add_pieces stop at ps chain)
-add_pieces-apart stop at [] chain h = h
-add_pieces-apart stop at (Left n ∷ ps) chain h = add_pieces-apart stop (at + n) ps _ (add_text-apart at (min (at + n) stop) false chain h)
-add_pieces-apart stop at (Begins dropped escaped ∷ ps) chain h =
-    add_pieces-apart stop (at + (dropped + 1)) ps _ (add_text-apart (at + dropped) (min (at + (dropped + 1)) stop) escaped chain h)
-add_pieces-apart stop at (Token dropped n body ∷ ps) chain h =
-    add_pieces-apart stop (at + (dropped + n)) ps _ (add_token-apart chain (token (at + dropped) n body) h)
-add_pieces-apart stop at (Run n opens closes ∷ ps) chain h =
-    add_pieces-apart stop (at + n) ps _ (add_tokens-apart chain (run_tokens at n opens closes) h)
+-- A token from an offset on: it has at least one byte, and the bytes of its kind. If it is a text, it has no backquote,
+-- and if it is escaped, it is directly after a backslash.
+pub record IsTokenAt (text : List ℕ) (at : ℕ) (x : Item) : Type 0 where
+  pub from : at ≤ x.start
+  pub some : x.start < x.«end»
+  pub over : StandsOver text x.start x.«end» x.body
+  pub spares : is_text x.body ≡ true → HasNoBackquote text x.start x.«end»
+  pub escape : is_escaped x.body ≡ true → (at < x.start) × (slice_index text (x.start - 1) ≡ backslash)
 
+-- a property of a chain up to an offset; each token that is added keeps it, and so does a later offset
+module _ (s : Inline) (P : ℕ → List Item → Type 0) (later : (at to : ℕ) (chain : List Item) → at ≤ to → P at chain → P to chain)
+    (more : (at : ℕ) (chain : List Item) (x : Item) → IsTokenAt s.text at x → P at chain → P x.«end» (add_token chain x)) where
+  text_keeps : (at from to next : ℕ) (escaped : Bool) (chain : List Item) → at ≤ next → to ≤ next
+      → (from < to → IsTokenAt s.text at (text_token from to escaped)) → P at chain → P next (add_text from to escaped chain)
+  text_keeps at from to next escaped chain order within is h =
+      cond_both (nat_lt from to) (add_token chain (text_token from to escaped)) chain (P next)
+      (λ some. later to next _ within (more at chain (text_token from to escaped) (is (ltb-true from to some)) h)) (λ none. later at next chain order h)
+
+  run_keeps : (at n : ℕ) (opens closes : Bool) (chain : List Item) → (0 < n → (n ≡ run_at s.text at) × (is_delimiter (slice_index s.text at) ≡ true))
+      → P at chain → P (at + n) (add_tokens chain (run_tokens at n opens closes))
+  run_keeps at zero opens closes chain is h = later at (at + 0) chain (omega arith) h
+  run_keeps at (suc n) opens closes chain is h =
+      let here = is (omega arith) in
+      let x = token at 1 (MaybeEmphasis (suc n) opens closes) in
+      let first = more at chain x (record {
+        from = omega arith;
+        some = omega arith;
+        over = (refl, here.1, here.0);
+        spares = λ e. absurd (false≢true e);
+        escape = λ e. absurd (false≢true e);
+      }) h in
+      later (at + 1 + n) (at + suc n) _ (omega arith) (run_keeps (at + 1) n opens closes (add_token chain x)
+      (λ some. let next = run_next s.text at n here.0 some in (next.0, ap is_delimiter next.1 ∙ here.1)) first)
+
+  piece_keeps : (stop at : ℕ) (p : Piece) (chain : List Item) → IsPieceAt s.text at p → P at chain → P (at + size p) (add_piece stop at p chain)
+  piece_keeps stop at (Left n) chain facts h =
+      text_keeps at at (min (at + n) stop) (at + n) false chain (omega arith) (omega arith) (λ some. record {
+        from = omega arith;
+        some = some;
+        over = tt;
+        spares = λ e k low high. ap (λ (x : ℕ). x == backquote) (facts.same k low (omega arith)) ∙ facts.other;
+        escape = λ e. absurd (false≢true e);
+      }) h
+  piece_keeps stop at (Begins dropped escaped) chain facts h =
+      text_keeps at (at + dropped) (min (at + (dropped + 1)) stop) (at + (dropped + 1)) escaped chain (omega arith) (omega arith) (λ some. record {
+        from = omega arith;
+        some = some;
+        over = tt;
+        spares = λ e k low high. let here : k ≡ at + dropped = omega arith in ap (λ (i : ℕ). slice_index s.text i == backquote) here ∙ facts.other;
+        escape = λ e. (omega (arith, facts.some), facts.backslashes (at + dropped - 1) (omega (arith, facts.some)) (omega (arith, facts.some)));
+      }) h
+  piece_keeps stop at (Token dropped n body) chain facts h =
+      later (at + dropped + n) (at + (dropped + n)) _ (omega arith) (more at chain (token (at + dropped) n body) (record {
+        from = omega arith;
+        some = omega (arith, facts.some);
+        over = facts.over;
+        spares = λ e. absurd (false≢true (sym (markup_plain body facts.kind) ∙ e));
+        escape = λ e. absurd (false≢true (sym (markup_unescaped body facts.kind) ∙ e));
+      }) h)
+  piece_keeps stop at (Run n opens closes) chain facts h = run_keeps at n opens closes chain (λ some. (facts.all, facts.delimiter)) h
+
+  pieces_keep : (texts : List CowStr) (stop at : ℕ) (b : MathBraces) (ps : List Piece) (to : Spot) (chain : List Item)
+      → ArePieces texts s at b ps to → P at chain → P to.at (add_pieces stop at ps chain)
+  pieces_keep texts stop at b [] to chain are h = subst (λ (t : Spot). P t.at chain) are h
+  pieces_keep texts stop at b (p ∷ ps) to chain are h =
+      pieces_keep texts stop (at + size p) (braces_after (found_at s at) b) ps to (add_piece stop at p chain) are.2
+      (piece_keeps stop at p chain (piece_of texts b s at p are.0 are.1) h)
+
+  -- the tokens of a cell and of a line have it
+  pub cell_keeps : {texts : List CowStr} {tokens : List Item} {end : ℕ} {after : MathBraces} → IsCell texts s tokens end after → P s.start [] → P end tokens
+  cell_keeps {texts} {tokens} {end} {after} cell none =
+      subst (P end) (sym cell.tokens_are)
+      (pieces_keep texts (end - blanks_at_end s end) s.start s.braces cell.pieces (spot end after) [] cell.division.divided none)
+
+  pub line_keeps : {texts : List CowStr} {tokens : List Item} {answer : ℕ × Option Item} {after : MathBraces}
+      → (line : AreLineTokens texts s tokens answer after) → P s.start [] → P line.content_end tokens
+  line_keeps {texts} {tokens} {answer} {after} line none =
+      subst (P line.content_end) (sym line.tokens_are)
+      (pieces_keep texts (text_end s line.content_end) s.start s.braces line.pieces (spot line.content_end after) [] line.division.divided none)
+
+-- no token of a line or a cell touches the one before it
 pub cell_apart : {texts : List CowStr} {s : Inline} {tokens : List Item} {end : ℕ} {after : MathBraces} → IsCell texts s tokens end after → AreApart tokens
-cell_apart {texts} {s} {tokens} {end} {after} cell =
-    subst AreApart (sym cell.tokens_are) (add_pieces-apart (end - blanks_at_end s end) s.start cell.pieces [] tt)
+cell_apart {texts} {s} cell = cell_keeps s (λ at. AreApart) (λ at to chain order h. h) (λ at chain x is h. add_token-apart chain x h) cell tt
 
 pub line_apart : {texts : List CowStr} {s : Inline} {tokens : List Item} {answer : ℕ × Option Item} {after : MathBraces}
     → AreLineTokens texts s tokens answer after → AreApart tokens
-line_apart {texts} {s} line = subst AreApart (sym line.tokens_are) (add_pieces-apart (text_end s line.content_end) s.start line.pieces [] tt)
+line_apart {texts} {s} line = line_keeps s (λ at. AreApart) (λ at to chain order h. h) (λ at chain x is h. add_token-apart chain x h) line tt
 
 -- a cell appended after a chain
 pub appended_cell : {texts : List CowStr} {s : Inline} {old new : Forest Item} {end : ℕ} {after : MathBraces} (f : Forest Item) (chain : List Item)

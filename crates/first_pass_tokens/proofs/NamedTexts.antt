@@ -1,17 +1,17 @@
 -- Texts that tokens name stay named while more are appended, and each token of a line names one of them, if it names
 -- a text.
-use Rattle.std.proofs.Common.{◌≡◌, ℕ, zero, suc, ◌+◌, List, ◌∷◌, ◌++◌, length, slice_get, Option, Some, refl, sym, ap, ◌∙◌, append_assoc, []}
-use Rattle.std.proofs.lemmas.List.{append-nil}
+use Rattle.std.proofs.Common.{◌≡◌, ℕ, zero, suc, ◌+◌, List, ◌∷◌, ◌++◌, length, slice_get, Option, Some, sym, ap, ◌∙◌, append_assoc, [], append-nil}
 use Rattle.first_pass_items.specs.declared.cow_str.CowStr.{CowStr}
 use Rattle.first_pass_tokens.specs.Braces.{MathBraces, braces_after}
 use Rattle.first_pass_items.specs.declared.item.CowIndex.{CowIndex}
 use Rattle.first_pass_items.specs.declared.item.Item.{Item}
 use Rattle.first_pass_tokens.specs.declared.pieces.TokenStart.{TokenStart}
-use Rattle.first_pass_tokens.specs.declared.pieces.TokenStart.TheVariants.{Ready, Reference, Dashes, Dollar, OpenBrace, CloseBrace}
+use Rattle.first_pass_tokens.specs.declared.pieces.TokenStart.TheVariants.{Reference, Dashes}
 use Rattle.first_pass_tokens.specs.declared.pieces.Piece.{Piece}
 use Rattle.first_pass_tokens.specs.Pieces.{Inline, found_at, size}
 use Rattle.first_pass_tokens.specs.NamedTexts.{NamesAmong, MakesPiece, AreMore}
 use Rattle.first_pass_tokens.specs.LineTokens.{Spot, ArePieces, IsInPieces, AreLineTokens, IsCell}
+use Rattle.first_pass_tokens.proofs.ChainLemmas.{slice_get-following}
 
 pub more_none : (texts : List CowStr) → AreMore texts texts
 more_none texts = ([], sym (append-nil texts))
@@ -24,24 +24,17 @@ got_front [] ys k cow h = cc
 got_front (x ∷ xs) ys zero cow h = h
 got_front (x ∷ xs) ys (suc k) cow h = got_front xs ys k cow h
 
-got_last : (xs : List CowStr) (cow : CowStr) → slice_get (xs ++ cow ∷ []) (length xs) ≡ Some cow
-got_last [] cow = refl
-got_last (x ∷ xs) cow = got_last xs cow
-
 pub among_more : (new old : List CowStr) (ix : CowIndex) (text : List ℕ) → AreMore new old → NamesAmong old ix text → NamesAmong new ix text
 among_more new old ix text more named = (named.0, ap (λ (xs : List CowStr). slice_get xs ix.0) more.1 ∙ got_front old more.0 ix.0 named.0 named.1, named.2)
 
 pub among_last : (new old : List CowStr) (ix : CowIndex) (cow : CowStr) → ix.0 ≡ length old → new ≡ old ++ cow ∷ [] → slice_get new ix.0 ≡ Some cow
-among_last new old ix cow at is = ap (slice_get new) at ∙ ap (λ (xs : List CowStr). slice_get xs (length old)) is ∙ got_last old cow
+among_last new old ix cow at is = ap (slice_get new) at ∙ ap (λ (xs : List CowStr). slice_get xs (length old)) is ∙ slice_get-following old cow
 
 pub becomes_more : (new old : List CowStr) (b : MathBraces) (found : TokenStart) (p : Piece) → AreMore new old → MakesPiece old b found p
     → MakesPiece new b found p
-becomes_more new old b (Ready piece) p more is = is
 becomes_more new old b (Reference n c) p more is = (is.0, among_more new old is.0 _ more is.1, is.2)
 becomes_more new old b (Dashes n) p more is = (is.0, among_more new old is.0 _ more is.1, is.2)
-becomes_more new old b (Dollar opens closes) p more is = is
-becomes_more new old b OpenBrace p more is = is
-becomes_more new old b CloseBrace p more is = is
+becomes_more new old b _ p more is = is
 
 pub pieces_more : (new old : List CowStr) (s : Inline) (at : ℕ) (b : MathBraces) (ps : List Piece) (to : Spot) → AreMore new old → ArePieces old s at b ps to
     → ArePieces new s at b ps to

@@ -1,32 +1,35 @@
 -- Tokens, one after the other: a chain in order stays in order if a token is appended, and the tokens of a line or a
 -- cell are in order.
-use Rattle.std.proofs.Common.{ℕ, zero, suc, ◌≡◌, ◌⊎◌, ◌+◌, ◌-◌, ◌≤◌, ◌<◌, ◌==◌, ◌%◌, min, Bool, true, false, List, ◌∷◌, ◌++◌, length, take, drop, get_or, []}
-use Rattle.std.proofs.Common.{slice_index, nat_lt, nat_le, if◌then◌else◌, Option, Some, None, IfSome, IsUtf8, IsCharBoundary, refl, sym, ap, subst, ◌∙◌, inl}
-use Rattle.std.proofs.Common.{inr, arith, length-drop}
-use Rattle.std.specs.List.{suffix_len, slice_range}
-use Rattle.std.proofs.lemmas.List.{get_or-drop}
-use Rattle.std.proofs.lemmas.List.Sums.{suffix_len-le-length, suffix_len-take_yes, suffix_len-take_no}
+use Rattle.std.proofs.Common.{ℕ, zero, suc, ◌≡◌, ◌⊎◌, ◌+◌, ◌-◌, ◌≤◌, ◌<◌, ◌==◌, min, Bool, true, false, List, ◌∷◌, ◌++◌, length, take, get_or, []}
+use Rattle.std.proofs.Common.{slice_index, nat_lt, nat_le, Option, Some, None, IfSome, IsUtf8, IsCharBoundary, refl, sym, ap, subst, ◌∙◌, inl, inr, arith}
+use Rattle.std.proofs.Common.{drop, length-drop, length-take, get_or-drop, get_or-take, eqb-true}
+use Rattle.std.specs.List.{suffix_len}
+use Rattle.std.proofs.lemmas.List.Sums.{suffix_len-le-length}
 use Rattle.std.proofs.lemmas.Str.{IsCharBoundary-after_ascii, IsCharBoundary-before_ascii, IsCharBoundary-end}
-use Rattle.std.proofs.lemmas.Bool.{cases_lt, cases_Bool, cond_both, eqb-true, and_parts, false≢true}
+use Rattle.std.proofs.lemmas.Bool.{cases_lt, cases_Bool, cond_both, and_parts, false≢true}
 use Rattle.std.proofs.lemmas.Bool.Decides.{nat_tests}
 use Rattle.first_pass_items.specs.Bytes.{backslash, pipe, ascii_end}
 use Rattle.first_pass_items.specs.OptionWords.{has, tables}
 use Rattle.first_pass_items.specs.declared.cow_str.CowStr.{CowStr}
 use Rattle.first_pass_tokens.specs.Braces.{MathBraces, braces_after}
 use Rattle.first_pass_items.specs.declared.item.Item.{Item}
-use Rattle.first_pass_lines.specs.Lines.{is_line_end, is_white}
+use Rattle.first_pass_lines.specs.Lines.{is_line_end, is_white, is_white_or_line_end, line_len}
+use Rattle.first_pass_lines.proofs.LineFacts.{line_len-fits}
 use Rattle.first_pass_lines.proofs.PlaceFacts.{line_end_boundary}
 use Rattle.first_pass_tokens.specs.declared.pieces.Piece.{Piece}
 use Rattle.first_pass_tokens.specs.declared.pieces.Piece.TheVariants.{Left, Begins, Token, Run}
-use Rattle.first_pass_tokens.specs.Pieces.{Inline, found_at}
-use Rattle.first_pass_tokens.specs.LineTokens.{Spot, spot, content_ends_at, ends_cell, ArePieces, AreLineTokens, IsCell, EndsLine, add_pieces, text_end, breaks_by_backslash}
-use Rattle.first_pass_tokens.specs.LineTokens.{backslashes_at_end, blanks_at_end, line_end_len, break_of, line_break}
+use Rattle.first_pass_tokens.specs.declared.line.HeldText.{HeldText}
+use Rattle.first_pass_tokens.specs.HeldText.{held_after}
+use Rattle.first_pass_tokens.specs.Pieces.{Inline, found_at, size}
+use Rattle.first_pass_tokens.specs.LineTokens.{Spot, spot, content_ends_at, ends_cell, ArePieces, AreLineTokens, IsCell, EndsLine, add_pieces, text_end}
+use Rattle.first_pass_tokens.specs.LineTokens.{breaks_by_backslash}
+use Rattle.first_pass_tokens.specs.LineTokens.{backslashes_at_end, blanks_at_end, line_end_len, line_break}
 use Rattle.first_pass_tokens.specs.Chains.{text_token, token, run_tokens, touches, add_token, add_tokens, add_text, is_backslash_break, close_break}
 use Rattle.first_pass_tokens.proofs.InOrder.{AreInOrder}
 use Rattle.first_pass_tokens.proofs.ChainLemmas.{add_text-none}
-use Rattle.first_pass_tokens.proofs.PieceFacts.{IsVisible, IsEscape, IsMarkup, IsDelimiterRun, delimiter_other, at_byte, visible_solid}
-use Rattle.first_pass_tokens.proofs.LineLemmas.{piece_of, pieces_reach, ended_by, content_of, ends_line}
-use Rattle.first_pass_tokens.proofs.SoFar.{IsTextEnd, add_text_grows, line_text_end, cell_text_end}
+use Rattle.first_pass_tokens.proofs.PieceFacts.{IsVisible, IsMark, Each, IsPieceAt, mark_facts, piece_byte, at_byte}
+use Rattle.first_pass_tokens.proofs.LineLemmas.{piece_of, pieces_reach, ended_by, content_of, ends_line, last_passes, content_passes, end_bounded, break_some}
+use Rattle.first_pass_tokens.proofs.SoFar.{IsHeld, chain_after, held_start, held_piece, shown_piece, begins_on, IsTextEnd, line_text_end, cell_text_end}
 
 -- the first of two offsets is not after the other
 pub order_bound : (text : List ℕ) (from to : ℕ) (chain : List Item) → AreInOrder text from to chain → from ≤ to
@@ -74,24 +77,10 @@ order_text text from mid a b escaped chain h following order starts ends =
     (λ some. order_add text from mid chain (text_token a b escaped) h following order starts ends)
     (λ none. order_to text from mid b chain h (omega arith))
 
--- The texts of pieces that are read to a place end at an offset, between two characters.
-record TextsStop (s : Inline) : Type 0 where
-  to : Spot
-  stop : ℕ
-  stops : IsCharBoundary s.text stop
-  last_text : IsTextEnd s to.at stop
-
--- A chain in order from an offset, and after it the text that is pending at another offset.
-record IsPending (s : Inline) (stop from at : ℕ) : Type 0 where
-  chain : List Item
-  begin : ℕ
-  escaped : Bool
-  low : s.start ≤ begin
-  upto : begin ≤ at
-  marked : (begin < at) ⊎ (escaped ≡ false)
-  ahead : begin ≤ stop
-  starts : IsCharBoundary s.text begin
-  order : AreInOrder s.text from begin chain
+-- A chain is in order from the start of a content up to the pending text, which begins between two characters.
+record IsOrdered (s : Inline) (p : HeldText) (chain : List Item) : Type 0 where
+  starts : IsCharBoundary s.text p.begin
+  order : AreInOrder s.text s.start p.begin chain
 
 module _ (s : Inline) (utf8 : IsUtf8 s.text) where
   -- there is a place between two characters before a visible byte
@@ -104,11 +93,10 @@ module _ (s : Inline) (utf8 : IsUtf8 s.text) where
       subst (IsCharBoundary s.text) same (IsCharBoundary-after_ascii s.text (at - 1) utf8 (at_byte s.text (at - 1) (omega (arith, h.0))) (omega (arith, h.1)))
 
   -- the tokens of a run
-  run_in_order : (at n : ℕ) (opens closes : Bool)
-      → ((k : ℕ) → at ≤ k → k < at + n → IsVisible (slice_index s.text k)) → AreInOrder s.text at (at + n) (run_tokens at n opens closes)
-  run_in_order at zero opens closes bytes = omega arith
-  run_in_order at (suc n) opens closes bytes =
-      let here = bytes at (omega arith) (omega arith) in
+  run_in_order : (at n : ℕ) (opens closes : Bool) → Each IsMark s.text at n → AreInOrder s.text at (at + n) (run_tokens at n opens closes)
+  run_in_order at zero opens closes marks = omega arith
+  run_in_order at (suc n) opens closes marks =
+      let here : IsVisible (slice_index s.text at) = (mark_facts _ (marks at (omega arith) (omega arith))).visible in
       let back : at + 1 - 1 ≡ at = omega arith in
       let past : at + 1 + n ≡ at + suc n = omega arith in (
         omega arith,
@@ -116,182 +104,103 @@ module _ (s : Inline) (utf8 : IsUtf8 s.text) where
         place_before at here,
         place_past (at + 1) (omega arith) (subst (λ (k : ℕ). IsVisible (slice_index s.text k)) (sym back) here),
         subst (λ (e : ℕ). AreInOrder s.text (at + 1) e (run_tokens (at + 1) n opens closes)) past
-            (run_in_order (at + 1) n opens closes (λ k low high. bytes k (omega arith) (omega arith))),
+            (run_in_order (at + 1) n opens closes (λ k low high. marks k (omega arith) (omega arith))),
       )
 
-  -- after a token no text is pending
-  pending_none : (stop from begin at : ℕ) (chain : List Item) → s.start ≤ begin → begin ≤ at → begin ≤ stop → IsCharBoundary s.text begin
-      → AreInOrder s.text from begin chain → IsPending s stop from at
-  pending_none stop from begin at chain low upto ahead starts h = record {
-    chain = chain;
-    begin = begin;
-    escaped = false;
-    low = low;
-    upto = upto;
-    marked = inr refl;
-    ahead = ahead;
-    starts = starts;
-    order = h;
-  }
+  -- the pending text is appended, if a visible byte follows it
+  held_ends : (at : ℕ) (p : HeldText) (chain : List Item) → IsHeld s.text s.start p at → IsOrdered s p chain → IsVisible (slice_index s.text at)
+      → AreInOrder s.text s.start at (add_text p.begin at p.escaped chain)
+  held_ends at p chain h o byte = order_text s.text s.start p.begin p.begin at p.escaped chain o.order (omega arith) h.upto o.starts (place_before at byte)
 
-  -- the pending text grows and is appended, piece by piece
-  pieces_in_order : (texts : List CowStr) (e : TextsStop s) (from at : ℕ) (b : MathBraces) (ps : List Piece) → ArePieces texts s at b ps e.to
-      → (t : IsPending s e.stop from at) → AreInOrder s.text from e.stop (add_pieces e.stop at ps (add_text t.begin (min at e.stop) t.escaped t.chain))
-  unfolding pending_none
-  pieces_in_order texts e from at b [] is t =
-      let stop : ℕ = e.stop in
-      let begin : ℕ = t.begin in
-      let ahead : begin ≤ stop = t.ahead in
-      let same : at ≡ e.to.at = ap (λ (z : Spot). z.at) is in
-      let short : stop ≤ e.to.at = e.last_text.short in
-      let here : min at stop ≡ stop = omega arith in
-      rw here (order_text s.text from begin begin stop t.escaped t.chain t.order (omega arith) ahead t.starts e.stops)
-  pieces_in_order texts e from at b (Left n ∷ ps) pieces t =
-      let upto : t.begin ≤ at = t.upto in
-      let now : IsPending s e.stop from (at + n) = record {
-        chain = t.chain;
-        begin = t.begin;
-        escaped = t.escaped;
-        low = t.low;
-        upto = omega arith;
-        marked = elim t.marked [ inl longer ↦ inl (omega arith) | inr plain ↦ inr plain ];
-        ahead = t.ahead;
-        starts = t.starts;
-        order = t.order;
-      } in
-      subst (λ c. AreInOrder s.text from e.stop (add_pieces e.stop (at + n) ps c))
-      (sym (add_text_grows t.begin at n e.stop t.escaped t.chain t.upto t.marked t.ahead))
-      (pieces_in_order texts e from (at + n) (braces_after (found_at s at) b) ps pieces.2 now)
-  pieces_in_order texts e from at b (Begins dropped mark_next ∷ ps) pieces t =
-      let stop : ℕ = e.stop in
-      let begin : ℕ = t.begin in
-      let low : s.start ≤ begin = t.low in
-      let upto : begin ≤ at = t.upto in
-      let facts : IsEscape s.text at dropped = piece_of texts b s at (Begins dropped mark_next) pieces.0 pieces.1 in
-      let here = place_before at (facts.bytes at (omega arith) (omega arith)) in
-      let following = place_before (at + dropped) (facts.bytes (at + dropped) (omega arith) (omega arith)) in
-      let reach = pieces_reach texts s (at + (dropped + 1)) (braces_after (found_at s at) b) ps e.to pieces.2 in
-      let is_backslash = facts.backslashes (at + dropped - 1) (omega (arith, facts.some)) (omega (arith, facts.some)) in
-      let before : at + dropped ≤ stop = e.last_text.following (at + dropped) (omega arith) (omega arith)
-      (inr (omega (arith, facts.some), ap is_white is_backslash, inl (omega arith))) in
-      let cut : min at stop ≡ at = omega arith in
-      let now : IsPending s stop from (at + (dropped + 1)) = record {
-        chain = add_text begin (min at stop) t.escaped t.chain;
-        begin = at + dropped;
-        escaped = mark_next;
-        low = omega arith;
-        upto = omega arith;
-        marked = inl (omega arith);
-        ahead = before;
-        starts = following;
-        order = rw cut (order_to s.text from at (at + dropped) (add_text begin at t.escaped t.chain)
-            (order_text s.text from begin begin at t.escaped t.chain t.order (omega arith) upto t.starts here) (omega arith));
-      } in
-      pieces_in_order texts e from (at + (dropped + 1)) (braces_after (found_at s at) b) ps pieces.2 now
-  pieces_in_order texts e from at b (Token dropped n body ∷ ps) pieces t =
-      let stop : ℕ = e.stop in
-      let begin : ℕ = t.begin in
-      let low : s.start ≤ begin = t.low in
-      let upto : begin ≤ at = t.upto in
-      let facts : IsMarkup s.text at dropped n body = piece_of texts b s at (Token dropped n body) pieces.0 pieces.1 in
-      let reach = pieces_reach texts s (at + (dropped + n)) (braces_after (found_at s at) b) ps e.to pieces.2 in
-      let byte = facts.bytes (at + dropped + n - 1) (omega (arith, facts.some)) (omega (arith, facts.some)) in
-      let before : at + dropped + n ≤ stop = e.last_text.following (at + dropped + n) (omega arith) (omega arith)
-      (inr (omega (arith, facts.some), visible_solid (slice_index s.text (at + dropped + n - 1)) byte, inr facts.last)) in
-      let here = place_before at (facts.bytes at (omega arith) (omega (arith, facts.some))) in
-      let first = place_before (at + dropped) (facts.bytes (at + dropped) (omega arith) (omega (arith, facts.some))) in
-      let last = place_past (at + dropped + n) (omega (arith, facts.some)) byte in
-      let cut : min at stop ≡ at = omega arith in
-      let more = add_token (add_text begin at t.escaped t.chain) (token (at + dropped) n body) in
-      let none = add_text-none (at + dropped + n) (min (at + (dropped + n)) stop) false more (omega arith) in
-      let now : IsPending s stop from (at + (dropped + n)) = pending_none stop from (at + dropped + n) (at + (dropped + n)) more (omega arith) (omega arith)
-      before last
-      (order_add s.text from at (add_text begin at t.escaped t.chain) (token (at + dropped) n body)
-      (order_text s.text from begin begin at t.escaped t.chain t.order (omega arith) upto t.starts here) (omega arith) (omega arith) first last) in
-      rw cut (subst (λ c. AreInOrder s.text from stop (add_pieces stop (at + (dropped + n)) ps c)) none
-      (pieces_in_order texts e from (at + (dropped + n)) (braces_after (found_at s at) b) ps pieces.2 now))
-  pieces_in_order texts e from at b (Run n opens closes ∷ ps) pieces t =
-      let stop : ℕ = e.stop in
-      let begin : ℕ = t.begin in
-      let low : s.start ≤ begin = t.low in
-      let upto : begin ≤ at = t.upto in
-      let facts : IsDelimiterRun s.text at n = piece_of texts b s at (Run n opens closes) pieces.0 pieces.1 in
-      let reach = pieces_reach texts s (at + n) (braces_after (found_at s at) b) ps e.to pieces.2 in
-      let byte = facts.bytes (at + n - 1) (omega (arith, facts.some)) (omega (arith, facts.some)) in
-      let same = facts.same (at + n - 1) (omega (arith, facts.some)) (omega (arith, facts.some)) in
-      let before : at + n ≤ stop = e.last_text.following (at + n) (omega arith) (omega arith)
-      (inr (
-        omega (arith, facts.some),
-        visible_solid (slice_index s.text (at + n - 1)) byte,
-        inr (ap (λ (b : ℕ). b == backslash) same ∙ (delimiter_other _ facts.delimiter).0),
-      )) in
-      let here = place_before at (facts.bytes at (omega arith) (omega (arith, facts.some))) in
-      let last = place_past (at + n) (omega (arith, facts.some)) byte in
-      let cut : min at stop ≡ at = omega arith in
-      let more = add_tokens (add_text begin at t.escaped t.chain) (run_tokens at n opens closes) in
-      let none = add_text-none (at + n) (min (at + n) stop) false more (omega arith) in
-      let now : IsPending s stop from (at + n) = pending_none stop from (at + n) (at + n) more (omega arith) (omega arith) before last
-      (order_adds s.text from at (at + n) (add_text begin at t.escaped t.chain) (run_tokens at n opens closes)
-      (order_text s.text from begin begin at t.escaped t.chain t.order (omega arith) upto t.starts here) (run_in_order at n opens closes facts.bytes)) in
-      rw cut (subst (λ c. AreInOrder s.text from stop (add_pieces stop (at + n) ps c)) none
-      (pieces_in_order texts e from (at + n) (braces_after (found_at s at) b) ps pieces.2 now))
+  -- one more piece
+  order_piece : (at : ℕ) (q : Piece) (p : HeldText) (chain : List Item) → IsPieceAt s.text at q → IsHeld s.text s.start p at → IsOrdered s p chain
+      → IsOrdered s (held_after at q p) (chain_after at q p chain)
+  order_piece at (Left n) p chain facts h o = o
+  order_piece at (Begins dropped escaped) p chain facts h o =
+      let byte = piece_byte s.text at (Begins dropped escaped) facts in
+      record {
+        starts = place_before (at + dropped) (byte (at + dropped) (omega arith) (omega arith));
+        order = order_to s.text s.start at (at + dropped) (add_text p.begin at p.escaped chain)
+            (held_ends at p chain h o (byte at (omega arith) (omega arith))) (omega arith);
+      }
+  order_piece at (Token dropped n body) p chain facts h o =
+      let some = facts.some in
+      let byte = piece_byte s.text at (Token dropped n body) facts in
+      let last = place_past (at + dropped + n) (omega arith) (byte (at + dropped + n - 1) (omega arith) (omega arith)) in
+      record {
+        starts = last;
+        order = order_add s.text s.start at (add_text p.begin at p.escaped chain) (token (at + dropped) n body)
+            (held_ends at p chain h o (byte at (omega arith) (omega arith))) (omega arith) (omega arith)
+            (place_before (at + dropped) (byte (at + dropped) (omega arith) (omega arith))) last;
+      }
+  order_piece at (Run n opens closes) p chain facts h o =
+      let some = facts.some in
+      let byte = piece_byte s.text at (Run n opens closes) facts in
+      record {
+        starts = place_past (at + n) (omega arith) (byte (at + n - 1) (omega arith) (omega arith));
+        order = order_adds s.text s.start at (at + n) (add_text p.begin at p.escaped chain) (run_tokens at n opens closes)
+            (held_ends at p chain h o (byte at (omega arith) (omega arith))) (run_in_order at n opens closes facts.marks);
+      }
 
--- the first and the last of the bytes that pass a test at the end of the first bytes of a list
+  -- the texts stop at an offset, between two characters
+  module _ (texts : List CowStr) (to : Spot) (stop : ℕ) (stops : IsCharBoundary s.text stop) (last_text : IsTextEnd s to.at stop) where
+    -- the pending text grows and is appended, piece by piece
+    pieces_in_order : (at : ℕ) (b : MathBraces) (ps : List Piece) (p : HeldText) (chain : List Item)
+        → ArePieces texts s at b ps to → IsHeld s.text s.start p at → IsOrdered s p chain
+        → AreInOrder s.text s.start stop (add_pieces stop at ps (add_text p.begin (min at stop) p.escaped chain))
+    pieces_in_order at b [] p chain is h o =
+        let same : at ≡ to.at = ap (λ (z : Spot). z.at) is in
+        let short : stop ≤ to.at = last_text.short in
+        let here : min at stop ≡ stop = omega arith in
+        let ahead = last_text.following p.begin h.from (omega (arith, h.upto)) (begins_on s.text s.start p.begin at to.at (omega arith) h.begins) in
+        rw here (order_text s.text s.start p.begin p.begin stop p.escaped chain o.order (omega arith) ahead o.starts stops)
+    pieces_in_order at b (q ∷ ps) p chain pieces h o =
+        let facts = piece_of texts b s at q pieces.0 pieces.1 in
+        let next = held_after at q p in
+        let now : IsHeld s.text s.start next (at + size q) = held_piece s.text s.start at q p facts h in
+        let reach = pieces_reach texts s (at + size q) (braces_after (found_at s at) b) ps to pieces.2 in
+        let ahead : next.begin ≤ stop = last_text.following next.begin now.from (omega (arith, now.upto))
+        (begins_on s.text s.start next.begin (at + size q) to.at reach now.begins) in
+        subst (λ c. AreInOrder s.text s.start stop (add_pieces stop (at + size q) ps c)) (sym (shown_piece s.text s.start stop at q p chain h ahead))
+        (pieces_in_order (at + size q) (braces_after (found_at s at) b) ps next (chain_after at q p chain) pieces.2 now
+        (order_piece at q p chain facts h o))
+
+-- the first of the bytes that pass a test at the end of the first bytes of a list
 pub suffix_first : (p : ℕ → Bool) (xs : List ℕ) (n : ℕ)
     → n ≤ length xs → 0 < suffix_len p (take n xs) → (suffix_len p (take n xs) ≤ n) × (p (get_or xs (n - suffix_len p (take n xs)) 0) ≡ true)
-suffix_first p xs zero within some = absurd (omega (arith, suffix_len-le-length p (take 0 xs)))
-suffix_first p xs (suc n) within some =
-    let back : suc n - 1 ≡ n = omega arith in
-    elim (cases_Bool (p (get_or xs (suc n - 1) 0))) [
-      | inl passes ↦
-          let one : suffix_len p (take (suc n) xs) ≡ 1 + suffix_len p (take (suc n - 1) xs) = suffix_len-take_yes p xs (suc n) 0 (omega arith) within passes in
-          let same : suffix_len p (take (suc n - 1) xs) ≡ suffix_len p (take n xs) = ap (λ (x : ℕ). suffix_len p (take x xs)) back in
-          elim (cases_lt 0 (suffix_len p (take n xs))) [
-            | inl more ↦
-                let rest = suffix_first p xs n (omega arith) more in
-                let place : suc n - suffix_len p (take (suc n) xs) ≡ n - suffix_len p (take n xs) = omega (arith, rest.0) in
-                (omega (arith, rest.0), ap (λ (x : ℕ). p (get_or xs x 0)) place ∙ rest.1)
-            | inr none ↦
-                let place : suc n - suffix_len p (take (suc n) xs) ≡ suc n - 1 = omega arith in
-                (omega arith, ap (λ (x : ℕ). p (get_or xs x 0)) place ∙ passes)
-          ]
-      | inr fails ↦
-          let none : suffix_len p (take (suc n) xs) ≡ 0 = suffix_len-take_no p xs (suc n) 0 (omega arith) within fails in
-          absurd (omega arith)
+suffix_first p xs n within some =
+    let size = length-take n xs in
+    let short = suffix_len-le-length p (take n xs) in
+    let k : ℕ = n - suffix_len p (take n xs) in
+    (omega arith, ap p (sym (get_or-take n xs k 0 (omega arith))) ∙ last_passes p (take n xs) k (omega arith) (omega arith))
+
+-- The end of a line without the white space there is between characters.
+pub trimmed_boundary : (text : List ℕ) (from : ℕ) → IsUtf8 text → IsCharBoundary text from
+    → let m : ℕ = line_len (drop from text) in IsCharBoundary text (from + m - suffix_len is_white_or_line_end (take m (drop from text)))
+trimmed_boundary text from u b =
+    let m : ℕ = line_len (drop from text) in
+    let w : ℕ = suffix_len is_white_or_line_end (take m (drop from text)) in
+    let fits = line_len-fits (drop from text) in
+    let rest = length-drop from text in
+    elim (cases_lt 0 w) as (λ _. IsCharBoundary text (from + m - w)) [
+      | inl some ↦ (
+          let first = suffix_first is_white_or_line_end (drop from text) m fits some in
+          let ascii : (k : ℕ) → is_white_or_line_end k ≡ true → k < ascii_end = λ k h. grind (arith, nat_tests, h) in
+          let small = ascii _ (ap is_white_or_line_end (sym (get_or-drop from text (m - w) 0)) ∙ first.1) in
+          let there : from + (m - w) ≡ from + m - w = omega (arith, first.0) in
+          subst (IsCharBoundary text) there (IsCharBoundary-before_ascii text (from + (m - w)) (omega (arith, some, first.0, fits, rest, b.0)) small))
+      | inr none ↦ elim (cases_lt from (length text)) as (λ _. IsCharBoundary text (from + m - w)) [
+        | inl inside ↦ (let e : from + m ≡ from + m - w = omega arith in subst (IsCharBoundary text) e (line_end_boundary text from u b inside))
+        | inr past ↦ (let e : from ≡ from + m - w = omega (arith, none, fits, rest, past) in subst (IsCharBoundary text) e b)
+      ]
     ]
 
-suffix_last : (p : ℕ → Bool) (xs : List ℕ) (n : ℕ) → n ≤ length xs → 0 < suffix_len p (take n xs) → (0 < n) × (p (get_or xs (n - 1) 0) ≡ true)
-suffix_last p xs zero within some = absurd (omega (arith, suffix_len-le-length p (take 0 xs)))
-suffix_last p xs (suc n) within some =
-    elim (cases_Bool (p (get_or xs (suc n - 1) 0))) [
-      | inl passes ↦ (omega arith, passes)
-      | inr fails ↦
-          let none : suffix_len p (take (suc n) xs) ≡ 0 = suffix_len-take_no p xs (suc n) 0 (omega arith) within fails in
-          absurd (omega arith)
-    ]
-
--- the same at the end of a content
-content_first : (p : ℕ → Bool) (text : List ℕ) (start end : ℕ) → start ≤ end → end ≤ length text → 0 < suffix_len p (slice_range text start end)
-    → (suffix_len p (slice_range text start end) ≤ end - start) × (p (slice_index text (end - suffix_len p (slice_range text start end))) ≡ true)
-content_first p text start end order within some =
-    let len = length-drop start text in
-    let f = suffix_first p (drop start text) (end - start) (omega arith) some in
-    let place : start + (end - start - suffix_len p (slice_range text start end)) ≡ end - suffix_len p (slice_range text start end) = omega (arith, f.0) in
-    (omega (arith, f.0), ap p (sym (get_or-drop start text (end - start - suffix_len p (slice_range text start end)) 0 ∙ ap (slice_index text) place)) ∙ f.1)
-
-content_last : (p : ℕ → Bool) (text : List ℕ) (start end : ℕ) → start ≤ end → end ≤ length text → 0 < suffix_len p (slice_range text start end)
-    → (start ≤ end - 1) × (0 < end) × (p (slice_index text (end - 1)) ≡ true)
-content_last p text start end order within some =
-    let len = length-drop start text in
-    let f = suffix_last p (drop start text) (end - start) (omega arith) some in
-    let place : start + (end - start - 1) ≡ end - 1 = omega (arith, f.0) in
-    (omega (arith, f.0), omega (arith, f.0), ap p (sym (get_or-drop start text (end - start - 1) 0 ∙ ap (slice_index text) place)) ∙ f.1)
-
-line_end_small : (b : ℕ) → is_line_end b ≡ true → b < ascii_end
-line_end_small b h = grind (arith, nat_tests, h)
-
-cell_end_small : (s : Inline) (b : ℕ) → ends_cell s b ≡ true → b < ascii_end
-cell_end_small s b h = (let is_pipe = eqb-true b pipe (and_parts (has s.options tables) (b == pipe) (and_parts s.row _ h).1).1 in omega arith)
+-- a byte at which a content ends is in ASCII
+end_byte : (s : Inline) (b : ℕ) → (is_line_end b ≡ true) ⊎ (ends_cell s b ≡ true) → (0 < b) × (b < ascii_end)
+end_byte s b (inl line) = (grind (arith, nat_tests, line), grind (arith, nat_tests, line))
+end_byte s b (inr cell) =
+    let is_pipe = eqb-true b pipe (and_parts (has s.options tables) (b == pipe) (and_parts s.row _ cell).1).1 in
+    (omega arith, omega arith)
 
 white_small : (b : ℕ) → is_white b ≡ true → b < ascii_end
 white_small b h = grind (arith, nat_tests, h)
@@ -303,44 +212,41 @@ IsPlaceFrom text start at = (start ≤ at) × IsCharBoundary text at
 -- a content ends between two characters
 pub content_boundary : (s : Inline) (end : ℕ) → end ≤ length s.text → content_ends_at s end ≡ true → IsCharBoundary s.text end
 content_boundary s end within ended =
-    elim (cases_lt end (length s.text)) [
-      | inl more ↦ elim (ended_by s end ended) [
-        | inl past ↦ absurd (omega arith)
-        | inr byte ↦ IsCharBoundary-before_ascii s.text end more
-            (elim byte [ inl line ↦ line_end_small (slice_index s.text end) line | inr cell ↦ cell_end_small s (slice_index s.text end) cell ])
-      ]
-      | inr past ↦ let e : end ≡ length s.text = omega arith in subst (IsCharBoundary s.text) (sym e) (IsCharBoundary-end s.text)
+    elim (ended_by s end ended) [
+      | inl past ↦ let e : end ≡ length s.text = omega arith in subst (IsCharBoundary s.text) (sym e) (IsCharBoundary-end s.text)
+      | inr byte ↦ let small = end_byte s (slice_index s.text end) byte in IsCharBoundary-before_ascii s.text end (at_byte s.text end small.0) small.1
     ]
 
--- the last byte of a content that ends with a backslash
-backslash_last : (s : Inline) (end : ℕ)
-    → s.start ≤ end → end ≤ length s.text → breaks_by_backslash s end ≡ true → (s.start ≤ end - 1) × (0 < end) × (slice_index s.text (end - 1) ≡ backslash)
-unfolding breaks_by_backslash backslashes_at_end
-backslash_last s end order within breaks =
-    let odd =
-    eqb-true (backslashes_at_end s end % 2) 1 (and_parts (backslashes_at_end s end % 2 == 1) (nat_lt (end + line_end_len s end) (length s.text)) breaks).0 in
-    let last = content_last (λ b. b == backslash) s.text s.start end order within (omega arith) in
-    (last.0, last.1, eqb-true (slice_index s.text (end - 1)) backslash last.2)
+-- a content whose last backslash breaks the line ends between two characters without it
+backslash_place : (s : Inline) (end : ℕ)
+    → s.start ≤ end → end ≤ length s.text → breaks_by_backslash s end ≡ true → (0 < end) × IsPlaceFrom s.text s.start (end - 1)
+unfolding backslashes_at_end
+backslash_place s end order within breaks =
+    let some = break_some s end breaks in
+    let short = end_bounded (λ b. b == backslash) s.text s.start s.start end (omega arith) order within (inl refl) in
+    let last = content_passes (λ b. b == backslash) s.text s.start end (end - 1) order (omega arith) (omega arith) (omega arith) in
+    let is = eqb-true (slice_index s.text (end - 1)) backslash last in
+    (omega arith, (omega arith, IsCharBoundary-before_ascii s.text (end - 1) (omega arith) (omega arith)))
 
-blanks_by : (s : Inline) (end n : ℕ)
-    → n ≡ blanks_at_end s end → s.start ≤ end → end ≤ length s.text → IsCharBoundary s.text end → IsPlaceFrom s.text s.start (end - n)
+-- a content ends between two characters also without the white space at its end
+blanks_place : (s : Inline) (end : ℕ)
+    → s.start ≤ end → end ≤ length s.text → IsCharBoundary s.text end → IsPlaceFrom s.text s.start (end - blanks_at_end s end)
 unfolding blanks_at_end
-blanks_by s end zero is order within boundary =
-    let none : end - 0 ≡ end = omega arith in
-    subst (IsPlaceFrom s.text s.start) (sym none) (order, boundary)
-blanks_by s end (suc n) is order within boundary =
-    let f = content_first is_white s.text s.start end order within (omega arith) in
-    subst (λ k. IsPlaceFrom s.text s.start (end - k)) (sym is)
-    (omega (arith, f.0), IsCharBoundary-before_ascii s.text (end - blanks_at_end s end) (omega (arith, f.0)) (white_small _ f.1))
+blanks_place s end order within boundary =
+    let short = end_bounded is_white s.text s.start s.start end (omega arith) order within (inl refl) in
+    elim (cases_lt 0 (blanks_at_end s end)) [
+      | inl some ↦
+          let first = content_passes is_white s.text s.start end (end - blanks_at_end s end) order (omega arith) (omega arith) (omega arith) in
+          (omega arith, IsCharBoundary-before_ascii s.text (end - blanks_at_end s end) (omega arith) (white_small _ first))
+      | inr none ↦ let whole : end ≡ end - blanks_at_end s end = omega arith in subst (IsPlaceFrom s.text s.start) whole (order, boundary)
+    ]
 
 -- the end of the last text of a content
 text_end_place : (s : Inline) (end : ℕ) → s.start ≤ end → end ≤ length s.text → IsCharBoundary s.text end → IsPlaceFrom s.text s.start (text_end s end)
 unfolding text_end
 text_end_place s end order within boundary =
     cond_both (breaks_by_backslash s end) (end - 1) (end - blanks_at_end s end) (IsPlaceFrom s.text s.start)
-    (λ breaks. let last = backslash_last s end order within breaks in
-    (last.0, IsCharBoundary-before_ascii s.text (end - 1) (omega (arith, last.1)) (omega (arith, last.2))))
-    (λ other. blanks_by s end (blanks_at_end s end) refl order within boundary)
+    (λ breaks. (backslash_place s end order within breaks).1) (λ other. blanks_place s end order within boundary)
 
 -- A break after a text that ends at an offset, up to the end of its line; if a backslash makes it, that is one byte.
 pub record StandsAfter (text : List ℕ) (at next : ℕ) (x : Item) : Type 0 where
@@ -351,33 +257,29 @@ pub record StandsAfter (text : List ℕ) (at next : ℕ) (x : Item) : Type 0 whe
   pub ends : IsCharBoundary text x.«end»
   pub by_backslash : is_backslash_break x.body ≡ true → (x.start + 1 ≤ next) × IsCharBoundary text (x.start + 1)
 
-break_by : (s : Inline) (end next : ℕ) (breaks : Bool)
-    → breaks_by_backslash s end ≡ breaks → s.start ≤ end → end ≤ length s.text → end ≤ next → IsCharBoundary s.text end → IsCharBoundary s.text next
-    → IsCharBoundary s.text (if breaks then end - 1 else end - blanks_at_end s end)
-    → StandsAfter s.text (if breaks then end - 1 else end - blanks_at_end s end) next (break_of end next breaks (blanks_at_end s end))
-break_by s end next true is order within later boundary ends starts =
-    let last = backslash_last s end order within is in
-    let following : end - 1 + 1 ≡ end = omega (arith, last.1) in
-    record {
-      from = omega arith;
-      order = omega arith;
-      to = refl;
-      starts = starts;
-      ends = ends;
-      by_backslash = λ b. (omega arith, rw following boundary);
-    }
-break_by s end next false is order within later boundary ends starts =
-    cond_both (nat_le 2 (blanks_at_end s end)) _ _ (StandsAfter s.text (end - blanks_at_end s end) next)
-    (λ hard. record { from = omega arith; order = omega arith; to = refl; starts = starts; ends = ends; by_backslash = λ b. absurd (false≢true b) })
-    (λ soft. record { from = omega arith; order = later; to = refl; starts = boundary; ends = ends; by_backslash = λ b. absurd (false≢true b) })
-
 break_stands : (s : Inline) (end next : ℕ) → next ≡ end + line_end_len s end → s.start ≤ end → end ≤ length s.text → IsCharBoundary s.text end
     → IsCharBoundary s.text next → IfSome (line_break s end) (StandsAfter s.text (text_end s end) next)
 unfolding line_break text_end
 break_stands s end next is order within boundary ends =
     cond_both (nat_le (length s.text) end) None _ (λ (o : Option Item). IfSome o (StandsAfter s.text (text_end s end) next)) (λ b. tt)
-    (λ b. subst (λ n. StandsAfter s.text (text_end s end) next (break_of end n (breaks_by_backslash s end) (blanks_at_end s end))) is
-    (break_by s end next (breaks_by_backslash s end) refl order within (omega arith) boundary ends (text_end_place s end order within boundary).1))
+    (λ b. elim (cases_Bool (breaks_by_backslash s end)) [
+      | inl breaks ↦
+          let last = backslash_place s end order within breaks in
+          let following : end - 1 + 1 ≡ end = omega (arith, last.0) in
+          rw (← is, breaks) (record {
+            from = omega arith;
+            order = omega arith;
+            to = refl;
+            starts = last.1.1;
+            ends = ends;
+            by_backslash = λ h. (omega arith, rw following boundary);
+          })
+      | inr other ↦
+          let starts = (blanks_place s end order within boundary).1 in
+          rw (← is, other) (cond_both (nat_le 2 (blanks_at_end s end)) _ _ (StandsAfter s.text (end - blanks_at_end s end) next)
+          (λ hard. record { from = omega arith; order = omega arith; to = refl; starts = starts; ends = ends; by_backslash = λ h. absurd (false≢true h) })
+          (λ soft. record { from = omega arith; order = omega arith; to = refl; starts = boundary; ends = ends; by_backslash = λ h. absurd (false≢true h) }))
+    ])
 
 -- a line ends between two characters
 pub line_end_place : {s : Inline} {answer : ℕ × Option Item}
@@ -402,12 +304,11 @@ pub record LineInOrder (s : Inline) (stop : ℕ) (tokens : List Item) (answer : 
 content_in_order : (texts : List CowStr) (s : Inline) (pieces : List Piece) (to : Spot) (stop : ℕ)
     → IsUtf8 s.text → IsCharBoundary s.text s.start → ArePieces texts s s.start s.braces pieces to
     → IsTextEnd s to.at stop → IsPlaceFrom s.text s.start stop → AreInOrder s.text s.start stop (add_pieces stop s.start pieces [])
-unfolding pending_none
 content_in_order texts s pieces to stop utf8 boundary are last_text place =
     let empty : add_text s.start (min s.start stop) false [] ≡ [] = add_text-none s.start (min s.start stop) false [] (omega arith) in
     subst (AreInOrder s.text s.start stop) (ap (add_pieces stop s.start pieces) empty)
-    (pieces_in_order s utf8 texts (record { to = to; stop = stop; stops = place.1; last_text = last_text }) s.start s.start s.braces pieces are
-    (pending_none s utf8 stop s.start s.start s.start [] (omega arith) (omega arith) place.0 boundary (omega arith)))
+    (pieces_in_order s utf8 texts to stop place.1 last_text s.start s.braces pieces
+    (record { begin = s.start; escaped = false }) [] are (held_start s.text s.start) (record { starts = boundary; order = omega arith }))
 
 -- The tokens of a cell are in order from its start up to its end, which is between two characters.
 pub cell_in_order : {texts : List CowStr} {s : Inline} {tokens : List Item} {end : ℕ} {after : MathBraces}
@@ -420,7 +321,7 @@ cell_in_order {texts} {s} {tokens} {end} {after} utf8 boundary within cell =
     subst (AreInOrder s.text s.start end) (sym cell.tokens_are)
     (order_to s.text s.start stop end (add_pieces stop s.start cell.pieces [])
     (content_in_order texts s cell.pieces (spot end after) stop utf8 boundary cell.division.divided (cell_text_end s end c.within)
-    (blanks_by s end (blanks_at_end s end) refl c.order c.within finish)) (omega arith))
+    (blanks_place s end c.order c.within finish)) (omega arith))
 
 pub cell_end_place : {texts : List CowStr} {s : Inline} {tokens : List Item} {end : ℕ} {after : MathBraces}
     → s.start ≤ length s.text → IsCell texts s tokens end after → IsCharBoundary s.text end

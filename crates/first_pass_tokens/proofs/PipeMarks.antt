@@ -1,9 +1,7 @@
 -- The table of marks marks the pipe only with tables.
-use Rattle.std.proofs.Common.{◌≡◌, ℕ, ◌==◌, ◌&&◌, ◌||◌, ◌<◌, Bool, true, false, nat_le, List, length, slice_index, refl, sym, ap, ◌∙◌, arith}
-use Rattle.std.proofs.Math.Bool.{and-false}
-use Rattle.std.proofs.lemmas.Bool.{eqb-true}
-use Rattle.std.proofs.lemmas.Bool.Decides.{nat_tests}
-use Rattle.std.specs.List.{slice_index_or}
+use Rattle.std.proofs.Common.{◌≡◌, ℕ, ◌==◌, ◌&&◌, ◌||◌, ◌<◌, Bool, true, false, List, length, slice_index, refl, sym, ap, ◌∙◌, eqb-true, slice_index_or}
+use Rattle.std.proofs.Math.Bool.{and-false, or_comm}
+use Rattle.std.proofs.lemmas.Bool.{lt-leb}
 use Rattle.first_pass_items.specs.Bytes.{pipe}
 use Rattle.first_pass_items.specs.declared.option_set.Options.{Options}
 use Rattle.first_pass_items.specs.OptionWords.{has, tables, strikethrough, smart_punctuation, math, superscript, subscript}
@@ -35,21 +33,12 @@ in_row true t false h = and-false t
 in_row false t true h = refl
 in_row false t false h = refl
 
-either_way : (s t : Bool) → (s || t) ≡ (t || s)
-either_way true true = refl
-either_way true false = refl
-either_way false true = refl
-either_way false false = refl
-
-before_end : (at n : ℕ) → at < n → nat_le n at ≡ false
-before_end at n h = grind (arith, nat_tests, h)
-
 -- a content ends at a marked byte if that is a pipe in a row, or belongs to a line ending
 pub marked_ends : (s : Inline) (lut : List Bool) (at : ℕ) → MarksSpecial lut s.options → slice_index s.text at < 256 → is_marked lut s.text at ≡ true
     → at < length s.text → content_ends_at s at ≡ ((slice_index s.text at == pipe && s.row) || is_line_end (slice_index s.text at))
 unfolding content_ends_at
 marked_ends s lut at m small marked within =
     let b : ℕ = slice_index s.text at in
-    ap (λ t. t || (is_line_end b || ends_cell s b)) (before_end at (length s.text) within)
+    ap (λ t. t || (is_line_end b || ends_cell s b)) (lt-leb (length s.text) at within)
     ∙ ap (λ t. is_line_end b || t) (in_row s.row (has s.options tables) (b == pipe) (pipe_marked s.options lut b m small marked))
-    ∙ either_way (is_line_end b) (b == pipe && s.row)
+    ∙ or_comm (is_line_end b) (b == pipe && s.row)

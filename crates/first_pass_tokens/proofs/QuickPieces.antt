@@ -1,14 +1,16 @@
 -- The pieces that `quick_piece` finds at once.
-use Rattle.std.proofs.Common.{◌≡◌, inl, inr, ℕ, ◌+◌, ◌<◌, ◌==◌, Bool, false, true, List, length, refl, sym, ap, ◌∙◌, arith, slice_index}
-use Rattle.std.proofs.lemmas.Bool.{cases_lt, eq-eqb}
+use Rattle.std.proofs.Common.{◌≡◌, inl, inr, ℕ, ◌+◌, ◌<◌, ◌==◌, Bool, false, true, List, length, refl, sym, ap, ◌∙◌, arith, slice_index, eq-eqb}
+use Rattle.std.proofs.lemmas.Bool.{cases_lt}
 use Rattle.std.proofs.lemmas.Bool.Decides.{nat_tests}
 use Rattle.std.specs.Char.{is_ascii_punctuation}
-use Rattle.first_pass_items.specs.Bytes.{ampersand, dollar_sign, left_brace, right_brace, less_than, left_bracket, backslash, backquote, pipe, right_bracket, exclamation_mark, full_stop, hyphen}
+use Rattle.first_pass_items.specs.Bytes.{ampersand, dollar_sign, left_brace, right_brace, less_than, left_bracket, backslash, backquote, pipe}
+use Rattle.first_pass_items.specs.Bytes.{right_bracket, exclamation_mark, full_stop, hyphen}
 use Rattle.first_pass_items.specs.declared.item.ItemBody.TheVariants.{MaybeHtml, MaybeLinkOpen, MaybeLinkClose}
 use Rattle.first_pass_tokens.specs.declared.pieces.Piece.TheVariants.{Token, Left}
 use Rattle.first_pass_tokens.specs.declared.pieces.Piece.{Piece}
 use Rattle.first_pass_tokens.specs.declared.pieces.TokenStart.TheVariants.{Ready}
-use Rattle.first_pass_tokens.specs.Pieces.{Inline, is_delimiter, delimiter_piece, special_found, special_piece, backslash_piece, backslash_piece_in, bracket_piece, dot_piece}
+use Rattle.first_pass_tokens.specs.Pieces.{Inline, is_delimiter, delimiter_piece, special_found, special_piece, backslash_piece, backslash_piece_in}
+use Rattle.first_pass_tokens.specs.Pieces.{bracket_piece, dot_piece}
 use Rattle.first_pass_tokens.specs.Pieces.{dash_found, dash_piece, run_at, IsReadyAt}
 use Rattle.first_pass_walk.proofs.WalkFacts.{isnt}
 use Rattle.first_pass_tokens.proofs.PieceFacts.{run_some, run_same}

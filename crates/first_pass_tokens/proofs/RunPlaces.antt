@@ -1,20 +1,19 @@
--- A delimiter run begins and ends between two characters of the whole text.
-use Rattle.std.proofs.Common.{ℕ, ◌≡◌, ◌+◌, ◌-◌, ◌≤◌, ◌<◌, ◌||◌, true, List, length, take, slice_index, Option, Some, None, IsCharBoundary, IsUtf8, refl, sym}
-use Rattle.std.proofs.Common.{ap, subst, ◌∙◌, inl, inr, arith}
-use Rattle.std.proofs.lemmas.List.{length-take, get_or-take, take_all}
-use Rattle.std.proofs.lemmas.Bool.{cases_lt, cases_Bool}
+-- A delimiter run ends between two characters of the whole text.
+use Rattle.std.proofs.Common.{ℕ, ◌≡◌, ◌+◌, ◌-◌, ◌≤◌, ◌<◌, ◌||◌, true, List, length, take, slice_index, Option, Some, None, IsCharBoundary, IsUtf8, sym, ap}
+use Rattle.std.proofs.Common.{subst, ◌∙◌, inl, inr, arith, length-take, get_or-take, take_all}
+use Rattle.std.proofs.lemmas.Bool.{cases_lt, cond_both}
 use Rattle.std.proofs.lemmas.Bool.Decides.{nat_tests}
-use Rattle.std.proofs.lemmas.Str.{IsCharBoundary-after_ascii, IsCharBoundary-before_ascii}
+use Rattle.std.proofs.lemmas.Str.{IsCharBoundary-after_ascii}
 use Rattle.first_pass_tokens.specs.Pieces.{text_upto, is_delimiter, is_quote, run_at, run_size}
 use Rattle.first_pass_tokens.proofs.PieceFacts.{IsVisible, run_same}
 
--- a byte of a text up to an offset is a byte of the text
-pub byte_upto : (text : List ℕ) (end : Option ℕ) (k : ℕ)
-    → k < length (text_upto text end) → (slice_index (text_upto text end) k ≡ slice_index text k) × (k < length text)
-byte_upto text None k within = (refl, within)
-byte_upto text (Some e) k within =
-    let size = length-take e text in
-    (get_or-take e text k 0 (omega arith), omega arith)
+-- a byte of the first bytes of a text is a byte of the text
+pub front_byte : (whole text : List ℕ) (k : ℕ) → text ≡ take (length text) whole → k < length text
+    → (slice_index text k ≡ slice_index whole k) × (k < length whole)
+front_byte whole text k front within = (
+  ap (λ (xs : List ℕ). slice_index xs k) front ∙ get_or-take (length text) whole k 0 within,
+  omega (arith, ap length front, length-take (length text) whole),
+)
 
 -- a text up to an offset is the first bytes of the text, as many as it has
 pub front_upto : (whole text : List ℕ) (end : Option ℕ) → text ≡ text_upto whole end → text ≡ take (length text) whole
@@ -30,40 +29,21 @@ front_upto whole text (Some e) is =
 either_visible : (b : ℕ) → is_delimiter b || is_quote b ≡ true → IsVisible b
 either_visible b h = (grind (arith, nat_tests, h), grind (arith, nat_tests, h))
 
--- the start and the end of a run
-pub record IsRunPlace (whole text : List ℕ) (at n : ℕ) : Type 0 where
-  pub starts : IsCharBoundary whole at
-  pub ends : IsCharBoundary whole (at + n)
-  pub within : at + n ≤ length text
-  pub inside : at + n ≤ length whole
-
 run_alike : (text : List ℕ) (at k : ℕ) → at ≤ k → k < at + run_size text at → slice_index text k ≡ slice_index text at
 unfolding run_size
 run_alike text at k low high =
-    elim (cases_Bool (is_quote (slice_index text at))) [
-      | inl quote ↦
-          let one : run_size text at ≡ 1 = rw quote refl in
-          let here : k ≡ at = omega (arith, one, high) in
-          ap (slice_index text) here
-      | inr other ↦
-          let all : run_size text at ≡ run_at text at = rw other refl in
-          run_same text at k low (omega (arith, all, high))
-    ]
+    cond_both (is_quote (slice_index text at)) 1 (run_at text at) (λ (n : ℕ). k < at + n → slice_index text k ≡ slice_index text at)
+    (λ quote. λ one. let here : k ≡ at = omega arith in ap (slice_index text) here) (λ other. λ run. run_same text at k low run) high
 
-pub run_place : (whole text : List ℕ) (end : Option ℕ) (at n : ℕ) → IsUtf8 whole → text ≡ text_upto whole end → at < length text
+-- a run ends between two characters of the whole text
+pub run_place : (whole text : List ℕ) (at n : ℕ) → IsUtf8 whole → text ≡ take (length text) whole
     → is_delimiter (slice_index text at) || is_quote (slice_index text at) ≡ true → n ≡ run_size text at → 0 < n → at + n ≤ length text
-    → IsRunPlace whole text at n
-run_place whole text end at n utf8 front within here run some fits =
-    let seen : (k : ℕ) → k < length text → (slice_index text k ≡ slice_index whole k) × (k < length whole) =
-    subst (λ (t : List ℕ). (k : ℕ) → k < length t → (slice_index t k ≡ slice_index whole k) × (k < length whole)) (sym front) (byte_upto whole end) in
-    let first = seen at within in
+    → IsCharBoundary whole (at + n) × (at + n ≤ length whole)
+run_place whole text at n utf8 front here run some fits =
     let byte = either_visible (slice_index text at) here in
-    let last = seen (at + n - 1) (omega arith) in
+    let last = front_byte whole text (at + n - 1) front (omega arith) in
     let same = run_alike text at (at + n - 1) (omega arith) (omega (arith, run)) in
-    let past : at + n - 1 + 1 ≡ at + n = omega arith in
-    record {
-      starts = IsCharBoundary-before_ascii whole at first.1 (omega (arith, first.0, byte.1));
-      ends = subst (IsCharBoundary whole) past (IsCharBoundary-after_ascii whole (at + n - 1) utf8 last.1 (omega (arith, last.0, same, byte.1)));
-      within = omega arith;
-      inside = omega (arith, last.1);
-    }
+    let past : at + n - 1 + 1 ≡ at + n = omega arith in (
+      subst (IsCharBoundary whole) past (IsCharBoundary-after_ascii whole (at + n - 1) utf8 last.1 (omega (arith, last.0, same, byte.1))),
+      omega (arith, last.1),
+    )

@@ -1,14 +1,11 @@
 -- The part of a content that is read, and the tokens appended for it.
-use Rattle.std.proofs.Common.{ℕ, zero, suc, ◌≡◌, ◌⊎◌, ◌+◌, ◌-◌, ◌≤◌, ◌<◌, ◌==◌, ◌%◌, ◌||◌, min, Bool, true, false, List, [], ◌∷◌, ◌++◌, length, slice_index, nat_lt, nat_le}
-use Rattle.std.proofs.Common.{Option, Result, Ok, Err, OnOk, IfOk, refl, sym, ap, subst, ◌∙◌, inl, inr, arith}
-use Rattle.std.specs.List.{suffix_len, slice_range}
+use Rattle.std.proofs.Common.{ℕ, zero, suc, ◌≡◌, ◌⊎◌, ◌+◌, ◌-◌, ◌≤◌, ◌<◌, ◌==◌, ◌||◌, min, Bool, true, false, List, [], ◌∷◌, ◌++◌, length, slice_index}
+use Rattle.std.proofs.Common.{nat_le, Option, Result, Ok, Err, OnOk, IfOk, refl, sym, ap, subst, ◌∙◌, inl, inr, arith, le-leb}
 use Rattle.std.specs.declared.alloc.AllocError.{AllocError}
-use Rattle.std.proofs.lemmas.Bool.{cases_lt, cases_Bool, lt-leb, le-leb, or_from, or_parts, or_left, and_right, cond_both, cond-true, cond-false, and_parts}
-use Rattle.std.proofs.lemmas.Bool.{eqb-true}
+use Rattle.std.proofs.lemmas.Bool.{cases_lt, lt-leb, or_from, or_parts, or_left, and_right, cond_both, cond-true, cond-false}
 use Rattle.first_pass_items.specs.declared.cow_str.CowStr.{CowStr}
 use Rattle.first_pass_tokens.specs.Braces.{MathBraces, braces_after}
 use Rattle.first_pass_items.specs.declared.item.Item.{Item}
-use Rattle.first_pass_items.specs.declared.option_set.Options.{Options}
 use Rattle.first_pass_tree.specs.Forest.{Forest, appended, with_text}
 use Rattle.first_pass_items.specs.Bytes.{line_feed, carriage_return, backslash, pipe}
 use Rattle.first_pass_lines.specs.Lines.{is_white, is_line_end}
@@ -18,17 +15,18 @@ use Rattle.first_pass_tokens.specs.declared.pieces.Piece.{Piece}
 use Rattle.first_pass_tokens.specs.declared.pieces.Piece.TheVariants.{Left, Begins, Token, Run}
 use Rattle.first_pass_tokens.specs.Chains.{token, run_tokens, add_token, add_tokens, add_text}
 use Rattle.first_pass_tokens.specs.declared.pieces.TokenStart.{TokenStart}
-use Rattle.first_pass_tokens.specs.declared.pieces.TokenStart.TheVariants.{Ready, Reference, Dashes, Dollar, OpenBrace, CloseBrace}
+use Rattle.first_pass_tokens.specs.declared.pieces.TokenStart.TheVariants.{Ready}
 use Rattle.first_pass_tokens.specs.NamedTexts.{MakesPiece, AreMore}
-use Rattle.first_pass_tokens.specs.Pieces.{Inline, found_at, special_found, special_piece, bracket_piece, run_at, size, EndsSolid, FoundSolid}
-use Rattle.first_pass_tokens.specs.LineTokens.{Spot, spot, content_ends_at, ends_cell, ArePieces, add_piece, add_pieces, text_end, breaks_by_backslash, backslashes_at_end}
+use Rattle.first_pass_tokens.specs.Pieces.{Inline, found_at, special_found, special_piece, bracket_piece, run_at, size}
+use Rattle.first_pass_tokens.specs.LineTokens.{Spot, spot, content_ends_at, ends_cell, ArePieces, add_piece, add_pieces, text_end, breaks_by_backslash}
+use Rattle.first_pass_tokens.specs.LineTokens.{backslashes_at_end}
 use Rattle.first_pass_tokens.specs.LineTokens.{blanks_at_end, line_end_len, line_break, IsCell}
 use Rattle.first_pass_tokens.specs.TreeTokens.{with_tokens, AppendsLine, AppendsCell}
 use Rattle.first_pass_tokens.specs.HeldText.{held_after, tree_after, IsHeldTo}
-use Rattle.first_pass_tokens.proofs.PieceFacts.{IsPieceAt, run_same, IsMarkup, IsDelimiterRun, delimiter_other, markup_plain, visible_solid, off}
+use Rattle.first_pass_tokens.proofs.PieceFacts.{IsPieceAt, IsMark, mark_facts, run_same, piece_fits, markup_plain, off}
 use Rattle.first_pass_tokens.proofs.ChainLemmas.{add_text-none, add_text-joined, with_tokens-text, with_tokens-add, with_tokens-adds, with_token-plain}
 use Rattle.first_pass_tokens.proofs.NamedTexts.{pieces_more}
-use Rattle.first_pass_tokens.proofs.LineLemmas.{are_more, add_pieces_more, end_bounded, piece_of}
+use Rattle.first_pass_tokens.proofs.LineLemmas.{are_more, add_pieces_more, end_bounded, break_some, piece_of}
 
 -- the pending text begins with the content, or after a byte that is no white space, and no backslash if the text is
 -- empty
@@ -36,15 +34,19 @@ abbrev pub BeginsText : List ℕ → ℕ → ℕ → ℕ → Type 0
 BeginsText text start begin at =
     (begin ≡ start) ⊎ ((0 < begin) × (is_white (slice_index text (begin - 1)) ≡ false) × ((begin < at) ⊎ ((slice_index text (begin - 1) == backslash) ≡ false)))
 
+-- the pending text of a content that is read up to a place
+pub record IsHeld (text : List ℕ) (start : ℕ) (p : HeldText) (at : ℕ) : Type 0 where
+  pub from : start ≤ p.begin
+  pub upto : p.begin ≤ at
+  pub mark : (p.begin < at) ⊎ (p.escaped ≡ false)
+  pub begins : BeginsText text start p.begin at
+
 -- The content is read up to a place: the chain so far, and a pending text.
 pub record SoFar (texts : List CowStr) (z : Inline) (chain : List Item) (pending : HeldText) (at : ℕ) (b : MathBraces) : Type 0 where
   pub pieces : List Piece
   pub divided : ArePieces texts z z.start z.braces pieces (spot at b)
-  pub from : z.start ≤ pending.begin
-  pub upto : pending.begin ≤ at
   pub within : at ≤ length z.text
-  pub mark : (pending.begin < at) ⊎ (pending.escaped ≡ false)
-  pub begins : BeginsText z.text z.start pending.begin at
+  pub held : IsHeld z.text z.start pending at
   pub shown : (stop : ℕ) → pending.begin ≤ stop → add_pieces stop z.start pieces [] ≡ add_text pending.begin (min at stop) pending.escaped chain
 
 -- the chain after a piece
@@ -54,187 +56,149 @@ chain_after at (Begins dropped escaped) p chain = add_text p.begin at p.escaped 
 chain_after at (Token dropped n body) p chain = add_token (add_text p.begin at p.escaped chain) (token (at + dropped) n body)
 chain_after at (Run n opens closes) p chain = add_tokens (add_text p.begin at p.escaped chain) (run_tokens at n opens closes)
 
-special_lf : (options : Options) → is_special options line_feed ≡ true
-unfolding is_special
-special_lf options = refl
-
-special_cr : (options : Options) → is_special options carriage_return ≡ true
-unfolding is_special
-special_cr options = refl
-
--- with tables, a pipe is special
-plain_cell : (options : Options) (b : ℕ) → is_special options b ≡ false → begins_cell options b ≡ false
-unfolding is_special
-plain_cell options b plain = (or_parts (begins_cell options b) _ (or_parts (begins_token b) _ plain).1).0
-
--- a byte that is not special is a piece by itself, and no content ends there
-plain_piece : (z : Inline) (at : ℕ)
-    → at < length z.text → is_special z.options (slice_index z.text at) ≡ false → (content_ends_at z at ≡ false) × (found_at z at ≡ Ready (Left 1))
-unfolding content_ends_at found_at
-plain_piece z at within plain =
-    let b = slice_index z.text at in
-    let line = or_from _ _ (off b line_feed z.options (special_lf z.options) plain) (off b carriage_return z.options (special_cr z.options) plain) in
-    let cell = and_right z.row _ (plain_cell z.options b plain) in
-    (or_from _ _ (lt-leb (length z.text) at within) (or_from _ _ line cell), cond-false _ _ _ plain)
-
--- so is a pipe that ends no cell
+-- a pipe that ends no cell is a piece by itself
 pipe_piece : (z : Inline) (at : ℕ) → slice_index z.text at ≡ pipe → found_at z at ≡ Ready (Left 1)
 unfolding found_at special_found special_piece bracket_piece
 pipe_piece z at is =
-    let none : special_found z at ≡ Ready (Left 1) = rw is refl in
-    elim (cases_Bool (is_special z.options (slice_index z.text at))) [
-      | inl marked ↦ cond-true _ _ _ marked ∙ none
-      | inr plain ↦ cond-false _ _ _ plain
-    ]
+    cond_both (is_special z.options (slice_index z.text at)) (special_found z at) (Ready (Left 1)) (λ (f : TokenStart). f ≡ Ready (Left 1))
+    (λ marked. rw is refl) (λ plain. refl)
 
 -- plain text at a place: its byte is not special, or it is a pipe at which the content does not end
 abbrev pub IsPlain : Inline → ℕ → Type 0
 IsPlain z k = (is_special z.options (slice_index z.text k) ≡ false) ⊎ ((content_ends_at z k ≡ false) × (slice_index z.text k ≡ pipe))
 
+-- plain text is a piece by itself, and no content ends there
 single_piece : (z : Inline) (at : ℕ) → at < length z.text → IsPlain z at → (content_ends_at z at ≡ false) × (found_at z at ≡ Ready (Left 1))
-single_piece z at within (inl plain) = plain_piece z at within plain
+unfolding content_ends_at found_at is_special
+single_piece z at within (inl plain) =
+    let b = slice_index z.text at in
+    let line = or_from _ _ (off b line_feed z.options refl plain) (off b carriage_return z.options refl plain) in
+    let cell = and_right z.row _ (or_parts (begins_cell z.options b) _ (or_parts (begins_token b) _ plain).1).0 in
+    (or_from _ _ (lt-leb (length z.text) at within) (or_from _ _ line cell), cond-false _ _ _ plain)
 single_piece z at within (inr is) = (is.0, pipe_piece z at is.1)
-
--- a content ends alike at equal bytes
-ends_alike : (z : Inline) (at k : ℕ) → k < length z.text → slice_index z.text k ≡ slice_index z.text at
-    → content_ends_at z at ≡ false → content_ends_at z k ≡ false
-unfolding content_ends_at
-ends_alike z at k within same on =
-    or_from _ _ (lt-leb (length z.text) k within) (ap (λ (b : ℕ). is_line_end b || ends_cell z b) same ∙ (or_parts (nat_le (length z.text) at) _ on).1)
 
 -- the pipes of a run are plain text, if the content does not end at the first
 pub plain_run : (z : Inline) (at to : ℕ) → content_ends_at z at ≡ false → slice_index z.text at ≡ pipe → to ≡ at + run_at z.text at → to ≤ length z.text
     → (k : ℕ) → at ≤ k → k < to → IsPlain z k
+unfolding content_ends_at
 plain_run z at to on is to_is within k low high =
     let same = run_same z.text at k low (omega (arith, to_is)) in
-    inr (ends_alike z at k (omega arith) same on, same ∙ is)
+    let byte = ap (λ (b : ℕ). is_line_end b || ends_cell z b) same ∙ (or_parts (nat_le (length z.text) at) _ on).1 in
+    inr (or_from _ _ (lt-leb (length z.text) k (omega arith)) byte, same ∙ is)
 
 -- the piece found at a special byte
 pub found_special : (z : Inline) (at : ℕ) → is_special z.options (slice_index z.text at) ≡ true → special_found z at ≡ found_at z at
 unfolding found_at
 found_special z at special = sym (cond-true _ _ _ special)
 
-pub so_far_start : {texts : List CowStr} (z : Inline)
+-- at the start of a content an empty text is pending
+pub held_start : (text : List ℕ) (start : ℕ) → IsHeld text start (record { begin = start; escaped = false }) start
+held_start text start = record { from = omega arith; upto = omega arith; mark = inr refl; begins = inl refl }
+
+so_far_start : {texts : List CowStr} (z : Inline)
     → z.start ≤ length z.text → SoFar texts z [] (record { begin = z.start; escaped = false }) z.start z.braces
 so_far_start z within = record {
   pieces = [];
   divided = refl;
-  from = omega arith;
-  upto = omega arith;
   within = within;
-  mark = inr refl;
-  begins = inl refl;
+  held = held_start z.text z.start;
   shown = λ stop h. sym (add_text-none z.start (min z.start stop) false [] (omega arith));
 }
 
 -- a text grows by the bytes after it
-pub add_text_grows : (begin at n stop : ℕ) (escaped : Bool) (chain : List Item) → begin ≤ at → (begin < at) ⊎ (escaped ≡ false) → begin ≤ stop
+add_text_grows : (begin at n stop : ℕ) (escaped : Bool) (chain : List Item) → begin ≤ at → (begin < at) ⊎ (escaped ≡ false) → begin ≤ stop
     → add_text at (min (at + n) stop) false (add_text begin (min at stop) escaped chain) ≡ add_text begin (min (at + n) stop) escaped chain
 add_text_grows begin at n stop escaped chain upto mark ahead =
     elim (cases_lt at stop) [
       | inl more ↦
           let here : min at stop ≡ at = omega arith in
-          ap (λ (x : ℕ). add_text at (min (at + n) stop) false (add_text begin x escaped chain)) here
-          ∙ elim mark [
+          rw here (elim (cases_lt begin at) [
             | inl longer ↦ add_text-joined begin at (min (at + n) stop) escaped chain longer (omega arith)
-            | inr plain ↦ elim (cases_lt begin at) [
-              | inl longer ↦ add_text-joined begin at (min (at + n) stop) escaped chain longer (omega arith)
-              | inr empty ↦
+            | inr empty ↦ elim mark [
+              | inl longer ↦ absurd (omega arith)
+              | inr plain ↦
                   let same : at ≡ begin = omega arith in
-                  ap (add_text at (min (at + n) stop) false) (add_text-none begin at escaped chain empty)
-                  ∙ ap (λ (x : ℕ). add_text x (min (at + n) stop) false chain) same ∙ ap (λ (b : Bool). add_text begin (min (at + n) stop) b chain) (sym plain)
+                  rw (add_text-none begin at escaped chain empty, same, plain) refl
             ]
-          ]
+          ])
       | inr past ↦
           let none : min (at + n) stop ≤ at = omega arith in
           let same : min at stop ≡ min (at + n) stop = omega arith in
           add_text-none at (min (at + n) stop) false _ none ∙ ap (λ (x : ℕ). add_text begin x escaped chain) same
     ]
 
-begins_on : (text : List ℕ) (start begin at n : ℕ) → BeginsText text start begin at → BeginsText text start begin (at + n)
-begins_on text start begin at n (inl same) = inl same
-begins_on text start begin at n (inr (positive, solid, inl longer)) = inr (positive, solid, inl (omega arith))
-begins_on text start begin at n (inr (positive, solid, inr other)) = inr (positive, solid, inr other)
+pub begins_on : (text : List ℕ) (start begin at to : ℕ) → at ≤ to → BeginsText text start begin at → BeginsText text start begin to
+begins_on text start begin at to order (inl same) = inl same
+begins_on text start begin at to order (inr (positive, solid, inl longer)) = inr (positive, solid, inl (omega arith))
+begins_on text start begin at to order (inr (positive, solid, inr other)) = inr (positive, solid, inr other)
 
--- a text that is appended up to a place before `stop`
-shown_here : (begin at stop : ℕ) (escaped : Bool) (chain : List Item) → at ≤ stop → add_text begin (min at stop) escaped chain ≡ add_text begin at escaped chain
-shown_here begin at stop escaped chain order =
+-- after a token an empty text is pending
+held_none : (text : List ℕ) (start begin at : ℕ) → start < begin → begin ≤ at → IsMark (slice_index text (begin - 1))
+    → IsHeld text start (record { begin = begin; escaped = false }) at
+held_none text start begin at low high last =
+    let facts = mark_facts _ last in
+    record { from = omega arith; upto = high; mark = inr refl; begins = inr (omega arith, facts.solid, inr facts.no_backslash) }
+
+-- the pending text after one more piece
+pub held_piece : (text : List ℕ) (start at : ℕ) (q : Piece) (p : HeldText) → IsPieceAt text at q → IsHeld text start p at
+    → IsHeld text start (held_after at q p) (at + size q)
+held_piece text start at (Left n) p facts h = record {
+  from = h.from;
+  upto = omega (arith, h.upto);
+  mark = elim h.mark [ inl longer ↦ inl (omega arith) | inr plain ↦ inr plain ];
+  begins = begins_on text start p.begin at (at + n) (omega arith) h.begins;
+}
+held_piece text start at (Begins dropped escaped) p facts h =
+    let last = facts.backslashes (at + dropped - 1) (omega (arith, facts.some)) (omega (arith, facts.some)) in
+    record {
+      from = omega (arith, h.from, h.upto);
+      upto = omega arith;
+      mark = inl (omega arith);
+      begins = inr (omega (arith, facts.some), ap is_white last, inl (omega arith));
+    }
+held_piece text start at (Token dropped n body) p facts h =
+    held_none text start (at + dropped + n) (at + (dropped + n)) (omega (arith, h.from, h.upto, facts.some)) (omega arith)
+    (facts.marks (at + dropped + n - 1) (omega (arith, facts.some)) (omega (arith, facts.some)))
+held_piece text start at (Run n opens closes) p facts h =
+    held_none text start (at + n) (at + n) (omega (arith, h.from, h.upto, facts.some)) (omega arith)
+    (facts.marks (at + n - 1) (omega (arith, facts.some)) (omega (arith, facts.some)))
+
+held_later : (at : ℕ) (q : Piece) (p : HeldText) → p.begin ≤ at → p.begin ≤ (held_after at q p).begin
+held_later at (Left n) p upto = omega arith
+held_later at _ p upto = omega arith
+
+-- the texts and tokens after one more piece, if the texts stop at an offset
+pub shown_piece : (text : List ℕ) (start stop at : ℕ) (q : Piece) (p : HeldText) (chain : List Item)
+    → IsHeld text start p at → (held_after at q p).begin ≤ stop
+    → add_piece stop at q (add_text p.begin (min at stop) p.escaped chain)
+    ≡ add_text (held_after at q p).begin (min (at + size q) stop) (held_after at q p).escaped (chain_after at q p chain)
+shown_piece text start stop at (Left n) p chain h ahead = add_text_grows p.begin at n stop p.escaped chain h.upto h.mark ahead
+shown_piece text start stop at (Begins dropped escaped) p chain h ahead = (let here : min at stop ≡ at = omega arith in rw here refl)
+shown_piece text start stop at (Token dropped n body) p chain h ahead =
     let here : min at stop ≡ at = omega arith in
-    ap (λ (x : ℕ). add_text begin x escaped chain) here
+    rw here (sym (add_text-none (at + dropped + n) (min (at + (dropped + n)) stop) false _ (omega arith)))
+shown_piece text start stop at (Run n opens closes) p chain h ahead =
+    let here : min at stop ≡ at = omega arith in
+    rw here (sym (add_text-none (at + n) (min (at + n) stop) false _ (omega arith)))
 
-module _ {texts : List CowStr} (z : Inline) (chain : List Item) (pending : HeldText) (at : ℕ) (b : MathBraces) (s : SoFar texts z chain pending at b)
-    (on : content_ends_at z at ≡ false) where
-  divided_on : (p : Piece) → MakesPiece texts b (found_at z at) p
-      → ArePieces texts z z.start z.braces (s.pieces ++ p ∷ []) (spot (at + size p) (braces_after (found_at z at) b))
-  divided_on p is = are_more texts z z.start z.braces s.pieces (spot at b) p s.divided on is
-
-  shown_on : (p : Piece) (stop : ℕ) → pending.begin ≤ stop
-      → add_pieces stop z.start (s.pieces ++ p ∷ []) [] ≡ add_piece stop at p (add_text pending.begin (min at stop) pending.escaped chain)
-  shown_on p stop ahead = add_pieces_more texts z stop z.start z.braces s.pieces (spot at b) [] p s.divided ∙ ap (add_piece stop at p) (s.shown stop ahead)
-
-  -- the same, if the text before the piece is appended
-  shown_past : (p : Piece) (stop : ℕ)
-      → at ≤ stop → add_pieces stop z.start (s.pieces ++ p ∷ []) [] ≡ add_piece stop at p (add_text pending.begin at pending.escaped chain)
-  shown_past p stop past = shown_on p stop (omega (arith, s.upto)) ∙ ap (add_piece stop at p) (shown_here pending.begin at stop pending.escaped chain past)
-
-  -- one more piece
-  pub so_far_piece : (p : Piece) → MakesPiece texts b (found_at z at) p → at + size p ≤ length z.text → EndsSolid z.text at p
-      → SoFar texts z (chain_after at p pending chain) (held_after at p pending) (at + size p) (braces_after (found_at z at) b)
-  so_far_piece (Left n) is fits ends = record {
-    pieces = s.pieces ++ Left n ∷ [];
-    divided = divided_on (Left n) is;
-    from = s.from;
-    upto = omega arith;
-    within = fits;
-    mark = elim s.mark [ inl longer ↦ inl (omega arith) | inr plain ↦ inr plain ];
-    begins = begins_on z.text z.start pending.begin at n s.begins;
-    shown = λ stop ahead. shown_on (Left n) stop ahead ∙ add_text_grows pending.begin at n stop pending.escaped chain s.upto s.mark ahead;
-  }
-  so_far_piece (Begins dropped escaped) is fits ends = record {
-    pieces = s.pieces ++ Begins dropped escaped ∷ [];
-    divided = divided_on (Begins dropped escaped) is;
-    from = omega arith;
-    upto = omega arith;
-    within = fits;
-    mark = inl (omega arith);
-    begins = inr (omega (arith, ends.0), rw ends.1 refl, inl (omega arith));
-    shown = λ stop ahead. shown_past (Begins dropped escaped) stop (omega arith);
-  }
-  so_far_piece (Token dropped n body) is fits ends =
-      let facts : IsMarkup z.text at dropped n body = piece_of texts b z at (Token dropped n body) on is in
-      record {
-        pieces = s.pieces ++ Token dropped n body ∷ [];
-        divided = divided_on (Token dropped n body) is;
-        from = omega arith;
-        upto = omega arith;
-        within = fits;
-        mark = inr refl;
-        begins =
-            let last = facts.bytes (at + dropped + n - 1) (omega (arith, facts.some)) (omega (arith, facts.some)) in
-            inr (omega (arith, facts.some), visible_solid (slice_index z.text (at + dropped + n - 1)) last, inr facts.last);
-        shown = λ stop ahead. shown_past (Token dropped n body) stop (omega arith)
-            ∙ sym (add_text-none (at + dropped + n) (min (at + (dropped + n)) stop) false _ (omega arith));
-      }
-  so_far_piece (Run n opens closes) is fits ends =
-      let facts : IsDelimiterRun z.text at n = piece_of texts b z at (Run n opens closes) on is in
-      record {
-        pieces = s.pieces ++ Run n opens closes ∷ [];
-        divided = divided_on (Run n opens closes) is;
-        from = omega arith;
-        upto = omega arith;
-        within = fits;
-        mark = inr refl;
-        begins =
-            let last = facts.bytes (at + n - 1) (omega (arith, facts.some)) (omega (arith, facts.some)) in
-            let same = facts.same (at + n - 1) (omega (arith, facts.some)) (omega (arith, facts.some)) in
-            inr (
-              omega (arith, facts.some),
-              visible_solid (slice_index z.text (at + n - 1)) last,
-              inr (ap (λ (b : ℕ). b == backslash) same ∙ (delimiter_other _ facts.delimiter).0),
-            );
-        shown = λ stop ahead. shown_past (Run n opens closes) stop (omega arith)
-            ∙ sym (add_text-none (at + n) (min (at + n) stop) false _ (omega arith));
-      }
+-- one more piece
+so_far_piece : {texts : List CowStr} (z : Inline) (chain : List Item) (pending : HeldText) (at : ℕ) (b : MathBraces) → SoFar texts z chain pending at b
+    → content_ends_at z at ≡ false → (found : TokenStart) → found_at z at ≡ found → (p : Piece) → MakesPiece texts b found p
+    → SoFar texts z (chain_after at p pending chain) (held_after at p pending) (at + size p) (braces_after found b)
+so_far_piece {texts} z chain pending at b s on found there p makes =
+    let is : MakesPiece texts b (found_at z at) p = rw there makes in
+    let facts = piece_of texts b z at p on is in
+    let upto = s.held.upto in
+    let later = held_later at p pending upto in
+    record {
+      pieces = s.pieces ++ p ∷ [];
+      divided = subst (λ (f : TokenStart). ArePieces texts z z.start z.braces (s.pieces ++ p ∷ []) (spot (at + size p) (braces_after f b))) there
+          (are_more texts z z.start z.braces s.pieces (spot at b) p s.divided on is);
+      within = piece_fits z.text at p facts;
+      held = held_piece z.text z.start at p pending facts s.held;
+      shown = λ stop ahead. add_pieces_more texts z stop z.start z.braces s.pieces (spot at b) [] p s.divided
+          ∙ ap (add_piece stop at p) (s.shown stop (omega arith)) ∙ shown_piece z.text z.start stop at p pending chain s.held ahead;
+    }
 
 -- n bytes that are pieces of one byte
 so_far_bytes : {texts : List CowStr} (z : Inline) (chain : List Item) (pending : HeldText) (n at : ℕ) (b : MathBraces)
@@ -245,11 +209,8 @@ so_far_bytes {texts} z chain pending zero at b s fits single =
     subst (λ (k : ℕ). SoFar texts z chain pending k b) here s
 so_far_bytes {texts} z chain pending (suc n) at b s fits single =
     let first = single at (omega arith) (omega arith) in
-    let more =
-    so_far_piece z chain pending at b s first.0 (Left 1) (subst (λ (f : TokenStart). MakesPiece texts b f (Left 1)) (sym first.1) refl) (omega arith)
-    (omega arith) in
-    let same = subst (λ (f : TokenStart). SoFar texts z chain pending (at + 1) (braces_after f b)) first.1 more in
-    let rest = so_far_bytes z chain pending n (at + 1) b same (omega arith) (λ k low high. single k (omega arith) (omega arith)) in
+    let more : SoFar texts z chain pending (at + 1) b = so_far_piece z chain pending at b s first.0 (Ready (Left 1)) first.1 (Left 1) refl in
+    let rest = so_far_bytes z chain pending n (at + 1) b more (omega arith) (λ k low high. single k (omega arith) (omega arith)) in
     let here : at + 1 + n ≡ at + suc n = omega arith in
     subst (λ (k : ℕ). SoFar texts z chain pending k b) here rest
 
@@ -262,40 +223,6 @@ so_far_upto {texts} z chain pending at to b s order within plain =
     subst (λ (k : ℕ). SoFar texts z chain pending k b) there
     (so_far_bytes z chain pending (to - at) at b s (omega arith) (λ k low high. single_piece z k (omega arith) (plain k low (omega arith))))
 
--- the pending text begins before the white space at the end
-begins_before_white : (z : Inline) (begin end : ℕ) → z.start ≤ begin → begin ≤ end → end ≤ length z.text
-    → BeginsText z.text z.start begin end → begin ≤ end - blanks_at_end z end
-unfolding blanks_at_end
-begins_before_white z begin end low high within begins =
-    let bound : suffix_len is_white (slice_range z.text z.start end) ≤ end - begin =
-    end_bounded is_white z.text z.start begin end low high within (elim begins [ inl same ↦ inl same | inr at ↦ inr (at.0, at.1) ]) in
-    omega arith
-
--- and before the backslash that breaks a line
-begins_before_break : (z : Inline) (begin end : ℕ) → z.start ≤ begin → begin ≤ end → end ≤ length z.text
-    → BeginsText z.text z.start begin end → begin ≤ text_end z end
-unfolding text_end breaks_by_backslash backslashes_at_end
-begins_before_break z begin end low high within begins =
-    elim (cases_Bool (breaks_by_backslash z end)) [
-      | inl breaks ↦
-          rw breaks
-          (let odd = eqb-true (backslashes_at_end z end % 2) 1
-          (and_parts (backslashes_at_end z end % 2 == 1) (nat_lt (end + line_end_len z end) (length z.text)) breaks).0 in
-          elim begins [
-            | inl same ↦
-                let bound = end_bounded (λ b. b == backslash) z.text z.start begin end low high within (inl same) in
-                omega arith
-            | inr at ↦ elim at.2 [
-              | inl longer ↦ omega arith
-              | inr other ↦
-                  let bound = end_bounded (λ b. b == backslash) z.text z.start begin end low high within (inr (at.0, other)) in
-                  omega arith
-            ]
-          ])
-      | inr plain ↦
-          rw plain (begins_before_white z begin end low high within begins)
-    ]
-
 -- the last text of a content ends in it
 text_end_within : (z : Inline) (end : ℕ) → text_end z end ≤ end
 unfolding text_end
@@ -306,12 +233,28 @@ pub record IsTextEnd (z : Inline) (end stop : ℕ) : Type 0 where
   pub short : stop ≤ end
   pub following : (begin : ℕ) → z.start ≤ begin → begin ≤ end → BeginsText z.text z.start begin end → begin ≤ stop
 
-pub line_text_end : (z : Inline) (end : ℕ) → end ≤ length z.text → IsTextEnd z end (text_end z end)
-line_text_end z end within =
-    record { short = text_end_within z end; following = λ begin low high begins. begins_before_break z begin end low high within begins }
-
 pub cell_text_end : (z : Inline) (end : ℕ) → end ≤ length z.text → IsTextEnd z end (end - blanks_at_end z end)
-cell_text_end z end within = record { short = omega arith; following = λ begin low high begins. begins_before_white z begin end low high within begins }
+unfolding blanks_at_end
+cell_text_end z end within = record {
+  short = omega arith;
+  following = λ begin low high begins.
+      let bound = end_bounded is_white z.text z.start begin end low high within (elim begins [ inl same ↦ inl same | inr at ↦ inr (at.0, at.1) ]) in
+      omega arith;
+}
+
+pub line_text_end : (z : Inline) (end : ℕ) → end ≤ length z.text → IsTextEnd z end (text_end z end)
+unfolding text_end backslashes_at_end
+line_text_end z end within =
+    cond_both (breaks_by_backslash z end) (end - 1) (end - blanks_at_end z end) (IsTextEnd z end)
+    (λ breaks. let some = break_some z end breaks in
+    record {
+      short = omega arith;
+      following = λ begin low high begins.
+          let bound : (begin ≡ z.start) ⊎ ((0 < begin) × ((slice_index z.text (begin - 1) == backslash) ≡ false)) → begin ≤ end - 1 =
+          λ stops. omega (arith, end_bounded (λ b. b == backslash) z.text z.start begin end low high within stops) in
+          elim begins [ inl same ↦ bound (inl same) | inr at ↦ elim at.2 [ inl longer ↦ omega arith | inr other ↦ bound (inr (at.0, other)) ] ];
+    })
+    (λ plain. cell_text_end z end within)
 
 -- The content is read up to a place, and its tokens up to there are in the tree, except for a pending text.
 pub record IsRead (texts : List CowStr) (z : Inline) (old tree : Forest Item) (pending : HeldText) (to : Spot) : Type 0 where
@@ -340,63 +283,37 @@ read_more {new} {old} {z} {before} {tree} {pending} {to} more r =
       read = record {
         pieces = s.pieces;
         divided = pieces_more new old z z.start z.braces s.pieces (spot to.at to.braces) more s.divided;
-        from = s.from;
-        upto = s.upto;
         within = s.within;
-        mark = s.mark;
-        begins = s.begins;
+        held = s.held;
         shown = s.shown;
       };
       tree_is = r.tree_is;
     }
 
--- a piece ends as the one found there does
-pub becomes_solid : (texts : List CowStr) (b : MathBraces) (text : List ℕ) (at : ℕ) (found : TokenStart) (p : Piece)
-    → MakesPiece texts b found p → FoundSolid text at found
-    → EndsSolid text at p
-becomes_solid texts b text at (Ready piece) p is solid = subst (EndsSolid text at) (sym is) solid
-becomes_solid texts b text at (Reference n c) p is solid = subst (EndsSolid text at) (sym is.2) solid
-becomes_solid texts b text at (Dashes n) p is solid = subst (EndsSolid text at) (sym is.2) solid
-becomes_solid texts b text at (Dollar opens closes) p is solid = subst (EndsSolid text at) (sym is) (omega arith)
-becomes_solid texts b text at OpenBrace p is solid = subst (EndsSolid text at) (sym is) (omega arith)
-becomes_solid texts b text at CloseBrace p is solid = subst (EndsSolid text at) (sym is) (omega arith)
-
 -- the tree after a piece has the chain after that piece
-tree_is_after : (text : List ℕ) (old tree : Forest Item) (chain : List Item) (pending : HeldText) (at : ℕ) (p : Piece) → IsPieceAt text at p
-    → pending.begin ≤ at → tree ≡ with_tokens old chain → tree_after at p pending tree ≡ with_tokens old (chain_after at p pending chain)
-tree_is_after text old tree chain pending at (Left n) facts order same = same
-tree_is_after text old tree chain pending at (Begins dropped escaped) facts order same =
-    ap (λ (f : Forest Item). with_text f pending.begin at pending.escaped) same ∙ sym (with_tokens-text old chain pending.begin at pending.escaped order)
-tree_is_after text old tree chain pending at (Token dropped n body) facts order same =
+tree_is_after : (text : List ℕ) (old : Forest Item) (chain : List Item) (pending : HeldText) (at : ℕ) (p : Piece) → IsPieceAt text at p
+    → pending.begin ≤ at → with_tokens old (chain_after at p pending chain) ≡ tree_after at p pending (with_tokens old chain)
+tree_is_after text old chain pending at (Left n) facts order = refl
+tree_is_after text old chain pending at (Begins dropped escaped) facts order = with_tokens-text old chain pending.begin at pending.escaped order
+tree_is_after text old chain pending at (Token dropped n body) facts order =
     let x = token (at + dropped) n body in
     let more = add_text pending.begin at pending.escaped chain in
-    let before =
-    ap (λ (f : Forest Item). with_text f pending.begin at pending.escaped) same
-    ∙ sym (with_tokens-text old chain pending.begin at pending.escaped order) in
-    ap (λ (f : Forest Item). appended f x) before ∙ sym (with_token-plain (with_tokens old more) x (markup_plain body facts.kind))
-    ∙ sym (with_tokens-add old more x)
-tree_is_after text old tree chain pending at (Run n opens closes) facts order same =
-    let before =
-    ap (λ (f : Forest Item). with_text f pending.begin at pending.escaped) same
-    ∙ sym (with_tokens-text old chain pending.begin at pending.escaped order) in
-    ap (λ (f : Forest Item). with_tokens f (run_tokens at n opens closes)) before
-    ∙ sym (with_tokens-adds old (add_text pending.begin at pending.escaped chain) (run_tokens at n opens closes))
+    with_tokens-add old more x ∙ with_token-plain (with_tokens old more) x (markup_plain body facts.kind)
+    ∙ ap (λ (f : Forest Item). appended f x) (with_tokens-text old chain pending.begin at pending.escaped order)
+tree_is_after text old chain pending at (Run n opens closes) facts order =
+    with_tokens-adds old (add_text pending.begin at pending.escaped chain) (run_tokens at n opens closes)
+    ∙ ap (λ (f : Forest Item). with_tokens f (run_tokens at n opens closes)) (with_tokens-text old chain pending.begin at pending.escaped order)
 
--- A piece is found at a place of a content, and it ends in the content.
-pub record IsPieceFound (texts : List CowStr) (z : Inline) (at : ℕ) (b : MathBraces) (p : Piece) : Type 0 where
-  pub on : content_ends_at z at ≡ false
-  pub becomes : MakesPiece texts b (found_at z at) p
-  pub fits : at + size p ≤ length z.text
-  pub ends : EndsSolid z.text at p
-
-pub read_piece : {texts : List CowStr} {z : Inline} {old tree : Forest Item} {pending : HeldText} {at : ℕ} {b : MathBraces} (p : Piece)
-    → IsPieceFound texts z at b p → IsRead texts z old tree pending (spot at b)
-    → IsRead texts z old (tree_after at p pending tree) (held_after at p pending) (spot (at + size p) (braces_after (found_at z at) b))
-read_piece {texts} {z} {old} {tree} {pending} {at} {b} p found r = record {
-  tokens = chain_after at p pending r.tokens;
-  read = so_far_piece z r.tokens pending at b r.read found.on p found.becomes found.fits found.ends;
-  tree_is = tree_is_after z.text old tree r.tokens pending at p (piece_of texts b z at p found.on found.becomes) r.read.upto r.tree_is;
-}
+module _ {texts : List CowStr} {z : Inline} {at : ℕ} {found : TokenStart} (on : content_ends_at z at ≡ false) (there : found_at z at ≡ found) where
+  pub read_piece : {old tree : Forest Item} {pending : HeldText} {b : MathBraces} (p : Piece) → MakesPiece texts b found p
+      → IsRead texts z old tree pending (spot at b)
+      → IsRead texts z old (tree_after at p pending tree) (held_after at p pending) (spot (at + size p) (braces_after found b))
+  read_piece {old} {tree} {pending} {b} p is r = record {
+    tokens = chain_after at p pending r.tokens;
+    read = so_far_piece z r.tokens pending at b r.read on found there p is;
+    tree_is = ap (tree_after at p pending) r.tree_is
+        ∙ sym (tree_is_after z.text old r.tokens pending at p (piece_of texts b z at p on (rw there is)) r.read.held.upto);
+  }
 
 -- the whole content
 pub read_all : {texts : List CowStr} (z : Inline) (old tree : Forest Item) (pending : HeldText) (to : Spot) → IsRead texts z old tree pending to
@@ -407,38 +324,35 @@ read_all z old tree pending to r ended =
     record {
       pieces = s.pieces;
       division = record { divided = s.divided; ended = ended };
-      before_break = (line_text_end z end s.within).following pending.begin s.from s.upto s.begins;
-      before_white = (cell_text_end z end s.within).following pending.begin s.from s.upto s.begins;
+      before_break = (line_text_end z end s.within).following pending.begin s.held.from s.held.upto s.held.begins;
+      before_white = (cell_text_end z end s.within).following pending.begin s.held.from s.held.upto s.held.begins;
       appended = λ stop ahead inside.
           let here : min end stop ≡ stop = omega arith in
-          ap (λ (f : Forest Item). with_text f pending.begin stop pending.escaped) r.tree_is
-          ∙ sym (with_tokens-text old r.tokens pending.begin stop pending.escaped ahead)
-          ∙ ap (with_tokens old) (sym (s.shown stop ahead ∙ ap (λ (x : ℕ). add_text pending.begin x pending.escaped r.tokens) here));
+          rw (r.tree_is, s.shown stop ahead, here) (sym (with_tokens-text old r.tokens pending.begin stop pending.escaped ahead));
     }
-
--- a line whose content is read, once the pending text is appended
-read_line : {texts : List CowStr} (z : Inline) (old tree new : Forest Item) (pending : HeldText) (end : ℕ) (after : MathBraces) → z.row ≡ false
-    → IsHeldTo texts z old tree (spot end after) pending → new ≡ with_text tree pending.begin (text_end z end) pending.escaped
-    → AppendsLine texts z old new (end + line_end_len z end, line_break z end) after
-read_line z old tree new pending end after plain r new_is = record {
-  tokens = add_pieces (text_end z end) z.start r.pieces [];
-  line = record { no_cell = plain; pieces = r.pieces; content_end = end; division = r.division; tokens_are = refl; answer_is = refl };
-  tree_is = new_is ∙ r.appended (text_end z end) r.before_break (text_end_within z end);
-}
 
 -- The result at the end of a line: the pending text is appended, and the answer is the next line and the break.
 pub record IsLineEnd (z : Inline) (tree new : Forest Item) (pending : HeldText) (end : ℕ) (r : Result (ℕ × Option Item) AllocError) : Type 0 where
   pub tree_is : OnOk r ((b : MathBraces) → new ≡ with_text tree pending.begin (text_end (record z { braces = b }) end) pending.escaped)
   pub answer_is : IfOk r (λ a. (b : MathBraces) → a ≡ (end + line_end_len (record z { braces = b }) end, line_break (record z { braces = b }) end))
 
--- the same for the result at the end of a line
+-- a line whose content is read, once the pending text is appended
 pub read_ended : {texts : List CowStr} (z : Inline) (old tree new : Forest Item) (pending : HeldText) (end : ℕ) (after : MathBraces)
     (r : Result (ℕ × Option Item) AllocError)
     → z.row ≡ false → IsHeldTo texts z old tree (spot end after) pending → IsLineEnd z tree new pending end r
     → IfOk r (λ a. AppendsLine texts z old new a after)
-read_ended {texts} z old tree new pending end after (Ok a) plain read ended =
-    subst (λ (c : ℕ × Option Item). AppendsLine texts z old new c after) (sym (ended.answer_is z.braces))
-    (read_line z old tree new pending end after plain read (ended.tree_is z.braces))
+read_ended z old tree new pending end after (Ok a) plain read ended = record {
+  tokens = add_pieces (text_end z end) z.start read.pieces [];
+  line = record {
+    no_cell = plain;
+    pieces = read.pieces;
+    content_end = end;
+    division = read.division;
+    tokens_are = refl;
+    answer_is = ended.answer_is z.braces;
+  };
+  tree_is = ended.tree_is z.braces ∙ read.appended (text_end z end) read.before_break (text_end_within z end);
+}
 read_ended z old tree new pending end after (Err e) plain read ended = tt
 
 -- a cell whose content is read, once the pending text is appended
@@ -458,12 +372,12 @@ cell_plain {texts} z end order within plain ended =
     let stop = end - blanks_at_end z end in
     let begun : SoFar texts z [] (record { begin = z.start; escaped = false }) z.start z.braces = so_far_start z (omega arith) in
     let s = so_far_upto z [] (record { begin = z.start; escaped = false }) z.start end z.braces begun order within plain in
-    let ahead : z.start ≤ stop = (cell_text_end z end within).following z.start s.from s.upto s.begins in
+    let ahead : z.start ≤ stop = (cell_text_end z end within).following z.start s.held.from s.held.upto s.held.begins in
     let here : min end stop ≡ stop = omega arith in
     record {
       pieces = s.pieces;
       division = record { divided = s.divided; ended = ended };
-      tokens_are = sym (s.shown stop ahead ∙ ap (λ (x : ℕ). add_text z.start x false []) here);
+      tokens_are = rw (s.shown stop ahead, here) refl;
     }
 
 pub ended_by_text : (z : Inline) → content_ends_at z (length z.text) ≡ true

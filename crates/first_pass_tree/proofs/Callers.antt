@@ -1,6 +1,6 @@
 -- Facts about a tree that a caller keeps over several calls.
-use Rattle.std.proofs.Common.{◌≡◌, ℕ, ◌+◌, ◌<◌, List, ◌∷◌, ◌++◌, length, Some, get_or, sym, ◌∙◌, ap, subst, [], arith, append_assoc}
-use Rattle.std.proofs.lemmas.List.{length-append, length-map, map-append, get_or_append_left}
+use Rattle.std.proofs.Common.{◌≡◌, ℕ, ◌+◌, ◌<◌, List, ◌∷◌, ◌++◌, length, Some, get_or, sym, ◌∙◌, ap, subst, [], arith, append_assoc, length-append}
+use Rattle.std.proofs.lemmas.List.{length-map, map-append, get_or_append_left}
 use Rattle.first_pass_tree.specs.declared.tree_index.TreeIndex.{TreeIndex}
 use Rattle.first_pass_tree.specs.Forest.{Forest, IsChild, depths, open_place, appended, added, at_depth}
 use Rattle.first_pass_tree.proofs.Blocks.{at_depth-append}

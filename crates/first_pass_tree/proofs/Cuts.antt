@@ -1,70 +1,48 @@
 -- The children of a node cut at an offset: the result is a forest.
-use Rattle.std.proofs.Common.{◌≡◌, ℕ, ◌+◌, ◌-◌, ◌≤◌, suc, zero, List, [], ◌∷◌, ◌++◌, length, take, drop, Some, None, true, false, Bool, nat_lt, if◌then◌else◌}
-use Rattle.std.proofs.Common.{◌&&◌, ◌==◌, get_or, IfSome, Option, refl, sym, ◌∙◌, ap, subst, ⊎_elim, arith}
-use Rattle.std.proofs.lemmas.List.{take-take, drop-take, take-append-drop, length-append, map-append, length-map, take-map, length-take-le, length-drop}
-use Rattle.std.proofs.lemmas.List.{get_or-drop}
+use Rattle.std.proofs.Common.{◌≡◌, ℕ, ◌+◌, ◌-◌, ◌<◌, ◌≤◌, suc, zero, List, [], ◌∷◌, ◌++◌, length, take, drop, Some, None, true, false, Bool, nat_lt}
+use Rattle.std.proofs.Common.{if◌then◌else◌, ◌&&◌, ◌==◌, get_or, IfSome, Option, refl, sym, ◌∙◌, ap, subst, arith, take-take, take-append-drop}
+use Rattle.std.proofs.Common.{length-append, length-take-le, length-take, length-drop, get_or-drop}
+use Rattle.std.proofs.lemmas.List.{drop-take, map-append, length-map, take-map, drop-map}
 use Rattle.std.proofs.lemmas.Bool.Decides.{nat_tests}
-use Rattle.std.proofs.lemmas.Bool.{cases_lt}
 use Rattle.first_pass_tree.specs.declared.tree_index.TreeIndex.{TreeIndex}
 use Rattle.first_pass_items.specs.declared.item.Item.{Item}
 use Rattle.first_pass_items.specs.declared.item.ItemBody.TheVariants.{Text}
 use Rattle.first_pass_tree.specs.Forest.{Forest, IsForest, IsLastAt, IsOpenPath, IsPreorder, depths, cut_tokens, cut_item, is_single_before}
 use Rattle.first_pass_tree.specs.Forest.{is_escaped, cut_siblings, last_child, last_before, open_place}
-use Rattle.first_pass_tree.proofs.Depths.{preorder-take, path-take_open, open-last}
-use Rattle.first_pass_tree.proofs.Moves.{last_before-is}
+use Rattle.first_pass_tree.proofs.Depths.{preorder-take, path-edit, take-edit, open-last}
+use Rattle.first_pass_tree.proofs.Moves.{IsLastBefore, last_before-is}
 
-cut_by : ℕ → ℕ × Item → List (ℕ × Item) → Bool → Bool → Bool → List (ℕ × Item)
-cut_by e n rest true a b = n ∷ rest
-cut_by e n rest false true b = (n.0, cut_item e n.1) ∷ rest
-cut_by e n rest false false true = (n.0, record { start = e - 1; «end» = e; body = Text false }) ∷ []
-cut_by e n rest false false false = []
-
-cut_by-depths : (e : ℕ) (n : ℕ × Item) (ns rest : List (ℕ × Item)) (u a b : Bool)
-    → depths rest ≡ take (length rest) (depths ns) → depths (cut_by e n rest u a b) ≡ take (length (cut_by e n rest u a b)) (depths (n ∷ ns))
-unfolding cut_by
-cut_by-depths e n ns rest true a b h = ap (λ z. n.0 ∷ z) h
-cut_by-depths e n ns rest false true b h = ap (λ z. n.0 ∷ z) h
-cut_by-depths e n ns rest false false true h = refl
-cut_by-depths e n ns rest false false false h = refl
-
-cut_by-is : (e d : ℕ) (n : ℕ × Item) (ns : List (ℕ × Item)) (u a b : Bool) → (if u then n ∷ cut_tokens e d ns
-    else (if a then (n.0, cut_item e n.1) ∷ cut_tokens e d ns else (if b then (n.0, record { start = e - 1; «end» = e; body = Text false }) ∷ [] else [])))
-    ≡ cut_by e n (cut_tokens e d ns) u a b
-unfolding cut_by
-cut_by-is e d n ns true a b = refl
-cut_by-is e d n ns false true b = refl
-cut_by-is e d n ns false false true = refl
-cut_by-is e d n ns false false false = refl
+-- one node and the cut of those after it, by the tests on the node
+abbrev cut_by : ℕ → ℕ × Item → List (ℕ × Item) → Bool → Bool → Bool → List (ℕ × Item)
+cut_by e n rest deeper starts escaped =
+    if deeper
+    then n ∷ rest
+    else (if starts
+    then (n.0, cut_item e n.1) ∷ rest
+    else (if escaped then (n.0, record { start = e - 1; «end» = e; body = Text false }) ∷ [] else []))
 
 -- the cut keeps the depths of the remaining nodes
 cut-depths : (e d : ℕ) (ns : List (ℕ × Item)) → depths (cut_tokens e d ns) ≡ take (length (cut_tokens e d ns)) (depths ns)
 cut-depths e d [] = refl
 cut-depths e d (n ∷ ns) =
-    rw (cut_by-is e d n ns (nat_lt d n.0) (nat_lt n.1.start e) (is_escaped n.1.body && (n.1.start == e)))
-    (cut_by-depths e n ns (cut_tokens e d ns) (nat_lt d n.0) (nat_lt n.1.start e) (is_escaped n.1.body && (n.1.start == e)) (cut-depths e d ns))
-
-cut_by-length : (e : ℕ) (n : ℕ × Item) (ns rest : List (ℕ × Item)) (u a b : Bool) → length rest ≤ length ns → length (cut_by e n rest u a b) ≤ length (n ∷ ns)
-unfolding cut_by
-cut_by-length e n ns rest true a b h = omega arith
-cut_by-length e n ns rest false true b h = omega arith
-cut_by-length e n ns rest false false true h = omega arith
-cut_by-length e n ns rest false false false h = omega arith
+    by (cut_tokens e d ns) (nat_lt d n.0) (nat_lt n.1.start e) (is_escaped n.1.body && (n.1.start == e)) (cut-depths e d ns)
+  where
+    by : (rest : List (ℕ × Item)) (u a b : Bool)
+        → depths rest ≡ take (length rest) (depths ns) → depths (cut_by e n rest u a b) ≡ take (length (cut_by e n rest u a b)) (depths (n ∷ ns))
+    by rest true a b h = ap (λ z. n.0 ∷ z) h
+    by rest false true b h = ap (λ z. n.0 ∷ z) h
+    by rest false false true h = refl
+    by rest false false false h = refl
 
 cut-length : (e d : ℕ) (ns : List (ℕ × Item)) → length (cut_tokens e d ns) ≤ length ns
-cut-length e d [] = omega arith
-cut-length e d (n ∷ ns) =
-    rw (cut_by-is e d n ns (nat_lt d n.0) (nat_lt n.1.start e) (is_escaped n.1.body && (n.1.start == e)))
-    (cut_by-length e n ns (cut_tokens e d ns) (nat_lt d n.0) (nat_lt n.1.start e) (is_escaped n.1.body && (n.1.start == e)) (cut-length e d ns))
+cut-length e d ns =
+    let n = ap length (cut-depths e d ns) in
+    omega (arith, length-take (length (cut_tokens e d ns)) (depths ns), length-map ns (λ n. n.0), length-map (cut_tokens e d ns) (λ n. n.0))
 
 take-two : {X : Type 0} (xs : List X) (p m : ℕ) → take p xs ++ take m (drop p xs) ≡ take (p + m) xs
 take-two xs p m =
     ap (λ ys. ys ++ take m (drop p xs)) (sym (take-take p (p + m) xs (omega arith))) ∙ ap (λ ys. take p (take (p + m) xs) ++ ys) (sym (drop-take p m xs))
     ∙ take-append-drop p (take (p + m) xs)
-
-drop-depths : {T : Type 0} (ns : List (ℕ × T)) (p : ℕ) → depths (drop p ns) ≡ drop p (depths ns)
-drop-depths ns zero = refl
-drop-depths [] (suc p) = refl
-drop-depths (n ∷ ns) (suc p) = drop-depths ns p
 
 -- the current node after a cut is the last child: the first index after the innermost open node has its depth, and no
 -- later index has less
@@ -76,22 +54,18 @@ last_child-is ns is pre path =
     let p = open_place is + 1 in
     let o = open-last ds is path in
     let m = length-map ns (λ n. n.0) in
-    ⊎_elim
-    (λ q.
-    let t : nat_lt p (length ns) ≡ true = grind (arith, nat_tests) in
+    let last = λ (q : p < length ns).
     let low = o.following p (omega arith) (omega arith) in
     let high = pre (open_place is) (omega arith) in
-    let i = last_before-is ds d p (length ns) q (omega (arith, o.depth)) (λ k a b. let w = o.following k (omega arith) (omega arith) in omega arith) in
-    let r : IsLastAt ds d (last_before ds d (length ns)) = record {
-      within = omega (arith, i.within);
-      depth = i.depth;
-      following = λ k a b. i.following k a (omega arith);
-    } in
-    subst (λ (b : Bool). IfSome {T = TreeIndex} (if b then Some (record { 0 = last_before ds d (length ns) }) else None) (λ c. IsLastAt ds d c.0)) (sym t) r)
-    (λ q.
-    let t : nat_lt p (length ns) ≡ false = grind (arith, nat_tests) in
-    subst (λ (b : Bool). IfSome {T = TreeIndex} (if b then Some (record { 0 = last_before ds d (length ns) }) else None) (λ c. IsLastAt ds d c.0)) (sym t) tt)
-    (cases_lt p (length ns))
+    last_before-is ds d p (length ns) q (omega (arith, o.depth)) (λ k a b. let w = o.following k (omega arith) (omega arith) in omega arith) in
+    by (nat_lt p (length ns)) (λ e. last (grind (arith, nat_tests, e)))
+  where
+    by : (t : Bool) → (t ≡ true → IsLastBefore (depths ns) (length is + 1) (length ns) (last_before (depths ns) (length is + 1) (length ns)))
+        → IfSome {T = TreeIndex} (if t then Some (record { 0 = last_before (depths ns) (length is + 1) (length ns) }) else None)
+        (λ c. IsLastAt (depths ns) (length is + 1) c.0)
+    by true l = (let i = l refl in let m = length-map ns (λ n. n.0) in
+        record { within = omega (arith, i.within); depth = i.depth; following = λ k a b. i.following k a (omega arith) })
+    by false l = tt
 
 pub cut_siblings-is : (f : Forest Item) (e : ℕ) → IsForest f → IsForest (cut_siblings f e)
 cut_siblings-is f e h =
@@ -106,12 +80,13 @@ cut_siblings-is f e h =
     let v : p + length cs ≤ length ds = omega (arith, cut-length e d (drop p f.nodes), length-drop p f.nodes) in
     let a : depths (take p f.nodes ++ cs) ≡ take p ds ++ take (length cs) (drop p ds) =
     map-append (λ n. n.0) (take p f.nodes) cs ∙ ap (λ (x : List ℕ). x ++ depths cs) (sym (take-map (λ n. n.0) p f.nodes))
-    ∙ ap (λ (x : List ℕ). take p ds ++ x) (cut-depths e d (drop p f.nodes) ∙ ap (take (length cs)) (drop-depths f.nodes p)) in
+    ∙ ap (λ (x : List ℕ). take p ds ++ x) (cut-depths e d (drop p f.nodes) ∙ ap (take (length cs)) (sym (drop-map (λ n. n.0) p f.nodes))) in
     let b : depths (take p f.nodes ++ cs) ≡ take (length (take p f.nodes ++ cs)) ds = a ∙ take-two ds p (length cs) ∙ ap (λ k. take k ds) (sym n) in
     let w : length (take p f.nodes ++ cs) ≤ length ds = omega arith in
     let pre : IsPreorder (depths (take p f.nodes ++ cs)) = subst IsPreorder (sym b) (preorder-take ds _ w h.preorder) in
     let path : IsOpenPath (depths (take p f.nodes ++ cs)) f.spine =
-    subst (λ (v : List ℕ). IsOpenPath v f.spine) (sym b) (path-take_open ds f.spine _ (omega arith) w h.opened) in
+    subst (λ (v : List ℕ). IsOpenPath v f.spine) (sym b)
+    (path-edit ds _ f.spine _ _ (take-edit ds _ (length f.spine) w) (omega arith) (omega arith) h.opened) in
     record { preorder = pre; opened = path; at_current = last_child-is (take p f.nodes ++ cs) f.spine pre path }
 
 -- the same, from the results of the calls on the fields
@@ -164,7 +139,7 @@ cut_siblings-single f e p h ep t =
     let deep : get_or ds p 0 ≡ d =
     omega (arith, at, o.depth, o.following p (omega arith) (omega arith), h.preorder (open_place f.spine) (omega arith)) in
     let z : p + 0 ≡ p = omega arith in
-    let here = ap (λ xs. get_or xs 0 0) (drop-depths f.nodes p) ∙ get_or-drop p ds 0 0 ∙ ap (λ k. get_or ds k 0) z in
+    let here = ap (λ xs. get_or xs 0 0) (sym (drop-map (λ n. n.0) p f.nodes)) ∙ get_or-drop p ds 0 0 ∙ ap (λ k. get_or ds k 0) z in
     let same = single-uncut e d (drop p f.nodes) t (omega arith) in
     let nodes = ap (λ (ns : List (ℕ × Item)). take p f.nodes ++ ns) same ∙ take-append-drop p f.nodes in
     let within : nat_lt p (length f.nodes) ≡ true = grind (arith, nat_tests) in

@@ -1,19 +1,59 @@
 -- Lists of depths: the last index of a depth, and open paths, after an edit.
-use Rattle.std.proofs.Common.{◌≡◌, ℕ, ◌+◌, ◌-◌, ◌<◌, ◌≤◌, suc, zero, List, [], ◌∷◌, ◌++◌, length, get_or, take, drop, nat_lt, true, false, refl, sym, ap, ◌∙◌}
-use Rattle.std.proofs.Common.{arith, add-one}
+use Rattle.std.proofs.Common.{◌≡◌, ℕ, ◌+◌, ◌-◌, ◌<◌, ◌≤◌, suc, zero, List, [], ◌∷◌, ◌++◌, length, get_or, take, drop, nat_lt, true, false, refl, sym, ap}
+use Rattle.std.proofs.Common.{◌∙◌, arith, add-one, ⊎_elim, get_or-take, get_or-drop, length-take-le, length-drop}
+use Rattle.std.proofs.lemmas.Bool.{cases_lt}
 use Rattle.std.proofs.lemmas.Bool.Decides.{nat_tests}
-use Rattle.std.proofs.lemmas.List.{places, get_or_append_left, get_or_push, length_push, get_or-take, get_or-drop, length-take-le, length-drop}
+use Rattle.std.proofs.lemmas.List.{places, get_or_append_left, get_or_push, length_push}
 use Rattle.std.proofs.lemmas.List.Sums.{prefix_len_passes, prefix_len_stops}
 use Rattle.std.specs.List.{prefix_len}
 use Rattle.first_pass_tree.specs.declared.tree_index.TreeIndex.{TreeIndex}
 use Rattle.first_pass_tree.specs.Forest.{IsLastAt, IsOpenPath, IsPreorder, end_of, open_place}
 
--- the last index of a depth is still the last after a deeper node is added
-pub last-append : (ds : List ℕ) (d e i : ℕ) → IsLastAt ds d i → d < e → IsLastAt (ds ++ e ∷ []) d i
-last-append ds d e i h l = record {
-  within = grind (arith, length_push ds e, h.within);
-  depth = get_or_append_left ds (e ∷ []) 0 i h.within ∙ h.depth;
-  following = λ k p q. grind (arith, places, length_push, get_or_push, h.following k p);
+-- of the last indices of two depths, that of the greater depth comes later
+pub last-order : (ds : List ℕ) (d e i j : ℕ) → IsLastAt ds d i → IsLastAt ds e j → d < e → i < j
+last-order ds d e i j h g l = grind (arith, h.depth, g.depth, g.following i, h.within, g.within)
+
+-- the innermost open node is the last of its depth
+pub open-last : (ds : List ℕ) (is : List TreeIndex) → IsOpenPath ds is → IsLastAt ds (length is) (open_place is)
+open-last ds [] h = h
+open-last ds (i ∷ is) h = record { within = h.0.within; depth = grind (arith, h.0.depth); following = λ k p q. grind (arith, h.0.following k p q) }
+
+-- These depths are the same before an index, and from there on they are greater than one depth.
+pub record IsEdit (ds es : List ℕ) (p d : ℕ) : Type 0 where
+  pub within : p ≤ length ds
+  pub there : p ≤ length es
+  pub before : (k : ℕ) → k < p → get_or es k 0 ≡ get_or ds k 0
+  pub following : (k : ℕ) → p ≤ k → k < length es → d < get_or es k 0
+
+-- the last index of a depth before such an edit is still the last
+pub last-edit : (ds es : List ℕ) (p d c i : ℕ) → IsEdit ds es p d → i < p → c ≤ d → IsLastAt ds c i → IsLastAt es c i
+last-edit ds es p d c i e l m h = record {
+  within = omega (arith, e.there);
+  depth = e.before i l ∙ h.depth;
+  following = λ k a b.
+      ⊎_elim (λ x. rw (e.before k x) (h.following k a (omega (arith, e.within)))) (λ x. let y = e.following k x b in omega arith) (cases_lt k p);
+}
+
+pub path-edit : (ds es : List ℕ) (is : List TreeIndex) (p d : ℕ) → IsEdit ds es p d → open_place is < p → length is ≤ d → IsOpenPath ds is → IsOpenPath es is
+path-edit ds es [] p d e l m h = last-edit ds es p d 0 0 e l (omega arith) h
+path-edit ds es (i ∷ is) p d e l m h =
+    let o = last-order ds _ _ _ i.0 (open-last ds is h.1) h.0 (omega arith) in
+    (last-edit ds es p d _ i.0 e l (omega arith) h.0, path-edit ds es is p d e (omega arith) (omega arith) h.1)
+
+pub append-edit : (ds : List ℕ) (d e : ℕ) → d < e → IsEdit ds (ds ++ e ∷ []) (length ds) d
+append-edit ds d e l = record {
+  within = omega arith;
+  there = omega (arith, length_push ds e);
+  before = λ k a. get_or_append_left ds (e ∷ []) 0 k a;
+  following = λ k a b. grind (arith, places, length_push, get_or_push);
+}
+
+pub take-edit : (ds : List ℕ) (n d : ℕ) → n ≤ length ds → IsEdit ds (take n ds) n d
+take-edit ds n d m = record {
+  within = m;
+  there = omega (arith, length-take-le n ds m);
+  before = λ k a. get_or-take n ds k 0 a;
+  following = λ k a b. absurd (omega (arith, length-take-le n ds m));
 }
 
 pub last-push : (ds : List ℕ) (e : ℕ) → IsLastAt (ds ++ e ∷ []) e (length ds)
@@ -23,10 +63,6 @@ last-push ds e = record {
   following = λ k p q. absurd (omega (arith, length_push ds e));
 }
 
-pub path-append : (ds : List ℕ) (is : List TreeIndex) (e : ℕ) → length is < e → IsOpenPath ds is → IsOpenPath (ds ++ e ∷ []) is
-path-append ds [] e l h = last-append ds 0 e 0 h (omega arith)
-path-append ds (i ∷ is) e l h = (last-append ds _ e _ h.0 (omega arith), path-append ds is e (omega arith) h.1)
-
 -- the last node is at least as deep as the innermost open node
 pub path-last_depth : (ds : List ℕ) (is : List TreeIndex) → IsOpenPath ds is → (0 < length ds) × (length is ≤ get_or ds (length ds - 1) 0)
 path-last_depth ds [] h = (omega (arith, h.within), omega arith)
@@ -35,35 +71,8 @@ path-last_depth ds (i ∷ is) h = (omega (arith, h.0.within), grind (arith, h.0.
 pub preorder-append : (ds : List ℕ) (e : ℕ) → IsPreorder ds → 0 < length ds → e ≤ get_or ds (length ds - 1) 0 + 1 → IsPreorder (ds ++ e ∷ [])
 preorder-append ds e h p l = λ k q. grind (arith, places, length_push, get_or_push, h k)
 
--- of the last indices of two depths, that of the greater depth comes later
-pub last-order : (ds : List ℕ) (d e i j : ℕ) → IsLastAt ds d i → IsLastAt ds e j → d < e → i < j
-last-order ds d e i j h g l = grind (arith, h.depth, g.depth, g.following i, h.within, g.within)
-
-pub last-take : (ds : List ℕ) (d i n : ℕ) → IsLastAt ds d i → i < n → n ≤ length ds → IsLastAt (take n ds) d i
-last-take ds d i n h l m = record {
-  within = omega (arith, length-take-le n ds m);
-  depth = get_or-take n ds i 0 l ∙ h.depth;
-  following = λ k p q. grind (arith, places, length-take-le n ds m, get_or-take, h.following k p);
-}
-
-pub path-take : (ds : List ℕ) (is : List TreeIndex) (d i n : ℕ)
-    → IsLastAt ds d i → length is < d → i < n → n ≤ length ds → IsOpenPath ds is → IsOpenPath (take n ds) is
-path-take ds [] d i n g l p m h =
-    let o = last-order ds 0 d 0 i h g (omega arith) in last-take ds 0 0 n h (omega arith) m
-path-take ds (j ∷ is) d i n g l p m h =
-    let o = last-order ds _ d _ i h.0 g (omega arith) in (last-take ds _ _ n h.0 (omega arith) m, path-take ds is d i n g (omega arith) p m h.1)
-
 pub preorder-take : (ds : List ℕ) (n : ℕ) → n ≤ length ds → IsPreorder ds → IsPreorder (take n ds)
 preorder-take ds n m h = λ k q. grind (arith, places, length-take-le n ds m, get_or-take, h k)
-
-pub path-take_open : (ds : List ℕ) (is : List TreeIndex) (n : ℕ) → open_place is < n → n ≤ length ds → IsOpenPath ds is → IsOpenPath (take n ds) is
-path-take_open ds [] n l m h = last-take ds 0 0 n h l m
-path-take_open ds (i ∷ is) n l m h = (last-take ds _ _ n h.0 l m, path-take ds is _ i.0 n h.0 (omega arith) l m h.1)
-
--- the innermost open node is the last of its depth
-pub open-last : (ds : List ℕ) (is : List TreeIndex) → IsOpenPath ds is → IsLastAt ds (length is) (open_place is)
-open-last ds [] h = h
-open-last ds (i ∷ is) h = record { within = h.0.within; depth = grind (arith, h.0.depth); following = λ k p q. grind (arith, h.0.following k p q) }
 
 -- the depth at an index is at most the index
 pub depth-small : (ds : List ℕ) → IsPreorder ds → get_or ds 0 0 ≡ 0 → (k : ℕ) → k < length ds → get_or ds k 0 ≤ k

@@ -1,14 +1,15 @@
 -- Each change of a forest results in a forest.
-use Rattle.std.proofs.Common.{◌≡◌, ℕ, ◌+◌, ◌-◌, ◌<◌, ◌≤◌, ◌^◌, suc, zero, List, ◌∷◌, ◌++◌, length, get_or, set, take, drop, map, Some, None, true, false, []}
-use Rattle.std.proofs.Common.{Bool, nat_lt, eqb, ◌≢◌, ◌⊎◌, reverse, slice_get, IfSome, Option, refl, sym, ◌∙◌, ap, subst, ⊎_elim, arith}
-use Rattle.std.proofs.lemmas.List.{length-append, length-reverse, get_or-reverse, map-append, length-map, take-map, get_or-map, take_more}
-use Rattle.std.proofs.lemmas.List.{reverse-append, get_or-append_right, get_or-drop, get_or-take, length-take-le, length-drop, get_or-set_other, length-set}
-use Rattle.std.proofs.lemmas.List.{get_or_append_left, get_or_at}
+use Rattle.std.proofs.Common.{◌≡◌, ℕ, ◌+◌, ◌-◌, ◌<◌, ◌≤◌, ◌^◌, suc, zero, List, ◌∷◌, ◌++◌, length, get_or, set, take, drop, map, Some, None, true, false}
+use Rattle.std.proofs.Common.{[], Bool, ◌&&◌, if◌then◌else◌, nat_lt, eqb, ◌≢◌, ◌⊎◌, reverse, slice_get, IfSome, Option, refl, sym, ◌∙◌, ap, subst, ⊎_elim}
+use Rattle.std.proofs.Common.{arith, add-one, length-append, get_or-drop, get_or-take, length-take-le, length-drop, get_or-set_other, length-set, insert}
+use Rattle.std.proofs.Common.{option_map}
+use Rattle.std.proofs.lemmas.List.{length-reverse, get_or-reverse, map-append, length-map, take-map, get_or-map, take_more}
+use Rattle.std.proofs.lemmas.List.{reverse-append}
+use Rattle.std.proofs.lemmas.List.{get_or_at, map-set}
+use Rattle.std.proofs.lemmas.Option.{slice_get-get_or}
 use Rattle.std.proofs.lemmas.List.Sums.{prefix_len-drop_yes, prefix_len-drop_no, prefix_len-drop_all, prefix_len-le-length, prefix_len_is}
 use Rattle.std.proofs.lemmas.Bool.Decides.{nat_tests}
 use Rattle.std.proofs.lemmas.Bool.{cases_lt}
-use Rattle.std.specs.Prelude.{insert}
-use Rattle.std.specs.Option.{option_map}
 use Rattle.first_pass_tree.specs.declared.tree_index.TreeIndex.{TreeIndex}
 use Rattle.first_pass_items.specs.declared.item.AlignmentIndex.{AlignmentIndex}
 use Rattle.first_pass_items.specs.declared.item.Item.{Item}
@@ -17,7 +18,7 @@ use Rattle.first_pass_items.specs.declared.item.ItemBody.TheVariants.{Table, Tab
 use Rattle.first_pass_tree.specs.Forest.{Forest, IsForest, IsLastAt, IsOpenPath, IsPreorder, depths, item_at, modify, run_end, end_of, sibling_of}
 use Rattle.first_pass_tree.specs.Forest.{in_table, in_table_by, appended, popped, cut_to, kept_after, childless, wrapped, map_from, deeper, IsShallow}
 use Rattle.first_pass_tree.specs.Forest.{open_place, IsChild}
-use Rattle.first_pass_tree.proofs.Depths.{last-push, last-take, path-append, path-last_depth, path-take, preorder-append, preorder-take, path-take_open}
+use Rattle.first_pass_tree.proofs.Depths.{IsEdit, last-edit, path-edit, append-edit, take-edit, last-push, path-last_depth, preorder-append, preorder-take}
 use Rattle.first_pass_tree.proofs.Depths.{open-last, last-order, depth-small, before-end}
 
 pub appended-is : {T : Type 0} (f : Forest T) (x : T) → IsForest f → IsForest (appended f x)
@@ -25,18 +26,20 @@ appended-is f x h =
     let ds = depths f.nodes in
     let e = length f.spine + 1 in
     let l = path-last_depth ds f.spine h.opened in
+    let o = open-last ds f.spine h.opened in
     let m = map-append (λ n. n.0) f.nodes ((e, x) ∷ []) in
     record {
       preorder = subst IsPreorder (sym m) (preorder-append ds e h.preorder l.0 (omega arith));
-      opened = subst (λ (v : List ℕ). IsOpenPath v f.spine) (sym m) (path-append ds f.spine e (omega arith) h.opened);
+      opened = subst (λ (v : List ℕ). IsOpenPath v f.spine) (sym m)
+          (path-edit ds _ f.spine _ _ (append-edit ds (length f.spine) e (omega arith)) (omega (arith, o.within)) (omega arith) h.opened);
       at_current = subst (λ (v : List ℕ). IsLastAt v e (length f.nodes)) (sym m)
           (subst (λ (n : ℕ). IsLastAt (ds ++ e ∷ []) e n) (length-map f.nodes (λ n. n.0)) (last-push ds e));
     }
 
 -- the same, from the results of the calls on the fields
-pub appended-by : {T : Type 0} (f : Forest T) (x : T) (ns : List (ℕ × T)) (d n : ℕ) → IsForest f → ns ≡ f.nodes ++ (d, x) ∷ [] → d ≡ length f.spine + 1
-    → n ≡ length f.nodes → record f { nodes = ns; current = Some (record { 0 = n }) } ≡ appended f x
-appended-by f x ns d n h e p q = cc
+pub appended_by-is : {T : Type 0} (f : Forest T) (x : T) (ns : List (ℕ × T)) (d n : ℕ) → IsForest f → ns ≡ f.nodes ++ (d, x) ∷ [] → d ≡ length f.spine + 1
+    → n ≡ length f.nodes → IsForest (record f { nodes = ns; current = Some (record { 0 = n }) })
+appended_by-is f x ns d n h e p q = rw (e, p, q) (appended-is f x h)
 
 -- a child of the current node, after all its descendants
 pub below-is : {T : Type 0} (f : Forest T) (c : TreeIndex) (x : T)
@@ -82,6 +85,18 @@ pub set-is : {T : Type 0} (f : Forest T) (i : ℕ) (n : ℕ × T) (y : T)
     → n ≡ get_or f.nodes i n → IsForest f → IsForest (record f { nodes = set f.nodes i (n.0, y) })
 set-is f i n y e h = rw (modify-set f.nodes i n (λ _. y) e) (modified-is f i (λ _. y) h)
 
+-- only the first nodes remain, the open ones among them
+pub cut-is : {T : Type 0} (f : Forest T) (n : ℕ) (cur : Option TreeIndex) → open_place f.spine < n → n ≤ length (depths f.nodes)
+    → IfSome cur (λ c. IsLastAt (take n (depths f.nodes)) (length f.spine + 1) c.0) → IsForest f → IsForest (record f { nodes = take n f.nodes; current = cur })
+cut-is f n cur l m at h =
+    let ds = depths f.nodes in
+    let t = take-map (λ n. n.0) n f.nodes in
+    record {
+      preorder = subst IsPreorder t (preorder-take ds n m h.preorder);
+      opened = subst (λ (v : List ℕ). IsOpenPath v f.spine) t (path-edit ds _ f.spine n _ (take-edit ds n (length f.spine) m) l (omega arith) h.opened);
+      at_current = subst (λ (v : List ℕ). IfSome cur (λ c. IsLastAt v (length f.spine + 1) c.0)) t at;
+    }
+
 -- the tree up to its innermost open node, after that is closed
 pub closed-is : {T : Type 0} (f : Forest T) (c : TreeIndex) (rest : List TreeIndex)
     → f.spine ≡ c ∷ rest → IsForest f → IsForest (cut_to (popped f c rest) (c.0 + 1))
@@ -89,12 +104,9 @@ closed-is f c rest e h =
     let ds = depths f.nodes in
     let o = subst (λ (v : List TreeIndex). IsOpenPath ds v) e h.opened in
     let w = o.0.within in
-    let m = sym (take-map (λ n. n.0) (c.0 + 1) f.nodes) in
-    record {
-      preorder = subst IsPreorder (sym m) (preorder-take ds (c.0 + 1) (omega arith) h.preorder);
-      opened = subst (λ (v : List ℕ). IsOpenPath v rest) (sym m) (path-take ds rest _ c.0 (c.0 + 1) o.0 (omega arith) (omega arith) (omega arith) o.1);
-      at_current = subst (λ (v : List ℕ). IsLastAt v (length rest + 1) c.0) (sym m) (last-take ds _ c.0 (c.0 + 1) o.0 (omega arith) (omega arith));
-    }
+    let l = last-order ds _ _ _ c.0 (open-last ds rest o.1) o.0 (omega arith) in
+    let last = last-edit ds _ (c.0 + 1) _ _ c.0 (take-edit ds (c.0 + 1) (length rest + 1) (omega arith)) (omega arith) (omega arith) o.0 in
+    cut-is (popped f c rest) (c.0 + 1) (Some c) (omega arith) (omega arith) last (record { preorder = h.preorder; opened = o.1; at_current = o.0 })
 
 -- the result of a write to one item
 pub modified-by : {T : Type 0} (f now : Forest T) (i : ℕ) (n : ℕ × T) (g : T → T)
@@ -135,8 +147,6 @@ run_all ns depth i l =
     let m = length-map ns (λ n. n.0) in
     let e = prefix_len-drop_all (λ d. nat_lt depth d) (depths ns) i (omega arith) in omega arith
 
--- the first child, as the code tests it
-
 -- the next sibling, as the code tests it
 pub sibling-some : {T : Type 0} (ns : List (ℕ × T)) (i e : ℕ) (d : ℕ × T) → i < length ns → e ≡ run_end (depths ns) (get_or ns i d).0 (i + 1) → e < length ns
     → (get_or ns e d).0 ≡ (get_or ns i d).0 → Some (record { 0 = e }) ≡ sibling_of (depths ns) i
@@ -152,29 +162,22 @@ sibling-some ns i e d l r p h =
 pub sibling-none : {T : Type 0} (ns : List (ℕ × T)) (i e : ℕ) (d : ℕ × T) → i < length ns → e ≡ run_end (depths ns) (get_or ns i d).0 (i + 1)
     → (e < length ns → (get_or ns e d).0 ≢ (get_or ns i d).0) → None ≡ sibling_of (depths ns) i
 sibling-none ns i e d l r h =
-    let m = length-map ns (λ n. n.0) in
     let a = depth_read ns i d l in
     let q : e ≡ end_of (depths ns) i = rw a r in
-    ⊎_elim
-    (λ p.
-    let b = depth_read ns e d p in
-    let k = h p in
-    let t : nat_lt e (length (depths ns)) ≡ true = grind (arith, nat_tests) in
-    let u : eqb (get_or (depths ns) e 0) (get_or (depths ns) i 0) ≡ false = grind (arith, nat_tests) in
-    rw (← q, t, u))
-    (λ p.
-    let t : nat_lt e (length (depths ns)) ≡ false = grind (arith, nat_tests) in
-    rw (← q, t))
-    (cases_lt e (length ns))
+    rw (← q) (by (nat_lt e (length (depths ns))) (eqb (get_or (depths ns) e 0) (get_or (depths ns) i 0)) refl refl)
+  where
+    by : (t u : Bool) → nat_lt e (length (depths ns)) ≡ t → eqb (get_or (depths ns) e 0) (get_or (depths ns) i 0) ≡ u
+        → ◌≡◌ {A = Option TreeIndex} None (if t && u then Some (record { 0 = e }) else None)
+    by true true f g =
+        let w : e < length ns = grind (arith, nat_tests, f, length-map ns (λ n. n.0)) in
+        let k : get_or (depths ns) e 0 ≡ get_or (depths ns) i 0 = grind (arith, nat_tests, g) in
+        absurd (h w (sym (depth_read ns e d w) ∙ k ∙ depth_read ns i d l))
+    by true false f g = refl
+    by false u f g = refl
 
 pub rev_take : {X : Type 0} (xs : List X) (k : ℕ) (d : X) → k < length xs → reverse (take (k + 1) xs) ≡ get_or xs k d ∷ reverse (take k xs)
 rev_take xs k d l =
     ap reverse (take_more xs k d l) ∙ reverse-append (take k xs) (get_or xs k d ∷ [])
-
-pub get-read : {X : Type 0} (xs : List X) (k : ℕ) (d : X) → k < length xs → slice_get xs k ≡ Some (get_or xs k d)
-get-read [] k d l = absurd (omega arith)
-get-read (x ∷ xs) zero d l = refl
-get-read (x ∷ xs) (suc k) d l = get-read xs k d (omega arith)
 
 -- one step outwards
 pub in_table-turn : (ns : List (ℕ × Item)) (xs : List TreeIndex) (left k : ℕ) (d : TreeIndex) (m : ℕ × Item)
@@ -186,7 +189,8 @@ in_table-turn ns xs left k d m e l h =
     let o = subst (IsOpenPath (depths ns)) r h in
     let w : (get_or xs k d).0 < length ns = omega (arith, o.0.within, length-map ns (λ n. n.0)) in (
       ap (in_table ns) r
-          ∙ ap (λ (o : Option (ℕ × Item)). in_table_by (in_table ns (reverse (take k xs))) (option_map (λ m. m.1.body) o)) (get-read ns (get_or xs k d).0 m w),
+          ∙ ap (λ (o : Option (ℕ × Item)). in_table_by (in_table ns (reverse (take k xs))) (option_map (λ m. m.1.body) o))
+          (slice_get-get_or ns (get_or xs k d).0 m w),
       o.1,
     )
 
@@ -216,22 +220,14 @@ kept_after-is f ix g h =
     let ds = depths f.nodes in
     let m = length-map f.nodes (λ n. n.0) in
     let p = end_of ds ix.0 in
-    let w : ix.0 < p = omega arith in
     let v : p ≤ length ds = omega (arith, run-within f.nodes (get_or ds ix.0 0) (ix.0 + 1) (omega (arith, g.within))) in
-    let t = sym (take-map (λ n. n.0) p f.nodes) in
-    record {
-      preorder = subst IsPreorder (sym t) (preorder-take ds p v h.preorder);
-      opened = subst (λ (v : List ℕ). IsOpenPath v f.spine) (sym t) (path-take_open ds f.spine p (omega (arith, g.following)) v h.opened);
-      at_current = subst (λ (v : List ℕ). IsLastAt v (length f.spine + 1) ix.0) (sym t) (record {
-        within = omega (arith, length-take-le p ds v);
-        depth = get_or-take p ds ix.0 0 w ∙ g.depth;
-        following = λ k a b.
-            let n : k < p = omega (arith, length-take-le p ds v) in
-            let y = before-end ds ix.0 k a n in
-            let r = get_or-take p ds k 0 n in
-            omega (arith, g.depth);
-      });
-    }
+    let n = length-take-le p ds v in
+    let last : IsLastAt (take p ds) (length f.spine + 1) ix.0 = record {
+      within = omega arith;
+      depth = get_or-take p ds ix.0 0 (omega arith) ∙ g.depth;
+      following = λ k a b. omega (arith, before-end ds ix.0 k a (omega arith), get_or-take p ds k 0 (omega arith), g.depth);
+    } in
+    cut-is f p (Some ix) (omega (arith, g.following)) v last h
 
 pub open-at : (is : List TreeIndex) (ix : TreeIndex) → slice_get is 0 ≡ Some ix → open_place is ≡ ix.0
 open-at [] ix g = cc
@@ -239,41 +235,40 @@ open-at (i ∷ is) ix g = let e : i ≡ ix = cc in ap (λ j. j.0) e
 
 pub childless-is : {T : Type 0} (f : Forest T) (ix : TreeIndex) → slice_get f.spine 0 ≡ Some ix → IsForest f → IsForest (childless f ix)
 childless-is f ix g h =
-    let ds = depths f.nodes in
-    let o = open-last ds f.spine h.opened in
+    let o = (open-last (depths f.nodes) f.spine h.opened).within in
     let e = open-at f.spine ix g in
-    let v : ix.0 + 1 ≤ length ds = omega (arith, o.within, e) in
-    let t = sym (take-map (λ n. n.0) (ix.0 + 1) f.nodes) in
-    record {
-      preorder = subst IsPreorder (sym t) (preorder-take ds (ix.0 + 1) v h.preorder);
-      opened = subst (λ (v : List ℕ). IsOpenPath v f.spine) (sym t) (path-take_open ds f.spine (ix.0 + 1) (omega (arith, e)) v h.opened);
-      at_current = tt;
-    }
+    cut-is f (ix.0 + 1) None (omega arith) (omega arith) tt h
 
 pub open-within : {T : Type 0} (f : Forest T) (ix : TreeIndex) → slice_get f.spine 0 ≡ Some ix → IsForest f → ix.0 < length f.nodes
 open-within f ix g h = omega (arith, (open-last (depths f.nodes) f.spine h.opened).within, open-at f.spine ix g, length-map f.nodes (λ n. n.0))
+
+-- the same for a forest that is equal to a given one
+pub open-seen : {T : Type 0} (f g : Forest T) (ix : TreeIndex) → f ≡ g → slice_get g.spine 0 ≡ Some ix → IsForest f → ix.0 < length f.nodes
+open-seen {T = T} f g ix e q h = open-within f ix (subst (λ (v : Forest T). slice_get v.spine 0 ≡ Some ix) (sym e) q) h
 
 pub opened-within : {T : Type 0} (f : Forest T) (c : TreeIndex) (rest : List TreeIndex) → f.spine ≡ c ∷ rest → IsForest f → c.0 < length f.nodes
 opened-within f c rest e h = open-within f c (ap (λ (is : List TreeIndex). slice_get is 0) e) h
 
 -- a change from an index on: one more element, and its end
-pub map_from-more : {T : Type 0} (g : ℕ × T → ℕ × T) (ns : List (ℕ × T)) (i : ℕ) (n : ℕ × T)
-    → i < length ns → n ≡ get_or ns i n → map_from g (suc i) (set ns i (g n)) ≡ map_from g i ns
-map_from-more g [] i n l e = absurd (omega arith)
-map_from-more g (m ∷ ns) zero n l e = ap (λ k. g k ∷ map g ns) e
-map_from-more g (m ∷ ns) (suc i) n l e = ap (λ k. m ∷ k) (map_from-more g ns i n (omega arith) e)
-
 pub map_from-next : {T : Type 0} (g : ℕ × T → ℕ × T) (ns : List (ℕ × T)) (i : ℕ) (n : ℕ × T)
     → i < length ns → n ≡ get_or ns i n → map_from g (i + 1) (set ns i (g n)) ≡ map_from g i ns
-map_from-next g ns i n l e =
-    let h : i + 1 ≡ suc i = omega arith in
-    ap (λ k. map_from g k (set ns i (g n))) h ∙ map_from-more g ns i n l e
+map_from-next {T = T} g ns i n l e = rw add-one (by ns i l e)
+  where
+    by : (ns : List (ℕ × T)) (i : ℕ) → i < length ns → n ≡ get_or ns i n → map_from g (suc i) (set ns i (g n)) ≡ map_from g i ns
+    by [] i l e = absurd (omega arith)
+    by (m ∷ ns) zero l e = ap (λ k. g k ∷ map g ns) e
+    by (m ∷ ns) (suc i) l e = ap (λ k. m ∷ k) (by ns i (omega arith) e)
 
 pub map_from-end : {T : Type 0} (g : ℕ × T → ℕ × T) (ns : List (ℕ × T)) (i : ℕ) → length ns ≤ i → map_from g i ns ≡ ns
 map_from-end g [] zero l = refl
 map_from-end g [] (suc i) l = refl
 map_from-end g (m ∷ ns) zero l = absurd (omega arith)
 map_from-end g (m ∷ ns) (suc i) l = ap (λ k. m ∷ k) (map_from-end g ns i (omega arith))
+
+pub map_from-length : {T : Type 0} (g : ℕ × T → ℕ × T) (n : ℕ) (ns : List (ℕ × T)) → length (map_from g n ns) ≡ length ns
+map_from-length g zero ns = length-map ns g
+map_from-length g (suc n) [] = refl
+map_from-length g (suc n) (m ∷ ns) = ap suc (map_from-length g n ns)
 
 -- the nodes after one is inserted and those after it are changed
 pub wrap-nodes : {T : Type 0} (g : ℕ × T → ℕ × T) (ns : List (ℕ × T)) (p : ℕ) (y : ℕ × T)
@@ -292,68 +287,53 @@ insert-small (n ∷ ns) zero y l h (suc k) a b = h k (omega (arith, length-map (
 insert-small [] (suc p) y l h (suc k) a b = absurd (omega arith)
 insert-small (n ∷ ns) (suc p) y l h (suc k) a b = insert-small ns p y (omega arith) (λ j q. h (suc j) (omega arith)) k (omega arith) (omega arith)
 
-pub map_set : {T : Type 0} (ns : List (ℕ × T)) (i : ℕ) (n : ℕ × T) → depths (set ns i n) ≡ set (depths ns) i n.0
-map_set [] i n = refl
-map_set (m ∷ ns) zero n = refl
-map_set (m ∷ ns) (suc i) n = ap (λ z. m.0 ∷ z) (map_set ns i n)
-
 -- after a write to one index, each depth after it keeps its property
 pub set-keeps : {T : Type 0} (P : ℕ → Type 0) (ns : List (ℕ × T)) (i : ℕ) (n : ℕ × T)
     → ((k : ℕ) → i ≤ k → k < length ns → P (get_or (depths ns) k 0)) → (k : ℕ) → i + 1 ≤ k → k < length (set ns i n) → P (get_or (depths (set ns i n)) k 0)
 set-keeps P ns i n h k a b =
     let ne : k ≢ i = omega arith in
-    let same = ap (λ ds. get_or ds k 0) (map_set ns i n) ∙ get_or-set_other (depths ns) i k n.0 0 ne in
+    let same = ap (λ ds. get_or ds k 0) (map-set (λ n. n.0) ns i n) ∙ get_or-set_other (depths ns) i k n.0 0 ne in
     subst P (sym same) (h k (omega arith) (omega (arith, b, length-set ns i n)))
 
--- the depths once a node is inserted after the current node
-wrap-below : (ds : List ℕ) (p e k : ℕ) (es : List ℕ) → p ≤ length ds → k < p → get_or (take p ds ++ e ∷ es) k 0 ≡ get_or ds k 0
-wrap-below ds p e k es m l =
-    let n = length-take-le p ds m in get_or_append_left (take p ds) (e ∷ es) 0 k (omega arith) ∙ get_or-take p ds k 0 l
+-- the depths once a node is inserted before an index, and those from there on are one greater
+abbrev wrap : List ℕ → ℕ → ℕ → List ℕ
+wrap ds p e = take p ds ++ e ∷ map (λ d. d + 1) (drop p ds)
 
-wrap-following : (ds : List ℕ) (p e j : ℕ) → p + j < length ds
-    → get_or (take p ds ++ e ∷ map (λ d. d + 1) (drop p ds)) (suc (p + j)) 0 ≡ get_or ds (p + j) 0 + 1
-wrap-following ds p e j l =
-    let n = length-take-le p ds (omega arith) in
-    let r = get_or-append_right (take p ds) (e ∷ map (λ d. d + 1) (drop p ds)) p (suc (p + j)) 0 n (omega arith) in
-    let z : suc (p + j) - p ≡ suc j = omega arith in
-    let w : j < length (drop p ds) = omega (arith, length-drop p ds) in
-    r ∙ ap (λ k. get_or (e ∷ map (λ d. d + 1) (drop p ds)) k 0) z ∙ get_or-map (λ d. d + 1) (drop p ds) j 0 0 w ∙ ap (λ d. d + 1) (get_or-drop p ds j 0)
-
-wrap-length : (ds : List ℕ) (p e : ℕ) → p ≤ length ds → length (take p ds ++ e ∷ map (λ d. d + 1) (drop p ds)) ≡ length ds + 1
+wrap-length : (ds : List ℕ) (p e : ℕ) → p ≤ length ds → length (wrap ds p e) ≡ length ds + 1
 wrap-length ds p e m =
     grind (arith, length-append (take p ds) (e ∷ map (λ d. d + 1) (drop p ds)), length-take-le p ds m, length-map (drop p ds) (λ d. d + 1), length-drop p ds)
 
--- the last node of a depth before the index is still the last, if the inserted node is deeper
-last-wrap : (ds : List ℕ) (d i p e : ℕ) → IsLastAt ds d i → i < p → p ≤ length ds → d < e → IsLastAt (take p ds ++ e ∷ map (λ d. d + 1) (drop p ds)) d i
-last-wrap ds d i p e h l m q = record {
-  within = omega (arith, wrap-length ds p e m, h.within);
-  depth = wrap-below ds p e i _ m l ∙ h.depth;
-  following = λ k a b.
-      ⊎_elim
-      (λ x. rw (wrap-below ds p e k _ m x) (h.following k a (omega (arith, wrap-length ds p e m))))
-      (λ x. ⊎_elim
-      (λ y.
-      let j = k - suc p in
-      let z : k ≡ suc (p + j) = omega arith in
-      let w : p + j < length ds = omega (arith, wrap-length ds p e m) in
-      let v = h.following (p + j) (omega arith) w in
-      let g : get_or (take p ds ++ e ∷ map (λ d. d + 1) (drop p ds)) k 0 ≡ get_or ds (p + j) 0 + 1 =
-      ap (λ k. get_or (take p ds ++ e ∷ map (λ d. d + 1) (drop p ds)) k 0) z ∙ wrap-following ds p e j w in
-      omega arith)
-      (λ y.
-      let z : k ≡ p = omega arith in
-      let g = get_or_at (take p ds) e (map (λ d. d + 1) (drop p ds)) 0 k (omega (arith, length-take-le p ds m)) in
-      omega arith)
-      (cases_lt p k))
-      (cases_lt k p);
-}
+wrap-below : (ds : List ℕ) (p e k : ℕ) → p ≤ length ds → k < p → get_or (wrap ds p e) k 0 ≡ get_or ds k 0
+wrap-below ds zero e k m l = absurd (omega arith)
+wrap-below [] (suc p) e k m l = absurd (omega arith)
+wrap-below (d ∷ ds) (suc p) e zero m l = refl
+wrap-below (d ∷ ds) (suc p) e (suc k) m l = wrap-below ds p e k (omega arith) (omega arith)
 
-path-wrap : (ds : List ℕ) (is : List TreeIndex) (p e : ℕ)
-    → open_place is < p → p ≤ length ds → length is < e → IsOpenPath ds is → IsOpenPath (take p ds ++ e ∷ map (λ d. d + 1) (drop p ds)) is
-path-wrap ds [] p e l m q h = last-wrap ds 0 0 p e h l m (omega arith)
-path-wrap ds (i ∷ is) p e l m q h =
-    let o : open_place is < i.0 = last-order ds _ _ _ i.0 (open-last ds is h.1) h.0 (omega arith) in
-    (last-wrap ds _ i.0 p e h.0 l m (omega arith), path-wrap ds is p e (omega arith) m (omega arith) h.1)
+wrap-here : (ds : List ℕ) (p e k : ℕ) → p ≤ length ds → k ≡ p → get_or (wrap ds p e) k 0 ≡ e
+wrap-here ds p e k m h = get_or_at (take p ds) e (map (λ d. d + 1) (drop p ds)) 0 k (omega (arith, length-take-le p ds m))
+
+wrap-following : (ds : List ℕ) (p e k j : ℕ) → j ≡ k + 1 → p ≤ k → k < length ds → get_or (wrap ds p e) j 0 ≡ get_or ds k 0 + 1
+wrap-following ds p e k j h a b = rw (h, add-one) (by ds p k a b)
+  where
+    by : (ds : List ℕ) (p k : ℕ) → p ≤ k → k < length ds → get_or (wrap ds p e) (suc k) 0 ≡ get_or ds k 0 + 1
+    by ds zero k a b = get_or-map (λ d. d + 1) ds k 0 0 b
+    by [] (suc p) k a b = absurd (omega arith)
+    by (d ∷ ds) (suc p) zero a b = absurd (omega arith)
+    by (d ∷ ds) (suc p) (suc k) a b = by ds p k (omega arith) (omega arith)
+
+-- the inserted node is deeper than the last node before it, and so are all later ones
+wrap-edit : (ds : List ℕ) (d p e : ℕ) → d < e → p ≤ length ds → ((k : ℕ) → p ≤ k → k < length ds → d < get_or ds k 0) → IsEdit ds (wrap ds p e) p d
+wrap-edit ds d p e q m h =
+    let n = wrap-length ds p e m in
+    record {
+      within = m;
+      there = omega arith;
+      before = λ k a. wrap-below ds p e k m a;
+      following = λ k a b. ⊎_elim
+          (λ x. omega (arith, wrap-following ds p e (k - 1) k (omega arith) (omega arith) (omega arith), h (k - 1) (omega arith) (omega arith)))
+          (λ x. omega (arith, wrap-here ds p e k m (omega arith)))
+          (cases_lt p k);
+    }
 
 depths-deeper : {T : Type 0} (ns : List (ℕ × T)) → depths (map deeper ns) ≡ map (λ d. d + 1) (depths ns)
 depths-deeper [] = refl
@@ -365,45 +345,22 @@ depths-wrap ns zero e x = ap (λ z. e ∷ z) (depths-deeper ns)
 depths-wrap [] (suc p) e x = refl
 depths-wrap (n ∷ ns) (suc p) e x = ap (λ z. n.0 ∷ z) (depths-wrap ns p e x)
 
-preorder-wrap : (ds : List ℕ) (p e : ℕ)
-    → IsPreorder ds → 0 < p → p ≤ length ds → get_or ds (p - 1) 0 + 1 ≡ e → IsPreorder (take p ds ++ e ∷ map (λ d. d + 1) (drop p ds))
-preorder-wrap ds p e h z m q = λ k a.
-    let es = take p ds ++ e ∷ map (λ d. d + 1) (drop p ds) in
-    let len = wrap-length ds p e m in
-    ⊎_elim
-    (λ x. rw (wrap-below ds p e (k + 1) _ m x, wrap-below ds p e k _ m (omega arith)) (h k (omega arith)))
-    (λ x. ⊎_elim
-    (λ y.
-    let n : k + 1 ≡ p = omega arith in
-    let j : k ≡ p - 1 = omega arith in
-    let g = get_or_at (take p ds) e (map (λ d. d + 1) (drop p ds)) 0 (k + 1) (omega (arith, length-take-le p ds m)) in
-    let b = wrap-below ds p e k (map (λ d. d + 1) (drop p ds)) m (omega arith) in
-    let v = ap (λ i. get_or ds i 0) j in
-    omega arith)
-    (λ y.
-    let j = k - p in
-    let n : k + 1 ≡ suc (p + j) = omega arith in
-    let w : p + j < length ds = omega arith in
-    let g : get_or es (k + 1) 0 ≡ get_or ds (p + j) 0 + 1 = ap (λ i. get_or es i 0) n ∙ wrap-following ds p e j w in
-    ⊎_elim
-    (λ r.
-    let u : k ≡ p = omega arith in
-    let i : p + j ≡ p - 1 + 1 = omega arith in
-    let s = h (p - 1) (omega arith) in
-    let t = ap (λ i. get_or ds i 0) i in
-    let f = get_or_at (take p ds) e (map (λ d. d + 1) (drop p ds)) 0 k (omega (arith, length-take-le p ds m)) in
-    omega arith)
-    (λ r.
-    let i = k - suc p in
-    let u : k ≡ suc (p + i) = omega arith in
-    let o : p + j ≡ p + i + 1 = omega arith in
-    let s = h (p + i) (omega arith) in
-    let t = ap (λ i. get_or ds i 0) o in
-    let f : get_or es k 0 ≡ get_or ds (p + i) 0 + 1 = ap (λ i. get_or es i 0) u ∙ wrap-following ds p e i (omega arith) in
-    omega arith)
-    (cases_lt k (p + 1)))
-    (cases_lt k p))
-    (cases_lt (k + 1) p)
+preorder-wrap : (ds : List ℕ) (c e : ℕ) → IsPreorder ds → c < length ds → get_or ds c 0 + 1 ≡ e → IsPreorder (wrap ds (c + 1) e)
+preorder-wrap ds c e h m q = λ k a.
+    let p = c + 1 in
+    let len = wrap-length ds p e (omega arith) in
+    grind (
+      arith,
+      wrap-below ds p e k (omega arith),
+      wrap-below ds p e (k + 1) (omega arith),
+      wrap-here ds p e k (omega arith),
+      wrap-here ds p e (k + 1) (omega arith),
+      wrap-following ds p e k (k + 1) refl,
+      wrap-following ds p e (k - 1) k,
+      h k,
+      h (k - 1),
+      h c,
+    )
 
 pub wrapped-is : {T : Type 0} (f : Forest T) (c : TreeIndex) (x : T) → f.current ≡ Some c → IsForest f → IsForest (wrapped f c x)
 wrapped-is f c x q h =
@@ -414,15 +371,14 @@ wrapped-is f c x q h =
     let o = last-order ds _ _ _ c.0 (open-last ds f.spine h.opened) l (omega arith) in
     let m : p ≤ length ds = omega (arith, l.within) in
     let t = sym (depths-wrap f.nodes p e x) in
-    let j : c.0 ≡ p - 1 = omega arith in
-    let v : get_or ds (p - 1) 0 + 1 ≡ e = omega (arith, l.depth, ap (λ i. get_or ds i 0) j) in
+    let edit = wrap-edit ds (length f.spine + 1) p e (omega arith) m (λ k a b. l.following k (omega arith) b) in
     record {
-      preorder = subst IsPreorder t (preorder-wrap ds p e h.preorder (omega arith) m v);
-      opened = subst (λ (v : List ℕ). IsOpenPath v f.spine) t (path-wrap ds f.spine p e (omega arith) m (omega arith) h.opened);
+      preorder = subst IsPreorder t (preorder-wrap ds c.0 e h.preorder l.within (omega (arith, l.depth)));
+      opened = subst (λ (v : List ℕ). IsOpenPath v f.spine) t (path-edit ds _ f.spine p _ edit (omega arith) (omega arith) h.opened);
       at_current =
           subst (λ (o : Option TreeIndex). IfSome o (λ c. IsLastAt (depths (take p f.nodes ++ (e, x) ∷ map deeper (drop p f.nodes))) (length f.spine + 1) c.0))
           (sym q)
-          (subst (λ (v : List ℕ). IsLastAt v (length f.spine + 1) c.0) t (last-wrap ds _ c.0 p e l (omega arith) m (omega arith)));
+          (subst (λ (v : List ℕ). IsLastAt v (length f.spine + 1) c.0) t (last-edit ds _ p _ _ c.0 edit (omega arith) (omega arith) l));
     }
 
 root-depth : (ds : List ℕ) (is : List TreeIndex) → IsOpenPath ds is → get_or ds 0 0 ≡ 0
@@ -439,11 +395,11 @@ current-within f c q h =
     let l = subst (λ (o : Option TreeIndex). IfSome o (λ c. IsLastAt (depths f.nodes) (length f.spine + 1) c.0)) q h.at_current in
     omega (arith, l.within, length-map f.nodes (λ n. n.0))
 
--- the end of the descendants of a node whose depth is read
-pub end-read : {T : Type 0} (ns ms : List (ℕ × T)) (i e : ℕ) (n : ℕ × T)
-    → i < length ns → n ≡ get_or ns i n → ms ≡ ns → e ≡ run_end (depths ms) n.0 (i + 1) → e ≡ end_of (depths ns) i
-end-read {T = T} ns ms i e n l r q h =
-    h ∙ ap (λ (v : List (ℕ × T)). run_end (depths v) n.0 (i + 1)) q ∙ ap (λ d. run_end (depths ns) d (i + 1)) (sym (depth_at ns i n l r))
+-- the end of the descendants of a node whose depth is known
+pub end-known : {T : Type 0} (ns ms : List (ℕ × T)) (i e d : ℕ) → ms ≡ ns → d ≡ get_or (depths ns) i 0
+    → e ≡ run_end (depths ms) d (i + 1) → e ≡ end_of (depths ns) i
+end-known {T = T} ns ms i e d q r h =
+    h ∙ ap (λ (v : List (ℕ × T)). run_end (depths v) d (i + 1)) q ∙ ap (λ k. run_end (depths ns) k (i + 1)) r
 
 -- the descendants of the last node of a depth end with the list
 last-end : {T : Type 0} (ns : List (ℕ × T)) (d i : ℕ) → IsLastAt (depths ns) d i → end_of (depths ns) i ≡ length ns
@@ -483,11 +439,11 @@ spine-small f xs e h l k a =
     let m = length-map f.nodes (λ n. n.0) in
     let q : get_or (reverse xs) (length xs - 1 - k) d ≡ get_or xs k d = r ∙ ap (λ i. get_or xs i d) z in
     let v : (get_or xs k d).0 < 2 ^ 63 = omega (arith, ap (λ (t : TreeIndex). t.0) q) in
-    subst (λ (o : Option TreeIndex). IfSome o (λ ix. ix.0 < 2 ^ 63)) (sym (get-read xs k d a)) v
+    subst (λ (o : Option TreeIndex). IfSome o (λ ix. ix.0 < 2 ^ 63)) (sym (slice_get-get_or xs k d a)) v
 
 pub item-read : {T : Type 0} (f now : Forest T) (ix : TreeIndex) (n : ℕ × T)
     → f ≡ now → ix.0 < length now.nodes → n ≡ get_or f.nodes ix.0 n → item_at now ix ≡ Some n.1
 item-read {T = T} f now ix n e l r =
     let m = subst (λ (v : Forest T). ix.0 < length v.nodes) (sym e) l in
     sym (ap (λ (v : Forest T). item_at v ix) e)
-    ∙ ap (λ (o : Option (ℕ × T)). option_map (λ k. k.1) o) (get-read f.nodes ix.0 n m ∙ ap (λ (k : ℕ × T). Some k) (sym r))
+    ∙ ap (λ (o : Option (ℕ × T)). option_map (λ k. k.1) o) (slice_get-get_or f.nodes ix.0 n m ∙ ap (λ (k : ℕ × T). Some k) (sym r))

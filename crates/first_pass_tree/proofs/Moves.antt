@@ -5,10 +5,10 @@ use Rattle.std.proofs.lemmas.List.{length-map}
 use Rattle.std.proofs.lemmas.Bool.{cases_lt, cases_eq}
 use Rattle.std.proofs.lemmas.Bool.Decides.{nat_tests}
 use Rattle.first_pass_tree.specs.declared.tree_index.TreeIndex.{TreeIndex}
-use Rattle.first_pass_tree.specs.Forest.{Forest, IsForest, IsLastAt, IsOpenPath, IsPreorder, IsChildOfCurrent, CanMoveFrom, depths, map_from, shallower}
-use Rattle.first_pass_tree.specs.Forest.{end_of, last_before, moved_from, open_place}
-use Rattle.first_pass_tree.proofs.Depths.{last-order, open-last, at-end}
-use Rattle.first_pass_tree.proofs.Keeps.{run-within}
+use Rattle.first_pass_tree.specs.Forest.{Forest, IsForest, IsLastAt, IsPreorder, IsChildOfCurrent, CanMoveFrom, depths, map_from, shallower}
+use Rattle.first_pass_tree.specs.Forest.{end_of, last_before, moved_from}
+use Rattle.first_pass_tree.proofs.Depths.{IsEdit, path-edit, last-order, open-last, at-end}
+use Rattle.first_pass_tree.proofs.Keeps.{run-within, map_from-length}
 
 -- the depths from an index on, each decreased by one
 lower-map : {T : Type 0} (ns : List (ℕ × T)) (k : ℕ) → get_or (depths (map shallower ns)) k 0 ≡ get_or (depths ns) k 0 - 1
@@ -29,57 +29,27 @@ lower-following (n ∷ ns) (suc e) zero l = absurd (omega arith)
 lower-following (n ∷ ns) (suc e) (suc k) l = lower-following ns e k (omega arith)
 
 lower-length : {T : Type 0} (ns : List (ℕ × T)) (e : ℕ) → length (depths (map_from shallower e ns)) ≡ length (depths ns)
-lower-length ns zero = length-map (map shallower ns) (λ n. n.0) ∙ length-map ns shallower ∙ sym (length-map ns (λ n. n.0))
-lower-length [] (suc e) = refl
-lower-length (n ∷ ns) (suc e) = ap suc (lower-length ns e)
+lower-length ns e = length-map (map_from shallower e ns) (λ n. n.0) ∙ map_from-length shallower e ns ∙ sym (length-map ns (λ n. n.0))
 
--- the last node of a depth before the index is still the last, if every node from the index on is at least two levels
--- deeper
-last-lower : {T : Type 0} (ns : List (ℕ × T)) (d i e m : ℕ) → IsLastAt (depths ns) d i → i < e → d ≤ m
-    → ((k : ℕ) → e ≤ k → k < length (depths ns) → m + 2 ≤ get_or (depths ns) k 0) → IsLastAt (depths (map_from shallower e ns)) d i
-last-lower ns d i e m h l q b = record {
-  within = omega (arith, lower-length ns e, h.within);
-  depth = lower-before ns e i l ∙ h.depth;
-  following = λ k a c.
-      let w : k < length (depths ns) = omega (arith, lower-length ns e) in
-      ⊎_elim
-      (λ x. rw (lower-before ns e k x) (h.following k a w))
-      (λ x. let r = lower-following ns e k x in let s = b k x w in omega arith)
-      (cases_lt k e);
-}
-
-path-lower : {T : Type 0} (ns : List (ℕ × T)) (is : List TreeIndex) (e m : ℕ) → open_place is < e → length is ≤ m
-    → ((k : ℕ) → e ≤ k → k < length (depths ns) → m + 2 ≤ get_or (depths ns) k 0) → IsOpenPath (depths ns) is → IsOpenPath (depths (map_from shallower e ns)) is
-path-lower ns [] e m l q b h = last-lower ns 0 0 e m h l (omega arith) b
-path-lower ns (i ∷ is) e m l q b h =
-    let o : open_place is < i.0 = last-order (depths ns) _ _ _ i.0 (open-last (depths ns) is h.1) h.0 (omega arith) in
-    (last-lower ns _ i.0 e m h.0 l (omega arith) b, path-lower ns is e m (omega arith) (omega arith) b h.1)
+-- every node from the index on is at least two levels deeper
+lower-edit : {T : Type 0} (ns : List (ℕ × T)) (d e : ℕ) → e ≤ length (depths ns)
+    → ((k : ℕ) → e ≤ k → k < length (depths ns) → d + 2 ≤ get_or (depths ns) k 0) → IsEdit (depths ns) (depths (map_from shallower e ns)) e d
+lower-edit ns d e m b =
+    let n = lower-length ns e in
+    record {
+      within = m;
+      there = omega arith;
+      before = λ k a. lower-before ns e k a;
+      following = λ k a c. let r = lower-following ns e k a in let s = b k a (omega arith) in omega arith;
+    }
 
 preorder-lower : {T : Type 0} (ns : List (ℕ × T)) (e m : ℕ)
     → 0 < e → IsPreorder (depths ns) → (e < length (depths ns) → get_or (depths ns) e 0 ≤ m) → m ≤ get_or (depths ns) (e - 1) 0 + 2
     → ((k : ℕ) → e ≤ k → k < length (depths ns) → 0 < get_or (depths ns) k 0) → IsPreorder (depths (map_from shallower e ns))
 preorder-lower ns e m z h q r b = λ k a.
-    let w : k + 1 < length (depths ns) = omega (arith, lower-length ns e) in
-    let p = h k w in
-    ⊎_elim
-    (λ x. rw (lower-before ns e (k + 1) x, lower-before ns e k (omega arith)) p)
-    (λ x. ⊎_elim
-    (λ y.
-    let n : k + 1 ≡ e = omega arith in
-    let j : k ≡ e - 1 = omega arith in
-    let s = lower-following ns e (k + 1) x in
-    let t = lower-before ns e k y in
-    let u = q (omega arith) in
-    let v = ap (λ i. get_or (depths ns) i 0) n in
-    let o = ap (λ i. get_or (depths ns) i 0) j in
-    omega arith)
-    (λ y.
-    let s = lower-following ns e (k + 1) x in
-    let t = lower-following ns e k y in
-    let u = b k y (omega arith) in
-    omega arith)
-    (cases_lt k e))
-    (cases_lt (k + 1) e)
+    let n = lower-length ns e in
+    grind
+    (arith, lower-before ns e k, lower-before ns e (k + 1), lower-following ns e k, lower-following ns e (k + 1), h k, b k, q, r)
 
 pub record IsLastBefore (ds : List ℕ) (d n r : ℕ) : Type 0 where
   pub within : r < n
@@ -151,21 +121,16 @@ moved_from-is f e g h =
     (cases_lt k e)) in
     record {
       preorder = preorder-lower f.nodes e (length f.spine + 2) (omega arith) h.preorder q (omega arith) (λ k x y. let u = b k x y in omega arith);
-      opened = path-lower f.nodes f.spine e (length f.spine) (omega arith) (omega arith) (λ k x y. let u = b k x y in omega arith) h.opened;
+      opened = path-edit ds _ f.spine e (length f.spine)
+          (lower-edit f.nodes _ e v (λ k x y. let u = b k x y in omega arith)) (omega arith) (omega arith) h.opened;
       at_current = record { within = omega (arith, i.within); depth = i.depth; following = λ k x y. i.following k x (omega arith) };
     }
-
-abbrev at_place : ℕ → TreeIndex
-at_place n = record { 0 = n }
 
 -- the same, from the results of the calls on the fields
 pub moved-by : {T : Type 0} (f : Forest T) (e d r : ℕ) (ns : List (ℕ × T))
     → d ≡ length f.spine + 1 → ns ≡ map_from shallower e f.nodes → r ≡ last_before (depths ns) d (length ns)
     → record f { nodes = ns; current = Some (record { 0 = r }) } ≡ moved_from f e
-moved-by {T = T} f e d r ns ed en er =
-    let z : r ≡ last_before (depths ns) (length f.spine + 1) (length ns) = er ∙ ap (λ k. last_before (depths ns) k (length ns)) ed in
-    ap (λ k. record f { nodes = ns; current = Some (at_place k) }) z
-    ∙ ap (λ (ms : List (ℕ × T)). record f { nodes = ms; current = Some (at_place (last_before (depths ms) (length f.spine + 1) (length ms))) }) en
+moved-by f e d r ns ed en er = cc
 
 -- the siblings after a child of the current node can be moved out
 pub rest-moves : {T : Type 0} (f : Forest T) (ix : TreeIndex) → IsChildOfCurrent f ix → CanMoveFrom f (end_of (depths f.nodes) ix.0)

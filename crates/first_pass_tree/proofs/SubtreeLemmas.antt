@@ -1,34 +1,30 @@
 -- The recorded subtrees, after some are removed and after the depths of the tree change.
 use Rattle.std.proofs.Common.{◌≡◌, ℕ, ◌+◌, ◌<◌, ◌≤◌, ◌==◌, ◌||◌, nat_lt, Bool, true, false, suc, zero, List, [], ◌∷◌, ◌++◌, length, get_or, set, take}
-use Rattle.std.proofs.Common.{reverse, slice_index, if◌then◌else◌, IfSome, Option, Some, None, refl, sym, ◌∙◌, ap, subst, arith}
+use Rattle.std.proofs.Common.{reverse, slice_index, if◌then◌else◌, IfSome, Option, Some, None, refl, sym, ◌∙◌, ap, subst, arith, take_all, length-set}
+use Rattle.std.proofs.Common.{length-append, length-take-le, take-take, get_or-take}
 use Rattle.std.proofs.lemmas.Bool.Decides.{nat_tests}
-use Rattle.std.proofs.lemmas.List.{reverse-append, length-reverse, take_all, take_more_set, length-set, length-map, length-append, length-take-le}
-use Rattle.std.proofs.lemmas.List.{take-append-le, take-take, take-map, get_or-take}
+use Rattle.std.proofs.lemmas.List.{reverse-append, length-reverse, take_more_set, length-map}
+use Rattle.std.proofs.lemmas.List.{take-append-le, take-map}
 use Rattle.first_pass_tree.specs.declared.subtrees.Subtree.{Subtree}
 use Rattle.first_pass_tree.specs.declared.tree_index.TreeIndex.{TreeIndex}
 use Rattle.first_pass_tree.specs.Subtrees.{IsSubtree, AreSubtrees, IsTree, subtree, within_first, ended_last, ended, stands_outside, last_between}
 use Rattle.first_pass_tree.specs.Subtrees.{left_between}
 use Rattle.first_pass_tree.specs.Forest.{Forest, IsForest, IsLastAt, depths, map_from}
-use Rattle.first_pass_tree.proofs.Keeps.{rev_take, set-is, modify-set, depths-modify}
+use Rattle.first_pass_tree.proofs.Keeps.{rev_take, set-is, modify-set, depths-modify, map_from-length}
 
 -- the subtrees end before a greater index too
 pub subtrees-up_to : (ds : List ℕ) (n m : ℕ) (es : List Subtree) → n ≤ m → AreSubtrees ds n es → AreSubtrees ds m es
 subtrees-up_to ds n m [] l h = tt
 subtrees-up_to ds n m (e ∷ es) l h = (let w = h.0 in omega arith, h.1, h.2)
 
--- without the last one
-pub subtrees-rest : (ds : List ℕ) (n : ℕ) (e : Subtree) (es : List Subtree) → AreSubtrees ds n (e ∷ es) → AreSubtrees ds n es
-subtrees-rest ds n e es h = subtrees-up_to ds e.past n es h.0 h.2
-
-first_by : (t : Bool) (ds : List ℕ) (count : ℕ) (e : Subtree) (es : List Subtree) → (t ≡ false → e.past ≤ count) → IsSubtree ds e.place e.past
-    → AreSubtrees ds e.past es → AreSubtrees ds count (within_first count es)
-    → AreSubtrees ds count (if t then within_first count es else e ∷ es)
-first_by true ds count e es l s r h = h
-first_by false ds count e es l s r h = (l refl, s, r)
-
 first-are : (ds : List ℕ) (n count : ℕ) (es : List Subtree) → AreSubtrees ds n es → AreSubtrees ds count (within_first count es)
 first-are ds n count [] h = tt
-first-are ds n count (e ∷ es) h = first_by (nat_lt count e.past) ds count e es (λ f. grind (arith, nat_tests, f)) h.1 h.2 (first-are ds e.past count es h.2)
+first-are ds n count (e ∷ es) h = by (nat_lt count e.past) (λ f. grind (arith, nat_tests, f)) (first-are ds e.past count es h.2)
+  where
+    by : (t : Bool) → (t ≡ false → e.past ≤ count) → AreSubtrees ds count (within_first count es)
+        → AreSubtrees ds count (if t then within_first count es else e ∷ es)
+    by true l r = r
+    by false l r = (l refl, h.1, h.2)
 
 -- the subtrees that end within the first nodes
 pub subtrees-first : (ds : List ℕ) (n count : ℕ) (es fs : List Subtree) → fs ≡ within_first count es → AreSubtrees ds n es → AreSubtrees ds count fs
@@ -49,20 +45,19 @@ first-stop count left k xs d e l p =
     let t : nat_lt count (get_or xs k d).past ≡ false = grind (arith, nat_tests, p) in
     ap (within_first count) r ∙ rw t refl ∙ sym r
 
-only_by : (t : Bool) (ds : List ℕ) (past : ℕ) (e : Subtree) → AreSubtrees ds past (e ∷ []) → AreSubtrees ds past (if t then [] else e ∷ [])
-only_by true ds past e h = tt
-only_by false ds past e h = h
-
-outer_by : (t : Bool) (ds : List ℕ) (place past : ℕ) (e o : Subtree) (es : List Subtree) → IsSubtree ds place past → AreSubtrees ds past (e ∷ o ∷ es)
-    → AreSubtrees ds past ((if t then subtree place past else e) ∷ o ∷ es)
-outer_by true ds place past e o es s h = (omega arith, s, subtrees-up_to ds e.past past (o ∷ es) h.0 h.2)
-outer_by false ds place past e o es s h = h
-
 ended_last-are : (ds : List ℕ) (place past : ℕ) (es : List Subtree) → IsSubtree ds place past → AreSubtrees ds past es
     → AreSubtrees ds past (ended_last place past es)
 ended_last-are ds place past [] s h = tt
-ended_last-are ds place past (e ∷ []) s h = only_by (e.place == place) ds past e h
-ended_last-are ds place past (e ∷ o ∷ es) s h = outer_by (e.place == place) ds place past e o es s h
+ended_last-are ds place past (e ∷ []) s h = by (e.place == place)
+  where
+    by : (t : Bool) → AreSubtrees ds past (if t then [] else e ∷ [])
+    by true = tt
+    by false = h
+ended_last-are ds place past (e ∷ o ∷ es) s h = by (e.place == place)
+  where
+    by : (t : Bool) → AreSubtrees ds past ((if t then subtree place past else e) ∷ o ∷ es)
+    by true = (omega arith, s, subtrees-up_to ds e.past past (o ∷ es) h.0 h.2)
+    by false = h
 
 -- the last subtree gets another end
 pub subtrees-ended : (ds : List ℕ) (n place past : ℕ) (es fs : List Subtree) → fs ≡ ended place past es → IsSubtree ds place past
@@ -76,11 +71,6 @@ subtrees-ended ds n place past es fs e s h =
 last_seen : (xs : List Subtree) (k : ℕ) (d : Subtree) → length xs ≡ k + 1 → reverse xs ≡ get_or xs k d ∷ reverse (take k xs)
 last_seen xs k d l = ap reverse (sym (take_all (k + 1) xs (omega arith))) ∙ rev_take xs k d (omega arith)
 
-set_by : (place past : ℕ) (e : Subtree) (es : List Subtree) → 0 < length es → (e.place == place) ≡ true
-    → ended_last place past (e ∷ es) ≡ subtree place past ∷ es
-set_by place past e [] l t = absurd (omega arith)
-set_by place past e (o ∷ es) l t = rw t refl
-
 -- the last record is that of the index, and another remains
 pub ended-set : (place past k : ℕ) (xs : List Subtree) (d : Subtree) → length xs ≡ k + 1 → 0 < k → (get_or xs k d).place ≡ place
     → ended_last place past (reverse xs) ≡ reverse (set xs k (subtree place past))
@@ -89,7 +79,11 @@ ended-set place past k xs d l m e =
     let t : ((get_or xs k d).place == place) ≡ true = grind (arith, nat_tests, e) in
     let w : 0 < length (reverse (take k xs)) = omega (arith, length-reverse (take k xs), length-take-le k xs (omega arith)) in
     let s : set xs k x ≡ take k xs ++ x ∷ [] = sym (take_all (k + 1) (set xs k x) (omega (arith, length-set xs k x))) ∙ take_more_set xs k x (omega arith) in
-    ap (ended_last place past) (last_seen xs k d l) ∙ set_by place past _ _ w t ∙ sym (ap reverse s ∙ reverse-append (take k xs) (x ∷ []))
+    ap (ended_last place past) (last_seen xs k d l) ∙ by _ _ w t ∙ sym (ap reverse s ∙ reverse-append (take k xs) (x ∷ []))
+  where
+    by : (e : Subtree) (es : List Subtree) → 0 < length es → (e.place == place) ≡ true → ended_last place past (e ∷ es) ≡ subtree place past ∷ es
+    by e [] l t = absurd (omega arith)
+    by e (o ∷ es) l t = rw t refl
 
 -- with one more record, of a node without descendants
 pub subtrees-added : (ds : List ℕ) (n place : ℕ) (es fs : List Subtree) → fs ≡ subtree place (place + 1) ∷ within_first place es → place < n
@@ -105,42 +99,25 @@ subtrees-added ds n place es fs e l h =
 pub subtrees-dropped : (ds : List ℕ) (n place : ℕ) (es fs : List Subtree) → fs ≡ within_first place es → place < n → AreSubtrees ds n es → AreSubtrees ds n fs
 subtrees-dropped ds n place es fs e l h = subtrees-up_to ds place n fs (omega arith) (subtrees-first ds n place es fs e h)
 
-left_by : (t : Bool) (ds : List ℕ) (n : ℕ) (e : Subtree) (es : List Subtree) → AreSubtrees ds n (e ∷ es) → AreSubtrees ds n (if t then e ∷ es else es)
-left_by true ds n e es h = h
-left_by false ds n e es h = subtrees-rest ds n e es h
-
 -- the records that remain after the last one is taken
 pub subtrees-left : (ds : List ℕ) (n from to : ℕ) (es fs : List Subtree) → fs ≡ left_between from to es → AreSubtrees ds n es → AreSubtrees ds n fs
 subtrees-left ds n from to [] fs e h = subst (AreSubtrees ds n) (sym e) tt
-subtrees-left ds n from to (x ∷ es) fs e h = subst (AreSubtrees ds n) (sym e) (left_by (stands_outside from to x) ds n x es h)
+subtrees-left ds n from to (x ∷ es) fs e h = subst (AreSubtrees ds n) (sym e) (by (stands_outside from to x))
+  where
+    by : (t : Bool) → AreSubtrees ds n (if t then x ∷ es else es)
+    by true = h
+    by false = subtrees-up_to ds x.past n es h.0 h.2
 
-within_by : (b p : Bool) (from to : ℕ) (e : Subtree) → nat_lt e.place from ≡ b → nat_lt to e.past ≡ p
-    → IfSome (if b || p then None else Some e) (λ (s : Subtree). (from ≤ s.place) × (s.past ≤ to))
-within_by true p from to e f g = tt
-within_by false true from to e f g = tt
-within_by false false from to e f g = (grind (arith, nat_tests, f), grind (arith, nat_tests, g))
-
-last_within : (from to : ℕ) (es : List Subtree) → IfSome (last_between from to es) (λ s. (from ≤ s.place) × (s.past ≤ to))
-last_within from to [] = tt
-last_within from to (e ∷ es) = within_by (nat_lt e.place from) (nat_lt to e.past) from to e refl refl
-
--- the record that is taken is between the two indices
-pub taken-within : (from to : ℕ) (es : List Subtree) (o : Option Subtree) → o ≡ last_between from to es → IfSome o (λ s. (from ≤ s.place) × (s.past ≤ to))
-taken-within from to es o e = subst (λ (v : Option Subtree). IfSome v (λ s. (from ≤ s.place) × (s.past ≤ to))) (sym e) (last_within from to es)
-
-below_by : (t : Bool) (ds : List ℕ) (e : Subtree) → IsSubtree ds e.place e.past
-    → IfSome (if t then None else Some e) (λ (s : Subtree). IsSubtree ds s.place s.past)
-below_by true ds e h = tt
-below_by false ds e h = h
-
-last_below : (ds : List ℕ) (n from to : ℕ) (es : List Subtree) → AreSubtrees ds n es → IfSome (last_between from to es) (λ s. IsSubtree ds s.place s.past)
-last_below ds n from to [] h = tt
-last_below ds n from to (e ∷ es) h = below_by (stands_outside from to e) ds e h.1
-
--- and it is a subtree
-pub taken-below : (ds : List ℕ) (n from to : ℕ) (es : List Subtree) (o : Option Subtree) → o ≡ last_between from to es → AreSubtrees ds n es
-    → IfSome o (λ s. IsSubtree ds s.place s.past)
-taken-below ds n from to es o e h = subst (λ (v : Option Subtree). IfSome v (λ s. IsSubtree ds s.place s.past)) (sym e) (last_below ds n from to es h)
+-- the record that is taken is the last one, between the two indices
+pub taken-is : (P : Subtree → Type 0) (from to : ℕ) (es : List Subtree) (o : Option Subtree) → o ≡ last_between from to es
+    → ((e : Subtree) (rest : List Subtree) → es ≡ e ∷ rest → from ≤ e.place → e.past ≤ to → P e) → IfSome o P
+taken-is P from to [] o q h = rw q tt
+taken-is P from to (e ∷ es) o q h = rw q (by (nat_lt e.place from) (nat_lt to e.past) refl refl)
+  where
+    by : (b p : Bool) → nat_lt e.place from ≡ b → nat_lt to e.past ≡ p → IfSome (if b || p then None else Some e) P
+    by true p f g = tt
+    by false true f g = tt
+    by false false f g = h e es refl (grind (arith, nat_tests, f)) (grind (arith, nat_tests, g))
 
 -- the last node of a depth, with all nodes after it
 last-subtree : {T : Type 0} (ns : List (ℕ × T)) (d i : ℕ) → IsLastAt (depths ns) d i → IsSubtree (depths ns) i (length ns)
@@ -205,18 +182,17 @@ subtrees-cut ns ms n xs l e h =
     let w : n ≤ length ms = omega (arith, ap length e, length-take-le n ns l) in
     subtrees-front ns ms n xs l w (ap (take n) e ∙ take-take n n ns (omega arith)) h
 
+-- in a tree with more nodes at the end
+pub subtrees-pushed : {T : Type 0} (ns ms more : List (ℕ × T)) (xs : List Subtree) → ms ≡ ns ++ more
+    → AreSubtrees (depths ns) (length ns) xs → AreSubtrees (depths ms) (length ms) xs
+subtrees-pushed ns ms more xs e h =
+    subtrees-front ns ms (length ns) xs (omega arith) (omega (arith, ap length e, length-append ns more))
+    (ap (take (length ns)) e ∙ take-append-le (length ns) ns more (omega arith)) h
+
 -- in a tree with other nodes after the first ones
 pub subtrees-joined : {T : Type 0} (ns ms more : List (ℕ × T)) (n : ℕ) (xs : List Subtree) → n ≤ length ns → ms ≡ take n ns ++ more
     → AreSubtrees (depths ns) n xs → AreSubtrees (depths ms) (length ms) xs
-subtrees-joined ns ms more n xs l e h =
-    let t = length-take-le n ns l in
-    let w : n ≤ length ms = omega (arith, ap length e, length-append (take n ns) more) in
-    subtrees-front ns ms n xs l w (ap (take n) e ∙ take-append-le n (take n ns) more (omega arith) ∙ take-take n n ns (omega arith)) h
-
-map_from-length : {T : Type 0} (g : ℕ × T → ℕ × T) (n : ℕ) (ns : List (ℕ × T)) → length (map_from g n ns) ≡ length ns
-map_from-length g zero ns = length-map ns g
-map_from-length g (suc n) [] = refl
-map_from-length g (suc n) (m ∷ ns) = ap suc (map_from-length g n ns)
+subtrees-joined ns ms more n xs l e h = subtrees-pushed (take n ns) ms more xs e (subtrees-cut ns (take n ns) n xs l refl h)
 
 map_from-take : {T : Type 0} (g : ℕ × T → ℕ × T) (n : ℕ) (ns : List (ℕ × T)) → take n (map_from g n ns) ≡ take n ns
 map_from-take g zero ns = refl

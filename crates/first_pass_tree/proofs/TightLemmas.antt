@@ -1,13 +1,11 @@
 -- Making the paragraphs of a list tight, one node after the other.
-use Rattle.std.proofs.Common.{◌≡◌, ℕ, zero, suc, ◌+◌, ◌<◌, ◌≤◌, ◌-◌, ◌==◌, nat_lt, Bool, true, false, List, ◌∷◌, length, slice_index, if◌then◌else◌, Option}
-use Rattle.std.proofs.Common.{[], Some, refl, sym, ap, subst, ◌∙◌, ⊎_elim, arith}
-use Rattle.std.proofs.lemmas.Bool.{cases_lt}
+use Rattle.std.proofs.Common.{◌≡◌, ◌≢◌, ℕ, zero, suc, ◌+◌, ◌<◌, ◌≤◌, ◌-◌, ◌==◌, nat_lt, Bool, true, false, List, ◌∷◌, length, slice_index, if◌then◌else◌}
+use Rattle.std.proofs.Common.{[], Some, refl, sym, ap, subst, ◌∙◌, arith}
 use Rattle.std.proofs.lemmas.Bool.Decides.{nat_tests}
 use Rattle.std.proofs.lemmas.List.{length-map}
 use Rattle.first_pass_items.specs.declared.item.Item.{Item}
 use Rattle.first_pass_items.specs.declared.item.ItemBody.{ItemBody}
 use Rattle.first_pass_items.specs.declared.item.ItemBody.TheVariants.{Paragraph}
-use Rattle.first_pass_tree.specs.declared.tree_index.TreeIndex.{TreeIndex}
 use Rattle.first_pass_tree.specs.Forest.{Forest, depths, modify, body_at, end_of}
 use Rattle.first_pass_tree.specs.Tight.{tight_body, tightened, tight_run, tight_at, tight_node, with_tight_node, tight_from}
 use Rattle.first_pass_tree.proofs.Depths.{at-end, before-end}
@@ -17,15 +15,14 @@ use Rattle.first_pass_tree.proofs.BodyLemmas.{not_changed}
 abbrev node_of : ℕ → ℕ → ItemBody → Item
 node_of start «end» body = record { start = start; «end» = «end»; body = body }
 
-run_depths_by : (t : Bool) (depth : ℕ) (n : ℕ × Item) (ns : List (ℕ × Item))
-    → depths (tight_run depth ns) ≡ depths ns → depths (if t then tightened (depth + 2) n ∷ tight_run depth ns else n ∷ ns) ≡ depths (n ∷ ns)
-run_depths_by true depth n ns h = ap (λ ds. n.0 ∷ ds) h
-run_depths_by false depth n ns h = refl
-
 tight_run_depths : (depth : ℕ) (ns : List (ℕ × Item)) → depths (tight_run depth ns) ≡ depths ns
 unfolding tight_run
 tight_run_depths depth [] = refl
-tight_run_depths depth (n ∷ ns) = run_depths_by (nat_lt depth n.0) depth n ns (tight_run_depths depth ns)
+tight_run_depths depth (n ∷ ns) = by (nat_lt depth n.0) (tight_run_depths depth ns)
+  where
+    by : (t : Bool) → depths (tight_run depth ns) ≡ depths ns → depths (if t then tightened (depth + 2) n ∷ tight_run depth ns else n ∷ ns) ≡ depths (n ∷ ns)
+    by true h = ap (λ ds. n.0 ∷ ds) h
+    by false h = refl
 
 -- tightening changes no depth
 tight_at_depths : (depth i : ℕ) (ns : List (ℕ × Item)) → depths (tight_at depth i ns) ≡ depths ns
@@ -50,17 +47,19 @@ tight_more depth (suc i) (n ∷ ns) h deep =
     let e : suc i + 1 ≡ suc (i + 1) = omega arith in
     ap (λ k. tight_node depth (suc i) (tight_at depth k (n ∷ ns))) e ∙ ap (λ ms. n ∷ ms) (tight_more depth i ns (omega arith) deep)
 
+-- a node that is not two levels deeper
+pub node_stays : (depth i : ℕ) (ns : List (ℕ × Item)) → ((slice_index (depths ns) i == (depth + 2)) ≡ false) → tight_node depth i ns ≡ ns
+unfolding tight_node
+node_stays depth i [] h = refl
+node_stays depth zero (n ∷ ns) h = rw h refl
+node_stays depth (suc i) (n ∷ ns) h = ap (λ ms. n ∷ ms) (node_stays depth i ns h)
+
 -- a node that is too deep is unchanged
 tight_past : (depth i : ℕ) (ns : List (ℕ × Item)) → i < length ns → depth + 2 < slice_index (depths ns) i → tight_at depth (i + 1) ns ≡ tight_at depth i ns
-unfolding tight_at tight_run
-tight_past depth i [] h deep = absurd (omega arith)
-tight_past depth zero (n ∷ ns) h deep =
-    let t : nat_lt depth n.0 ≡ true = grind (arith, nat_tests, deep) in
-    let u : (n.0 == (depth + 2)) ≡ false = grind (arith, nat_tests, deep) in
-    rw (t, u) refl
-tight_past depth (suc i) (n ∷ ns) h deep =
-    let e : suc i + 1 ≡ suc (i + 1) = omega arith in
-    ap (λ k. tight_at depth k (n ∷ ns)) e ∙ ap (λ ms. n ∷ ms) (tight_past depth i ns (omega arith) deep)
+tight_past depth i ns h deep =
+    let e = ap (λ ds. slice_index ds i) (tight_at_depths depth (i + 1) ns) in
+    let u : (slice_index (depths (tight_at depth (i + 1) ns)) i == (depth + 2)) ≡ false = grind (arith, nat_tests, deep, e) in
+    sym (node_stays depth i (tight_at depth (i + 1) ns) u) ∙ tight_more depth i ns h (omega arith)
 
 -- and so are nodes that are all too deep
 tight_over : (depth i gap : ℕ) (ns : List (ℕ × Item))
@@ -81,27 +80,13 @@ tight_back depth place at ns l w deep over =
     let o = tight_over depth (place + 1) (at - (place + 1)) ns (omega arith) (λ k a b. over k (omega arith) (omega arith)) in
     ap (λ k. tight_node depth place (tight_at depth k ns)) (sym e) ∙ ap (tight_node depth place) o ∙ tight_more depth place ns (omega arith) deep
 
--- at the end of the nodes
-tight_end : (depth i : ℕ) (ns : List (ℕ × Item)) → length ns ≤ i → tight_at depth i ns ≡ ns
+-- at the end of the nodes, or where a node is not below the list
+tight_none : (depth i : ℕ) (ns : List (ℕ × Item)) → (i < length ns → slice_index (depths ns) i ≤ depth) → tight_at depth i ns ≡ ns
 unfolding tight_at tight_run
-tight_end depth zero [] h = refl
-tight_end depth (suc i) [] h = refl
-tight_end depth zero (n ∷ ns) h = absurd (omega arith)
-tight_end depth (suc i) (n ∷ ns) h = ap (λ ms. n ∷ ms) (tight_end depth i ns (omega arith))
-
-tight_stop : (depth i : ℕ) (ns : List (ℕ × Item)) → slice_index (depths ns) i ≤ depth → tight_at depth i ns ≡ ns
-unfolding tight_at tight_run
-tight_stop depth zero [] h = refl
-tight_stop depth (suc i) [] h = refl
-tight_stop depth zero (n ∷ ns) h = (let t : nat_lt depth n.0 ≡ false = grind (arith, nat_tests, h) in rw t refl)
-tight_stop depth (suc i) (n ∷ ns) h = ap (λ ms. n ∷ ms) (tight_stop depth i ns h)
-
--- a node that is not two levels deeper
-pub node_stays : (depth i : ℕ) (ns : List (ℕ × Item)) → ((slice_index (depths ns) i == (depth + 2)) ≡ false) → tight_node depth i ns ≡ ns
-unfolding tight_node
-node_stays depth i [] h = refl
-node_stays depth zero (n ∷ ns) h = rw h refl
-node_stays depth (suc i) (n ∷ ns) h = ap (λ ms. n ∷ ms) (node_stays depth i ns h)
+tight_none depth zero [] h = refl
+tight_none depth (suc i) [] h = refl
+tight_none depth zero (n ∷ ns) h = (let w = h (omega arith) in let t : nat_lt depth n.0 ≡ false = grind (arith, nat_tests, w) in rw t refl)
+tight_none depth (suc i) (n ∷ ns) h = ap (λ ms. n ∷ ms) (tight_none depth i ns (λ l. h (omega arith)))
 
 tightened_two : (n : ℕ × Item) (depth : ℕ) (b c : ItemBody)
     → (n.0 == depth) ≡ true → n.1.body ≡ b → tight_body b ≡ c → tightened depth n ≡ (n.0, record { start = n.1.start; «end» = n.1.«end»; body = c })
@@ -116,23 +101,12 @@ node_tight depth i [] b c two is t = refl
 node_tight depth zero (n ∷ ns) b c two is t = (let e : n.1.body ≡ b = cc in ap (λ m. m ∷ ns) (tightened_two n (depth + 2) b c two e t))
 node_tight depth (suc i) (n ∷ ns) b c two is t = ap (λ ms. n ∷ ms) (node_tight depth i ns b c two is t)
 
--- a forest of which only the nodes change
-pub with_nodes : (f g : Forest Item) (ns : List (ℕ × Item)) → g.nodes ≡ ns → g.spine ≡ f.spine → g.current ≡ f.current → g ≡ record f { nodes = ns }
-with_nodes f g ns a b d =
-    ap (λ (xs : List (ℕ × Item)). (let h : Forest Item = record { nodes = xs; spine = g.spine; current = g.current } in h)) a
-    ∙ ap (λ (xs : List TreeIndex). (let h : Forest Item = record { nodes = ns; spine = xs; current = g.current } in h)) b
-    ∙ ap (λ (x : Option TreeIndex). (let h : Forest Item = record { nodes = ns; spine = f.spine; current = x } in h)) d
-
-not_two_by : (t : Bool) (a b d : ℕ) → (b == (d + 2)) ≡ t → a ≡ b → (a - d ≡ 2 → ⊥) → t ≡ false
-not_two_by false a b d t e h = refl
-not_two_by true a b d t e h = (let s : b ≡ d + 2 = grind (arith, nat_tests, t) in let u : a - d ≡ 2 = omega arith in absurd (h u))
-
 -- a depth whose difference to another is two
 pub two_deeper : (a b d : ℕ) → a ≡ b → d < b → a - d ≡ 2 → (b == (d + 2)) ≡ true
 two_deeper a b d e l h = (let s : b ≡ d + 2 = omega arith in grind (arith, nat_tests, s))
 
 pub not_two_deeper : (a b d : ℕ) → a ≡ b → (a - d ≡ 2 → ⊥) → (b == (d + 2)) ≡ false
-not_two_deeper a b d e h = not_two_by (b == (d + 2)) a b d refl e h
+not_two_deeper a b d e h = (let s : b ≢ d + 2 = λ q. h (omega arith) in grind (arith, nat_tests, s))
 
 -- writing the same body at an index
 pub tight_same_body : (ns : List (ℕ × Item)) (i : ℕ) (b : ItemBody)
@@ -193,11 +167,7 @@ pub walk_begins : (f : Forest Item) (list depth at : ℕ)
 walk_begins f list depth at l d e =
     let ds = depths f.nodes in
     let m = length-map f.nodes (λ n. n.0) in
-    let n : tight_at depth at f.nodes ≡ f.nodes = ⊎_elim
-    (λ a. tight_stop depth at f.nodes (subst (λ (k : ℕ). slice_index ds k ≤ depth) (sym e)
-    (subst (λ (k : ℕ). slice_index ds (end_of ds list) ≤ k) (sym d) (at-end ds list (omega arith) (omega arith)))))
-    (λ a. tight_end depth at f.nodes (omega arith))
-    (cases_lt at (length ds)) in
+    let n = tight_none depth at f.nodes (λ a. rw (e, d) (at-end ds list (omega arith) (omega arith))) in
     record {
       there = l;
       depth_is = d;
@@ -222,10 +192,10 @@ walk_deeper f g list depth at k h a b =
     (subst (λ (e : ℕ). e < slice_index (depths f.nodes) k) (sym h.depth_is) o)
 
 -- the nodes after an inner list are tight too
-pub walk_over : (f g : Forest Item) (list depth at past : ℕ)
-    → IsTightFrom f list depth at g → list < past → past ≤ at → (h : Forest Item) → h ≡ tight_from f depth past → IsTightFrom f list depth past h
-walk_over f g list depth at past from a b h t =
-    record { there = from.there; depth_is = from.depth_is; following = a; within = (let w = from.within in omega arith); tight = t }
+pub walk_over : (f g same h : Forest Item) (list depth at past : ℕ) → IsTightFrom f list depth at g → (list < past) × (past ≤ at)
+    → same ≡ g → ((v : Forest Item) → same ≡ tight_from v depth at → h ≡ tight_from v depth past) → IsTightFrom f list depth past h
+walk_over f g same h list depth at past from a e t =
+    record { there = from.there; depth_is = from.depth_is; following = a.0; within = (let w = from.within in omega arith); tight = t f (e ∙ from.tight) }
 
 -- a step over an inner list, from the nodes after it to its index
 pub walk_next : (f h next : Forest Item) (list depth place past : ℕ)

@@ -1,8 +1,9 @@
 -- Facts on the special bytes.
-use Rattle.std.proofs.Common.{◌≡◌, ◌⊎◌, inl, inr, ℕ, ◌<◌, nat_lt, Bool, true, false, true≢false, ◌==◌, ◌&&◌, ◌||◌, List, ap, sym, refl, ◌∙◌, arith}
-use Rattle.std.proofs.lemmas.Bool.{cases_eq, ne_eqb}
+use Rattle.std.proofs.Common.{◌≡◌, inl, inr, ℕ, ◌<◌, nat_lt, Bool, true, false, true≢false, ◌==◌, ◌&&◌, ◌||◌, not, List, ap, sym, refl, ◌∙◌, arith, ne_eqb}
+use Rattle.std.proofs.lemmas.Bool.{cases_Bool, cases_eq}
 use Rattle.std.proofs.lemmas.Bool.Decides.{nat_tests}
-use Rattle.first_pass_items.specs.Bytes.{space, line_feed, carriage_return, exclamation_mark, quotation_mark, dollar_sign, ampersand, apostrophe, asterisk, hyphen}
+use Rattle.first_pass_items.specs.Bytes.{space, line_feed, carriage_return, exclamation_mark, quotation_mark, dollar_sign, ampersand, apostrophe, asterisk}
+use Rattle.first_pass_items.specs.Bytes.{hyphen}
 use Rattle.first_pass_items.specs.Bytes.{full_stop, less_than, left_bracket, backslash, right_bracket, circumflex, underscore, backquote, left_brace, pipe}
 use Rattle.first_pass_items.specs.Bytes.{right_brace, tilde}
 use Rattle.first_pass_items.specs.declared.option_set.Options.{Options}
@@ -47,23 +48,12 @@ not_special options b h =
 pub spares_words : (options : Options) (lut : List Bool) → MarksSpecial lut options → SparesWords lut
 spares_words options lut m b h = m b (passed_small b h) ∙ not_special options b (λ c k mark. isnt is_passed b c h k)
 
--- a byte below a space that does not belong to a line ending
-isnt_low : (b c : ℕ) → b < 32 → is_line_end b ≡ false → (is_line_end c || nat_lt space c) ≡ true → b == c ≡ false
-isnt_low b c low other h = elim (cases_eq b c) [
-  | inl same ↦ absurd (true≢false (sym h ∙ ap (λ x. is_line_end x || nat_lt space x) (sym same) ∙ ap (λ t. t || nat_lt space b) other ∙ not_above b low))
-  | inr differs ↦ ne_eqb b c differs
-]
-  where
-    not_above : (b : ℕ) → b < 32 → nat_lt space b ≡ false
-    not_above b low = grind (arith, nat_tests, low)
-
-either : (t : Bool) → (t ≡ true) ⊎ (t ≡ false)
-either true = inl refl
-either false = inr refl
-
 -- of the special bytes, only those of a line ending are below a space
 pub low_special : (options : Options) (b : ℕ) → b < 32 → is_special options b ≡ true → is_line_end b ≡ true
-low_special options b low special = elim (either (is_line_end b)) [
+low_special options b low special = elim (cases_Bool (is_line_end b)) [
   | inl ends ↦ ends
-  | inr other ↦ absurd (true≢false (sym special ∙ not_special options b (λ c k h. isnt_low b c low other h)))
+  | inr other ↦
+      let above : nat_lt space b ≡ false = grind (arith, nat_tests, low) in
+      let low_b = ap not (or_off (is_line_end b) (nat_lt space b) other above) in
+      absurd (true≢false (sym special ∙ not_special options b (λ c k h. isnt (λ x. not (is_line_end x || nat_lt space x)) b c low_b (ap not h))))
 ]

@@ -1,32 +1,14 @@
 -- An added paragraph or table is the one of its text.
-use Rattle.std.proofs.Common.{◌≡◌, ℕ, ◌+◌, ◌-◌, ◌≤◌, List, ◌++◌, length, drop, Option, Some, None, MatchOption, IsUtf8, IsCharBoundary, refl}
-use Rattle.std.proofs.Common.{sym, ap, subst, ◌∙◌, arith, inl, inr}
-use Rattle.std.proofs.lemmas.Bool.{cases_lt}
-use Rattle.first_pass_items.specs.declared.item.Alignment.{Alignment}
-use Rattle.first_pass_items.specs.declared.item.AlignmentIndex.{AlignmentIndex}
-use Rattle.first_pass_items.specs.declared.item.Item.{Item}
-use Rattle.first_pass_items.specs.declared.item.ItemBody.TheVariants.{Table, TableHead}
-use Rattle.first_pass_items.specs.declared.option_set.Options.{Options}
-use Rattle.first_pass_tree.specs.declared.tree_index.TreeIndex.{TreeIndex}
-use Rattle.first_pass_tree.specs.Forest.{Forest, added, block_of, popped}
+use Rattle.std.proofs.Common.{◌≡◌, ℕ, ◌+◌, ◌-◌, ◌≤◌, List, ◌++◌, length, drop, Option, Some, None, MatchOption, IsUtf8, IsCharBoundary, refl, sym, ap}
+use Rattle.std.proofs.Common.{subst, ◌∙◌, arith, inl, inr, drop-drop}
+use Rattle.first_pass_grammar.proofs.Common.{cases_lt, Alignment, AlignmentIndex, Item, Table, TableHead, Options, TreeIndex, Forest, added, block_of}
+use Rattle.first_pass_grammar.proofs.Common.{popped, line_len, Place, offset, line_end, line_place, start_of, IsPlaceOf, lines_at-line, lines_at-end}
+use Rattle.first_pass_grammar.proofs.Common.{line_is_place, start_of-lines, no_braces, spot, Context, context, Names, Extends, NamesAlignments, Document}
+use Rattle.first_pass_grammar.proofs.Common.{document, lines_from, headed_table, AreCells, inserted, row_block, Taken, taking, TableSoFar, table_so_far}
+use Rattle.first_pass_grammar.proofs.Common.{AreRows, most_inserted, IsTable, IsPlainText, IsText, within_top}
 use Rattle.first_pass_tree.proofs.Blocks.{BlockCalls, block-built}
-use Rattle.std.proofs.Math.Seq.{drop-drop}
 use Rattle.first_pass_kinds.specs.TableHeads.{table_head_len}
-use Rattle.first_pass_lines.specs.Lines.{line_len}
-use Rattle.first_pass_lines.specs.Places.{Place, offset, line_end, line_place, start_of, IsPlaceOf}
-use Rattle.first_pass_lines.proofs.LineFacts.{lines_at-line, lines_at-end}
-use Rattle.first_pass_lines.proofs.PlaceFacts.{line_is_place, start_of-lines}
-use Rattle.first_pass_tokens.specs.Braces.{no_braces}
-use Rattle.first_pass_tokens.specs.LineTokens.{spot}
 use Rattle.first_pass_grammar.specs.declared.kind.Container.{Container}
-use Rattle.first_pass_grammar.specs.Containers.{Context, context}
-use Rattle.first_pass_grammar.specs.Names.{Names, Extends, NamesAlignments}
-use Rattle.first_pass_grammar.specs.Leaves.{Document, document}
-use Rattle.first_pass_grammar.specs.Completion.{lines_from}
-use Rattle.first_pass_grammar.specs.TableHeads.{headed_table}
-use Rattle.first_pass_grammar.specs.Tables.{AreCells, inserted, row_block, Taken, taking, TableSoFar, table_so_far, AreRows, most_inserted, IsTable}
-use Rattle.first_pass_grammar.specs.Texts.{IsPlainText, IsText}
-use Rattle.first_pass_grammar.specs.OpenOrder.{within_top}
 use Rattle.first_pass_order.proofs.HeadLines.{headed_has_line}
 use Rattle.first_pass_grammar.proofs.Names.TextsMore.{cells_more, rows_more}
 use Rattle.first_pass_open.specs.OpenBlock.{IsJustPushed, begun_item, opened_block}
@@ -99,7 +81,9 @@ body_at text start len is =
 
 -- an added table
 module _ (text : List ℕ) (options : Options) (names : Names) (start body next : ℕ) (ix : AlignmentIndex) (alignments : List Alignment) (old new : Forest Item)
-    (r : AppendsRows (document text options names) (length alignments) start body (opened_block old start (Table ix)) new next) where
+    (r : AppendsRows (document text options names) (length alignments) start body (opened_block old start (Table ix)) new next)
+    (there : AreIn (length old.nodes) old.spine) (named : (more : Names) → Extends more names → NamesAlignments more ix alignments)
+    (body_is : body ≡ line_end_at text (line_end_at text start)) (headed : headed_table (context_of options old) (drop start text) ≡ Some alignments) where
   abbrev table_items : List (ℕ × Item)
   table_items = block_of (record { start = start; «end» = next; body = Table ix }) (row_block TableHead (length alignments) start r.cells r.head_end ++ r.body)
 
@@ -122,11 +106,9 @@ module _ (text : List ℕ) (options : Options) (names : Names) (start body next 
       } in
       r.tree_is ∙ block-built old x (λ y. record y { «end» = next }) kids place closed calls
 
-  table_is : AreIn (length old.nodes) old.spine → ((more : Names) → Extends more names → NamesAlignments more ix alignments)
-      → body ≡ line_end_at text (line_end_at text start)
-      → (more : Names) → Extends more names → (p : Place) → IsPlaceOf text p → offset p ≡ start
+  table_is : (more : Names) → Extends more names → (p : Place) → IsPlaceOf text p → offset p ≡ start
       → IsTable (document text options more) (path_of options old) p alignments (lines_from text (line_end p)) (taking table_items (lines_from text next))
-  table_is there named body_is more e p i at =
+  table_is more e p i at =
       let d = document text options more in
       let columns : ℕ = length alignments in
       let table : TableSoFar = table_so_far columns (most_inserted - inserted columns r.cells) r.after in
@@ -155,33 +137,27 @@ module _ (text : List ℕ) (options : Options) (names : Names) (start body next 
             (sym at);
       }
 
-  pub table_text : AreIn (length old.nodes) old.spine → ((more : Names) → Extends more names → NamesAlignments more ix alignments)
-      → body ≡ line_end_at text (line_end_at text start)
-      → headed_table (context_of options old) (drop start text) ≡ Some alignments → (marker : Option Item)
-      → AddsText (document text options names) start marker old new next
-  table_text there named body_is headed marker = record {
+  pub table_text : (marker : Option Item) → AddsText (document text options names) start marker old new next
+  table_text marker = record {
     items = table_items;
     is_text = λ more e p i at.
         text_by (document text options more) (path_of options old) p marker (lines_from text (line_end p)) (taking table_items (lines_from text next))
         (Some alignments)
-        (headed_at (context options (path_of options old)) text p start (Some alignments) i at headed) (table_is there named body_is more e p i at);
+        (headed_at (context options (path_of options old)) text p start (Some alignments) i at headed) (table_is more e p i at);
     tree_is = table_tree;
     later = let low = r.later in omega arith;
     boundary = r.boundary;
   }
 
   -- its nodes are in order
-  pub table_between : AreIn (length old.nodes) old.spine → ((more : Names) → Extends more names → NamesAlignments more ix alignments)
-      → body ≡ line_end_at text (line_end_at text start)
-      → headed_table (context_of options old) (drop start text) ≡ Some alignments → Extends names names → IsUtf8 text → IsCharBoundary text start → (from : ℕ)
-      → from ≤ start → AddsBetween text from next old new
-  table_between there named body_is headed e utf8 begins from low =
+  pub table_between : Extends names names → IsUtf8 text → IsCharBoundary text start → (from : ℕ) → from ≤ start → AddsBetween text from next old new
+  table_between e utf8 begins from low =
       let p : Place = line_place start (drop start text) in
       let at : offset p ≡ start = omega arith in
       let i = line_is_place text start begins in
       let ends = there_ends text p start i at in
       let line : line_end p ≡ line_end_at text (offset p) = ap (λ bs. offset p + line_len bs) i.left in
-      let table = table_is there named body_is names e p i at in
+      let table = table_is names e p i at in
       let h = headed_has_line text (context options (path_of options old)) p alignments i headed in
       record {
         items = table_items;

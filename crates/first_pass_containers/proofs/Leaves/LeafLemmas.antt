@@ -1,69 +1,114 @@
--- A leaf block is read at a place where no container begins.
-use Rattle.std.proofs.Common.{◌≡◌, inl, inr, ℕ, suc, ◌+◌, Bool, true, false, ◌&&◌, if◌then◌else◌, List, [], ◌∷◌, ◌++◌, append-nil, length}
-use Rattle.std.proofs.Common.{map, Option, Some, None, refl, sym, ap, subst, ◌∙◌, arith}
-use Rattle.first_pass_items.specs.declared.item.Item.{Item}
-use Rattle.first_pass_items.specs.declared.item.ItemBody.{ItemBody}
-use Rattle.first_pass_items.specs.declared.item.ItemBody.TheVariants.{List as ListBody, DefinitionList}
-use Rattle.first_pass_items.specs.OptionWords.{has, definition_list}
-use Rattle.first_pass_tree.specs.declared.tree_index.TreeIndex.{TreeIndex}
-use Rattle.first_pass_tree.specs.Forest.{Forest, IsForest, added, at_depth}
-use Rattle.first_pass_lines.specs.Lines.{line_len}
-use Rattle.first_pass_lines.specs.Rest.{indent}
-use Rattle.first_pass_lines.specs.Places.{Place, offset, line_end, IsPlaceOf}
-use Rattle.first_pass_lines.proofs.PlaceFacts.{columns_line_end}
-use Rattle.first_pass_grammar.specs.Before.{begins_paragraph, is_run}
-use Rattle.first_pass_grammar.specs.Derivation.{Tables, with_definitions}
-use Rattle.first_pass_grammar.specs.LinkTables.{LinkEntry, with_links}
-use Rattle.first_pass_grammar.specs.LinkRuns.{kind_in, Beyond, Ended, FlowsOn, IsRun}
-use Rattle.first_pass_grammar.specs.Order.{is_task_marker}
-use Rattle.first_pass_grammar.specs.Rows.{is_paragraph}
-use Rattle.std.proofs.lemmas.Bool.{true≢false}
-use Rattle.first_pass_grammar.specs.declared.kind.Container.{Container}
-use Rattle.first_pass_grammar.specs.Containers.{Context}
-use Rattle.first_pass_grammar.specs.Kinds.{Kind, Blank, ThematicBreak, Paragraph, unindented, IsKind}
-use Rattle.first_pass_grammar.specs.Leaves.{Document, around, rule_block}
-use Rattle.first_pass_grammar.specs.Blocks.{BlankLine, LeafBlock, Block, run_block, flowing_block, block_at, leaf_block}
-use Rattle.first_pass_grammar.specs.Openers.{start_at}
-use Rattle.first_pass_grammar.specs.Skeleton.{OpensBeyond, OpensRun, Line, AtPlace, OnlyALeaf, TextOf, IsFirst, Opening, OpensLeaf, OpensText, OpensAs}
-use Rattle.first_pass_grammar.specs.Skeleton.{OpensBlockAt, OpensBy, Opens, Level, next_block, may_define as may_begin}
-use Rattle.first_pass_grammar.specs.Tables.{taking}
-use Rattle.first_pass_grammar.specs.Texts.{IsText}
-use Rattle.first_pass_grammar.specs.Footnotes.{footnote_head_at}
-use Rattle.first_pass_grammar.specs.Completion.{lines_from, Closed, DefinitionClosed, Frame, containers_of, AreBelow}
-use Rattle.first_pass_grammar.specs.Completion.{IsPlain}
-use Rattle.first_pass_grammar.specs.WholeTables.{AreEachNode, ShowsNothing, SilentClosed}
-use Rattle.first_pass_grammar.proofs.Sequences.Finishes.{Tail, CompletesAt}
-use Rattle.first_pass_completion.proofs.Extending.{tail, lvl, opens_stays}
-use Rattle.first_pass_completion.proofs.Closings.{leaf_closes}
-use Rattle.first_pass_completion.proofs.Completions.{completes-leaf, completes-blank, completes-block, completes-text, counted_after}
-use Rattle.first_pass_completion.proofs.FlatBlocks.{OwnParagraph, kind_holds}
-use Rattle.first_pass_completion.proofs.SilentTexts.{text_silent, opened_silent}
+-- A leaf block is read at a place where no container begins, or in the line after the tag of a block quote. Directly
+-- after a definition, a paragraph may be the next title.
+use Rattle.std.proofs.Common.{◌≡◌, inl, inr, ℕ, suc, ◌+◌, ◌<◌, Bool, true, false, List, [], ◌∷◌, ◌++◌, length, map, drop, slice_get, Option, Some, None}
+use Rattle.std.proofs.Common.{refl, sym, ap, subst, ◌∙◌, arith, if◌then◌else◌, ◌&&◌, append-nil, option_map, option_and_then, true≢false}
+use Rattle.first_pass_grammar.proofs.Common.{length-map, option_map_or, Item, ItemBody, DefinitionList, MaybeDefinitionListTitle, BlockQuoteKind, ListFlags}
+use Rattle.first_pass_grammar.proofs.Common.{TreeIndex, Forest, IsForest, added, at_depth, body_at, item_at, Place, offset, line_end, IsPlaceOf, line_rest}
+use Rattle.first_pass_grammar.proofs.Common.{place_at, begins_paragraph, is_run, LeafBlock, Block, flowing_block, BlankLine, block_at, leaf_block, Tables}
+use Rattle.first_pass_grammar.proofs.Common.{with_definitions, unindented, IsKind, interrupts, is_ordinary_after_tag, Kind, Blank, FlowsOn, IsRun, kind_in}
+use Rattle.first_pass_grammar.proofs.Common.{Beyond, Ended, LinkEntry, with_links, Document, around, Level, Line, Inside, OpensLeaf, OpensAs, Opens}
+use Rattle.first_pass_grammar.proofs.Common.{Continues, AtPlace, OnlyALeaf, after_tag, OpensBeyond, OpensRun, TextOf, IsFirst, Opening, OpensText}
+use Rattle.first_pass_grammar.proofs.Common.{OpensBlockAt, OpensBy, next_block, lines_from, ended, DefinitionClosed, TitleAt, Frame, InDefinitions}
+use Rattle.first_pass_grammar.proofs.Common.{AreBelow, Closed, containers_of, IsPlain, AreEachNode, ShowsNothing, SilentFrom, SilentClosed, Options}
+use Rattle.first_pass_grammar.proofs.Common.{body-kept, modify-at, cases_lt, line_len, lines_at-line, lines_at-end, Context, front, has, definition_list}
+use Rattle.first_pass_grammar.proofs.Common.{indent, columns_line_end, is_task_marker, is_paragraph, start_at, taking, IsText, footnote_head_at, and-true}
+use Rattle.first_pass_items.specs.declared.item.ItemBody.TheVariants.{BlockQuote as BlockQuoteBody}
+use Rattle.first_pass_items.specs.declared.item.ItemBody.TheVariants.{List as ListBody}
+use Rattle.first_pass_grammar.specs.Blocks.{run_block}
+use Rattle.first_pass_grammar.specs.Kinds.{Paragraph}
+use Rattle.first_pass_grammar.specs.Skeleton.{may_define as may_begin}
+use Rattle.first_pass_completion.proofs.DefinitionSteps.{completes-possible_title}
+use Rattle.first_pass_completion.proofs.Extending.{tail, lvl, length-ended, opens_stays}
+use Rattle.first_pass_grammar.proofs.Sequences.Finishes.{CompletesAt, Tail}
+use Rattle.first_pass_completion.proofs.Flags.{completes-reended}
+use Rattle.first_pass_completion.proofs.FlatBlocks.{kind_holds, OwnParagraph}
+use Rattle.first_pass_completion.proofs.SilentTexts.{silent_past, text_silent, opened_silent}
+use Rattle.first_pass_grammar.proofs.Each.EachCell.{deeper_nodes}
 use Rattle.first_pass_grammar.proofs.WholeTables.TableMarks.{tokens_show}
+use Rattle.first_pass_grammar.proofs.Sequences.Tightening.{modify-append}
 use Rattle.first_pass_completion.proofs.States.{open_nodes}
+use Rattle.first_pass_open.specs.Path.{path_of, context_of}
+use Rattle.first_pass_open.proofs.PathLemmas.{AreIn, get_front, open_are_in, front-end}
+use Rattle.first_pass_lists.specs.Closing.{with_tree, top_body, top_end, is_after_definition, title_begun, is_list, is_definition_list}
+use Rattle.first_pass_lists.specs.Closing.{possible_title, list_finished, blank_read_by, blank_read}
+use Rattle.first_pass_lists.specs.declared.state.PassState.{PassState}
+use Rattle.first_pass_ready.specs.State.{closed_below, closed_none, closed_in, AreOpen, ReadyAt, Ready}
+use Rattle.first_pass_containers.specs.Positions.{ReadyLeaf, ReadyInQuote, ReadyTagged, ReadyLazy, may_define, ReadyText}
+use Rattle.first_pass_containers.specs.TextsAdded.{IsTextAt}
+use Rattle.first_pass_containers.specs.Titles.{current_end}
+use Rattle.first_pass_ready.proofs.ClosedIn.{IsTop, top_of, level_of, open_level, closed_definition, takes_same, title_is}
+use Rattle.first_pass_ready.proofs.FinishLemmas.{EndsListAt, plain_by, OpensOther, ready_finished}
+use Rattle.first_pass_ready.proofs.LeftBlocks.{IsAfterDefinition, past_definition}
+use Rattle.first_pass_ready.proofs.OpenLemmas.{open_below, frame-append, frame-ended, open_path}
+use Rattle.first_pass_ready.proofs.StateLemmas.{ready_plain}
+use Rattle.first_pass_containers.proofs.Leaves.FirstItems.{text_flat, mark_by}
+use Rattle.first_pass_order.proofs.LeftOrder.{end_there}
+use Rattle.first_pass_ready.proofs.TitlePops.{in_definitions}
+use Rattle.first_pass_completion.proofs.Completions.{counted_after, completes-leaf, completes-blank, completes-block, completes-text}
+use Rattle.first_pass_open.proofs.PlaceLemmas.{ends_past}
+use Rattle.first_pass_grammar.specs.declared.kind.Container.{Container}
+use Rattle.first_pass_completion.proofs.Closings.{leaf_closes}
 use Rattle.first_pass_completion.proofs.Titles.{closed_after}
 use Rattle.first_pass_open.specs.Between.{line_end_at}
-use Rattle.first_pass_lists.specs.Closing.{top_body, is_list, is_definition_list, possible_title, is_after_definition, list_finished}
-use Rattle.first_pass_lists.specs.Closing.{blank_read_by, blank_read}
-use Rattle.first_pass_lists.specs.declared.state.PassState.{PassState}
-use Rattle.first_pass_open.specs.Path.{path_of, context_of}
-use Rattle.first_pass_ready.specs.State.{closed_in, AreOpen, ReadyAt, Ready}
-use Rattle.first_pass_containers.specs.Positions.{may_define, ReadyText, ReadyLazy, ReadyLeaf}
 use Rattle.first_pass_ready.proofs.AddedLemmas.{begun_at, closed_added, silent_begun, open_added, no_list_added}
 use Rattle.first_pass_ready.proofs.BegunLemmas.{depth_of, opens_bare}
-use Rattle.first_pass_ready.proofs.ClosedIn.{level_of, open_level, takes_same, title_is}
 use Rattle.first_pass_lists.proofs.NoEmptyItem.{list_finished_none}
-use Rattle.first_pass_containers.proofs.LineByLine.EnteredLines.{list_finished_blank}
-use Rattle.first_pass_ready.proofs.OpenLemmas.{open_path}
+use Rattle.first_pass_containers.proofs.OrderSteps.{list_finished_blank}
 use Rattle.first_pass_kinds.proofs.KindLemmas.{kind_says}
-use Rattle.first_pass_ready.proofs.StateLemmas.{ready_plain}
-use Rattle.first_pass_ready.proofs.FinishLemmas.{EndsListAt, plain_by, OpensOther, ready_finished}
 use Rattle.first_pass_ready.proofs.EnterLemmas.{ready_blank}
 use Rattle.first_pass_containers.specs.Starts.{FinishesNothing}
-use Rattle.first_pass_containers.proofs.Openings.JustOpened.{finishes_none}
-use Rattle.first_pass_containers.proofs.Openings.TagLemmas.{quote_counts}
-use Rattle.std.proofs.Math.Bool.{and-true}
+use Rattle.first_pass_containers.proofs.Openings.StartLemmas.{finishes_none}
+use Rattle.first_pass_order.proofs.OrderLemmas.{get_mid}
 use Rattle.first_pass_order.proofs.WholeKept.{task_shows}
-use Rattle.first_pass_containers.proofs.Openings.StartLemmas.{mark_by}
+
+-- a blank line directly in a block quote does not count
+counts_quoted : (options : Options) (frames : List Frame) (kind : Option BlockQuoteKind) (closed : Closed)
+    → IsTop options (Some (BlockQuoteBody kind)) frames → counted_after frames (tail closed false) ≡ false
+counts_quoted options frames kind closed is = grind (arith, is)
+
+pub quote_counts : (options : Options) (nodes : List (ℕ × Item)) (s : List TreeIndex) (frames : List Frame) (kind : Option BlockQuoteKind) (closed : Closed)
+    → option_and_then (λ (ix : TreeIndex). body_at nodes ix.0) (slice_get s 0) ≡ Some (BlockQuoteBody kind) → AreOpen options nodes s frames
+    → counted_after frames (tail closed false) ≡ false
+quote_counts options nodes s frames kind closed quote o =
+    counts_quoted options frames kind closed (subst (λ z. IsTop options z frames) quote (top_of options nodes s frames o))
+
+-- At the end of the text no line belongs to it.
+pub tag_end : (around : Context) → is_ordinary_after_tag around (line_rest []) ≡ true
+unfolding interrupts
+tag_end around = rw (front-end around.path) refl
+
+-- the place where blocks continue after its tag, in the line at an offset
+tag_line : (around : Context) (text : List ℕ) (at : ℕ) (t : Bool) → is_ordinary_after_tag around (line_rest (drop at text)) ≡ t
+    → (let lines : List Place = lines_from text at in
+    after_tag around lines ≡ (if t then (Line, lines)
+    else (AtPlace (unindented (place_at at (front around.path (line_rest (drop at text))))) OnlyALeaf, lines_from text (at + line_len (drop at text)))))
+tag_line around text at t is =
+    elim (cases_lt at (length text)) [
+      | inl within ↦ let first = lines_at-line text at within in rw (first, is) refl
+      | inr past ↦ (let none : lines_from text at ≡ [] = lines_at-end text at past in
+          let over : t ≡ true = sym is ∙ ap (λ bs. is_ordinary_after_tag around (line_rest bs)) (ends_past text at past) ∙ tag_end around in
+          rw (none, over) refl)
+    ]
+
+-- the line after its tag, if it is read like any other
+pub ready_any_line : (d : Document) (defined : Tables) (r : PassState) (at : ℕ)
+    → is_ordinary_after_tag (context_of d.options r.tree) (line_rest (drop at d.text)) ≡ true
+    → r.begin_list_item ≡ None → ReadyTagged d defined r (lines_from d.text at) → Ready d defined r (lines_from d.text at)
+ready_any_line d defined r at is none tagged =
+    let lines : List Place = lines_from d.text at in
+    let here : after_tag (context_of d.options r.tree) lines ≡ (Line, lines) = tag_line (context_of d.options r.tree) d.text at true is in
+    ready_plain d defined r lines none (subst (λ t. ReadyAt d defined r.tree t Line lines) (sym tagged.blank)
+    (subst (λ (z : Continues × List Place). ReadyAt d defined r.tree false z.0 z.1) here tagged.ready))
+
+-- the same line, if it belongs to the quote
+pub ready_its_line : (d : Document) (defined : Tables) (r : PassState) (at : ℕ)
+    → is_ordinary_after_tag (context_of d.options r.tree) (line_rest (drop at d.text)) ≡ false → ReadyTagged d defined r (lines_from d.text at)
+    → ReadyLazy d defined r (unindented (place_at at (front (path_of d.options r.tree) (line_rest (drop at d.text)))))
+    (lines_from d.text (at + line_len (drop at d.text)))
+ready_its_line d defined r at is tagged =
+    subst (λ (z : Continues × List Place). ReadyInQuote d defined r z.0 z.1) (tag_line (context_of d.options r.tree) d.text at false is) tagged
+
+-- ---- a leaf block
 
 -- The end of the line at an offset is that of the line of its place.
 pub line_end_of : (text : List ℕ) (p : Place) → IsPlaceOf text (unindented p) → line_end_at text (offset (unindented p)) ≡ line_end p
@@ -98,15 +143,11 @@ items_away (Some (ListBody flags list number)) closed at block left none closes 
 items_away (Some (DefinitionList flags)) closed at block left none closes = cc
 items_away top closed at block left none closes = tt
 
-text_by : (f : Forest Item) (o : Option TreeIndex) (at : ℕ) (block : LeafBlock) (left : List Place) → possible_title f ≡ o
+pub text_away : (f : Forest Item) (o : Option TreeIndex) (at : ℕ) (block : LeafBlock) (left : List Place) → possible_title f ≡ o
     → is_after_definition f ≡ false → leaf_closes block ≡ at → EndsListAt at (top_body f) (closed_in f) (OpensLeaf (Block block) Line left)
-text_by f None at block left is after closes =
+text_away f None at block left is after closes =
     items_away (top_body f) (closed_in f) at block left (rw (is, and-true) at after) closes
-text_by f (Some title) at block left is after closes = let t = title_is f title is in rw (t.closed, t.top) tt
-
-pub text_away : (f : Forest Item) (at : ℕ) (block : LeafBlock) (left : List Place) → is_after_definition f ≡ false → leaf_closes block ≡ at
-    → EndsListAt at (top_body f) (closed_in f) (OpensLeaf (Block block) Line left)
-text_away f at block left after closes = text_by f (possible_title f) at block left refl after closes
+text_away f (Some title) at block left is after closes = let t = title_is f title is in rw (t.closed, t.top) tt
 
 -- A leaf block was read into the open nodes of a tree, and no list is innermost: its items after the nodes can become
 -- a derivation.
@@ -288,13 +329,6 @@ ready_blank_leaf d defined r p lines kind none (inr lazy) =
     subst (λ q. Ready d defined q lines) (sym (ap (blank_read_by r) lazy.quote))
     (ready_plain d defined r lines none (subst (λ t. ReadyAt d defined f t Line lines) (sym lazy.blank) now))
 
--- a thematic break
-pub opens_rule : (d : Document) (path : List Container) (p : Place) (at next size : ℕ) → at ≡ offset (unindented p) → next ≡ line_end p
-    → OpensAs d path p (lines_from d.text (line_end p)) (ThematicBreak size)
-    (OpensLeaf (leaf_block (ThematicBreak size) p (rule_block at size) false) Line (lines_from d.text next))
-unfolding OpensAs
-opens_rule d path p at next size at_is next_is = rw (at_is, next_is) refl
-
 -- a paragraph, heading or table, after a task list item marker or not, is the one that opens at its place
 opens_text : (d : Document) (path : List Container) (p : Place) (next : ℕ) (marker : Option Item) (items : List (ℕ × Item))
     → IsText d path (unindented p) marker (lines_from d.text (line_end (unindented p))) (taking items (lines_from d.text next))
@@ -385,3 +419,179 @@ ready_text d defined r new p next marker items mark is result text =
     let now : ReadyAt d (with_definitions defined []) (added f items) false Line left = block_ready d defined f block left refl read in
     ready_plain d defined new left result.none (rw (result.blank ∙ text.blank, result.tree_is)
     (subst (λ z. ReadyAt d z (added f items) false Line left) (told_none defined) now))
+
+-- ---- a text right after a definition: a paragraph may be the next title, and a heading or a table ends the list
+
+-- The rest of a line opens a leaf block that begins like a paragraph and has these nodes.
+record OpensParagraph (d : Document) (l : Level) (p : Place) (lines left : List Place) (items : List (ℕ × Item)) : Type 0 where
+  block : LeafBlock
+  is : block.items ≡ items
+  begins : begins_paragraph block.items ≡ true
+  opens : Opens d l p lines (OpensLeaf (Block block) Line left)
+
+after_top : (f : Forest Item) (b : IsAfterDefinition f) → top_body f ≡ Some (DefinitionList b.flags)
+after_top f b = ap (λ (s : List TreeIndex). option_and_then (λ (ix : TreeIndex). body_at f.nodes ix.0) (slice_get s 0)) b.spine ∙ b.body
+
+-- right after a definition, the last child is one and ends where the current node does
+pub after_last : (f : Forest Item) → IsAfterDefinition f → (blanks : Bool) × (closed_in f ≡ DefinitionClosed (current_end f) blanks)
+after_last f b = closed_definition f b.flags (after_top f b) b.none
+
+-- The tree with a possible title: the nodes that were read after the definition, and the end of that as the recorded
+-- end of the list.
+module _ (f : Forest Item) (x : ℕ × Item) (items : List (ℕ × Item)) (e : ℕ) (ix : TreeIndex) (rest : List TreeIndex) (spine : f.spine ≡ ix ∷ rest)
+    (low : ix.0 < length f.nodes) where
+  abbrev title_item : Item
+  title_item = record { start = x.1.start; «end» = x.1.«end»; body = MaybeDefinitionListTitle }
+
+  abbrev title_nodes : List (ℕ × Item)
+  title_nodes = (length f.spine + 1 + x.0, title_item) ∷ at_depth (length f.spine + 1) items
+
+  abbrev kept : Forest Item
+  kept = record { nodes = ended f.nodes ix.0 e ++ title_nodes; spine = f.spine; current = Some (record { 0 = length f.nodes }) }
+
+  kept_is : (r : PassState) → title_begun e (with_tree r (added f (x ∷ items))) ≡ record r { tree = kept; blank = false }
+  unfolding title_begun ended
+  kept_is r =
+      let title : Item → Item = λ y. record { start = y.start; «end» = y.«end»; body = MaybeDefinitionListTitle } in
+      let k : ℕ = length f.spine + 1 in
+      rw (modify-at f.nodes (at_depth k items) (k + x.0, x.1) (length f.nodes) title refl, spine, modify-append) refl
+
+  inside : (i : ℕ) → i < length f.nodes → i < length (ended f.nodes ix.0 e)
+  inside i h = let n = length-ended f.nodes ix.0 e in omega arith
+
+  kept_top : (flags : ListFlags) → body_at f.nodes ix.0 ≡ Some (DefinitionList flags) → top_body kept ≡ Some (DefinitionList flags)
+  unfolding ended
+  kept_top flags body =
+      let within : ix.0 < length (ended f.nodes ix.0 e) = inside ix.0 low in
+      rw (spine, get_front) (body-kept f.nodes ix.0 ix.0 (λ y. record { start = y.start; «end» = e; body = y.body }) (λ y. refl) ∙ body)
+
+  kept_end : top_end kept ≡ e
+  unfolding ended
+  kept_end =
+      let within : ix.0 < length (ended f.nodes ix.0 e) = inside ix.0 low in
+      rw (spine, get_front) (end_there f.nodes ix.0 e low)
+
+  kept_closed : (flags : ListFlags) → body_at f.nodes ix.0 ≡ Some (DefinitionList flags) → closed_in kept ≡ TitleAt e (length f.nodes)
+  kept_closed flags body =
+      let here : item_at kept (record { 0 = length f.nodes }) ≡ Some title_item =
+      ap (λ i. item_at kept (record { 0 = i })) (sym (length-ended f.nodes ix.0 e)) ∙ ap (option_map (λ (n : ℕ × Item). n.1))
+      (get_mid (ended f.nodes ix.0 e) (length f.spine + 1 + x.0, title_item) (at_depth (length f.spine + 1) items)) in
+      ap (λ o. option_map_or (closed_below (top_end kept) (top_body kept) (length f.nodes)) o (closed_none (top_body kept))) here
+      ∙ ap (λ t. closed_below (top_end kept) t (length f.nodes) title_item) (kept_top flags body) ∙ ap (λ z. TitleAt z (length f.nodes)) kept_end
+
+  kept_silent : AreEachNode ShowsNothing items → SilentFrom kept.nodes (length f.nodes)
+  kept_silent h =
+      let k : ℕ = length f.spine + 1 in
+      subst (SilentFrom kept.nodes) (length-ended f.nodes ix.0 e)
+      (silent_past (ended f.nodes ix.0 e) (k + x.0, title_item) (at_depth k items)
+      (λ names depth start end. refl, deeper_nodes ShowsNothing k items h))
+
+  kept_open : (options : Options) (frames : List Frame) → AreBelow (length f.nodes) (map (λ (i : TreeIndex). i.0) f.spine)
+      → AreOpen options f.nodes f.spine frames → AreOpen options kept.nodes f.spine frames
+  kept_open options frames below o =
+      open_below options f.nodes kept.nodes (length f.nodes) f.spine frames
+      (λ i h. frame-append options (ended f.nodes ix.0 e) title_nodes i (inside i h) ∙ frame-ended options f.nodes ix.0 e i) below o
+
+  -- the nodes that can still become a derivation then
+  kept_completes : (d : Document) (defined : Tables) (blanks run loose : Bool) (frames : List Frame) (p : Place) (lines left : List Place)
+      → (o : OpensParagraph d (lvl (InDefinitions loose ∷ frames) (tail (DefinitionClosed e blanks) run)) p lines left (x ∷ items))
+      → CompletesAt d defined (tail (DefinitionClosed e blanks) run) (InDefinitions loose ∷ frames) f.nodes (map (λ (i : TreeIndex). i.0) f.spine)
+      (Inside p) lines
+      → CompletesAt d (with_definitions defined o.block.definitions) (tail (TitleAt e (length f.nodes)) o.block.gap) (InDefinitions loose ∷ frames) kept.nodes
+      (map (λ (i : TreeIndex). i.0) f.spine) Line left
+  kept_completes d defined blanks run loose frames p lines left o k =
+      let os : List ℕ = map (λ (i : TreeIndex). i.0) rest in
+      let here : List Frame = InDefinitions loose ∷ frames in
+      let t = tail (DefinitionClosed e blanks) run in
+      let now : Tables = with_definitions defined o.block.definitions in
+      let k' = completes-reended d (open_nodes defined frames f.nodes os) t loose ix.0 e (Inside p) lines tt
+      (subst (λ (s : List TreeIndex). CompletesAt d defined t here f.nodes (map (λ (i : TreeIndex). i.0) s) (Inside p) lines) spine k) in
+      let done = completes-possible_title d (open_nodes defined frames (ended f.nodes ix.0 e) os) (record { place = ix.0; «end» = e; loose = loose }) blanks
+      run p lines left o.block o.begins o.opens k' in
+      let deep : suc (suc (length os)) ≡ length f.spine + 1 =
+      (let n = length-map rest (λ (i : TreeIndex). i.0) in let m = ap (λ (s : List TreeIndex). length s) spine in omega arith) in
+      rw (spine, ← length-ended f.nodes ix.0 e) (subst (λ n. CompletesAt d now (tail (TitleAt e (length (ended f.nodes ix.0 e))) o.block.gap) here
+      (ended f.nodes ix.0 e ++ (n + x.0, title_item) ∷ at_depth n items) (ix.0 ∷ os) Line left)
+      (deep ∙ ap (λ (s : List TreeIndex). length s + 1) spine) (rw o.is at done))
+
+-- a ready state with a possible title
+module _ (d : Document) (defined : Tables) (r : PassState) (p : Place) (lines left : List Place) (block : LeafBlock) (x : ℕ × Item) (items : List (ℕ × Item))
+    (is : block.items ≡ x ∷ items) (begins : begins_paragraph block.items ≡ true) (gap : block.gap ≡ false) (forest : IsForest r.tree)
+    (b : IsAfterDefinition r.tree) (none : r.begin_list_item ≡ None) (shows : AreEachNode ShowsNothing items) where
+  title_ready : Opens d (level_of d.options r.tree r.blank) p lines (OpensLeaf (Block block) Line left) → ReadyAt d defined r.tree r.blank (Inside p) lines
+      → Ready d (with_definitions defined block.definitions) (title_begun (current_end r.tree) (with_tree r (added r.tree (x ∷ items)))) left
+  title_ready opens ready =
+      let f : Forest Item = r.tree in
+      let e : ℕ = current_end f in
+      let ix : TreeIndex = b.place in
+      let rest : List TreeIndex = b.outer in
+      let low = (subst (AreIn (length f.nodes)) b.spine (open_are_in f.nodes f.spine forest.opened)).0 in
+      let last = after_last f b in
+      let def = in_definitions d.options f.nodes ix rest b.flags ready.frames b.body
+      (subst (λ s. AreOpen d.options f.nodes s ready.frames) b.spine ready.are_open) in
+      let here : List Frame = InDefinitions def.loose ∷ def.outer in
+      let t = tail (DefinitionClosed e last.0) r.blank in
+      let os : List ℕ = map (λ (i : TreeIndex). i.0) f.spine in
+      let k : CompletesAt d defined t here f.nodes os (Inside p) lines =
+      subst (λ z. CompletesAt d defined (tail z r.blank) here f.nodes os (Inside p) lines) last.1
+      (subst (λ z. CompletesAt d defined (tail (closed_in f) r.blank) z f.nodes os (Inside p) lines) def.is ready.completes) in
+      let opens' : Opens d (lvl here t) p lines (OpensLeaf (Block block) Line left) =
+      subst (λ z. Opens d (lvl here (tail z r.blank)) p lines (OpensLeaf (Block block) Line left)) last.1
+      (subst (λ z. Opens d (lvl z (tail (closed_in f) r.blank)) p lines (OpensLeaf (Block block) Line left)) def.is
+      (subst (λ l. Opens d l p lines (OpensLeaf (Block block) Line left)) (open_level d.options f ready.frames r.blank ready.are_open) opens)) in
+      let done = kept_completes f x items e ix rest b.spine low d defined last.0 r.blank def.loose def.outer p lines left
+      (record { block = block; is = is; begins = begins; opens = opens' }) k in
+      let g : Forest Item = kept f x items e ix rest b.spine low in
+      let closed : closed_in g ≡ TitleAt e (length f.nodes) = kept_closed f x items e ix rest b.spine low b.flags b.body in
+      let now : ReadyAt d (with_definitions defined block.definitions) g false Line left = record {
+        frames = here;
+        are_open = kept_open f x items e ix rest b.spine low d.options here k.below (subst (AreOpen d.options f.nodes f.spine) def.is ready.are_open);
+        silent = subst (SilentClosed g.nodes) (sym closed) (kept_silent f x items e ix rest b.spine low shows);
+        completes = subst (λ z. CompletesAt d (with_definitions defined block.definitions) (tail z false) here g.nodes os Line left) (sym closed)
+            (subst (λ z. CompletesAt d (with_definitions defined block.definitions) (tail (TitleAt e (length f.nodes)) z) here g.nodes os Line left) gap done);
+      } in
+      subst (λ q. Ready d (with_definitions defined block.definitions) q left) (sym (kept_is f x items e ix rest b.spine low r))
+      (ready_plain d (with_definitions defined block.definitions) (record r { tree = g; blank = false }) left none now)
+
+module _ (d : Document) (defined : Tables) (r : PassState) (p q : Place) (next : ℕ) (xs : List LinkEntry) (items : List (ℕ × Item))
+    (forest : IsForest r.tree)
+    (kind : IsKind d.options p.rest Paragraph) (place : IsPlaceOf d.text q)
+    (run : IsRun (context_of d.options r.tree) (unindented p) (lines_from d.text (line_end p)) xs (FlowsOn q (lines_from d.text (line_end q))))
+    (text : IsTextAt d (path_of d.options r.tree) (offset q) None items next) (after : is_after_definition r.tree ≡ true)
+    (none : r.begin_list_item ≡ None) where
+  abbrev text_block : LeafBlock
+  text_block = flowing_block q xs items
+
+  text_opening : OpensAs d (path_of d.options r.tree) p (lines_from d.text (line_end p)) (kind_in (context_of d.options r.tree) p Paragraph)
+      (OpensLeaf (Block text_block) Line (lines_from d.text next))
+  text_opening =
+      text_opens d (path_of d.options r.tree) p (lines_from d.text (line_end p)) xs (FlowsOn q (lines_from d.text (line_end q))) _ run
+      (opens_flow d (path_of d.options r.tree) q next xs items (text q place refl))
+
+  kept_by : (first : ℕ × Item) (more : List (ℕ × Item)) → items ≡ first ∷ more → begins_paragraph items ≡ true
+      → ReadyLeaf d defined r p (lines_from d.text (line_end p))
+      → Ready d (with_definitions defined xs) (title_begun (current_end r.tree) (with_tree r (added r.tree (first ∷ more)))) (lines_from d.text next)
+  kept_by first more is begins (inl (bare, no_start, ready)) =
+      let lines : List Place = lines_from d.text (line_end p) in
+      let left : List Place = lines_from d.text next in
+      let holds = kind_holds ShowsNothing d (tokens_show d.names.texts) (path_of d.options r.tree) p lines _ _ text_opening in
+      let shows : AreEachNode ShowsNothing more = subst (λ z. AreEachNode ShowsNothing (drop 1 z)) is (holds.0.tokens begins) in
+      title_ready d defined r p lines left text_block first more is begins refl forest (past_definition r.tree after) none shows
+      (no_container d r.tree r.blank p lines Paragraph (OpensLeaf (Block text_block) Line left) bare no_start kind text_opening) ready
+  kept_by first more is begins (inr lazy) = let no_quote = sym (after_top r.tree (past_definition r.tree after)) ∙ lazy.quote in cc
+
+  -- a paragraph is kept as a possible title
+  pub ready_kept : begins_paragraph items ≡ true → ReadyLeaf d defined r p (lines_from d.text (line_end p))
+      → Ready d (with_definitions defined xs) (title_begun (current_end r.tree) (with_tree r (added r.tree items))) (lines_from d.text next)
+  ready_kept begins ready =
+      let t = text_flat d (path_of d.options r.tree) q None (lines_from d.text (line_end q)) _ tt (text q place refl) in
+      rw t.is (kept_by t.first t.more t.is begins ready)
+
+-- a heading or a table ends the list where its last definition ends
+pub away_left : (r : PassState) (q : Place) (xs : List LinkEntry) (items : List (ℕ × Item)) (left : List Place) → is_after_definition r.tree ≡ true
+    → begins_paragraph items ≡ false
+    → EndsListAt (current_end r.tree) (top_body r.tree) (closed_in r.tree) (OpensLeaf (Block (flowing_block q xs items)) Line left)
+away_left r q xs items left after other =
+    let b = past_definition r.tree after in
+    let last = after_last r.tree b in
+    rw (last.1, after_top r.tree b) (other, refl)

@@ -1,27 +1,29 @@
--- The markers of containers after the indentation of a line.
-use Rattle.std.proofs.Common.{◌≡◌, ℕ, zero, suc, ◌+◌, ◌≤◌, ◌<◌, ◌==◌, nat_lt, Bool, true, false, List, [], ◌∷◌, Option, Some, None, MatchOption}
-use Rattle.std.proofs.Common.{min, refl, sym, ap, ◌∙◌, arith, if◌then◌else◌}
-use Rattle.std.proofs.lemmas.Bool.Decides.{nat_tests}
-use Rattle.std.specs.Option.{option_map}
-use Rattle.first_pass_lines.specs.Rest.{Rest, column_of, column_of_byte, next_column, after_columns, columns_of, indent, past_quote, past_quote_byte}
-use Rattle.first_pass_lines.specs.Places.{Place}
-use Rattle.first_pass_lines.proofs.Columns.{after-more, after-none, all-more, all-none, indent-some}
+-- The markers of containers after the indentation of a line, and the container that begins there, from the results of the
+-- calls.
+use Rattle.std.proofs.Common.{◌≡◌, inl, ℕ, nat_lt, ◌&&◌, Bool, true, false, Some, None, refl, if◌then◌else◌, Option, MatchOption, IsSomeAnd, sym, ap, subst}
+use Rattle.std.proofs.Common.{◌∙◌, zero, suc, ◌≤◌, ◌<◌, ◌==◌, List, [], ◌∷◌, min, arith, option_map}
+use Rattle.first_pass_grammar.proofs.Common.{and-false, colon, left_bracket, has, footnotes, Options, begins, is_plain, begins_plain, Rest, indent}
+use Rattle.first_pass_grammar.proofs.Common.{after_columns, column_of, column_of_byte, next_column, past_quote, past_quote_byte, Place, offset}
+use Rattle.first_pass_grammar.proofs.Common.{begins_footnote_mark, definition_of, item_of, plain_begins, inert_indent, Context, prefix, at_rest}
+use Rattle.first_pass_grammar.proofs.Common.{footnote_head_at, all_taken, unindented, definition_marker_at, start_at, Start, definition_start, QuoteMarker}
+use Rattle.first_pass_grammar.proofs.Common.{ItemMarker, FootnoteMarker, DefinitionMarker, nat_tests, after-more, all_columns_up_to}
+use Rattle.first_pass_scan.proofs.ColumnFacts.{no_column}
+use Rattle.first_pass_scan.proofs.PlainFacts.{begins_both}
+use Rattle.first_pass_grammar.specs.Kinds.{item_at}
+use Rattle.first_pass_grammar.proofs.Sequences.OpenerFacts.{marker_where, start_none, start_quote}
+use Rattle.first_pass_open.proofs.PlainLemmas.{inert_all, inert_item_at, inert_prefix}
+use Rattle.first_pass_open.specs.declared.source.Source.{Source}
+use Rattle.first_pass_lists.specs.declared.state.PassState.{PassState}
+use Rattle.first_pass_containers.specs.Positions.{InLine, LeafAt, ReadsTo}
+use Rattle.first_pass_containers.specs.Starts.{BeginsNoContainer, marker_of, OpenerMatches, StartMatches, IsIndented}
+use Rattle.first_pass_containers.proofs.Openings.HeadLemmas.{no_mark}
 use Rattle.first_pass_grammar.specs.declared.kind.Container.TheVariants.{BlockQuote}
-use Rattle.first_pass_grammar.specs.Containers.{prefix}
-use Rattle.first_pass_grammar.specs.Kinds.{all_taken, item_at, definition_marker_at}
-use Rattle.first_pass_grammar.proofs.Sequences.OpenerFacts.{marker_where}
-use Rattle.first_pass_scan.specs.Markers.{item_of, definition_of}
-use Rattle.first_pass_containers.specs.Starts.{IsIndented}
-
--- as many columns as there are, if there are no more than a number
-few_by : (k : ℕ) (r : Rest) (o : Option Rest) → indent r ≤ suc k → next_column r ≡ o → ((s : Rest) → indent s ≤ k → after_columns k s ≡ all_taken s)
-    → after_columns (suc k) r ≡ all_taken r
-few_by k r None low e more = after-none (suc k) r e ∙ sym (all-none r e)
-few_by k r (Some s) low e more = after-more (suc k) k r s refl e ∙ more s (omega (arith, indent-some r s e)) ∙ all-more r s e
-
-pub few_columns : (k : ℕ) (r : Rest) → indent r ≤ k → after_columns k r ≡ all_taken r
-few_columns zero r low = let e : indent r ≡ 0 = omega arith in sym (ap (λ n. after_columns n r) e)
-few_columns (suc k) r low = few_by k r (next_column r) low refl (few_columns k)
+use Rattle.first_pass_open.proofs.PlaceLemmas.{quote_taken as quote_is_taken}
+use Rattle.first_pass_containers.specs.declared.openers.Start.{Start as FoundStart}
+use Rattle.first_pass_containers.specs.declared.openers.Opener.{Opener}
+use Rattle.first_pass_containers.specs.declared.openers.Opener.TheVariants.{Quote, Item as ItemOpener, Definition as DefinitionOpener}
+use Rattle.first_pass_grammar.specs.Blocks.{Opener as ContainerOpener}
+use Rattle.first_pass_lines.proofs.Columns.{indent-some}
 
 -- no quote marker is where a column is
 quote_byte : (r s : Rest) (bs : List ℕ) → column_of_byte r bs ≡ Some s → past_quote_byte r bs ≡ None
@@ -33,23 +35,14 @@ quote_owed zero r s h = quote_byte r s r.left h
 quote_owed (suc o) r s h =
     let t : (suc o == 0) ≡ false = grind (arith, nat_tests) in ap (λ t. if t then past_quote_byte r r.left else None) t
 
--- a line without a column has no indentation
-byte_none : (r : Rest) (bs : List ℕ) (n : ℕ) → column_of_byte r bs ≡ None → columns_of bs n ≡ 0
-byte_none r [] n h = refl
-byte_none r (b ∷ bs) n h = grind (arith, h)
-
-owed_none : (o : ℕ) (r : Rest) → column_of o r ≡ None → o + columns_of r.left r.column ≡ 0
-owed_none zero r h = omega (arith, byte_none r r.left r.column h)
-owed_none (suc o) r h = cc
-
 -- after a number of columns, if there are more
 left_by : (r : Rest) (o : Option Rest) → 0 < indent r → next_column r ≡ o → past_quote r ≡ None
-left_by r None more e = let n : indent r ≡ 0 = owed_none r.owed r e in absurd (omega arith)
+left_by r None more e = absurd (omega (arith, no_column r e))
 left_by r (Some s) more e = quote_owed r.owed r s e
 
 more_by : (k : ℕ) (r : Rest) (o : Option Rest) → suc k < indent r → next_column r ≡ o
     → ((s : Rest) → k < indent s → past_quote (after_columns k s) ≡ None) → past_quote (after_columns (suc k) r) ≡ None
-more_by k r None more e further = let n : indent r ≡ 0 = owed_none r.owed r e in absurd (omega arith)
+more_by k r None more e further = absurd (omega (arith, no_column r e))
 more_by k r (Some s) more e further = ap past_quote (after-more (suc k) k r s refl e) ∙ further s (omega (arith, indent-some r s e))
 
 columns_left : (k : ℕ) (r : Rest) → k < indent r → past_quote (after_columns k r) ≡ None
@@ -88,7 +81,7 @@ is_indented r first mark n same columns is less =
 
 -- the marker of a block quote is at the end of the indentation
 pub quote_mark : (r mark : Rest) (n : ℕ) → IsIndented r mark n → after_columns 3 r ≡ mark
-quote_mark r mark n i = let a = i.few in let b = i.columns_are in few_columns 3 r (omega arith) ∙ sym i.mark_is
+quote_mark r mark n i = let a = i.few in let b = i.columns_are in all_columns_up_to 3 r (omega arith) ∙ sym i.mark_is
 
 quote_read : (r mark : Rest) (n : ℕ) → IsIndented r mark n → prefix (BlockQuote None) r ≡ option_map (after_columns 1) (past_quote mark)
 unfolding prefix
@@ -98,10 +91,117 @@ quote_read r mark n i = ap (λ q. option_map (after_columns 1) (past_quote q)) (
 taken_by : (o : Option Rest) (t : Bool) (old new : Rest)
     → MatchOption o ((t ≡ false) × (new ≡ old)) (λ next. (t ≡ true) × (new ≡ after_columns 1 next))
     → option_map (after_columns 1) o ≡ (if t then Some new else None)
-taken_by None t old new h = rw h.0 refl
-taken_by (Some s) t old new h = rw (h.0, h.1) refl
+taken_by o t old new h = grind (arith, h)
 
 pub quote_taken : (r mark new : Rest) (n : ℕ) (t : Bool) → IsIndented r mark n
     → MatchOption (past_quote mark) ((t ≡ false) × (new ≡ mark)) (λ next. (t ≡ true) × (new ≡ after_columns 1 next))
     → prefix (BlockQuote None) r ≡ (if t then Some new else None)
 quote_taken r mark new n t i h = quote_read r mark n i ∙ taken_by (past_quote mark) t mark new h
+
+-- ---- the container that begins at a place
+
+-- the result of the call that finds the container at a place
+pub start_found : (o : Option Start) (found : Option FoundStart) (t : FoundStart) (old new : Place) → found ≡ Some t
+    → MatchOption o ((found ≡ None) × (new ≡ old)) (λ s. IsSomeAnd found (StartMatches s) × (new ≡ at_rest old s.rest))
+    → (s : Start) × (o ≡ Some s) × StartMatches s t × (new ≡ at_rest old s.rest)
+start_found None found t old new e h = (let z : None ≡ Some t = sym h.0 ∙ e in cc)
+start_found (Some s) found t old new e h = (s, refl, subst (λ f. IsSomeAnd f (StartMatches s)) e h.0, h.1)
+
+-- the pass's opener for a container; any opener for a footnote definition, for which the pass has none
+abbrev pub opener_found : ContainerOpener → Opener
+opener_found (QuoteMarker kind) = Quote kind
+opener_found (ItemMarker byte number columns) = ItemOpener (marker_of (byte, number, columns))
+opener_found (FootnoteMarker columns index label) = Quote None
+opener_found (DefinitionMarker columns) = DefinitionOpener columns
+
+abbrev pub start_told : Start → FoundStart
+start_told s = record { opener = opener_found s.head.opener; start = s.head.start; after = s.after }
+
+opener_is : (o : ContainerOpener) (t : Opener) → OpenerMatches o t → t ≡ opener_found o
+opener_is o t h = grind (arith, h)
+
+pub start_is : (s : Start) (t : FoundStart) → StartMatches s t → t ≡ start_told s
+start_is s t h = rw (← opener_is s.head.opener t.opener h.opener, ← h.start, ← h.after) refl
+
+pub start_missing : (o : Option Start) (found : Option FoundStart) (old new : Place) → found ≡ None
+    → MatchOption o ((found ≡ None) × (new ≡ old)) (λ s. IsSomeAnd found (StartMatches s) × (new ≡ at_rest old s.rest)) → (o ≡ None) × (new ≡ old)
+start_missing None found old new e h = (refl, h.1)
+start_missing (Some s) found old new e h = absurd (subst (λ f. IsSomeAnd f (StartMatches s)) e h.0)
+
+-- the marker of a definition that was read
+pub definition_found : (o : Option (ℕ × Rest)) (found : Option ℕ) (n : ℕ) (old new : Rest) → found ≡ Some n
+    → MatchOption o ((found ≡ None) × (new ≡ old)) (λ marker. (found ≡ Some marker.0) × (new ≡ marker.1)) → o ≡ Some (n, new)
+definition_found None found n old new e h = cc
+definition_found (Some (columns, rest)) found n old new e h = cc
+
+-- no marker of an item or a definition is there, since none was read
+pub marker_absent : {X Y : Type 0} (f : X → Y) (o : Option (X × Rest)) (found : Option Y) (old new : Rest)
+    → found ≡ None → MatchOption o ((found ≡ None) × (new ≡ old)) (λ marker. (found ≡ Some (f marker.0)) × (new ≡ marker.1)) → (o ≡ None) × (new ≡ old)
+marker_absent f None found old new e h = (refl, h.1)
+marker_absent f (Some marker) found old new e h = (let z : None ≡ Some (f marker.0) = sym e ∙ h.0 in cc)
+
+-- a block quote, before which nothing was read
+pub quote_here : (old mid new : Rest) (width : Option ℕ) (at : ℕ) → mid ≡ old → width ≡ Some at
+    → MatchOption (prefix (BlockQuote None) mid) ((width ≡ None) × (new ≡ mid)) (λ next. (width ≡ Some (after_columns 3 mid).taken) × (new ≡ next))
+    → (prefix (BlockQuote None) old ≡ Some new) × (at ≡ (after_columns 3 old).taken)
+quote_here old mid new width at same taken says =
+    let t = quote_is_taken (prefix (BlockQuote None) mid) width _ at mid new taken says in
+    (ap (prefix (BlockQuote None)) (sym same) ∙ t.0, t.1 ∙ ap (λ (r : Rest). (after_columns 3 r).taken) same)
+
+-- if a definition begins, one may begin
+none_begins : (options : Options) (p : Place) (marker : ℕ × Rest) (q : Option Rest) → prefix (BlockQuote None) p.rest ≡ q → item_at p.rest ≡ None
+    → start_at options false p ≡ Some (definition_start p marker) → ⊥
+none_begins options p marker None quote item begins =
+    (let e : None ≡ Some (definition_start p marker) = sym (start_none options false p item refl quote) ∙ begins in cc)
+none_begins options p marker (Some r) quote item begins =
+    (let e = ap (option_map (λ (s : Start). s.head.opener)) (sym (start_quote options false p r item refl quote) ∙ begins) in cc)
+
+pub may_if : (options : Options) (may : Bool) (p : Place) (marker : ℕ × Rest) → item_at p.rest ≡ None
+    → start_at options may p ≡ Some (definition_start p marker) → may ≡ true
+may_if options true p marker item begins = refl
+may_if options false p marker item begins = absurd (none_begins options p marker (prefix (BlockQuote None) p.rest) refl item begins)
+
+-- ---- if no column is owed and the next byte begins no container, no container begins
+
+-- no container begins with a plain byte
+pub plain_begins_none : (r : Rest) → r.owed ≡ 0 → begins_plain r.left ≡ true → BeginsNoContainer r
+unfolding is_plain
+plain_begins_none r owed plain = record {
+  owed = owed;
+  inert = begins_both r.left plain;
+  colon = plain_begins colon r.left plain refl;
+  bracket = plain_begins left_bracket r.left plain refl;
+}
+
+-- no footnote definition begins without a `[`
+no_bracket : (r q : Rest) (t u : Bool) (n : ℕ) → q ≡ r → begins left_bracket r.left ≡ false
+    → (if t && (u && begins_footnote_mark q.left) then Some n else None) ≡ None
+no_bracket r q t u n same h = rw (same, h, and-false u, and-false t) refl
+
+pub no_footnote : (around : Context) (p : Place) → BeginsNoContainer p.rest → footnote_head_at around p ≡ None
+no_footnote around p h =
+    no_mark around p (no_bracket p.rest (all_taken p.rest) (has around.options footnotes) (nat_lt (indent p.rest) 4) (offset (unindented p))
+    (inert_all p.rest h.owed h.inert) h.bracket)
+
+-- and no definition without a `:`
+no_definition_here : (r : Rest) → BeginsNoContainer r → definition_marker_at r ≡ None
+unfolding definition_marker_at definition_of
+no_definition_here r h = rw (inert_indent r h.owed h.inert, h.colon, and-false) refl
+
+no_marker : (may : Bool) (p : Place) → BeginsNoContainer p.rest → marker_where may p ≡ None
+no_marker true p h = no_definition_here p.rest h
+no_marker false p h = refl
+
+pub none_starts : (options : Options) (may : Bool) (p : Place) → BeginsNoContainer p.rest → start_at options may p ≡ None
+none_starts options may p h =
+    start_none options may p (inert_item_at p.rest h.owed h.inert) (no_marker may p h) (inert_prefix None p.rest h.owed h.inert)
+
+-- so a leaf block is there
+pub only_leaf : (source : Source) (r : PassState) (p : Place) (line : ℕ) → BeginsNoContainer p.rest → ReadsTo source line r r (InLine p) (LeafAt p)
+only_leaf source r p line h = record {
+  ready = λ names defined ready. inl (no_footnote _ p h, none_starts _ _ p h, ready);
+  order = λ ordered. ordered;
+  node_bound = λ first grows. grows;
+  named = λ names named. named;
+  tables = λ names tables. tables;
+}

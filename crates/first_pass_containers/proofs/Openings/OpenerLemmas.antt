@@ -1,54 +1,51 @@
--- A container is opened at a place in a line: a block quote, or a list item in its list.
-use Rattle.std.proofs.Common.{◌≡◌, ℕ, suc, ◌+◌, ◌==◌, Bool, true, false, ◌||◌, List, [], ◌∷◌, ◌++◌, length, map, slice_get, Option, Some, None}
-use Rattle.std.proofs.Common.{MatchOption, refl, sym, ap, subst, ◌∙◌, arith, if◌then◌else◌, append_assoc, length-append}
-use Rattle.std.proofs.lemmas.Bool.Decides.{nat_tests}
-use Rattle.std.proofs.Math.Bool.{or-false}
-use Rattle.std.specs.Option.{option_and_then}
-use Rattle.first_pass_items.specs.declared.item.Item.{Item}
-use Rattle.first_pass_items.specs.declared.item.ItemBody.{ItemBody}
-use Rattle.first_pass_items.specs.declared.item.ItemBody.TheVariants.{BlockQuote as BlockQuoteBody, List as ListBody, ListItem as ListItemBody, DefinitionList}
-use Rattle.first_pass_items.specs.declared.item.ListFlags.{ListFlags}
-use Rattle.first_pass_items.specs.declared.item.BlockQuoteKind.{BlockQuoteKind}
-use Rattle.first_pass_tree.specs.declared.tree_index.TreeIndex.{TreeIndex}
-use Rattle.first_pass_tree.specs.Forest.{Forest, body_at}
-use Rattle.first_pass_tree.proofs.BodyLemmas.{body-other}
-use Rattle.first_pass_lines.specs.Rest.{Rest}
-use Rattle.first_pass_lines.specs.Places.{Place, offset, line_end}
+-- A container is opened at a place in a line: a block quote, a list item in its list, or a definition; also one whose line
+-- ends after its markers.
+use Rattle.std.proofs.Common.{◌≡◌, ℕ, ◌+◌, Bool, true, false, List, [], ◌∷◌, ◌++◌, length, map, Option, Some, None, refl, sym, ap, subst, ◌∙◌, arith}
+use Rattle.std.proofs.Common.{if◌then◌else◌, length-append, suc, ◌||◌, slice_get, MatchOption, append_assoc, option_map, option_and_then}
+use Rattle.first_pass_grammar.proofs.Common.{Item, ItemBody, DefinitionListDefinition, DefinitionList, Options, TreeIndex, Forest, modify, with_body_at}
+use Rattle.first_pass_grammar.proofs.Common.{body_at, appended, modify-at, Rest, Place, offset, start_of, line_end, is_paragraph_body, at_rest}
+use Rattle.first_pass_grammar.proofs.Common.{is_blank_rest, Document, around, item_start, definition_head, definition_start, after_task, quote_begun, Start}
+use Rattle.first_pass_grammar.proofs.Common.{start_at, Continues, Blanks, after_marker, only_task, next_is_blank, opening_of, OpensNode, Opens, Level}
+use Rattle.first_pass_grammar.proofs.Common.{Inside, AtPlace, TextOf, Opening, may_define, after_tag, Tables, node_of, list_flags, OtherClosed, AreBelow}
+use Rattle.first_pass_grammar.proofs.Common.{Closed, DefinitionClosed, lines_from, Frame, InContainer, InList, containers_of, IsPlain, nat_tests, or-false}
+use Rattle.first_pass_grammar.proofs.Common.{ListFlags, BlockQuoteKind, body-other, footnote_head_at, is_task_marker}
+use Rattle.first_pass_items.specs.declared.item.ItemBody.TheVariants.{ListItem as ListItemBody, BlockQuote as BlockQuoteBody}
+use Rattle.first_pass_items.specs.declared.item.ItemBody.TheVariants.{List as ListBody}
 use Rattle.first_pass_grammar.specs.declared.kind.Container.{Container}
-use Rattle.first_pass_grammar.specs.declared.kind.Container.TheVariants.{BlockQuote, ListItem}
-use Rattle.first_pass_grammar.specs.Containers.{at_rest}
-use Rattle.first_pass_grammar.specs.Footnotes.{footnote_head_at}
-use Rattle.first_pass_grammar.specs.Kinds.{is_blank_rest, quote_start}
-use Rattle.first_pass_grammar.specs.Leaves.{Document, around}
-use Rattle.first_pass_grammar.specs.Order.{is_task_marker}
+use Rattle.first_pass_grammar.specs.declared.kind.Container.TheVariants.{ListItem, Definition, BlockQuote}
+use Rattle.first_pass_grammar.specs.Kinds.{quote_start}
+use Rattle.first_pass_grammar.specs.Openers.{item_head, quote_head}
+use Rattle.first_pass_completion.proofs.Completions.{fresh, completes-mark}
+use Rattle.first_pass_completion.proofs.States.{open_nodes}
+use Rattle.first_pass_completion.proofs.TitleNodes.{reflagged}
+use Rattle.first_pass_grammar.proofs.Sequences.Finishes.{CompletesAt}
+use Rattle.first_pass_grammar.proofs.Sequences.Tightening.{modify-append}
+use Rattle.first_pass_open.specs.OpenBlock.{with_child}
+use Rattle.first_pass_open.specs.Path.{container_of, with_container, path_in, path_of}
+use Rattle.first_pass_open.proofs.PathLemmas.{get_front}
+use Rattle.first_pass_lists.specs.Closing.{top_body, is_list, may_begin_definition, list_continued, list_kept, with_tree}
+use Rattle.first_pass_lists.specs.Closing.{definitions_opened, definition_begun, loosened_at, is_list_of, empty_item_closed_by}
+use Rattle.first_pass_lists.specs.Closing.{empty_item_closed, list_finished, loosened_top, begun}
+use Rattle.first_pass_lists.specs.declared.state.PassState.{PassState}
+use Rattle.first_pass_ready.specs.State.{closed_in, item_columns, body_without_indent, top_without_indent, ReadyAt, ReadyBeforeLine, ReadyInItem, ReadyEmpty}
+use Rattle.first_pass_ready.specs.State.{Ready, frame_at, frame_of, AreOpen}
+use Rattle.first_pass_ready.proofs.ClosedIn.{level_of, closed_at_body, no_paragraph, open_level, top_in}
+use Rattle.first_pass_ready.proofs.ItemBodies.{item_body, item_container, item_columns_of, item_kind, item_path, without_indent_is}
+use Rattle.first_pass_ready.proofs.OpenLemmas.{open_below, frame-append, get_end, open_path, HasFrame, has_frame}
+use Rattle.first_pass_ready.proofs.PopLemmas.{ready_as}
+use Rattle.first_pass_ready.proofs.EnterLemmas.{path_below}
+use Rattle.first_pass_containers.proofs.OrderSteps.{marked_open}
+use Rattle.first_pass_ready.proofs.BegunLemmas.{depth_of, with_open, top_opened, IsBegun, plain_open, opened_too, HasBegun, begun_ready, opens_start}
+use Rattle.first_pass_ready.proofs.DefinitionOpened.{list_class, definition_is_open}
+use Rattle.first_pass_lists.proofs.NoEmptyItem.{item_opened}
+use Rattle.first_pass_lists.specs.declared.list.ListMarker.{ListMarker}
 use Rattle.first_pass_grammar.specs.OpenOrder.{is_in_item}
-use Rattle.first_pass_grammar.specs.Openers.{item_head, item_start, after_task, quote_head, quote_begun, definition_head, definition_start, Start, start_at}
-use Rattle.first_pass_grammar.specs.Skeleton.{Continues, Inside, AtPlace, TextOf, Opening, OpensNode, Opens, Level, may_define, opening_of, after_tag}
-use Rattle.first_pass_grammar.specs.Derivation.{Tables, node_of, list_flags}
-use Rattle.first_pass_grammar.specs.Completion.{Closed, DefinitionClosed, lines_from, Frame, InContainer, InList}
-use Rattle.first_pass_grammar.specs.Completion.{InDefinitions, containers_of, IsPlain}
-use Rattle.first_pass_completion.proofs.Completions.{fresh}
 use Rattle.first_pass_completion.proofs.ContainerSteps.{completes-quote, completes-list, completes-item}
 use Rattle.first_pass_completion.proofs.Extending.{tail, lvl, opens_stays}
-use Rattle.first_pass_grammar.proofs.Sequences.Finishes.{CompletesAt}
 use Rattle.first_pass_completion.proofs.Flags.{completes-reflag_list}
-use Rattle.first_pass_completion.proofs.States.{open_nodes}
-use Rattle.first_pass_open.specs.Path.{path_in, path_of}
-use Rattle.first_pass_lists.specs.Closing.{loosened_at, loosened_by, top_body, may_begin_definition, is_list, is_list_of, empty_item_closed_by}
-use Rattle.first_pass_lists.specs.Closing.{empty_item_closed}
-use Rattle.first_pass_lists.specs.Closing.{list_finished, loosened_top, list_kept, begun, list_continued, definition_begun}
-use Rattle.first_pass_lists.specs.declared.list.ListMarker.{ListMarker}
-use Rattle.first_pass_lists.specs.declared.state.PassState.{PassState}
 use Rattle.first_pass_containers.specs.Positions.{ReadyOn, ReadyTagged}
 use Rattle.first_pass_containers.specs.Starts.{marker_of, after_at, IsAfterMarker}
-use Rattle.first_pass_ready.specs.State.{frame_of, AreOpen, closed_in, ReadyAt}
-use Rattle.first_pass_ready.proofs.ClosedIn.{items_no_container, items_no_definitions, level_of, open_level}
-use Rattle.first_pass_ready.proofs.OpenLemmas.{open_path, open_below}
-use Rattle.first_pass_ready.proofs.ListLemmas.{open_flags}
 use Rattle.first_pass_ready.proofs.FinishLemmas.{EndsListAt, Finished, MayBegin, OpensOther, ready_finished, loose_is, loose_frame, loosened_spine}
-use Rattle.first_pass_ready.proofs.BegunLemmas.{opened_too, depth_of, with_open, top_opened, IsBegun, HasBegun, begun_ready, opens_start, plain_open}
-use Rattle.first_pass_ready.proofs.DefinitionOpened.{definition_is_open}
-use Rattle.first_pass_lists.proofs.NoEmptyItem.{item_opened}
 
 -- the opening of a quote opens a block, and ends any list at its line
 quote_away : (b : Option ItemBody) (closed : Closed) (p : Place) (kind : Option BlockQuoteKind) (following : List Place) (inside : Continues)
@@ -145,15 +142,19 @@ item_away (Some (ListBody flags list n)) closed p byte number columns inside lin
 item_away (Some (DefinitionList flags)) (DefinitionClosed e blanks) p byte number columns inside lines other = (refl, refl)
 item_away b closed p byte number columns inside lines other = tt
 
--- The innermost open node is a list.
-record InnermostList (f : Forest Item) : Type 0 where
+-- The innermost open node is a list of items with this byte.
+record InnermostList (f : Forest Item) (byte : ℕ) : Type 0 where
   list : TreeIndex
   rest : List TreeIndex
   flags : ListFlags
-  byte : ℕ
   number : ℕ
   spine : f.spine ≡ list ∷ rest
   body : body_at f.nodes list.0 ≡ Some (ListBody flags byte number)
+
+list_frame : (options : Options) (flags : ListFlags) (byte number : ℕ) (frame : Frame) → HasFrame options (Some (ListBody flags byte number)) frame
+    → (loose : Bool) × (frame ≡ InList byte loose)
+list_frame options flags byte number (InList b loose) h = let list = h.1 in (loose, cc)
+list_frame options flags byte number frame h = cc
 
 module _ (d : Document) (defined : Tables) (r : PassState) (p : Place) (lines : List Place) (byte number columns : ℕ) (inside : Continues)
     (may : MayBegin d defined r p lines)
@@ -209,71 +210,53 @@ module _ (d : Document) (defined : Tables) (r : PassState) (p : Place) (lines : 
   kept_by true is ix rest spine = (ap (loosened_top r.tree) spine, refl, may.none)
   kept_by false is ix rest spine = (refl, is, may.none)
 
-  goes_on_as : (run : Bool) (l : InnermostList r.tree) (b : ℕ) (loose : Bool) (frames : List Frame)
-      → AreOpen d.options r.tree.nodes (l.list ∷ l.rest) (InList b loose ∷ frames)
-      → CompletesAt d defined (tail (closed_in r.tree) run) (InList b loose ∷ frames) r.tree.nodes (l.list.0 ∷ map (λ i. i.0) l.rest) (Inside p) lines
+  goes_on_as : (run : Bool) (l : InnermostList r.tree byte) (loose : Bool) (frames : List Frame)
+      → AreOpen d.options r.tree.nodes (l.list ∷ l.rest) (InList byte loose ∷ frames)
+      → CompletesAt d defined (tail (closed_in r.tree) run) (InList byte loose ∷ frames) r.tree.nodes (l.list.0 ∷ map (λ i. i.0) l.rest) (Inside p) lines
       → (let f : Forest Item = if run then loosened_at r.tree l.list else r.tree in
-      AreOpen d.options f.nodes (l.list ∷ l.rest) (InList b (loose || run) ∷ frames)
-      × CompletesAt d defined (tail (closed_in r.tree) run) (InList b loose ∷ frames) f.nodes (l.list.0 ∷ map (λ i. i.0) l.rest) (Inside p) lines
+      AreOpen d.options f.nodes (l.list ∷ l.rest) (InList byte (loose || run) ∷ frames)
+      × CompletesAt d defined (tail (closed_in r.tree) run) (InList byte loose ∷ frames) f.nodes (l.list.0 ∷ map (λ i. i.0) l.rest) (Inside p) lines
       × (f.spine ≡ l.list ∷ l.rest))
-  goes_on_as true l b loose frames o k =
+  unfolding reflagged
+  goes_on_as true l loose frames o k =
       let ix : TreeIndex = l.list in
-      let rest : List TreeIndex = l.rest in
-      let g : Forest Item = loosened_at r.tree ix in
-      let body : ItemBody = ListBody l.flags l.byte l.number in
+      let body : ItemBody = ListBody l.flags byte l.number in
       let nodes = loose_is r.tree ix body l.flags l.body refl in
-      let change : Item → Item = λ x. record { start = x.start; «end» = x.«end»; body = ListBody (list_flags false) l.byte l.number } in
-      let named = ap (loosened_by r.tree ix) l.body in
-      let outer : AreOpen d.options g.nodes rest frames =
-      subst (λ (z : Forest Item). AreOpen d.options z.nodes rest frames) (sym named)
-      (open_below d.options r.tree.nodes _ ix.0 rest frames (λ i h. ap (option_and_then (frame_of d.options)) (body-other r.tree.nodes ix.0 i change h))
-      k.below.1 o.1) in (
-        (loose_frame d.options r.tree ix body l.flags (InList b loose) l.body refl o.0, outer, refl),
-        rw nodes (completes-reflag_list d (open_nodes defined frames r.tree.nodes (map (λ i. i.0) rest)) (tail (closed_in r.tree) true) b loose ix.0
+      let outer : AreOpen d.options (loosened_at r.tree ix).nodes l.rest frames = open_below d.options r.tree.nodes _ ix.0 l.rest frames
+      (λ i h. ap (λ z. frame_at d.options z i) nodes ∙ ap (option_and_then (frame_of d.options)) (body-other r.tree.nodes ix.0 i _ h)) k.below.1 o.1 in (
+        (loose_frame d.options r.tree ix body l.flags (InList byte loose) l.body refl o.0, outer, refl),
+        rw nodes (completes-reflag_list d (open_nodes defined frames r.tree.nodes (map (λ i. i.0) l.rest)) (tail (closed_in r.tree) true) byte loose ix.0
             (Inside p) lines k),
         loosened_spine r.tree ix (body_at r.tree.nodes ix.0) ∙ l.spine,
       )
-  goes_on_as false l b loose frames o k = ((o.0 ∙ ap (λ z. Some (InList b z)) (sym (or-false loose)), o.1, refl), k, l.spine)
+  goes_on_as false l loose frames o k = ((o.0 ∙ ap (λ z. Some (InList byte z)) (sym (or-false loose)), o.1, refl), k, l.spine)
 
-  item_by : (run : Bool) (l : InnermostList r.tree) (frames : List Frame) → l.byte ≡ byte → AreOpen d.options r.tree.nodes (l.list ∷ l.rest) frames
+  item_by : (run : Bool) (l : InnermostList r.tree byte) (frames : List Frame) → AreOpen d.options r.tree.nodes (l.list ∷ l.rest) frames
       → Opens d (lvl frames (tail (closed_in r.tree) run)) p lines opening
       → CompletesAt d defined (tail (closed_in r.tree) run) frames r.tree.nodes (l.list.0 ∷ map (λ i. i.0) l.rest) (Inside p) lines
       → (let f : Forest Item = if run then loosened_at r.tree l.list else r.tree in
       IsBegun d defined (with_open f item) (ListItem columns) inside lines (path_of d.options r.tree))
-  item_by run l [] same o opens' k = absurd o
-  item_by run l (InContainer c ∷ frames) same o opens' k =
-      absurd (items_no_container (l.flags.0 == 1) (l.flags.0 == 0) l.byte c (sym (ap (option_and_then (frame_of d.options)) l.body) ∙ o.0))
-  item_by run l (InDefinitions loose ∷ frames) same o opens' k =
-      absurd (items_no_definitions (l.flags.0 == 1) (l.flags.0 == 0) l.byte loose (sym (ap (option_and_then (frame_of d.options)) l.body) ∙ o.0))
-  item_by run l (InList b loose ∷ frames) same o opens' k =
-      let ix : TreeIndex = l.list in
-      let rest : List TreeIndex = l.rest in
-      let f : Forest Item = if run then loosened_at r.tree ix else r.tree in
+  item_by run l [] o opens' k = absurd o
+  item_by run l (frame ∷ frames) o opens' k =
+      let f : Forest Item = if run then loosened_at r.tree l.list else r.tree in
       let t = tail (closed_in r.tree) run in
-      let set = open_flags d.options l.flags l.byte l.number b loose (sym (ap (option_and_then (frame_of d.options)) l.body) ∙ o.0) in
-      let os : List ℕ = map (λ (i : TreeIndex). i.0) rest in
-      let b_is : b ≡ byte = sym set.0 ∙ same in
+      let (loose, is) = list_frame d.options l.flags byte l.number frame
+      (subst (λ z. HasFrame d.options z frame) l.body (has_frame d.options (body_at r.tree.nodes l.list.0) frame o.0)) in
+      let o' : AreOpen d.options r.tree.nodes (l.list ∷ l.rest) (InList byte loose ∷ frames) = rw is at o in
       let path : containers_of frames ≡ path_of d.options r.tree =
-      sym (ap (path_in d.options r.tree.nodes) l.spine ∙ open_path d.options r.tree.nodes (ix ∷ rest) (InList b loose ∷ frames) o) in
-      let now = goes_on_as run l b loose frames o k in
-      let k' : CompletesAt d defined t (InList byte loose ∷ frames) f.nodes (ix.0 ∷ os) (Inside p) lines =
-      subst (λ z. CompletesAt d defined t (InList z loose ∷ frames) f.nodes (ix.0 ∷ os) (Inside p) lines) b_is now.1 in
-      let done = completes-item d (open_nodes defined frames f.nodes os) (closed_in r.tree) run loose ix.0
+      sym (ap (path_in d.options r.tree.nodes) l.spine ∙ open_path d.options r.tree.nodes (l.list ∷ l.rest) (InList byte loose ∷ frames) o') in
+      let now = goes_on_as run l loose frames o' (rw is at k) in
+      let done = completes-item d (open_nodes defined frames f.nodes (map (λ (i : TreeIndex). i.0) l.rest)) (closed_in r.tree) run loose l.list.0
       (record { byte = byte; number = number; columns = columns; start = offset p; line = p.line }) (record {
         place = p;
         lines = lines;
         inside = inside;
         following = lines;
-        opens = subst (λ z. Opens d (lvl (InList z loose ∷ frames) t) p lines opening) b_is opens';
-      }) k' in
+        opens = subst (λ z. Opens d (lvl (z ∷ frames) t) p lines opening) is opens';
+      }) now.1 in
       let frames' : List Frame = InList byte (loose || run) ∷ frames in
-      let o' : AreOpen d.options f.nodes (ix ∷ rest) frames' =
-      subst (λ z. AreOpen d.options f.nodes (ix ∷ rest) (InList z (loose || run) ∷ frames)) b_is now.0 in
       subst (IsBegun d defined (with_open f item) (ListItem columns) inside lines) path
-      (begun_ready d defined f item (ListItem columns) frames' inside lines refl refl (subst (λ s. AreOpen d.options f.nodes s frames') (sym now.2) o')
-      (subst (λ (s : List TreeIndex). CompletesAt d defined fresh (InContainer (ListItem columns) ∷ frames')
-      (f.nodes ++ (suc (length (map (λ (i : TreeIndex). i.0) s)), item) ∷ []) (length f.nodes ∷ map (λ (i : TreeIndex). i.0) s) inside lines)
-      (sym now.2) done))
+      (begun_ready d defined f item (ListItem columns) frames' inside lines refl refl (rw now.2 now.0) (rw now.2 done))
 
   in_list_by : (s : List TreeIndex) (b : Option ItemBody)
       → r.tree.spine ≡ s → option_and_then (λ (ix : TreeIndex). body_at r.tree.nodes ix.0) (slice_get s 0) ≡ b → is_list_of byte b ≡ true
@@ -285,8 +268,8 @@ module _ (d : Document) (defined : Tables) (r : PassState) (p : Place) (lines : 
       let equal : list ≡ byte = grind (arith, nat_tests, same) in
       let ready = may.ready in
       let opens' = subst (λ z. Opens d z p lines opening) (open_level d.options r.tree ready.frames r.blank ready.are_open) opens in
-      let l : InnermostList r.tree = record { list = ix; rest = rest; flags = flags; byte = list; number = n; spine = spine; body = is } in
-      let done = item_by r.blank l ready.frames equal
+      let l : InnermostList r.tree byte = record { list = ix; rest = rest; flags = flags; number = n; spine = spine; body = rw equal at is } in
+      let done = item_by r.blank l ready.frames
       (subst (λ z. AreOpen d.options r.tree.nodes z ready.frames) spine ready.are_open) opens'
       (subst (λ z. CompletesAt d defined (tail (closed_in r.tree) r.blank) ready.frames r.tree.nodes (map (λ (i : TreeIndex). i.0) z) (Inside p) lines) spine
       ready.completes) in
@@ -314,13 +297,7 @@ module _ (d : Document) (defined : Tables) (r : PassState) (p : Place) (lines : 
 pub item_found : (o : Option ((ℕ × ℕ × ℕ) × Rest)) (found : Option ListMarker) (m : ListMarker) (old new : Rest) → found ≡ Some m
     → MatchOption o ((found ≡ None) × (new ≡ old)) (λ item. (found ≡ Some (marker_of item.0)) × (new ≡ item.1)) → o ≡ Some ((m.byte, m.number, m.indent), new)
 item_found None found m old new e h = cc
-item_found (Some (item, rest)) found m old new e h =
-    let told : Some (marker_of item) ≡ Some m = sym h.0 ∙ e in let same : marker_of item ≡ m = cc in rw (← same, h.1) refl
-
-pub item_absent : (o : Option ((ℕ × ℕ × ℕ) × Rest)) (found : Option ListMarker) (old new : Rest)
-    → found ≡ None → MatchOption o ((found ≡ None) × (new ≡ old)) (λ item. (found ≡ Some (marker_of item.0)) × (new ≡ item.1)) → (o ≡ None) × (new ≡ old)
-item_absent None found old new e h = (refl, h.1)
-item_absent (Some item) found old new e h = (let z : None ≡ Some (marker_of item.0) = sym e ∙ h.0 in cc)
+item_found (Some (item, rest)) found m old new e h = grind (arith, e, h)
 
 -- the place where blocks continue after the markers of an item
 abbrev pub past_task : Option Item → Place → Continues
@@ -332,8 +309,7 @@ inside_by : (d : Document) (path : List Container) (p : Place) (lines : List Pla
     → is_blank_rest rest ≡ false
     → opening_of d path p lines (item_start p (byte, number, columns) (marker, rest))
     ≡ OpensNode (item_head p byte number columns) (past_task marker (at_rest p rest)) lines
-inside_by d path p lines byte number columns None rest h = rw h refl
-inside_by d path p lines byte number columns (Some x) rest h = rw h refl
+inside_by d path p lines byte number columns marker rest h = grind (arith, h)
 
 -- an item with something after its markers
 pub ready_item : (d : Document) (defined : Tables) (r : PassState) (p : Place) (lines : List Place) (byte number columns : ℕ) (marker : Option Item)
@@ -379,3 +355,200 @@ pub ready_after : (d : Document) (defined : Tables) (r : PassState) (p : Place) 
     → ReadyOn d defined r (after_at p e (after_task marker))
 ready_after d defined r p e None ends (blank, ready, plain) = rw (ends, blank) ready
 ready_after d defined r p e (Some x) ends (blank, ready, plain) = rw ends (record { blank = blank; ready = ready; plain = plain })
+
+-- ---- an item or a definition whose line ends after its markers
+
+-- a task list item marker, if there is one, is no paragraph
+abbrev pub IsNoParagraph : Option Item → Type 0
+IsNoParagraph marker = (x : Item) → marker ≡ Some x → is_paragraph_body x.body ≡ false
+
+-- a task list item marker with nothing after it, in the innermost open node, which is no list
+ready_marked : (d : Document) (defined : Tables) (f : Forest Item) (marker : Option Item) (p : Place) (blanks : Option ℕ) (lines : List Place)
+    → IsNoParagraph marker → ((m : Option Item) → is_list (top_body (with_child f m)) ≡ false) → ReadyAt d defined f false (only_task marker p blanks) lines
+    → ReadyAt d defined (with_child f marker) false (after_marker blanks) lines
+ready_marked d defined f None p blanks lines other top ready = ready
+ready_marked d defined f (Some x) p blanks lines other top ready =
+    let os : List ℕ = map (λ (i : TreeIndex). i.0) f.spine in
+    let g : Forest Item = appended f x in
+    let from : Continues = after_marker blanks in
+    let k = completes-mark d (open_nodes defined ready.frames f.nodes os) (closed_in f) x p blanks lines
+    (plain_open d.options f ready.frames ready.are_open (top None)) (other x refl) ready.completes in
+    let closed : closed_in g ≡ OtherClosed =
+    closed_at_body g (record { 0 = length f.nodes }) x.body (list_class (top_body g) (top (Some x))) refl
+    (get_end f.nodes (length f.spine + 1, x) [] (length f.nodes) refl)
+    ∙ no_paragraph (length f.nodes) x.body (other x refl) in
+    ready_as d defined g false from lines ready.frames OtherClosed closed
+    (open_below d.options f.nodes g.nodes (length f.nodes) f.spine ready.frames
+    (λ i h. frame-append d.options f.nodes ((length f.spine + 1, x) ∷ []) i h) ready.completes.below ready.are_open) tt
+    (subst (λ z. CompletesAt d defined fresh ready.frames (f.nodes ++ (z, x) ∷ []) os from lines) (depth_of f.spine) k)
+
+marked_spine : (f : Forest Item) (marker : Option Item) → (with_child f marker).spine ≡ f.spine
+marked_spine f None = refl
+marked_spine f (Some x) = refl
+
+marked_path : (options : Options) (f : Forest Item) (marker : Option Item)
+    → AreBelow (length f.nodes) (map (λ (i : TreeIndex). i.0) f.spine) → path_of options (with_child f marker) ≡ path_of options f
+marked_path options f None below = refl
+marked_path options f (Some x) below = path_below options f.nodes (f.nodes ++ (length f.spine + 1, x) ∷ []) (length f.nodes) f.spine
+    (λ i h. ap (option_map (λ (n : ℕ × Item). n.1.body)) (get_front f.nodes _ i h)) below
+
+-- An item of a tree, opened last with a number of columns.
+module _ (b : ItemBody) (g : Forest Item) (start : ℕ) where
+  abbrev with_columns : ℕ → Forest Item
+  with_columns n = with_open g (node_of start 0 (item_body b n))
+
+  abbrev place : TreeIndex
+  place = record { 0 = length g.nodes }
+
+  longer : (n : ℕ) → length (with_columns n).nodes ≡ length g.nodes + 1
+  longer n = length-append g.nodes ((length g.spine + 1, node_of start 0 (item_body b n)) ∷ [])
+
+  -- the path with the item, for any indent
+  opened_path : (options : Options) (m n : ℕ) (path : List Container)
+      → AreBelow (length (with_columns m).nodes) (map (λ (i : TreeIndex). i.0) (with_columns m).spine)
+      → path_of options (with_columns m) ≡ item_container b m ∷ path → path_of options (with_columns n) ≡ item_container b n ∷ path
+  opened_path options m n path below is =
+      let top : (k : ℕ) → path_of options (with_columns k) ≡ item_container b k ∷ path_in options (with_columns k).nodes g.spine =
+      λ k. ap (λ o. with_container (option_and_then (container_of options) o) (path_in options (with_columns k).nodes g.spine))
+      (top_opened g (node_of start 0 (item_body b k)))
+      ∙ ap (λ o. with_container o (path_in options (with_columns k).nodes g.spine)) (item_path options b k) in
+      let outer : path_in options (with_columns m).nodes g.spine ≡ path = (let e = sym (top m) ∙ is in cc) in
+      let same : (k : ℕ) → path_in options (with_columns k).nodes g.spine ≡ path_in options g.nodes g.spine = λ k.
+      path_below options g.nodes (with_columns k).nodes (length g.nodes) g.spine
+      (λ i h. ap (option_map (λ (n : ℕ × Item). n.1.body)) (get_front g.nodes _ i h)) below.1 in
+      top n ∙ ap (λ z. item_container b n ∷ z) (same n ∙ sym (same m) ∙ outer)
+
+  -- a container that takes only blank lines, with a task list item marker after it or without one
+  without_indent_nodes : (n : ℕ) (more : List (ℕ × Item))
+      → modify ((with_columns n).nodes ++ more) (length g.nodes) (λ x. record { start = x.start; «end» = x.«end»; body = item_body b 0 })
+      ≡ (with_columns 0).nodes ++ more
+  without_indent_nodes n more =
+      let change : Item → Item = λ x. record { start = x.start; «end» = x.«end»; body = item_body b 0 } in
+      modify-append (with_columns n).nodes more (length g.nodes) change (let l = longer n in omega arith)
+      ∙ ap (λ z. z ++ more) (modify-at g.nodes [] (length g.spine + 1, node_of start 0 (item_body b n)) (length g.nodes) change refl)
+
+  named_marked : (n : ℕ) (marker : Option Item) → with_body_at (with_child (with_columns n) marker) place (item_body b 0) ≡ with_child (with_columns 0) marker
+  named_marked n None = ap (λ ns. record (with_columns n) { nodes = ns }) (modify-at g.nodes [] (length g.spine + 1, node_of start 0 (item_body b n))
+      (length g.nodes) (λ x. record { start = x.start; «end» = x.«end»; body = item_body b 0 }) refl)
+  named_marked n (Some y) =
+      let f : Forest Item = appended (with_columns n) y in
+      let h : Forest Item = appended (with_columns 0) y in
+      ap (λ ns. record f { nodes = ns }) (without_indent_nodes n ((length (with_columns n).spine + 1, y) ∷ []))
+      ∙ ap (λ k. record h { current = Some (record { 0 = k }) }) (longer n ∙ sym (longer 0))
+
+  without_indent_marked : (n : ℕ) (marker : Option Item) → top_without_indent (with_child (with_columns n) marker) ≡ with_child (with_columns 0) marker
+  without_indent_marked n marker =
+      ap (body_without_indent (with_child (with_columns n) marker)) (marked_open g (node_of start 0 (item_body b n)) marker)
+      ∙ without_indent_is (with_child (with_columns n) marker) place g.spine b n (marked_spine (with_columns n) marker) ∙ named_marked n marker
+
+-- the state after the markers of an empty item
+abbrev pub empty_item_read : PassState → Option Item → ℕ → PassState
+empty_item_read r marker e = record r { tree = with_child r.tree marker; begin_list_item = Some e }
+
+in_item : (d : Document) (defined : Tables) (f : Forest Item) (e : ℕ) (lines : List Place) (t blank : Bool)
+    → blank ≡ false → next_is_blank (path_of d.options f) lines ≡ t → ReadyBeforeLine d defined f e lines t → ReadyInItem d defined f e lines blank
+in_item d defined f e lines t true none is ready = cc
+in_item d defined f e lines t false none is ready = subst (ReadyBeforeLine d defined f e lines) (sym is) ready
+
+-- if the next line is blank too, the item takes only blank lines
+abbrev columns_by : Bool → ℕ → ℕ
+columns_by t n = if t then 0 else n
+
+abbrev blanks_by : Bool → ℕ → Option ℕ
+blanks_by t e = if t then Some e else None
+
+module _ (d : Document) (defined : Tables) (b : ItemBody) (g : Forest Item) (start columns : ℕ) (q : PassState) (marker : Option Item) (p : Place)
+    (lines : List Place) (e : ℕ) (path : List Container) (tree : q.tree ≡ with_open g (node_of start 0 (item_body b columns))) (blank : q.blank ≡ false)
+    (other : IsNoParagraph marker) where
+  abbrev full : Forest Item
+  full = with_columns b g start columns
+
+  empty_read : (t : Bool) → path_of d.options (with_child full marker) ≡ item_container b columns ∷ path
+      → next_is_blank (item_container b columns ∷ path) lines ≡ t → ReadyBeforeLine d defined (with_child full marker) e lines t
+      → ReadyEmpty d defined (empty_item_read q marker e) e lines
+  empty_read t path_is next ready =
+      subst (λ (z : Forest Item). ReadyEmpty d defined (record q { tree = with_child z marker; begin_list_item = Some e }) e lines) (sym tree) (record {
+        place = place b g start;
+        outer = g.spine;
+        columns = columns;
+        spine = marked_spine full marker;
+        item = ap (option_and_then item_columns)
+            (sym (ap (top_in (with_child full marker).nodes) (marked_spine full marker)) ∙ marked_open g (node_of start 0 (item_body b columns)) marker)
+            ∙ item_columns_of b columns;
+        none = λ some. cc;
+        ready = in_item d defined (with_child full marker) e lines t q.blank blank (ap (λ z. next_is_blank z lines) path_is ∙ next) ready;
+      })
+
+  opened_last : (n : ℕ) (m : Option Item) → is_list (top_body (with_child (with_columns b g start n) m)) ≡ false
+  opened_last n m = ap is_list (marked_open g (node_of start 0 (item_body b n)) m) ∙ (item_kind b n).1
+
+  empty_is : (t : Bool) → next_is_blank (item_container b columns ∷ path) lines ≡ t
+      → IsBegun d defined (with_columns b g start (columns_by t columns)) (item_container b (columns_by t columns)) (only_task marker p (blanks_by t e)) lines
+      path
+      → ReadyEmpty d defined (empty_item_read q marker e) e lines
+  empty_is true next begun =
+      let zero_node : Forest Item = with_columns b g start 0 in
+      let marked = ready_marked d defined zero_node marker p (Some e) lines other (opened_last 0) begun.ready in
+      let below : AreBelow (length full.nodes) (map (λ (i : TreeIndex). i.0) full.spine) =
+      subst (λ k. AreBelow k (map (λ (i : TreeIndex). i.0) full.spine)) (longer b g start 0 ∙ sym (longer b g start columns)) begun.ready.completes.below in
+      empty_read true (marked_path d.options full marker below
+      ∙ opened_path b g start d.options 0 columns path begun.ready.completes.below begun.path_is) next
+      (subst (λ f. ReadyAt d defined f false (Blanks e) lines) (sym (without_indent_marked b g start columns marker)) marked)
+  empty_is false next begun =
+      empty_read false (marked_path d.options full marker begun.ready.completes.below ∙ begun.path_is) next
+      (ready_marked d defined full marker p None lines other (opened_last columns) begun.ready)
+
+-- nothing follows the markers of a container in its line, and the next line begins at an offset
+pub record EndsLine (d : Document) (rest : Rest) (lines : List Place) (e : ℕ) : Type 0 where
+  pub blank : is_blank_rest rest ≡ true
+  pub next : start_of (length d.text) lines ≡ e
+
+-- the opening of an empty item, from its markers
+item_opens : (d : Document) (path : List Container) (p : Place) (lines : List Place) (m : ListMarker) (marker : Option Item) (rest : Rest) (e : ℕ)
+    (t : Bool) → EndsLine d rest lines e → next_is_blank (ListItem m.indent ∷ path) lines ≡ t
+    → opening_of d path p lines (item_start p (m.byte, m.number, m.indent) (marker, rest))
+    ≡ OpensNode (item_head p m.byte m.number (columns_by t m.indent)) (only_task marker (at_rest p rest) (blanks_by t e)) lines
+item_opens d path p lines m marker rest e t over n = grind (arith, n, over.blank, over.next)
+
+-- an item with nothing after its markers
+pub ready_empty_item : (d : Document) (defined : Tables) (r : PassState) (p : Place) (lines : List Place) (m : ListMarker) (marker : Option Item)
+    (rest : Rest) (e : ℕ) → ContainerBegins d defined r p lines (item_start p (m.byte, m.number, m.indent) (marker, rest)) → IsNoParagraph marker
+    → EndsLine d rest lines e → Ready d defined (empty_item_read (item_opened (offset p) m.byte m.number m.indent r) marker e) lines
+unfolding Ready
+ready_empty_item d defined r p lines m marker rest e b other over =
+    let path : List Container = path_of d.options r.tree in
+    let t : Bool = next_is_blank (ListItem m.indent ∷ path) lines in
+    let n : ℕ = columns_by t m.indent in
+    let from : Continues = only_task marker (at_rest p rest) (blanks_by t e) in
+    let opens : Opens d (level_of d.options r.tree r.blank) p lines (OpensNode (item_head p m.byte m.number n) from lines) =
+    subst (Opens d (level_of d.options r.tree r.blank) p lines) (item_opens d path p lines m marker rest e t over refl)
+    (begins_open d defined r p lines (item_start p (m.byte, m.number, m.indent) (marker, rest)) b) in
+    let now = item_is_open d defined r p lines m.byte m.number n from b.may opens in
+    empty_is d defined (ListItemBody m.indent) (list_continued (offset p) m.byte m.number r).tree (offset p) m.indent
+    (item_opened (offset p) m.byte m.number m.indent r) marker (at_rest p rest) lines e path refl now.blank other t refl now.is_begun
+
+-- the opening of an empty definition, from its marker
+definition_opens : (d : Document) (path : List Container) (p : Place) (lines : List Place) (columns : ℕ) (rest : Rest) (e : ℕ) (t : Bool)
+    → EndsLine d rest lines e → next_is_blank (Definition columns ∷ path) lines ≡ t
+    → opening_of d path p lines (definition_start p (columns, rest))
+    ≡ OpensNode (definition_head p (columns_by t columns)) (only_task None (at_rest p rest) (blanks_by t e)) lines
+definition_opens d path p lines columns rest e t over n = grind (arith, n, over.blank, over.next)
+
+-- a definition with nothing after its marker
+pub ready_empty_definition : (d : Document) (defined : Tables) (r : PassState) (p : Place) (lines : List Place) (columns : ℕ) (rest : Rest) (e : ℕ)
+    → ContainerBegins d defined r p lines (definition_start p (columns, rest)) → may_begin_definition r.tree ≡ true → EndsLine d rest lines e
+    → Ready d defined (empty_item_read (definition_begun (offset p) columns r) None e) lines
+unfolding Ready definition_begun
+ready_empty_definition d defined r p lines columns rest e b takes over =
+    let path : List Container = path_of d.options r.tree in
+    let t : Bool = next_is_blank (Definition columns ∷ path) lines in
+    let n : ℕ = columns_by t columns in
+    let from : Continues = only_task None (at_rest p rest) (blanks_by t e) in
+    let l : Level = level_of d.options r.tree r.blank in
+    let opens : Opens d l p lines (OpensNode (definition_head p n) from lines) =
+    subst (Opens d l p lines) (definition_opens d path p lines columns rest e t over refl)
+    (begins_open d defined r p lines (definition_start p (columns, rest)) b) in
+    let now = definition_is_open d defined r p lines lines n from b.may takes opens in
+    let g : PassState = list_kept (with_tree r (definitions_opened r.tree r.tree.current)) in
+    empty_is d defined (DefinitionListDefinition columns) g.tree (offset p) columns (definition_begun (offset p) columns r) None (at_rest p rest) lines e path
+    refl now.blank (λ x some. cc) t refl now.is_begun

@@ -1,68 +1,49 @@
 -- A container that begins at a place is opened: the properties that this keeps.
-use Rattle.std.proofs.Common.{◌≡◌, inl, ℕ, ◌<◌, ◌≤◌, length, Bool, true, false, ◌&&◌, List, Option}
-use Rattle.std.proofs.Common.{Some, None, refl, sym, ap, subst, ◌∙◌, arith, IsUtf8, IsCharBoundary, if◌then◌else◌}
-use Rattle.std.proofs.lemmas.Bool.{and_parts}
-use Rattle.first_pass_items.specs.declared.item.Item.{Item}
-use Rattle.first_pass_items.specs.declared.item.BlockQuoteKind.{BlockQuoteKind}
-use Rattle.first_pass_items.specs.declared.item.ItemBody.{ItemBody}
-use Rattle.first_pass_items.specs.declared.item.ItemBody.TheVariants.{BlockQuote as BlockQuoteBody, ListItem as ListItemBody, Paragraph as ParagraphBody}
-use Rattle.first_pass_items.specs.declared.item.ItemBody.TheVariants.{DefinitionListDefinition}
-use Rattle.first_pass_grammar.specs.Before.{is_paragraph_body}
-use Rattle.first_pass_tree.specs.Forest.{IsForest, in_table}
-use Rattle.first_pass_grammar.specs.Footnotes.{footnote_head_at}
-use Rattle.first_pass_grammar.specs.Derivation.{Tables}
+use Rattle.std.proofs.Common.{◌≡◌, inl, ℕ, ◌<◌, ◌≤◌, length, Bool, true, false, ◌&&◌, List, Option, Some, None, refl, sym, ap, subst, ◌∙◌, arith, IsUtf8}
+use Rattle.std.proofs.Common.{IsCharBoundary, if◌then◌else◌}
+use Rattle.first_pass_grammar.proofs.Common.{and_parts, Item, BlockQuoteKind, DefinitionListDefinition, IsForest, in_table, footnote_head_at, Tables}
+use Rattle.first_pass_grammar.proofs.Common.{list_flags, Rest, Place, place_at, offset, line_end, IsPlaceOf, start_of-lines, prefix, at_rest}
+use Rattle.first_pass_grammar.proofs.Common.{definition_marker_at, is_blank_rest, Document, document, around, has, definition_list, Start, item_start}
+use Rattle.first_pass_grammar.proofs.Common.{task_after, after_task, tag_after, quote_begun, definition_head, definition_start, start_at, lines_from, Names}
+use Rattle.first_pass_grammar.proofs.Common.{is_task_marker, GrowsBy, item_on_top, Inside, CowIndex}
+use Rattle.first_pass_items.specs.declared.item.ItemBody.TheVariants.{BlockQuote as BlockQuoteBody, ListItem as ListItemBody}
+use Rattle.first_pass_items.specs.declared.item.ItemBody.TheVariants.{List as ListBody, FootnoteDefinition as FootnoteDefinitionBody}
 use Rattle.first_pass_open.specs.Path.{path_of, context_of}
 use Rattle.first_pass_ready.proofs.BegunLemmas.{no_table}
-use Rattle.first_pass_lines.specs.Rest.{Rest}
-use Rattle.first_pass_lines.specs.Places.{Place, place_at, offset, line_end, IsPlaceOf}
-use Rattle.first_pass_lines.proofs.PlaceFacts.{start_of-lines}
 use Rattle.first_pass_grammar.specs.declared.kind.Container.TheVariants.{BlockQuote}
-use Rattle.first_pass_grammar.specs.Containers.{prefix, at_rest}
-use Rattle.first_pass_grammar.specs.Kinds.{item_at, definition_marker_at, is_blank_rest, quote_start}
-use Rattle.first_pass_grammar.specs.Leaves.{Document, document, around}
-use Rattle.first_pass_items.specs.OptionWords.{has, definition_list}
+use Rattle.first_pass_grammar.specs.Kinds.{item_at, quote_start}
 use Rattle.first_pass_grammar.specs.declared.kind.AfterMarker.TheVariants.{OnLine, LineEnds}
-use Rattle.first_pass_grammar.specs.Openers.{Start, item_start, item_head, task_after, after_task, tag_after, quote_begun, definition_head}
-use Rattle.first_pass_grammar.specs.Openers.{definition_start, start_at}
-use Rattle.first_pass_grammar.specs.Completion.{lines_from}
-use Rattle.first_pass_grammar.specs.Names.{Names}
-use Rattle.first_pass_grammar.specs.Order.{is_task_marker}
-use Rattle.first_pass_grammar.specs.OpenOrder.{item_on_top}
+use Rattle.first_pass_grammar.specs.Openers.{item_head}
 use Rattle.first_pass_grammar.proofs.Sequences.OpenerFacts.{start_cases}
 use Rattle.first_pass_open.specs.declared.source.Source.{Source}
 use Rattle.first_pass_open.proofs.PlaceLemmas.{item_keeps, item_shorter, definition_keeps, definition_shorter, markers_keep, mark_is_task, prefix_keeps}
 use Rattle.first_pass_open.proofs.PlaceLemmas.{quote_prefix_shorter, place_end}
 use Rattle.first_pass_lists.specs.Closing.{top_body, may_begin_definition, with_tree, is_list, list_kept, loosened_top, begun, list_finished, list_continued}
-use Rattle.first_pass_lists.specs.Closing.{definitions_opened, definition_begun}
+use Rattle.first_pass_lists.specs.Closing.{definitions_opened, definition_begun, is_list_of, is_after_definition, empty_item_closed, list_closed, gap_tree}
+use Rattle.first_pass_lists.specs.Closing.{gap_marked, footnote_left, footnote_begun}
 use Rattle.first_pass_lists.specs.declared.state.PassState.{PassState}
-use Rattle.first_pass_containers.specs.Positions.{Position, InLine, LeafAt, IsInLine, OrderedUpTo, ReadsTo, may_define, OrderedIn}
+use Rattle.first_pass_containers.specs.Positions.{Position, InLine, LeafAt, IsInLine, OrderedUpTo, ReadsTo, may_define, OrderedIn, GrowsTo}
 use Rattle.first_pass_order.specs.Ordered.{IsReadTo}
-use Rattle.first_pass_containers.specs.Starts.{StartMatches, start_opened, after_at, IsAfterMarker, marker_of}
-use Rattle.first_pass_containers.proofs.Openings.StartFound.{start_told, start_is, may_if}
+use Rattle.first_pass_containers.proofs.Leaves.FirstItems.{mark_by}
+use Rattle.first_pass_containers.specs.Starts.{StartMatches, start_opened, after_at, IsAfterMarker, marker_of, container_opened, FinishesNothing}
+use Rattle.first_pass_containers.proofs.Openings.Indented.{start_told, start_is, may_if}
 use Rattle.first_pass_ready.specs.State.{ReadyAt}
-use Rattle.first_pass_lists.proofs.NoEmptyItem.{list_finished_none, list_continued_none, item_opened}
+use Rattle.first_pass_lists.proofs.NoEmptyItem.{list_finished_none, list_continued_none, item_opened, footnote_begun_none}
 use Rattle.first_pass_order.proofs.NamedLemmas.{item_named, definition_named, quote_named, child_named}
 use Rattle.first_pass_order.proofs.WholeKept.{item_whole, quote_whole, child_whole}
 use Rattle.first_pass_order.proofs.DefinitionsWhole.{definition_whole}
 use Rattle.first_pass_order.proofs.CountLemmas.{item_count, definition_count, quote_count, child_count, left_before, offset_before, mark_shorter}
-use Rattle.first_pass_containers.proofs.LineByLine.EnteredLines.{noted}
-use Rattle.first_pass_grammar.specs.Order.{GrowsBy}
-use Rattle.first_pass_containers.specs.Positions.{GrowsTo}
-use Rattle.first_pass_containers.proofs.Order.OrderSteps.{offset_later, upto_later, ordered_on, top_begun, ordered_item, ordered_definition_in, ordered_quote}
-use Rattle.first_pass_containers.proofs.Order.OrderSteps.{mark_stands, ordered_container, ordered_empty_item, quote_stands, place_before_end, NewBlock}
-use Rattle.first_pass_containers.proofs.Order.OrderSteps.{stands_between}
+use Rattle.first_pass_containers.proofs.OrderSteps.{noted, list_finished_blank, offset_later, upto_later, ordered_on, top_begun, ordered_item}
+use Rattle.first_pass_containers.proofs.OrderSteps.{ordered_definition_in, ordered_quote, mark_stands, ordered_container, ordered_empty_item, quote_stands}
+use Rattle.first_pass_containers.proofs.OrderSteps.{place_before_end, NewBlock, stands_between}
 use Rattle.first_pass_ready.proofs.ClosedIn.{takes_same}
 use Rattle.first_pass_containers.proofs.Openings.OpenerLemmas.{ready_item, ready_definition, ready_quote, ready_tagged, after_opened, ready_after}
-use Rattle.first_pass_containers.proofs.Openings.OpenerLemmas.{ContainerBegins}
-use Rattle.first_pass_containers.proofs.Openings.EmptyItems.{empty_item_read, ready_empty_item, ready_empty_definition}
-use Rattle.first_pass_grammar.specs.Skeleton.{Inside}
+use Rattle.first_pass_containers.proofs.Openings.OpenerLemmas.{ContainerBegins, empty_item_read, ready_empty_item, ready_empty_definition}
 use Rattle.first_pass_containers.specs.declared.openers.Start.{Start as FoundStart}
 use Rattle.first_pass_open.specs.Between.{MarkerBetween}
-
--- the marker of a task is no paragraph
-pub mark_by : (b : ItemBody) → is_task_marker b ≡ true → is_paragraph_body b ≡ false
-mark_by ParagraphBody h = cc
-mark_by b h = refl
+use Rattle.first_pass_containers.specs.declared.openers.Opener.{Opener}
+use Rattle.first_pass_containers.specs.declared.openers.Opener.TheVariants.{Quote, Item as ItemOpener, Definition as DefinitionOpener}
+use Rattle.first_pass_ready.proofs.DefinitionOpened.{list_class}
 
 -- the number of nodes that are added with an item with something after its markers, which end at two offsets
 container_count : (text : List ℕ) (line mid e : ℕ) (q : Place) (first new : List (ℕ × Item)) (marker : Option Item)
@@ -146,7 +127,7 @@ module _ (source : Source) (r : PassState) (p : Place) (utf8 : IsUtf8 source.tex
     is_task : (marker : Option Item) → marker ≡ (task_after source.options p.line following).0 → (x : Item) → marker ≡ Some x → is_task_marker x.body ≡ true
     is_task marker same x some = mark_is_task source.options p.line following x (sym same ∙ some)
 
-    -- the marker of a task, if there is one, is after the marker of the item
+    -- a task list item marker, if there is one, is after the marker of the item
     task_stands : (from : ℕ) (marker : Option Item) → marker ≡ (task_after source.options p.line following).0 → from ≤ offset (place_at p.line following)
         → MarkerBetween text from (offset (at_rest p rest)) marker
     task_stands from marker same low =
@@ -369,18 +350,15 @@ module _ (source : Source) (r : PassState) (p : Place) (utf8 : IsUtf8 source.tex
   abbrev OpensIt : Start → Type 0
   OpensIt s = start_at source.options may p ≡ Some s → IsOpened source line r p s
 
-  definition_may : (marker : ℕ × Rest) → item_at p.rest ≡ None → start_at source.options may p ≡ Some (definition_start p marker)
-      → may_begin_definition r.tree ≡ true
-  definition_may marker no_item begins =
-      (and_parts (has source.options definition_list) (may_begin_definition r.tree) (may_if source.options may p marker no_item begins)).1
-
   pub start_opens : (s : Start) → start_at source.options may p ≡ Some s → IsOpened source line r p s
   start_opens s begins_it =
       start_cases source.options may p OpensIt
       (λ item is begins.
       item_by item.0.0 item.0.1 item.0.2 item.1 is begins (is_blank_rest (task_after source.options p.line item.1).1) refl)
       (λ marker no_item is begins.
-      definition_by marker.0 marker.1 is (definition_may marker no_item begins) begins (is_blank_rest marker.1) refl)
+      definition_by marker.0 marker.1 is
+      (and_parts (has source.options definition_list) (may_begin_definition r.tree) (may_if source.options may p marker no_item begins)).1 begins
+      (is_blank_rest marker.1) refl)
       (λ inside no_item is begins. quote_by inside is begins (tag_after source.options inside) refl) s begins_it begins_it
 
   -- no container begins there
@@ -416,3 +394,59 @@ reads_none source line r p = record {
   named = λ names h. h;
   tables = λ names h. h;
 }
+
+-- ---- in a container that was just opened, a block that begins ends no list, and is no title
+
+pub finishes_none : (e : ℕ) (r : PassState) → FinishesNothing r → list_finished e r ≡ r
+unfolding list_finished empty_item_closed
+finishes_none e r h = rw (h.none, h.plain, h.blank) refl
+
+pub not_after_definition : (r : PassState) → FinishesNothing r → is_after_definition r.tree ≡ false
+not_after_definition r h = rw (list_class (top_body r.tree) h.plain) refl
+
+continued_by : (t : Bool) (start byte number : ℕ) (r : PassState)
+    → (if t then list_kept r else begun start (ListBody (list_flags true) byte number) (list_finished start r)).blank ≡ false
+continued_by true start byte number r = (noted r (loosened_top r.tree r.tree.spine) r.blank refl).0
+continued_by false start byte number r = list_finished_blank start r
+
+continued_blank : (start byte number : ℕ) (r : PassState) → (list_continued start byte number r).blank ≡ false
+unfolding list_continued
+continued_blank start byte number r =
+    continued_by (is_list_of byte (top_body (empty_item_closed r).tree)) start byte number (empty_item_closed r)
+
+definition_opened : (start columns : ℕ) (r : PassState) → r.begin_list_item ≡ None → FinishesNothing (definition_begun start columns r)
+unfolding definition_begun
+definition_opened start columns r none =
+    let q : PassState = with_tree r (definitions_opened r.tree r.tree.current) in
+    record {
+      none = definition_none start columns r none;
+      blank = (noted q (loosened_top q.tree q.tree.spine) q.blank refl).0;
+      plain = ap is_list (definition_top start columns r);
+    }
+
+pub footnote_just_opened : (start : ℕ) (label : CowIndex) (r : PassState) → FinishesNothing (footnote_begun start label r)
+unfolding footnote_begun
+footnote_just_opened start label r =
+    let left : PassState = footnote_left start (list_closed start (empty_item_closed r)) in
+    record {
+      none = footnote_begun_none start label r;
+      blank = (noted left (gap_tree left.tree left.tree.spine) left.blank refl).0;
+      plain = ap is_list (top_begun start (FootnoteDefinitionBody label) (gap_marked left));
+    }
+
+just_opened : (line start : ℕ) (o : Opener) (r : PassState) → r.begin_list_item ≡ None → FinishesNothing (container_opened line start o r)
+just_opened line start (Quote kind) r none = record {
+  none = list_finished_none line r;
+  blank = list_finished_blank line r;
+  plain = ap is_list (top_begun start (BlockQuoteBody kind) (list_finished line r));
+}
+just_opened line start (ItemOpener m) r none = record {
+  none = list_continued_none start m.byte m.number r;
+  blank = continued_blank start m.byte m.number r;
+  plain = ap is_list (top_begun start (ListItemBody m.indent) (list_continued start m.byte m.number r));
+}
+just_opened line start (DefinitionOpener columns) r none = definition_opened start columns r none
+
+-- more of the line follows the marker of the container
+pub start_just_opened : (line e : ℕ) (t : FoundStart) (r : PassState) → t.after ≡ OnLine → r.begin_list_item ≡ None → FinishesNothing (start_opened line t e r)
+start_just_opened line e t r is none = rw is (just_opened line t.start t.opener r none)

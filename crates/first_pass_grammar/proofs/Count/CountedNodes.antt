@@ -1,17 +1,13 @@
 -- The number of counted nodes in a list: no more than there are nodes; the same at another depth, or with
 -- changes that closing makes; and no more than its parts have together.
-use Rattle.std.proofs.Common.{◌≡◌, ℕ, zero, suc, ◌+◌, ◌≤◌, Bool, true, false, if◌then◌else◌, List, [], ◌∷◌, ◌++◌, length, Option, Some, None, refl, sym}
-use Rattle.std.proofs.Common.{ap, ◌∙◌, arith, eq-eqb}
-use Rattle.first_pass_items.specs.declared.item.Item.{Item}
-use Rattle.first_pass_items.specs.declared.item.ItemBody.{ItemBody}
-use Rattle.first_pass_items.specs.declared.item.ItemBody.TheVariants.{TableCell}
-use Rattle.first_pass_tree.specs.Forest.{modify, at_depth, body_at}
-use Rattle.first_pass_grammar.specs.Counting.{is_row, is_cell, last_cell, is_inserted_after, own, counted_nodes}
+use Rattle.std.proofs.Common.{◌≡◌, ℕ, zero, suc, ◌+◌, ◌≤◌, Bool, true, false, if◌then◌else◌, List, [], ◌∷◌, ◌++◌, length, Option, Some, None, refl, sym, ap}
+use Rattle.std.proofs.Common.{◌∙◌, arith, eq-eqb}
+use Rattle.first_pass_grammar.proofs.Common.{Item, ItemBody, TableCell, modify, at_depth, body_at, is_row, is_cell, is_inserted_after, own, counted_nodes}
+use Rattle.first_pass_grammar.specs.Counting.{last_cell}
 
 -- a node counts at most once
 one_at_most : (t : Bool) (m n : ℕ) → m ≤ n → (if t then 0 else 1) + m ≤ 1 + n
-one_at_most true m n h = omega arith
-one_at_most false m n h = omega arith
+one_at_most t m n h = grind arith
 
 -- a list has no more counted nodes than nodes
 pub own_at_most : (cell : Option ℕ) (nodes : List (ℕ × Item)) → own cell nodes ≤ length nodes
@@ -22,9 +18,7 @@ own_at_most cell (n ∷ nodes) = (let h = one_at_most (is_inserted_after cell n.
 -- no more nodes count after a cell than after no cell
 fresh_by : (row is : Bool) (start : ℕ) (cell : Option ℕ) (nodes : List (ℕ × Item)) → own cell nodes ≤ own None nodes
     → own (if row then None else (if is then Some start else cell)) nodes ≤ own (if row then None else (if is then Some start else None)) nodes
-fresh_by true is start cell nodes h = omega arith
-fresh_by false true start cell nodes h = omega arith
-fresh_by false false start cell nodes h = h
+fresh_by row is start cell nodes h = grind arith
 
 pub own_fresh : (cell : Option ℕ) (nodes : List (ℕ × Item)) → own cell nodes ≤ counted_nodes nodes
 unfolding own
@@ -34,8 +28,7 @@ own_fresh cell (n ∷ nodes) =
 
 -- a list with more after it has no more than both together
 join_one : (t : Bool) (m a b : ℕ) → m ≤ a + b → (if t then 0 else 1) + m ≤ (if t then 0 else 1) + a + b
-join_one true m a b h = omega arith
-join_one false m a b h = omega arith
+join_one t m a b h = grind arith
 
 pub own_join : (cell : Option ℕ) (nodes more : List (ℕ × Item)) → own cell (nodes ++ more) ≤ own cell nodes + counted_nodes more
 unfolding own
@@ -68,8 +61,7 @@ pub alike_ended : (x : Item) (e : ℕ) → CountAlike x (record x { «end» = e 
 alike_ended x e = record { start = refl; cell = refl; row = refl }
 
 inserted_alike : (x y : Item) (cell : Option ℕ) → CountAlike x y → is_inserted_after cell y ≡ is_inserted_after cell x
-inserted_alike x y None h = refl
-inserted_alike x y (Some start) h = (let s = h.start in let c = h.cell in cc)
+inserted_alike x y cell h = grind arith
 
 last_alike : (x y : Item) (cell : Option ℕ) → CountAlike x y → last_cell cell y ≡ last_cell cell x
 last_alike x y cell h = (let s = h.start in let c = h.cell in let r = h.row in cc)

@@ -1,15 +1,11 @@
 -- The rows of a table are found by a count that falls: how many more cells may be inserted into them.
-use Rattle.std.proofs.Common.{◌≡◌, ◌⊎◌, inl, inr, ℕ, ◌-◌, ◌<◌, ◌≤◌, ◌&&◌, Bool, true, false, nat_lt, nat_le, List, [], ◌∷◌, ◌++◌, length, None, refl, sym, ap}
-use Rattle.std.proofs.Common.{subst, arith}
-use Rattle.std.proofs.lemmas.Bool.{and_parts, leb-true}
-use Rattle.std.proofs.lemmas.Bool.Decides.{nat_tests}
-use Rattle.first_pass_items.specs.declared.item.Item.{Item}
-use Rattle.first_pass_items.specs.declared.item.ItemBody.TheVariants.{TableRow}
-use Rattle.first_pass_lines.specs.Places.{Place}
+use Rattle.std.proofs.Common.{◌≡◌, ◌⊎◌, inl, inr, ℕ, ◌-◌, ◌<◌, ◌≤◌, ◌&&◌, Bool, true, false, nat_lt, nat_le, List, [], ◌∷◌, ◌++◌, length, None, refl, sym}
+use Rattle.std.proofs.Common.{ap, subst, arith}
+use Rattle.first_pass_grammar.proofs.Common.{nat_tests, Item, TableRow, Place, Document, around, inserted, row_block, row_text, Taken, taking, FoundRow}
+use Rattle.first_pass_grammar.proofs.Common.{HasCells, TableSoFar, table_so_far, AreRows}
 use Rattle.first_pass_grammar.specs.declared.kind.Container.{Container}
-use Rattle.first_pass_grammar.specs.Leaves.{Document, around}
-use Rattle.first_pass_grammar.specs.Tables.{inserted, row_block, row_text, Taken, taking, FoundRow, HasCells, braces_after_rows, TakesRows, all_inserted}
-use Rattle.first_pass_grammar.specs.Tables.{TableSoFar, table_so_far, with_rows, EndRows, row_blocks, AreRows}
+use Rattle.first_pass_grammar.specs.Tables.{braces_after_rows, TakesRows, all_inserted}
+use Rattle.first_pass_grammar.specs.Tables.{with_rows, EndRows, row_blocks}
 
 -- a line with these cells is a row if it has a cell and needs no more inserted cells than allowed
 abbrev pub is_row : TableSoFar → List (List (ℕ × Item)) → Bool
@@ -35,10 +31,7 @@ RowsWithRoom d path table (line ∷ lines) t =
 -- allowed
 row_parts : (table : TableSoFar) (cells : List (List (ℕ × Item))) → is_row table cells ≡ true
     → (0 < length cells) × (inserted table.columns cells ≤ table.room)
-row_parts table cells h =
-    let both = and_parts (nat_lt 0 (length cells)) (nat_le (inserted table.columns cells) table.room) h in
-    let some : nat_lt 0 (length cells) ≡ true = both.0 in
-    (grind (arith, nat_tests, some), leb-true (inserted table.columns cells) table.room both.1)
+row_parts table cells h = grind (arith, nat_tests, h)
 
 row_of : (table : TableSoFar) (cells : List (List (ℕ × Item))) → 0 < length cells → inserted table.columns cells ≤ table.room → is_row table cells ≡ true
 row_of table cells some node_bound = grind (arith, nat_tests)
@@ -54,8 +47,7 @@ no_row table [] h = inl refl
 no_row table (cell ∷ cells) h = inr (grind (arith, nat_tests, h))
 
 none_of : (table : TableSoFar) (cells : List (List (ℕ × Item))) → (cells ≡ []) ⊎ (table.room < inserted table.columns cells) → is_row table cells ≡ false
-none_of table cells (inl none) = subst (λ z. is_row table z ≡ false) (sym none) refl
-none_of table cells (inr over) = grind (arith, nat_tests)
+none_of table cells h = grind (arith, nat_tests, h)
 
 -- rows end after a first row and other rows if they end after all of them
 rows_after : (table : TableSoFar) (row : FoundRow) (rows : List FoundRow) → with_rows (with_row table row) rows ≡ with_rows table (row ∷ rows)

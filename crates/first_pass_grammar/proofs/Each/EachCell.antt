@@ -1,26 +1,18 @@
 -- A property of each token, and of rows and cells, holds for each node of a table's rows.
-use Rattle.std.proofs.Common.{inl, inr, ℕ, zero, suc, List, [], ◌∷◌, ◌++◌, take, replicate, sym, subst}
-use Rattle.first_pass_items.specs.declared.item.Item.{Item}
-use Rattle.first_pass_items.specs.declared.item.ItemBody.{ItemBody}
-use Rattle.first_pass_items.specs.declared.item.ItemBody.TheVariants.{TableRow, TableCell}
-use Rattle.first_pass_tree.specs.Forest.{at_depth, block_of}
-use Rattle.first_pass_lines.specs.Places.{Place}
-use Rattle.first_pass_tokens.specs.LineTokens.{Spot, spot}
-use Rattle.first_pass_tokens.specs.TreeTokens.{leaves}
+use Rattle.std.proofs.Common.{inl, inr, ℕ, List, [], ◌∷◌, ◌++◌, take, replicate, sym, subst}
+use Rattle.first_pass_grammar.proofs.Common.{All-append, Item, ItemBody, TableRow, TableCell, at_depth, block_of, Place, Spot, spot, leaves, Names}
+use Rattle.first_pass_grammar.proofs.Common.{AreNamed, Document, cell_content, cell_start, cell_text, cell_block, AreCells, inserted, side_by_side}
+use Rattle.first_pass_grammar.proofs.Common.{row_cells, row_block, Taken, TableSoFar, AreRows, AreEachNode}
+use Rattle.std.specs.List.{AllByRecursion}
+use Rattle.std.proofs.lemmas.List.Elements.{All-from_recursion, All-replicate, All-take, recursion_from_All}
 use Rattle.first_pass_grammar.specs.declared.kind.Container.{Container}
-use Rattle.first_pass_grammar.specs.Names.{Names, AreNamed}
-use Rattle.first_pass_grammar.specs.Leaves.{Document}
-use Rattle.first_pass_grammar.specs.Tables.{cell_content, cell_start, cell_text, cell_block, AreCells, inserted, side_by_side, row_cells, row_block, Taken}
-use Rattle.first_pass_grammar.specs.Tables.{TableSoFar, AreRows}
 use Rattle.first_pass_grammar.proofs.Count.RowsWithRoom.{with_row, RowsWithRoom, counted}
 use Rattle.first_pass_grammar.proofs.Each.EachToken.{AreEach, HoldsOfTokens, cell_each}
 use Rattle.first_pass_grammar.proofs.Names.NamedItems.{HasEntry}
-use Rattle.first_pass_grammar.specs.WholeTables.{AreEachNode}
 
 -- each node of these blocks has a property
 abbrev pub AreEachBlock : (ItemBody → Type 0) → List (List (ℕ × Item)) → Type 0
-AreEachBlock P [] = Unit {0}
-AreEachBlock P (block ∷ blocks) = AreEachNode P block × AreEachBlock P blocks
+AreEachBlock P blocks = AllByRecursion (AreEachNode P) blocks
 
 -- if the index of each node, if it has one, names an entry, then all of them do
 pub nodes_named : (names : Names) (nodes : List (ℕ × Item)) → AreEachNode (HasEntry names) nodes → AreNamed names nodes
@@ -46,19 +38,6 @@ module _ (P : ItemBody → Type 0) where
   block_nodes x kids h k = (h, deeper_nodes 1 kids k)
 
   -- blocks side by side
-  both_blocks : (xs ys : List (List (ℕ × Item))) → AreEachBlock P xs → AreEachBlock P ys → AreEachBlock P (xs ++ ys)
-  both_blocks [] ys h k = k
-  both_blocks (x ∷ xs) ys h k = (h.0, both_blocks xs ys h.1 k)
-
-  first_blocks : (n : ℕ) (blocks : List (List (ℕ × Item))) → AreEachBlock P blocks → AreEachBlock P (take n blocks)
-  first_blocks zero blocks h = tt
-  first_blocks (suc n) [] h = tt
-  first_blocks (suc n) (block ∷ blocks) h = (h.0, first_blocks n blocks h.1)
-
-  copies : (n : ℕ) (block : List (ℕ × Item)) → AreEachNode P block → AreEachBlock P (replicate n block)
-  copies zero block h = tt
-  copies (suc n) block h = (h, copies n block h)
-
   side_nodes : (blocks : List (List (ℕ × Item))) → AreEachBlock P blocks → AreEachNode P (side_by_side blocks)
   side_nodes [] h = tt
   side_nodes (block ∷ blocks) h = both_nodes block (side_by_side blocks) h.0 (side_nodes blocks h.1)
@@ -67,10 +46,12 @@ module _ (P : ItemBody → Type 0) where
   pub row_nodes : (body : ItemBody) (columns start : ℕ) (cells : List (List (ℕ × Item))) («end» : ℕ) → P body → P TableCell → AreEachBlock P cells
       → AreEachNode P (row_block body columns start cells «end»)
   row_nodes body columns start cells end own cell h =
+      let One : List (ℕ × Item) → Type 0 = AreEachNode P in
+      let empty : List (ℕ × Item) = cell_block end end [] in
       block_nodes (record { start = start; «end» = end; body = body }) (row_cells columns cells end) own
-      (side_nodes (take columns cells ++ replicate (inserted columns cells) (cell_block end end []))
-      (both_blocks (take columns cells) (replicate (inserted columns cells) (cell_block end end [])) (first_blocks columns cells h)
-      (copies (inserted columns cells) (cell_block end end []) (cell, tt))))
+      (side_nodes (take columns cells ++ replicate (inserted columns cells) empty) (recursion_from_All One _
+      (All-append One (take columns cells) (replicate (inserted columns cells) empty) (All-take One columns cells (All-from_recursion One cells h))
+      (All-replicate One (inserted columns cells) empty (cell, tt)))))
 
 module _ (P : ItemBody → Type 0) (d : Document) (holds : HoldsOfTokens d.names.texts P) (cell_holds : P TableCell) where
   -- the cells of a row

@@ -1,23 +1,13 @@
 -- A property of the items of each leaf block in a sequence holds for each leaf block in its rows.
-use Rattle.std.proofs.Common.{◌≡◌, ℕ, ◌==◌, Bool, true, false, List, [], ◌∷◌, length, map, Option, Some, None, refl, if◌then◌else◌}
-use Rattle.std.specs.Option.{option_map, option_map_or}
-use Rattle.first_pass_items.specs.declared.item.Item.{Item}
-use Rattle.first_pass_items.specs.declared.item.ItemBody.{ItemBody}
-use Rattle.first_pass_tree.specs.Tight.{tight_body, tightened}
-use Rattle.first_pass_lines.specs.Places.{lines_at}
-use Rattle.first_pass_grammar.specs.Before.{Before, nothing, after_blank, after_block, begins_paragraph}
-use Rattle.first_pass_grammar.specs.Blocks.{LeafBlock, BlankLine, Block, Opener, QuoteMarker, ItemMarker, FootnoteMarker, DefinitionMarker, opened, Skeleton}
-use Rattle.first_pass_grammar.specs.Blocks.{Nil, Then, Node}
-use Rattle.first_pass_grammar.specs.Containers.{is_quote}
-use Rattle.first_pass_grammar.specs.Derivation.{Tables, Derives}
-use Rattle.first_pass_grammar.specs.Leaves.{Document}
-use Rattle.first_pass_grammar.specs.Rows.{What, ALeaf, AQuote, AList, AnItem, AFootnote, ADefinitionList, ATitle, ADefinition, Row, Rows, End, OneOf, gapped}
-use Rattle.first_pass_grammar.specs.Rows.{Joins, ItemsOf, DefinitionsTo, end_of_row, continues_list, items_after, list_after, what_of, row_of, container_row}
-use Rattle.first_pass_grammar.specs.Rows.{row_of_leaf, Definitions, definitions_of_row, apart_after, is_untitled, is_run_row, definitions_first, titled}
-use Rattle.first_pass_grammar.specs.Rows.{gap_before, rows_of}
-use Rattle.first_pass_grammar.specs.Skeleton.{Line, level, Lines}
-use Rattle.first_pass_grammar.specs.WholeTables.{AreEachNode}
-use Rattle.first_pass_grammar.proofs.Each.EachLeaf.{HoldsOfBlocks, HoldsInBlocks, IsBlockOf, HoldsOfEachLeaf, each_leaf}
+use Rattle.std.proofs.Common.{◌≡◌, ℕ, ◌==◌, Bool, true, false, List, [], ◌∷◌, length, map, Option, Some, None, refl, if◌then◌else◌, option_map}
+use Rattle.first_pass_grammar.proofs.Common.{option_map_or, cond_both, Item, ItemBody, tight_body, tightened, Before, nothing, after_blank, after_block}
+use Rattle.first_pass_grammar.proofs.Common.{begins_paragraph, LeafBlock, BlankLine, Block, Opener, QuoteMarker, ItemMarker, FootnoteMarker}
+use Rattle.first_pass_grammar.proofs.Common.{DefinitionMarker, opened, Skeleton, Nil, Then, Node, is_quote, Tables, Derives, Document, What, ALeaf, ATitle}
+use Rattle.first_pass_grammar.proofs.Common.{Row, Rows, End, OneOf, gapped, Joins, ItemsOf, DefinitionsTo, end_of_row, continues_list, items_after}
+use Rattle.first_pass_grammar.proofs.Common.{list_after, what_of, row_of, container_row, row_of_leaf, Definitions, definitions_of_row, apart_after}
+use Rattle.first_pass_grammar.proofs.Common.{is_untitled, is_run_row, definitions_first, titled, gap_before, rows_of, AreEachNode}
+use Rattle.first_pass_grammar.proofs.Each.EachLeaf.{begins_block, is_inner, IsBlockOf, derived_leaves}
+use Rattle.first_pass_grammar.proofs.Each.EachOpening.{HoldsOfEachLeaf}
 
 -- no rows
 abbrev pub IsEnd : Rows → Type 0
@@ -27,13 +17,8 @@ IsEnd (OneOf row inner next) = ⊥
 -- a leaf block has no rows in it, and its items have the property; a title is a paragraph
 abbrev pub HoldsOfRow : (List (ℕ × Item) → Type 0) → What → Rows → Type 0
 HoldsOfRow P (ALeaf block) inner = P block.items × IsEnd inner
-HoldsOfRow P (AQuote kind e) inner = Unit {0}
-HoldsOfRow P (AList byte number e) inner = Unit {0}
-HoldsOfRow P (AnItem columns e) inner = Unit {0}
-HoldsOfRow P (AFootnote index e) inner = Unit {0}
-HoldsOfRow P (ADefinitionList t e) inner = Unit {0}
 HoldsOfRow P (ATitle block) inner = P block.items × IsEnd inner × (begins_paragraph block.items ≡ true)
-HoldsOfRow P (ADefinition columns e) inner = Unit {0}
+HoldsOfRow P w inner = Unit {0}
 
 -- each row in rows has the property
 unfoldable pub HoldsOfEachRow : (List (ℕ × Item) → Type 0) → Rows → Type 0
@@ -51,21 +36,17 @@ module _ (P : List (ℕ × Item) → Type 0) where
   gapped_rows gap End h = tt
   gapped_rows gap (OneOf row inner next) h = h
 
-  unless_rows : (t : Bool) (a b : Rows) → HoldsOfEachRow P a → HoldsOfEachRow P b → HoldsOfEachRow P (if t then a else b)
-  unless_rows true a b h k = h
-  unless_rows false a b h k = k
-
   -- the further items of a list, and the rows after it
   pub items_rows : (joins : Joins) (rows : Rows) → HoldsOfEachRow P rows → HoldsOfEachRow P (items_after joins rows)
   unfolding HoldsOfEachRow
   items_rows joins End h = tt
   items_rows joins (OneOf row inner next) h =
-      unless_rows (continues_list joins row.what) (gapped row.gap inner) End (gapped_rows row.gap inner h.1) tt
+      cond_both (continues_list joins row.what) _ _ (HoldsOfEachRow P) (λ b. gapped_rows row.gap inner h.1) (λ b. tt)
 
   pub list_rows : (joins : Joins) (rows : Rows) → HoldsOfEachRow P rows → HoldsOfEachRow P (list_after joins rows)
   unfolding HoldsOfEachRow
   list_rows joins End h = tt
-  list_rows joins (OneOf row inner next) h = unless_rows (continues_list joins row.what) next (OneOf row inner next) h.2 h
+  list_rows joins (OneOf row inner next) h = cond_both (continues_list joins row.what) _ _ (HoldsOfEachRow P) (λ b. h.2) (λ b. h)
 
   -- a container before rows
   container_rows : (last : ℕ) (opener : Opener) (row : Row) (inner next : Rows) → HoldsOfRow P row.what inner → HoldsOfEachRow P inner
@@ -81,22 +62,15 @@ module _ (P : List (ℕ × Item) → Type 0) where
 
   container_what : (opener : Opener) (e : ℕ) (inner : Rows) → HoldsOfRow P (what_of opener e) inner
   container_what (QuoteMarker kind) e inner = tt
-  container_what (ItemMarker byte number columns) e inner = tt
-  container_what (FootnoteMarker columns index label) e inner = tt
-  container_what (DefinitionMarker columns) e inner = tt
+  container_what opener e inner = tt
 
   -- definitions at the start of rows
-  apart_rows : (row : Row) (inner : Rows) (o : Option Definitions) → HoldsOfRow P row.what inner → HoldsOfEachRow P inner → HoldsOfFirst P o
-      → HoldsOfFirst P (option_map (apart_after row inner) o)
-  unfolding HoldsOfEachRow
-  apart_rows row inner None h k f = tt
-  apart_rows row inner (Some ds) h k f = (f.0, (h, k, f.1))
-
   first_by : (t u : Bool) (row : Row) (inner next : Rows) (o : Option Definitions) → HoldsOfEachRow P (OneOf row inner next) → HoldsOfFirst P o
       → HoldsOfFirst P (if t then definitions_of_row row inner next else (if u then option_map (apart_after row inner) o else None))
   unfolding HoldsOfEachRow
   first_by true u row inner next o h f = (gapped_rows row.gap inner h.1, h.2)
-  first_by false true row inner next o h f = apart_rows row inner o h.0 h.1 f
+  first_by false true row inner next None h f = tt
+  first_by false true row inner next (Some ds) h f = (f.0, (h.0, h.1, f.1))
   first_by false false row inner next o h f = tt
 
   pub first_rows : (rows : Rows) → HoldsOfEachRow P rows → HoldsOfFirst P (definitions_first rows)
@@ -126,20 +100,15 @@ module _ (P : List (ℕ × Item) → Type 0) where
       (each_row (is_quote (opened head.opener)) nothing e kids h.0) (each_row quoted _ last next h.1)
 
 -- the rows of a derived tree have the property
-pub derived_rows : (Own Inner : ItemBody → Type 0) (d : Document) (forest : List (ℕ × Item)) (tables : Tables) → HoldsOfBlocks Own
-    → HoldsInBlocks d.names.texts Inner → (h : Derives d forest tables)
-    → HoldsOfEachRow (IsBlockOf Own Inner) (rows_of false nothing (length d.text) h.skeleton)
-derived_rows Own Inner d forest tables own within h =
-    each_row (IsBlockOf Own Inner) false nothing (length d.text) h.skeleton
-    (each_leaf Own Inner d own within h.skeleton (level [] nothing) Line (lines_at 0 d.text) (Lines []) tt h.sequence)
+pub derived_rows : (Own Inner : ItemBody → Type 0) (d : Document) (forest : List (ℕ × Item)) (tables : Tables)
+    → ((body : ItemBody) → begins_block body ≡ true → Own body) → ((body : ItemBody) → is_inner body ≡ true → Inner body)
+    → (h : Derives d forest tables) → HoldsOfEachRow (IsBlockOf Own Inner) (rows_of false nothing (length d.text) h.skeleton)
+derived_rows Own Inner d forest tables own inner h =
+    each_row (IsBlockOf Own Inner) false nothing (length d.text) h.skeleton (derived_leaves Own Inner d own inner forest tables h)
 
 -- nodes keep a property that tightening a body keeps
 module _ (P : ItemBody → Type 0) (tight : (body : ItemBody) → P body → P (tight_body body)) where
-  tight_by : (t : Bool) (x : Item) → P x.body
-      → P (if◌then◌else◌ {A = Item} t (record { start = x.start; «end» = x.«end»; body = tight_body x.body }) x).body
-  tight_by true x h = tight x.body h
-  tight_by false x h = h
-
   pub tight_nodes : (depth : ℕ) (nodes : List (ℕ × Item)) → AreEachNode P nodes → AreEachNode P (map (tightened depth) nodes)
   tight_nodes depth [] h = tt
-  tight_nodes depth (n ∷ nodes) h = (tight_by (n.0 == depth) n.1 h.0, tight_nodes depth nodes h.1)
+  tight_nodes depth (n ∷ nodes) h =
+      (cond_both (n.0 == depth) _ _ (λ (x : Item). P x.body) (λ b. tight n.1.body h.0) (λ b. h.0), tight_nodes depth nodes h.1)

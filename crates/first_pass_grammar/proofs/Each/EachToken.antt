@@ -1,33 +1,24 @@
 -- A property of each token holds for each item in the chain of a paragraph, a heading or a cell, and in raw lines.
-use Rattle.std.proofs.Common.{◌≡◌, inl, inr, ℕ, zero, suc, ◌+◌, ◌-◌, ◌==◌, ◌&&◌, Bool, true, false, nat_lt, nat_le, min, List, [], ◌∷◌, ◌++◌, length, Option}
-use Rattle.std.proofs.Common.{Some, None, IfSome, sym, subst, if◌then◌else◌, refl}
-use Rattle.first_pass_items.specs.declared.cow_str.CowStr.{CowStr}
-use Rattle.first_pass_items.specs.declared.item.CowIndex.{CowIndex}
-use Rattle.first_pass_items.specs.declared.item.Item.{Item}
-use Rattle.first_pass_items.specs.declared.item.ItemBody.{ItemBody}
-use Rattle.first_pass_items.specs.declared.item.ItemBody.TheVariants.{Text, SoftBreak, HardBreak, MaybeEmphasis, Html, SynthesizeText}
-use Rattle.first_pass_tree.specs.Forest.{is_escaped, cut_item}
-use Rattle.first_pass_lines.specs.Places.{Place, offset, line_end}
-use Rattle.first_pass_tokens.specs.declared.pieces.Piece.{Piece}
-use Rattle.first_pass_tokens.specs.declared.pieces.Piece.TheVariants.{Left, Begins, Token, Run}
-use Rattle.first_pass_tokens.specs.Pieces.{Inline, found_at, size}
-use Rattle.first_pass_tokens.specs.Braces.{MathBraces, braces_after}
-use Rattle.first_pass_tokens.specs.LineTokens.{Spot, spot, ArePieces, add_piece, add_pieces, text_end, line_end_len, breaks_by_backslash, blanks_at_end}
-use Rattle.first_pass_tokens.specs.LineTokens.{break_of, line_break, AreLineTokens, IsCell}
-use Rattle.first_pass_tokens.specs.Chains.{text_token, token, run_tokens, touches, add_token, add_tokens, add_text, is_backslash_break, close_break, cut}
-use Rattle.first_pass_tokens.proofs.PieceFacts.{IsPieceAt, is_markup}
+use Rattle.std.proofs.Common.{◌≡◌, inl, inr, ℕ, zero, suc, ◌+◌, ◌-◌, ◌<◌, ◌==◌, ◌&&◌, Bool, true, false, nat_lt, nat_le, min, List, [], ◌∷◌, ◌++◌, length}
+use Rattle.std.proofs.Common.{Option, Some, None, IfSome, sym, subst, refl}
+use Rattle.first_pass_grammar.proofs.Common.{cond_both, slice_get_within, CowStr, CowIndex, Item, ItemBody, Text, SoftBreak, HardBreak, MaybeEmphasis, Html}
+use Rattle.first_pass_grammar.proofs.Common.{SynthesizeText, is_escaped, Place, offset, line_end, Piece, Token, Inline, found_at, MathBraces, Spot, spot}
+use Rattle.first_pass_grammar.proofs.Common.{add_pieces, text_end, line_end_len, breaks_by_backslash, blanks_at_end, AreLineTokens, IsCell, text_token}
+use Rattle.first_pass_grammar.proofs.Common.{touches, add_token, add_tokens, add_text, is_backslash_break, close_break, cut, is_markup, at_rest, front}
+use Rattle.first_pass_grammar.proofs.Common.{unindented, Document, content_at, add_break, heading_content, heading_chain, IsHeading, marker_items}
+use Rattle.first_pass_grammar.proofs.Common.{TextLines, AreTextLines, AreColumns, Ranges, range_text, range_html, ends_with_both, raw_items, IsRawLine}
+use Rattle.first_pass_grammar.proofs.Common.{AreRawLines, text_children, by_backslash, heading_bytes, children_without, heading_children, kept_before}
+use Rattle.first_pass_grammar.proofs.Common.{heading_attribute_block, Braces, HeadingIndex}
+use Rattle.first_pass_tokens.specs.declared.pieces.Piece.TheVariants.{Left, Begins, Run}
+use Rattle.first_pass_tokens.specs.Pieces.{size}
+use Rattle.first_pass_tokens.specs.Braces.{braces_after}
+use Rattle.first_pass_tokens.specs.LineTokens.{ArePieces, add_piece}
+use Rattle.first_pass_tokens.specs.LineTokens.{break_of, line_break}
+use Rattle.first_pass_tokens.specs.Chains.{token, run_tokens}
+use Rattle.first_pass_tokens.proofs.PieceFacts.{IsPieceAt}
 use Rattle.first_pass_tokens.proofs.LineLemmas.{piece_of}
 use Rattle.first_pass_grammar.specs.declared.kind.Container.{Container}
 use Rattle.first_pass_grammar.proofs.Names.TokensNamed.{NamesWithin, PieceWithin, piece_within}
-use Rattle.first_pass_grammar.specs.Names.{Names}
-use Rattle.first_pass_grammar.specs.Containers.{at_rest, front}
-use Rattle.first_pass_grammar.specs.Kinds.{unindented}
-use Rattle.first_pass_grammar.specs.Leaves.{Document, content_at, add_break, heading_content, heading_chain, IsHeading, marker_items, TextLines, AreTextLines}
-use Rattle.first_pass_grammar.specs.RawLines.{AreColumns, Ranges, range_text, range_html, ends_with_both, raw_items, IsRawLine, AreRawLines}
-use Rattle.first_pass_grammar.specs.Texts.{text_children, by_backslash, heading_bytes, children_without, heading_children}
-use Rattle.first_pass_grammar.specs.Headings.{kept_before, heading_attribute_block}
-use Rattle.first_pass_attributes.specs.AttributeBlocks.{Braces}
-use Rattle.first_pass_items.specs.declared.item.HeadingIndex.{HeadingIndex}
 
 -- each of these items has a property
 abbrev pub AreEach : (ItemBody → Type 0) → List Item → Type 0
@@ -42,9 +33,9 @@ pub record HoldsOfTokens (texts : List CowStr) (P : ItemBody → Type 0) : Type 
   pub markup : (body : ItemBody) → is_markup body ≡ true → NamesWithin texts body → P body
 
 -- the items of raw lines other than texts have a property
-pub record HoldsOfRaw (P : ItemBody → Type 0) : Type 0 where
+pub record HoldsOfRaw (texts : List CowStr) (P : ItemBody → Type 0) : Type 0 where
   pub html : P Html
-  pub columns : (ix : CowIndex) → P (SynthesizeText ix)
+  pub columns : (ix : CowIndex) → ix.0 < length texts → P (SynthesizeText ix)
 
 module _ (P : ItemBody → Type 0) where
   -- more items
@@ -52,17 +43,9 @@ module _ (P : ItemBody → Type 0) where
   both_each [] ys h k = k
   both_each (x ∷ xs) ys h k = (h.0, both_each xs ys h.1 k)
 
-  pub unless_each : (t : Bool) (xs ys : List Item) → AreEach P xs → AreEach P ys → AreEach P (if t then xs else ys)
-  unless_each true xs ys h k = h
-  unless_each false xs ys h k = k
-
-  joined_each : (t : Bool) (x y : Item) → P x.body → P y.body → AreEach P (if t then record x { «end» = y.«end» } ∷ [] else x ∷ y ∷ [])
-  joined_each true x y h k = (h, tt)
-  joined_each false x y h k = (h, (k, tt))
-
   token_each : (chain : List Item) (y : Item) → AreEach P chain → P y.body → AreEach P (add_token chain y)
   token_each [] y h k = (k, tt)
-  token_each (x ∷ []) y h k = joined_each (touches x y) x y h.0 k
+  token_each (x ∷ []) y h k = cond_both (touches x y) _ _ (AreEach P) (λ b. (h.0, tt)) (λ b. (h.0, (k, tt)))
   token_each (x ∷ z ∷ zs) y h k = (h.0, token_each (z ∷ zs) y h.1 k)
 
   tokens_each : (chain tokens : List Item) → AreEach P chain → AreEach P tokens → AreEach P (add_tokens chain tokens)
@@ -73,21 +56,21 @@ module _ (P : ItemBody → Type 0) where
   pub raw_each : (range : Ranges) (text : List ℕ) (from to : ℕ) → ((a b : ℕ) → AreEach P (range a b)) → AreEach P (raw_items range text from to)
   unfolding raw_items
   raw_each range text from to each =
-      unless_each (ends_with_both text from to) (range from (to - 2) ++ range (to - 1) to) (range from to)
-      (both_each (range from (to - 2)) (range (to - 1) to) (each from (to - 2)) (each (to - 1) to)) (each from to)
+      cond_both (ends_with_both text from to) _ _ (AreEach P)
+      (λ b. both_each (range from (to - 2)) (range (to - 1) to) (each from (to - 2)) (each (to - 1) to)) (λ b. each from to)
 
 module _ (P : ItemBody → Type 0) (text : (escaped : Bool) → P (Text escaped)) where
   pub range_text_each : (a b : ℕ) → AreEach P (range_text a b)
-  range_text_each a b = unless_each P (nat_lt a b) (text_token a b false ∷ []) [] (text false, tt) tt
+  range_text_each a b = cond_both (nat_lt a b) _ _ (AreEach P) (λ t. (text false, tt)) (λ t. tt)
 
   text_each : (from to : ℕ) (escaped : Bool) (chain : List Item) → AreEach P chain → AreEach P (add_text from to escaped chain)
   text_each from to escaped chain h =
-      unless_each P (nat_lt from to) (add_token chain (text_token from to escaped)) chain (token_each P chain (text_token from to escaped) h (text escaped)) h
+      cond_both (nat_lt from to) _ _ (AreEach P) (λ b. token_each P chain (text_token from to escaped) h (text escaped)) (λ b. h)
 
   closed_each : (o : Option Item) (chain : List Item) → AreEach P chain → AreEach P (close_break o chain)
   closed_each None chain h = h
   closed_each (Some x) chain h =
-      unless_each P (is_backslash_break x.body) (add_text x.start (x.start + 1) false chain) chain (text_each x.start (x.start + 1) false chain h) h
+      cond_both (is_backslash_break x.body) _ _ (AreEach P) (λ b. text_each x.start (x.start + 1) false chain h) (λ b. h)
 
   pub marked_each : (marker : Option Item) (chain : List Item) → IfSome marker (λ x. P x.body) → AreEach P chain → AreEach P (marker_items marker ++ chain)
   marked_each None chain h k = k
@@ -97,20 +80,16 @@ module _ (P : ItemBody → Type 0) (text : (escaped : Bool) → P (Text escaped)
   children_each marker t h k = marked_each marker (close_break t.break t.chain) h (closed_each t.break t.chain k)
 
   -- the chain of a heading
-  cut_item_each : (t : Bool) (e : ℕ) (x : Item) → P x.body → P (if◌then◌else◌ {A = Item} t (record x { «end» = e }) x).body
-  cut_item_each true e x h = h
-  cut_item_each false e x h = h
-
   cut_each : (e : ℕ) (chain : List Item) → AreEach P chain → AreEach P (cut e chain)
   cut_each e [] h = tt
   cut_each e (x ∷ xs) h =
-      unless_each P (nat_lt x.start e) (cut_item e x ∷ cut e xs) (if is_escaped x.body && (x.start == e) then text_token (e - 1) e false ∷ [] else [])
-      (cut_item_each (nat_lt e x.«end») e x h.0, cut_each e xs h.1)
-      (unless_each P (is_escaped x.body && (x.start == e)) (text_token (e - 1) e false ∷ []) [] (text false, tt) tt)
+      cond_both (nat_lt x.start e) _ _ (AreEach P)
+      (λ b. (cond_both (nat_lt e x.«end») _ _ (λ (y : Item). P y.body) (λ t. h.0) (λ t. h.0), cut_each e xs h.1))
+      (λ b. cond_both (is_escaped x.body && (x.start == e)) _ _ (AreEach P) (λ t. (text false, tt)) (λ t. tt))
 
   heading_chain_each : (kept start : ℕ) (chain : List Item) → AreEach P chain → AreEach P (heading_chain kept start chain)
   unfolding heading_chain
-  heading_chain_each kept start chain h = unless_each P (kept == 0) [] (cut (start + kept) chain) tt (cut_each (start + kept) chain h)
+  heading_chain_each kept start chain h = cond_both (kept == 0) _ _ (AreEach P) (λ b. tt) (λ b. cut_each (start + kept) chain h)
 
   -- the children of a setext heading
   cut_children_each : (d : Document) (start : ℕ) (marker : Option Item) (t : TextLines) (o : Option Braces) → AreEach P (marker_items marker ++ t.chain)
@@ -130,25 +109,15 @@ module _ (P : ItemBody → Type 0) (text : (escaped : Bool) → P (Text escaped)
 
 -- breaks
 module _ (P : ItemBody → Type 0) (soft : P SoftBreak) (hard : (by_backslash : Bool) → P (HardBreak by_backslash)) where
-  white_each : (two : Bool) (end next blanks : ℕ)
-      → P (if◌then◌else◌ {A = Item} two (record { start = end - blanks; «end» = next; body = HardBreak false })
-      (record { start = end; «end» = next; body = SoftBreak })).body
-  white_each true end next blanks = hard false
-  white_each false end next blanks = soft
-
   break_of_each : (end next : ℕ) (by_backslash : Bool) (blanks : ℕ) → P (break_of end next by_backslash blanks).body
   break_of_each end next true blanks = hard true
-  break_of_each end next false blanks = white_each (nat_le 2 blanks) end next blanks
-
-  some_each : (t : Bool) (x : Item) → P x.body → IfSome (if t then None else Some x) (λ y. P y.body)
-  some_each true x h = tt
-  some_each false x h = h
+  break_of_each end next false blanks = cond_both (nat_le 2 blanks) _ _ (λ (y : Item). P y.body) (λ b. hard false) (λ b. soft)
 
   line_break_each : (s : Inline) (end : ℕ) → IfSome (line_break s end) (λ y. P y.body)
   unfolding line_break
   line_break_each s end =
-      some_each (nat_le (length s.text) end) (break_of end (end + line_end_len s end) (breaks_by_backslash s end) (blanks_at_end s end))
-      (break_of_each end (end + line_end_len s end) (breaks_by_backslash s end) (blanks_at_end s end))
+      cond_both (nat_le (length s.text) end) None (Some _) (λ o. IfSome o (λ y. P y.body)) (λ b. tt)
+      (λ b. break_of_each end (end + line_end_len s end) (breaks_by_backslash s end) (blanks_at_end s end))
 
   pub break_each : {after : MathBraces} (texts : List CowStr) (s : Inline) (tokens : List Item) (answer : ℕ × Option Item)
       → AreLineTokens texts s tokens answer after
@@ -218,24 +187,25 @@ module _ (P : ItemBody → Type 0) (d : Document) (holds : HoldsOfTokens d.names
       (tokens_each P [] h.tokens tt (line_each d.names.texts P holds (heading_content d start) h.tokens h.answer h.line))))
 
 -- raw lines
-module _ (P : ItemBody → Type 0) (raw : HoldsOfRaw P) where
-  columns_each : (names : Names) (owed at : ℕ) (items : List Item) → AreColumns names owed at items → AreEach P items
-  columns_each names zero at items is = subst (AreEach P) (sym is) tt
-  columns_each names (suc n) at items (ix, names_it, is) = subst (AreEach P) (sym is) (raw.columns ix, tt)
+module _ (P : ItemBody → Type 0) (d : Document) (raw : HoldsOfRaw d.names.texts P) where
+  columns_each : (owed at : ℕ) (items : List Item) → AreColumns d.names owed at items → AreEach P items
+  columns_each zero at items is = subst (AreEach P) (sym is) tt
+  columns_each (suc n) at items (ix, (named, at_ix, text), is) =
+      subst (AreEach P) (sym is) (raw.columns ix (slice_get_within d.names.texts ix.0 named at_ix), tt)
 
   pub range_html_each : (a b : ℕ) → AreEach P (range_html a b)
   range_html_each a b = (raw.html, tt)
 
-  raw_line_each : (range : Ranges) (d : Document) (owed from to : ℕ) (items : List Item) → ((a b : ℕ) → AreEach P (range a b))
-      → IsRawLine range d owed from to items → AreEach P items
-  raw_line_each range d owed from to items each (columns, are, is) =
+  raw_line_each : (range : Ranges) (owed from to : ℕ) (items : List Item) → ((a b : ℕ) → AreEach P (range a b)) → IsRawLine range d owed from to items
+      → AreEach P items
+  raw_line_each range owed from to items each (columns, are, is) =
       subst (AreEach P) (sym is)
-      (both_each P columns (raw_items range d.text from to) (columns_each d.names owed from columns are) (raw_each P range d.text from to each))
+      (both_each P columns (raw_items range d.text from to) (columns_each owed from columns are) (raw_each P range d.text from to each))
 
-  pub raw_lines_each : (range : Ranges) (d : Document) (chain : List Item) (places : List Place) (whole : List Item) → ((a b : ℕ) → AreEach P (range a b))
+  pub raw_lines_each : (range : Ranges) (chain : List Item) (places : List Place) (whole : List Item) → ((a b : ℕ) → AreEach P (range a b))
       → AreEach P chain → AreRawLines range d chain places whole → AreEach P whole
   unfolding AreRawLines
-  raw_lines_each range d chain [] whole each h is = subst (AreEach P) (sym is) h
-  raw_lines_each range d chain (p ∷ places) whole each h (line, is, more) =
-      raw_lines_each range d (add_tokens chain line) places whole each
-      (tokens_each P chain line h (raw_line_each range d p.rest.owed (offset p) (line_end p) line each is)) more
+  raw_lines_each range chain [] whole each h is = subst (AreEach P) (sym is) h
+  raw_lines_each range chain (p ∷ places) whole each h (line, is, more) =
+      raw_lines_each range (add_tokens chain line) places whole each
+      (tokens_each P chain line h (raw_line_each range p.rest.owed (offset p) (line_end p) line each is)) more

@@ -1,16 +1,9 @@
 -- Indices keep what they name when names are added.
 use Rattle.std.proofs.Common.{◌≡◌, ℕ, zero, suc, ◌<◌, List, ◌∷◌, ◌++◌, length, slice_get, Option, Some, None, unwrap_or, refl, sym, ap, ◌∙◌, arith, []}
-use Rattle.std.proofs.Common.{append_assoc}
-use Rattle.std.proofs.lemmas.List.{append-nil}
-use Rattle.std.proofs.lemmas.Option.{slice_get_within}
-use Rattle.first_pass_items.specs.declared.cow_str.CowStr.{CowStr}
-use Rattle.first_pass_items.specs.declared.item.Alignment.{Alignment}
-use Rattle.first_pass_items.specs.declared.item.AlignmentIndex.{AlignmentIndex}
-use Rattle.first_pass_items.specs.declared.item.CowIndex.{CowIndex}
-use Rattle.first_pass_items.specs.declared.item.HeadingIndex.{HeadingIndex}
-use Rattle.first_pass_attributes.specs.Attributes.{Attributes}
-use Rattle.first_pass_tokens.specs.NamedTexts.{AreMore}
-use Rattle.first_pass_grammar.specs.Names.{Names, NamesAlignments, NamesAttributes, Extends, with_named, with_alignments, with_heading, alignments_named}
+use Rattle.std.proofs.Common.{append_assoc, append-nil}
+use Rattle.first_pass_grammar.proofs.Common.{slice_get_within, CowStr, Alignment, AlignmentIndex, CowIndex, HeadingIndex, Attributes, AreMore, Names}
+use Rattle.first_pass_grammar.proofs.Common.{NamesAlignments, NamesAttributes, Extends}
+use Rattle.first_pass_grammar.specs.Names.{with_named, with_alignments, with_heading, alignments_named}
 
 -- names extend themselves
 pub extends_none : (names : Names) → Extends names names
@@ -109,9 +102,8 @@ still_aligned new old ix alignments e h = still_there new.alignments old.alignme
 pub still_given : (new old : Names) (ix : Option HeadingIndex) (attributes : Option Attributes) → Extends new old → NamesAttributes old ix attributes
     → NamesAttributes new ix attributes
 still_given new old None None e h = tt
-still_given new old None (Some attributes) e h = absurd h
-still_given new old (Some ix) None e h = absurd h
 still_given new old (Some ix) (Some attributes) e h = still_there new.headings old.headings e.more_headings ix.0 attributes e.headings h
+still_given new old ix attributes e h = absurd h
 
 -- an index of alignments that names an entry still names the same one
 pub alignments_kept : (new old : Names) (ix : AlignmentIndex) → Extends new old → ix.0 < length old.alignments

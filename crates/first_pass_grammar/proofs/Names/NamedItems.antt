@@ -1,23 +1,14 @@
 -- Each index in nodes names an entry: what keeps that, and chains and blocks with that property.
-use Rattle.std.proofs.Common.{◌≡◌, ℕ, zero, suc, ◌-◌, Bool, true, false, nat_lt, List, ◌∷◌, ◌++◌, length, Option, Some, None, refl, sym, ap, subst, ◌∙◌, []}
-use Rattle.std.proofs.Common.{arith, length-append, if◌then◌else◌}
-use Rattle.std.proofs.lemmas.Option.{slice_get_within}
-use Rattle.first_pass_items.specs.declared.item.Item.{Item}
-use Rattle.first_pass_items.specs.declared.item.ItemBody.{ItemBody}
-use Rattle.first_pass_tree.specs.Forest.{modify, at_depth}
-use Rattle.first_pass_lines.specs.Places.{Place, offset, line_end}
-use Rattle.first_pass_tokens.specs.Chains.{text_token, touches, add_token, add_tokens}
-use Rattle.first_pass_tokens.specs.TreeTokens.{leaves}
-use Rattle.first_pass_grammar.specs.Names.{Names, Extends, Index, TextAt, AlignmentsAt, AttributesAt, index_of, NamesEntry, AreNamed}
-use Rattle.first_pass_grammar.specs.Leaves.{Document, block_with}
-use Rattle.first_pass_grammar.specs.RawLines.{AreColumns, Ranges, range_text, range_html, ends_with_both, raw_items, IsRawLine, AreRawLines}
-use Rattle.std.proofs.lemmas.Bool.{false≢true}
-use Rattle.first_pass_items.specs.declared.item.ItemBody.TheVariants.{MaybeEmphasis, MaybeMath, MaybeSmartQuote, SynthesizeChar, SynthesizeText, MaybeCode}
-use Rattle.first_pass_items.specs.declared.item.ItemBody.TheVariants.{MaybeHtml, MaybeLinkOpen, MaybeLinkClose, MaybeImage}
-use Rattle.first_pass_tokens.proofs.PieceFacts.{is_markup}
+use Rattle.std.proofs.Common.{◌≡◌, ℕ, zero, suc, true, List, ◌∷◌, ◌++◌, length, Option, Some, None, refl, sym, ap, subst, ◌∙◌, [], arith, length-append}
+use Rattle.std.proofs.Common.{option_map}
+use Rattle.first_pass_grammar.proofs.Common.{slice_get_within, Item, ItemBody, modify, at_depth, Attributes, HeadingIndex, Place, leaves, Names}
+use Rattle.first_pass_grammar.proofs.Common.{NamesAttributes, Extends, TextAt, index_of, NamesEntry, AreNamed, Document, block_with, Ranges, range_text}
+use Rattle.first_pass_grammar.proofs.Common.{range_html, AreRawLines, false≢true, SynthesizeText, FencedCodeBlock, FootnoteDefinition, Table, Heading}
+use Rattle.first_pass_grammar.proofs.Common.{is_markup}
+use Rattle.first_pass_grammar.specs.Names.{Index, AlignmentsAt, AttributesAt}
 use Rattle.first_pass_grammar.proofs.Names.TokensNamed.{NamesWithin}
-use Rattle.first_pass_grammar.proofs.Each.EachToken.{AreEach, HoldsOfTokens}
-use Rattle.first_pass_grammar.proofs.Names.NoIndex.{HaveNoIndex}
+use Rattle.first_pass_grammar.proofs.Each.EachToken.{AreEach, HoldsOfTokens, HoldsOfRaw, range_text_each, raw_lines_each}
+use Rattle.first_pass_grammar.proofs.Names.NoIndex.{IsWithoutIndex, HaveNoIndex}
 
 -- the index of an item, if it has one, names an entry
 abbrev pub IsNamed : Names → Item → Type 0
@@ -69,18 +60,13 @@ free_named names (x ∷ chain) h = (free_entry names (index_of x.body) h.0, free
 abbrev pub HasEntry : Names → ItemBody → Type 0
 HasEntry names body = NamesEntry names (index_of body)
 
-markup_entered : (names : Names) (body : ItemBody) → is_markup body ≡ true → NamesWithin names.texts body → HasEntry names body
-markup_entered names (MaybeEmphasis left opens closes) h k = tt
-markup_entered names (MaybeMath opens closes context) h k = tt
-markup_entered names (MaybeSmartQuote quote opens closes) h k = tt
-markup_entered names (SynthesizeChar c) h k = tt
+pub markup_entered : (names : Names) (body : ItemBody) → is_markup body ≡ true → NamesWithin names.texts body → HasEntry names body
 markup_entered names (SynthesizeText ix) h k = k
-markup_entered names (MaybeCode n escaped) h k = tt
-markup_entered names MaybeHtml h k = tt
-markup_entered names MaybeLinkOpen h k = tt
-markup_entered names (MaybeLinkClose b) h k = tt
-markup_entered names MaybeImage h k = tt
-markup_entered names _ h k = absurd (false≢true h)
+markup_entered names (FencedCodeBlock ix) h k = absurd (false≢true h)
+markup_entered names (FootnoteDefinition ix) h k = absurd (false≢true h)
+markup_entered names (Table ix) h k = absurd (false≢true h)
+markup_entered names (Heading level ix) h k = absurd (false≢true h)
+markup_entered names _ h k = tt
 
 -- the tokens of lines have this property
 pub tokens_entered : (names : Names) → HoldsOfTokens names.texts (HasEntry names)
@@ -91,74 +77,35 @@ unfolding AreNamed
 each_named names [] h = tt
 each_named names (x ∷ chain) h = (h.0, each_named names chain h.1)
 
--- a token that is joined to a chain
-joined_named : (names : Names) (t : Bool) (x y : Item)
-    → IsNamed names x → IsNamed names y → AreNamed names (leaves (if t then record x { «end» = y.«end» } ∷ [] else x ∷ y ∷ []))
+named_each : (names : Names) (chain : List Item) → AreNamed names (leaves chain) → AreEach (HasEntry names) chain
 unfolding AreNamed
-joined_named names true x y h k = (h, tt)
-joined_named names false x y h k = (h, (k, tt))
-
-token_named : (names : Names) (chain : List Item) (y : Item) → AreNamed names (leaves chain) → IsNamed names y → AreNamed names (leaves (add_token chain y))
-unfolding AreNamed
-token_named names [] y h k = (k, tt)
-token_named names (x ∷ []) y h k = joined_named names (touches x y) x y h.0 k
-token_named names (x ∷ z ∷ zs) y h k = (h.0, token_named names (z ∷ zs) y h.1 k)
-
-tokens_named : (names : Names) (chain tokens : List Item)
-    → AreNamed names (leaves chain) → AreNamed names (leaves tokens) → AreNamed names (leaves (add_tokens chain tokens))
-unfolding AreNamed
-tokens_named names chain [] h k = h
-tokens_named names chain (x ∷ xs) h k = tokens_named names (add_token chain x) xs (token_named names chain x h k.0) k.1
-
-chains_named : (names : Names) (a b : List Item) → AreNamed names (leaves a) → AreNamed names (leaves b) → AreNamed names (leaves (a ++ b))
-unfolding AreNamed
-chains_named names [] b h k = k
-chains_named names (x ∷ a) b h k = (h.0, chains_named names a b h.1 k)
-
--- the text for columns that are owed
-columns_named : (names : Names) (owed at : ℕ) (items : List Item) → AreColumns names owed at items → AreNamed names (leaves items)
-unfolding AreNamed
-columns_named names zero at items is = subst (λ xs. AreNamed names (leaves xs)) (sym is) tt
-columns_named names (suc n) at items (ix, (named, at_ix, text), is) =
-    subst (λ xs. AreNamed names (leaves xs)) (sym is) (slice_get_within names.texts ix.0 named at_ix, tt)
+named_each names [] h = tt
+named_each names (x ∷ chain) h = (h.0, named_each names chain h.1)
 
 -- the bytes of raw lines have no index
 abbrev pub IsFree : Ranges → Type 0
 IsFree range = (from to : ℕ) → HaveNoIndex (range from to)
 
-unless_free : (t : Bool) (xs : List Item) → HaveNoIndex xs → HaveNoIndex (if t then xs else [])
-unless_free true xs h = h
-unless_free false xs h = tt
-
 pub text_is_free : IsFree range_text
-text_is_free from to = unless_free (nat_lt from to) (text_token from to false ∷ []) (refl, tt)
+text_is_free = range_text_each IsWithoutIndex (λ escaped. refl)
 
 pub html_is_free : IsFree range_html
 html_is_free from to = (refl, tt)
 
-raw_by : (names : Names) (t : Bool) (a b c : List Item) → HaveNoIndex a → HaveNoIndex b → HaveNoIndex c → AreNamed names (leaves (if t then a ++ b else c))
-raw_by names true a b c h k l = chains_named names a b (free_named names a h) (free_named names b k)
-raw_by names false a b c h k l = free_named names c l
-
-raw_named : (names : Names) (range : Ranges) (text : List ℕ) (from to : ℕ) → IsFree range → AreNamed names (leaves (raw_items range text from to))
-unfolding raw_items
-raw_named names range text from to free =
-    raw_by names (ends_with_both text from to) (range from (to - 2)) (range (to - 1) to) (range from to) (free from (to - 2)) (free (to - 1) to) (free from to)
-
-line_named : (range : Ranges) (d : Document) (owed from to : ℕ) (items : List Item)
-    → IsFree range → IsRawLine range d owed from to items → AreNamed d.names (leaves items)
-unfolding AreNamed
-line_named range d owed from to items free (columns, are, is) =
-    subst (λ xs. AreNamed d.names (leaves xs)) (sym is)
-    (chains_named d.names columns (raw_items range d.text from to) (columns_named d.names owed from columns are) (raw_named d.names range d.text from to free))
-
 pub lines_named : (range : Ranges) (d : Document) (chain : List Item) (places : List Place) (whole : List Item)
     → IsFree range → AreNamed d.names (leaves chain) → AreRawLines range d chain places whole → AreNamed d.names (leaves whole)
-unfolding AreRawLines
-lines_named range d chain [] whole free h is = subst (λ xs. AreNamed d.names (leaves xs)) (sym is) h
-lines_named range d chain (p ∷ places) whole free h (line, is, more) =
-    lines_named range d (add_tokens chain line) places whole free
-    (tokens_named d.names chain line h (line_named range d p.rest.owed (offset p) (line_end p) line free is)) more
+lines_named range d chain places whole free h is =
+    let raw : HoldsOfRaw d.names.texts (HasEntry d.names) = record { html = tt; columns = λ ix within. within } in
+    each_named d.names whole
+    (raw_lines_each (HasEntry d.names) d raw range chain places whole (λ a b. named_each d.names (range a b) (free_named d.names (range a b) (free a b)))
+    (named_each d.names chain h) is)
+
+-- the index of a heading, if it has one, names an entry
+pub given_entry : (names : Names) (ix : Option HeadingIndex) (attributes : Option Attributes) → NamesAttributes names ix attributes
+    → NamesEntry names (option_map AttributesAt ix)
+given_entry names None attributes h = tt
+given_entry names (Some ix) None h = absurd h
+given_entry names (Some ix) (Some attributes) h = slice_get_within names.headings ix.0 attributes h
 
 -- a block with a chain
 pub block_named : (names : Names) (start stop : ℕ) (body : ItemBody) (chain : List Item) (items : List (ℕ × Item))

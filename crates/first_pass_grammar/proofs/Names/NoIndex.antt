@@ -1,13 +1,7 @@
 -- Items without an index read alike under all names; the tokens of lines have no indices except those of texts.
 use Rattle.std.proofs.Common.{◌≡◌, true, List, [], ◌∷◌, map, None, refl}
-use Rattle.std.proofs.lemmas.Bool.{false≢true}
-use Rattle.first_pass_items.specs.declared.cow_str.CowStr.{CowStr}
-use Rattle.first_pass_items.specs.declared.item.Item.{Item}
-use Rattle.first_pass_items.specs.declared.item.ItemBody.{ItemBody}
-use Rattle.first_pass_items.specs.declared.item.ItemBody.TheVariants.{MaybeEmphasis, MaybeMath, MaybeSmartQuote, SynthesizeChar, SynthesizeText, MaybeCode}
-use Rattle.first_pass_items.specs.declared.item.ItemBody.TheVariants.{MaybeHtml, MaybeLinkOpen, MaybeLinkClose, MaybeImage}
-use Rattle.first_pass_tokens.proofs.PieceFacts.{is_markup}
-use Rattle.first_pass_grammar.specs.Names.{Names, index_of, read}
+use Rattle.first_pass_grammar.proofs.Common.{false≢true, CowStr, Item, ItemBody, SynthesizeText, FencedCodeBlock, FootnoteDefinition, Table, Heading}
+use Rattle.first_pass_grammar.proofs.Common.{is_markup, Names, index_of, read}
 use Rattle.first_pass_grammar.proofs.Each.EachToken.{AreEach, HoldsOfTokens}
 use Rattle.first_pass_grammar.proofs.Names.TokensNamed.{NamesWithin}
 
@@ -36,17 +30,12 @@ HasTextIndex body = index_of body ≡ None
 
 -- a token of possible markup has this property
 markup_textual : (texts : List CowStr) (body : ItemBody) → is_markup body ≡ true → NamesWithin texts body → HasTextIndex body
-markup_textual texts (MaybeEmphasis left opens closes) h k = refl
-markup_textual texts (MaybeMath opens closes context) h k = refl
-markup_textual texts (MaybeSmartQuote quote opens closes) h k = refl
-markup_textual texts (SynthesizeChar c) h k = refl
 markup_textual texts (SynthesizeText ix) h k = tt
-markup_textual texts (MaybeCode n escaped) h k = refl
-markup_textual texts MaybeHtml h k = refl
-markup_textual texts MaybeLinkOpen h k = refl
-markup_textual texts (MaybeLinkClose b) h k = refl
-markup_textual texts MaybeImage h k = refl
-markup_textual texts _ h k = absurd (false≢true h)
+markup_textual texts (FencedCodeBlock ix) h k = absurd (false≢true h)
+markup_textual texts (FootnoteDefinition ix) h k = absurd (false≢true h)
+markup_textual texts (Table ix) h k = absurd (false≢true h)
+markup_textual texts (Heading level ix) h k = absurd (false≢true h)
+markup_textual texts _ h k = refl
 
 -- a token of a line has no index except that of a text
 pub tokens_textual : (texts : List CowStr) → HoldsOfTokens texts HasTextIndex

@@ -1,20 +1,10 @@
 -- What is read under some names is read the same under names that extend them.
 use Rattle.std.proofs.Common.{inl, inr, ℕ, List, ◌∷◌, Option, []}
-use Rattle.first_pass_items.specs.declared.item.Item.{Item}
-use Rattle.first_pass_items.specs.declared.option_set.Options.{Options}
-use Rattle.first_pass_lines.specs.Places.{Place, offset}
-use Rattle.first_pass_tokens.specs.Chains.{add_tokens}
-use Rattle.first_pass_tokens.specs.Pieces.{Inline}
-use Rattle.first_pass_tokens.specs.NamedTexts.{AreMore}
-use Rattle.first_pass_tokens.specs.Braces.{MathBraces}
-use Rattle.first_pass_tokens.specs.LineTokens.{Spot, spot, AreLineTokens, IsCell}
-use Rattle.first_pass_tokens.proofs.NamedTexts.{line_more, cell_more}
+use Rattle.first_pass_grammar.proofs.Common.{Item, Options, Place, Inline, AreMore, MathBraces, Spot, spot, AreLineTokens, IsCell, line_more, Names}
+use Rattle.first_pass_grammar.proofs.Common.{Extends, document, AreCells, FoundRow, HasCells, TableSoFar, Taken, AreRows}
+use Rattle.first_pass_tokens.proofs.NamedTexts.{cell_more}
 use Rattle.first_pass_grammar.specs.declared.kind.Container.{Container}
-use Rattle.first_pass_grammar.specs.Names.{Names, Extends}
-use Rattle.first_pass_grammar.specs.Containers.{at_rest, front}
-use Rattle.first_pass_grammar.specs.Kinds.{unindented}
-use Rattle.first_pass_grammar.specs.Leaves.{document, add_break, TextLines, AreTextLines}
-use Rattle.first_pass_grammar.specs.Tables.{AreCells, FoundRow, HasCells, TakesRows, TableSoFar, with_rows, EndRows, Taken, AreRows}
+use Rattle.first_pass_grammar.specs.Tables.{TakesRows, with_rows, EndRows}
 
 pub texts_later : (later names : Names) → Extends later names → AreMore later.texts names.texts
 texts_later later names e = (e.more_texts, e.texts)
@@ -27,20 +17,6 @@ line_later later names s tokens answer e h = line_more (texts_later later names 
 pub cell_later : {after : MathBraces} (later names : Names) (s : Inline) (tokens : List Item) (stop : ℕ) → Extends later names
     → IsCell names.texts s tokens stop after → IsCell later.texts s tokens stop after
 cell_later later names s tokens stop e h = cell_more (texts_later later names e) h
-
--- the lines of a text
-pub text_lines_more : (text : List ℕ) (options : Options) (names later : Names) (path : List Container) (p : Spot) (chain : List Item) (lines : List Place)
-    (t : TextLines) → Extends later names → AreTextLines (document text options names) path p chain lines t
-    → AreTextLines (document text options later) path p chain lines t
-unfolding AreTextLines
-text_lines_more text options names later path p chain [] t e (tokens, answer, after, is, same) =
-    (tokens, answer, after, line_later later names _ tokens answer e is, same)
-text_lines_more text options names later path p chain (line ∷ lines) t e (tokens, answer, after, is, inl (ends, same)) =
-    (tokens, answer, after, line_later later names _ tokens answer e is, inl (ends, same))
-text_lines_more text options names later path p chain (line ∷ lines) t e (tokens, answer, after, is, inr (goes, more)) =
-    let next : Spot = spot (offset (unindented (at_rest line (front path line.rest)))) after in
-    let further = text_lines_more text options names later path next (add_break answer.1 (add_tokens chain tokens)) lines t e more in
-    (tokens, answer, after, line_later later names _ tokens answer e is, inr (goes, further))
 
 -- the cells of a row
 pub cells_more : (text : List ℕ) (options : Options) (names later : Names) (p : Spot) (cells : List (List (ℕ × Item))) (to : Spot) → Extends later names
@@ -82,5 +58,3 @@ rows_more text options names later path table lines t e h = record {
   ends = end_more text options names later path (with_rows table h.rows) t.left e h.ends;
   items_are = h.items_are;
 }
-
--- a setext heading, and a text

@@ -1,17 +1,9 @@
 -- Each text that the tokens of a line or a cell name is among the texts that the line is read with.
-use Rattle.std.proofs.Common.{◌≡◌, ℕ, ◌<◌, false, List, length, sym, subst}
-use Rattle.std.proofs.lemmas.Bool.{true≢false}
-use Rattle.std.proofs.lemmas.Option.{slice_get_within}
-use Rattle.first_pass_items.specs.declared.cow_str.CowStr.{CowStr}
-use Rattle.first_pass_items.specs.declared.item.ItemBody.{ItemBody}
-use Rattle.first_pass_items.specs.declared.item.ItemBody.TheVariants.{SynthesizeText}
+use Rattle.std.proofs.Common.{◌≡◌, ℕ, ◌<◌, false, List, length, sym, subst, true≢false}
+use Rattle.first_pass_grammar.proofs.Common.{slice_get_within, CowStr, ItemBody, SynthesizeText, Piece, Token, MathBraces, Inline, found_at}
 use Rattle.first_pass_tokens.specs.declared.pieces.TokenStart.{TokenStart}
-use Rattle.first_pass_tokens.specs.declared.pieces.TokenStart.TheVariants.{Ready, Reference, Dashes, Dollar, OpenBrace, CloseBrace}
-use Rattle.first_pass_tokens.specs.declared.pieces.Piece.{Piece}
-use Rattle.first_pass_tokens.specs.declared.pieces.Piece.TheVariants.{Left, Begins, Token, Run}
-use Rattle.first_pass_tokens.specs.Braces.{MathBraces}
+use Rattle.first_pass_tokens.specs.declared.pieces.TokenStart.TheVariants.{Ready, Reference, Dashes}
 use Rattle.first_pass_tokens.specs.NamedTexts.{MakesPiece}
-use Rattle.first_pass_tokens.specs.Pieces.{Inline, found_at}
 use Rattle.first_pass_tokens.proofs.AlikeLemmas.{names_text, NamesNone, ReadyNamesNone, found_none}
 
 -- a body that names a text names one of these
@@ -21,10 +13,8 @@ NamesWithin texts _ = Unit {0}
 
 -- a piece whose token names a text names one of these
 abbrev pub PieceWithin : List CowStr → Piece → Type 0
-PieceWithin texts (Left n) = Unit {0}
-PieceWithin texts (Begins dropped escaped) = Unit {0}
 PieceWithin texts (Token dropped n body) = NamesWithin texts body
-PieceWithin texts (Run n opens closes) = Unit {0}
+PieceWithin texts _ = Unit {0}
 
 none_within : (texts : List CowStr) (body : ItemBody) → names_text body ≡ false → NamesWithin texts body
 none_within texts (SynthesizeText ix) h = absurd (true≢false h)
@@ -39,9 +29,7 @@ becomes_within : (texts : List CowStr) (b : MathBraces) (found : TokenStart) (p 
 becomes_within texts b (Ready piece) p none is = subst (PieceWithin texts) (sym is) (ready_within texts piece none)
 becomes_within texts b (Reference n c) p none is = subst (PieceWithin texts) (sym is.2) (slice_get_within texts is.0.0 is.1.0 is.1.1)
 becomes_within texts b (Dashes n) p none is = subst (PieceWithin texts) (sym is.2) (slice_get_within texts is.0.0 is.1.0 is.1.1)
-becomes_within texts b (Dollar opens closes) p none is = subst (PieceWithin texts) (sym is) tt
-becomes_within texts b OpenBrace p none is = subst (PieceWithin texts) (sym is) tt
-becomes_within texts b CloseBrace p none is = subst (PieceWithin texts) (sym is) tt
+becomes_within texts b found p none is = subst (PieceWithin texts) (sym is) tt
 
 -- the piece at a place names one of these texts, if it names a text
 pub piece_within : (texts : List CowStr) (b : MathBraces) (s : Inline) (at : ℕ) (p : Piece) → MakesPiece texts b (found_at s at) p → PieceWithin texts p

@@ -1,18 +1,11 @@
 -- Siblings and their ranges while nodes are added, opened and closed.
-use Rattle.std.proofs.Common.{◌≡◌, inl, inr, ℕ, zero, suc, ◌+◌, ◌-◌, ◌*◌, ◌<◌, ◌≤◌, Bool, true, false, if◌then◌else◌, List, [], ◌∷◌, ◌++◌, length}
-use Rattle.std.proofs.Common.{Some, None, IsCharBoundary, refl, sym, ap, subst, ◌∙◌, arith, append_assoc}
-use Rattle.std.proofs.lemmas.List.{append-nil, map-append, length-map}
-use Rattle.first_pass_items.specs.declared.item.Item.{Item}
-use Rattle.first_pass_items.specs.declared.item.ItemBody.{ItemBody}
-use Rattle.first_pass_tree.specs.declared.tree_index.TreeIndex.{TreeIndex}
-use Rattle.first_pass_tree.specs.Forest.{modify, at_depth, body_at, block_of}
-use Rattle.first_pass_tree.proofs.Blocks.{at_depth-append}
-use Rattle.first_pass_tokens.proofs.InOrder.{AreInOrder}
-use Rattle.first_pass_tokens.specs.TreeTokens.{leaves}
-use Rattle.first_pass_tokens.proofs.OrderLemmas.{order_bound}
-use Rattle.first_pass_grammar.specs.Order.{Ranged, extent_of, extents, Siblings, Empty, Node, laid, IsBetween, Within}
-use Rattle.first_pass_grammar.specs.Order.{Elsewhere, InItem, InText, InFirst, below, beyond, IsLead, Fits, FitsBetween}
-use Rattle.first_pass_grammar.specs.OpenOrder.{laid_open, AreAt, open_within, FitsOpen}
+use Rattle.std.proofs.Common.{◌≡◌, inl, inr, ℕ, zero, suc, ◌+◌, ◌-◌, ◌*◌, ◌<◌, ◌≤◌, Bool, true, false, if◌then◌else◌, List, [], ◌∷◌, ◌++◌, length, Some}
+use Rattle.std.proofs.Common.{None, IsCharBoundary, refl, sym, ap, subst, ◌∙◌, arith, append_assoc, append-nil}
+use Rattle.first_pass_grammar.proofs.Common.{map-append, length-map, Item, ItemBody, TreeIndex, modify, at_depth, body_at, block_of, at_depth-append}
+use Rattle.first_pass_grammar.proofs.Common.{AreInOrder, leaves, order_bound, Ranged, extent_of, extents, Siblings, Empty, laid, IsBetween, Within}
+use Rattle.first_pass_grammar.proofs.Common.{Elsewhere, InItem, InText, InFirst, below, beyond, IsLead, Fits, FitsBetween, laid_open, AreAt, open_within}
+use Rattle.first_pass_grammar.proofs.Common.{FitsOpen}
+use Rattle.first_pass_grammar.specs.Order.{Node}
 use Rattle.first_pass_grammar.proofs.Count.CountedNodes.{own_at_most}
 
 -- siblings, and others after them
@@ -99,9 +92,8 @@ laid_open-root root row = ap (λ (z : List (ℕ × Ranged)). (0, root) ∷ z) (s
 -- there are as many open nodes as places for them
 pub length-places : (root : Ranged) (levels : List (Siblings × Ranged)) (spine : List TreeIndex) → AreAt root levels spine → length spine ≡ length levels
 length-places root [] [] h = refl
-length-places root [] (ix ∷ spine) h = absurd h
-length-places root (level ∷ levels) [] h = absurd h
 length-places root (level ∷ levels) (ix ∷ spine) h = ap suc (length-places root levels spine h.1)
+length-places root levels spine h = absurd h
 
 -- if siblings fit between two offsets, these are in order
 pub fits-order : (text : List ℕ) (w : Within) (from to : ℕ) (row : Siblings) → Fits text w from to row → from ≤ to
@@ -156,14 +148,11 @@ fits-any text w from to (Node x kids next) (inr (l, k, n)) = absurd l
 fits-beyond : (text : List ℕ) (w : Within) (from to : ℕ) (row : Siblings) → Fits text (beyond w) from to row → Fits text w from to row
 fits-beyond text Elsewhere from to row h = h
 fits-beyond text InItem from to row h = h
-fits-beyond text (InText before) from to row h = fits-any text (InText before) from to row h
-fits-beyond text (InFirst before) from to row h = fits-any text (InFirst before) from to row h
+fits-beyond text w from to row h = fits-any text w from to row h
 
 beyond-again : (text : List ℕ) (w : Within) (from to : ℕ) (row : Siblings) → Fits text (beyond w) from to row → Fits text (beyond (beyond w)) from to row
 beyond-again text Elsewhere from to row h = h
-beyond-again text InItem from to row h = h
-beyond-again text (InText before) from to row h = h
-beyond-again text (InFirst before) from to row h = h
+beyond-again text w from to row h = h
 
 following-lead : (text : List ℕ) (w : Within) (at from to : ℕ) (x : Ranged) (row : Siblings)
     → IsLead text w at x → Fits text (beyond w) from to row → Fits text Elsewhere from to row
@@ -217,8 +206,7 @@ earlier_by text w a b to (Node x kids next) none more (inr (l, k, n)) = absurd (
 fits-earlier : (text : List ℕ) (w : Within) (a b to : ℕ) (row : Siblings) → a ≤ b → Fits text (beyond w) b to row → Fits text (beyond w) a to row
 fits-earlier text Elsewhere a b to row more h = earlier_by text Elsewhere a b to row (λ x l. l) more h
 fits-earlier text InItem a b to row more h = earlier_by text InItem a b to row (λ x l. l) more h
-fits-earlier text (InText before) a b to row more h = earlier_by text Elsewhere a b to row (λ x l. l) more h
-fits-earlier text (InFirst before) a b to row more h = earlier_by text Elsewhere a b to row (λ x l. l) more h
+fits-earlier text w a b to row more h = earlier_by text Elsewhere a b to row (λ x l. l) more h
 
 -- siblings fit after others
 pub fits-beside : (text : List ℕ) (w : Within) (from mid to : ℕ) (row more : Siblings)
@@ -248,33 +236,19 @@ fits_open-later text a b [] row more h = fits-later text Elsewhere 0 a b row mor
 fits_open-later text a b (level ∷ levels) row more (before, m, h, starts, rest) =
     (before, m, fits-later text (below (open_within levels) before level.1) level.1.start a b row more h, starts, rest)
 
-beyond_by : (text : List ℕ) (item : Bool) (v : Within) (from to : ℕ) (row : Siblings) → (Fits text Elsewhere from to row → Fits text (beyond v) from to row)
-    → Fits text (if item then InItem else Elsewhere) from to row → Fits text (beyond (if item then InItem else v)) from to row
-beyond_by text true v from to row wider h = h
-beyond_by text false v from to row wider h = wider h
-
-beyond_text : (text : List ℕ) (lead : Bool) (at : ℕ) (v : Within) (from to : ℕ) (row : Siblings)
-    → (Fits text Elsewhere from to row → Fits text (beyond v) from to row)
-    → Fits text Elsewhere from to row → Fits text (beyond (if lead then InText at else v)) from to row
-beyond_text text true at v from to row wider h = h
-beyond_text text false at v from to row wider h = wider h
-
-beyond_first : (text : List ℕ) (first : Bool) (at from to : ℕ) (row : Siblings) → Fits text Elsewhere from to row
-    → Fits text (beyond (if first then InFirst at else Elsewhere)) from to row
-beyond_first text true at from to row h = h
-beyond_first text false at from to row h = h
+beyond_by : (text : List ℕ) (item : Bool) (v : Within) (from to : ℕ) (row : Siblings) → Fits text (if item then InItem else Elsewhere) from to row
+    → Fits text (beyond (if item then InItem else v)) from to row
+beyond_by text true v from to row h = h
+beyond_by text false v from to row h = fits-any text (beyond v) from to row h
 
 beyond_below : (text : List ℕ) (w : Within) (before : ℕ) (x : Ranged) (from to : ℕ) (row : Siblings)
     → Fits text (if x.item then InItem else Elsewhere) from to row
     → Fits text (beyond (below w before x)) from to row
-beyond_below text Elsewhere before x from to row h = beyond_by text x.item Elsewhere from to row (λ e. e) h
+beyond_below text Elsewhere before x from to row h = beyond_by text x.item Elsewhere from to row h
 beyond_below text InItem before x from to row h =
-    beyond_by text x.item (if x.text_block then InText before else (if x.definitions then InFirst before else Elsewhere)) from to row
-    (beyond_text text x.text_block before (if x.definitions then InFirst before else Elsewhere) from to row
-    (beyond_first text x.definitions before from to row)) h
-beyond_below text (InText at) before x from to row h = beyond_by text x.item Elsewhere from to row (λ e. e) h
-beyond_below text (InFirst at) before x from to row h =
-    beyond_by text x.item (if x.text_block then InText at else Elsewhere) from to row (beyond_text text x.text_block at Elsewhere from to row (λ e. e)) h
+    beyond_by text x.item (if x.text_block then InText before else (if x.definitions then InFirst before else Elsewhere)) from to row h
+beyond_below text (InText at) before x from to row h = beyond_by text x.item Elsewhere from to row h
+beyond_below text (InFirst at) before x from to row h = beyond_by text x.item (if x.text_block then InText at else Elsewhere) from to row h
 
 -- more nodes in the innermost open node fit
 pub fits_open-beside : (text : List ℕ) (mid to : ℕ) (levels : List (Siblings × Ranged)) (row more : Siblings)
@@ -300,9 +274,7 @@ fits_open-pushed text a x levels row more starts h = let t : x.start ≤ x.start
 -- another end does not change what may be below a node
 pub below_ended : (w : Within) (before : ℕ) (x : Ranged) (e : ℕ) → below w before (ended_at x e) ≡ below w before x
 below_ended Elsewhere before x e = refl
-below_ended InItem before x e = refl
-below_ended (InText at) before x e = refl
-below_ended (InFirst at) before x e = refl
+below_ended w before x e = refl
 
 -- the innermost open node fits after it is closed
 pub fits_open-popped : (text : List ℕ) (at e : ℕ) (level : Siblings × Ranged) (levels : List (Siblings × Ranged)) (row : Siblings)

@@ -1,10 +1,9 @@
 -- A property of the task list item marker after the marker of a container, if there is one.
 use Rattle.std.proofs.Common.{Bool, true, false, Option, Some, None, IfSome, if◌then◌else◌}
-use Rattle.first_pass_items.specs.declared.item.BlockQuoteKind.{BlockQuoteKind}
-use Rattle.first_pass_items.specs.declared.item.Item.{Item}
+use Rattle.first_pass_grammar.proofs.Common.{BlockQuoteKind, Item, after_task}
 use Rattle.first_pass_grammar.specs.declared.kind.AfterMarker.{AfterMarker}
 use Rattle.first_pass_grammar.specs.declared.kind.AfterMarker.TheVariants.{OnLine, TaskText, LineEnds, OnlyTag}
-use Rattle.first_pass_grammar.specs.Openers.{after_task, after_quote}
+use Rattle.first_pass_grammar.specs.Openers.{after_quote}
 
 abbrev pub HoldsAfter : (Item → Type 0) → AfterMarker → Type 0
 HoldsAfter P OnLine = Unit {0}

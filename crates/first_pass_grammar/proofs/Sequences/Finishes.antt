@@ -1,17 +1,10 @@
 -- The completions of open nodes, as one type over the further parts of the open containers.
 use Rattle.std.proofs.Common.{◌≡◌, ℕ, suc, Bool, false, List, [], ◌∷◌, length, refl, sym, ap, ◌∙◌, subst}
-use Rattle.first_pass_items.specs.declared.item.Item.{Item}
-use Rattle.first_pass_lines.specs.Places.{Place}
-use Rattle.first_pass_grammar.specs.Leaves.{Document}
-use Rattle.first_pass_grammar.specs.Blocks.{Skeleton}
-use Rattle.first_pass_grammar.specs.Before.{Before, after_container, before_end}
-use Rattle.first_pass_grammar.specs.Skeleton.{Continues, level, Remaining, Lines, onward, end_before, IsSequence}
-use Rattle.first_pass_grammar.specs.Rows.{ItemsOf, Rows, any_gap, rows_of}
-use Rattle.first_pass_grammar.specs.Derivation.{Tables, Derives, with_all_of}
-use Rattle.first_pass_grammar.specs.Completion.{ended, Pending, NoList, OneList, Unfinished, Further, AreFurther, rows_beyond, rendered, Frame, InContainer}
-use Rattle.first_pass_grammar.specs.Completion.{Closed, InDefinitions, closed_as, definitions_open, InList, containers_of, loosened, last_of, Becomes}
-use Rattle.first_pass_grammar.specs.Completion.{Completes, container_closed, AreBelow, IsShaped}
-use Rattle.first_pass_grammar.specs.Containers.{is_quote}
+use Rattle.first_pass_grammar.proofs.Common.{Item, Place, Document, Skeleton, Before, after_container, before_end, Continues, level, Remaining, Lines}
+use Rattle.first_pass_grammar.proofs.Common.{onward, end_before, IsSequence, ItemsOf, Rows, any_gap, rows_of, Tables, Derives, with_all_of, ended, Pending}
+use Rattle.first_pass_grammar.proofs.Common.{NoList, OneList, Unfinished, Further, AreFurther, rows_beyond, rendered, Frame, InContainer, Closed}
+use Rattle.first_pass_grammar.proofs.Common.{InDefinitions, closed_as, definitions_open, InList, containers_of, loosened, last_of, Becomes, Completes}
+use Rattle.first_pass_grammar.proofs.Common.{container_closed, AreBelow, IsShaped, is_quote}
 
 -- some remaining sequence of the innermost container, and so on outwards
 unfoldable pub Finish : Document → Tables → Pending → Before → List Frame → List (ℕ × Item) → List ℕ → Continues → List Place → List (ℕ × Item) → Tables

@@ -1,26 +1,15 @@
 -- A footnote definition does not change the labels of others: the head of one is the same inside a footnote definition
 -- as around it.
-use Rattle.std.proofs.Common.{◌≡◌, ℕ, ◌&&◌, ◌||◌, not, Bool, true, false, nat_lt, List, [], ◌∷◌, drop, Option, Some, None, refl, ap, sym, ◌∙◌, if◌then◌else◌}
-use Rattle.std.specs.Option.{option_map, option_and_then, is_some}
+use Rattle.std.proofs.Common.{arith, ◌≡◌, ℕ, ◌&&◌, ◌||◌, not, Bool, true, false, nat_lt, List, [], ◌∷◌, drop, Option, Some, None, refl, ap, sym, ◌∙◌}
+use Rattle.std.proofs.Common.{if◌then◌else◌, option_map, option_and_then, is_some}
+use Rattle.first_pass_grammar.proofs.Common.{and-false, Options, has, footnotes, gfm_footnotes, at_line_end, line_len, Rest, indent, Place, line_rest}
+use Rattle.first_pass_grammar.proofs.Common.{footnote_head, context, footnote_columns, prefix, after, or_shorter, front, all_taken, unindented, Continued}
+use Rattle.first_pass_grammar.proofs.Common.{continued, interrupts, table_at, crossed, footnote_prefix, footnote_head_at}
 use Rattle.std.proofs.Math.Dec.{leb-zero}
-use Rattle.std.proofs.Math.Bool.{and-false}
-use Rattle.first_pass_items.specs.declared.item.Alignment.{Alignment}
-use Rattle.first_pass_items.specs.declared.option_set.Options.{Options}
-use Rattle.first_pass_items.specs.Bytes.{pipe}
-use Rattle.first_pass_items.specs.OptionWords.{has, tables, footnotes, gfm_footnotes}
-use Rattle.first_pass_lines.specs.Lines.{begins, at_line_end, line_len}
-use Rattle.first_pass_lines.specs.Rest.{Rest, indent, after_columns}
-use Rattle.first_pass_lines.specs.Places.{Place, line_rest}
-use Rattle.first_pass_links.specs.Footnotes.{footnote_head}
-use Rattle.first_pass_table_scan.specs.TableHead.{head_columns, delimiter_row_of}
 use Rattle.first_pass_grammar.specs.declared.kind.Container.{Container}
 use Rattle.first_pass_grammar.specs.declared.kind.Container.TheVariants.{FootnoteDefinition}
-use Rattle.first_pass_grammar.specs.Containers.{context, footnote_columns, prefix, after, or_shorter, front, is_definition, at_definition}
-use Rattle.first_pass_grammar.specs.Kinds.{all_taken, unindented, interrupts_with, footnote_interrupts, definition_interrupts, Continued, continued}
-use Rattle.first_pass_grammar.specs.Kinds.{interrupts, ends_paragraph}
-use Rattle.first_pass_grammar.specs.TableHeads.{if_as_many, table_at}
-use Rattle.first_pass_grammar.specs.Definitions.{is_underline, crossed}
-use Rattle.first_pass_grammar.specs.Footnotes.{footnote_prefix, footnote_head_at}
+use Rattle.first_pass_grammar.specs.Containers.{is_definition, at_definition}
+use Rattle.first_pass_grammar.specs.Kinds.{ends_paragraph}
 
 -- a path with a footnote definition in the old form inside it
 abbrev with_old : List Container → List Container
@@ -37,8 +26,7 @@ unfolding after
 after_same path r = after_by (after path r)
 
 shorter_twice : (o : Option Rest) (r : Rest) → or_shorter o (or_shorter o r) ≡ or_shorter o r
-shorter_twice None r = refl
-shorter_twice (Some q) r = refl
+shorter_twice o r = grind arith
 
 front_again : (path : List Container) (r : Rest) → or_shorter (after path r) (front path r) ≡ front path r
 unfolding after front
@@ -52,14 +40,11 @@ front_same path r = ap (λ (o : Option Rest). or_shorter o (front path r)) (afte
 -- it does not change what interrupts a paragraph
 table_same : (path : List Container) (bs : List ℕ) → table_at (with_old path) bs ≡ table_at path bs
 unfolding table_at
-table_same path bs =
-    ap (λ (o : Option Rest). option_and_then (if_as_many (head_columns bs)) (option_and_then delimiter_row_of o))
-    (after_same path (line_rest (drop (line_len bs) bs)))
+table_same path bs = rw (after_same path (line_rest (drop (line_len bs) bs))) refl
 
 -- it does not change which container stops a line
 stopped_none : (c : Container) (o : Option Rest) → is_some o ≡ false → is_some (option_and_then (prefix c) o) ≡ true → ⊥
-stopped_none c None e h = cc
-stopped_none c (Some r) e h = cc
+stopped_none c o e h = grind arith
 
 whole_by : (c : Container) (path : List Container) (r : Rest) (t : Bool) → is_some (after path r) ≡ t
     → is_some (option_and_then (prefix c) (after path r)) ≡ true
@@ -82,39 +67,21 @@ unfolding at_definition
 stop_same path r = stop_by path r (is_some (after path r)) refl
 
 continued_same : (path : List Container) (r : Rest) → continued (with_old path) r ≡ continued path r
-continued_same path r =
-    ap (λ (o : Option Rest). record { whole = is_some o; at_definition = at_definition (with_old path) r }) (after_same path r)
-    ∙ ap (λ (b : Bool). record { whole = is_some (after path r); at_definition = b }) (stop_same path r)
+continued_same path r = rw (after_same path r, stop_same path r) refl
 
 interrupts_same : (options : Options) (path : List Container) (c : Continued) (r : Rest)
     → interrupts (context options (with_old path)) c r ≡ interrupts (context options path) c r
 unfolding interrupts
-interrupts_same options path c r =
-    let bs : List ℕ = (all_taken r).left in
-    ap (λ (o : Option (List Alignment)).
-    if nat_lt (indent r) 4
-    then interrupts_with c.whole bs
-    || (footnote_interrupts options false bs
-    || (definition_interrupts options c.at_definition bs || (has options tables && (begins pipe bs && is_some o))))
-    else at_line_end bs)
-    (table_same path bs)
+interrupts_same options path c r = rw (table_same path (all_taken r).left) refl
 
 paragraph_same : (options : Options) (path : List Container) (r : Rest)
     → ends_paragraph (context options (with_old path)) r ≡ ends_paragraph (context options path) r
-paragraph_same options path r =
-    ap (λ (c : Continued). interrupts (context options (with_old path)) c (front (with_old path) r)) (continued_same path r)
-    ∙ ap (interrupts (context options (with_old path)) (continued path r)) (front_same path r)
-    ∙ interrupts_same options path (continued path r) (front path r)
+paragraph_same options path r = rw (continued_same path r, front_same path r) (interrupts_same options path (continued path r) (front path r))
 
 crossed_same : (options : Options) (path : List Container) (in_label : Bool) (r : Rest)
     → crossed in_label (context options (with_old path)) r ≡ crossed in_label (context options path) r
 unfolding crossed
-crossed_same options path in_label r =
-    let by : Bool → Rest → Option Rest → Option Rest =
-    λ t q o. if t || (is_underline q && (not in_label || is_some o)) then None else Some (after_columns 4 q) in
-    ap (λ t. by t (front (with_old path) r) (after (with_old path) r)) (paragraph_same options path r)
-    ∙ ap (λ q. by (ends_paragraph (context options path) r) q (after (with_old path) r)) (front_same path r)
-    ∙ ap (by (ends_paragraph (context options path) r) (front path r)) (after_same path r)
+crossed_same options path in_label r = rw (paragraph_same options path r, front_same path r, after_same path r) refl
 
 -- in GitHub's form, no label continues on another line
 prefix_by : (options : Options) (columns : ℕ) (path : List Container) (bs : List ℕ) (t : Bool) → gfm_footnotes options ≡ t

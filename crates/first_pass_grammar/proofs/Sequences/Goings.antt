@@ -1,19 +1,13 @@
 -- Where a sequence of blocks continues, and where it ends.
-use Rattle.std.proofs.Common.{◌≡◌, ℕ, ◌&&◌, Bool, true, false, List, [], ◌∷◌, Option, Some, None, refl, sym, ap, subst, ◌∙◌, if◌then◌else◌}
-use Rattle.std.specs.Option.{option_map, is_some}
-use Rattle.std.proofs.lemmas.Bool.{true≢false}
-use Rattle.std.proofs.lemmas.Option.{none-some}
-use Rattle.first_pass_items.specs.declared.option_set.Options.{Options}
-use Rattle.first_pass_lines.specs.Rest.{Rest}
-use Rattle.first_pass_lines.specs.Places.{Place}
+use Rattle.std.proofs.Common.{◌≡◌, ◌⊎◌, inl, inr, ℕ, ◌&&◌, Bool, true, false, List, [], ◌∷◌, Option, Some, None, refl, sym, ap, subst, if◌then◌else◌}
+use Rattle.std.proofs.Common.{option_map, is_some, true≢false}
+use Rattle.first_pass_grammar.proofs.Common.{cond_both, and_parts, none-some, Options, Rest, Place, Before, context, at_rest, after, taken, next_goes_on}
+use Rattle.first_pass_grammar.proofs.Common.{in_footnote, footnote_head_at, ends_footnote, is_blank_rest, Continues, Line, Blanks, AtPlace, Anything}
+use Rattle.first_pass_grammar.proofs.Common.{Inside, is_blank_after, next_is_blank, Level, level, Remaining, Lines, InLine, NextBlock, Begins, Ends}
+use Rattle.first_pass_grammar.proofs.Common.{ends_old_footnote, only_blanks, next_block}
 use Rattle.first_pass_grammar.specs.declared.kind.Container.{Container}
-use Rattle.first_pass_grammar.specs.Before.{Before}
-use Rattle.first_pass_grammar.specs.Containers.{context, at_rest, after, taken, next_goes_on, in_footnote}
-use Rattle.first_pass_grammar.specs.Footnotes.{footnote_head_at, ends_footnote}
-use Rattle.first_pass_grammar.specs.Kinds.{is_blank_rest}
-use Rattle.first_pass_grammar.specs.Skeleton.{Continues, Line, Blanks, AtPlace, Anything, OnlyALeaf, TextOf, OnlyMark, Inside, is_blank_after, next_is_blank}
-use Rattle.first_pass_grammar.specs.Skeleton.{Level, level, Remaining, Lines, InLine, NextBlock, Begins, Ends, ends_old_footnote, next_block_at, next_block_in}
-use Rattle.first_pass_grammar.specs.Skeleton.{only_blanks, next_block_blank, next_block}
+use Rattle.first_pass_grammar.specs.Skeleton.{next_block_at, next_block_in}
+use Rattle.first_pass_grammar.specs.Skeleton.{next_block_blank}
 
 -- the place of a block and the lines after it: a place inside a line, or the place after the path's prefixes in the
 -- next line
@@ -33,41 +27,32 @@ abbrev GoesAt : List Container → Continues → List Place → NextBlock → Ty
 GoesAt path from lines (Begins p following) = BeginsAt path from lines p following
 GoesAt path from lines (Ends left) = LeavesAt path from lines left
 
-in_line : (path : List Container) (from : Continues) (lines : List Place) (p : Place) (following : List Place) (t u : Bool) → in_footnote path ≡ t
-    → BeginsAt path from lines p following → GoesAt path from lines (if◌then◌else◌ {A = NextBlock} (t && u) (Ends (InLine p following)) (Begins p following))
-in_line path from lines p following false u is at = at
-in_line path from lines p following true true is at = (at, is)
-in_line path from lines p following true false is at = at
-
-unless_old : (path : List Container) (from : Continues) (lines : List Place) (t : Bool) (g : NextBlock) → GoesAt path from lines g
-    → GoesAt path from lines (if◌then◌else◌ {A = NextBlock} t (Ends (Lines lines)) g)
-unless_old path from lines true g h = refl
-unless_old path from lines false g h = h
+in_line : (path : List Container) (from : Continues) (lines : List Place) (p : Place) (following : List Place) (u : Bool)
+    → BeginsAt path from lines p following
+    → GoesAt path from lines (if◌then◌else◌ {A = NextBlock} (in_footnote path && u) (Ends (InLine p following)) (Begins p following))
+in_line path from lines p following u at =
+    cond_both (in_footnote path && u) (Ends (InLine p following)) (Begins p following) (GoesAt path from lines)
+    (λ b. (at, (and_parts (in_footnote path) u b).0)) (λ b. at)
 
 at_line : (options : Options) (l : Level) (line : Place) (lines : List Place) (o : Option Place) → taken l.path line ≡ o
     → GoesAt l.path Line (line ∷ lines) (next_block_in options l o (line ∷ lines))
 at_line options l line lines None is = refl
 at_line options l line lines (Some q) is =
-    unless_old l.path Line (line ∷ lines) (ends_old_footnote l) (next_block_at (context options l.path) q lines)
-    (in_line l.path Line (line ∷ lines) q lines (in_footnote l.path) (is_some (footnote_head_at (context options l.path) q)) refl (is, refl))
-
-if_blank : (path : List Container) (e : ℕ) (line q : Place) (lines : List Place) (t : Bool) → taken path line ≡ Some q
-    → GoesAt path (Blanks e) (line ∷ lines) (if◌then◌else◌ {A = NextBlock} t (Begins q lines) (Ends (Lines (line ∷ lines))))
-if_blank path e line q lines true is = (is, refl)
-if_blank path e line q lines false is = refl
+    cond_both (ends_old_footnote l) (Ends (Lines (line ∷ lines))) (next_block_at (context options l.path) q lines) (GoesAt l.path Line (line ∷ lines))
+    (λ b. refl) (λ b.
+    in_line l.path Line (line ∷ lines) q lines (is_some (footnote_head_at (context options l.path) q)) (is, refl))
 
 at_blank : (path : List Container) (e : ℕ) (line : Place) (lines : List Place) (o : Option Place) → taken path line ≡ o
     → GoesAt path (Blanks e) (line ∷ lines) (next_block_blank o (line ∷ lines))
 at_blank path e line lines None is = refl
-at_blank path e line lines (Some q) is = if_blank path e line q lines (is_blank_rest q.rest) is
+at_blank path e line lines (Some q) is =
+    cond_both (is_blank_rest q.rest) (Begins q lines) (Ends (Lines (line ∷ lines))) (GoesAt path (Blanks e) (line ∷ lines)) (λ b. (is, refl)) (λ b. refl)
 
 goes_at : (options : Options) (l : Level) (from : Continues) (lines : List Place) → GoesAt l.path from lines (next_block options l from lines)
 unfolding next_block
 goes_at options l (AtPlace p Anything) lines =
-    in_line l.path (Inside p) lines p lines (in_footnote l.path) (is_some (footnote_head_at (context options l.path) p)) refl (refl, refl)
-goes_at options l (AtPlace p OnlyALeaf) lines = (refl, refl)
-goes_at options l (AtPlace p (TextOf marker)) lines = (refl, refl)
-goes_at options l (AtPlace p (OnlyMark marker blanks)) lines = (refl, refl)
+    in_line l.path (Inside p) lines p lines (is_some (footnote_head_at (context options l.path) p)) (refl, refl)
+goes_at options l (AtPlace p may) lines = (refl, refl)
 goes_at options l Line [] = refl
 goes_at options l Line (line ∷ lines) = at_line options l line lines (taken l.path line) refl
 goes_at options l (Blanks e) [] = refl
@@ -93,9 +78,7 @@ pub all_taken_at : (options : Options) (before : Before) (from : Continues) (lin
     → next_block options (level [] before) from lines ≡ Ends left → only_blanks from ≡ None → left ≡ Lines []
 unfolding next_block after
 all_taken_at options before (AtPlace p Anything) lines left is none = absurd (begun_not_ended p lines left is)
-all_taken_at options before (AtPlace p OnlyALeaf) lines left is none = absurd (begun_not_ended p lines left is)
-all_taken_at options before (AtPlace p (TextOf marker)) lines left is none = absurd (begun_not_ended p lines left is)
-all_taken_at options before (AtPlace p (OnlyMark marker blanks)) lines left is none = absurd (begun_not_ended p lines left is)
+all_taken_at options before (AtPlace p may) lines left is none = absurd (begun_not_ended p lines left is)
 all_taken_at options before Line [] left is none = sym (same_left (Lines []) left is)
 all_taken_at options before Line (line ∷ lines) left is none = absurd (begun_not_ended (at_rest line line.rest) lines left is)
 all_taken_at options before (Blanks e) lines left is none = absurd (none-some e (sym none))
@@ -116,32 +99,25 @@ ends_inside options l p lines h = rw h refl
 pub enters : (options : Options) (l : Level) (line q : Place) (lines : List Place) → taken l.path line ≡ Some q → ends_old_footnote l ≡ false
     → next_block options l Line (line ∷ lines) ≡ next_block options l (Inside q) lines
 unfolding next_block
-enters options l line q lines is old =
-    ap (λ (o : Option Place). next_block_in options l o (line ∷ lines)) is
-    ∙ ap (λ (t : Bool). if◌then◌else◌ {A = NextBlock} t (Ends (Lines (line ∷ lines))) (next_block_at (context options l.path) q lines)) old
+enters options l line q lines is old = rw (is, old) refl
 
-ends_old_by : (options : Options) (l : Level) (line : Place) (lines : List Place) (o : Option Place) → ends_old_footnote l ≡ true
-    → next_block_in options l o (line ∷ lines) ≡ Ends (Lines (line ∷ lines))
-ends_old_by options l line lines None old = refl
-ends_old_by options l line lines (Some q) old =
-    ap (λ (t : Bool). if◌then◌else◌ {A = NextBlock} t (Ends (Lines (line ∷ lines))) (next_block_at (context options l.path) q lines)) old
+-- a line that does not continue the path ends a sequence, and so does the end of the text; a footnote definition in
+-- the old form ends after a counting blank line
+ends_by : (options : Options) (l : Level) (line : Place) (lines : List Place) (o : Option Rest) → (is_some o ≡ false) ⊎ (ends_old_footnote l ≡ true)
+    → next_block_in options l (option_map (at_rest line) o) (line ∷ lines) ≡ Ends (Lines (line ∷ lines))
+ends_by options l line lines None h = refl
+ends_by options l line lines (Some r) (inl h) = absurd (true≢false h)
+ends_by options l line lines (Some r) (inr old) = rw old refl
 
--- a footnote definition in the old form ends after a counting blank line
 pub ends_old : (options : Options) (l : Level) (lines : List Place) → ends_old_footnote l ≡ true → next_block options l Line lines ≡ Ends (Lines lines)
 unfolding next_block
 ends_old options l [] old = refl
-ends_old options l (line ∷ lines) old = ends_old_by options l line lines (taken l.path line) old
-
--- a line that does not continue the path ends a sequence, and so does the end of the text
-stops_by : (options : Options) (l : Level) (line : Place) (lines : List Place) (o : Option Rest) → is_some o ≡ false
-    → next_block_in options l (option_map (at_rest line) o) (line ∷ lines) ≡ Ends (Lines (line ∷ lines))
-stops_by options l line lines None h = refl
-stops_by options l line lines (Some r) h = absurd (true≢false h)
+ends_old options l (line ∷ lines) old = ends_by options l line lines (after l.path line.rest) (inr old)
 
 pub stops : (options : Options) (l : Level) (lines : List Place) → next_goes_on l.path lines ≡ false → next_block options l Line lines ≡ Ends (Lines lines)
 unfolding next_block
 stops options l [] h = refl
-stops options l (line ∷ lines) h = stops_by options l line lines (after l.path line.rest) h
+stops options l (line ∷ lines) h = ends_by options l line lines (after l.path line.rest) (inl h)
 
 -- an item that takes only blank lines
 stops_blank_by : (line : Place) (lines : List Place) (o : Option Rest) → is_blank_after o ≡ false
@@ -158,9 +134,7 @@ stops_blank options l e (line ∷ lines) h = stops_blank_by line lines (after l.
 pub begins_blank : (options : Options) (l : Level) (e : ℕ) (line q : Place) (lines : List Place) → taken l.path line ≡ Some q → is_blank_rest q.rest ≡ true
     → next_block options l (Blanks e) (line ∷ lines) ≡ Begins q lines
 unfolding next_block
-begins_blank options l e line q lines is blank =
-    ap (λ (o : Option Place). next_block_blank o (line ∷ lines)) is
-    ∙ ap (λ (t : Bool). if◌then◌else◌ {A = NextBlock} t (Begins q lines) (Ends (Lines (line ∷ lines)))) blank
+begins_blank options l e line q lines is blank = rw (is, blank) refl
 
 -- inside a line, and if only blank lines are taken, what precedes the place makes no difference
 pub going_inside : (options : Options) (path : List Container) (before before' : Before) (p : Place) (lines : List Place)

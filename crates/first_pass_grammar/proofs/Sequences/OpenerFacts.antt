@@ -1,13 +1,11 @@
 -- A container begins with the marker of an item, of a definition or of a block quote.
-use Rattle.std.proofs.Common.{◌≡◌, ℕ, Bool, true, false, Option, Some, None, refl, ap, subst, ◌∙◌, if◌then◌else◌}
-use Rattle.std.specs.Option.{option_map, option_or}
-use Rattle.first_pass_items.specs.declared.option_set.Options.{Options}
-use Rattle.first_pass_lines.specs.Rest.{Rest}
-use Rattle.first_pass_lines.specs.Places.{Place}
+use Rattle.std.proofs.Common.{◌≡◌, ℕ, Bool, Option, Some, None, refl, subst, if◌then◌else◌, option_map}
+use Rattle.first_pass_grammar.proofs.Common.{same_Some, Options, Rest, Place, prefix, definition_marker_at, Start, item_start, task_after, quote_begun}
+use Rattle.first_pass_grammar.proofs.Common.{tag_after, definition_start, start_at}
+use Rattle.std.specs.Option.{option_or}
+use Rattle.first_pass_grammar.proofs.Sequences.PrefixBytes.{if_some}
 use Rattle.first_pass_grammar.specs.declared.kind.Container.TheVariants.{BlockQuote}
-use Rattle.first_pass_grammar.specs.Containers.{prefix}
-use Rattle.first_pass_grammar.specs.Kinds.{item_at, definition_marker_at}
-use Rattle.first_pass_grammar.specs.Openers.{Start, item_start, task_after, quote_begun, tag_after, definition_start, start_at}
+use Rattle.first_pass_grammar.specs.Kinds.{item_at}
 
 abbrev pub item_as : Options → Place → (ℕ × ℕ × ℕ) × Rest → Start
 item_as options p item = item_start p item.0 (task_after options p.line item.1)
@@ -15,16 +13,9 @@ item_as options p item = item_start p item.0 (task_after options p.line item.1)
 abbrev pub quote_as : Options → Place → Rest → Start
 quote_as options p r = quote_begun p (tag_after options r) r
 
-some_same : {T : Type 0} (x y : T) → Some x ≡ Some y → x ≡ y
-some_same x y h = cc
-
 -- the marker of a definition, if one may begin
 abbrev pub marker_where : Bool → Place → Option (ℕ × Rest)
 marker_where may p = if may then definition_marker_at p.rest else None
-
-marker_by : (may : Bool) (p : Place) (marker : ℕ × Rest) → marker_where may p ≡ Some marker → definition_marker_at p.rest ≡ Some marker
-marker_by true p marker h = h
-marker_by false p marker h = cc
 
 abbrev start_of_three : Options → Place → Option ((ℕ × ℕ × ℕ) × Rest) → Option (ℕ × Rest) → Option Rest → Option Start
 start_of_three options p i m q =
@@ -35,9 +26,9 @@ start_by : (options : Options) (p : Place) (P : Start → Type 0) (i : Option ((
     → ((marker : ℕ × Rest) → i ≡ None → m ≡ Some marker → P (definition_start p marker))
     → ((r : Rest) → i ≡ None → q ≡ Some r → P (quote_as options p r))
     → (s : Start) → start_of_three options p i m q ≡ Some s → P s
-start_by options p P (Some item) m q f d g s h = subst P (some_same (item_as options p item) s h) (f item refl)
-start_by options p P None (Some marker) q f d g s h = subst P (some_same (definition_start p marker) s h) (d marker refl refl)
-start_by options p P None None (Some r) f d g s h = subst P (some_same (quote_as options p r) s h) (g r refl refl)
+start_by options p P (Some item) m q f d g s h = subst P (same_Some (item_as options p item) s h) (f item refl)
+start_by options p P None (Some marker) q f d g s h = subst P (same_Some (definition_start p marker) s h) (d marker refl refl)
+start_by options p P None None (Some r) f d g s h = subst P (same_Some (quote_as options p r) s h) (g r refl refl)
 start_by options p P None None None f d g s h = cc
 
 -- a property of the marker of an item, a definition or a block quote holds for the start of every container
@@ -49,32 +40,24 @@ pub start_cases : (options : Options) (may : Bool) (p : Place) (P : Start → Ty
 unfolding start_at
 start_cases options may p P f d g s h =
     start_by options p P (item_at p.rest) (marker_where may p) (prefix (BlockQuote None) p.rest) f
-    (λ marker none is. d marker none (marker_by may p marker is)) g s h
+    (λ marker none is. d marker none (if_some may (definition_marker_at p.rest) marker is)) g s h
 
 pub start_item : (options : Options) (may : Bool) (p : Place) (item : (ℕ × ℕ × ℕ) × Rest) → item_at p.rest ≡ Some item
     → start_at options may p ≡ Some (item_start p item.0 (task_after options p.line item.1))
 unfolding start_at
-start_item options may p item is = ap (λ i. start_of_three options p i (marker_where may p) (prefix (BlockQuote None) p.rest)) is
+start_item options may p item is = rw is refl
 
 pub start_definition : (options : Options) (may : Bool) (p : Place) (marker : ℕ × Rest) → item_at p.rest ≡ None → marker_where may p ≡ Some marker
     → start_at options may p ≡ Some (definition_start p marker)
 unfolding start_at
-start_definition options may p marker none is =
-    ap (λ i. start_of_three options p i (marker_where may p) (prefix (BlockQuote None) p.rest)) none
-    ∙ ap (λ m. start_of_three options p None m (prefix (BlockQuote None) p.rest)) is
+start_definition options may p marker none is = rw (none, is) refl
 
 pub start_quote : (options : Options) (may : Bool) (p : Place) (r : Rest) → item_at p.rest ≡ None → marker_where may p ≡ None
     → prefix (BlockQuote None) p.rest ≡ Some r → start_at options may p ≡ Some (quote_begun p (tag_after options r) r)
 unfolding start_at
-start_quote options may p r none no_marker is =
-    ap (λ i. start_of_three options p i (marker_where may p) (prefix (BlockQuote None) p.rest)) none
-    ∙ ap (λ m. start_of_three options p None m (prefix (BlockQuote None) p.rest)) no_marker
-    ∙ ap (option_map (quote_as options p)) is
+start_quote options may p r none no_marker is = rw (none, no_marker, is) refl
 
 pub start_none : (options : Options) (may : Bool) (p : Place) → item_at p.rest ≡ None → marker_where may p ≡ None → prefix (BlockQuote None) p.rest ≡ None
     → start_at options may p ≡ None
 unfolding start_at
-start_none options may p none no_marker is =
-    ap (λ i. start_of_three options p i (marker_where may p) (prefix (BlockQuote None) p.rest)) none
-    ∙ ap (λ m. start_of_three options p None m (prefix (BlockQuote None) p.rest)) no_marker
-    ∙ ap (option_map (quote_as options p)) is
+start_none options may p none no_marker is = rw (none, no_marker, is) refl

@@ -1,16 +1,20 @@
 -- The prefixes of containers and the indentation of a line have only the bytes `>`, space and tab.
-use Rattle.std.proofs.Common.{◌≡◌, ℕ, zero, suc, ◌+◌, ◌-◌, ◌%◌, ◌==◌, ◌||◌, Bool, true, false, List, [], ◌∷◌, ◌++◌, length, Option, Some, None, refl, sym, ap}
-use Rattle.std.proofs.Common.{subst, ◌∙◌, append_assoc, arith, length-append, if◌then◌else◌}
-use Rattle.std.specs.Option.{option_map, option_and_then}
+use Rattle.std.proofs.Common.{◌≡◌, ℕ, zero, suc, ◌+◌, ◌-◌, ◌%◌, ◌==◌, ◌||◌, Bool, true, false, List, [], ◌∷◌, ◌++◌, length, Option, Some, None, refl, sym}
+use Rattle.std.proofs.Common.{ap, subst, ◌∙◌, append_assoc, arith, length-append, if◌then◌else◌, option_map}
+use Rattle.first_pass_grammar.proofs.Common.{or_right, none-some, same_Some, cond_some, space, greater_than, Rest, past_quote_byte, past_quote}
+use Rattle.first_pass_grammar.proofs.Common.{column_of_byte, column_of, next_column, after_columns, after-more, after-none, has_columns, prefix, after}
+use Rattle.first_pass_grammar.proofs.Common.{or_shorter, front}
 use Rattle.std.specs.List.{list_all}
 use Rattle.std.proofs.lemmas.List.Folds.{list_all-append}
-use Rattle.std.proofs.lemmas.Option.{none-some, same_Some}
-use Rattle.first_pass_items.specs.Bytes.{tab, space, greater_than}
-use Rattle.first_pass_lines.specs.Rest.{Rest, past_byte, past_quote_byte, past_quote, column_of_byte, column_of, next_column, after_columns}
-use Rattle.first_pass_lines.proofs.Columns.{after-more, after-none}
+use Rattle.std.proofs.lemmas.Option.{option_and_then_some}
+use Rattle.first_pass_items.specs.Bytes.{tab}
+use Rattle.first_pass_lines.specs.Rest.{past_byte}
 use Rattle.first_pass_grammar.specs.declared.kind.Container.{Container}
 use Rattle.first_pass_grammar.specs.declared.kind.Container.TheVariants.{BlockQuote, ListItem, FootnoteDefinition, Definition}
-use Rattle.first_pass_grammar.specs.Containers.{has_columns, prefix, after, or_shorter, front}
+
+pub if_some : {A : Type 0} (t : Bool) (o : Option A) (x : A) → (if t then o else None) ≡ Some x → o ≡ Some x
+if_some true o x h = h
+if_some false o x h = absurd (none-some x h)
 
 -- a byte of the prefix of a container or of indentation
 abbrev pub is_prefix_byte : ℕ → Bool
@@ -37,20 +41,16 @@ skips_both r s q h k = record {
 skips_one : (r s : Rest) (b : ℕ) → r.left ≡ b ∷ s.left → s.taken ≡ r.taken + 1 → is_prefix_byte b ≡ true → Skips r s
 skips_one r s b left taken plain = record { bytes = b ∷ []; left = left; taken = taken; plain = rw plain refl }
 
-plain_or : (t : Bool) → (t || true) ≡ true
-plain_or true = refl
-plain_or false = refl
-
 -- columns
 column_by : (t u : Bool) (r s : Rest) (b : ℕ) (bs : List ℕ) → r.left ≡ b ∷ bs → (b == space) ≡ t → (b == tab) ≡ u
     → (if t then Some (past_byte r bs) else (if u then Some (record { left = bs; taken = r.taken + 1; owed = 3 - r.column % 4; column = 0 }) else None))
     ≡ Some s
     → Skips r s
 column_by true u r s b bs e f g h =
-    subst (Skips r) (same_Some (past_byte r bs) s h) (skips_one r (past_byte r bs) b e refl (rw f (plain_or (b == greater_than))))
+    subst (Skips r) (same_Some (past_byte r bs) s h) (skips_one r (past_byte r bs) b e refl (rw f (or_right (b == greater_than) true refl)))
 column_by false true r s b bs e f g h =
     let q : Rest = record { left = bs; taken = r.taken + 1; owed = 3 - r.column % 4; column = 0 } in
-    subst (Skips r) (same_Some q s h) (skips_one r q b e refl (rw (f, g) (plain_or (b == greater_than))))
+    subst (Skips r) (same_Some q s h) (skips_one r q b e refl (rw (f, g) (or_right (b == greater_than) true refl)))
 column_by false false r s b bs e f g h = absurd (none-some s h)
 
 column_byte : (r s : Rest) (bs : List ℕ) → r.left ≡ bs → column_of_byte r bs ≡ Some s → Skips r s
@@ -72,45 +72,31 @@ columns_skip zero r = skips_none r
 columns_skip (suc k) r = columns_step k r (next_column r) refl (columns_skip k)
 
 -- the marker of a block quote
-quote_by : (t : Bool) (r s : Rest) (b : ℕ) (bs : List ℕ) → r.left ≡ b ∷ bs → (b == greater_than) ≡ t → (if t then Some (past_byte r bs) else None) ≡ Some s
-    → Skips r s
-quote_by true r s b bs e f h = subst (Skips r) (same_Some (past_byte r bs) s h) (skips_one r (past_byte r bs) b e refl (rw f refl))
-quote_by false r s b bs e f h = absurd (none-some s h)
-
 quote_byte : (r s : Rest) (bs : List ℕ) → r.left ≡ bs → past_quote_byte r bs ≡ Some s → Skips r s
 quote_byte r s [] e h = absurd (none-some s h)
-quote_byte r s (b ∷ bs) e h = quote_by (b == greater_than) r s b bs e refl h
-
-quote_if : (t : Bool) (r s : Rest) → (if t then past_quote_byte r r.left else None) ≡ Some s → Skips r s
-quote_if true r s h = quote_byte r s r.left refl h
-quote_if false r s h = absurd (none-some s h)
+quote_byte r s (b ∷ bs) e h =
+    let (is, same) = cond_some (b == greater_than) (past_byte r bs) s h in
+    subst (Skips r) same (skips_one r (past_byte r bs) b e refl (rw is refl))
 
 -- the prefixes of a container, of a path, and of the part of a path that a line continues
 mapped_by : (o : Option Rest) (r s : Rest) → ((q : Rest) → o ≡ Some q → Skips r q) → option_map (after_columns 1) o ≡ Some s → Skips r s
 mapped_by None r s f h = absurd (none-some s h)
 mapped_by (Some q) r s f h = subst (Skips r) (same_Some (after_columns 1 q) s h) (skips_both r q (after_columns 1 q) (f q refl) (columns_skip 1 q))
 
-columns_if : (t : Bool) (n : ℕ) (r s : Rest) → (if t then Some (after_columns n r) else None) ≡ Some s → Skips r s
-columns_if true n r s h = subst (Skips r) (same_Some (after_columns n r) s h) (columns_skip n r)
-columns_if false n r s h = absurd (none-some s h)
-
 pub prefix_skips : (c : Container) (r s : Rest) → prefix c r ≡ Some s → Skips r s
 unfolding prefix
 prefix_skips (BlockQuote kind) r s h =
     let three : Rest = after_columns 3 r in
-    mapped_by (past_quote three) r s (λ q e. skips_both r three q (columns_skip 3 r) (quote_if (three.owed == 0) three q e)) h
-prefix_skips (ListItem n) r s h = columns_if (has_columns n r) n r s h
-prefix_skips (FootnoteDefinition n) r s h = columns_if (has_columns n r) n r s h
-prefix_skips (Definition n) r s h = columns_if (has_columns n r) n r s h
-
-after_by : (c : Container) (o : Option Rest) (r s : Rest) → ((q : Rest) → o ≡ Some q → Skips r q) → option_and_then (prefix c) o ≡ Some s → Skips r s
-after_by c None r s f h = absurd (none-some s h)
-after_by c (Some q) r s f h = skips_both r q s (f q refl) (prefix_skips c q s h)
+    mapped_by (past_quote three) r s (λ q e. skips_both r three q (columns_skip 3 r) (quote_byte three q three.left refl (if_some (three.owed == 0) _ q e))) h
+prefix_skips (ListItem n) r s h = subst (Skips r) (cond_some (has_columns n r) (after_columns n r) s h).1 (columns_skip n r)
+prefix_skips (FootnoteDefinition n) r s h = subst (Skips r) (cond_some (has_columns n r) (after_columns n r) s h).1 (columns_skip n r)
+prefix_skips (Definition n) r s h = subst (Skips r) (cond_some (has_columns n r) (after_columns n r) s h).1 (columns_skip n r)
 
 pub after_skips : (path : List Container) (r s : Rest) → after path r ≡ Some s → Skips r s
 unfolding after
 after_skips [] r s h = subst (Skips r) (same_Some r s h) (skips_none r)
-after_skips (c ∷ path) r s h = after_by c (after path r) r s (after_skips path r) h
+after_skips (c ∷ path) r s h =
+    option_and_then_some (prefix c) (after path r) s h (λ q e g. skips_both r q s (after_skips path r q e) (prefix_skips c q s g))
 
 front_by : (o : Option Rest) (r s : Rest) → ((q : Rest) → o ≡ Some q → Skips r q) → Skips r s → Skips r (or_shorter o s)
 front_by None r s f h = h

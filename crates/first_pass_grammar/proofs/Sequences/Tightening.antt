@@ -1,26 +1,15 @@
 -- The nodes after a list is closed are those of a tight list in the grammar.
 use Rattle.std.proofs.Common.{◌≡◌, ℕ, zero, suc, ◌+◌, ◌<◌, ◌≤◌, Bool, true, false, not, eqb, List, [], ◌∷◌, ◌++◌, length, map, Option, refl, ap, ◌∙◌, arith}
-use Rattle.std.proofs.Common.{eq-eqb, if◌then◌else◌, Option, Some, None, option_map}
-use Rattle.std.specs.Option.{option_map_or}
-use Rattle.std.proofs.lemmas.List.{map-append, length-map}
-use Rattle.std.proofs.lemmas.Bool.Decides.{nat_tests}
-use Rattle.first_pass_items.specs.declared.item.Item.{Item}
-use Rattle.first_pass_items.specs.declared.item.ListFlags.{ListFlags}
-use Rattle.first_pass_items.specs.declared.item.BlockQuoteKind.{BlockQuoteKind}
-use Rattle.first_pass_items.specs.declared.item.ItemBody.TheVariants.{BlockQuote as BlockQuoteBody, List as ListBody, ListItem as ListItemBody}
-use Rattle.first_pass_items.specs.declared.item.ItemBody.TheVariants.{FootnoteDefinition as FootnoteDefinitionBody}
-use Rattle.first_pass_tree.specs.Forest.{modify, map_from, at_depth}
-use Rattle.first_pass_tree.specs.Tight.{tightened}
-use Rattle.first_pass_grammar.specs.Before.{Before, nothing, after_blank, after_block, begins_paragraph}
-use Rattle.first_pass_grammar.specs.Blocks.{LeafBlock, BlankLine, Block, Opener, QuoteMarker, ItemMarker, Skeleton, Nil, Then, Node, FootnoteMarker}
-use Rattle.first_pass_grammar.specs.Blocks.{DefinitionMarker}
-use Rattle.first_pass_grammar.specs.Rows.{What, ALeaf, AQuote, AList, AnItem, Row, Rows, End, OneOf, is_loose, list_after, row_of, container_row, rows_of}
-use Rattle.first_pass_grammar.specs.Derivation.{node_of, list_flags, row_items, tight_in, items_of, as_title}
-use Rattle.first_pass_grammar.specs.Completion.{flagged, list_closed}
-use Rattle.first_pass_grammar.specs.Rows.{AFootnote, ADefinitionList, ATitle, ADefinition, Joins, ItemsOf, DefinitionsTo, row_of_leaf, Definitions}
-use Rattle.first_pass_grammar.specs.Rows.{apart_after, definitions_of_row, is_untitled, is_run_row, definitions_first, titled, leaf_row, gap_before}
-use Rattle.first_pass_items.specs.declared.item.ItemBody.TheVariants.{DefinitionList as DefinitionListBody, DefinitionListDefinition as DefinitionBody}
-use Rattle.first_pass_tokens.proofs.BytesLemmas.{length-modify}
+use Rattle.std.proofs.Common.{eq-eqb, if◌then◌else◌, Some, None, option_map}
+use Rattle.first_pass_grammar.proofs.Common.{option_map_or, map-append, length-map, nat_tests, Item, modify, map_from, at_depth, tightened}
+use Rattle.first_pass_grammar.proofs.Common.{Before, nothing, after_blank, after_block, begins_paragraph, LeafBlock, BlankLine, Block, Opener, QuoteMarker}
+use Rattle.first_pass_grammar.proofs.Common.{ItemMarker, Skeleton, Nil, Then, Node, FootnoteMarker, DefinitionMarker, What, ALeaf, Row, Rows, End, OneOf}
+use Rattle.first_pass_grammar.proofs.Common.{is_loose, list_after, row_of, container_row, rows_of, continues_list, ATitle, Joins, ItemsOf, DefinitionsTo}
+use Rattle.first_pass_grammar.proofs.Common.{row_of_leaf, Definitions, apart_after, definitions_of_row, is_untitled, is_run_row, definitions_first, titled}
+use Rattle.first_pass_grammar.proofs.Common.{leaf_row, gap_before, row_items, tight_in, items_of, as_title, flagged, list_closed}
+use Rattle.first_pass_grammar.proofs.Common.{length-modify, cond_both}
+use Rattle.first_pass_grammar.specs.Rows.{AnItem}
+use Rattle.first_pass_grammar.specs.Rows.{ADefinition}
 
 pub eqb-same : (n : ℕ) → eqb n n ≡ true
 eqb-same n = eq-eqb n n refl
@@ -43,13 +32,8 @@ deep_tight d e (n ∷ items) h = let t = eqb-more d (e + n.0) (omega arith) in l
 deep_row : (d e : ℕ) (tight loose : Bool) (start : ℕ) (w : What) → d < e → map (tightened d) (row_items e tight loose start w) ≡ row_items e tight loose start w
 deep_row d e true loose start (ALeaf b) h = deep_tight d e b.items h
 deep_row d e false loose start (ALeaf b) h = deep_at d e b.items h
-deep_row d e tight loose start (AQuote kind x) h = ap (λ z. z ∷ []) (deep_node d e (node_of start x (BlockQuoteBody kind)) h)
-deep_row d e tight loose start (AList byte number x) h = ap (λ z. z ∷ []) (deep_node d e (node_of start x (ListBody (list_flags (not loose)) byte number)) h)
-deep_row d e tight loose start (AnItem columns x) h = ap (λ z. z ∷ []) (deep_node d e (node_of start x (ListItemBody columns)) h)
-deep_row d e tight loose start (ADefinitionList t x) h = ap (λ z. z ∷ []) (deep_node d e (node_of start x (DefinitionListBody (list_flags (not loose)))) h)
 deep_row d e tight loose start (ATitle b) h = deep_at d e (as_title b.items) h
-deep_row d e tight loose start (ADefinition columns x) h = ap (λ z. z ∷ []) (deep_node d e (node_of start x (DefinitionBody columns)) h)
-deep_row d e tight loose start (AFootnote index x) h = ap (λ z. z ∷ []) (deep_node d e (node_of start x (FootnoteDefinitionBody index)) h)
+deep_row d e tight loose start w h = ap (λ z. z ∷ []) (deep_node d e _ h)
 
 map_parts : (d : ℕ) (x a b x' a' b' : List (ℕ × Item)) → map (tightened d) x ≡ x' → map (tightened d) a ≡ a' → map (tightened d) b ≡ b'
     → map (tightened d) (x ++ (a ++ b)) ≡ x' ++ (a' ++ b')
@@ -64,26 +48,18 @@ deep_items d e tight (OneOf row inner next) h =
 
 -- No item of a list, and no title or definition of a definition list, is directly in a container.
 abbrev NoItem : What → Type 0
-NoItem (ALeaf b) = Unit {0}
-NoItem (AQuote kind e) = Unit {0}
-NoItem (AList byte number e) = Unit {0}
 NoItem (AnItem columns e) = ⊥
-NoItem (AFootnote index e) = Unit {0}
-NoItem (ADefinitionList t e) = Unit {0}
 NoItem (ATitle b) = ⊥
 NoItem (ADefinition columns e) = ⊥
+NoItem w = Unit {0}
 
 abbrev AreBlocks : Rows → Type 0
 AreBlocks End = Unit {0}
 AreBlocks (OneOf row inner next) = NoItem row.what × AreBlocks next
 
-blocks_by : (t : Bool) (row : Row) (inner next : Rows) → AreBlocks (OneOf row inner next) → AreBlocks (if t then next else OneOf row inner next)
-blocks_by true row inner next h = h.1
-blocks_by false row inner next h = h
-
 blocks_past : (joins : Joins) (r : Rows) → AreBlocks r → AreBlocks (list_after joins r)
 blocks_past joins End h = tt
-blocks_past joins (OneOf row inner next) h = blocks_by _ row inner next h
+blocks_past joins (OneOf row inner next) h = cond_both (continues_list joins row.what) _ _ AreBlocks (λ b. h.1) (λ b. h)
 
 blocks_container : (last : ℕ) (opener : Opener) (line start e : ℕ) (gap : Bool) (inner next : Rows) → AreBlocks next
     → AreBlocks (container_row last opener (row_of (record { opener = opener; line = line; start = start }) e gap) inner next)
@@ -96,14 +72,11 @@ abbrev BlocksBeside : Option Definitions → Type 0
 BlocksBeside None = Unit {0}
 BlocksBeside (Some ds) = AreBlocks ds.beside
 
-blocks_apart : (row : Row) (inner : Rows) (o : Option Definitions) → NoItem row.what → BlocksBeside o → BlocksBeside (option_map (apart_after row inner) o)
-blocks_apart row inner None h k = tt
-blocks_apart row inner (Some ds) h k = (h, k)
-
 blocks_at : (t u : Bool) (row : Row) (inner next : Rows) (o : Option Definitions) → NoItem row.what → AreBlocks next → BlocksBeside o
     → BlocksBeside (if t then definitions_of_row row inner next else (if u then option_map (apart_after row inner) o else None))
 blocks_at true u row inner next o h k l = k
-blocks_at false true row inner next o h k l = blocks_apart row inner o h l
+blocks_at false true row inner next None h k l = tt
+blocks_at false true row inner next (Some ds) h k l = (h, l)
 blocks_at false false row inner next o h k l = tt
 
 blocks_first : (r : Rows) → AreBlocks r → BlocksBeside (definitions_first r)
@@ -116,12 +89,9 @@ blocks_titled : (block : LeafBlock) (gap : Bool) (o : Option Definitions) (next 
 blocks_titled block gap None next h k = (tt, k)
 blocks_titled block gap (Some ds) next h k = (tt, h)
 
-first_if : (t : Bool) (o : Option Definitions) → BlocksBeside o → BlocksBeside (if t then o else None)
-first_if true o h = h
-first_if false o h = tt
-
 blocks_leaf : (block : LeafBlock) (gap : Bool) (next : Rows) → AreBlocks next → AreBlocks (leaf_row block gap next)
-blocks_leaf block gap next h = blocks_titled block gap _ next (first_if (begins_paragraph block.items) (definitions_first next) (blocks_first next h)) h
+blocks_leaf block gap next h =
+    blocks_titled block gap _ next (cond_both (begins_paragraph block.items) _ _ BlocksBeside (λ b. blocks_first next h) (λ b. tt)) h
 
 are_blocks : (quoted : Bool) (before : Before) (last : ℕ) (s : Skeleton) → AreBlocks (rows_of quoted before last s)
 unfolding rows_of
@@ -133,30 +103,15 @@ are_blocks quoted before last (Node head e kids next) =
     blocks_container last head.opener head.line head.start e before.counted _ _ (are_blocks quoted _ last next)
 
 -- no block quote and no list is a paragraph
-same_by : (t : Bool) (x : Item) → (if t then x else x) ≡ x
-same_by true x = refl
-same_by false x = refl
-
 same_at : (t : Bool) (d : ℕ) (x : Item) → ◌≡◌ {A = ℕ × Item} (d, if t then x else x) (d, x)
-same_at t d x = ap (λ (z : Item). (d, z)) (same_by t x)
-
-same_quote : (d k start «end» : ℕ) (kind : Option BlockQuoteKind)
-    → tightened d (k, node_of start «end» (BlockQuoteBody kind)) ≡ (k, node_of start «end» (BlockQuoteBody kind))
-same_quote d k start end kind = same_at (eqb k d) k (node_of start end (BlockQuoteBody kind))
-
-same_list : (d k start «end» byte number : ℕ) (flags : ListFlags)
-    → tightened d (k, node_of start «end» (ListBody flags byte number)) ≡ (k, node_of start «end» (ListBody flags byte number))
-same_list d k start end byte number flags = same_at (eqb k d) k (node_of start end (ListBody flags byte number))
+same_at true d x = refl
+same_at false d x = refl
 
 tight_row : (d : ℕ) (loose : Bool) (start : ℕ) (w : What) → NoItem w → map (tightened d) (row_items d false loose start w) ≡ row_items d true loose start w
 tight_row d loose start (ALeaf b) h = refl
-tight_row d loose start (AQuote kind x) h = ap (λ z. z ∷ []) (same_quote d d start x kind)
-tight_row d loose start (AList byte number x) h = ap (λ z. z ∷ []) (same_list d d start x byte number (list_flags (not loose)))
-tight_row d loose start (AnItem columns x) h = ap (λ z. z ∷ []) (same_at (eqb d d) d (node_of start x (ListItemBody columns)))
-tight_row d loose start (AFootnote index x) h = ap (λ z. z ∷ []) (same_at (eqb d d) d (node_of start x (FootnoteDefinitionBody index)))
-tight_row d loose start (ADefinitionList t x) h = ap (λ z. z ∷ []) (same_at (eqb d d) d (node_of start x (DefinitionListBody (list_flags (not loose)))))
 tight_row d loose start (ATitle b) h = absurd h
 tight_row d loose start (ADefinition columns x) h = absurd h
+tight_row d loose start w h = ap (λ z. z ∷ []) (same_at (eqb d d) d _)
 
 block_in : (loose : Bool) (w : What) → NoItem w → tight_in false loose w ≡ tight_in true loose w
 block_in loose (AnItem columns x) h = absurd h
@@ -204,30 +159,6 @@ pub length-closed : (nodes : List (ℕ × Item)) (o d : ℕ) (loose : Bool) (e :
 unfolding list_closed
 length-closed nodes o d true e = length-modify nodes o _
 length-closed nodes o d false e = length-modify (map_from (tightened d) o nodes) o _ ∙ length-front nodes o d
-
-mid_closed : (nodes more : List (ℕ × Item)) (a start some_end d byte number : ℕ) (flags : ListFlags) (loose : Bool) (e : ℕ)
-    → modify (nodes ++ (a, node_of start some_end (ListBody flags byte number)) ∷ more) (length nodes)
-    (λ x. record { start = x.start; «end» = e; body = flagged loose x.body })
-    ≡ nodes ++ (a, node_of start e (ListBody (list_flags (not loose)) byte number)) ∷ more
-mid_closed [] more a start some_end d byte number flags loose e = refl
-mid_closed (y ∷ nodes) more a start some_end d byte number flags loose e = ap (λ z. y ∷ z) (mid_closed nodes more a start some_end d byte number flags loose e)
-
-from_mid : (nodes more : List (ℕ × Item)) (a start some_end d byte number : ℕ) (flags : ListFlags)
-    → map_from (tightened d) (length nodes) (nodes ++ (a, node_of start some_end (ListBody flags byte number)) ∷ more)
-    ≡ nodes ++ (a, node_of start some_end (ListBody flags byte number)) ∷ map (tightened d) more
-from_mid [] more a start some_end d byte number flags = ap (λ z. z ∷ map (tightened d) more) (same_list d a start some_end byte number flags)
-from_mid (y ∷ nodes) more a start some_end d byte number flags = ap (λ z. y ∷ z) (from_mid nodes more a start some_end d byte number flags)
-
--- a list that is closed, whose node is the first of those that it is closed with
-pub list_closed-mid : (nodes more : List (ℕ × Item)) (a start some_end d byte number : ℕ) (flags : ListFlags) (loose : Bool) (e : ℕ)
-    → list_closed (nodes ++ (a, node_of start some_end (ListBody flags byte number)) ∷ more) (length nodes) d loose e
-    ≡ nodes ++ (a, node_of start e (ListBody (list_flags (not loose)) byte number)) ∷ (if loose then more else map (tightened d) more)
-unfolding list_closed
-list_closed-mid nodes more a start some_end d byte number flags true e = mid_closed nodes more a start some_end d byte number flags true e
-list_closed-mid nodes more a start some_end d byte number flags false e =
-    ap (λ z. modify z (length nodes) (λ x. record { start = x.start; «end» = e; body = flagged false x.body }))
-    (from_mid nodes more a start some_end d byte number flags)
-    ∙ mid_closed nodes (map (tightened d) more) a start some_end d byte number flags false e
 
 up_node : (d : ℕ) (x : Item) → tightened (suc (suc d)) (suc d, x) ≡ (suc d, x)
 up_node d x = let t : eqb (suc d) (suc (suc d)) ≡ false = grind (arith, nat_tests) in rw t refl

@@ -1,32 +1,18 @@
 -- Items that read alike: they differ at most in indices that name the same text, alignments or attributes.
-use Rattle.std.proofs.Common.{◌≡◌, ℕ, zero, suc, ◌+◌, ◌==◌, Bool, true, false, List, [], ◌∷◌, ◌++◌, map, Option, Some, None, refl, sym, ap, ◌∙◌, if◌then◌else◌}
-use Rattle.std.specs.Option.{option_and_then, option_map}
-use Rattle.std.proofs.lemmas.List.{map-append}
-use Rattle.first_pass_items.specs.declared.item.Alignment.{Alignment}
-use Rattle.first_pass_items.specs.declared.item.AlignmentIndex.{AlignmentIndex}
-use Rattle.first_pass_items.specs.declared.item.CowIndex.{CowIndex}
-use Rattle.first_pass_items.specs.declared.item.HeadingIndex.{HeadingIndex}
-use Rattle.first_pass_items.specs.declared.item.HeadingLevel.{HeadingLevel}
-use Rattle.first_pass_items.specs.declared.item.Item.{Item}
-use Rattle.first_pass_items.specs.declared.item.ItemBody.{ItemBody}
-use Rattle.first_pass_items.specs.declared.item.ItemBody.TheVariants.{Heading, SynthesizeText, FencedCodeBlock, Table, Paragraph, FootnoteDefinition}
-use Rattle.first_pass_attributes.specs.Attributes.{Attributes}
-use Rattle.first_pass_tree.specs.Forest.{at_depth, is_text}
-use Rattle.first_pass_tree.specs.Tight.{tight_body, tightened}
-use Rattle.first_pass_lines.specs.Places.{Place, offset, line_end}
-use Rattle.first_pass_tokens.specs.TreeTokens.{leaves}
-use Rattle.first_pass_tokens.specs.Chains.{touches, add_token, add_tokens}
-use Rattle.first_pass_grammar.specs.Footnotes.{NamesLabel}
-use Rattle.first_pass_grammar.specs.Names.{Names, NamesText, NamesAlignments, NamesAttributes, TextAt, AlignmentsAt, AttributesAt, Named, AText, Alignments}
-use Rattle.first_pass_grammar.specs.Names.{OfHeading, index_of, only_kind, named, read, read_nodes}
-use Rattle.first_pass_grammar.specs.Leaves.{Document, document, block_with}
-use Rattle.first_pass_grammar.specs.RawLines.{AreColumns, Ranges, range_text, range_html, raw_items, AreRawLines, spaces}
-use Rattle.first_pass_grammar.specs.Blocks.{LeafBlock, Leaf, BlankLine, Block, Opener, QuoteMarker, ItemMarker, FootnoteMarker, DefinitionMarker, label_of}
-use Rattle.first_pass_grammar.specs.Blocks.{Head, opened, Skeleton, Nil, Then, Node}
-use Rattle.first_pass_grammar.specs.Skeleton.{Continues, Line, Blanks, AtPlace, Anything, OnlyALeaf, TextOf, OnlyMark, Opening, OpensLeaf, OpensNode}
-use Rattle.first_pass_grammar.specs.Kinds.{Kind}
-use Rattle.first_pass_grammar.specs.Derivation.{node_of}
-use Rattle.first_pass_grammar.proofs.Names.NoIndex.{IsWithoutIndex, HasNoIndex, HaveNoIndex, only_read}
+use Rattle.std.proofs.Common.{◌≡◌, ℕ, zero, suc, ◌+◌, ◌==◌, Bool, true, false, List, [], ◌∷◌, ◌++◌, map, Option, Some, None, refl, sym, ap, ◌∙◌}
+use Rattle.std.proofs.Common.{if◌then◌else◌, option_and_then, option_map}
+use Rattle.first_pass_grammar.proofs.Common.{map-append, Alignment, AlignmentIndex, CowIndex, HeadingIndex, HeadingLevel, Item, ItemBody, Heading}
+use Rattle.first_pass_grammar.proofs.Common.{SynthesizeText, FencedCodeBlock, Table, Paragraph, FootnoteDefinition, Attributes, at_depth, is_text}
+use Rattle.first_pass_grammar.proofs.Common.{is_escaped, tight_body, tightened, Place, offset, line_end, leaves, touches, add_token, add_tokens, NamesLabel}
+use Rattle.first_pass_grammar.proofs.Common.{Names, NamesText, NamesAlignments, NamesAttributes, TextAt, Named, AText, index_of, only_kind, named, read}
+use Rattle.first_pass_grammar.proofs.Common.{read_nodes, Document, document, block_with, AreColumns, Ranges, range_text, range_html, raw_items, AreRawLines}
+use Rattle.first_pass_grammar.proofs.Common.{spaces, LeafBlock, Leaf, BlankLine, Block, Opener, FootnoteMarker, label_of, Head, opened, Skeleton, Nil, Then}
+use Rattle.first_pass_grammar.proofs.Common.{Node, Continues, Opening, OpensLeaf, OpensNode, Kind, node_of, is_paragraph_body}
+use Rattle.first_pass_grammar.specs.Names.{AlignmentsAt, AttributesAt, Alignments}
+use Rattle.first_pass_grammar.specs.Names.{OfHeading}
+use Rattle.first_pass_grammar.proofs.Names.NoIndex.{IsWithoutIndex, HaveNoIndex, only_read}
+use Rattle.first_pass_grammar.proofs.Each.EachOpening.{HoldsFrom}
+use Rattle.first_pass_grammar.proofs.Sequences.PlacesKept.{Anywhere}
 use Rattle.first_pass_grammar.proofs.Each.EachToken.{range_text_each, raw_each}
 
 -- the same document with other names for the indices
@@ -47,75 +33,61 @@ stands b = (b.kind, b.line, b.start)
 
 abbrev pub AlikeLeaf : Names → Names → Leaf → Leaf → Type 0
 AlikeLeaf m n BlankLine BlankLine = Unit {0}
-AlikeLeaf m n BlankLine (Block b) = ⊥
-AlikeLeaf m n (Block b) BlankLine = ⊥
 AlikeLeaf m n (Block b) (Block b') = (stands b ≡ stands b') × AlikeNodes m n b.items b'.items × (b.gap ≡ b'.gap) × (b.definitions ≡ b'.definitions)
+AlikeLeaf m n _ _ = ⊥
 
 -- the marker where blocks continue, if there is one, has no index
 abbrev pub HoldsNoIndex : Continues → Type 0
-HoldsNoIndex Line = Unit {0}
-HoldsNoIndex (Blanks e) = Unit {0}
-HoldsNoIndex (AtPlace p Anything) = Unit {0}
-HoldsNoIndex (AtPlace p OnlyALeaf) = Unit {0}
-HoldsNoIndex (AtPlace p (TextOf marker)) = HasNoIndex marker
-HoldsNoIndex (AtPlace p (OnlyMark marker blanks)) = HasNoIndex marker
+HoldsNoIndex from = HoldsFrom Anywhere IsWithoutIndex from
 
 -- an opener with the index of its label replaced by 0
 abbrev pub only_opener : Opener → Opener
-only_opener (QuoteMarker kind) = QuoteMarker kind
-only_opener (ItemMarker byte number columns) = ItemMarker byte number columns
 only_opener (FootnoteMarker columns index label) = FootnoteMarker columns (record { 0 = 0 }) label
-only_opener (DefinitionMarker columns) = DefinitionMarker columns
+only_opener o = o
 
 abbrev pub only_head : Head → Head
 only_head head = record { opener = only_opener head.opener; line = head.line; start = head.start }
 
 -- a node with the index of the container's label, if it has one
 abbrev pub label_node : Opener → List (ℕ × Item)
-label_node (QuoteMarker kind) = []
-label_node (ItemMarker byte number columns) = []
 label_node (FootnoteMarker columns index label) = (0, node_of 0 0 (FootnoteDefinition index)) ∷ []
-label_node (DefinitionMarker columns) = []
+label_node o = []
 
 -- containers that begin alike: their labels, if they have any, are named by their indices
 abbrev pub AlikeHead : Names → Names → Head → Head → Type 0
 AlikeHead m n head head' = (only_head head ≡ only_head head') × AlikeNodes m n (label_node head.opener) (label_node head'.opener)
 
 only_opened : (o : Opener) → opened (only_opener o) ≡ opened o
-only_opened (QuoteMarker kind) = refl
-only_opened (ItemMarker byte number columns) = refl
 only_opened (FootnoteMarker columns index label) = refl
-only_opened (DefinitionMarker columns) = refl
+only_opened o = refl
 
 pub opened_alike : (head head' : Head) → only_head head ≡ only_head head' → opened head.opener ≡ opened head'.opener
 opened_alike head head' is = sym (only_opened head.opener) ∙ ap (λ (h : Head). opened h.opener) is ∙ only_opened head'.opener
 
 only_label : (o : Opener) → label_of (only_opener o) ≡ label_of o
-only_label (QuoteMarker kind) = refl
-only_label (ItemMarker byte number columns) = refl
 only_label (FootnoteMarker columns index label) = refl
-only_label (DefinitionMarker columns) = refl
+only_label o = refl
 
 pub label_alike : (head head' : Head) → only_head head ≡ only_head head' → label_of head.opener ≡ label_of head'.opener
 label_alike head head' is = sym (only_label head.opener) ∙ ap (λ (h : Head). label_of h.opener) is ∙ only_label head'.opener
 
 abbrev pub AlikeOpening : Names → Names → Opening → Opening → Type 0
 AlikeOpening m n (OpensLeaf leaf there left) (OpensLeaf leaf' there' left') = AlikeLeaf m n leaf leaf' × (there ≡ there') × HoldsNoIndex there × (left ≡ left')
-AlikeOpening m n (OpensLeaf leaf there left) (OpensNode head' inside' following') = ⊥
-AlikeOpening m n (OpensNode head inside following) (OpensLeaf leaf' there' left') = ⊥
 AlikeOpening m n (OpensNode head inside following) (OpensNode head' inside' following') =
     AlikeHead m n head head' × (inside ≡ inside') × HoldsNoIndex inside × (following ≡ following')
+AlikeOpening m n _ _ = ⊥
 
 abbrev pub Alike : Names → Names → Skeleton → Skeleton → Type 0
 Alike m n Nil Nil = Unit {0}
-Alike m n Nil (Then leaf' next') = ⊥
-Alike m n Nil (Node head' e' kids' next') = ⊥
-Alike m n (Then leaf next) Nil = ⊥
 Alike m n (Then leaf next) (Then leaf' next') = AlikeLeaf m n leaf leaf' × Alike m n next next'
-Alike m n (Then leaf next) (Node head' e' kids' next') = ⊥
-Alike m n (Node head e kids next) Nil = ⊥
-Alike m n (Node head e kids next) (Then leaf' next') = ⊥
 Alike m n (Node head e kids next) (Node head' e' kids' next') = AlikeHead m n head head' × (e ≡ e') × Alike m n kids kids' × Alike m n next next'
+Alike m n _ _ = ⊥
+
+-- a relation of what equal tests choose
+pub chosen : {A : Type 0} (Related : A → A → Type 0) (t t' : Bool) (x x' y y' : A) → t ≡ t' → Related x x' → Related y y'
+    → Related (if t then x else y) (if t' then x' else y')
+chosen Related t true x x' y y' is a b = rw is a
+chosen Related t false x x' y y' is a b = rw is b
 
 -- one chain after another
 pub chains_append : (m n : Names) (xs xs' ys ys' : List Item) → AlikeChains m n xs xs' → AlikeChains m n ys ys' → AlikeChains m n (xs ++ ys) (xs' ++ ys')
@@ -137,16 +109,17 @@ abbrev join_reads : List (Item × Option Named) → List (Item × Option Named) 
 join_reads chain [] = chain
 join_reads chain (x ∷ xs) = join_reads (join_read chain x) xs
 
-only_text : (b : ItemBody) → is_text (only_kind b) ≡ is_text b
-only_text (SynthesizeText ix) = refl
-only_text (FencedCodeBlock ix) = refl
-only_text (FootnoteDefinition ix) = refl
-only_text (Table ix) = refl
-only_text (Heading level ix) = refl
-only_text b = refl
+-- an index does not change whether a body is a text, an escaped one or a paragraph
+abbrev pub text_tests : ItemBody → Bool × Bool × Bool
+text_tests b = (is_text b, is_escaped b, is_paragraph_body b)
 
-touches_read : (m : Names) (x y : Item) → touches (read m x).0 (read m y).0 ≡ touches x y
-touches_read m x y = rw (only_text x.body, only_text y.body) refl
+pub only_tests : (b : ItemBody) → text_tests (only_kind b) ≡ text_tests b
+only_tests (SynthesizeText ix) = refl
+only_tests (FencedCodeBlock ix) = refl
+only_tests (FootnoteDefinition ix) = refl
+only_tests (Table ix) = refl
+only_tests (Heading level ix) = refl
+only_tests b = refl
 
 read_joined : (m : Names) (t : Bool) (x y : Item)
     → map (read m) (if t then record x { «end» = y.«end» } ∷ [] else x ∷ y ∷ [])
@@ -157,10 +130,7 @@ read_joined m false x y = refl
 read_token : (m : Names) (chain : List Item) (y : Item) → map (read m) (add_token chain y) ≡ join_read (map (read m) chain) (read m y)
 read_token m [] y = refl
 read_token m (x ∷ []) y =
-    read_joined m (touches x y) x y
-    ∙ ap (λ (t : Bool).
-    if t then (record { start = (read m x).0.start; «end» = (read m y).0.«end»; body = (read m x).0.body }, (read m x).1) ∷ [] else read m x ∷ read m y ∷ [])
-    (sym (touches_read m x y))
+    rw (ap (λ z. z.0) (only_tests x.body), ap (λ z. z.0) (only_tests y.body)) (read_joined m (touches x y) x y)
 read_token m (x ∷ z ∷ zs) y = ap (λ r. read m x ∷ r) (read_token m (z ∷ zs) y)
 
 read_tokens : (m : Names) (chain tokens : List Item) → map (read m) (add_tokens chain tokens) ≡ join_reads (map (read m) chain) (map (read m) tokens)
@@ -182,9 +152,8 @@ named_alignments names ix alignments at = rw at refl
 named_attributes : (names : Names) (ix : Option HeadingIndex) (attributes : Option Attributes) → NamesAttributes names ix attributes
     → option_and_then (named names) (option_map AttributesAt ix) ≡ option_map OfHeading attributes
 named_attributes names None None h = refl
-named_attributes names None (Some attributes) h = absurd h
-named_attributes names (Some ix) None h = absurd h
 named_attributes names (Some ix) (Some attributes) h = rw h refl
+named_attributes names ix attributes h = absurd h
 
 -- two headings have an index each if they have the same attributes, and none if they have none
 abbrev only_index : Option HeadingIndex → Option HeadingIndex

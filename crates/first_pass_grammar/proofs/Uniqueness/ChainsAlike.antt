@@ -1,23 +1,13 @@
 -- Lines whose tokens differ only in the indices of the texts that they name read alike, and so do their chains.
-use Rattle.std.proofs.Common.{◌≡◌, ℕ, ◌+◌, ◌-◌, ◌==◌, ◌&&◌, Bool, true, false, nat_lt, List, [], ◌∷◌, ◌++◌, map, slice_get, Option, Some, None, IfSome, refl}
-use Rattle.std.proofs.Common.{sym, ap, ◌∙◌, subst, if◌then◌else◌}
-use Rattle.std.specs.Option.{option_and_then, option_map}
-use Rattle.first_pass_items.specs.declared.cow_str.CowStr.{CowStr}
-use Rattle.first_pass_items.specs.CowText.{text_of}
-use Rattle.first_pass_items.specs.declared.item.CowIndex.{CowIndex}
-use Rattle.first_pass_items.specs.declared.item.Item.{Item}
-use Rattle.first_pass_items.specs.declared.item.ItemBody.{ItemBody}
-use Rattle.first_pass_items.specs.declared.item.ItemBody.TheVariants.{Heading, SynthesizeText, FencedCodeBlock, Table}
-use Rattle.first_pass_tree.specs.Forest.{is_escaped, cut_item}
+use Rattle.std.proofs.Common.{◌≡◌, ℕ, ◌+◌, ◌-◌, ◌==◌, ◌&&◌, Bool, true, false, nat_lt, List, [], ◌∷◌, ◌++◌, map, slice_get, Option, Some, None, IfSome}
+use Rattle.std.proofs.Common.{refl, sym, ap, ◌∙◌, subst, if◌then◌else◌, option_and_then, option_map}
+use Rattle.first_pass_grammar.proofs.Common.{CowStr, text_of, CowIndex, Item, ItemBody, SynthesizeText, is_escaped, cut_item, text_token, add_token}
+use Rattle.first_pass_grammar.proofs.Common.{add_text, is_backslash_break, close_break, cut, Names, Named, AText, TextAt, index_of, only_kind, named, read}
+use Rattle.first_pass_grammar.proofs.Common.{chain_end, add_break, heading_chain, marker_items, node_of}
 use Rattle.first_pass_tokens.specs.Alike.{text_among, BodiesAlike, ItemsAlike, AreAlike}
-use Rattle.first_pass_tokens.specs.Chains.{text_token, add_token, add_text, is_backslash_break, close_break, cut}
-use Rattle.first_pass_grammar.specs.Names.{Names, Named, AText, TextAt, index_of, only_kind, named, read}
-use Rattle.first_pass_grammar.specs.Headings.{chain_end}
-use Rattle.first_pass_grammar.specs.Leaves.{add_break, heading_chain, marker_items}
-use Rattle.first_pass_grammar.specs.Derivation.{node_of}
 use Rattle.first_pass_grammar.proofs.Names.NoIndex.{HasNoIndex, HasTextIndex, only_reads}
 use Rattle.first_pass_grammar.proofs.Each.EachToken.{AreEach}
-use Rattle.first_pass_grammar.proofs.Uniqueness.Alike.{AlikeChains, chains_append, tokens_alike}
+use Rattle.first_pass_grammar.proofs.Uniqueness.Alike.{AlikeChains, chains_append, tokens_alike, only_tests, chosen}
 
 -- the index of a text names the text at its place among those that are named
 read_text : (o : Option CowStr) → option_map (λ (cow : CowStr). AText (text_of cow)) o ≡ option_map AText (option_map text_of o)
@@ -49,31 +39,24 @@ item_reads m n x y free h =
 -- tokens that are alike read alike
 pub alike_reads : (m n : Names) (xs ys : List Item) → AreEach HasTextIndex xs → AreAlike m.texts n.texts xs ys → AlikeChains m n xs ys
 alike_reads m n [] [] free h = refl
-alike_reads m n [] (y ∷ ys) free h = absurd h
-alike_reads m n (x ∷ xs) [] free h = absurd h
 alike_reads m n (x ∷ xs) (y ∷ ys) free h =
     let first = item_reads m n x y free.0 h.0 in
     let more = alike_reads m n xs ys free.1 h.1 in
     λ i. first i ∷ more i
-
--- one chain or the other
-unless_alike : (m n : Names) (t : Bool) (xs ys us vs : List Item) → AlikeChains m n xs us → AlikeChains m n ys vs
-    → AlikeChains m n (if t then xs else ys) (if t then us else vs)
-unless_alike m n true xs ys us vs h k = h
-unless_alike m n false xs ys us vs h k = k
+alike_reads m n xs ys free h = absurd h
 
 -- chains with a text added to each
 text_alike : (m n : Names) (from to : ℕ) (escaped : Bool) (xs us : List Item) → AlikeChains m n xs us
     → AlikeChains m n (add_text from to escaped xs) (add_text from to escaped us)
 text_alike m n from to escaped xs us h =
     let x : Item = text_token from to escaped in
-    unless_alike m n (nat_lt from to) (add_token xs x) xs (add_token us x) us (tokens_alike m n xs us (x ∷ []) (x ∷ []) h refl) h
+    chosen (AlikeChains m n) (nat_lt from to) _ (add_token xs x) (add_token us x) xs us refl (tokens_alike m n xs us (x ∷ []) (x ∷ []) h refl) h
 
 -- chains with a break added to each, or with the part of the break that stays after the last line
 pub close_alike : (m n : Names) (o : Option Item) (xs us : List Item) → AlikeChains m n xs us → AlikeChains m n (close_break o xs) (close_break o us)
 close_alike m n None xs us h = h
 close_alike m n (Some x) xs us h =
-    unless_alike m n (is_backslash_break x.body) (add_text x.start (x.start + 1) false xs) xs (add_text x.start (x.start + 1) false us) us
+    chosen (AlikeChains m n) (is_backslash_break x.body) _ (add_text x.start (x.start + 1) false xs) (add_text x.start (x.start + 1) false us) xs us refl
     (text_alike m n x.start (x.start + 1) false xs us h) h
 
 pub break_alike : (m n : Names) (o : Option Item) (xs us : List Item) → IfSome o HasNoIndex → AlikeChains m n xs us
@@ -114,38 +97,20 @@ cut_read e (x ∷ xs) =
     then cut_read_item e x ∷ cut_read e xs
     else (if is_escaped x.0.body && (x.0.start == e) then (text_token (e - 1) e false, None) ∷ [] else [])
 
-only_escaped : (b : ItemBody) → is_escaped (only_kind b) ≡ is_escaped b
-only_escaped (SynthesizeText ix) = refl
-only_escaped (FencedCodeBlock ix) = refl
-only_escaped (Table ix) = refl
-only_escaped (Heading level ix) = refl
-only_escaped b = refl
-
-item_cut_by : (m : Names) (t : Bool) (e : ℕ) (x : Item)
-    → read m (if t then record x { «end» = e } else x) ≡ ((if t then record (read m x).0 { «end» = e } else (read m x).0), (read m x).1)
-item_cut_by m true e x = refl
-item_cut_by m false e x = refl
-
-item_cut : (m : Names) (e : ℕ) (x : Item) → read m (cut_item e x) ≡ cut_read_item e (read m x)
-item_cut m e x = item_cut_by m (nat_lt e x.«end») e x
-
-read_unless : (m : Names) (t : Bool) (xs ys : List Item) → map (read m) (if t then xs else ys) ≡ (if t then map (read m) xs else map (read m) ys)
-read_unless m true xs ys = refl
-read_unless m false xs ys = refl
+cut_by : (m : Names) (e : ℕ) (x : Item) (xs : List Item) (rest : List (Item × Option Named)) (t u v : Bool) → map (read m) xs ≡ rest
+    → map (read m) (if t then (if v then record x { «end» = e } else x) ∷ xs else (if u then text_token (e - 1) e false ∷ [] else []))
+    ≡ (if t then ((if v then record (read m x).0 { «end» = e } else (read m x).0), (read m x).1) ∷ rest
+    else (if u then (text_token (e - 1) e false, None) ∷ [] else []))
+cut_by m e x xs rest true u true h = ap (λ z. read m (record x { «end» = e }) ∷ z) h
+cut_by m e x xs rest true u false h = ap (λ z. read m x ∷ z) h
+cut_by m e x xs rest false true v h = refl
+cut_by m e x xs rest false false v h = refl
 
 read_cut : (m : Names) (e : ℕ) (xs : List Item) → map (read m) (cut e xs) ≡ cut_read e (map (read m) xs)
 read_cut m e [] = refl
 read_cut m e (x ∷ xs) =
-    let escaped : Bool = is_escaped x.body && (x.start == e) in
-    let rest : List Item = if escaped then text_token (e - 1) e false ∷ [] else [] in
-    let same : map (read m) (cut_item e x ∷ cut e xs) ≡ cut_read_item e (read m x) ∷ cut_read e (map (read m) xs) =
-    ap (λ z. z ∷ map (read m) (cut e xs)) (item_cut m e x) ∙ ap (λ z. cut_read_item e (read m x) ∷ z) (read_cut m e xs) in
-    let last : map (read m) rest ≡ (if is_escaped (read m x).0.body && (x.start == e) then (text_token (e - 1) e false, None) ∷ [] else []) =
-    read_unless m escaped (text_token (e - 1) e false ∷ []) []
-    ∙ ap (λ (t : Bool). if t && (x.start == e) then (text_token (e - 1) e false, None) ∷ [] else []) (sym (only_escaped x.body)) in
-    read_unless m (nat_lt x.start e) (cut_item e x ∷ cut e xs) rest
-    ∙ ap (λ z. if nat_lt x.start e then z else map (read m) rest) same
-    ∙ ap (λ z. if nat_lt x.start e then cut_read_item e (read m x) ∷ cut_read e (map (read m) xs) else z) last
+    rw (ap (λ z. z.1) (only_tests x.body))
+    (cut_by m e x (cut e xs) _ (nat_lt x.start e) (is_escaped x.body && (x.start == e)) (nat_lt e x.«end») (read_cut m e xs))
 
 pub cut_alike : (m n : Names) (e : ℕ) (xs us : List Item) → AlikeChains m n xs us → AlikeChains m n (cut e xs) (cut e us)
 cut_alike m n e xs us h = read_cut m e xs ∙ ap (cut_read e) h ∙ sym (read_cut n e us)
@@ -154,4 +119,4 @@ pub heading_chain_alike : (m n : Names) (kept start : ℕ) (xs us : List Item) �
     → AlikeChains m n (heading_chain kept start xs) (heading_chain kept start us)
 unfolding heading_chain
 heading_chain_alike m n kept start xs us h =
-    unless_alike m n (kept == 0) [] (cut (start + kept) xs) [] (cut (start + kept) us) refl (cut_alike m n (start + kept) xs us h)
+    chosen (AlikeChains m n) (kept == 0) _ [] [] (cut (start + kept) xs) (cut (start + kept) us) refl refl (cut_alike m n (start + kept) xs us h)

@@ -1,25 +1,14 @@
 -- Paragraphs and headings have one chain, apart from the indices of the texts that it names.
-use Rattle.std.proofs.Common.{◌≡◌, inl, inr, ℕ, List, [], ◌∷◌, Option, IfSome, refl, sym, ap, ◌∙◌, subst}
-use Rattle.first_pass_items.specs.declared.item.HeadingIndex.{HeadingIndex}
-use Rattle.first_pass_items.specs.declared.item.Item.{Item}
-use Rattle.first_pass_lines.specs.Places.{Place, offset}
-use Rattle.first_pass_tokens.specs.Pieces.{Inline}
-use Rattle.first_pass_tokens.specs.Braces.{MathBraces}
-use Rattle.first_pass_tokens.specs.LineTokens.{Spot, spot, AreLineTokens}
-use Rattle.first_pass_tokens.specs.Chains.{add_tokens, close_break}
+use Rattle.std.proofs.Common.{◌≡◌, inl, inr, ℕ, List, [], ◌∷◌, Option, IfSome, refl, sym, ap, ◌∙◌, subst, true≢false}
+use Rattle.first_pass_grammar.proofs.Common.{HeadingIndex, Item, Place, offset, Inline, MathBraces, Spot, spot, AreLineTokens, add_tokens, close_break}
+use Rattle.first_pass_grammar.proofs.Common.{Names, at_rest, front, unindented, before_attributes, Document, content_at, heading_content, heading_chain}
+use Rattle.first_pass_grammar.proofs.Common.{kept_len, line_bytes, add_break, IsHeading, TextLines, text_lines, AreTextLines}
 use Rattle.first_pass_tokens.proofs.AlikeLemmas.{one_line}
 use Rattle.first_pass_grammar.specs.declared.kind.Container.{Container}
-use Rattle.first_pass_grammar.specs.Names.{Names}
-use Rattle.first_pass_grammar.specs.Containers.{at_rest, front}
-use Rattle.first_pass_grammar.specs.Kinds.{unindented}
-use Rattle.first_pass_grammar.specs.Headings.{before_attributes}
-use Rattle.first_pass_grammar.specs.Leaves.{Document, content_at, heading_content, heading_chain, kept_len, line_bytes, add_break, IsHeading, TextLines}
-use Rattle.first_pass_grammar.specs.Leaves.{text_lines, AreTextLines}
 use Rattle.first_pass_grammar.proofs.Names.NoIndex.{IsWithoutIndex, HasNoIndex, HasTextIndex, tokens_textual}
 use Rattle.first_pass_grammar.proofs.Each.EachToken.{line_each, break_each}
 use Rattle.first_pass_grammar.proofs.Uniqueness.Alike.{with_names, AlikeChains, tokens_alike}
 use Rattle.first_pass_grammar.proofs.Uniqueness.ChainsAlike.{alike_reads, close_alike, break_alike, heading_chain_alike}
-use Rattle.std.proofs.lemmas.Bool.{true≢false}
 
 -- two readings of a line have tokens that read alike, the same end and break, and the same brace contexts after them
 one_line_read : (d : Document) (n : Names) (s : Inline) (k k' : List Item) (a a' : ℕ × Option Item) (b b' : MathBraces) → AreLineTokens d.names.texts s k a b

@@ -1,32 +1,25 @@
 -- The rows of skeletons that are alike are alike too, and their items read alike.
 use Rattle.std.proofs.Common.{◌≡◌, ℕ, suc, ◌||◌, ◌&&◌, not, Bool, true, false, List, [], ◌∷◌, ◌++◌, map, Option, Some, None, refl, sym, ap, ◌∙◌, subst}
-use Rattle.std.proofs.Common.{if◌then◌else◌}
-use Rattle.first_pass_items.specs.declared.item.Item.{Item}
+use Rattle.std.proofs.Common.{if◌then◌else◌, option_map}
+use Rattle.first_pass_grammar.proofs.Common.{Item, DefinitionListTitle, at_depth, Names, Named, read_nodes, Kind, LeafBlock, BlankLine, Block, Head, Opener}
+use Rattle.first_pass_grammar.proofs.Common.{QuoteMarker, ItemMarker, FootnoteMarker, DefinitionMarker, opened, label_of, Skeleton, Nil, Then, Node}
+use Rattle.first_pass_grammar.proofs.Common.{LinkEntry, with_links, with_labels, Before, LastOther, nothing, after_blank, after_block, after_container}
+use Rattle.first_pass_grammar.proofs.Common.{before_end, LastParagraph, is_paragraph_body, begins_paragraph, is_run, is_quote, What, ALeaf, AFootnote, Row}
+use Rattle.first_pass_grammar.proofs.Common.{Rows, End, OneOf, gapped, any_gap, is_loose, Joins, ItemsOf, DefinitionsTo, ATitle, continues_list}
+use Rattle.first_pass_grammar.proofs.Common.{Definitions, apart_after, definitions_of_row, is_untitled, is_run_row, definitions_first, titled, leaf_row}
+use Rattle.first_pass_grammar.proofs.Common.{gap_before, end_of_row, list_until, items_after, list_after, row_of, row_of_leaf, container_row, rows_of}
+use Rattle.first_pass_grammar.proofs.Common.{what_of, as_title, Tables, definitions_of, footnotes_of, with_all_of, node_of, list_flags, row_items, tight_in}
+use Rattle.first_pass_grammar.proofs.Common.{items_of, option_map_or}
 use Rattle.first_pass_items.specs.declared.item.ItemBody.TheVariants.{BlockQuote as BlockQuoteBody, List as ListBody, ListItem as ListItemBody}
-use Rattle.first_pass_items.specs.declared.item.ItemBody.TheVariants.{FootnoteDefinition as FootnoteDefinitionBody}
-use Rattle.first_pass_tree.specs.Forest.{at_depth}
+use Rattle.first_pass_items.specs.declared.item.ItemBody.TheVariants.{FootnoteDefinition as FootnoteDefinitionBody, DefinitionList as DefinitionListBody}
+use Rattle.first_pass_items.specs.declared.item.ItemBody.TheVariants.{DefinitionListDefinition as DefinitionBody}
 use Rattle.first_pass_grammar.specs.declared.kind.Container.{Container}
-use Rattle.first_pass_grammar.specs.Names.{Names, Named, read_nodes, only_kind}
-use Rattle.first_pass_grammar.specs.Kinds.{Kind}
-use Rattle.first_pass_grammar.specs.Blocks.{LeafBlock, BlankLine, Block, Head, Opener, QuoteMarker, ItemMarker, FootnoteMarker, DefinitionMarker, opened}
-use Rattle.first_pass_grammar.specs.Blocks.{label_of, Skeleton, Nil, Then, Node}
-use Rattle.first_pass_grammar.specs.LinkTables.{LinkEntry, with_links, with_labels}
-use Rattle.first_pass_grammar.specs.Before.{Before, LastOther, nothing, after_blank, after_block, after_container, before_end}
-use Rattle.first_pass_grammar.specs.Containers.{is_quote}
-use Rattle.first_pass_grammar.specs.Rows.{What, ALeaf, AQuote, AList, AnItem, AFootnote, Row, Rows, End, OneOf, gapped, any_gap, is_loose, Joins, ItemsOf}
-use Rattle.first_pass_grammar.specs.Rows.{DefinitionsTo, Untitled, WithTitle, Apart, ADefinitionList, ATitle, ADefinition, continues_list, end_of_list_before}
-use Rattle.first_pass_grammar.specs.Rows.{Definitions, apart_after, definitions_of_row, is_untitled, is_run_row, definitions_first, titled, leaf_row}
-use Rattle.first_pass_grammar.specs.Rows.{gap_before, end_of_row, list_until, items_after, list_after, row_of, row_of_leaf, container_row, rows_of, in_list}
-use Rattle.first_pass_grammar.specs.Rows.{what_of}
-use Rattle.first_pass_grammar.specs.Before.{LastParagraph, is_paragraph_body, begins_paragraph, is_run, is_after_definition, last_after_run}
-use Rattle.first_pass_grammar.specs.Derivation.{as_title}
-use Rattle.std.specs.Option.{option_map, option_map_or}
-use Rattle.first_pass_items.specs.declared.item.ItemBody.{ItemBody}
-use Rattle.first_pass_items.specs.declared.item.ItemBody.TheVariants.{DefinitionList as DefinitionListBody, DefinitionListDefinition as DefinitionBody}
-use Rattle.first_pass_items.specs.declared.item.ItemBody.TheVariants.{DefinitionListTitle, SynthesizeText, FencedCodeBlock, Table, Heading}
-use Rattle.first_pass_grammar.specs.Derivation.{Tables, definitions_of, footnotes_of, with_all_of, node_of, list_flags, row_items, tight_in, items_of}
-use Rattle.first_pass_grammar.proofs.Uniqueness.Alike.{AlikeNodes, AlikeLeaf, AlikeHead, stands, only_head, only_opener, label_node, opened_alike, label_alike}
-use Rattle.first_pass_grammar.proofs.Uniqueness.Alike.{Alike, nodes_append, tight_read, read_tight, read_at_depth}
+use Rattle.first_pass_grammar.specs.Before.{is_after_definition, last_after_run}
+use Rattle.first_pass_grammar.specs.Rows.{AQuote, AList, AnItem}
+use Rattle.first_pass_grammar.specs.Rows.{Untitled, WithTitle, Apart, ADefinitionList, ADefinition, end_of_list_before}
+use Rattle.first_pass_grammar.specs.Rows.{in_list}
+use Rattle.first_pass_grammar.proofs.Uniqueness.Alike.{AlikeNodes, AlikeLeaf, AlikeHead, stands, only_head, only_opener, label_node, opened_alike, chosen}
+use Rattle.first_pass_grammar.proofs.Uniqueness.Alike.{label_alike, only_tests, Alike, nodes_append, tight_read, read_tight, read_at_depth}
 
 -- a row without the items of its leaf block and the index of its label; the next definition: only these
 abbrev bare_what : What → What
@@ -49,106 +42,85 @@ AlikeRow m n row row' = (bare row ≡ bare row') × AlikeNodes m n (inside row.w
 
 abbrev AlikeRows : Names → Names → Rows → Rows → Type 0
 AlikeRows m n End End = Unit {0}
-AlikeRows m n End (OneOf row' inner' next') = ⊥
-AlikeRows m n (OneOf row inner next) End = ⊥
 AlikeRows m n (OneOf row inner next) (OneOf row' inner' next') = AlikeRow m n row row' × AlikeRows m n inner inner' × AlikeRows m n next next'
+AlikeRows m n _ _ = ⊥
 
-list_bare : (joins : Joins) (w : What) → continues_list joins (bare_what w) ≡ continues_list joins w
-list_bare (ItemsOf byte) (ALeaf b) = refl
-list_bare (ItemsOf byte) (AFootnote index e) = refl
-list_bare (ItemsOf byte) (ATitle b) = refl
-list_bare (ItemsOf byte) w = refl
-list_bare (DefinitionsTo e) (ALeaf b) = refl
-list_bare (DefinitionsTo e) (AFootnote index x) = refl
-list_bare (DefinitionsTo e) (ATitle b) = refl
-list_bare (DefinitionsTo e) w = refl
+-- what rows say of lists and definitions does not depend on that
+abbrev facts : Joins → ℕ → Bool → Bool → Row → Bool × ℕ × ℕ × Bool × Bool × Bool
+facts joins last tight loose row = (
+  continues_list joins row.what,
+  end_of_row row.what last,
+  end_of_list_before joins row,
+  tight_in tight loose row.what,
+  is_untitled row.what,
+  is_run_row row.what,
+)
 
-tight_bare : (tight loose : Bool) (w : What) → tight_in tight loose (bare_what w) ≡ tight_in tight loose w
-tight_bare tight loose (ALeaf b) = refl
-tight_bare tight loose (AFootnote index e) = refl
-tight_bare tight loose (ATitle b) = refl
-tight_bare tight loose w = refl
+facts_bare : (joins : Joins) (last : ℕ) (tight loose : Bool) (line start : ℕ) (gap : Bool) (w : What)
+    → facts joins last tight loose (record { what = bare_what w; line = line; start = start; gap = gap })
+    ≡ facts joins last tight loose (record { what = w; line = line; start = start; gap = gap })
+facts_bare (ItemsOf byte) last tight loose line start gap (ALeaf b) = refl
+facts_bare (ItemsOf byte) last tight loose line start gap (AFootnote index e) = refl
+facts_bare (ItemsOf byte) last tight loose line start gap (ATitle b) = refl
+facts_bare (ItemsOf byte) last tight loose line start gap w = refl
+facts_bare (DefinitionsTo e) last tight loose line start gap (ALeaf b) = refl
+facts_bare (DefinitionsTo e) last tight loose line start gap (AFootnote index x) = refl
+facts_bare (DefinitionsTo e) last tight loose line start gap (ATitle b) = refl
+facts_bare (DefinitionsTo e) last tight loose line start gap w = refl
 
-abbrev until_at : Joins → ℕ → Row → ℕ
-until_at joins last row = if continues_list joins row.what then end_of_row row.what last else end_of_list_before joins row
-
-until_what : (joins : Joins) (last line start : ℕ) (gap : Bool) (w : What)
-    → until_at joins last (record { what = bare_what w; line = line; start = start; gap = gap })
-    ≡ until_at joins last (record { what = w; line = line; start = start; gap = gap })
-until_what (ItemsOf byte) last line start gap (ALeaf b) = refl
-until_what (ItemsOf byte) last line start gap (AFootnote index e) = refl
-until_what (ItemsOf byte) last line start gap (ATitle b) = refl
-until_what (ItemsOf byte) last line start gap w = refl
-until_what (DefinitionsTo e) last line start gap (ALeaf b) = refl
-until_what (DefinitionsTo e) last line start gap (AFootnote index x) = refl
-until_what (DefinitionsTo e) last line start gap (ATitle b) = refl
-until_what (DefinitionsTo e) last line start gap w = refl
+facts_alike : (m n : Names) (joins : Joins) (last : ℕ) (tight loose : Bool) (row row' : Row) → AlikeRow m n row row'
+    → facts joins last tight loose row ≡ facts joins last tight loose row'
+facts_alike m n joins last tight loose row row' a =
+    sym (facts_bare joins last tight loose row.line row.start row.gap row.what) ∙ ap (facts joins last tight loose) a.0
+    ∙ facts_bare joins last tight loose row'.line row'.start row'.gap row'.what
 
 same_list : (m n : Names) (joins : Joins) (row row' : Row) → AlikeRow m n row row' → continues_list joins row.what ≡ continues_list joins row'.what
-same_list m n joins row row' a = sym (list_bare joins row.what) ∙ ap (λ (r : Row). continues_list joins r.what) a.0 ∙ list_bare joins row'.what
+same_list m n joins row row' a = ap (λ z. z.0) (facts_alike m n joins 0 false false row row' a)
 
 gapped_alike : (m n : Names) (gap gap' : Bool) (r r' : Rows) → gap ≡ gap' → AlikeRows m n r r' → AlikeRows m n (gapped gap r) (gapped gap' r')
 gapped_alike m n gap gap' End End is a = tt
-gapped_alike m n gap gap' End (OneOf row' inner' next') is a = absurd a
-gapped_alike m n gap gap' (OneOf row inner next) End is a = absurd a
 gapped_alike m n gap gap' (OneOf row inner next) (OneOf row' inner' next') is a =
     let with_gap : Bool → Row → Row = λ g r. record { what = r.what; line = r.line; start = r.start; gap = g } in
     ((ap (with_gap gap) a.0.0 ∙ ap (λ g. with_gap g (bare row')) is, a.0.1), a.1, a.2)
+gapped_alike m n gap gap' r r' is a = absurd a
 
 any_alike : (m n : Names) (r r' : Rows) → AlikeRows m n r r' → any_gap r ≡ any_gap r'
 unfolding any_gap
 any_alike m n End End a = refl
-any_alike m n End (OneOf row' inner' next') a = absurd a
-any_alike m n (OneOf row inner next) End a = absurd a
 any_alike m n (OneOf row inner next) (OneOf row' inner' next') a = ap (λ (z : Row). z.gap || any_gap next) a.0.0
     ∙ ap (λ z. row'.gap || z) (any_alike m n next next' a.2)
+any_alike m n r r' a = absurd a
 
 loose_alike : (m n : Names) (r r' : Rows) → AlikeRows m n r r' → is_loose r ≡ is_loose r'
 unfolding is_loose
 loose_alike m n End End a = refl
-loose_alike m n End (OneOf row' inner' next') a = absurd a
-loose_alike m n (OneOf row inner next) End a = absurd a
 loose_alike m n (OneOf row inner next) (OneOf row' inner' next') a =
     ap (λ (z : Row). z.gap || (any_gap inner || is_loose next)) a.0.0
     ∙ ap (λ z. row'.gap || (z || is_loose next)) (any_alike m n inner inner' a.1)
     ∙ ap (λ z. row'.gap || (any_gap inner' || z)) (loose_alike m n next next' a.2)
+loose_alike m n r r' a = absurd a
 
 until_alike : (m n : Names) (joins : Joins) (last : ℕ) (r r' : Rows) → AlikeRows m n r r' → list_until joins last r ≡ list_until joins last r'
 until_alike m n joins last End End a = refl
-until_alike m n joins last End (OneOf row' inner' next') a = absurd a
-until_alike m n joins last (OneOf row inner next) End a = absurd a
 until_alike m n joins last (OneOf row inner next) (OneOf row' inner' next') a =
-    sym (until_what joins last row.line row.start row.gap row.what) ∙ ap (until_at joins last) a.0.0
-    ∙ until_what joins last row'.line row'.start row'.gap row'.what
-
-chosen : (m n : Names) (t t' : Bool) (x x' y y' : Rows) → t ≡ t' → AlikeRows m n x x' → AlikeRows m n y y'
-    → AlikeRows m n (if t then x else y) (if t' then x' else y')
-chosen m n t true x x' y y' is a b = rw is a
-chosen m n t false x x' y y' is a b = rw is b
+    ap (λ (z : Bool × ℕ × ℕ × Bool × Bool × Bool). if z.0 then z.1 else z.2) (facts_alike m n joins last false false row row' a.0)
+until_alike m n joins last r r' a = absurd a
 
 items_alike : (m n : Names) (joins : Joins) (r r' : Rows) → AlikeRows m n r r' → AlikeRows m n (items_after joins r) (items_after joins r')
 items_alike m n joins End End a = tt
-items_alike m n joins End (OneOf row' inner' next') a = absurd a
-items_alike m n joins (OneOf row inner next) End a = absurd a
 items_alike m n joins (OneOf row inner next) (OneOf row' inner' next') a =
-    chosen m n _ _ (gapped row.gap inner) (gapped row'.gap inner') End End (same_list m n joins row row' a.0)
+    chosen (AlikeRows m n) _ _ (gapped row.gap inner) (gapped row'.gap inner') End End (same_list m n joins row row' a.0)
     (gapped_alike m n row.gap row'.gap inner inner' (ap (λ (z : Row). z.gap) a.0.0) a.1) tt
+items_alike m n joins r r' a = absurd a
 
 past_alike : (m n : Names) (joins : Joins) (r r' : Rows) → AlikeRows m n r r' → AlikeRows m n (list_after joins r) (list_after joins r')
 past_alike m n joins End End a = a
-past_alike m n joins End (OneOf row' inner' next') a = absurd a
-past_alike m n joins (OneOf row inner next) End a = absurd a
 past_alike m n joins (OneOf row inner next) (OneOf row' inner' next') a =
-    chosen m n _ _ next next' (OneOf row inner next) (OneOf row' inner' next') (same_list m n joins row row' a.0) a.2 a
-
-end_bare : (last : ℕ) (w : What) → end_of_row (bare_what w) last ≡ end_of_row w last
-end_bare last (ALeaf b) = refl
-end_bare last (AFootnote index e) = refl
-end_bare last (ATitle b) = refl
-end_bare last w = refl
+    chosen (AlikeRows m n) _ _ next next' (OneOf row inner next) (OneOf row' inner' next') (same_list m n joins row row' a.0) a.2 a
+past_alike m n joins r r' a = absurd a
 
 ends_alike : (m n : Names) (last : ℕ) (row row' : Row) → AlikeRow m n row row' → end_of_row row.what last ≡ end_of_row row'.what last
-ends_alike m n last row row' a = sym (end_bare last row.what) ∙ ap (λ (r : Row). end_of_row r.what last) a.0 ∙ end_bare last row'.what
+ends_alike m n last row row' a = ap (λ z. z.1) (facts_alike m n (ItemsOf 0) last false false row row' a)
 
 -- containers with the same opener, before alike rows
 container_alike : (m n : Names) (last : ℕ) (o : Opener) (row row' : Row) (inner inner' next next' : Rows)
@@ -175,29 +147,25 @@ container_alike m n last (DefinitionMarker columns) row row' inner inner' next n
 
 -- the rows of a container do not depend on the index of its label, and neither does its row without that index
 only_row : (last : ℕ) (o : Opener) (row : Row) (inner next : Rows) → container_row last (only_opener o) row inner next ≡ container_row last o row inner next
-only_row last (QuoteMarker kind) row inner next = refl
-only_row last (ItemMarker byte number columns) row inner next = refl
 only_row last (FootnoteMarker columns index label) row inner next = refl
-only_row last (DefinitionMarker columns) row inner next = refl
+only_row last o row inner next = refl
 
 only_what : (o : Opener) (e : ℕ) → what_of (only_opener o) e ≡ bare_what (what_of o e)
-only_what (QuoteMarker kind) e = refl
-only_what (ItemMarker byte number columns) e = refl
 only_what (FootnoteMarker columns index label) e = refl
-only_what (DefinitionMarker columns) e = refl
+only_what o e = refl
 
 label_inside : (o : Opener) (e : ℕ) → inside (what_of o e) ≡ label_node o
-label_inside (QuoteMarker kind) e = refl
-label_inside (ItemMarker byte number columns) e = refl
 label_inside (FootnoteMarker columns index label) e = refl
-label_inside (DefinitionMarker columns) e = refl
+label_inside o e = refl
 
 -- the rows of containers that begin alike
-head_alike : (m n : Names) (head head' : Head) (e : ℕ) (gap : Bool) → AlikeHead m n head head' → AlikeRow m n (row_of head e gap) (row_of head' e gap)
-head_alike m n head head' e gap a =
+head_alike : (m n : Names) (head head' : Head) (e e' : ℕ) (gap : Bool) → AlikeHead m n head head' → e ≡ e'
+    → AlikeRow m n (row_of head e gap) (row_of head' e' gap)
+head_alike m n head head' e e' gap a is =
     let with_what : Head → What → Row = λ h w. record { what = w; line = h.line; start = h.start; gap = gap } in (
-      ap (with_what head) (sym (only_what head.opener e)) ∙ ap (λ (h : Head). row_of h e gap) a.0 ∙ ap (with_what head') (only_what head'.opener e),
-      ap (read_nodes m) (label_inside head.opener e) ∙ a.1 ∙ ap (read_nodes n) (sym (label_inside head'.opener e)),
+      ap (with_what head) (sym (only_what head.opener e)) ∙ ap (λ (h : Head). row_of h e gap) a.0 ∙ ap (with_what head') (only_what head'.opener e)
+          ∙ ap (λ x. bare (row_of head' x gap)) is,
+      ap (read_nodes m) (label_inside head.opener e) ∙ a.1 ∙ ap (read_nodes n) (sym (label_inside head'.opener e')),
     )
 
 opener_alike : (last : ℕ) (head head' : Head) (row : Row) (inner next : Rows) → only_head head ≡ only_head head'
@@ -213,21 +181,13 @@ leaf_bare b b' gap is own =
     ap (λ z. row_of_leaf (leaf z b.gap) gap) is ∙ ap (λ g. row_of_leaf (leaf (stands b') g) gap) own
 
 -- If of two blocks that are alike one is a paragraph, so is the other.
-only_paragraph : (b : ItemBody) → is_paragraph_body (only_kind b) ≡ is_paragraph_body b
-only_paragraph (SynthesizeText ix) = refl
-only_paragraph (FencedCodeBlock ix) = refl
-only_paragraph (FootnoteDefinitionBody ix) = refl
-only_paragraph (Table ix) = refl
-only_paragraph (Heading level ix) = refl
-only_paragraph b = refl
-
 abbrev begins_read : List (ℕ × (Item × Option Named)) → Bool
 begins_read [] = false
 begins_read (x ∷ more) = is_paragraph_body x.1.0.body
 
 begins_is : (m : Names) (items : List (ℕ × Item)) → begins_read (read_nodes m items) ≡ begins_paragraph items
 begins_is m [] = refl
-begins_is m (x ∷ items) = only_paragraph x.1.body
+begins_is m (x ∷ items) = ap (λ z. z.2) (only_tests x.1.body)
 
 pub begins_alike : (m n : Names) (items items' : List (ℕ × Item)) → AlikeNodes m n items items' → begins_paragraph items ≡ begins_paragraph items'
 begins_alike m n items items' a = sym (begins_is m items) ∙ ap begins_read a ∙ begins_is n items'
@@ -246,49 +206,29 @@ after_alike m n before b b' a =
 -- the definitions at the start of alike rows
 abbrev AlikeFirst : Names → Names → Option Definitions → Option Definitions → Type 0
 AlikeFirst m n None None = Unit {0}
-AlikeFirst m n None (Some ds') = ⊥
-AlikeFirst m n (Some ds) None = ⊥
 AlikeFirst m n (Some ds) (Some ds') =
     (ds.«end» ≡ ds'.«end») × (ds.apart ≡ ds'.apart) × AlikeRows m n ds.items ds'.items × AlikeRows m n ds.beside ds'.beside
-
-untitled_bare : (w : What) → is_untitled (bare_what w) ≡ is_untitled w
-untitled_bare (ALeaf b) = refl
-untitled_bare (AFootnote index e) = refl
-untitled_bare (ATitle b) = refl
-untitled_bare w = refl
-
-run_bare : (w : What) → is_run_row (bare_what w) ≡ is_run_row w
-run_bare (ALeaf b) = refl
-run_bare (AFootnote index e) = refl
-run_bare (ATitle b) = refl
-run_bare w = refl
+AlikeFirst m n _ _ = ⊥
 
 apart_alike : (m n : Names) (row row' : Row) (inner inner' : Rows) (o o' : Option Definitions) → AlikeRow m n row row' → AlikeRows m n inner inner'
     → AlikeFirst m n o o' → AlikeFirst m n (option_map (apart_after row inner) o) (option_map (apart_after row' inner') o')
 apart_alike m n row row' inner inner' None None a b f = tt
-apart_alike m n row row' inner inner' None (Some ds') a b f = absurd f
-apart_alike m n row row' inner inner' (Some ds) None a b f = absurd f
 apart_alike m n row row' inner inner' (Some ds) (Some ds') a b f = (f.0, refl, f.2, (a, b, f.3))
-
-either_alike : (m n : Names) (t t' : Bool) (x x' y y' : Option Definitions) → t ≡ t' → AlikeFirst m n x x' → AlikeFirst m n y y'
-    → AlikeFirst m n (if t then x else y) (if t' then x' else y')
-either_alike m n t true x x' y y' is a b = rw is a
-either_alike m n t false x x' y y' is a b = rw is b
+apart_alike m n row row' inner inner' o o' a b f = absurd f
 
 first_alike : (m n : Names) (r r' : Rows) → AlikeRows m n r r' → AlikeFirst m n (definitions_first r) (definitions_first r')
 unfolding definitions_first
 first_alike m n End End a = tt
-first_alike m n End (OneOf row' inner' next') a = absurd a
-first_alike m n (OneOf row inner next) End a = absurd a
 first_alike m n (OneOf row inner next) (OneOf row' inner' next') a =
     let more : Option Definitions = option_map (apart_after row inner) (definitions_first next) in
     let more' : Option Definitions = option_map (apart_after row' inner') (definitions_first next') in
     let gap : row.gap ≡ row'.gap = ap (λ (z : Row). z.gap) a.0.0 in
-    either_alike m n _ _ (definitions_of_row row inner next) (definitions_of_row row' inner' next') _ _
-    (sym (untitled_bare row.what) ∙ ap (λ (r : Row). is_untitled r.what) a.0.0 ∙ untitled_bare row'.what)
+    chosen (AlikeFirst m n) _ _ (definitions_of_row row inner next) (definitions_of_row row' inner' next') _ _
+    (ap (λ z. z.4) (facts_alike m n (ItemsOf 0) 0 false false row row' a.0))
     (ends_alike m n 0 row row' a.0, refl, gapped_alike m n row.gap row'.gap inner inner' gap a.1, a.2)
-    (either_alike m n _ _ more more' None None (sym (run_bare row.what) ∙ ap (λ (r : Row). is_run_row r.what) a.0.0 ∙ run_bare row'.what)
+    (chosen (AlikeFirst m n) _ _ more more' None None (ap (λ z. z.5) (facts_alike m n (ItemsOf 0) 0 false false row row' a.0))
     (apart_alike m n row row' inner inner' _ _ a.0 a.1 (first_alike m n next next' a.2)) tt)
+first_alike m n r r' a = absurd a
 
 -- the rows of alike blocks before alike rows
 titled_alike : (m n : Names) (b b' : LeafBlock) (gap : Bool) (o o' : Option Definitions) (next next' : Rows) → AlikeLeaf m n (Block b) (Block b')
@@ -320,7 +260,16 @@ leaf_alike m n before b b' next next' own a =
     let same : gap ≡ gap_before before b' = ap (λ p. before.counted && not (p && is_after_definition before.last)) begins in
     subst (λ g. AlikeRows m n (leaf_row b gap next) (leaf_row b' g next')) same
     (titled_alike m n b b' gap _ _ next next' own
-    (either_alike m n _ _ (definitions_first next) (definitions_first next') None None begins (first_alike m n next next' a) tt) a)
+    (chosen (AlikeFirst m n) _ _ (definitions_first next) (definitions_first next') None None begins (first_alike m n next next' a) tt) a)
+
+-- what precedes the block after a container, if what precedes its end does not change
+pub closed_alike : (head head' : Head) (kids kids' : Skeleton) → only_head head ≡ only_head head'
+    → (let quote : Bool = is_quote (opened head.opener) in before_end quote nothing kids ≡ before_end quote nothing kids')
+    → after_container (opened head.opener) (before_end (is_quote (opened head.opener)) nothing kids)
+    ≡ after_container (opened head'.opener) (before_end (is_quote (opened head'.opener)) nothing kids')
+closed_alike head head' kids kids' own is =
+    ap (after_container (opened head.opener)) is
+    ∙ ap (λ (c : Container). after_container c (before_end (is_quote c) nothing kids')) (opened_alike head head' own)
 
 -- what precedes the end of alike skeletons
 pub end_alike : (m n : Names) (quoted : Bool) (before : Before) (s t : Skeleton) → Alike m n s t → before_end quoted before s ≡ before_end quoted before t
@@ -333,10 +282,9 @@ end_alike m n quoted before (Then (Block b) next) (Then (Block b') next') a =
     end_alike m n quoted (after_block before b) next next' a.1
     ∙ ap (λ z. before_end quoted z next') (after_alike m n before b b' a.0)
 end_alike m n quoted before (Node head e kids next) (Node head' e' kids' next') a =
-    let c : Container = opened head.opener in
-    end_alike m n quoted (after_container c (before_end (is_quote c) nothing kids)) next next' a.3
-    ∙ ap (λ z. before_end quoted (after_container c z) next') (end_alike m n (is_quote c) nothing kids kids' a.2)
-    ∙ ap (λ (z : Container). before_end quoted (after_container z (before_end (is_quote z) nothing kids')) next') (opened_alike head head' a.0.0)
+    let quote : Bool = is_quote (opened head.opener) in
+    end_alike m n quoted (after_container (opened head.opener) (before_end quote nothing kids)) next next' a.3
+    ∙ ap (λ z. before_end quoted z next') (closed_alike head head' kids kids' a.0.0 (end_alike m n quote nothing kids kids' a.2))
 end_alike m n quoted before s t a = absurd a
 
 -- the rows of alike skeletons
@@ -353,26 +301,14 @@ rows_alike m n quoted before last (Then (Block b) next) (Then (Block b') next') 
     (rows_alike m n quoted (after_block before b) last next next' a.1))
 rows_alike m n quoted before last (Node head e kids next) (Node head' e' kids' next') a =
     let c : Container = opened head.opener in
-    let c' : Container = opened head'.opener in
-    let same : c ≡ c' = opened_alike head head' a.0.0 in
-    let rows : Rows = rows_of quoted before last (Node head e kids next) in
-    let inside_of : Container → Skeleton → Rows = λ z s. rows_of (is_quote z) nothing e s in
-    let after_of : Container → Before → Skeleton → Rows = λ z own s. rows_of quoted (after_container z own) last s in
-    let inner : Before = before_end (is_quote c) nothing kids in
-    let inner' : Before = before_end (is_quote c) nothing kids' in
-    let own : AlikeRows m n (inside_of c kids) (inside_of c' kids') =
-    subst (λ (z : Container). AlikeRows m n (inside_of c kids) (inside_of z kids')) same (rows_alike m n (is_quote c) nothing e kids kids' a.2) in
-    let after : AlikeRows m n (after_of c inner next) (after_of c inner' next') =
-    subst (λ (z : Before). AlikeRows m n (after_of c inner next) (after_of c z next')) (end_alike m n (is_quote c) nothing kids kids' a.2)
-    (rows_alike m n quoted (after_container c inner) last next next' a.3) in
-    let later : Rows = after_of c' (before_end (is_quote c') nothing kids') next' in
-    let all : AlikeRows m n (after_of c inner next) later =
-    subst (λ (z : Container). AlikeRows m n (after_of c inner next) (after_of z (before_end (is_quote z) nothing kids') next')) same after in
-    let row : Row = row_of head' e before.counted in
-    subst (λ (x : ℕ). AlikeRows m n rows (rows_of quoted before last (Node head' x kids' next'))) a.1
-    (subst (λ z. AlikeRows m n rows z) (opener_alike last head head' row (inside_of c' kids') later a.0.0)
-    (container_alike m n last head.opener (row_of head e before.counted) row (inside_of c kids) (inside_of c' kids') (after_of c inner next) later
-    (head_alike m n head head' e before.counted a.0, own, all)))
+    let now : Before = after_container c (before_end (is_quote c) nothing kids) in
+    let own = subst (λ (z : Container × ℕ). AlikeRows m n (rows_of (is_quote c) nothing e kids) (rows_of (is_quote z.0) nothing z.1 kids'))
+    (λ i. (opened_alike head head' a.0.0 i, a.1 i)) (rows_alike m n (is_quote c) nothing e kids kids' a.2) in
+    let after = subst (λ z. AlikeRows m n (rows_of quoted now last next) (rows_of quoted z last next'))
+    (closed_alike head head' kids kids' a.0.0 (end_alike m n (is_quote c) nothing kids kids' a.2)) (rows_alike m n quoted now last next next' a.3) in
+    subst (AlikeRows m n (rows_of quoted before last (Node head e kids next))) (opener_alike last head head' (row_of head' e' before.counted) _ _ a.0.0)
+    (container_alike m n last head.opener (row_of head e before.counted) (row_of head' e' before.counted) _ _ _ _
+    (head_alike m n head head' e e' before.counted a.0 a.1, own, after))
 rows_alike m n quoted before last s t a = absurd a
 
 -- a footnote definition as it is read, given how its index is read
@@ -411,8 +347,6 @@ shown_is m depth tight loose start w = refl
 rows_read : (m n : Names) (depth : ℕ) (tight : Bool) (r r' : Rows) → AlikeRows m n r r' → AlikeNodes m n (items_of depth tight r) (items_of depth tight r')
 unfolding items_of
 rows_read m n depth tight End End a = refl
-rows_read m n depth tight End (OneOf row' inner' next') a = absurd a
-rows_read m n depth tight (OneOf row inner next) End a = absurd a
 rows_read m n depth tight (OneOf row inner next) (OneOf row' inner' next') a =
     let loose : Bool = is_loose inner in
     let loose' : Bool = is_loose inner' in
@@ -424,11 +358,11 @@ rows_read m n depth tight (OneOf row inner next) (OneOf row' inner' next') a =
     ∙ sym (shown_is n depth tight loose row'.start row'.what)
     ∙ ap (λ z. read_nodes n (row_items depth tight z row'.start row'.what)) same in
     let t : tight_in tight loose row.what ≡ tight_in tight loose' row'.what =
-    sym (tight_bare tight loose row.what) ∙ ap (λ (z : Row). tight_in tight loose z.what) a.0.0 ∙ tight_bare tight loose row'.what
-    ∙ ap (λ z. tight_in tight z row'.what) same in
+    ap (λ z. z.3) (facts_alike m n (ItemsOf 0) 0 tight loose row row' a.0) ∙ ap (λ z. tight_in tight z row'.what) same in
     let kids : AlikeNodes m n (items_of (suc depth) (tight_in tight loose row.what) inner) (items_of (suc depth) (tight_in tight loose' row'.what) inner') =
     rows_read m n (suc depth) (tight_in tight loose row.what) inner inner' a.1 ∙ ap (λ z. read_nodes n (items_of (suc depth) z inner')) t in
     nodes_append m n _ _ _ _ one (nodes_append m n _ _ _ _ kids (rows_read m n depth tight next next' a.2))
+rows_read m n depth tight r r' a = absurd a
 
 -- the items of alike skeletons read alike
 pub forest_alike : (m n : Names) (quoted : Bool) (before : Before) (depth last : ℕ) (s t : Skeleton) → Alike m n s t

@@ -1,31 +1,16 @@
 -- A row has one list of cells, and a text reads alike under all names.
 use Rattle.std.proofs.Common.{◌≡◌, ◌⊎◌, inl, inr, ℕ, ◌+◌, ◌-◌, ◌&&◌, nat_lt, nat_le, true, false, List, [], ◌∷◌, ◌++◌, length, drop, Option, Some, None}
-use Rattle.std.proofs.Common.{MatchOption, IfSome, is_some, refl, sym, ap, ◌∙◌, subst}
-use Rattle.std.specs.List.{slice_range}
-use Rattle.std.proofs.lemmas.Bool.{true≢false}
-use Rattle.std.proofs.lemmas.Option.{none-some, same_Some}
-use Rattle.first_pass_items.specs.declared.item.Alignment.{Alignment}
-use Rattle.first_pass_items.specs.declared.item.HeadingLevel.{HeadingLevel}
-use Rattle.first_pass_items.specs.declared.item.Item.{Item}
-use Rattle.first_pass_items.specs.declared.item.ItemBody.TheVariants.{Heading, Paragraph, Table, TableHead, TableRow, TableCell}
-use Rattle.first_pass_tree.specs.Forest.{block_of}
-use Rattle.first_pass_lines.specs.Places.{Place, offset, start_of}
-use Rattle.first_pass_attributes.specs.AttributeBlocks.{Braces}
-use Rattle.first_pass_tokens.specs.Braces.{MathBraces, no_braces}
-use Rattle.first_pass_tokens.specs.Chains.{close_break, cut}
-use Rattle.first_pass_tokens.specs.LineTokens.{Spot, spot}
-use Rattle.first_pass_tokens.specs.Pieces.{Inline}
+use Rattle.std.proofs.Common.{MatchOption, IfSome, is_some, refl, sym, ap, ◌∙◌, subst, slice_range, true≢false}
+use Rattle.first_pass_grammar.proofs.Common.{none-some, same_Some, Alignment, HeadingLevel, Item, Heading, Paragraph, Table, TableHead, TableRow, TableCell}
+use Rattle.first_pass_grammar.proofs.Common.{block_of, Place, offset, start_of, Braces, MathBraces, no_braces, close_break, cut, Spot, spot, Inline, Names}
+use Rattle.first_pass_grammar.proofs.Common.{NamesAttributes, read_nodes, Document, around, marker_items, TextLines, text_lines, headed_table, node_of}
+use Rattle.first_pass_grammar.proofs.Common.{cell_content, cell_start, cell_text, cell_block, AreCells, inserted, row_block, Taken, taking, FoundRow}
+use Rattle.first_pass_grammar.proofs.Common.{HasCells, TableSoFar, table_so_far, AreRows, most_inserted, IsTable, heading_attributes_of}
+use Rattle.first_pass_grammar.proofs.Common.{heading_attribute_block, kept_before, IsPlainText, IsText, IsUnderlined, by_backslash, text_children}
+use Rattle.first_pass_grammar.proofs.Common.{children_without, heading_bytes, heading_children, plain_text, underlined_text, underline_first}
 use Rattle.first_pass_tokens.proofs.AlikeLemmas.{one_cell}
 use Rattle.first_pass_grammar.specs.declared.kind.Container.{Container}
-use Rattle.first_pass_grammar.specs.Names.{Names, NamesAttributes, read_nodes}
-use Rattle.first_pass_grammar.specs.Leaves.{Document, around, marker_items, TextLines, text_lines}
-use Rattle.first_pass_grammar.specs.TableHeads.{headed_table}
-use Rattle.first_pass_grammar.specs.Derivation.{node_of}
-use Rattle.first_pass_grammar.specs.Tables.{cell_content, cell_start, cell_text, cell_block, AreCells, inserted, row_block, Taken, taking, FoundRow, HasCells}
-use Rattle.first_pass_grammar.specs.Tables.{TableSoFar, table_so_far, AreRows, most_inserted, IsTable}
-use Rattle.first_pass_grammar.specs.Headings.{heading_attributes_of, heading_attribute_block, kept_before}
-use Rattle.first_pass_grammar.specs.Texts.{IsPlainText, IsText, IsUnderlined, by_backslash, text_children, children_without, heading_bytes, heading_children}
-use Rattle.first_pass_grammar.specs.Texts.{plain_text, underlined_text, underline_first, IsEnded}
+use Rattle.first_pass_grammar.specs.Texts.{IsEnded}
 use Rattle.first_pass_grammar.proofs.Count.RowsWithRoom.{is_row, with_row, RowsWithRoom, counted}
 use Rattle.first_pass_grammar.proofs.Names.NoIndex.{HasNoIndex, HasTextIndex, tokens_textual}
 use Rattle.first_pass_grammar.proofs.Each.EachToken.{cell_each}
@@ -176,71 +161,69 @@ one_table d n path p alignments lines t u h k =
     )
 
 -- the children of a setext heading or a paragraph read alike
-module _ (d : Document) (n : Names) (start : ℕ) (marker : Option Item) (l : TextLines) (chain : List Item) where
-  children_alike : IfSome marker HasNoIndex → AlikeChains d.names n l.chain chain
-      → AlikeChains d.names n (text_children marker l) (text_children marker (text_lines chain l.break l.left))
-  children_alike free h =
-      marked_alike d.names n marker (close_break l.break l.chain) (close_break l.break chain) free (close_alike d.names n l.break l.chain chain h)
+module _ (d : Document) (n : Names) (start : ℕ) (marker : Option Item) (l : TextLines) (chain : List Item) (free : IfSome marker HasNoIndex)
+    (same : AlikeChains d.names n l.chain chain) where
+  abbrev given : TextLines
+  given = text_lines chain l.break l.left
 
-  bytes_alike : IfSome marker HasNoIndex → AlikeChains d.names n l.chain chain
-      → heading_bytes d start marker l ≡ heading_bytes d start marker (text_lines chain l.break l.left)
-  bytes_alike free h =
+  children_alike : AlikeChains d.names n (text_children marker l) (text_children marker given)
+  children_alike =
+      marked_alike d.names n marker (close_break l.break l.chain) (close_break l.break chain) free (close_alike d.names n l.break l.chain chain same)
+
+  bytes_alike : heading_bytes d start marker l ≡ heading_bytes d start marker given
+  bytes_alike =
       ap (λ (e : ℕ). slice_range d.text start e)
-      (ends_alike d.names n start (marker_items marker ++ l.chain) (marker_items marker ++ chain) (marked_alike d.names n marker l.chain chain free h))
+      (ends_alike d.names n start (marker_items marker ++ l.chain) (marker_items marker ++ chain) (marked_alike d.names n marker l.chain chain free same))
 
-  without_alike : (o : Option Braces) → IfSome marker HasNoIndex → AlikeChains d.names n l.chain chain
-      → AlikeChains d.names n (children_without d start marker l o) (children_without d start marker (text_lines chain l.break l.left) o)
-  without_alike None free h = children_alike free h
-  without_alike (Some block) free h =
+  without_alike : (o : Option Braces) → AlikeChains d.names n (children_without d start marker l o) (children_without d start marker given o)
+  without_alike None = children_alike
+  without_alike (Some block) =
       let place : List ℕ → ℕ = λ bs. start + kept_before (by_backslash l.break) block.opening bs in
       let bytes : List ℕ = heading_bytes d start marker l in
       let one : List Item = marker_items marker ++ l.chain in
       let other : List Item = marker_items marker ++ chain in
       let before : AlikeChains d.names n (cut (place bytes) one) (cut (place bytes) other) =
-      cut_alike d.names n (place bytes) one other (marked_alike d.names n marker l.chain chain free h) in
+      cut_alike d.names n (place bytes) one other (marked_alike d.names n marker l.chain chain free same) in
       close_alike d.names n l.break (cut (place bytes) one) _
-      (subst (λ bs. AlikeChains d.names n (cut (place bytes) one) (cut (place bs) other)) (bytes_alike free h) before)
+      (subst (λ bs. AlikeChains d.names n (cut (place bytes) one) (cut (place bs) other)) bytes_alike before)
 
-  heading_children_alike : IfSome marker HasNoIndex → AlikeChains d.names n l.chain chain
-      → AlikeChains d.names n (heading_children d start marker l) (heading_children d start marker (text_lines chain l.break l.left))
+  heading_children_alike : AlikeChains d.names n (heading_children d start marker l) (heading_children d start marker given)
   unfolding heading_children
-  heading_children_alike free h =
+  heading_children_alike =
       subst (λ bs. AlikeChains d.names n (children_without d start marker l (heading_attribute_block d.options (heading_bytes d start marker l)))
-      (children_without d start marker (text_lines chain l.break l.left) (heading_attribute_block d.options bs)))
-      (bytes_alike free h) (without_alike (heading_attribute_block d.options (heading_bytes d start marker l)) free h)
+      (children_without d start marker given (heading_attribute_block d.options bs)))
+      bytes_alike (without_alike (heading_attribute_block d.options (heading_bytes d start marker l)))
 
   -- a setext heading or a paragraph reads alike
-  one_ended : (t u : Taken) (o : Option (ℕ × HeadingLevel)) → IfSome marker HasNoIndex → AlikeChains d.names n l.chain chain
+  one_ended : (t u : Taken) (o : Option (ℕ × HeadingLevel))
       → MatchOption o (t ≡ plain_text d start marker l) (λ underline. IsUnderlined d start marker l underline.1 t)
-      → MatchOption o (u ≡ plain_text (with_names d n) start marker (text_lines chain l.break l.left))
-      (λ underline. IsUnderlined (with_names d n) start marker (text_lines chain l.break l.left) underline.1 u)
+      → MatchOption o (u ≡ plain_text (with_names d n) start marker given) (λ underline. IsUnderlined (with_names d n) start marker given underline.1 u)
       → AlikeTaken d.names n t u
   unfolding heading_children
-  one_ended t u None free h e f =
-      taken_alike d.names n t u (plain_text d start marker l) (plain_text d start marker (text_lines chain l.break l.left)) e f (
-        block_alike d.names n start (start_of (length d.text) l.left) Paragraph Paragraph (text_children marker l)
-            (text_children marker (text_lines chain l.break l.left)) refl (children_alike free h),
+  one_ended t u None e f =
+      taken_alike d.names n t u (plain_text d start marker l) (plain_text d start marker given) e f (
+        block_alike d.names n start (start_of (length d.text) l.left) Paragraph Paragraph (text_children marker l) (text_children marker given) refl
+            children_alike,
         refl,
       )
-  one_ended t u (Some underline) free h (i, named, e) (j, named', f) =
-      let given : TextLines = text_lines chain l.break l.left in
+  one_ended t u (Some underline) (i, named, e) (j, named', f) =
       let stop : ℕ = start_of (length d.text) (drop 1 l.left) in
-      let same : NamesAttributes n j (heading_attributes_of d.options (heading_bytes d start marker l)) =
-      subst (λ bs. NamesAttributes n j (heading_attributes_of d.options bs)) (sym (bytes_alike free h)) named' in
+      let read_same : NamesAttributes n j (heading_attributes_of d.options (heading_bytes d start marker l)) =
+      subst (λ bs. NamesAttributes n j (heading_attributes_of d.options bs)) (sym bytes_alike) named' in
       taken_alike d.names n t u (underlined_text d start marker underline.1 i l) (underlined_text d start marker underline.1 j given) e f (
         block_alike d.names n start stop (Heading underline.1 i) (Heading underline.1 j) (heading_children d start marker l)
             (heading_children d start marker given)
-            (heading_alike d.names n start stop underline.1 i j (heading_attributes_of d.options (heading_bytes d start marker l)) named same)
-            (heading_children_alike free h),
+            (heading_alike d.names n start stop underline.1 i j (heading_attributes_of d.options (heading_bytes d start marker l)) named read_same)
+            heading_children_alike,
         refl,
       )
 
 one_plain : (d : Document) (n : Names) (path : List Container) (p : Place) (marker : Option Item) (lines : List Place) (t u : Taken) → IfSome marker HasNoIndex
     → IsPlainText d path (offset p) marker lines t → IsPlainText (with_names d n) path (offset p) marker lines u → AlikeTaken d.names n t u
 one_plain d n path p marker lines t u free (l, are, is) (l', are', is') =
-    let given = one_lines d n path (spot (offset p) no_braces) [] [] lines l l' refl are are' in
-    one_ended d n (offset p) marker l given.0 t u (underline_first path l.left) free given.1 is
-    (subst (λ (z : TextLines). IsEnded (with_names d n) path (offset p) marker z u) given.2 is')
+    let lines_same = one_lines d n path (spot (offset p) no_braces) [] [] lines l l' refl are are' in
+    one_ended d n (offset p) marker l lines_same.0 free lines_same.1 t u (underline_first path l.left) is
+    (subst (λ (z : TextLines). IsEnded (with_names d n) path (offset p) marker z u) lines_same.2 is')
 
 -- a paragraph, a setext heading or a table reads alike, and leaves the same lines
 text_by : (d : Document) (n : Names) (path : List Container) (p : Place) (marker : Option Item) (lines : List Place) (t u : Taken) (o : Option (List Alignment))

@@ -1,39 +1,24 @@
 -- No cell is inserted into the header row of a table.
-use Rattle.std.proofs.Common.{◌≡◌, ℕ, ◌-◌, ◌==◌, ◌&&◌, not, Bool, true, false, List, length, Option, Some, None, refl, sym, ap, ◌∙◌, arith, if◌then◌else◌}
-use Rattle.std.specs.Option.{option_and_then}
-use Rattle.std.proofs.lemmas.Bool.{eqb-true}
-use Rattle.std.proofs.lemmas.Option.{none-some, same_Some}
-use Rattle.first_pass_items.specs.OptionWords.{has, tables}
-use Rattle.first_pass_items.specs.declared.item.Alignment.{Alignment}
-use Rattle.first_pass_items.specs.declared.item.Item.{Item}
-use Rattle.first_pass_lines.specs.Places.{Place, offset}
-use Rattle.first_pass_table_scan.specs.TableHead.{head_columns}
-use Rattle.first_pass_tokens.specs.Braces.{no_braces}
-use Rattle.first_pass_tokens.specs.LineTokens.{Spot, spot}
+use Rattle.std.proofs.Common.{◌≡◌, ℕ, ◌==◌, ◌&&◌, not, Bool, true, List, length, Option, Some, None, sym, ap, ◌∙◌, arith, if◌then◌else◌, option_and_then}
+use Rattle.std.proofs.Common.{eqb-true}
+use Rattle.first_pass_grammar.proofs.Common.{none-some, cond_some, has, tables, Alignment, Item, Place, offset, head_columns, no_braces, Spot, spot}
+use Rattle.first_pass_grammar.proofs.Common.{Document, around, if_as_many, table_at, ends_in_backslash, headed_table, AreCells, inserted}
 use Rattle.first_pass_grammar.specs.declared.kind.Container.{Container}
-use Rattle.first_pass_grammar.specs.Leaves.{Document, around}
-use Rattle.first_pass_grammar.specs.TableHeads.{alignments_after, if_as_many, table_at, ends_in_backslash, headed_table}
-use Rattle.first_pass_grammar.specs.Tables.{AreCells, inserted}
+use Rattle.first_pass_grammar.specs.TableHeads.{alignments_after}
 use Rattle.first_pass_grammar.proofs.Sequences.PlacesKept.{IsAt}
 use Rattle.first_pass_grammar.proofs.WholeTables.WholeBlocks.{HeadsAreFull}
 use Rattle.first_pass_grammar.proofs.WholeTables.HeadCells.{head_has_cells}
 
 -- the columns of a table whose header row is the first line of a text
-as_many_by : (t : Bool) (columns : ℕ) (xs alignments : List Alignment) → (length xs == columns) ≡ t → (if t then Some xs else None) ≡ Some alignments
-    → length alignments ≡ columns
-as_many_by true columns xs alignments same e = ap length (sym (same_Some xs alignments e)) ∙ eqb-true (length xs) columns same
-as_many_by false columns xs alignments same e = absurd (none-some alignments e)
-
 table_columns : (columns : ℕ) (o : Option (List Alignment)) (alignments : List Alignment) → option_and_then (if_as_many columns) o ≡ Some alignments
     → length alignments ≡ columns
 table_columns columns None alignments e = absurd (none-some alignments e)
-table_columns columns (Some xs) alignments e = as_many_by (length xs == columns) columns xs alignments refl e
+table_columns columns (Some xs) alignments e =
+    let (same, is) = cond_some (length xs == columns) xs alignments e in ap length (sym is) ∙ eqb-true (length xs) columns same
 
 headed_by : (t s : Bool) (o : Option (List Alignment)) (alignments : List Alignment) → (if t && s then o else None) ≡ Some alignments
     → (t ≡ true) × (o ≡ Some alignments)
-headed_by true true o alignments e = (refl, e)
-headed_by true false o alignments e = absurd (none-some alignments e)
-headed_by false s o alignments e = absurd (none-some alignments e)
+headed_by t s o alignments e = grind arith
 
 -- No cell is inserted into a header row.
 pub head_is_full : (d : Document) (path : List Container) (p : Place) (alignments : List Alignment) (cells : List (List (ℕ × Item))) (to : Spot) → IsAt d.text p

@@ -1,24 +1,18 @@
 -- A header row has at least as many cells as its table has columns: each pipe without a backslash directly before it
 -- ends a cell, except a pipe at the start of the line.
 use Rattle.std.proofs.Common.{◌≡◌, inl, inr, ℕ, zero, suc, ◌+◌, ◌-◌, ◌<◌, ◌≤◌, ◌==◌, ◌&&◌, not, Bool, true, false, List, [], ◌∷◌, length, take, drop}
-use Rattle.std.proofs.Common.{slice_index, Option, Some, None, is_some, refl, sym, ap, subst, ◌∙◌, arith, add-one, drop-drop, if◌then◌else◌}
-use Rattle.std.specs.Option.{option_map, option_map_or}
-use Rattle.std.specs.List.{prefix_len, take_while}
-use Rattle.std.proofs.lemmas.Bool.{cases_lt, eq-eqb, eqb-true, true≢false}
-use Rattle.std.proofs.lemmas.List.{at_drop_all, at_drop_more, get_or_past}
-use Rattle.std.proofs.lemmas.Option.{none-some, same_Some}
-use Rattle.first_pass_items.specs.Bytes.{line_feed, carriage_return, backslash, pipe}
-use Rattle.first_pass_items.specs.OptionWords.{has, tables}
-use Rattle.first_pass_items.specs.declared.item.Item.{Item}
-use Rattle.first_pass_lines.specs.Lines.{is_content, is_white, begins, eol_len, at_line_end, is_blank_line}
-use Rattle.first_pass_table_scan.specs.TableHead.{is_pipe, pipes_after, pipes_of, header_columns, last_pipe_after, head_columns}
-use Rattle.first_pass_tokens.specs.Braces.{MathBraces}
-use Rattle.first_pass_tokens.specs.LineTokens.{Spot, spot, IsCell}
+use Rattle.std.proofs.Common.{slice_index, Option, Some, None, is_some, refl, sym, ap, subst, ◌∙◌, arith, add-one, drop-drop, if◌then◌else◌, option_map}
+use Rattle.std.proofs.Common.{take_while, eqb-true, true≢false}
+use Rattle.first_pass_grammar.proofs.Common.{option_map_or, prefix_len, cases_lt, nat_tests, at_drop_all, at_drop_more, get_or_past, none-some, same_Some}
+use Rattle.first_pass_grammar.proofs.Common.{line_feed, carriage_return, backslash, pipe, has, tables, Item, is_content, is_white, begins, eol_len}
+use Rattle.first_pass_grammar.proofs.Common.{at_line_end, is_blank_line, head_columns, MathBraces, Spot, spot, IsCell, Document, cell_content, cell_start}
+use Rattle.first_pass_grammar.proofs.Common.{cell_text, AreCells}
+use Rattle.std.proofs.lemmas.List.Sums.{take_while-cons}
+use Rattle.first_pass_grammar.proofs.Order.RowEnds.{pipe_inside}
+use Rattle.first_pass_table_scan.specs.TableHead.{is_pipe, pipes_after, pipes_of, header_columns, last_pipe_after}
 use Rattle.first_pass_tokens.specs.MarkupBytes.{PipesAreEscaped}
 use Rattle.first_pass_tokens.proofs.CellPipes.{cell_pipes}
 use Rattle.first_pass_tokens.proofs.LineLemmas.{pieces_reach}
-use Rattle.first_pass_grammar.specs.Leaves.{Document}
-use Rattle.first_pass_grammar.specs.Tables.{cell_content, cell_start, cell_text, AreCells}
 
 -- one more element
 take_next : (n c : ℕ) (cs : List ℕ) → take (n + 1) (c ∷ cs) ≡ c ∷ take n cs
@@ -37,31 +31,19 @@ cells_of b [] = 0
 cells_of b (c ∷ cs) = step (is_content c) (is_pipe c && not (b == backslash)) (is_white c) (cells_of c cs)
 
 step_most : (t u w : Bool) (m : ℕ) → step t u w m ≤ suc m
-step_most false u w m = omega arith
-step_most true true w m = omega arith
-step_most true false true m = omega arith
-step_most true false false m = omega arith
+step_most t u w m = grind arith
 
 step_least : (u w : Bool) (m : ℕ) → m ≤ step true u w m
-step_least true w m = omega arith
-step_least false true m = omega arith
-step_least false false m = omega arith
+step_least u w m = grind arith
 
 step_other : (t w : Bool) (m n : ℕ) → m ≤ suc n → step t false w m ≤ suc n
-step_other false w m n h = omega arith
-step_other true true m n h = omega arith
-step_other true false m n h = omega arith
+step_other t w m n h = grind arith
 
 step_white : (t : Bool) (m : ℕ) → step t false true m ≤ m
-step_white false m = omega arith
-step_white true m = omega arith
+step_white t m = grind arith
 
 step_escaped : (t p x w : Bool) (m : ℕ) → step t (p && not x) w m ≤ step t (p && true) w m
-step_escaped t false x w m = omega arith
-step_escaped t true false w m = omega arith
-step_escaped false true true w m = omega arith
-step_escaped true true true true m = omega arith
-step_escaped true true true false m = omega arith
+step_escaped t p x w m = grind arith
 
 -- no fewer if no backslash comes before
 cells_unescaped : (b : ℕ) (bs : List ℕ) → cells_of b bs ≤ cells_of 0 bs
@@ -70,15 +52,14 @@ cells_unescaped b [] = omega arith
 cells_unescaped b (c ∷ cs) = step_escaped (is_content c) (is_pipe c) (b == backslash) (is_white c) (cells_of c cs)
 
 -- white space at the front adds none
-white_other : (t : Bool) (c : ℕ) → is_pipe c ≡ t → is_white c ≡ true → is_pipe c ≡ false
-white_other true c p w = absurd (true≢false (sym w ∙ ap is_white (eqb-true c pipe p)))
-white_other false c p w = p
+white_other : (c : ℕ) → is_white c ≡ true → is_pipe c ≡ false
+white_other c w = grind (arith, nat_tests, w)
 
 cells_white_by : (t : Bool) (b c : ℕ) (cs : List ℕ) → is_white c ≡ t → cells_of c cs ≤ cells_of 0 (drop (prefix_len is_white cs) cs)
     → cells_of b (c ∷ cs) ≤ cells_of 0 (drop (prefix_len is_white (c ∷ cs)) (c ∷ cs))
 unfolding cells_of
 cells_white_by true b c cs h more =
-    let other = white_other (is_pipe c) c refl h in
+    let other = white_other c h in
     let none : (is_pipe c && not (b == backslash)) ≡ false = ap (λ (p : Bool). p && not (b == backslash)) other in
     let here = ap (λ (u : Bool). step (is_content c) u (is_white c) (cells_of c cs)) none ∙ ap (λ (w : Bool). step (is_content c) false w (cells_of c cs)) h in
     let low = step_white (is_content c) (cells_of c cs) in
@@ -98,17 +79,14 @@ cells_white b [] = omega arith
 cells_white b (c ∷ cs) = cells_white_by (is_white c) b c cs refl (cells_white c cs)
 
 -- there are none if the line ends
-line_end_by : (t u : Bool) (b n : ℕ) (k : Option ℕ)
-    → (b == line_feed) ≡ t → (b == carriage_return) ≡ u → (if t then Some 1 else (if u then k else None)) ≡ Some n → is_content b ≡ false
-line_end_by true u b n k h l e = ap is_content (eqb-true b line_feed h)
-line_end_by false true b n k h l e = ap is_content (eqb-true b carriage_return l)
-line_end_by false false b n k h l e = absurd (none-some n e)
+line_end : (c : ℕ) (cs : List ℕ) (n : ℕ) → eol_len (c ∷ cs) ≡ Some n → is_content c ≡ false
+line_end c cs n e = grind (arith, nat_tests, e)
 
 cells_end : (b : ℕ) (bs : List ℕ) (n : ℕ) → eol_len bs ≡ Some n → cells_of b bs ≡ 0
 unfolding cells_of
 cells_end b [] n e = refl
 cells_end b (c ∷ cs) n e =
-    let ends = line_end_by (c == line_feed) (c == carriage_return) c n _ refl refl e in
+    let ends = line_end c cs n e in
     ap (λ (t : Bool). step t (is_pipe c && not (b == backslash)) (is_white c) (cells_of c cs)) ends
 
 -- after a pipe, or where there is none
@@ -118,16 +96,12 @@ unfolding cells_of
 first_by text at true here =
     let begins : cell_start text at ≡ at + 1 = ap (λ (t : Bool). if t then at + 1 else at) here in
     let following = ap (λ (k : ℕ). cells_of 0 (drop k text)) begins in
-    elim (cases_lt at (length text)) [
-      | inl inside ↦
-          let c = slice_index text at in
-          let cs = drop (at + 1) text in
-          let read = at_drop_more (cells_of 0) text at 0 inside in
-          let most = step_most (is_content c) (is_pipe c && not (0 == backslash)) (is_white c) (cells_of c cs) in
-          let low = cells_unescaped c cs in
-          omega arith
-      | inr past ↦ absurd (true≢false (sym here ∙ ap (λ (b : ℕ). b == pipe) (get_or_past text at 0 past)))
-    ]
+    let c = slice_index text at in
+    let cs = drop (at + 1) text in
+    let read = at_drop_more (cells_of 0) text at 0 (pipe_inside text at here) in
+    let most = step_most (is_content c) (is_pipe c && not (0 == backslash)) (is_white c) (cells_of c cs) in
+    let low = cells_unescaped c cs in
+    omega arith
 first_by text at false here =
     let begins : cell_start text at ≡ at = ap (λ (t : Bool). if t then at + 1 else at) here in
     let following = ap (λ (k : ℕ). cells_of 0 (drop k text)) begins in
@@ -143,11 +117,8 @@ to_text text at =
     omega arith
 
 -- the content of a cell adds one
-escaped_by : (t : Bool) (b c : ℕ) → is_pipe c ≡ t → (c ≡ pipe → b ≡ backslash) → (is_pipe c && not (b == backslash)) ≡ false
-escaped_by true b c p h =
-    let following = eq-eqb b backslash (h (eqb-true c pipe p)) in
-    ap (λ (x : Bool). x && not (b == backslash)) p ∙ ap not following
-escaped_by false b c p h = ap (λ (x : Bool). x && not (b == backslash)) p
+escaped_pipe : (b c : ℕ) → (c ≡ pipe → b ≡ backslash) → (is_pipe c && not (b == backslash)) ≡ false
+escaped_pipe b c h = grind (arith, nat_tests)
 
 through : (text : List ℕ) (n at b stop : ℕ) → at + n ≡ stop → (at < stop → slice_index text at ≡ pipe → b ≡ backslash)
     → ((k : ℕ) → at < k → k < stop → slice_index text k ≡ pipe → slice_index text (k - 1) ≡ backslash)
@@ -164,7 +135,7 @@ through text (suc n) at b stop same here escaped =
           let c = slice_index text at in
           let cs = drop (at + 1) text in
           let read = at_drop_more (cells_of b) text at 0 inside in
-          let none = escaped_by (is_pipe c) b c refl (here (omega arith)) in
+          let none = escaped_pipe b c (here (omega arith)) in
           let step_is = ap (λ (u : Bool). step (is_content c) u (is_white c) (cells_of c cs)) none in
           let back : at + 1 - 1 ≡ at = omega arith in
           let rest = through text n (at + 1) c stop (omega arith)
@@ -186,8 +157,7 @@ one_cell {after} d at before tokens stop on is =
 
 -- a row has this many cells, apart from the pipe at its start
 at_most_one : (t : Bool) → (if t then 1 else 0) ≤ 1
-at_most_one true = omega arith
-at_most_one false = omega arith
+at_most_one t = grind arith
 
 cells_least : (d : Document) (p : Spot) (cells : List (List (ℕ × Item))) (to : Spot) → has d.options tables ≡ true → AreCells d p cells to
     → cells_of 0 (drop p.at d.text) ≤ (if slice_index d.text p.at == pipe then 1 else 0) + length cells
@@ -222,8 +192,7 @@ white_blank b bs h =
     ∙ sym (some_mapped _ (eol_len (drop (prefix_len is_white bs) bs)))
 
 step_some : (u : Bool) (m : ℕ) → 1 ≤ step true u false m
-step_some true m = omega arith
-step_some false m = omega arith
+step_some u m = grind arith
 
 some_by : (t w : Bool) (b c : ℕ) (cs : List ℕ) → is_content c ≡ t → is_white c ≡ w → is_blank_line (c ∷ cs) ≡ false
     → (is_blank_line cs ≡ false → 1 ≤ cells_of c cs) → 1 ≤ cells_of b (c ∷ cs)
@@ -259,9 +228,7 @@ abbrev none_if : Bool → ℕ
 none_if t = if t then 0 else 1
 
 step_counted : (u w : Bool) (m : ℕ) → (if u then 1 else 0) + m ≤ step true u w m
-step_counted true w m = omega arith
-step_counted false true m = omega arith
-step_counted false false m = omega arith
+step_counted u w m = grind arith
 
 further_up : (b c : ℕ) (cs : List ℕ) (k : ℕ) → is_content c ≡ true → UpTo c cs k → UpTo b (c ∷ cs) (k + 1)
 unfolding cells_of
@@ -297,24 +264,14 @@ up_if true b c cs last h more e =
     up_by (is_pipe c && not (b == backslash)) (last_pipe_after c (take_while is_content cs)) b c cs last h refl more e
 up_if false b c cs last h more e = absurd (none-some last e)
 
-content_front : (t : Bool) (c : ℕ) (cs : List ℕ) → is_content c ≡ t → take_while is_content (c ∷ cs) ≡ (if t then c ∷ take_while is_content cs else [])
-content_front true c cs h =
-    let n : prefix_len is_content (c ∷ cs) ≡ prefix_len is_content cs + 1 = rw h (omega arith) in
-    let front = take_next (prefix_len is_content cs) c cs in
-    ap (λ (k : ℕ). take k (c ∷ cs)) n ∙ front
-content_front false c cs h =
-    let n : prefix_len is_content (c ∷ cs) ≡ 0 = rw h in
-    ap (λ (k : ℕ). take k (c ∷ cs)) n
-
 up_to_last : (b : ℕ) (bs : List ℕ) (last : ℕ) → last_pipe_after b (take_while is_content bs) ≡ Some last → UpTo b bs last
 up_to_last b [] last e = absurd (none-some last e)
 up_to_last b (c ∷ cs) last e =
-    up_if (is_content c) b c cs last refl (up_to_last c cs) (ap (last_pipe_after b) (sym (content_front (is_content c) c cs refl)) ∙ e)
+    up_if (is_content c) b c cs last refl (up_to_last c cs) (ap (last_pipe_after b) (sym (take_while-cons is_content c cs)) ∙ e)
 
 -- so a header row has no more columns than that, without the pipe at its start
 less_first : (pipes tail most : ℕ) (t : Bool) → pipes + tail ≤ most → pipes - (if t then 1 else 0) + tail ≤ most
-less_first pipes tail most true h = omega arith
-less_first pipes tail most false h = omega arith
+less_first pipes tail most t h = grind arith
 
 leads_by : (t : Bool) (c : ℕ) (cs : List ℕ) (last n : ℕ) → is_pipe c ≡ t → UpTo 0 (c ∷ cs) last → cells_of 0 (c ∷ cs) ≤ (if t then 1 else 0) + n
     → header_columns (c ∷ cs) last ≤ n

@@ -1,37 +1,23 @@
 -- The marks of a table's nodes: each row has as many cells as there are columns, and the number of inserted cells is
 -- limited.
-use Rattle.std.proofs.Common.{◌≡◌, inl, inr, ℕ, zero, suc, ◌+◌, ◌-◌, ◌<◌, ◌≤◌, ◌==◌, nat_lt, nat_le, Bool, true, false, List, ◌∷◌, ◌++◌, length, map, take, []}
-use Rattle.std.proofs.Common.{drop, replicate, refl, sym, ap, ◌∙◌, arith}
-use Rattle.std.proofs.lemmas.Bool.{cases_lt, and_parts, eq-eqb, ne_eqb, leb-true, true≢false}
-use Rattle.std.proofs.lemmas.List.{append_assoc, append-nil, map-append, at_drop_all}
-use Rattle.first_pass_items.specs.declared.item.Alignment.{Alignment}
-use Rattle.first_pass_items.specs.declared.item.Item.{Item}
-use Rattle.first_pass_items.specs.declared.item.ItemBody.{ItemBody}
-use Rattle.first_pass_items.specs.declared.item.ItemBody.TheVariants.{Table, TableHead, TableRow, TableCell}
-use Rattle.first_pass_tree.specs.Forest.{at_depth, block_of}
-use Rattle.first_pass_lines.specs.Lines.{at_line_end}
-use Rattle.first_pass_lines.specs.Places.{Place, offset, start_of}
-use Rattle.first_pass_lines.proofs.LineFacts.{line_len-within}
-use Rattle.first_pass_tokens.specs.Braces.{MathBraces, no_braces}
-use Rattle.first_pass_tokens.specs.LineTokens.{Spot, spot, IsCell}
-use Rattle.first_pass_tokens.specs.TreeTokens.{leaves}
-use Rattle.first_pass_tokens.proofs.LineLemmas.{cell_ends}
+use Rattle.std.proofs.Common.{◌≡◌, inl, inr, ℕ, zero, suc, ◌+◌, ◌-◌, ◌<◌, ◌≤◌, ◌==◌, nat_lt, nat_le, true, false, List, ◌∷◌, ◌++◌, length, map, take, []}
+use Rattle.std.proofs.Common.{drop, replicate, refl, sym, ap, ◌∙◌, arith, eq-eqb, ne_eqb, leb-true, true≢false, append_assoc, append-nil}
+use Rattle.first_pass_grammar.proofs.Common.{cases_lt, and_parts, false≢true, map-append, at_drop_all, Alignment, Item, ItemBody, Table, TableHead}
+use Rattle.first_pass_grammar.proofs.Common.{TableRow, TableCell, at_depth, at_line_end, Place, offset, start_of, line_len-within, MathBraces, no_braces}
+use Rattle.first_pass_grammar.proofs.Common.{Spot, spot, IsCell, leaves, cell_ends, Names, Document, cell_content, cell_start, cell_text, cell_block}
+use Rattle.first_pass_grammar.proofs.Common.{AreCells, inserted, side_by_side, row_cells, row_block, Taken, TableSoFar, table_so_far, AreRows}
+use Rattle.first_pass_grammar.proofs.Common.{most_inserted, IsTable, Mark, ATable, ARow, ACell, shown, marks, RowCells, row_marks, TableRows, table_marks}
+use Rattle.first_pass_grammar.proofs.Common.{HaveCells, AreFull, AreWholeTables, ShowsNothing, AreEachNode, AllZip, is_markup, CowStr}
 use Rattle.first_pass_grammar.specs.declared.kind.Container.{Container}
-use Rattle.first_pass_grammar.specs.Names.{Names}
-use Rattle.first_pass_grammar.specs.Leaves.{Document}
-use Rattle.first_pass_grammar.specs.Tables.{cell_content, cell_start, cell_text, cell_block, AreCells, inserted, side_by_side, row_cells, row_block, Taken}
-use Rattle.first_pass_grammar.specs.Tables.{TableSoFar, table_so_far, AreRows, most_inserted, IsTable}
-use Rattle.first_pass_grammar.specs.WholeTables.{Mark, ATable, ARow, ACell, shown, marks, RowCells, row_marks, TableRows, table_marks, how_often, inserted_in}
-use Rattle.first_pass_grammar.specs.WholeTables.{StartApart, HaveCells, AreFull, AreWholeTables, ShowsNothing}
+use Rattle.first_pass_grammar.specs.WholeTables.{how_often, inserted_in}
+use Rattle.first_pass_grammar.specs.WholeTables.{StartApart}
 use Rattle.first_pass_grammar.proofs.Count.RowsWithRoom.{with_row, RowsWithRoom, counted}
-use Rattle.first_pass_grammar.proofs.Each.EachToken.{AreEach, HoldsOfTokens, HoldsOfRaw, cell_each}
+use Rattle.first_pass_grammar.proofs.Each.EachToken.{HoldsOfTokens, cell_each}
+use Rattle.first_pass_grammar.proofs.Each.EachCell.{deeper_nodes, leaves_nodes}
+use Rattle.first_pass_grammar.proofs.Each.EachPair.{first_pairs, pair_copies, both_pairs}
 use Rattle.first_pass_grammar.proofs.Order.RowEnds.{row_ends_its_line, next_starts_later}
 use Rattle.first_pass_grammar.proofs.WholeTables.TableRows.{as_many_cells}
-use Rattle.first_pass_tokens.proofs.PieceFacts.{is_markup}
-use Rattle.first_pass_items.specs.declared.cow_str.CowStr.{CowStr}
 use Rattle.first_pass_grammar.proofs.Names.TokensNamed.{NamesWithin}
-use Rattle.first_pass_items.specs.declared.item.ItemBody.TheVariants.{MaybeEmphasis, MaybeMath, MaybeSmartQuote, SynthesizeChar, SynthesizeText, Text}
-use Rattle.first_pass_items.specs.declared.item.ItemBody.TheVariants.{MaybeCode, MaybeHtml, MaybeLinkOpen, MaybeLinkClose, MaybeImage}
 
 -- more nodes, and nodes at another depth
 pub marks-append : (names : Names) (nodes more : List (ℕ × Item)) → marks names (nodes ++ more) ≡ marks names nodes ++ marks names more
@@ -106,86 +92,40 @@ whole_deeper names d nodes (tables, is, full) = (
 )
 
 markup_shows : (texts : List CowStr) (body : ItemBody) → is_markup body ≡ true → NamesWithin texts body → ShowsNothing body
-markup_shows texts (MaybeEmphasis left opens closes) h k = λ names depth start end. refl
-markup_shows texts (MaybeMath opens closes context) h k = λ names depth start end. refl
-markup_shows texts (MaybeSmartQuote quote opens closes) h k = λ names depth start end. refl
-markup_shows texts (SynthesizeChar c) h k = λ names depth start end. refl
-markup_shows texts (SynthesizeText ix) h k = λ names depth start end. refl
-markup_shows texts (MaybeCode n escaped) h k = λ names depth start end. refl
-markup_shows texts MaybeHtml h k = λ names depth start end. refl
-markup_shows texts MaybeLinkOpen h k = λ names depth start end. refl
-markup_shows texts (MaybeLinkClose b) h k = λ names depth start end. refl
-markup_shows texts MaybeImage h k = λ names depth start end. refl
-markup_shows texts _ h k = absurd (true≢false (sym h))
-
-pub text_shows : (escaped : Bool) → ShowsNothing (Text escaped)
-text_shows escaped = λ names depth start end. refl
+markup_shows texts (Table index) h k = absurd (false≢true h)
+markup_shows texts TableHead h k = absurd (false≢true h)
+markup_shows texts TableRow h k = absurd (false≢true h)
+markup_shows texts TableCell h k = absurd (false≢true h)
+markup_shows texts _ h k = λ names depth start end. refl
 
 pub tokens_show : (texts : List CowStr) → HoldsOfTokens texts ShowsNothing
 tokens_show texts =
     record {
-      text = text_shows;
+      text = λ escaped names depth start end. refl;
       soft = λ names depth start end. refl;
       hard = λ by_backslash names depth start end. refl;
       markup = markup_shows texts;
     }
 
-pub raw_shows : HoldsOfRaw ShowsNothing
-raw_shows = record { html = λ names depth start end. refl; columns = λ ix names depth start end. refl }
-
-pub leaves_show : (names : Names) (chain : List Item) → AreEach ShowsNothing chain → marks names (leaves chain) ≡ []
+pub none_shown : (names : Names) (nodes : List (ℕ × Item)) → AreEachNode ShowsNothing nodes → marks names nodes ≡ []
 unfolding marks
-leaves_show names [] h = refl
-leaves_show names (x ∷ chain) h = rw (h.0 names 0 x.start x.«end», leaves_show names chain h.1) refl
+none_shown names [] h = refl
+none_shown names (n ∷ nodes) h = rw (h.0 names n.0 n.1.start n.1.«end», none_shown names nodes h.1) refl
 
--- a block whose first node is no part of a table, with a chain of such nodes
-pub block_shows : (names : Names) (x : Item) (chain : List Item) → ShowsNothing x.body → AreEach ShowsNothing chain
-    → marks names (block_of x (leaves chain)) ≡ []
-unfolding marks
-block_shows names x chain own h =
-    ap (λ (z : List Mark). z ++ marks names (at_depth 1 (leaves chain))) (own names 0 x.start x.«end»)
-    ∙ marks-at_depth names 1 (leaves chain) ∙ ap (map (mark_deeper 1)) (leaves_show names chain h)
+-- The marks of this block are a cell that starts at this offset.
+abbrev IsCellAt : Names → List (ℕ × Item) → ℕ → Type 0
+IsCellAt names block start = marks names block ≡ ACell 0 start ∷ []
 
--- The marks of these blocks are cells that start at these offsets.
-unfoldable pub ShowCells : Names → List (List (ℕ × Item)) → List ℕ → Type 0
-ShowCells names [] [] = Unit {0}
-ShowCells names (block ∷ blocks) (start ∷ starts) = (marks names block ≡ ACell 0 start ∷ []) × ShowCells names blocks starts
-ShowCells names _ _ = ⊥
-
-first_show : (names : Names) (n : ℕ) (blocks : List (List (ℕ × Item))) (starts : List ℕ) → ShowCells names blocks starts
-    → ShowCells names (take n blocks) (take n starts)
-unfolding ShowCells
-first_show names zero blocks starts h = tt
-first_show names (suc n) [] [] h = tt
-first_show names (suc n) [] (start ∷ starts) h = absurd h
-first_show names (suc n) (block ∷ blocks) [] h = absurd h
-first_show names (suc n) (block ∷ blocks) (start ∷ starts) h = (h.0, first_show names n blocks starts h.1)
-
-copies_show : (names : Names) (n : ℕ) (block : List (ℕ × Item)) (start : ℕ) → marks names block ≡ ACell 0 start ∷ []
-    → ShowCells names (replicate n block) (replicate n start)
-unfolding ShowCells
-copies_show names zero block start h = tt
-copies_show names (suc n) block start h = (h, copies_show names n block start h)
-
-both_show : (names : Names) (xs ys : List (List (ℕ × Item))) (ss ts : List ℕ) → ShowCells names xs ss → ShowCells names ys ts
-    → ShowCells names (xs ++ ys) (ss ++ ts)
-unfolding ShowCells
-both_show names [] ys [] ts h k = k
-both_show names [] ys (s ∷ ss) ts h k = absurd h
-both_show names (x ∷ xs) ys [] ts h k = absurd h
-both_show names (x ∷ xs) ys (s ∷ ss) ts h k = (h.0, both_show names xs ys ss ts h.1 k)
-
-side_shows : (names : Names) (blocks : List (List (ℕ × Item))) (starts : List ℕ) → ShowCells names blocks starts
+side_shows : (names : Names) (blocks : List (List (ℕ × Item))) (starts : List ℕ) → AllZip (IsCellAt names) blocks starts
     → (marks names (side_by_side blocks) ≡ map (ACell 0) starts) × (length starts ≡ length blocks)
-unfolding ShowCells marks
+unfolding marks
 side_shows names [] [] h = (refl, refl)
-side_shows names [] (start ∷ starts) h = absurd h
-side_shows names (block ∷ blocks) [] h = absurd h
 side_shows names (block ∷ blocks) (start ∷ starts) h =
     let rest = side_shows names blocks starts h.1 in
     let own = h.0 in
     let both = marks-append names block (side_by_side blocks) in
     (both ∙ ap (λ (z : List Mark). z ++ marks names (side_by_side blocks)) own ∙ ap (λ (z : List Mark). ACell 0 start ∷ z) rest.0, ap suc rest.1)
+side_shows names blocks starts h = absurd h
 
 -- these offsets are in ascending order, from one offset on and before another
 unfoldable AreBetween : ℕ → ℕ → List ℕ → Type 0
@@ -269,12 +209,12 @@ cell_shows : {after : MathBraces} (d : Document) (p : Spot) (start : ℕ) (token
 unfolding marks
 cell_shows d p start tokens stop h =
     ap (λ (z : List Mark). ACell 0 start ∷ z)
-    (marks-at_depth d.names 1 (leaves tokens)
-    ∙ ap (map (mark_deeper 1)) (leaves_show d.names tokens (cell_each d.names.texts ShowsNothing (tokens_show d.names.texts) (cell_content d p) tokens stop h)))
+    (none_shown d.names (at_depth 1 (leaves tokens)) (deeper_nodes ShowsNothing 1 (leaves tokens)
+    (leaves_nodes ShowsNothing tokens (cell_each d.names.texts ShowsNothing (tokens_show d.names.texts) (cell_content d p) tokens stop h))))
 
 cells_show : (d : Document) (p : Spot) (cells : List (List (ℕ × Item))) (to : Spot) → AreCells d p cells to
-    → (starts : List ℕ) × ShowCells d.names cells starts × AreBetween (cell_start d.text p.at) to.at starts
-unfolding AreCells ShowCells AreBetween
+    → (starts : List ℕ) × AllZip (IsCellAt d.names) cells starts × AreBetween (cell_start d.text p.at) to.at starts
+unfolding AreCells AreBetween
 cells_show d p [] to h = ([], tt, tt)
 cells_show d p (cell ∷ cells) to (on, tokens, stop, is, e, more) =
     let rest = cells_show d stop cells to more in
@@ -285,10 +225,6 @@ cells_show d p (cell ∷ cells) to (on, tokens, stop, is, e, more) =
       (ap (marks d.names) e ∙ own, rest.1),
       (omega arith, here.0, later_between (suc (cell_start d.text p.at)) (cell_start d.text stop.at) to.at rest.0 (omega arith) rest.2),
     )
-
-inserted_shows : (names : Names) («end» : ℕ) → marks names (cell_block «end» «end» []) ≡ ACell 0 «end» ∷ []
-unfolding marks
-inserted_shows names end = refl
 
 -- the marks of these nodes are those of a row: its end, and as many cells as columns, of which so many inserted ones
 -- start at its end
@@ -305,8 +241,9 @@ row_shows d body columns p cells to own are =
     let (starts, show, before) = cells_show d p cells to are in
     let end : ℕ = to.at in
     let n : ℕ = inserted columns cells in
-    let both = both_show d.names (take columns cells) (replicate n (cell_block end end [])) (take columns starts) (replicate n end)
-    (first_show d.names columns cells starts show) (copies_show d.names n (cell_block end end []) end (inserted_shows d.names end)) in
+    let both = both_pairs (IsCellAt d.names) (take columns cells) (replicate n (cell_block end end [])) (take columns starts) (replicate n end)
+    (first_pairs (IsCellAt d.names) columns cells starts show)
+    (pair_copies (IsCellAt d.names) n (cell_block end end []) end refl) in
     let all = side_shows d.names (take columns cells ++ replicate n (cell_block end end [])) (take columns starts ++ replicate n end) both in
     let from : ℕ = cell_start d.text p.at in
     let first = first_between from end columns starts before in

@@ -1,20 +1,10 @@
 -- The tables of a derived tree are whole.
-use Rattle.std.proofs.Common.{◌≡◌, ℕ, suc, ◌==◌, Bool, true, false, List, [], ◌∷◌, ◌++◌, length, map, refl, sym, ap, subst, ◌∙◌, if◌then◌else◌}
-use Rattle.std.proofs.lemmas.List.{append_assoc}
-use Rattle.first_pass_items.specs.declared.item.Item.{Item}
-use Rattle.first_pass_items.specs.declared.item.ItemBody.{ItemBody}
-use Rattle.first_pass_items.specs.declared.item.ItemBody.TheVariants.{Paragraph as ParagraphBody, DefinitionListTitle}
-use Rattle.first_pass_tree.specs.Forest.{at_depth}
-use Rattle.first_pass_tree.specs.Tight.{tight_body, tightened}
-use Rattle.first_pass_lines.specs.Places.{lines_at}
-use Rattle.first_pass_grammar.specs.Names.{Names}
-use Rattle.first_pass_grammar.specs.Leaves.{Document}
-use Rattle.first_pass_grammar.specs.Skeleton.{Line, level, Lines}
-use Rattle.first_pass_grammar.specs.Before.{nothing, is_paragraph_body, begins_paragraph}
-use Rattle.first_pass_grammar.specs.Rows.{What, ALeaf, AQuote, AList, AnItem, Rows, End, OneOf, is_loose, ADefinitionList, ATitle, ADefinition, rows_of}
-use Rattle.first_pass_grammar.specs.Rows.{AFootnote}
-use Rattle.first_pass_grammar.specs.Derivation.{as_title, row_items, tight_in, items_of, Tables, root_of, Derives}
-use Rattle.first_pass_grammar.specs.WholeTables.{Mark, ATable, shown, marks, row_marks, TableRows, table_marks, AreFull, AreWholeTables}
+use Rattle.std.proofs.Common.{◌≡◌, ℕ, suc, ◌==◌, Bool, true, false, List, [], ◌∷◌, ◌++◌, length, map, refl, sym, ap, subst, ◌∙◌, append_assoc}
+use Rattle.first_pass_grammar.proofs.Common.{cond_both, Item, ItemBody, DefinitionListTitle, at_depth, tight_body, tightened, lines_at, Names, Document}
+use Rattle.first_pass_grammar.proofs.Common.{Line, level, Lines, nothing, is_paragraph_body, begins_paragraph, What, ALeaf, Rows, End, OneOf, is_loose}
+use Rattle.first_pass_grammar.proofs.Common.{ATitle, rows_of, as_title, row_items, tight_in, items_of, Tables, root_of, Derives, Mark, ATable, shown, marks}
+use Rattle.first_pass_grammar.proofs.Common.{row_marks, TableRows, table_marks, AreFull, AreWholeTables}
+use Rattle.first_pass_items.specs.declared.item.ItemBody.TheVariants.{Paragraph as ParagraphBody}
 use Rattle.first_pass_grammar.proofs.Each.EachRow.{HoldsOfRow, HoldsOfEachRow, each_row}
 use Rattle.first_pass_grammar.proofs.WholeTables.FullHeads.{heads_are_full}
 use Rattle.first_pass_grammar.proofs.Sequences.LinesLeft.{lines_are_at}
@@ -51,17 +41,13 @@ pub tight_shows : (names : Names) (depth start «end» : ℕ) (b : ItemBody) →
 tight_shows names depth start end ParagraphBody = refl
 tight_shows names depth start end b = refl
 
-pub tight_by : (names : Names) (depth : ℕ) (t : Bool) (x : Item)
-    → (let y : Item = if t then record { start = x.start; «end» = x.«end»; body = tight_body x.body } else x in shown names depth y.start y.«end» y.body)
-    ≡ shown names depth x.start x.«end» x.body
-tight_by names depth true x = tight_shows names depth x.start x.«end» x.body
-tight_by names depth false x = refl
-
 pub marks-tightened : (names : Names) (depth : ℕ) (nodes : List (ℕ × Item)) → marks names (map (tightened depth) nodes) ≡ marks names nodes
 unfolding marks
 marks-tightened names depth [] = refl
 marks-tightened names depth (n ∷ nodes) =
-    ap (λ (z : List Mark). z ++ marks names (map (tightened depth) nodes)) (tight_by names n.0 (n.0 == depth) n.1)
+    let shown_as : ItemBody → List Mark = shown names n.0 n.1.start n.1.«end» in
+    ap (λ (z : List Mark). z ++ marks names (map (tightened depth) nodes)) (cond_both (n.0 == depth) _ _
+    (λ (x : Item). shown names n.0 x.start x.«end» x.body ≡ shown_as n.1.body) (λ b. tight_shows names n.0 n.1.start n.1.«end» n.1.body) (λ b. refl))
     ∙ ap (λ (z : List Mark). shown names n.0 n.1.start n.1.«end» n.1.body ++ z) (marks-tightened names depth nodes)
 
 -- the leaf blocks of rows have whole tables, or no part of a table
@@ -86,14 +72,9 @@ unfolding marks
 row_whole names depth true loose start (ALeaf block) inner h =
     whole_same names (at_depth depth block.items) _ (marks-tightened names depth (at_depth depth block.items)) (whole_deeper names depth block.items h.0)
 row_whole names depth false loose start (ALeaf block) inner h = whole_deeper names depth block.items h.0
-row_whole names depth tight loose start (AQuote kind e) inner h = whole_none names _ refl
-row_whole names depth tight loose start (AList byte number e) inner h = whole_none names _ refl
-row_whole names depth tight loose start (AnItem columns e) inner h = whole_none names _ refl
-row_whole names depth tight loose start (AFootnote index e) inner h = whole_none names _ refl
-row_whole names depth tight loose start (ADefinitionList t e) inner h = whole_none names _ refl
 row_whole names depth tight loose start (ATitle block) inner h =
     whole_deeper names depth (as_title block.items) (whole_same names block.items (as_title block.items) (title_marks names block.items h.2) h.0)
-row_whole names depth tight loose start (ADefinition columns e) inner h = whole_none names _ refl
+row_whole names depth tight loose start w inner h = whole_none names _ refl
 
 pub forest_whole : (names : Names) (depth : ℕ) (tight : Bool) (rows : Rows) → WholeRows names rows → AreWholeTables names (items_of depth tight rows)
 unfolding HoldsOfEachRow items_of marks

@@ -1,19 +1,11 @@
-use Rattle.std.proofs.Common.{◌≡◌, ◌<◌, ◌≤◌, ◌+◌, inl, inr, ℕ, List, [], length, None, IsCharBoundary, arith, refl, sym, ap, ◌∙◌, subst}
-use Rattle.std.proofs.lemmas.Str.{IsCharBoundary-start, IsCharBoundary-end}
-use Rattle.first_pass_lines.proofs.LineFacts.{lines_at-end}
-use Rattle.first_pass_grammar.specs.Leaves.{document}
-use Rattle.first_pass_items.specs.declared.option_set.Options.{Options}
-use Rattle.first_pass_grammar.specs.Completion.{lines_from}
+use Rattle.std.proofs.Common.{◌≡◌, ◌≤◌, ◌+◌, inl, inr, ℕ, List, [], length, None, arith, refl, sym, ap, ◌∙◌, subst}
+use Rattle.first_pass_grammar.proofs.Common.{IsCharBoundary-start, IsCharBoundary-end, lines_at-end, document, Options, lines_from, Derives}
 use Rattle.first_pass_lists.specs.declared.state.PassState.{PassState}
 use Rattle.first_pass_order.specs.Ordered.{reached, IsReadTo, IsReadFrom}
 use Rattle.first_pass_ready.specs.State.{Ready}
-use Rattle.first_pass_names.specs.TableEntries.{Entries, names_of, tables_in, tables_of}
-use Rattle.first_pass_grammar.specs.Derivation.{Derives}
-use Rattle.first_pass_grammar.specs.Names.{AreNamed}
-use Rattle.first_pass_definitions.specs.Found.{AreWritten}
-use Rattle.first_pass_blocks.specs.Written.{AreFootnotesWritten}
-use Rattle.first_pass_blocks.proofs.LineByLine.PassRead.{block_more, lines_more}
-use Rattle.first_pass_blocks.proofs.LinkDefinitions.WrittenLemmas.{none_written}
+use Rattle.first_pass_names.specs.TableEntries.{names_of, tables_in, tables_of}
+use Rattle.first_pass_blocks.proofs.BlockRead.{block_more, lines_more}
+use Rattle.first_pass_blocks.proofs.LinkDefinitions.{none_written}
 use Rattle.first_pass_grammar.proofs.Count.CountedNodes.{own_at_most}
 use Rattle.first_pass_order.proofs.InsertedCells.{all_nodes}
 use Rattle.first_pass_grammar.proofs.Uniqueness.Unique.{only_derived}
@@ -23,8 +15,8 @@ use Rattle.first_pass_order.proofs.OrderLemmas.{ordered_whole}
 use Rattle.first_pass_open.proofs.FrontLemmas.{outer-none}
 use Rattle.first_pass_ready.proofs.StateLemmas.{ready_finish}
 use Rattle.first_pass_names.proofs.NameLemmas.{extends_equal}
-use Rattle.first_pass_blocks.proofs.pass.run_first_pass.Goals as goal
 use Rattle.first_pass_blocks.proofs.pass.run_first_pass.Goals.{After-drop-pass-2}
+use Rattle.first_pass_blocks.proofs.pass.run_first_pass.Goals as goal
 
 pub loop-ix-init : goal.loop-ix-init
 loop-ix-init c = record {
@@ -39,14 +31,6 @@ loop-ix-init c = record {
   node_bound = (let root = c.in_ok-pass.ensures.root in let most = own_at_most None c.in_ok-pass.pass.state.tree.nodes in omega arith);
 }
 
-pub parse_block-requires : goal.parse_block-requires
-parse_block-requires c =
-    let text = c.loop-ix.invariant.same_text in
-    record {
-      within = subst (λ (t : List ℕ). c.loop-ix.ix < length t) (sym text) (omega arith);
-      boundary = subst (λ (t : List ℕ). IsCharBoundary t c.loop-ix.ix) (sym text) c.loop-ix.invariant.boundary;
-    }
-
 pub loop-pass-init : goal.loop-pass-init
 loop-pass-init c =
     let ix = c.loop-ix.ix in
@@ -57,17 +41,6 @@ loop-pass-init c =
           (omega arith);
       front = one.front;
       later = omega arith;
-    }
-
-pub parse_known-requires : goal.parse_known-requires
-parse_known-requires c =
-    let i = c.loop-pass.invariant in
-    let text = i.read.same_text in
-    record {
-      within = subst (λ (t : List ℕ). c.loop-pass.ix < length t) (sym text) (omega arith);
-      boundary = subst (λ (t : List ℕ). IsCharBoundary t c.loop-pass.ix) (sym text) i.read.boundary;
-      known = c.loop-pass-test.true;
-      front = i.front;
     }
 
 pub loop-pass-preserved : goal.loop-pass-preserved
@@ -81,11 +54,6 @@ loop-pass-preserved c =
       front = one.front;
       later = (let before = c.loop-pass.invariant.later in omega arith);
     }
-
-pub read_blank_lines-ix-requires : goal.read_blank_lines-ix-requires
-read_blank_lines-ix-requires c =
-    let i = c.loop-pass.invariant.read in
-    subst (λ (t : List ℕ). IsCharBoundary t c.loop-pass.ix) (sym i.same_text) i.boundary
 
 pub loop-ix-preserved : goal.loop-ix-preserved
 loop-ix-preserved c =
@@ -134,9 +102,6 @@ returns-clause-tables c =
     let d = document c.args.text.now c.args.options (names_of c.sort_tables.new.self) in
     derived_whole d c.close_containers.new.state.tree.nodes (tables_of c.sort_tables.new.self) (returns-clause-derived c)
 
-pub returns-clause-finished : goal.returns-clause-finished
-returns-clause-finished c = all_closed c
-
 pub returns-clause-settled : goal.returns-clause-settled
 returns-clause-settled c =
     let d = document c.args.text.now c.args.options (names_of c.loop-ix.pass.allocs) in
@@ -154,7 +119,7 @@ returns-clause-order c =
     let order = at_end c.args.options text read c.loop-ix.ix (omega arith) i.order in
     let within = order.0.within in
     let same : c.loop-ix.ix ≡ n = omega arith in
-    let closes = c.close_containers.ensures.kept.order text in
+    let closes = c.close_containers.ensures.kept.state.order text in
     let here : IsReadTo text now n = closes (omega arith) last (subst (IsReadTo text read) same order) in
     ordered_whole text now.tree (reached now.begin_list_item n) (all_closed c) here.0.ordered
 
@@ -162,7 +127,7 @@ pub returns-clause-counted : goal.returns-clause-counted
 returns-clause-counted c =
     let read = c.loop-ix.invariant.node_bound in
     let within = c.loop-ix.invariant.boundary.0 in
-    let closed = c.close_containers.ensures.kept.count in
+    let closed = c.close_containers.ensures.kept.state.count in
     omega arith
 
 pub returns-clause-node_bound : goal.returns-clause-node_bound
@@ -170,16 +135,3 @@ returns-clause-node_bound c =
     let counted = returns-clause-counted c in
     let all = all_nodes (names_of c.sort_tables.new.self) c.close_containers.new.state.tree.nodes (returns-clause-tables c) in
     omega arith
-
-pub returns-clause-named : goal.returns-clause-named
-returns-clause-named c =
-    subst (λ m. AreNamed m c.close_containers.new.state.tree.nodes) (sym c.sort_tables.ensures.names)
-    (c.close_containers.ensures.kept.named (names_of c.loop-ix.pass.allocs) c.loop-ix.invariant.named)
-
-pub returns-clause-links : goal.returns-clause-links
-returns-clause-links c =
-    subst (λ (e : Entries). AreWritten c.args.text.now e.links) (sym c.sort_tables.ensures.entries) c.loop-ix.invariant.written.0
-
-pub returns-clause-footnotes : goal.returns-clause-footnotes
-returns-clause-footnotes c =
-    subst (λ (e : Entries). AreFootnotesWritten c.args.text.now e.footnotes) (sym c.sort_tables.ensures.entries) c.loop-ix.invariant.written.1

@@ -1,6 +1,6 @@
 use Rattle.std.proofs.Common.{◌-◌, ◌≤◌, length}
 use Rattle.first_pass_blocks.specs.Progress.{KnowsNext}
-use Rattle.first_pass_blocks.proofs.LineByLine.PassRead.{IsReadUpTo}
+use Rattle.first_pass_blocks.proofs.BlockRead.{IsReadUpTo}
 use Rattle.first_pass_blocks.proofs.pass.run_first_pass.Given as goal
 
 abbrev pub invariant-loop-ix : goal.invariant-loop-ix

@@ -1,10 +1,6 @@
 use Rattle.std.proofs.Common.{◌+◌, IsCharBoundary, length, subst, sym, ◌∙◌}
-use Rattle.first_pass_items.specs.declared.item.Item.{Item}
-use Rattle.first_pass_items.specs.declared.item.ItemBody.TheVariants.{Table}
-use Rattle.first_pass_tree.specs.Forest.{Forest}
+use Rattle.first_pass_grammar.proofs.Common.{Item, Table, Forest, Names, Extends, NamesAlignments, document}
 use Rattle.first_pass_open.specs.OpenBlock.{opened_block}
-use Rattle.first_pass_grammar.specs.Names.{Names, Extends, NamesAlignments}
-use Rattle.first_pass_grammar.specs.Leaves.{document}
 use Rattle.first_pass_names.specs.TableEntries.{names_of}
 use Rattle.first_pass_names.proofs.NameLemmas.{extends_none, extends_both, extends_alignments, alignments_last}
 use Rattle.first_pass_open.proofs.PathLemmas.{open_are_in}

@@ -1,5 +1,4 @@
-use Rattle.std.proofs.Common.{sym}
-use Rattle.std.proofs.lemmas.List.{length-take-le}
+use Rattle.std.proofs.Common.{sym, length-take-le}
 use Rattle.first_pass_c.proofs.Counts.{sides_counted, tree_fits}
 use Rattle.first_pass_c.proofs.reading.write_into.Goals as goal
 

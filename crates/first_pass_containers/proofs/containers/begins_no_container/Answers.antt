@@ -1,4 +1,4 @@
-use Rattle.first_pass_containers.proofs.Openings.NoContainer.{plain_begins_none}
+use Rattle.first_pass_containers.proofs.Openings.Indented.{plain_begins_none}
 use Rattle.first_pass_containers.proofs.containers.begins_no_container.Goals as goal
 
 pub returns-then-is_at_plain : goal.returns-then-is_at_plain

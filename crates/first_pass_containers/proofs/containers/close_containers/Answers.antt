@@ -1,14 +1,11 @@
-use Rattle.std.proofs.Common.{◌≡◌, ℕ, suc, ◌-◌, ◌<◌, ◌≤◌, List, [], ◌∷◌, length, refl, sym, ap, subst, ◌∙◌, arith}
-use Rattle.first_pass_tree.specs.declared.tree_index.TreeIndex.{TreeIndex}
+use Rattle.std.proofs.Common.{◌≡◌, ℕ, suc, ◌-◌, ◌<◌, List, [], ◌∷◌, length, refl, sym, ap, subst, ◌∙◌, arith}
+use Rattle.first_pass_grammar.proofs.Common.{TreeIndex}
 use Rattle.first_pass_lists.specs.Closing.{popped}
 use Rattle.first_pass_lists.specs.declared.state.PassState.{PassState}
-use Rattle.first_pass_order.specs.Ordered.{IsReadTo}
-use Rattle.first_pass_order.proofs.NamedLemmas.{AreReadNamed, popped_named}
-use Rattle.first_pass_order.proofs.CountLemmas.{count, popped_count}
-use Rattle.first_pass_order.proofs.PopOrder.{read_popped}
 use Rattle.first_pass_ready.proofs.StateLemmas.{closed_none, closed_one, popped_spine}
-use Rattle.first_pass_order.proofs.WholeKept.{IsReadWhole, popped_whole}
-use Rattle.first_pass_containers.specs.Entering.{all_popped}
+use Rattle.first_pass_order.proofs.WholeKept.{popped_whole}
+use Rattle.first_pass_containers.specs.Entering.{all_popped, KeepsState}
+use Rattle.first_pass_containers.proofs.OrderSteps.{state_kept, kept_both, popped_kept}
 use Rattle.first_pass_containers.proofs.containers.close_containers.Goals as goal
 
 one_less : (at n : ℕ) (r : PassState) (spine : List TreeIndex) → r.tree.spine ≡ spine → length spine ≡ suc n → length (popped at r).tree.spine ≡ n
@@ -33,10 +30,7 @@ pub loop-state-init : goal.loop-state-init
 loop-state-init c = record {
   value = refl;
   closed = closed_none c.args.state.now c.args.kept c.args.ix c.requires;
-  order = λ text within boundary ordered. ordered;
-  none_added = omega arith;
-  named = λ names h. h;
-  tables = λ names h. h;
+  kept = state_kept c.args.state.now c.args.ix;
   all_kept = λ all. refl;
 }
 
@@ -50,11 +44,8 @@ loop-state-preserved c =
       value = ap (λ (q : PassState). all_popped (length q.tree.spine - c.args.kept) c.args.ix q) c.pop.ensures
           ∙ one_popped c.args.kept c.args.ix _ (omega arith) ∙ i.value;
       closed = one.0;
-      order = λ text within boundary ordered. subst (λ (q : PassState). IsReadTo text q c.args.ix) (sym c.pop.ensures)
-          (read_popped text _ c.args.ix c.args.ix (omega arith) within boundary (i.order text within boundary ordered));
-      none_added = subst (λ (q : PassState). count q ≤ count c.args.state.now) (sym c.pop.ensures) (popped_count c.args.ix _ _ i.none_added);
-      named = λ names h. subst (AreReadNamed names) (sym c.pop.ensures) (popped_named names c.args.ix _ (i.named names h));
-      tables = λ names h. subst (IsReadWhole names) (sym c.pop.ensures) (popped_whole names c.args.ix _ c.recall_forest.ensures (i.tables names h));
+      kept = subst (λ (q : PassState). KeepsState c.args.state.now q c.args.ix) (sym c.pop.ensures) (kept_both _ _ _ c.args.ix i.kept
+          (popped_kept c.args.ix _ (λ names h. popped_whole names c.args.ix _ c.recall_forest.ensures h)));
       all_kept = λ all. (let none = ap (λ (q : PassState). length q.tree.spine) (i.all_kept all) in absurd (omega arith));
     }
 
@@ -70,17 +61,3 @@ returns-clause-value c =
     let n = c.spine_len.ensures in
     let done = c.loop-state-test.false in
     sym (none_popped _ c.args.ix _ (omega arith)) ∙ i.value
-
-pub returns-clause-kept : goal.returns-clause-kept
-returns-clause-kept c =
-    let i = c.loop-state.invariant in
-    let closed = i.closed in
-    record {
-      paths = closed.paths;
-      ready = closed.ready;
-      order = i.order;
-      count = i.none_added;
-      named = i.named;
-      tables = i.tables;
-      all_kept = i.all_kept;
-    }

@@ -1,58 +1,34 @@
-use Rattle.std.proofs.Common.{◌≡◌, inl, ℕ, ◌+◌, Bool, true, false, drop, Option, Some, None, if◌then◌else◌, is_some, IsUtf8, refl, sym, ap, subst, ◌∙◌, arith}
-use Rattle.std.proofs.Common.{inr, ◌≤◌, List, length, IsCharBoundary}
-use Rattle.first_pass_lines.specs.Lines.{blank_len, line_len}
-use Rattle.first_pass_lines.specs.Rest.{Rest}
-use Rattle.first_pass_lines.specs.Places.{Place, line_rest, place_at}
+use Rattle.std.proofs.Common.{◌≡◌, inl, ℕ, ◌+◌, Bool, true, false, drop, Option, Some, None, if◌then◌else◌, is_some, IsUtf8, refl, sym, ap, subst, ◌∙◌}
+use Rattle.std.proofs.Common.{arith, inr}
+use Rattle.first_pass_grammar.proofs.Common.{blank_len, line_len, Rest, Place, line_rest, place_at, Document, document, Names, Tables, Options}
+use Rattle.first_pass_grammar.proofs.Common.{in_old_footnote}
 use Rattle.first_pass_open.proofs.FrontLemmas.{front_is}
-use Rattle.first_pass_grammar.specs.Leaves.{Document, document}
-use Rattle.first_pass_grammar.specs.Names.{Names}
-use Rattle.first_pass_grammar.specs.Derivation.{Tables}
-use Rattle.first_pass_lists.specs.Closing.{footnote_ended, is_footnote, popped, top_body}
+use Rattle.first_pass_lists.specs.Closing.{footnote_ended}
 use Rattle.first_pass_lists.specs.declared.state.PassState.{PassState}
 use Rattle.first_pass_order.specs.Ordered.{IsReadTo}
-use Rattle.first_pass_containers.specs.Entering.{place_entered}
+use Rattle.first_pass_containers.specs.Entering.{place_entered, KeepsState}
 use Rattle.first_pass_containers.specs.Positions.{OrderedUpTo}
-use Rattle.first_pass_order.proofs.NamedLemmas.{AreReadNamed, blank_named, empty_item_closed_named, popped_named}
-use Rattle.first_pass_order.proofs.WholeKept.{IsReadWhole, blank_whole, empty_item_closed_whole, popped_plain_whole}
-use Rattle.first_pass_order.proofs.CountLemmas.{count, empty_item_closed_count, blank_count, popped_count}
-use Rattle.first_pass_containers.proofs.LineByLine.EnteredLines.{entered_whole, ordered_blank_line, ordered_other_line}
-use Rattle.first_pass_containers.proofs.Order.OrderSteps.{ordered_at_place}
+use Rattle.first_pass_order.proofs.NamedLemmas.{blank_named, empty_item_closed_named}
+use Rattle.first_pass_order.proofs.WholeKept.{blank_whole, empty_item_closed_whole, popped_plain_whole}
+use Rattle.first_pass_order.proofs.CountLemmas.{count, empty_item_closed_count, blank_count}
+use Rattle.first_pass_containers.proofs.OrderSteps.{entered_whole, ordered_blank_line, ordered_other_line, state_kept, kept_both, popped_kept}
+use Rattle.first_pass_containers.proofs.OrderSteps.{ordered_at_place}
 use Rattle.first_pass_ready.proofs.LineLemmas.{IsSettled, settled, at_line, blank_line_read, line_entered, line_kept}
 use Rattle.first_pass_lists.proofs.NoEmptyItem.{finished_none}
-use Rattle.first_pass_items.specs.declared.option_set.Options.{Options}
-use Rattle.first_pass_grammar.specs.Containers.{in_old_footnote}
 use Rattle.first_pass_open.specs.Path.{path_of}
 use Rattle.first_pass_ready.proofs.OldFootnotes.{ended_as, in_old}
 use Rattle.first_pass_order.proofs.Nests.{note_untitled}
-use Rattle.first_pass_order.proofs.PopOrder.{read_popped}
-use Rattle.first_pass_containers.proofs.containers.enter_front.Goals as goal
 use Rattle.first_pass_containers.proofs.containers.enter_front.Goals.{After-is_some}
+use Rattle.first_pass_containers.proofs.containers.enter_front.Goals as goal
 
 -- ---- a footnote definition in the old form that ends at a line: names, whole tables, order and the number of nodes
 
--- a property of the state that holds before and after the innermost open node is closed, holds here
-ended_holds : (options : Options) (e : ℕ) (r : PassState) (P : PassState → Type 0) → P r
-    → (is_footnote (top_body r.tree) ≡ true → P (popped e r)) → P (footnote_ended options e r)
-ended_holds options e r P here closed = elim (ended_as options e r) [
-  | inl stays ↦ subst P (sym stays.0) here
-  | inr left ↦ subst P (sym left.0) (closed left.3)
+ended_kept : (options : Options) (e : ℕ) (r : PassState) → KeepsState r (footnote_ended options e r) e
+ended_kept options e r = elim (ended_as options e r) [
+  | inl stays ↦ subst (λ q. KeepsState r q e) (sym stays.0) (state_kept r e)
+  | inr left ↦ subst (λ q. KeepsState r q e) (sym left.0)
+      (popped_kept e r (λ names h. popped_plain_whole names e r (note_untitled r.tree left.3) h))
 ]
-
-ended_count : (options : Options) (e : ℕ) (r : PassState) → count (footnote_ended options e r) ≤ count r
-ended_count options e r = ended_holds options e r (λ q. count q ≤ count r) (omega arith) (λ note. popped_count e (count r) r (omega arith))
-
-ended_named : (options : Options) (names : Names) (e : ℕ) (r : PassState) → AreReadNamed names r → AreReadNamed names (footnote_ended options e r)
-ended_named options names e r h = ended_holds options e r (AreReadNamed names) h (λ note. popped_named names e r h)
-
-ended_whole : (options : Options) (names : Names) (e : ℕ) (r : PassState) → IsReadWhole names r → IsReadWhole names (footnote_ended options e r)
-ended_whole options names e r h =
-    ended_holds options e r (IsReadWhole names) h (λ note. popped_plain_whole names e r (note_untitled r.tree note) h)
-
-ended_ordered : (options : Options) (text : List ℕ) (e : ℕ) (r : PassState) → e ≤ length text → IsCharBoundary text e → IsReadTo text r e
-    → IsReadTo text (footnote_ended options e r) e
-ended_ordered options text e r within boundary h =
-    let here : e ≤ e = omega arith in
-    ended_holds options e r (λ q. IsReadTo text q e) h (λ note. read_popped text r e e here within boundary h)
 
 -- without a counting blank line, nothing ends if a footnote definition in the old form is innermost
 ended_unblank : (options : Options) (e : ℕ) (old closed : PassState) → (in_old_footnote (path_of options old.tree) ≡ true → old.blank ≡ false)
@@ -81,6 +57,11 @@ settled_line c names defined =
     (at_line d defined c.args.state.now c.close_containers.new.state c.args.start_ix c.args.continued (left c) c.requires.within
     (record { spine = c.close_containers.ensures.spine; paths = c.close_containers.ensures.kept.paths; ready = c.close_containers.ensures.kept.ready })
     c.requires.front.taken c.requires.front.stops))
+
+-- what is kept after the containers that the line does not continue are closed
+closed_kept : (c : After-is_some) → KeepsState c.args.state.now c.end_old_footnote.new.state c.args.start_ix
+closed_kept c = kept_both c.args.state.now c.close_containers.new.state _ c.args.start_ix c.close_containers.ensures.kept.state
+    (rw c.end_old_footnote.ensures (ended_kept c.args.source.now.options c.args.start_ix c.close_containers.new.state))
 
 -- the place after the prefixes, for a rest that is blank or not
 abbrev entered_by : ℕ → Rest → Bool → Option Place
@@ -112,12 +93,10 @@ returns-then-is_some-clause-entered c =
     let closed : PassState = c.close_containers.new.state in
     let now : PassState = c.end_old_footnote.new.state in
     let is : now ≡ footnote_ended options start closed = c.end_old_footnote.ensures in
-    let kept = c.close_containers.ensures.kept in
+    let kept = closed_kept a in
     let w = c.requires.within in
     let same = ap count c.read_blank_line.ensures in
     let unchanged = blank_count now in
-    let before = ap count is in
-    let node_bound = ended_count options start closed in
     let first = kept.count in
     record {
       ready = λ names defined ready.
@@ -126,14 +105,14 @@ returns-then-is_some-clause-entered c =
       order = λ ordered. inl (subst (λ (q : PassState). IsReadTo text q (start + line_len (drop start text))) (sym c.read_blank_line.ensures)
           (ordered_blank_line options text c.args.state.now now start (subst IsUtf8 c.as_bytes.ensures.value c.as_bytes.ensures.utf8) w
           c.requires.boundary
-          (λ o. rw is (ended_ordered options text start closed (omega arith) c.requires.boundary (kept.order text (omega arith) c.requires.boundary o)))
+          (λ o. kept.order text (omega arith) c.requires.boundary o)
           (λ h uncounted. is ∙ ended_unblank options start c.args.state.now closed uncounted
-          (kept.all_kept (entered_whole options text c.args.state.now start c.args.continued
+          (c.close_containers.ensures.kept.all_kept (entered_whole options text c.args.state.now start c.args.continued
           _ (left a) refl c.requires.front.within c.requires.front.taken
           c.requires.front.stops h).0)) ordered));
       node_bound = λ first grows. omega arith;
-      named = λ names h. rw c.read_blank_line.ensures (blank_named names now (rw is (ended_named options names start closed (kept.named names h))));
-      tables = λ names h. rw c.read_blank_line.ensures (blank_whole names now (rw is (ended_whole options names start closed (kept.tables names h))));
+      named = λ names h. rw c.read_blank_line.ensures (blank_named names now (kept.named names h));
+      tables = λ names h. rw c.read_blank_line.ensures (blank_whole names now (kept.tables names h));
     }
 
 pub returns-clause-entered : goal.returns-clause-entered
@@ -144,15 +123,11 @@ returns-clause-entered c =
     let start = c.args.start_ix in
     let p : Place = place_at start (left a) in
     let options = source.options in
-    let closed : PassState = c.close_containers.new.state in
     let now : PassState = c.end_old_footnote.new.state in
-    let is : now ≡ footnote_ended options start closed = c.end_old_footnote.ensures in
-    let kept = c.close_containers.ensures.kept in
+    let kept = closed_kept a in
     let w = c.requires.within in
     let same = ap count c.finish_empty_list_item.ensures in
     let item = empty_item_closed_count now in
-    let before = ap count is in
-    let node_bound = ended_count options start closed in
     let first = kept.count in
     let here = line_kept source.options text start c.args.continued c.args.state.now.tree (left a)
     (subst IsUtf8 c.as_bytes.ensures.value c.as_bytes.ensures.utf8)
@@ -167,14 +142,12 @@ returns-clause-entered c =
         order = λ ordered. ordered_at_place text _ start p refl c.requires.boundary here.0
             (subst (λ (q : PassState). OrderedUpTo text q.tree start) (sym c.finish_empty_list_item.ensures)
             (ordered_other_line options text c.args.state.now now start
-            (λ o. rw is (ended_ordered options text start closed (omega arith) c.requires.boundary (kept.order text (omega arith) c.requires.boundary o)))
+            (λ o. kept.order text (omega arith) c.requires.boundary o)
             (λ h. let some = (entered_whole source.options text c.args.state.now start c.args.continued _ (left a)
             refl c.requires.front.within c.requires.front.taken c.requires.front.stops h).1 in
             let none = blank a ∙ c.if-is_some.false in cc) ordered));
         node_bound = λ first grows. omega arith;
-        named = λ names h.
-            rw c.finish_empty_list_item.ensures (empty_item_closed_named names now (rw is (ended_named options names start closed (kept.named names h))));
-        tables = λ names h.
-            rw c.finish_empty_list_item.ensures (empty_item_closed_whole names now (rw is (ended_whole options names start closed (kept.tables names h))));
+        named = λ names h. rw c.finish_empty_list_item.ensures (empty_item_closed_named names now (kept.named names h));
+        tables = λ names h. rw c.finish_empty_list_item.ensures (empty_item_closed_whole names now (kept.tables names h));
       },
     )

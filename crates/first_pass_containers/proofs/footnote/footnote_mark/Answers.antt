@@ -1,5 +1,5 @@
 use Rattle.std.proofs.Common.{refl, sym, subst, ◌∙◌, arith, IsCharBoundary}
-use Rattle.first_pass_grammar.specs.Kinds.{all_taken}
+use Rattle.first_pass_grammar.proofs.Common.{all_taken}
 use Rattle.first_pass_open.proofs.PlaceLemmas.{all_keep, read_to}
 use Rattle.first_pass_containers.proofs.footnote.footnote_mark.Goals as goal
 

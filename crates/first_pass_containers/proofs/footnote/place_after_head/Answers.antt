@@ -1,12 +1,8 @@
 use Rattle.std.proofs.Common.{◌≡◌, ◌+◌, ◌≤◌, arith, drop, sym, ap, subst, ◌∙◌}
-use Rattle.first_pass_items.specs.OptionWords.{gfm_footnotes}
-use Rattle.first_pass_lines.specs.Places.{Place, line_rest, place_at, line_end, IsPlaceOf}
-use Rattle.first_pass_lines.proofs.PlaceFacts.{line_is_place}
-use Rattle.first_pass_grammar.specs.Completion.{lines_from}
+use Rattle.first_pass_grammar.proofs.Common.{gfm_footnotes, Place, line_rest, place_at, line_end, IsPlaceOf, line_is_place, lines_from}
 use Rattle.first_pass_containers.specs.FootnoteHeads.{head_end}
 use Rattle.first_pass_containers.proofs.Openings.HeadLemmas.{continues}
 use Rattle.first_pass_containers.proofs.footnote.place_after_head.Goals as goal
-use Rattle.first_pass_containers.proofs.footnote.place_after_head.Goals.{After-new}
 
 -- blocks continue at the place that was found
 pub returns : goal.returns

@@ -1,5 +1,5 @@
 use Rattle.std.proofs.Common.{Some, refl, sym, ap, ◌∙◌}
-use Rattle.first_pass_lines.specs.Rest.{Rest}
+use Rattle.first_pass_grammar.proofs.Common.{Rest}
 use Rattle.first_pass_containers.proofs.Openings.Indented.{quote_mark, quote_taken}
 use Rattle.first_pass_containers.proofs.openers.scan_quote_mark.Goals as goal
 

@@ -1,11 +1,7 @@
 use Rattle.std.proofs.Common.{rules, OnErr, refl, sym, ◌≡◌, ℕ, ◌+◌, List, drop, IfOk, IfSome, ap, subst, ◌∙◌}
-use Rattle.first_pass_items.specs.CowText.{text_of}
-use Rattle.first_pass_entities.specs.Texts.{Borrows}
+use Rattle.first_pass_grammar.proofs.Common.{text_of, Borrows, line_rest, in_table, footnote_prefix, label_bytes}
 use Rattle.std.proofs.lemmas.Result.{on_err_weaker}
-use Rattle.first_pass_lines.specs.Places.{line_rest}
 use Rattle.first_pass_links.proofs.Footnotes.{after_mark}
-use Rattle.first_pass_tree.specs.Forest.{in_table}
-use Rattle.first_pass_grammar.specs.Footnotes.{footnote_prefix, label_bytes}
 use Rattle.first_pass_open.specs.Path.{context_of}
 use Rattle.first_pass_kinds.specs.Memory.{line_may_head_table}
 use Rattle.first_pass_definitions.specs.Memory.{FootnoteAsks}

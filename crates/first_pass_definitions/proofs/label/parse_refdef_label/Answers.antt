@@ -1,8 +1,6 @@
 use Rattle.std.proofs.Common.{rules, ℕ, ◌+◌, List, true, OnErr, sym, ap, subst, ◌∙◌}
+use Rattle.first_pass_grammar.proofs.Common.{line_rest, in_table, prefix_crossed}
 use Rattle.std.proofs.lemmas.Result.{on_err_weaker}
-use Rattle.first_pass_lines.specs.Places.{line_rest}
-use Rattle.first_pass_tree.specs.Forest.{in_table}
-use Rattle.first_pass_grammar.specs.Definitions.{prefix_crossed}
 use Rattle.first_pass_open.specs.Path.{context_of}
 use Rattle.first_pass_kinds.specs.Memory.{line_may_head_table}
 use Rattle.first_pass_definitions.specs.Memory.{LabelAsks}

@@ -1,7 +1,5 @@
 use Rattle.std.proofs.Common.{◌≡◌, ◌+◌, drop, IsUtf8, refl, sym, ap, subst, ◌∙◌, arith}
-use Rattle.first_pass_items.specs.Bytes.{colon, left_bracket}
-use Rattle.first_pass_items.proofs.ResultFacts.{on_err}
-use Rattle.first_pass_lines.specs.Lines.{begins}
+use Rattle.first_pass_grammar.proofs.Common.{colon, left_bracket, on_err, begins}
 use Rattle.first_pass_open.specs.Path.{context_of}
 use Rattle.first_pass_definitions.proofs.Targets.{no_label, no_colon, no_target, is_reference, after_byte}
 use Rattle.first_pass_definitions.proofs.Parts.{has_parts}

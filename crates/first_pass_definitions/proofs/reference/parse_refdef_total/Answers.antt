@@ -1,7 +1,5 @@
 use Rattle.std.proofs.Common.{◌≡◌, false, drop, refl, sym, ap, ◌∙◌}
-use Rattle.first_pass_items.specs.Bytes.{left_bracket}
-use Rattle.first_pass_lines.specs.Lines.{begins}
-use Rattle.first_pass_tree.specs.Forest.{in_table}
+use Rattle.first_pass_grammar.proofs.Common.{left_bracket, begins, in_table}
 use Rattle.first_pass_open.specs.Path.{context_of}
 use Rattle.first_pass_definitions.proofs.Targets.{no_bracket}
 use Rattle.first_pass_definitions.proofs.reference.parse_refdef_total.Goals as goal

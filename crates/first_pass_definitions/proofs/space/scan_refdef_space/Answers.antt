@@ -1,6 +1,5 @@
 use Rattle.std.proofs.Common.{◌≡◌, ℕ, ◌+◌, true, false, List, drop, Some, is_some, IsUtf8, IsCharBoundary, sym, ap, subst, ◌∙◌}
-use Rattle.std.specs.List.{prefix_len}
-use Rattle.first_pass_lines.specs.Lines.{is_white, eol_len, at_line_end}
+use Rattle.first_pass_grammar.proofs.Common.{prefix_len, is_white, eol_len, at_line_end}
 use Rattle.first_pass_open.specs.Path.{context_of}
 use Rattle.first_pass_definitions.proofs.Spaces.{white_past, eol_after, place_white, space_plain, space_stops, crossed_space, space_over}
 use Rattle.first_pass_definitions.proofs.space.scan_refdef_space.Goals as goal

@@ -1,17 +1,16 @@
 use Rattle.std.proofs.Common.{◌≡◌, ◌+◌, inl, inr, drop, refl, sym, subst, ◌∙◌, arith}
-use Rattle.first_pass_items.proofs.ResultFacts.{on_err}
-use Rattle.first_pass_grammar.specs.Definitions.{space_at}
+use Rattle.first_pass_grammar.proofs.Common.{on_err, space_at, target_at, unescaped, none_mapped}
 use Rattle.first_pass_open.specs.Path.{context_of}
 use Rattle.first_pass_definitions.specs.Found.{IsUnescaped, HasTitle}
-use Rattle.first_pass_definitions.proofs.Targets.{TargetFound, no_space, no_dest, no_further, space_found, target_found, placed, placed_by, is_target}
-use Rattle.first_pass_links.specs.Escapes.{unescaped}
+use Rattle.first_pass_definitions.proofs.Targets.{TargetFound, no_dest, no_further, space_found, target_found, placed, placed_by, is_target}
 use Rattle.first_pass_definitions.proofs.Asks.{dest_asks, parts_ask}
 use Rattle.first_pass_definitions.proofs.target.scan_refdef.Goals as goal
 use Rattle.first_pass_definitions.proofs.target.scan_refdef.Goals.{In-Some-2}
 
 pub returns-in_default-clause-value : goal.returns-in_default-clause-value
+unfolding target_at
 returns-in_default-clause-value c =
-    rw (no_space (context_of c.args.source.now.options c.args.tree.now) c.args.source.now.text.now c.args.start
+    rw (none_mapped _ (space_at (context_of c.args.source.now.options c.args.tree.now) (drop c.args.start c.args.source.now.text.now))
     (sym c.in_default.is ∙ c.in_ok-dest_start.ensures.value)) refl
 
 pub returns-in_default-scan_link_dest-clause-value : goal.returns-in_default-scan_link_dest-clause-value

@@ -1,8 +1,7 @@
-use Rattle.std.proofs.Common.{◌≡◌, ℕ, ◌+◌, List, slice_get, Some, refl, sym, ap, ◌∙◌}
-use Rattle.std.specs.Option.{option_and_then, option_map}
-use Rattle.first_pass_grammar.specs.Definitions.{title_end, title_text, title_prefix}
+use Rattle.std.proofs.Common.{◌≡◌, slice_get, Some, None, refl, ap, ◌∙◌, option_and_then}
+use Rattle.first_pass_grammar.proofs.Common.{title_end}
 use Rattle.first_pass_open.specs.Path.{context_of}
-use Rattle.first_pass_definitions.proofs.Titles.{title_none, title_some, after_first, answer_none, answer_some}
+use Rattle.first_pass_definitions.proofs.Titles.{title_none, title_some, after_first, answer_longer}
 use Rattle.first_pass_definitions.proofs.Places.{rest_further}
 use Rattle.first_pass_definitions.proofs.title.scan_refdef_title.Goals as goal
 use Rattle.first_pass_definitions.proofs.title.scan_refdef_title.Goals.{In-Some}
@@ -26,17 +25,18 @@ scan_title_text-requires-clause-rest c =
 
 pub returns-in-Some-2-clause-value : goal.returns-in-Some-2-clause-value
 returns-in-Some-2-clause-value c =
-    let e = title_some (context_of c.args.source.now.options c.args.tree.now) c.args.text.now c.in-Some.close
-    (first_is (goal.at.returns-in-Some-2-clause-value c).In-Some) in
-    answer_some _ _ c.in-Some-2.len c.in-Some-2.title (rw c.in-Some-2.is at c.in_ok-len.ensures.value)
-    (e ∙ ap (λ xs.
-    option_map (λ (t : ℕ × List ℕ). (t.0 + 1, t.1)) (title_text (title_prefix (context_of c.args.source.now.options c.args.tree.now)) c.in-Some.close xs))
-    (sym c.range_from.ensures.value))
+    rw (
+      title_some (context_of c.args.source.now.options c.args.tree.now) c.args.text.now c.in-Some.close
+          (first_is (goal.at.returns-in-Some-2-clause-value c).In-Some),
+      ← c.range_from.ensures.value,
+    )
+    (answer_longer _ (Some (c.in-Some-2.len, c.in-Some-2.title)) (rw c.in-Some-2.is at c.in_ok-len.ensures.value))
 
 pub returns-in-None-clause-value : goal.returns-in-None-clause-value
 returns-in-None-clause-value c =
-    let e =
-    title_some (context_of c.args.source.now.options c.args.tree.now) c.args.text.now c.in-Some.close
-    (first_is (goal.at.returns-in-None-clause-value c).In-Some) in
-    answer_none _ _ (rw c.in-None.is at c.in_ok-len.ensures.value) (e ∙ ap (λ xs. option_map (λ (t : ℕ × List ℕ). (t.0 + 1, t.1))
-    (title_text (title_prefix (context_of c.args.source.now.options c.args.tree.now)) c.in-Some.close xs)) (sym c.range_from.ensures.value))
+    rw (
+      title_some (context_of c.args.source.now.options c.args.tree.now) c.args.text.now c.in-Some.close
+          (first_is (goal.at.returns-in-None-clause-value c).In-Some),
+      ← c.range_from.ensures.value,
+    )
+    (answer_longer _ None (rw c.in-None.is at c.in_ok-len.ensures.value))

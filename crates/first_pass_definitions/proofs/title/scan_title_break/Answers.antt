@@ -1,6 +1,5 @@
-use Rattle.std.proofs.Common.{◌≡◌, ℕ, ◌+◌, List, drop, None, IsCharBoundary, sym, ap, subst, ◌∙◌}
-use Rattle.std.proofs.lemmas.List.{drop-drop}
-use Rattle.first_pass_lines.specs.Lines.{eol_len, blank_len}
+use Rattle.std.proofs.Common.{◌≡◌, ℕ, ◌+◌, List, drop, None, IsCharBoundary, sym, ap, subst, ◌∙◌, drop-drop}
+use Rattle.first_pass_grammar.proofs.Common.{eol_len, blank_len}
 use Rattle.first_pass_links.proofs.Labels.{place_past}
 use Rattle.first_pass_definitions.proofs.Spaces.{eol_after}
 use Rattle.first_pass_definitions.proofs.Places.{rest_further, no_feed, some_left, later_by}

@@ -1,6 +1,6 @@
 use Rattle.std.proofs.Common.{◌+◌, sym, ap, ◌∙◌, arith, if◌then◌else◌}
-use Rattle.first_pass_links.specs.Escapes.{begins_escape}
-use Rattle.first_pass_links.proofs.Destinations.{upto_unit, upto_stopped, upto_ended}
+use Rattle.first_pass_grammar.proofs.Common.{begins_escape, upto_unit}
+use Rattle.first_pass_links.proofs.Destinations.{upto_stopped, upto_ended}
 use Rattle.first_pass_definitions.specs.Reading.{stops_title_line}
 use Rattle.first_pass_definitions.proofs.Titles.{stop_low, are_text, upto_text}
 use Rattle.first_pass_definitions.proofs.title.scan_title_line.Goals as goal

@@ -1,5 +1,5 @@
 use Rattle.std.proofs.Common.{◌≡◌, ◌≤◌, ◌+◌, ◌-◌, length, drop}
-use Rattle.first_pass_links.specs.Destinations.{unescaped_upto}
+use Rattle.first_pass_grammar.proofs.Common.{unescaped_upto}
 use Rattle.first_pass_definitions.specs.Reading.{stops_title_line}
 use Rattle.first_pass_definitions.proofs.title.scan_title_line.Given as goal
 

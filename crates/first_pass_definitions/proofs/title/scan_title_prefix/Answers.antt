@@ -1,9 +1,5 @@
 use Rattle.std.proofs.Common.{◌≡◌, ℕ, ◌-◌, length, drop, IsCharBoundary, sym, ap, subst, ◌∙◌, arith}
-use Rattle.first_pass_lines.proofs.OptionFacts.{none_is}
-use Rattle.first_pass_lines.specs.Lines.{blank_len}
-use Rattle.first_pass_lines.specs.Rest.{Rest}
-use Rattle.first_pass_lines.specs.Places.{place_at, IsPlaceOf}
-use Rattle.first_pass_grammar.specs.Kinds.{all_taken}
+use Rattle.first_pass_grammar.proofs.Common.{none_is, blank_len, Rest, place_at, IsPlaceOf, all_taken}
 use Rattle.first_pass_open.proofs.PlaceLemmas.{all_keep}
 use Rattle.first_pass_definitions.proofs.Places.{rest_place}
 use Rattle.first_pass_definitions.proofs.title.scan_title_prefix.Goals as goal

@@ -1,23 +1,16 @@
-use Rattle.std.proofs.Common.{◌≡◌, ℕ, ◌+◌, ◌<◌, false, true, List, ◌++◌, ◌∷◌, [], length, drop, IsCharBoundary, refl, sym, ap, subst, ◌∙◌, arith}
-use Rattle.std.specs.List.{list_any}
-use Rattle.std.specs.String.{string_bytes}
-use Rattle.std.proofs.lemmas.Str.{encode_ascii, IsCharBoundary-start, IsCharBoundary-after_ascii}
-use Rattle.first_pass_items.specs.Bytes.{line_feed}
-use Rattle.first_pass_items.proofs.ResultFacts.{on_err}
-use Rattle.first_pass_lines.specs.Lines.{is_line_end, begins, eol_len}
-use Rattle.first_pass_links.specs.Destinations.{unescaped_upto}
+use Rattle.std.proofs.Common.{◌≡◌, ℕ, ◌+◌, ◌<◌, false, true, List, ◌++◌, ◌∷◌, [], Some, length, drop, IsCharBoundary, refl, sym, ap, subst, ◌∙◌, arith}
+use Rattle.std.proofs.Common.{string_bytes}
+use Rattle.first_pass_grammar.proofs.Common.{list_any, IsCharBoundary-start, IsCharBoundary-after_ascii, line_feed, on_err, is_line_end, begins, eol_len}
+use Rattle.first_pass_grammar.proofs.Common.{unescaped_upto, first_byte, title_prefix, option_map_or, line_rest}
+use Rattle.std.proofs.lemmas.Str.{encode_ascii}
 use Rattle.first_pass_links.specs.Units.{part}
-use Rattle.first_pass_links.proofs.Destinations.{first_byte}
-use Rattle.first_pass_grammar.specs.Definitions.{title_prefix}
 use Rattle.first_pass_open.specs.Path.{context_of}
 use Rattle.first_pass_definitions.specs.Reading.{stops_title_line, goes_on_at}
-use Rattle.std.specs.Option.{option_map_or}
-use Rattle.first_pass_lines.specs.Places.{line_rest}
 use Rattle.first_pass_kinds.specs.Memory.{line_may_head_table}
 use Rattle.first_pass_definitions.proofs.Titles.{TitleLine, after_nothing, whole_title, stop_place, title_found, no_title, title_further, any_last, closes-low}
 use Rattle.first_pass_definitions.proofs.Asks.{goes_asks, meets_asks}
 use Rattle.first_pass_definitions.proofs.title.scan_title_text.Goals as goal
-use Rattle.first_pass_definitions.proofs.title.scan_title_text.Goals.{After-begins}
+use Rattle.first_pass_definitions.proofs.title.scan_title_text.Goals.{After-begins, In-Some}
 
 pub loop-bytes-init : goal.loop-bytes-init
 loop-bytes-init c =
@@ -84,6 +77,14 @@ returns-in_default-clause-value c =
     (c.loop-bytes.from + c.scan_title_line.result)
     (string_bytes c.loop-bytes.written) c.args.text.now (line_of at) (sym (stop_is at) ∙ c.if-begins.false) k) refl
 
+-- the offset at which the title continues after a line ending
+next_is : (c : In-Some) → Some c.in-Some.next
+    ≡ goes_on_at (title_prefix (context_of c.args.source.now.options c.args.tree.now)) c.args.text.now (c.loop-bytes.from + c.scan_title_line.result)
+next_is c =
+    sym c.in-Some.is ∙ c.in_ok-next.ensures.value
+    ∙ ap (λ xs. goes_on_at (title_prefix (context_of c.args.source.now.options c.args.tree.now)) xs (c.loop-bytes.from + c.scan_title_line.result))
+    c.as_bytes-bytes.ensures.value
+
 pub loop-bytes-preserved : goal.loop-bytes-preserved
 loop-bytes-preserved c =
     let at = (goal.at.loop-bytes-preserved c).After-begins in
@@ -95,8 +96,7 @@ loop-bytes-preserved c =
     let further = place.0 in
     let plain : begins line_feed (drop c.in-Some.next text) ≡ false =
     ap (λ xs. begins line_feed (drop c.in-Some.next xs)) (sym c.as_bytes-bytes.ensures.value) ∙ (rw c.in-Some.is at c.in_ok-next.ensures.texts) in
-    let k = sym c.in-Some.is ∙ c.in_ok-next.ensures.value ∙ ap (λ xs. goes_on_at (title_prefix (context_of c.args.source.now.options c.args.tree.now)) xs stop)
-    c.as_bytes-bytes.ensures.value in
+    let k = next_is (goal.at.loop-bytes-preserved c).In-Some in
     let written : string_bytes c.push.new.self ≡ (string_bytes c.loop-bytes.written ++ part text c.loop-bytes.from stop) ++ line_feed ∷ [] =
     c.in_ok-push.ensures.bytes ∙ ap (λ xs. string_bytes c.push_str.new.self ++ xs) (encode_ascii line_feed (omega arith))
     ∙ ap (λ xs. xs ++ line_feed ∷ []) (c.in_ok-push_str.ensures.bytes ∙ ap (λ xs. string_bytes c.loop-bytes.written ++ xs) c.range.ensures.value)
@@ -124,18 +124,12 @@ returns-in_err-next-clause-err c =
 
 pub returns-in_err-push_str-clause-err : goal.returns-in_err-push_str-clause-err
 returns-in_err-push_str-clause-err c =
-    let at = (goal.at.returns-in_err-push_str-clause-err c).After-begins in
-    let around = context_of c.args.source.now.options c.args.tree.now in
-    let stop : ℕ = c.loop-bytes.from + c.scan_title_line.result in
-    let k = sym c.in-Some.is ∙ c.in_ok-next.ensures.value ∙ ap (λ xs. goes_on_at (title_prefix around) xs stop) c.as_bytes-bytes.ensures.value in
-    on_err c.from_residual-in_err-push_str.result (goes_asks around c.args.close c.loop-bytes.from stop c.in-Some.next c.args.text.now
-    c.loop-bytes.invariant.asked (line_stops at) (sym k))
+    on_err c.from_residual-in_err-push_str.result (goes_asks (context_of c.args.source.now.options c.args.tree.now) c.args.close c.loop-bytes.from _
+    c.in-Some.next c.args.text.now c.loop-bytes.invariant.asked (line_stops (goal.at.returns-in_err-push_str-clause-err c).After-begins)
+    (sym (next_is (goal.at.returns-in_err-push_str-clause-err c).In-Some)))
 
 pub returns-in_err-push-clause-err : goal.returns-in_err-push-clause-err
 returns-in_err-push-clause-err c =
-    let at = (goal.at.returns-in_err-push-clause-err c).After-begins in
-    let around = context_of c.args.source.now.options c.args.tree.now in
-    let stop : ℕ = c.loop-bytes.from + c.scan_title_line.result in
-    let k = sym c.in-Some.is ∙ c.in_ok-next.ensures.value ∙ ap (λ xs. goes_on_at (title_prefix around) xs stop) c.as_bytes-bytes.ensures.value in
-    on_err c.from_residual-in_err-push.result (goes_asks around c.args.close c.loop-bytes.from stop c.in-Some.next c.args.text.now c.loop-bytes.invariant.asked
-    (line_stops at) (sym k))
+    on_err c.from_residual-in_err-push.result (goes_asks (context_of c.args.source.now.options c.args.tree.now) c.args.close c.loop-bytes.from _
+    c.in-Some.next c.args.text.now c.loop-bytes.invariant.asked (line_stops (goal.at.returns-in_err-push-clause-err c).After-begins)
+    (sym (next_is (goal.at.returns-in_err-push-clause-err c).In-Some)))

@@ -1,8 +1,5 @@
-use Rattle.std.proofs.Common.{◌≡◌, ◌<◌, ◌-◌, [], true, length, drop, IsCharBoundary}
-use Rattle.std.specs.List.{list_any}
-use Rattle.std.specs.String.{string_bytes}
-use Rattle.first_pass_lines.specs.Lines.{is_line_end}
-use Rattle.first_pass_grammar.specs.Definitions.{title_text, title_prefix}
+use Rattle.std.proofs.Common.{◌≡◌, ◌<◌, ◌-◌, [], true, length, drop, IsCharBoundary, string_bytes}
+use Rattle.first_pass_grammar.proofs.Common.{list_any, is_line_end, title_text, title_prefix}
 use Rattle.first_pass_open.specs.Path.{context_of}
 use Rattle.first_pass_definitions.specs.Memory.{text_asks}
 use Rattle.first_pass_definitions.proofs.Titles.{left_of, title_of, after_text}

@@ -1,7 +1,7 @@
 use Rattle.std.proofs.Common.{ℕ, bit_and, bit_or, refl, arith}
+use Rattle.first_pass_grammar.proofs.Common.{space, backslash}
 use Rattle.std.proofs.lemmas.Simd.{zip2_splat, length-chunk}
 use lib.Lanes.{chunk}
-use Rattle.first_pass_items.specs.Bytes.{space, backslash}
 use Rattle.first_pass_lines.proofs.LaneLemmas.{joined, run_in}
 use Rattle.first_pass_definitions.specs.Reading.{is_title_text}
 use Rattle.first_pass_definitions.proofs.title.title_lanes.Goals as goal

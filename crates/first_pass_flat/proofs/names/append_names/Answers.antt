@@ -1,5 +1,4 @@
-use Rattle.std.proofs.Common.{◌++◌, sym, ap, ◌∙◌}
-use Rattle.std.proofs.lemmas.List.{append-nil}
+use Rattle.std.proofs.Common.{◌++◌, sym, ap, ◌∙◌, append-nil}
 use Rattle.first_pass_names.specs.TableEntries.{names_of}
 use Rattle.first_pass_flat.specs.FlatNodes.{name_by}
 use Rattle.first_pass_flat.proofs.Appending.{flat_more, two_steps}

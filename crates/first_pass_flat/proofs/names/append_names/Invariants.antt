@@ -1,5 +1,4 @@
-use Rattle.std.proofs.Common.{◌≡◌, ◌++◌, take}
-use Rattle.std.specs.List.{flat_map}
+use Rattle.std.proofs.Common.{◌≡◌, ◌++◌, take, flat_map}
 use Rattle.first_pass_names.specs.TableEntries.{names_of}
 use Rattle.first_pass_flat.specs.FlatNodes.{name_by}
 use Rattle.first_pass_flat.proofs.names.append_names.Given as goal

@@ -1,4 +1,4 @@
-use Rattle.first_pass_grammar.proofs.LinkTables.FirstLabels.{first_label, order_of_labels}
+use Rattle.first_pass_grammar.proofs.LinkTables.FirstLinks.{first_label, order_of_labels}
 use Rattle.first_pass_grammar.proofs.laws.law_of_footnotes.Goals as goal
 
 pub returns-clause-first : goal.returns-clause-first

@@ -1,4 +1,4 @@
-use Rattle.first_pass_grammar.specs.Leaves.{document}
+use Rattle.first_pass_grammar.proofs.Common.{document}
 use Rattle.first_pass_grammar.proofs.WholeTables.WholeForests.{derived_whole}
 use Rattle.first_pass_grammar.proofs.laws.tables_are_whole.Goals as goal
 

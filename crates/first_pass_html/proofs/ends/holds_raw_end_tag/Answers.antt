@@ -1,5 +1,4 @@
-use Rattle.std.proofs.Common.{◌≡◌, ℕ, suc, ◌+◌, ◌||◌, Bool, List, ◌∷◌, drop, Some, sym, ap, ◌∙◌, arith}
-use Rattle.std.proofs.lemmas.List.{drop-drop}
+use Rattle.std.proofs.Common.{◌≡◌, ℕ, suc, ◌+◌, ◌||◌, Bool, List, ◌∷◌, drop, Some, sym, ap, ◌∙◌, arith, drop-drop}
 use Rattle.memchr.specs.Find.{IsFirstByte, is_byte}
 use Rattle.first_pass_items.specs.Bytes.{less_than}
 use Rattle.first_pass_html.specs.Ends.{begins_raw_end_tag, holds_raw_end_tag}

@@ -1,5 +1,5 @@
-use Rattle.first_pass_html.proofs.LongestNames.{group_longest, other_longest}
 use Rattle.std.proofs.Common.{refl, arith}
+use Rattle.first_pass_html.proofs.LongestNames.{group_longest, other_longest}
 use Rattle.std.proofs.lemmas.Bool.Decides.{nat_tests}
 use Rattle.first_pass_html.proofs.names.block_name_len.Goals as goal
 

@@ -1,29 +1,26 @@
-use Rattle.std.proofs.Common.{◌≡◌, ℕ, Some, None, List, drop, arith, sym}
-use Rattle.std.proofs.lemmas.List.{drop-drop}
+use Rattle.std.proofs.Common.{◌≡◌, ℕ, ◌+◌, List, arith, sym, ap, ◌∙◌, drop, subst, drop-drop}
 use Rattle.first_pass_html.specs.TagLengths.{attribute_len}
-use Rattle.first_pass_html.proofs.TagFacts.{step, last}
-use Rattle.first_pass_html.proofs.FrontFacts.{front_more}
+use Rattle.first_pass_html.specs.Fronts.{IsPastAttributes}
+use Rattle.first_pass_html.proofs.WholeTagFacts.{past_none, past_more}
 use Rattle.first_pass_html.proofs.tags.scan_attributes.Goals as goal
+
+pub loop-len-init : goal.loop-len-init
+loop-len-init c = record { within = omega arith; past = λ a p. let z : 0 + a ≡ a = omega arith in rw z p }
 
 pub loop-len-preserved : goal.loop-len-preserved
 loop-len-preserved c =
-    let bytes : List ℕ = c.args.bytes.now in
-    let counted : attribute_len (drop c.loop-len.at bytes) ≡ Some c.in-Some.len = cc in
+    let rest : List ℕ = drop c.loop-len.at c.args.bytes.now in
+    let n : ℕ = c.in-Some.len in
+    let some = ap attribute_len (sym c.rest_of.ensures.value) ∙ sym c.scan_attribute.ensures.value ∙ c.in-Some.is in
     record {
       within = omega (arith, c.in-Some.ensures.within.1, c.rest_of.ensures.whole);
-      front = front_more bytes c.loop-len.at c.in-Some.len c.loop-len.invariant.front counted;
-      all = λ following r. rw (sym (drop-drop c.in-Some.len c.loop-len.at bytes))
-          (step (drop c.loop-len.at bytes) following c.in-Some.len (c.loop-len.invariant.all following r) counted);
+      past = λ a p.
+          let z : c.loop-len.at + n + a ≡ c.loop-len.at + (n + a) = omega arith in
+          rw z (c.loop-len.invariant.past (n + a) (past_more rest n a some (rw drop-drop p)));
     }
 
 pub returns-clause-value : goal.returns-clause-value
 returns-clause-value c =
-    let bytes : List ℕ = c.args.bytes.now in
-    let none : attribute_len (drop c.loop-len.at bytes) ≡ None = cc in
-    let front = c.loop-len.invariant.front in
-    record {
-      attributes = front.0;
-      parts = front.1;
-      are_attributes = front.2;
-      all = λ following r. last (drop c.loop-len.at bytes) following (c.loop-len.invariant.all following r) none;
-    }
+    let z : c.loop-len.at + 0 ≡ c.loop-len.at = omega arith in
+    let none = ap attribute_len (sym c.rest_of.ensures.value) ∙ sym c.scan_attribute.ensures.value ∙ c.in_default.is in
+    subst (IsPastAttributes c.args.bytes.now) z (c.loop-len.invariant.past 0 (past_none (drop c.loop-len.at c.args.bytes.now) none))

@@ -1,7 +1,7 @@
-use Rattle.std.proofs.Common.{◌≡◌, ◌≤◌, ℕ, List, drop, length, sym, ap, ◌∙◌, subst}
+use Rattle.std.proofs.Common.{◌≡◌, ℕ, List, drop, sym, ap, ◌∙◌, subst}
 use Rattle.first_pass_html.specs.TagLengths.{open_end_len}
 use Rattle.first_pass_html.specs.Fronts.{IsPastAttributes}
-use Rattle.first_pass_html.proofs.WholeTagFacts.{OpeningCounted, opening_found, opening_needs_end, opening_not_raw}
+use Rattle.first_pass_html.proofs.WholeTagFacts.{opening_found, opening_needs_end, opening_not_raw}
 use Rattle.first_pass_html.proofs.tags.scan_open_tag.Goals as goal
 
 pub returns-then-is_raw_name-clause-none : goal.returns-then-is_raw_name-clause-none
@@ -26,12 +26,6 @@ returns-clause-found c =
     let k : ℕ = c.in_ok-end.end in
     let following = c.rest_of-following.ensures.value in
     let left : c.rest_of.result.now ≡ drop a (drop n bytes) = c.rest_of.ensures.value ∙ ap (drop a) following in
-    let ends = subst (λ (xs : List ℕ). k ≤ length xs) left c.in_ok-end.ensures.within in
-    let counted : OpeningCounted bytes n a k = record {
-      named = sym c.in_ok-name.ensures.value;
-      named_fits = c.in_ok-name.ensures.within;
-      past = subst (λ (xs : List ℕ). IsPastAttributes xs a) following c.scan_attributes-attributes.ensures.value;
-      past_fits = subst (λ (xs : List ℕ). a ≤ length xs) following c.scan_attributes-attributes.ensures.within;
-      ended = ap open_end_len (sym left) ∙ sym c.in_ok-end.ensures.value;
-    } in
-    opening_found bytes n a k counted (sym c.if-is_raw_name.ensures.value) ends
+    let past = subst (λ (xs : List ℕ). IsPastAttributes xs a) following c.scan_attributes-attributes.ensures.value in
+    opening_found bytes n a k (sym c.in_ok-name.ensures.value) past (ap open_end_len (sym left) ∙ sym c.in_ok-end.ensures.value)
+    (sym c.if-is_raw_name.ensures.value)

@@ -1,39 +1,35 @@
-use Rattle.std.proofs.Common.{◌≡◌, ℕ, List, ◌∷◌, sym, ap, ◌∙◌}
+use Rattle.std.proofs.Common.{◌≡◌, ℕ, true, List, ◌∷◌, drop, sym, ap, ◌∙◌}
 use Rattle.first_pass_items.specs.Bytes.{solidus, less_than}
-use Rattle.first_pass_html.proofs.WholeTagFacts.{first_byte, open_found, open_none, close_found, close_none, needs_bracket}
+use Rattle.first_pass_lines.specs.Lines.{begins}
+use Rattle.first_pass_html.proofs.FrontFacts.{first_byte}
+use Rattle.first_pass_html.proofs.WholeTagFacts.{open_found, open_none, close_found, close_none, needs_bracket}
 use Rattle.first_pass_html.proofs.tags.scan_tag.Goals as goal
+
+-- the bytes after a first byte
+whole : (b : ℕ) (bytes rest : List ℕ) → begins b bytes ≡ true → rest ≡ drop 1 bytes → bytes ≡ b ∷ rest
+whole b bytes rest h e = first_byte b bytes h ∙ ap (λ xs. b ∷ xs) (sym e)
 
 pub returns-then-not-begins-clause-none : goal.returns-then-not-begins-clause-none
 returns-then-not-begins-clause-none c = needs_bracket c.args.bytes.now (sym c.if-not-begins.ensures.value)
 
 pub returns-in_err-len-clause-none : goal.returns-in_err-len-clause-none
 returns-in_err-len-clause-none c =
-    let rest : List ℕ = c.rest_of-rest.result.now in
-    let whole : c.args.bytes.now ≡ less_than ∷ rest =
-    first_byte less_than c.args.bytes.now (sym c.if-not-begins.ensures.value) ∙ ap (λ xs. less_than ∷ xs) (sym c.rest_of-rest.ensures.value) in
-    let slash : rest ≡ solidus ∷ c.rest_of.result.now =
-    first_byte solidus rest (sym c.if-begins.ensures.value) ∙ ap (λ xs. solidus ∷ xs) (sym c.rest_of.ensures.value) in
-    rw c.from_residual.ensures (close_none c.args.bytes.now c.rest_of.result.now (whole ∙ ap (λ xs. less_than ∷ xs) slash) c.in_err-len.ensures.none)
+    let rest = whole less_than c.args.bytes.now c.rest_of-rest.result.now (sym c.if-not-begins.ensures.value) c.rest_of-rest.ensures.value in
+    let slash = whole solidus c.rest_of-rest.result.now c.rest_of.result.now (sym c.if-begins.ensures.value) c.rest_of.ensures.value in
+    rw c.from_residual.ensures (close_none c.args.bytes.now c.rest_of.result.now (rest ∙ ap (λ xs. less_than ∷ xs) slash) c.in_err-len.ensures.none)
 
 pub returns-then-begins-clause-found : goal.returns-then-begins-clause-found
 returns-then-begins-clause-found c =
-    let rest : List ℕ = c.rest_of-rest.result.now in
-    let whole : c.args.bytes.now ≡ less_than ∷ rest =
-    first_byte less_than c.args.bytes.now (sym c.if-not-begins.ensures.value) ∙ ap (λ xs. less_than ∷ xs) (sym c.rest_of-rest.ensures.value) in
-    let slash : rest ≡ solidus ∷ c.rest_of.result.now =
-    first_byte solidus rest (sym c.if-begins.ensures.value) ∙ ap (λ xs. solidus ∷ xs) (sym c.rest_of.ensures.value) in
-    close_found c.args.bytes.now c.rest_of.result.now c.in_ok-len.len (whole ∙ ap (λ xs. less_than ∷ xs) slash) c.in_ok-len.ensures.found
+    let rest = whole less_than c.args.bytes.now c.rest_of-rest.result.now (sym c.if-not-begins.ensures.value) c.rest_of-rest.ensures.value in
+    let slash = whole solidus c.rest_of-rest.result.now c.rest_of.result.now (sym c.if-begins.ensures.value) c.rest_of.ensures.value in
+    close_found c.args.bytes.now c.rest_of.result.now c.in_ok-len.len (rest ∙ ap (λ xs. less_than ∷ xs) slash) c.in_ok-len.ensures.found
 
 pub returns-in_err-len-2-clause-none : goal.returns-in_err-len-2-clause-none
 returns-in_err-len-2-clause-none c =
-    let rest : List ℕ = c.rest_of-rest.result.now in
-    let whole : c.args.bytes.now ≡ less_than ∷ rest =
-    first_byte less_than c.args.bytes.now (sym c.if-not-begins.ensures.value) ∙ ap (λ xs. less_than ∷ xs) (sym c.rest_of-rest.ensures.value) in
-    rw c.from_residual-in_err-len-2.ensures (open_none c.args.bytes.now rest whole (sym c.if-begins.ensures.value) c.in_err-len-2.ensures.none)
+    let rest = whole less_than c.args.bytes.now c.rest_of-rest.result.now (sym c.if-not-begins.ensures.value) c.rest_of-rest.ensures.value in
+    rw c.from_residual-in_err-len-2.ensures (open_none c.args.bytes.now _ rest (sym c.if-begins.ensures.value) c.in_err-len-2.ensures.none)
 
 pub returns-clause-found : goal.returns-clause-found
 returns-clause-found c =
-    let rest : List ℕ = c.rest_of-rest.result.now in
-    let whole : c.args.bytes.now ≡ less_than ∷ rest =
-    first_byte less_than c.args.bytes.now (sym c.if-not-begins.ensures.value) ∙ ap (λ xs. less_than ∷ xs) (sym c.rest_of-rest.ensures.value) in
-    open_found c.args.bytes.now rest c.in_ok-len-2.len whole (sym c.if-begins.ensures.value) c.in_ok-len-2.ensures.found
+    let rest = whole less_than c.args.bytes.now c.rest_of-rest.result.now (sym c.if-not-begins.ensures.value) c.rest_of-rest.ensures.value in
+    open_found c.args.bytes.now _ c.in_ok-len-2.len rest (sym c.if-begins.ensures.value) c.in_ok-len-2.ensures.found

@@ -1,5 +1,5 @@
 use Rattle.std.proofs.Common.{◌++◌, ap, ◌∙◌}
-use Rattle.std.proofs.lemmas.Result.{on_ok_weaker}
+use Rattle.first_pass_grammar.proofs.Common.{on_ok_weaker}
 use Rattle.first_pass_json.specs.JsonValues.{json_string}
 use Rattle.first_pass_json.proofs.Arrays.{array_seen}
 use Rattle.first_pass_json.proofs.heading.append_classes.Goals as goal

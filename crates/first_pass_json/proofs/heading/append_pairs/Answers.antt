@@ -1,6 +1,5 @@
 use Rattle.std.proofs.Common.{◌++◌, ap, ◌∙◌}
-use Rattle.std.proofs.lemmas.Result.{on_ok_weaker}
-use Rattle.first_pass_attributes.specs.Attributes.{pair_in}
+use Rattle.first_pass_grammar.proofs.Common.{on_ok_weaker, pair_in}
 use Rattle.first_pass_json.specs.Members.{pair}
 use Rattle.first_pass_json.proofs.Arrays.{array_seen}
 use Rattle.first_pass_json.proofs.heading.append_pairs.Goals as goal

@@ -1,12 +1,6 @@
-use Rattle.std.proofs.Common.{◌≡◌, ℕ, min, nat_lt, ◌&&◌, ◌||◌, not, Bool, true, false, List, is_some, refl}
-use Rattle.std.proofs.Common.{sym, ap, ◌∙◌, arith, if◌then◌else◌}
-use Rattle.std.proofs.lemmas.Bool.Decides.{nat_tests}
-use Rattle.first_pass_items.proofs.ResultFacts.{on_err}
-use Rattle.first_pass_lines.specs.Lines.{at_line_end}
-use Rattle.first_pass_lines.specs.Rest.{Rest, indent}
-use Rattle.first_pass_scan.specs.LeafLines.{setext_underline}
-use Rattle.first_pass_grammar.specs.Kinds.{Continued, all_taken, interrupts_in, interrupts}
-use Rattle.first_pass_grammar.specs.Containers.{Context}
+use Rattle.std.proofs.Common.{◌≡◌, ℕ, min, nat_lt, ◌&&◌, ◌||◌, not, Bool, true, false, List, is_some, refl, sym, ap, ◌∙◌, arith, if◌then◌else◌}
+use Rattle.first_pass_grammar.proofs.Common.{nat_tests, on_err, at_line_end, Rest, indent, setext_underline, Continued, all_taken, interrupts, Context}
+use Rattle.first_pass_grammar.specs.Kinds.{interrupts_in}
 use Rattle.first_pass_open.specs.Path.{context_of, continued_to}
 use Rattle.first_pass_grammar.specs.Definitions.{is_underline}
 use Rattle.first_pass_kinds.specs.Memory.{may_head_table}

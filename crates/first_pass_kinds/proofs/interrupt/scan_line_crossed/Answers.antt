@@ -1,4 +1,4 @@
-use Rattle.first_pass_lines.proofs.PlaceFacts.{taken_columns}
+use Rattle.first_pass_grammar.proofs.Common.{taken_columns}
 use Rattle.first_pass_kinds.proofs.interrupt.scan_line_crossed.Goals as goal
 
 pub returns-clause-place : goal.returns-clause-place

@@ -1,6 +1,5 @@
 use Rattle.std.proofs.Common.{sym, ap, subst, drop, is_some, ◌∙◌, ◌+◌, IsUtf8}
-use Rattle.first_pass_lines.specs.Lines.{at_line_end}
-use Rattle.first_pass_lines.specs.Plain.{begins_plain}
+use Rattle.first_pass_grammar.proofs.Common.{at_line_end, begins_plain}
 use Rattle.first_pass_open.specs.Path.{path_of, context_of}
 use Rattle.first_pass_open.proofs.PlaceLemmas.{text_place}
 use Rattle.first_pass_kinds.specs.declared.interrupt.NextLine.TheVariants.{More}

@@ -1,6 +1,5 @@
 use Rattle.std.proofs.Common.{min, ap, ◌∙◌}
-use Rattle.first_pass_lines.specs.Rest.{indent}
-use Rattle.first_pass_grammar.specs.Kinds.{all_taken}
+use Rattle.first_pass_grammar.proofs.Common.{indent, all_taken}
 use Rattle.first_pass_open.specs.Path.{path_of}
 use Rattle.first_pass_open.proofs.PlaceLemmas.{text_place}
 use Rattle.first_pass_kinds.proofs.interrupt.scan_unindented.Goals as goal

@@ -1,9 +1,5 @@
-use Rattle.std.proofs.Common.{◌≡◌, ◌+◌, ◌≤◌, ℕ, drop, length, Option, is_some, sym, ap, ◌∙◌, subst, arith, IsUtf8}
-use Rattle.std.specs.Option.{option_map}
-use Rattle.first_pass_lines.specs.Lines.{blank_len, atx_level}
-use Rattle.first_pass_lines.specs.Rest.{Rest}
-use Rattle.first_pass_lines.specs.Places.{IsPlaceOf}
-use Rattle.first_pass_grammar.specs.Kinds.{all_taken, html_kind, later_kind, metadata_at, IsKind}
+use Rattle.std.proofs.Common.{◌≡◌, ◌+◌, ◌≤◌, ℕ, drop, length, Option, is_some, sym, ap, ◌∙◌, subst, arith, IsUtf8, option_map}
+use Rattle.first_pass_grammar.proofs.Common.{blank_len, atx_level, Rest, IsPlaceOf, all_taken, html_kind, later_kind, metadata_at, IsKind}
 use Rattle.first_pass_kinds.specs.BlockStart.{kind_of, IsFoundWithCondition}
 use Rattle.first_pass_open.proofs.BlankPlaces.{blank_kind}
 use Rattle.first_pass_kinds.proofs.KindLemmas.{few_columns, many_columns, code_kind, AfterMetadata, ColumnsTaken, past_columns, found_early}

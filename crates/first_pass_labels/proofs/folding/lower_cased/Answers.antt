@@ -1,6 +1,7 @@
 use Rattle.std.proofs.Common.{◌≡◌, ℕ, List, ◌∷◌, ◌++◌, [], ◌+◌, ◌<◌, ◌∙◌, ap, ap₂, sym, arith, map, length, take, IsAscii, get_or, subst, IsUtf8, slice_set}
+use Rattle.std.proofs.Common.{length-set}
 use Rattle.std.specs.Char.{to_ascii_lowercase}
-use Rattle.std.proofs.lemmas.List.{take_more, take_more_set, map-append, length-set}
+use Rattle.std.proofs.lemmas.List.{take_more, take_more_set, map-append}
 use Rattle.std.proofs.lemmas.Str.{IsUtf8-from_ascii, IsAscii-take}
 use Rattle.std.proofs.lemmas.Str.Ascii.{IsAscii-map, lowercase_ascii}
 use Rattle.first_pass_labels.proofs.folding.lower_cased.Goals as goal

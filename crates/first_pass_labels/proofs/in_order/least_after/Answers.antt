@@ -1,7 +1,4 @@
-use Rattle.std.proofs.Common.{ap, ap₂, sym, refl, ◌∙◌}
-use Rattle.std.proofs.lemmas.List.{take_all}
-use Rattle.std.specs.List.{slice_get}
-use Rattle.std.specs.Option.{option_copied}
+use Rattle.std.proofs.Common.{ap, ap₂, sym, refl, ◌∙◌, take_all, slice_get, option_copied}
 use Rattle.first_pass_labels.specs.LabelTables.{table_of, after_label, lesser_of, with_all}
 use Rattle.first_pass_labels.proofs.SortedLemmas.{least_taken, least_left}
 use Rattle.first_pass_labels.proofs.in_order.least_after.Goals as goal

@@ -1,6 +1,4 @@
-use Rattle.std.proofs.Common.{◌≡◌, take}
-use Rattle.std.specs.List.{slice_get}
-use Rattle.std.specs.Option.{option_copied}
+use Rattle.std.proofs.Common.{◌≡◌, take, slice_get, option_copied}
 use Rattle.first_pass_labels.specs.LabelTables.{table_of, after_label}
 use Rattle.first_pass_labels.proofs.in_order.least_after.Given as goal
 

@@ -1,5 +1,4 @@
-use Rattle.std.proofs.Common.{ap, arith, map, sym, subst, ◌∙◌}
-use Rattle.std.proofs.lemmas.List.{take_all}
+use Rattle.std.proofs.Common.{ap, arith, map, sym, subst, ◌∙◌, take_all}
 use Rattle.first_pass_labels.specs.LabelTables.{table_of, IsOrderOf}
 use Rattle.first_pass_labels.proofs.OrderLemmas.{indices_more, order_is}
 use Rattle.first_pass_labels.proofs.in_order.order_of.Goals as goal

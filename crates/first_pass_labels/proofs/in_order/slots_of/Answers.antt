@@ -1,7 +1,5 @@
-use Rattle.std.proofs.Common.{◌≡◌, ap, map, subst, sym, ◌∙◌, All, Some}
-use Rattle.std.proofs.lemmas.List.{take_all}
+use Rattle.std.proofs.Common.{◌≡◌, ap, map, subst, sym, ◌∙◌, All, Some, take_all, slice_get}
 use Rattle.std.proofs.lemmas.List.Elements.{All-nil}
-use Rattle.std.specs.List.{slice_get}
 use Rattle.first_pass_labels.proofs.OrderLemmas.{slots_more}
 use Rattle.first_pass_labels.proofs.in_order.slots_of.Goals as goal
 

@@ -1,5 +1,4 @@
-use Rattle.std.proofs.Common.{◌≡◌, All, Some, map, take}
-use Rattle.std.specs.List.{slice_get}
+use Rattle.std.proofs.Common.{◌≡◌, All, Some, map, take, slice_get}
 use Rattle.first_pass_labels.proofs.in_order.slots_of.Given as goal
 
 -- the slots of the entries before `at`

@@ -1,4 +1,4 @@
-use Rattle.std.specs.Prelude.{[]}
+use Rattle.std.proofs.Common.{[]}
 use Rattle.first_pass_labels.proofs.TextOrder.{under_table, in_order_table, with_one_more}
 use Rattle.first_pass_labels.proofs.laws.law_of_tables.Goals as goal
 

@@ -1,8 +1,7 @@
-use Rattle.std.proofs.Common.{◌+◌, Some, cond, ap, sym, refl, ◌∙◌, drop, get_or}
+use Rattle.std.proofs.Common.{◌+◌, Some, cond, ap, sym, refl, ◌∙◌, drop, get_or, is_eq}
 use Rattle.std.proofs.lemmas.List.{at_drop_more, drop_all, get_or_default}
 use Rattle.std.specs.BTreeMap.{is_at}
 use Rattle.std.specs.Map.{lookup}
-use Rattle.std.specs.Ordering.{is_eq}
 use Rattle.first_pass_labels.specs.Foldings.{label_cmp}
 use Rattle.first_pass_labels.proofs.search.find_first.Goals as goal
 

@@ -1,5 +1,4 @@
-use Rattle.std.proofs.Common.{◌+◌, ◌-◌, ◌/◌, ◌≡◌, Some, ap, sym, ◌∙◌, arith, not-suc-le-zero}
-use Rattle.std.specs.List.{slice_get}
+use Rattle.std.proofs.Common.{◌+◌, ◌-◌, ◌/◌, ◌≡◌, Some, ap, sym, ◌∙◌, arith, not-suc-le-zero, slice_get}
 use Rattle.std.proofs.lemmas.Map.Entries.{lookup_at_gap}
 use Rattle.first_pass_labels.specs.LabelTables.{table_of}
 use Rattle.first_pass_labels.proofs.PlaceLemmas.{named, past_end, below_more, above_more, found_at}

@@ -1,6 +1,4 @@
-use Rattle.std.proofs.Common.{◌-◌, ◌≡◌, ℕ, ◌<◌, ◌≤◌, Some, length}
-use Rattle.std.specs.List.{slice_get}
-use Rattle.std.specs.declared.cmp.Ordering.TheVariants.{Less, Greater}
+use Rattle.std.proofs.Common.{◌-◌, ◌≡◌, ℕ, ◌<◌, ◌≤◌, Some, length, slice_get, Less, Greater}
 use Rattle.first_pass_items.specs.declared.cow_str.CowStr.{CowStr}
 use Rattle.first_pass_labels.specs.Foldings.{label_cmp}
 use Rattle.first_pass_labels.specs.LabelTables.{table_of}

@@ -11,10 +11,7 @@ loop-at-preserved c =
     let bs = c.args.bytes.now in
     let e = c.unit_len-at.ensures.value ∙ ap (λ xs. if begins_escape xs then 2 else 1) c.rest_of.ensures.value in
     let u = upto_unit ends_bracketed bs c.loop-at.at c.unit_len-at.result c.loop-at-test.true e (sym c.ends_bracketed.ensures ∙ c.if-not-ends_bracketed.true) in
-    let within = c.unit_len-at.ensures.within in
-    let whole = c.rest_of.ensures.whole in
-    let passed = c.loop-at.invariant.passed in
-    record { within = omega arith; passed = u ∙ passed }
+    record { within = omega (arith, c.unit_len-at.ensures.within, c.rest_of.ensures.whole); passed = u ∙ c.loop-at.invariant.passed }
 
 no_backslash : (b : ℕ) → ends_bracketed b ≡ true → (b == backslash) ≡ false
 no_backslash b h = grind (arith, nat_tests, h)
@@ -22,12 +19,8 @@ no_backslash b h = grind (arith, nat_tests, h)
 pub returns-else-not-ends_bracketed-clause-value : goal.returns-else-not-ends_bracketed-clause-value
 returns-else-not-ends_bracketed-clause-value c =
     let s = sym c.ends_bracketed.ensures ∙ c.if-not-ends_bracketed.false in
-    let e = upto_stopped ends_bracketed c.args.bytes.now c.loop-at.at c.loop-at-test.true s (no_backslash _ s) in
-    let passed = c.loop-at.invariant.passed in
-    omega arith
+    omega (arith, upto_stopped ends_bracketed c.args.bytes.now c.loop-at.at c.loop-at-test.true s (no_backslash _ s), c.loop-at.invariant.passed)
 
 pub returns-after-loop-at-clause-value : goal.returns-after-loop-at-clause-value
 returns-after-loop-at-clause-value c =
-    let e = upto_ended ends_bracketed c.args.bytes.now c.loop-at.at (omega arith) in
-    let passed = c.loop-at.invariant.passed in
-    omega arith
+    omega (arith, upto_ended ends_bracketed c.args.bytes.now c.loop-at.at (omega arith), c.loop-at.invariant.passed)

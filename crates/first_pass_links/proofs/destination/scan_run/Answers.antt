@@ -1,8 +1,8 @@
-use Rattle.std.proofs.Common.{◌≡◌, ◌==◌, ℕ, inl, inr, ◌+◌, drop, Some, None, sym, ap, ◌∙◌, arith}
-use Rattle.std.proofs.lemmas.Bool.{cases_Bool, eqb-true}
+use Rattle.std.proofs.Common.{◌≡◌, ◌==◌, ℕ, inl, inr, ◌+◌, drop, Some, None, sym, ap, ◌∙◌, arith, eqb-true}
+use Rattle.std.proofs.lemmas.Bool.{cases_Bool}
 use Rattle.first_pass_links.specs.Destinations.{bare_len, longer, if_closed}
-use Rattle.first_pass_links.proofs.PlainRuns.{parenthesis_unit}
-use Rattle.first_pass_links.proofs.Destinations.{run_unit, run_deep, run_unopened, run_stopped, run_ended}
+use Rattle.first_pass_links.proofs.PlainRuns.{parenthesis_alone}
+use Rattle.first_pass_links.proofs.Destinations.{run_passed, run_deep, run_unopened, run_stopped, run_ended}
 use Rattle.first_pass_links.proofs.destination.scan_run.Goals as goal
 use Rattle.first_pass_links.proofs.destination.scan_run.Goals.{then-loop-at-test+else-not-ends_run, else-loop-at-test}
 
@@ -27,8 +27,8 @@ loop-at-preserved c =
     let at = c.loop-at.at in
     let shallow = c.if-nesting-deepest.false in
     let following = c.nesting_after-nesting.ensures.value in
-    let one = parenthesis_unit bs at c.loop-at-test.true (sym c.is_parenthesis.ensures ∙ c.if-not-is_parenthesis.false) in
-    let u = run_unit c.args.deepest c.loop-at.nesting bs at 1 c.loop-at-test.true one (sym c.ends_run.ensures ∙ c.if-not-ends_run.true)
+    let alone = parenthesis_alone bs at c.loop-at-test.true (sym c.is_parenthesis.ensures ∙ c.if-not-is_parenthesis.false) in
+    let u = run_passed c.args.deepest c.loop-at.nesting bs at c.loop-at-test.true alone (sym c.ends_run.ensures ∙ c.if-not-ends_run.true)
     (sym c.closes_none.ensures ∙ c.if-closes_none.false) (omega arith)
     in
     let bound = c.loop-at.invariant.nested in

@@ -1,5 +1,4 @@
-use Rattle.std.proofs.Common.{◌≡◌, false, sym, ap, ◌∙◌, arith, if◌then◌else◌}
-use Rattle.std.proofs.lemmas.Bool.{ne_eqb}
+use Rattle.std.proofs.Common.{◌≡◌, false, sym, ◌∙◌, arith, ne_eqb}
 use Rattle.first_pass_links.specs.Escapes.{begins_escape}
 use Rattle.first_pass_links.proofs.PlainRuns.{are_plain, no_escape, run_part}
 use Rattle.first_pass_links.proofs.Backslashes.{last_escapes_none, end_escapes_none, run_backslash}
@@ -10,8 +9,7 @@ pub returns-then-bytes-ne92-clause-passed : goal.returns-then-bytes-ne92-clause-
 returns-then-bytes-ne92-clause-passed c =
     λ deepest nesting bound.
     let bs = c.args.bytes.now in
-    run_part deepest nesting bs 1 c.plain_run.result c.requires.some c.requires.part
-    (ap (λ t. if t then 2 else 1) (sym (no_escape bs 0 c.requires.some (ne_eqb _ _ c.if-bytes-ne92.true))))
+    run_part deepest nesting bs c.plain_run.result c.requires.some c.requires.part (no_escape bs 0 c.requires.some (ne_eqb _ _ c.if-bytes-ne92.true))
     (omega (arith, c.plain_run.ensures.within, c.rest_of.ensures.whole))
     (are_plain bs _ 1 c.plain_run.result c.rest_of.ensures.value c.plain_run.ensures.plain) bound
 
@@ -24,8 +22,7 @@ returns-then-bytes-lt2-clause-passed c =
       | then-bytes-lt2-via-then-bytes-lt2 w ↦ last_escapes_none bs w.if-bytes-lt2.true
       | then-bytes-lt2-via-else-bytes-lt2+then-ends_run w ↦ end_escapes_none bs (sym w.ends_run.ensures ∙ w.if-ends_run.true)
     ] in
-    run_part deepest nesting bs 1 0 c.requires.some c.requires.part (ap (λ t. if t then 2 else 1) (sym none)) (omega (arith, c.requires.some))
-    (λ k below. absurd (omega arith)) bound
+    run_part deepest nesting bs 0 c.requires.some c.requires.part none (omega (arith, c.requires.some)) (λ k below. absurd (omega arith)) bound
 
 pub returns-clause-passed : goal.returns-clause-passed
 returns-clause-passed c =

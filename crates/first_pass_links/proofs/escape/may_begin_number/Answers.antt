@@ -1,5 +1,4 @@
-use Rattle.std.proofs.Common.{◌≡◌, ℕ, ◌==◌, ◌||◌, Bool, true, false, List, [], ◌∷◌, length, None, slice_index, refl, sym, ◌∙◌, arith}
-use Rattle.std.proofs.lemmas.Bool.{eqb-true}
+use Rattle.std.proofs.Common.{◌≡◌, ℕ, ◌==◌, ◌||◌, Bool, true, false, List, [], ◌∷◌, length, None, slice_index, refl, sym, ◌∙◌, arith, eqb-true}
 use Rattle.std.specs.Char.{is_ascii_digit}
 use Rattle.first_pass_items.specs.Bytes.{small_x, capital_x}
 use Rattle.first_pass_entities.specs.Entities.{numeric_at, number_at}

@@ -1,5 +1,4 @@
-use Rattle.std.proofs.Common.{◌-◌, length}
-use Rattle.std.specs.String.{string_bytes}
+use Rattle.std.proofs.Common.{◌-◌, length, string_bytes}
 use Rattle.first_pass_links.proofs.Escapes.{IsWritten}
 use Rattle.first_pass_links.proofs.escape.unescape_marked.Given as goal
 

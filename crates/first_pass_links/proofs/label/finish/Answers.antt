@@ -1,5 +1,4 @@
-use Rattle.std.proofs.Common.{◌++◌, sym, ap, ◌∙◌}
-use Rattle.std.specs.String.{string_bytes}
+use Rattle.std.proofs.Common.{◌++◌, sym, ap, ◌∙◌, string_bytes}
 use Rattle.first_pass_links.proofs.Parts.{part-start, whole_kept, whole_differs}
 use Rattle.first_pass_links.proofs.label.finish.Goals as goal
 

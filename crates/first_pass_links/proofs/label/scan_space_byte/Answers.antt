@@ -1,23 +1,19 @@
-use Rattle.std.proofs.Common.{◌≡◌, ◌<◌, ℕ, List, true, length, slice_index, Ok, ◌+◌, get_or, sym, ap, subst, ◌∙◌, arith, IsUtf8}
-use Rattle.std.specs.Str.{IsCharBoundary}
+use Rattle.std.proofs.Common.{◌≡◌, ◌<◌, ℕ, List, true, length, slice_index, Ok, ◌+◌, get_or, sym, ap, subst, ◌∙◌, arith, IsUtf8, IsCharBoundary}
 use Rattle.std.proofs.lemmas.Str.{IsCharBoundary-after_ascii, IsUtf8-drop}
 use Rattle.first_pass_items.proofs.ResultFacts.{on_err}
 use Rattle.first_pass_lines.specs.Lines.{ends_line, is_white_or_line_end}
 use Rattle.first_pass_links.proofs.Labels.{left-byte, left-end, left-stop, white_is_ascii, place_past}
 use Rattle.first_pass_links.proofs.label.scan_space_byte.Goals as goal
-use Rattle.first_pass_links.proofs.label.scan_space_byte.Goals.{After-rest_of-following, In-Some}
+use Rattle.first_pass_links.proofs.label.scan_space_byte.Goals.{In-Some}
 use Rattle.first_pass_links.proofs.label.scan_space_byte.Given.{Over}
 
 -- after a byte of white space
 after_white : (text : List ℕ) (at : ℕ) → IsUtf8 text → at < length text → is_white_or_line_end (slice_index text at) ≡ true → IsCharBoundary text (at + 1)
 after_white text at u l w = IsCharBoundary-after_ascii text at u l (white_is_ascii _ w).0
 
--- after the byte
-after : (g : Over) (c : After-rest_of-following g) → IsCharBoundary c.args.bytes.now (c.args.at + 1)
-after g c = IsCharBoundary-after_ascii c.args.bytes.now c.args.at c.requires.text c.requires.within (white_is_ascii _ c.requires.white).0
-
 pub returns-then-not-ends_line-clause-some : goal.returns-then-not-ends_line-clause-some
-returns-then-not-ends_line-clause-some g c = (omega arith, after g (goal.at.returns-then-not-ends_line-clause-some g c).After-rest_of-following)
+returns-then-not-ends_line-clause-some g c =
+    (omega arith, after_white c.args.bytes.now c.args.at c.requires.text c.requires.within c.requires.white)
 
 pub returns-then-not-ends_line-clause-reads : goal.returns-then-not-ends_line-clause-reads
 returns-then-not-ends_line-clause-reads g c =
@@ -28,8 +24,7 @@ returns-then-not-ends_line-clause-reads g c =
 prefix_place : (g : Over) (c : In-Some g) → IsCharBoundary c.args.bytes.now (c.args.at + 1 + c.in-Some.prefix)
 prefix_place g c =
     let e = c.rest_of-following.ensures.value in
-    let b : IsCharBoundary c.args.bytes.now (c.args.at + 1) =
-    IsCharBoundary-after_ascii c.args.bytes.now c.args.at c.requires.text c.requires.within (white_is_ascii _ c.requires.white).0 in
+    let b = after_white c.args.bytes.now c.args.at c.requires.text c.requires.within c.requires.white in
     let u : IsUtf8 c.rest_of-following.result.now = subst IsUtf8 (sym e) (IsUtf8-drop c.args.bytes.now (c.args.at + 1) c.requires.text b) in
     place_past c.args.bytes.now (c.args.at + 1) c.in-Some.prefix b.0
     (subst (λ xs. IsCharBoundary xs c.in-Some.prefix) e (c.requires.places c.rest_of-following.result c.in-Some.prefix (c.args.at + 1) b e

@@ -1,8 +1,8 @@
-use Rattle.std.proofs.Common.{◌∙◌, ◌+◌, ◌≤◌, ap, sym, subst, length, length-drop, arith}
+use Rattle.std.proofs.Common.{◌∙◌, ◌+◌, ◌≤◌, ap, sym, subst, length, length-drop, arith, ne_eqb}
 use Rattle.first_pass_items.specs.Bytes.{backslash}
 use Rattle.first_pass_links.specs.Units.{IsUnit, Reads}
-use Rattle.first_pass_links.proofs.Labels.{byte_reads, differs, run_reads, space_is_unit, backslash_is_unit}
-use Rattle.first_pass_links.proofs.PlainRuns.{are_plain, plain_run_reads}
+use Rattle.first_pass_links.proofs.Labels.{byte_reads, run_reads, space_is_unit, backslash_is_unit}
+use Rattle.first_pass_links.proofs.PlainRuns.{are_plain, no_escape, plain_run_reads}
 use Rattle.first_pass_links.proofs.label.scan_unit.Goals as goal
 
 pub returns-in-Some-clause-some : goal.returns-in-Some-clause-some
@@ -37,7 +37,7 @@ returns-clause-reads g c =
     λ h a. subst (Reads h c.args.in_table c.args.bytes.now c.args.at) (sym c.kept_unit-2.ensures)
     (byte_reads h c.args.in_table c.args.bytes.now c.args.at _ c.requires.within
     (sym c.is_white_or_line_end.ensures ∙ c.if-is_white_or_line_end.false) c.requires.no_bracket
-    (differs _ backslash c.if-bytes-at-eq92.false) c.begun_characters.ensures)
+    (no_escape c.args.bytes.now c.args.at c.requires.within (ne_eqb _ backslash c.if-bytes-at-eq92.false)) c.begun_characters.ensures)
 
 pub returns-then-plain-gt0-clause-reads : goal.returns-then-plain-gt0-clause-reads
 returns-then-plain-gt0-clause-reads g c =

@@ -1,26 +1,23 @@
-use Rattle.std.proofs.Common.{inl, inr, ◌≡◌, ◌⊎◌, ℕ, Bool, List, Option, Result, Some, None, [], ◌++◌, ◌+◌, ◌<◌, ◌||◌, ◌==◌, true, false, length, get_or}
-use Rattle.std.proofs.Common.{drop, refl, sym, ap, subst, ◌∙◌, arith}
-use Rattle.std.specs.Borrow.{Bor}
-use Rattle.std.specs.String.{string_bytes}
-use Rattle.std.specs.Str.{IsCharBoundary}
+use Rattle.std.proofs.Common.{inl, inr, ◌≡◌, ◌⊎◌, ℕ, Bool, List, Option, Result, Some, None, [], ◌++◌, ◌+◌, ◌<◌, ◌≤◌, ◌&&◌, ◌==◌, true, false, length}
+use Rattle.std.proofs.Common.{get_or, drop, refl, sym, ap, subst, ◌∙◌, arith, Bor, string_bytes, IsCharBoundary}
 use Rattle.std.specs.declared.alloc.AllocError.{AllocError}
-use Rattle.std.proofs.lemmas.Bool.{cases_lt, eqb-true, true≢false}
+use Rattle.std.proofs.lemmas.Bool.{cases_lt, and_left, and_right, cond-false}
 use Rattle.std.proofs.lemmas.List.{drop_more}
 use Rattle.std.proofs.lemmas.Str.{IsCharBoundary-start}
-use Rattle.first_pass_items.specs.Bytes.{left_bracket, right_bracket}
+use Rattle.first_pass_items.specs.Bytes.{right_bracket}
 use Rattle.first_pass_items.proofs.ResultFacts.{on_err}
 use Rattle.first_pass_lines.specs.Lines.{begins}
 use Rattle.first_pass_links.specs.Labels.{AnswersWith, IsRewritten, is_bracket, label_at}
 use Rattle.first_pass_links.specs.Plain.{IsPlainLabel}
 use Rattle.first_pass_links.specs.Units.{part, left_at, IsLighter, Reads, ReadsUnits, StopsByError, IsBlankRest}
 use Rattle.first_pass_links.proofs.Destinations.{first_byte}
-use Rattle.first_pass_links.proofs.Parts.{read_none, part-none, part-start}
+use Rattle.first_pass_links.proofs.Parts.{part-none, part-start}
 use Rattle.first_pass_links.proofs.PlainRuns.{plain_label}
-use Rattle.first_pass_links.proofs.Labels.{too_long, blank_stops, end_stops, open_stops, blank_label, closed, known_as, label_after, nothing_known, unit_known}
+use Rattle.first_pass_links.proofs.Labels.{too_long, blank_stops, end_stops, at_bracket, label_after, label_read, read_nothing, read_both, read_unit}
 use Rattle.first_pass_links.proofs.Labels.{Known}
-use Rattle.first_pass_links.proofs.Rewritten.{track_none, track_unit, track_written, track_stop}
+use Rattle.first_pass_links.proofs.Rewritten.{track_unit, track_written, track_stop}
 use Rattle.first_pass_links.proofs.label.scan_units.Goals as goal
-use Rattle.first_pass_links.proofs.label.scan_units.Goals.{then-loop-at-test+else-not-is_bracket, else-loop-at-test}
+use Rattle.first_pass_links.proofs.label.scan_units.Goals.{In-Some-2, then-loop-at-test+else-not-is_bracket, else-loop-at-test}
 use Rattle.first_pass_links.proofs.label.scan_units.Goals.{else-solid-via-then-solid+else-begins, else-solid-via-else-solid}
 
 pub scan_unit-requires-clause-places : goal.scan_unit-requires-clause-places
@@ -31,38 +28,28 @@ scan_unit-requires-clause-places g c =
 pub loop-at-init : goal.loop-at-init
 loop-at-init g c =
     let text = c.args.text.now in
+    let start = IsCharBoundary-start text c.utf8.text in
     let e : string_bytes c.args.written.now ++ part text 0 0 ≡ [] = ap (λ bs. bs ++ part text 0 0) c.requires.empty ∙ part-none text 0 in
     record {
-      read = subst (λ bs. IsLighter text bs 0 0) (sym c.requires.empty) (read_none text (IsCharBoundary-start text c.utf8.text));
+      read = record { order = omega arith; within = omega arith; boundary = start; lighter = inl (refl, c.requires.empty) };
       bound = omega arith;
-      label = λ h a. ap (λ bs. label_after c.args.in_table (known_as 0 false bs) (left_at h text 0)) e ∙ nothing_known c.args.in_table h text;
-      tracked = λ h a. track_none h c.args.in_table text (0 ≡ 0) refl;
+      tracked = λ h a. rw e (record { read = read_nothing h c.args.in_table text 0; lighter = inl refl });
     }
 
+-- a unit is read
+reads : (g : _) (c : In-Some-2 g) (h : List ℕ → Option ℕ) → AnswersWith c.args.text.now h (λ b r. g.F.Fn.post c.args.linebreak_handler.now (b, tt) r)
+    → Reads h c.args.in_table c.args.text.now c.loop-at.at c.in-Some-2.unit
+reads g c = subst (λ xs. (h : List ℕ → Option ℕ) → AnswersWith xs h (λ b r. g.F.Fn.post c.args.linebreak_handler.now (b, tt) r)
+    → Reads h c.args.in_table xs c.loop-at.at c.in-Some-2.unit) c.as_bytes-bytes.ensures.value (rw c.in-Some-2.is at c.in_ok-unit.ensures.reads)
+
 pub loop-at-preserved : goal.loop-at-preserved
-loop-at-preserved g c =
-    let text = c.args.text.now in
-    let unit = c.in-Some-2.unit in
-    let reads = rw c.in-Some-2.is at c.in_ok-unit.ensures.reads in
-    record {
-      read = c.in_ok-from.ensures.read;
-      bound = c.if-characters-gt-MOST_CHARACTERS.false;
-      label = λ h a.
-          let r : Reads h c.args.in_table text c.loop-at.at unit =
-          subst (λ xs. Reads h c.args.in_table xs c.loop-at.at unit) c.as_bytes-bytes.ensures.value (reads h (λ following answer at b e.
-          a following answer at (subst (λ xs. IsCharBoundary xs at) c.as_bytes-bytes.ensures.value b) (e ∙ ap (drop at) c.as_bytes-bytes.ensures.value))) in
-          ap (λ bs.
-          label_after c.args.in_table (known_as (c.loop-at.characters + unit.characters) (c.loop-at.solid || unit.solid) bs) (left_at h text unit.next))
-          c.in_ok-from.ensures.bytes
-          ∙ sym (unit_known h c.args.in_table text c.loop-at.at unit _ r)
-          ∙ c.loop-at.invariant.label h a;
-      tracked = λ h a.
-          let r : Reads h c.args.in_table text c.loop-at.at unit =
-          subst (λ xs. Reads h c.args.in_table xs c.loop-at.at unit) c.as_bytes-bytes.ensures.value (reads h (λ following answer at b e.
-          a following answer at (subst (λ xs. IsCharBoundary xs at) c.as_bytes-bytes.ensures.value b) (e ∙ ap (drop at) c.as_bytes-bytes.ensures.value))) in
-          track_unit h c.args.in_table text c.loop-at.at unit (c.loop-at.from ≡ 0) (c.in_ok-from.from ≡ 0) (c.loop-at.invariant.tracked h a) r
-          (λ e z. c.in_ok-from.ensures.same e ∙ z);
-    }
+loop-at-preserved g c = record {
+  read = c.in_ok-from.ensures.read;
+  bound = c.if-characters-gt-MOST_CHARACTERS.false;
+  tracked = λ h a. rw c.in_ok-from.ensures.bytes (track_unit h c.args.in_table c.args.text.now c.loop-at.at _ c.in-Some-2.unit (c.loop-at.from ≡ 0)
+      (c.in_ok-from.from ≡ 0) (c.loop-at.invariant.tracked h a) (reads g (goal.at.loop-at-preserved g c).In-Some-2 h a)
+      (λ e z. c.in_ok-from.ensures.same e ∙ z));
+}
 
 -- there is no label
 none_read : (text written : List ℕ) (in_table : Bool) (post : Bor (List ℕ) → Result (Option ℕ) AllocError → Type 0)
@@ -101,41 +88,31 @@ returns-in-Some-clause-ok g c =
 
 pub returns-in_default-2-clause-ok : goal.returns-in_default-2-clause-ok
 returns-in_default-2-clause-ok g c = none_read c.args.text.now _ c.args.in_table _ (λ h a.
-    let r : IsBlankRest h c.args.text.now c.loop-at.at =
-    subst (λ xs. IsBlankRest h xs c.loop-at.at) c.as_bytes-bytes.ensures.value (c.in_ok-unit.ensures.none c.in_default-2.is h (λ following answer at b e.
-    a following answer at (subst (λ xs. IsCharBoundary xs at) c.as_bytes-bytes.ensures.value b) (e ∙ ap (drop at) c.as_bytes-bytes.ensures.value))) in
-    sym (c.loop-at.invariant.label h a) ∙ blank_stops h c.args.in_table c.args.text.now c.loop-at.at r _)
+    let r = subst (λ xs. (h : List ℕ → Option ℕ) → AnswersWith xs h (λ b r. g.F.Fn.post c.args.linebreak_handler.now (b, tt) r)
+    → IsBlankRest h xs c.loop-at.at) c.as_bytes-bytes.ensures.value (c.in_ok-unit.ensures.none c.in_default-2.is) in
+    label_read h c.args.in_table c.args.text.now c.loop-at.at _ (c.loop-at.invariant.tracked h a).read
+    ∙ blank_stops h c.args.in_table c.args.text.now c.loop-at.at (r h a) _)
 
 pub returns-then-characters-gt-MOST_CHARACTERS-clause-ok : goal.returns-then-characters-gt-MOST_CHARACTERS-clause-ok
-returns-then-characters-gt-MOST_CHARACTERS-clause-ok g c =
-    let reads = rw c.in-Some-2.is at c.in_ok-unit.ensures.reads in
-    none_read c.args.text.now _ c.args.in_table _ (λ h a.
-    let r : Reads h c.args.in_table c.args.text.now c.loop-at.at c.in-Some-2.unit =
-    subst (λ xs. Reads h c.args.in_table xs c.loop-at.at c.in-Some-2.unit) c.as_bytes-bytes.ensures.value (reads h (λ following answer at b e.
-    a following answer at (subst (λ xs. IsCharBoundary xs at) c.as_bytes-bytes.ensures.value b) (e ∙ ap (drop at) c.as_bytes-bytes.ensures.value))) in
-    sym (c.loop-at.invariant.label h a) ∙ unit_known h c.args.in_table c.args.text.now c.loop-at.at c.in-Some-2.unit _ r
-    ∙ too_long c.args.in_table _ (left_at h c.args.text.now c.in-Some-2.unit.next) c.if-characters-gt-MOST_CHARACTERS.true)
+returns-then-characters-gt-MOST_CHARACTERS-clause-ok g c = none_read c.args.text.now _ c.args.in_table _ (λ h a.
+    let text = c.args.text.now in
+    let unit = c.in-Some-2.unit in
+    let u = read_unit h c.args.in_table text c.loop-at.at unit (reads g (goal.at.returns-then-characters-gt-MOST_CHARACTERS-clause-ok g c).In-Some-2 h a) in
+    label_read h c.args.in_table text unit.next _ (read_both h c.args.in_table text 0 c.loop-at.at unit.next _ _ (c.loop-at.invariant.tracked h a).read u)
+    ∙ too_long c.args.in_table _ (left_at h text unit.next) c.if-characters-gt-MOST_CHARACTERS.true)
 
--- at a bracket that is not the `]` of a label there is none
-at_bracket : (opens : Bool) (h : List ℕ → Option ℕ) (t : Bool) (text : List ℕ) (at : ℕ) (known : Known) → at < length text
-    → is_bracket (get_or text at 0) ≡ true → (get_or text at 0 == left_bracket) ≡ opens → (known.solid ≡ false) ⊎ (begins right_bracket (drop at text) ≡ false)
+-- at a place that is not the `]` of a label there is none
+not_closed : (h : List ℕ → Option ℕ) (t : Bool) (text : List ℕ) (at : ℕ) (known : Known) → known.characters ≤ 999
+    → (at < length text → is_bracket (get_or text at 0) ≡ true) → (known.solid ≡ false) ⊎ (begins right_bracket (drop at text) ≡ false)
     → label_after t known (left_at h text at) ≡ None
-at_bracket true h t text at known within bracket left why = open_stops h t text at within (eqb-true _ left_bracket left) known
-at_bracket false h t text at known within bracket left why =
-    let closing : get_or text at 0 ≡ right_bracket = eqb-true _ right_bracket (rw left at bracket) in
-    elim why [
-      | inl blank ↦ blank_label h t text at known within closing blank
-      | inr none ↦ (let there : begins right_bracket (drop at text) ≡ true = ap (begins right_bracket) (drop_more text at 0 within) ∙ rw closing refl in
-          absurd (true≢false (sym there ∙ none)))
-    ]
-
-not_closed : (h : List ℕ → Option ℕ) (t : Bool) (text : List ℕ) (at : ℕ) (known : Known) → (at < length text → is_bracket (get_or text at 0) ≡ true)
-    → (known.solid ≡ false) ⊎ (begins right_bracket (drop at text) ≡ false) → label_after t known (left_at h text at) ≡ None
-not_closed h t text at known bracket why =
-    elim (cases_lt at (length text)) [
-      | inl within ↦ at_bracket _ h t text at known within (bracket within) refl why
-      | inr past ↦ end_stops h t text at past known
-    ]
+not_closed h t text at known few bracket why = elim (cases_lt at (length text)) [
+  | inl within ↦
+      at_bracket h t text at known within (bracket within) few ∙ cond-false ((get_or text at 0 == right_bracket) && known.solid) _ _ (elim why [
+        | inl blank ↦ and_right _ _ blank
+        | inr none ↦ and_left _ _ (ap (begins right_bracket) (sym (drop_more text at 0 within)) ∙ none)
+      ])
+  | inr past ↦ end_stops h t text at past known
+]
 
 pub returns-then-begins-clause-ok : goal.returns-then-begins-clause-ok
 returns-then-begins-clause-ok g c =
@@ -144,10 +121,10 @@ returns-then-begins-clause-ok g c =
     (sym (c.rest_of.ensures.value ∙ ap (drop c.loop-at.at) c.as_bytes-bytes.ensures.value)) ∙ sym c.begins.ensures.value ∙ c.if-begins.true in
     let there = first_byte right_bracket text c.loop-at.at closes in
     some_read text _ c.args.in_table _ c.loop-at.from c.loop-at.at
-    (λ h a. sym (c.loop-at.invariant.label h a)
-    ∙ closed h c.args.in_table text c.loop-at.at _ there.0 there.1 c.loop-at.invariant.bound c.if-solid.true)
+    (λ h a. label_read h c.args.in_table text c.loop-at.at _ (c.loop-at.invariant.tracked h a).read
+    ∙ at_bracket h c.args.in_table text c.loop-at.at _ there.0 (rw there.1) c.loop-at.invariant.bound ∙ rw (there.1, c.if-solid.true))
     there c.loop-at.invariant.read
-    (λ some h a. track_written h c.args.in_table text c.loop-at.at (c.loop-at.from ≡ 0) (c.loop-at.invariant.tracked h a) (λ z. omega (arith, some, z)))
+    (λ some h a. track_written h c.args.in_table text c.loop-at.at _ (c.loop-at.from ≡ 0) (c.loop-at.invariant.tracked h a) (λ z. omega (arith, some, z)))
 
 pub returns-clause-ok : goal.returns-clause-ok
 returns-clause-ok g c =
@@ -165,26 +142,20 @@ returns-clause-ok g c =
       | else-solid-via-else-solid w ↦ inl w.if-solid.false
     ] in
     none_read text _ c.args.in_table _
-    (λ h a. sym (c.loop-at.invariant.label h a) ∙ not_closed h c.args.in_table text c.loop-at.at _ bracket why)
+    (λ h a. label_read h c.args.in_table text c.loop-at.at _ (c.loop-at.invariant.tracked h a).read
+    ∙ not_closed h c.args.in_table text c.loop-at.at _ c.loop-at.invariant.bound bracket why)
 
 -- the handler fails
 pub returns-in_err-unit-clause-err : goal.returns-in_err-unit-clause-err
 returns-in_err-unit-clause-err g c =
     on_err c.from_residual.result
-    (λ h a. track_stop h c.args.in_table c.args.text.now c.loop-at.at (c.loop-at.from ≡ 0) _ (c.loop-at.invariant.tracked h a)
+    (λ h a. track_stop h c.args.in_table c.args.text.now c.loop-at.at _ _ (c.loop-at.invariant.tracked h a).read
     (subst (λ xs. StopsByError xs c.loop-at.at (λ b r. g.F.Fn.post c.args.linebreak_handler.now (b, tt) r))
     c.as_bytes-bytes.ensures.value c.in_err-unit.ensures.err) a)
 
 -- a unit is written
 pub returns-in_err-from-clause-err : goal.returns-in_err-from-clause-err
-returns-in_err-from-clause-err g c =
-    let text = c.args.text.now in
-    let unit = c.in-Some-2.unit in
-    let reads = rw c.in-Some-2.is at c.in_ok-unit.ensures.reads in
-    on_err c.from_residual-in_err-from.result (λ h a.
-    let r : Reads h c.args.in_table text c.loop-at.at unit =
-    subst (λ xs. Reads h c.args.in_table xs c.loop-at.at unit) c.as_bytes-bytes.ensures.value (reads h (λ following answer at b e.
-    a following answer at (subst (λ xs. IsCharBoundary xs at) c.as_bytes-bytes.ensures.value b) (e ∙ ap (drop at) c.as_bytes-bytes.ensures.value))) in
-    let k =
-    track_unit h c.args.in_table text c.loop-at.at unit (c.loop-at.from ≡ 0) ⊥ (c.loop-at.invariant.tracked h a) r (λ e z. c.in_err-from.ensures.err e) in
-    inl (track_written h c.args.in_table text unit.next ⊥ k (λ z. z)))
+returns-in_err-from-clause-err g c = on_err c.from_residual-in_err-from.result (λ h a.
+    let k = track_unit h c.args.in_table c.args.text.now c.loop-at.at _ c.in-Some-2.unit (c.loop-at.from ≡ 0) ⊥ (c.loop-at.invariant.tracked h a)
+    (reads g (goal.at.returns-in_err-from-clause-err g c).In-Some-2 h a) (λ e z. c.in_err-from.ensures.err e) in
+    inl (track_written h c.args.in_table c.args.text.now c.in-Some-2.unit.next _ ⊥ k (λ z. z)))

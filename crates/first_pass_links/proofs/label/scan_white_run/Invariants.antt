@@ -1,5 +1,4 @@
-use Rattle.std.proofs.Common.{◌≡◌, ◌≤◌, ◌-◌, ◌+◌, ℕ, List, Option, length, slice_index}
-use Rattle.std.specs.Str.{IsCharBoundary}
+use Rattle.std.proofs.Common.{◌≡◌, ◌≤◌, ◌-◌, ◌+◌, ℕ, List, Option, length, slice_index, IsCharBoundary}
 use Rattle.first_pass_items.specs.Bytes.{space}
 use Rattle.first_pass_links.specs.Labels.{AnswersWith}
 use Rattle.first_pass_links.specs.Units.{IsWhiteRun}

@@ -1,5 +1,4 @@
-use Rattle.std.proofs.Common.{◌≡◌, ◌++◌, ◌∷◌, [], sym, ap, subst, ◌∙◌, if◌then◌else◌}
-use Rattle.std.specs.String.{string_bytes}
+use Rattle.std.proofs.Common.{◌≡◌, ◌++◌, ◌∷◌, [], sym, ap, subst, ◌∙◌, if◌then◌else◌, string_bytes}
 use Rattle.first_pass_items.specs.Bytes.{space}
 use Rattle.first_pass_links.specs.Units.{part, IsLighter}
 use Rattle.first_pass_links.proofs.Parts.{unit_kept, unit_changed, unit_read}

@@ -1,8 +1,7 @@
 use Rattle.std.proofs.Common.{Some, sym, ap, ◌∙◌}
-use Rattle.first_pass_items.specs.declared.item.ItemBody.TheVariants.{List as ListBody, DefinitionList}
-use Rattle.first_pass_tree.specs.Forest.{with_body_at}
+use Rattle.first_pass_grammar.proofs.Common.{DefinitionList, with_body_at, body_of}
+use Rattle.first_pass_items.specs.declared.item.ItemBody.TheVariants.{List as ListBody}
 use Rattle.first_pass_lists.specs.Closing.{loosened_by}
-use Rattle.first_pass_tree.proofs.BodyLemmas.{body_of}
 use Rattle.first_pass_lists.proofs.list.loosen.Goals as goal
 
 pub returns-in-List : goal.returns-in-List

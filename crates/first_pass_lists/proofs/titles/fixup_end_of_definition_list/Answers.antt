@@ -1,16 +1,13 @@
-use Rattle.std.proofs.Common.{◌≡◌, ℕ, zero, suc, ◌+◌, ◌<◌, ◌==◌, ◌&&◌, Bool, true, false, if◌then◌else◌, List, drop, length, reverse, slice_index, Some}
-use Rattle.std.proofs.Common.{refl, sym, ap, subst, ◌∙◌, arith}
-use Rattle.std.specs.Prelude.{IsSomeAnd}
+use Rattle.std.proofs.Common.{◌≡◌, ℕ, zero, suc, ◌+◌, ◌<◌, ◌==◌, Bool, true, false, if◌then◌else◌, List, drop, length, reverse, slice_index, Some}
+use Rattle.std.proofs.Common.{refl, sym, ap, subst, ◌∙◌, arith, IsSomeAnd, get_or-drop, length-drop, eqb-true}
+use Rattle.first_pass_grammar.proofs.Common.{length-map, length-reverse, and_parts, cond_both, nat_tests, Item, Paragraph, TreeIndex, Forest, depths}
+use Rattle.first_pass_grammar.proofs.Common.{last_before, with_body_at, with_end_at, body_at, depths-modify}
 use Rattle.std.specs.List.{position_or_len}
-use Rattle.std.proofs.lemmas.List.{get_or-drop, length-drop, length-map, length-reverse}
 use Rattle.std.proofs.lemmas.List.Sums.{passes_at_first}
-use Rattle.std.proofs.lemmas.Bool.Decides.{nat_tests}
-use Rattle.first_pass_items.specs.declared.item.Item.{Item}
-use Rattle.first_pass_items.specs.declared.item.ItemBody.TheVariants.{Paragraph}
-use Rattle.first_pass_tree.specs.declared.tree_index.TreeIndex.{TreeIndex}
-use Rattle.first_pass_tree.specs.Forest.{Forest, IsChildOfCurrent, depths, last_before, with_body_at, with_end_at, body_at}
-use Rattle.first_pass_tree.proofs.Keeps.{depths-modify, depth_read, current-within}
+use Rattle.first_pass_tree.specs.Forest.{IsChildOfCurrent}
+use Rattle.first_pass_tree.proofs.Keeps.{depth_read, current-within}
 use Rattle.first_pass_lists.specs.Titles.{tree_index, is_other_at, is_possible_title, first_other, left_untitled}
+use Rattle.first_pass_lists.proofs.MovedLemmas.{IsAlike}
 use Rattle.first_pass_lists.proofs.titles.fixup_end_of_definition_list.Goals as goal
 
 -- the index r is before n, and the node there has the depth d
@@ -36,13 +33,6 @@ record IsOther (f : Forest Item) (list n : ℕ) : Type 0 where
   pub depth : slice_index (depths f.nodes) n ≡ length f.spine + 2
   pub above : list < n
 
-first_true : (a b : Bool) → (a && b) ≡ true → a ≡ true
-first_true true b h = refl
-first_true false b h = h
-
-same_depth : (x d : ℕ) → (x == d) ≡ true → x ≡ d
-same_depth x d is = grind (arith, nat_tests)
-
 some_node : ℕ × Item
 some_node = (0, record { start = 0; «end» = 0; body = Paragraph })
 
@@ -52,7 +42,7 @@ depth_first ns d from within =
     let at : ℕ = position_or_len (is_other_at d) (drop from ns) in
     let inside : at < length (drop from ns) = omega (arith, within, length-drop from ns) in
     let passes = ap (is_other_at d) (sym (get_or-drop from ns at some_node)) ∙ passes_at_first (is_other_at d) (drop from ns) some_node inside in
-    depth_read ns (from + at) some_node within ∙ same_depth _ d (first_true _ _ passes)
+    depth_read ns (from + at) some_node within ∙ eqb-true _ d (and_parts _ _ passes).0
 
 other_at : (f : Forest Item) (ns : List (ℕ × Item)) (spine : List TreeIndex) (r list : ℕ)
     → ns ≡ f.nodes → spine ≡ reverse f.spine → r ≡ first_other (length spine + 2) (list + 1) ns → r < length f.nodes → IsOther f list r
@@ -66,36 +56,29 @@ other_at f ns spine r list nodes way is within =
       above = omega (arith, first);
     }
 
--- two trees have the same depths, the same open nodes and the same current node; their items may differ
-record IsLike (f g : Forest Item) : Type 0 where
-  pub depths : depths g.nodes ≡ depths f.nodes
-  pub spine : g.spine ≡ f.spine
-  pub current : g.current ≡ f.current
-
-like_length : (f g : Forest Item) → IsLike f g → length g.nodes ≡ length f.nodes
+like_length : (f g : Forest Item) → IsAlike f g → length g.nodes ≡ length f.nodes
 like_length f g like =
-    sym (length-map g.nodes (λ n. n.0)) ∙ ap (λ (ds : List ℕ). length ds) like.depths ∙ length-map f.nodes (λ n. n.0)
+    sym (length-map g.nodes (λ n. n.0)) ∙ ap (λ (ds : List ℕ). length ds) like.depths_are ∙ length-map f.nodes (λ n. n.0)
 
-untitled_like : (t : Bool) (f : Forest Item) (n : ℕ) → IsLike f (if t then with_body_at f (tree_index n) Paragraph else f)
-untitled_like true f n = record { depths = depths-modify f.nodes n (λ x. record x { body = Paragraph }); spine = refl; current = refl }
-untitled_like false f n = record { depths = refl; spine = refl; current = refl }
+untitled : (f g : Forest Item) (n : ℕ) → g ≡ left_untitled f n → IsAlike f g
+untitled f g n is =
+    subst (IsAlike f) (sym is) (cond_both (is_possible_title (body_at f.nodes n)) (with_body_at f (tree_index n) Paragraph) f (IsAlike f)
+    (λ _. record { depths_are = depths-modify f.nodes n (λ x. record x { body = Paragraph }); spine_is = refl; current_is = refl })
+    (λ _. record { depths_are = refl; spine_is = refl; current_is = refl }))
 
-untitled : (f g : Forest Item) (n : ℕ) → g ≡ left_untitled f n → IsLike f g
-untitled f g n is = subst (IsLike f) (sym is) (untitled_like (is_possible_title (body_at f.nodes n)) f n)
-
-ended : (f g h : Forest Item) (list : TreeIndex) (e : ℕ) → IsLike f g → h ≡ with_end_at g list e → IsLike f h
+ended : (f g h : Forest Item) (list : TreeIndex) (e : ℕ) → IsAlike f g → h ≡ with_end_at g list e → IsAlike f h
 ended f g h list e like is =
-    subst (IsLike f) (sym is) (record {
-      depths = depths-modify g.nodes list.0 (λ x. record x { «end» = e }) ∙ like.depths;
-      spine = like.spine;
-      current = like.current;
+    subst (IsAlike f) (sym is) (record {
+      depths_are = depths-modify g.nodes list.0 (λ x. record x { «end» = e }) ∙ like.depths_are;
+      spine_is = like.spine_is;
+      current_is = like.current_is;
     })
 
-child_of : (f g : Forest Item) (list : TreeIndex) (n : ℕ) → IsOther f list.0 n → IsLike f g → f.current ≡ Some list → IsChildOfCurrent g (tree_index n)
+child_of : (f g : Forest Item) (list : TreeIndex) (n : ℕ) → IsOther f list.0 n → IsAlike f g → f.current ≡ Some list → IsChildOfCurrent g (tree_index n)
 child_of f g list n other like current = record {
   within = omega (arith, other.within, like_length f g like);
-  depth = ap (λ ds. slice_index ds n) like.depths ∙ other.depth ∙ ap (λ (s : List TreeIndex). length s + 2) (sym like.spine);
-  current = subst (λ c. IsSomeAnd c (λ c. c.0 < n)) (sym (like.current ∙ current)) other.above;
+  depth = ap (λ ds. slice_index ds n) like.depths_are ∙ other.depth ∙ ap (λ (s : List TreeIndex). length s + 2) (sym like.spine_is);
+  current = subst (λ c. IsSomeAnd c (λ c. c.0 < n)) (sym (like.current_is ∙ current)) other.above;
 }
 
 pub index-requires : goal.index-requires

@@ -1,8 +1,9 @@
 use Rattle.std.proofs.Common.{Some, length, sym, ap, ◌∙◌, arith}
-use Rattle.first_pass_lines.specs.Places.{line_rest}
-use Rattle.first_pass_grammar.specs.Containers.{after}
+use Rattle.first_pass_grammar.proofs.Common.{line_rest, after}
 use Rattle.first_pass_open.specs.Path.{path_in}
-use Rattle.first_pass_open.proofs.FrontLemmas.{taken_none, in_spine, place_within, node_taken, stops, outer-all, isnt_taken, is_taken}
+use Rattle.first_pass_open.proofs.FrontLemmas.{taken_none, in_spine, place_within, node_taken, stops, outer-all}
+use Rattle.first_pass_scan.proofs.BlankFacts.{taken_no}
+use Rattle.first_pass_lines.proofs.Columns.{taken-yes}
 use Rattle.first_pass_open.proofs.QuoteLemmas.{rest_passed}
 use Rattle.first_pass_open.proofs.containers.continued_rest.Goals as goal
 
@@ -28,7 +29,7 @@ returns-then-not-takes_prefix c =
     let none = stops options f.nodes f.spine c.loop-i.i (record { 0 = 0 }) (line_rest c.args.bytes.now)
     (node_taken options f.nodes f.spine _ c.loop-i.i c.index.result.now (line_rest c.args.bytes.now) c.loop-i.rest
     c.walk_spine-ix-items.ensures c.loop-i-test.true c.index.ensures c.loop-i.invariant
-    ∙ (isnt_taken _ c.takes_prefix.result c.loop-i.rest c.takes_prefix.new.line_start c.if-not-takes_prefix.true c.takes_prefix.ensures).0)
+    ∙ (taken_no _ c.loop-i.rest c.takes_prefix.new.line_start c.takes_prefix.result c.takes_prefix.ensures c.if-not-takes_prefix.true).0)
     (length f.spine) here (omega arith) in
     sym (ap (λ s. after (path_in options f.nodes s) (line_rest c.args.bytes.now)) (sym (outer-all f.spine)) ∙ none)
 
@@ -36,4 +37,4 @@ pub loop-i-preserved : goal.loop-i-preserved
 loop-i-preserved c =
     node_taken c.args.options c.args.tree.now.nodes c.args.tree.now.spine _ c.loop-i.i c.index.result.now (line_rest c.args.bytes.now) c.loop-i.rest
     c.walk_spine-ix-items.ensures c.loop-i-test.true c.index.ensures c.loop-i.invariant
-    ∙ is_taken _ c.takes_prefix.result c.loop-i.rest c.takes_prefix.new.line_start c.if-not-takes_prefix.false c.takes_prefix.ensures
+    ∙ taken-yes _ c.loop-i.rest c.takes_prefix.new.line_start c.takes_prefix.result c.takes_prefix.ensures c.if-not-takes_prefix.false

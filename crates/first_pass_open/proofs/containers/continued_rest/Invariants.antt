@@ -1,6 +1,5 @@
 use Rattle.std.proofs.Common.{◌≡◌, Some}
-use Rattle.first_pass_lines.specs.Places.{line_rest}
-use Rattle.first_pass_grammar.specs.Containers.{after}
+use Rattle.first_pass_grammar.proofs.Common.{line_rest, after}
 use Rattle.first_pass_open.specs.Path.{path_in, outer}
 use Rattle.first_pass_open.proofs.containers.continued_rest.Given as goal
 

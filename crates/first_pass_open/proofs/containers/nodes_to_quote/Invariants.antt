@@ -1,5 +1,5 @@
 use Rattle.std.proofs.Common.{◌≡◌, ◌≤◌, false, length}
-use Rattle.first_pass_items.specs.declared.option_set.Options.{Options}
+use Rattle.first_pass_grammar.proofs.Common.{Options}
 use Rattle.first_pass_open.specs.Path.{has_quote_after}
 use Rattle.first_pass_open.proofs.containers.nodes_to_quote.Given as goal
 

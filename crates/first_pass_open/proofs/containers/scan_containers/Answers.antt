@@ -1,8 +1,9 @@
 use Rattle.std.proofs.Common.{◌≡◌, ℕ, ◌<◌, ◌≤◌, length, None, sym, ap, ◌∙◌, subst, arith}
-use Rattle.std.proofs.lemmas.List.{length-reverse}
-use Rattle.first_pass_grammar.specs.Containers.{after}
+use Rattle.first_pass_grammar.proofs.Common.{length-reverse, after}
 use Rattle.first_pass_open.specs.Path.{path_in, outer}
-use Rattle.first_pass_open.proofs.FrontLemmas.{taken_none, in_spine, place_within, node_taken, stops, front_is, isnt_taken, is_taken}
+use Rattle.first_pass_open.proofs.FrontLemmas.{taken_none, in_spine, place_within, node_taken, stops, front_is}
+use Rattle.first_pass_scan.proofs.BlankFacts.{taken_no}
+use Rattle.first_pass_lines.proofs.Columns.{taken-yes}
 use Rattle.first_pass_open.proofs.containers.scan_containers.Goals as goal
 use Rattle.first_pass_open.proofs.containers.scan_containers.Goals.{Then-not-takes_prefix}
 
@@ -19,7 +20,7 @@ none_longer c =
     stops c.args.options c.args.tree.now.nodes c.args.tree.now.spine c.loop-i.i (record { 0 = 0 }) c.args.line_start.now
     (node_taken c.args.options c.args.tree.now.nodes c.args.tree.now.spine _ c.loop-i.i c.index.result.now c.args.line_start.now c.loop-i.line_start
     c.walk_spine-spine.ensures c.loop-i-test.true c.index.ensures c.loop-i.invariant
-    ∙ (isnt_taken _ c.takes_prefix.result c.loop-i.line_start c.takes_prefix.new.line_start c.if-not-takes_prefix.true c.takes_prefix.ensures).0)
+    ∙ (taken_no _ c.loop-i.line_start c.takes_prefix.new.line_start c.takes_prefix.result c.takes_prefix.ensures c.if-not-takes_prefix.true).0)
 
 pub returns-then-not-takes_prefix-clause-stops : goal.returns-then-not-takes_prefix-clause-stops
 returns-then-not-takes_prefix-clause-stops c = none_longer c
@@ -27,7 +28,7 @@ returns-then-not-takes_prefix-clause-stops c = none_longer c
 pub returns-then-not-takes_prefix-clause-front : goal.returns-then-not-takes_prefix-clause-front
 returns-then-not-takes_prefix-clause-front c =
     let b = in_spine c.args.tree.now.spine _ c.loop-i.i c.walk_spine-spine.ensures c.loop-i-test.true in
-    (isnt_taken _ c.takes_prefix.result c.loop-i.line_start c.takes_prefix.new.line_start c.if-not-takes_prefix.true c.takes_prefix.ensures).1
+    (taken_no _ c.loop-i.line_start c.takes_prefix.new.line_start c.takes_prefix.result c.takes_prefix.ensures c.if-not-takes_prefix.true).1
     ∙ sym (front_is c.args.options c.args.tree.now.nodes c.args.tree.now.spine c.loop-i.i c.args.line_start.now c.loop-i.line_start
     (omega arith) c.loop-i.invariant (none_longer c))
 
@@ -35,7 +36,7 @@ pub loop-i-preserved : goal.loop-i-preserved
 loop-i-preserved c =
     node_taken c.args.options c.args.tree.now.nodes c.args.tree.now.spine _ c.loop-i.i c.index.result.now c.args.line_start.now c.loop-i.line_start
     c.walk_spine-spine.ensures c.loop-i-test.true c.index.ensures c.loop-i.invariant
-    ∙ is_taken _ c.takes_prefix.result c.loop-i.line_start c.takes_prefix.new.line_start c.if-not-takes_prefix.false c.takes_prefix.ensures
+    ∙ taken-yes _ c.loop-i.line_start c.takes_prefix.new.line_start c.takes_prefix.result c.takes_prefix.ensures c.if-not-takes_prefix.false
 
 pub returns-clause-front : goal.returns-clause-front
 returns-clause-front c =

@@ -1,5 +1,5 @@
 use Rattle.std.proofs.Common.{◌≡◌, Some}
-use Rattle.first_pass_grammar.specs.Containers.{after}
+use Rattle.first_pass_grammar.proofs.Common.{after}
 use Rattle.first_pass_open.specs.Path.{path_in, outer}
 use Rattle.first_pass_open.proofs.containers.scan_containers.Given as goal
 

@@ -1,5 +1,5 @@
 use Rattle.std.proofs.Common.{◌≡◌, None, refl, rules}
-use Rattle.first_pass_grammar.specs.Containers.{prefix}
+use Rattle.first_pass_grammar.proofs.Common.{prefix}
 use Rattle.first_pass_open.proofs.PlainLemmas.{inert_prefix}
 use Rattle.first_pass_open.proofs.containers.scan_quote.Goals as goal
 

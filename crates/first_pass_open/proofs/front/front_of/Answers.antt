@@ -1,5 +1,5 @@
 use Rattle.std.proofs.Common.{rules}
-use Rattle.first_pass_lines.specs.Places.{line_rest}
+use Rattle.first_pass_grammar.proofs.Common.{line_rest}
 use Rattle.first_pass_open.proofs.ContinuedLemmas.{kept_continued}
 use Rattle.first_pass_open.proofs.front.front_of.Goals as goal
 

@@ -1,5 +1,5 @@
 use Rattle.std.proofs.Common.{◌<◌, length, sym, subst}
-use Rattle.first_pass_tree.specs.declared.tree_index.TreeIndex.{TreeIndex}
+use Rattle.first_pass_grammar.proofs.Common.{TreeIndex}
 use Rattle.first_pass_open.proofs.FrontLemmas.{root, place_within}
 use Rattle.first_pass_open.proofs.front.is_definition_at_depth.Goals as goal
 

@@ -1,7 +1,5 @@
 use Rattle.std.proofs.Common.{drop, IsUtf8, ◌∙◌, ap, subst, sym}
-use Rattle.first_pass_lines.specs.Places.{line_rest}
-use Rattle.first_pass_lines.proofs.PlaceFacts.{line_is_place}
-use Rattle.first_pass_grammar.specs.Containers.{after}
+use Rattle.first_pass_grammar.proofs.Common.{line_rest, line_is_place, after}
 use Rattle.first_pass_open.specs.Path.{path_of}
 use Rattle.first_pass_open.proofs.PlaceLemmas.{after_keeps}
 use Rattle.first_pass_open.proofs.front.scan_continued_past.Goals as goal

@@ -1,5 +1,5 @@
 use Rattle.std.proofs.Common.{ap, sym, ◌∙◌}
-use Rattle.first_pass_lines.specs.Rest.{Rest, indent, after_columns}
+use Rattle.first_pass_grammar.proofs.Common.{Rest, indent, after_columns}
 use Rattle.first_pass_open.proofs.PlainLemmas.{none_all, none_few}
 use Rattle.first_pass_open.proofs.PlaceLemmas.{all_after}
 use Rattle.first_pass_open.proofs.indentation.scan_indentation.Goals as goal

@@ -1,6 +1,5 @@
-use Rattle.std.proofs.Common.{List, ℕ, ap, sym, ◌∙◌, of_calls}
+use Rattle.std.proofs.Common.{List, ℕ, ap, sym, ◌∙◌, of_calls, flat_map}
 use Rattle.std.proofs.lemmas.List.Folds.{flat_map-map}
-use Rattle.std.specs.List.{flat_map}
 use Rattle.first_pass_host.proofs.HeldLines.{written_as}
 use Rattle.first_pass_host.proofs.ItemLines.{element_lines}
 use Rattle.first_pass_outline.specs.Entries.{entry_in}

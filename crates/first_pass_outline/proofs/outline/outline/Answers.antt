@@ -1,5 +1,4 @@
-use Rattle.std.proofs.Common.{map, sym, ap, ◌∙◌}
-use Rattle.std.specs.Option.{option_map}
+use Rattle.std.proofs.Common.{map, sym, ap, ◌∙◌, option_map}
 use Rattle.first_pass_names.specs.TableEntries.{names_of}
 use Rattle.first_pass_outline.specs.Entries.{entry_in}
 use Rattle.first_pass_outline.proofs.Outlines.{heading_told, other_passed}

@@ -1,5 +1,5 @@
 use Rattle.std.proofs.Common.{◌≡◌, map, take}
-use Rattle.first_pass_grammar.specs.Names.{read_nodes}
+use Rattle.first_pass_grammar.proofs.Common.{read_nodes}
 use Rattle.first_pass_names.specs.TableEntries.{names_of}
 use Rattle.first_pass_outline.specs.Outline.{outline_of}
 use Rattle.first_pass_outline.specs.Entries.{entry_in}

@@ -1,5 +1,5 @@
 use Rattle.std.proofs.Common.{length, sym, ap, subst, ◌∙◌}
-use Rattle.first_pass_grammar.specs.Leaves.{document}
+use Rattle.first_pass_grammar.proofs.Common.{document}
 use Rattle.first_pass_names.specs.TableEntries.{names_of, tables_of}
 use Rattle.first_pass_outline.specs.Outline.{outline_of}
 use Rattle.first_pass_outline.specs.TextOutline.{LieBetween}

@@ -1,7 +1,5 @@
-use Rattle.std.proofs.Common.{◌≡◌, ℕ, ◌+◌, List, ◌++◌, map, length, sym, ap, ◌∙◌, append_assoc, length-append, arith}
-use Rattle.std.specs.declared.ops.Range.{Range}
-use Rattle.std.proofs.lemmas.List.{append-nil, map-append}
-use Rattle.first_pass_items.proofs.ResultFacts.{on_err}
+use Rattle.std.proofs.Common.{◌≡◌, ℕ, ◌+◌, List, ◌++◌, map, length, sym, ap, ◌∙◌, append_assoc, length-append, arith, append-nil}
+use Rattle.first_pass_grammar.proofs.Common.{Range, map-append, on_err}
 use Rattle.first_pass_places.specs.declared.attributes.AttributeRanges.{AttributeRanges}
 use Rattle.first_pass_places.specs.AttributePlaces.{attribute_place, word_range, word_ranges}
 use Rattle.first_pass_places.proofs.WordPlaces.{one_word_range, next_word, no_words}

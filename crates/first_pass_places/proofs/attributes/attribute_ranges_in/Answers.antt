@@ -1,5 +1,5 @@
 use Rattle.std.proofs.Common.{sym, ◌∙◌}
-use Rattle.first_pass_items.proofs.ResultFacts.{on_err}
+use Rattle.first_pass_grammar.proofs.Common.{on_err}
 use Rattle.first_pass_places.proofs.WordPlaces.{words_are_places}
 use Rattle.first_pass_places.proofs.attributes.attribute_ranges_in.Goals as goal
 

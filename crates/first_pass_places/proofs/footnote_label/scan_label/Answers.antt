@@ -1,7 +1,6 @@
 use Rattle.std.proofs.Common.{sym, ap, ◌∙◌, arith, if◌then◌else◌}
-use Rattle.first_pass_links.specs.Escapes.{begins_escape}
-use Rattle.first_pass_links.specs.Labels.{is_bracket}
-use Rattle.first_pass_links.proofs.Destinations.{upto_unit, upto_stopped, upto_ended}
+use Rattle.first_pass_grammar.proofs.Common.{begins_escape, is_bracket, upto_unit}
+use Rattle.first_pass_links.proofs.Destinations.{upto_stopped, upto_ended}
 use Rattle.first_pass_places.proofs.LabelPlaces.{bracket_byte}
 use Rattle.first_pass_places.proofs.footnote_label.scan_label.Goals as goal
 

@@ -1,5 +1,5 @@
 use Rattle.std.proofs.Common.{◌≡◌, ◌≤◌, ◌+◌, ◌-◌, length, drop}
-use Rattle.first_pass_links.specs.Labels.{label_len}
+use Rattle.first_pass_grammar.proofs.Common.{label_len}
 use Rattle.first_pass_places.proofs.footnote_label.scan_label.Given as goal
 
 -- no bracket before this offset ends the label

@@ -1,8 +1,6 @@
 use Rattle.std.proofs.Common.{ℕ, List, [], ◌∷◌, refl, sym, ap, ◌∙◌}
-use Rattle.first_pass_items.specs.declared.cow_str.CowStr.{CowStr}
-use Rattle.first_pass_items.specs.declared.cow_str.CowStr.TheVariants.{Borrowed}
-use Rattle.first_pass_items.proofs.ResultFacts.{on_err}
-use Rattle.first_pass_labels.specs.LabelTables.{with_first, with_all}
+use Rattle.first_pass_grammar.proofs.Common.{CowStr, Borrowed, on_err, with_first}
+use Rattle.first_pass_labels.specs.LabelTables.{with_all}
 use Rattle.first_pass_names.specs.TableEntries.{names_of}
 use Rattle.first_pass_places.specs.FootnoteNodes.{label_with_index}
 use Rattle.first_pass_places.proofs.FootnoteTables.{no_footnote, one_label}

@@ -1,5 +1,5 @@
-use Rattle.std.proofs.lemmas.List.{take_all}
-use Rattle.first_pass_items.proofs.ResultFacts.{on_err}
+use Rattle.std.proofs.Common.{take_all}
+use Rattle.first_pass_grammar.proofs.Common.{on_err}
 use Rattle.first_pass_names.specs.TableEntries.{names_of}
 use Rattle.first_pass_places.proofs.FootnoteTables.{label_among, none_first, next_node, some_labels}
 use Rattle.first_pass_places.proofs.footnotes.footnote_nodes.Goals as goal

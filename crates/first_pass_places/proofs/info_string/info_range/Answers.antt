@@ -1,7 +1,5 @@
 use Rattle.std.proofs.Common.{ap, ◌∙◌, slice_index}
-use Rattle.std.specs.List.{prefix_len}
-use Rattle.first_pass_lines.specs.Lines.{is_white}
-use Rattle.first_pass_scan.specs.LeafLines.{run_len}
+use Rattle.first_pass_grammar.proofs.Common.{prefix_len, is_white, run_len}
 use Rattle.first_pass_places.proofs.InfoFacts.{info_found}
 use Rattle.first_pass_places.proofs.info_string.info_range.Goals as goal
 

@@ -1,5 +1,5 @@
 use Rattle.std.proofs.Common.{◌≡◌, ◌++◌, take, map}
-use Rattle.first_pass_attributes.specs.Attributes.{pair_in}
+use Rattle.first_pass_grammar.proofs.Common.{pair_in}
 use Rattle.first_pass_printed.specs.HeadingValues.{key_values}
 use Rattle.first_pass_printed.proofs.heading.append_keys.Given as goal
 

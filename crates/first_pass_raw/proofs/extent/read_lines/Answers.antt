@@ -1,13 +1,12 @@
 use Rattle.std.proofs.Common.{IsUtf8, refl, sym, ap, subst, ◌∙◌, arith}
-use Rattle.first_pass_lines.specs.Places.{place_at}
-use Rattle.first_pass_grammar.specs.Leaves.{document}
+use Rattle.first_pass_grammar.proofs.Common.{place_at, document}
 use Rattle.first_pass_open.specs.Path.{path_of}
 use Rattle.first_pass_names.specs.TableEntries.{names_of}
 use Rattle.first_pass_open.proofs.PathLemmas.{open_are_in}
 use Rattle.first_pass_names.proofs.NameLemmas.{extends_none, extends_both}
-use Rattle.first_pass_raw.specs.RawBlocks.{range_of}
-use Rattle.first_pass_raw.proofs.ExtentLemmas.{ReadSoFar, LineAppended, LineJudged, IsLineAt, line_read, after_path, within_line, goes_by, read_end, read_left, read_stops}
-use Rattle.first_pass_raw.proofs.ExtentLemmas.{read_closes, read_last, read_more, line_as, lines_quotes}
+use Rattle.first_pass_raw.specs.RawBlocks.{range_of, AppendsRaw}
+use Rattle.first_pass_raw.proofs.ExtentLemmas.{ReadSoFar, LineAppended, LineJudged, IsLineAt, line_read, after_path, goes_by, lines_end, extent_at_end}
+use Rattle.first_pass_raw.proofs.ExtentLemmas.{read_left, read_stops, read_closes, read_last, read_more, lines_quotes}
 use Rattle.first_pass_raw.proofs.WholeLines.{whole_start}
 use Rattle.first_pass_raw.proofs.extent.read_lines.Goals as goal
 use Rattle.first_pass_raw.proofs.extent.read_lines.Goals.{After-next_line-next, After-judge-verdict, In_ok-append_raw_line}
@@ -30,17 +29,15 @@ loop-ix-init g c =
 
 pub returns-in_default-clause-lines : goal.returns-in_default-clause-lines
 returns-in_default-clause-lines g c =
-    read_left (range_of (g.J.JudgesLines.kinds c.args.judge.now)) (document c.args.source.now.text.now c.args.source.now.options (names_of c.loop-ix.allocs))
-    (g.J.JudgesLines.judges c.args.judge.now) c.args.start c.loop-ix.ix _ c.args.tree.now c.loop-ix.tree c.loop-ix.invariant.read
-    (open_are_in c.args.tree.now.nodes c.args.tree.now.spine c.recall_forest.ensures.opened)
+    read_left (document c.args.source.now.text.now c.args.source.now.options (names_of c.loop-ix.allocs)) (g.J.JudgesLines.judges c.args.judge.now)
+    c.args.start c.loop-ix.ix _ c.loop-ix.invariant.read (open_are_in c.args.tree.now.nodes c.args.tree.now.spine c.recall_forest.ensures.opened)
     (line_read c.args.source.now.text.now c.args.source.now.text.now c.loop-ix.ix _ c.scan_continued_past.ensures.utf8 c.loop-ix.invariant.boundary
     c.loop-ix-test.true refl refl)
     (sym c.in_default.is ∙ c.scan_continued_past.ensures.value)
 
 pub scan_continued_past-requires-clause-quotes : goal.scan_continued_past-requires-clause-quotes
 scan_continued_past-requires-clause-quotes g c =
-    lines_quotes _ (document c.args.source.now.text.now c.args.source.now.options (names_of c.loop-ix.allocs)) _ _ c.args.tree.now c.loop-ix.tree _
-    c.loop-ix.invariant.read (open_are_in c.args.tree.now.nodes c.args.tree.now.spine c.recall_forest.ensures.opened)
+    lines_quotes c.loop-ix.invariant.read _ (open_are_in c.args.tree.now.nodes c.args.tree.now.spine c.recall_forest.ensures.opened)
     (c.nodes_to_quote-nodes_to_quote.ensures c.args.source.now.options)
 
 -- the line, up to the start of the next one
@@ -88,12 +85,11 @@ returns-in-Closes g c =
 
 pub from_place-line-requires : goal.from_place-line-requires
 from_place-line-requires g c =
-    within_line c.loop-ix.ix _ _ c.judge-verdict.new.line_start refl (sym c.judge-verdict.ensures.next)
+    omega (arith, c.judge-verdict.ensures.next)
 
 pub append_raw_line-requires-clause-order : goal.append_raw_line-requires-clause-order
 append_raw_line-requires-clause-order g c =
-    within_line c.loop-ix.ix _ _ c.judge-verdict.new.line_start (ap (λ l. l.start) c.from_place-line.ensures.line)
-    (sym (ap (λ l. l.«end») c.from_place-line.ensures.line ∙ c.judge-verdict.ensures.next))
+    omega (arith, ap (λ l. l.start) c.from_place-line.ensures.line, ap (λ l. l.«end») c.from_place-line.ensures.line, c.judge-verdict.ensures.next)
 
 -- the line is appended
 abbrev appended : (g : _) (c : In_ok-append_raw_line g) → LineAppended (range_of (g.J.JudgesLines.kinds c.args.judge.now))
@@ -106,8 +102,8 @@ appended g c = record {
   from = c.from_place-line.result.start;
   to = c.from_place-line.result.«end»;
   extends = c.in_ok-append_raw_line.ensures.more.names;
-  line = line_as c.args.source.now.text.now (names_of c.append_raw_line.new.allocs) c.from_place-line.result.kind
-      (g.J.JudgesLines.kinds c.args.judge.now) _ _ _ c.loop-ix.tree c.append_raw_line.new.tree
+  line = subst (λ k. AppendsRaw (range_of k) c.args.source.now.text.now (names_of c.append_raw_line.new.allocs) c.from_place-line.result.owed
+      c.from_place-line.result.start c.from_place-line.result.«end» c.loop-ix.tree c.append_raw_line.new.tree)
       (ap (λ l. l.kind) c.from_place-line.ensures.line ∙ c.kind.ensures) c.in_ok-append_raw_line.ensures.line;
   owed_is = ap (λ l. l.owed) c.from_place-line.ensures.line;
   from_is = ap (λ l. l.start) c.from_place-line.ensures.line;
@@ -140,6 +136,6 @@ loop-ix-preserved g c =
 
 pub returns-clause-lines : goal.returns-clause-lines
 returns-clause-lines g c =
-    read_end (range_of (g.J.JudgesLines.kinds c.args.judge.now)) (document c.args.source.now.text.now c.args.source.now.options (names_of c.loop-ix.allocs))
-    (g.J.JudgesLines.judges c.args.judge.now) c.args.start c.loop-ix.ix c.args.tree.now c.loop-ix.tree c.loop-ix.invariant.read
-    (omega (arith, c.loop-ix-test.false, c.loop-ix.invariant.boundary.0))
+    lines_end c.loop-ix.invariant.read c.loop-ix.ix c.loop-ix.ix (extent_at_end c.args.source.now.text.now
+    (path_of c.args.source.now.options c.args.tree.now) (g.J.JudgesLines.judges c.args.judge.now) c.loop-ix.ix
+    (omega (arith, c.loop-ix-test.false, c.loop-ix.invariant.boundary.0)))

@@ -1,40 +1,37 @@
-use Rattle.std.proofs.Common.{◌+◌, drop, length, ap, sym, ◌∙◌, arith}
-use Rattle.std.proofs.lemmas.Bool.{lt-ltb}
-use Rattle.first_pass_scan.specs.LeafLines.{closing_fence_len}
-use Rattle.first_pass_raw.proofs.FencedLemmas.{few_taken, indented_place, closing_end}
+use Rattle.std.proofs.Common.{◌≡◌, ◌+◌, ◌<◌, drop, length, ap, sym, ◌∙◌, arith}
+use Rattle.first_pass_grammar.proofs.Common.{indent, place_at, offset, IsPlaceOf, unindented, closing_fence_len}
+use Rattle.first_pass_raw.proofs.FencedLemmas.{indented_place, closing_end}
 use Rattle.first_pass_raw.proofs.fenced_code.closing_fence.Goals as goal
+use Rattle.first_pass_raw.proofs.fenced_code.closing_fence.Goals.{After-bytes_scanned}
+
+-- the place after the columns
+place : (c : After-bytes_scanned) → (indent c.args.line_start < 4)
+    × (c.args.start + c.bytes_scanned.result ≡ offset (unindented (place_at c.args.start c.args.line_start)))
+    × IsPlaceOf c.args.text.now (unindented (place_at c.args.start c.args.line_start))
+place c = indented_place c.args.text.now c.args.start c.bytes_scanned.result c.args.line_start _ _ c.utf8.text c.requires.place c.if-scan_space.false
+    c.scan_space.ensures.value c.scan_space.ensures.rest c.bytes_scanned.ensures
 
 pub overflow_add-at : goal.overflow_add-at
 overflow_add-at c =
-    let few = few_taken c.args.line_start _ _ _ c.if-scan_space.false c.scan_space.ensures.value c.scan_space.ensures.rest c.bytes_scanned.ensures in
-    let p = indented_place c.args.text.now c.args.start c.bytes_scanned.result c.args.line_start c.utf8.text
-    few.1 c.requires.place in
-    let w = (p.1).within in
-    omega (arith, p.0, w, ap length c.as_bytes-bytes.ensures.value, c.as_bytes-bytes.ensures.len)
+    let p = place (goal.at.overflow_add-at c).After-bytes_scanned in
+    let w = (p.2).within in
+    omega (arith, p.1, w, ap length c.as_bytes-bytes.ensures.value, c.as_bytes-bytes.ensures.len)
 
 pub rest_of-requires : goal.rest_of-requires
 rest_of-requires c =
-    let few = few_taken c.args.line_start _ _ _ c.if-scan_space.false c.scan_space.ensures.value c.scan_space.ensures.rest c.bytes_scanned.ensures in
-    let p = indented_place c.args.text.now c.args.start c.bytes_scanned.result c.args.line_start c.utf8.text
-    few.1 c.requires.place in
-    let w = (p.1).within in
-    omega (arith, p.0, w, ap length c.as_bytes-bytes.ensures.value)
+    let p = place (goal.at.rest_of-requires c).After-bytes_scanned in
+    let w = (p.2).within in
+    omega (arith, p.1, w, ap length c.as_bytes-bytes.ensures.value)
 
 pub returns-in_err-size : goal.returns-in_err-size
 returns-in_err-size c =
-    let few = few_taken c.args.line_start _ _ _ c.if-scan_space.false c.scan_space.ensures.value c.scan_space.ensures.rest c.bytes_scanned.ensures in
     c.from_residual.ensures
     ∙ sym (closing_end c.args.text.now c.args.start c.bytes_scanned.result c.args.fence.byte c.args.fence.count c.args.line_start _
-    (lt-ltb _ _ few.0) c.utf8.text
-    few.1 c.requires.place
-    (c.in_err-size.ensures.value ∙ ap (closing_fence_len c.args.fence.byte c.args.fence.count)
+    (place (goal.at.returns-in_err-size c).After-bytes_scanned) (c.in_err-size.ensures.value ∙ ap (closing_fence_len c.args.fence.byte c.args.fence.count)
     (c.rest_of.ensures.value ∙ ap (drop (c.args.start + c.bytes_scanned.result)) c.as_bytes-bytes.ensures.value)))
 
 pub returns : goal.returns
 returns c =
-    let few = few_taken c.args.line_start _ _ _ c.if-scan_space.false c.scan_space.ensures.value c.scan_space.ensures.rest c.bytes_scanned.ensures in
     sym (closing_end c.args.text.now c.args.start c.bytes_scanned.result c.args.fence.byte c.args.fence.count c.args.line_start _
-    (lt-ltb _ _ few.0) c.utf8.text
-    few.1 c.requires.place
-    (c.in_ok-size.ensures.value ∙ ap (closing_fence_len c.args.fence.byte c.args.fence.count)
+    (place (goal.at.returns c).After-bytes_scanned) (c.in_ok-size.ensures.value ∙ ap (closing_fence_len c.args.fence.byte c.args.fence.count)
     (c.rest_of.ensures.value ∙ ap (drop (c.args.start + c.bytes_scanned.result)) c.as_bytes-bytes.ensures.value)))

@@ -1,6 +1,5 @@
 use Rattle.std.proofs.Common.{◌+◌, ap, ◌∙◌}
-use Rattle.std.specs.List.{prefix_len}
-use Rattle.first_pass_lines.specs.Lines.{is_white}
+use Rattle.first_pass_grammar.proofs.Common.{prefix_len, is_white}
 use Rattle.first_pass_raw.proofs.FencedLemmas.{IsInfo, info_read, info_from, info_end, info_is}
 use Rattle.first_pass_raw.proofs.fenced_code.info_string.Goals as goal
 use Rattle.first_pass_raw.proofs.fenced_code.info_string.Goals.{After-trailing_white}

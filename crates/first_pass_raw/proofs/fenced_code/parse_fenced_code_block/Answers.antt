@@ -1,8 +1,5 @@
 use Rattle.std.proofs.Common.{length, IsUtf8, refl, ap, subst, arith}
-use Rattle.first_pass_items.specs.declared.item.ItemBody.TheVariants.{FencedCodeBlock}
-use Rattle.first_pass_grammar.specs.CodeBlocks.{NamesInfo, fence_judge}
-use Rattle.first_pass_grammar.specs.Leaves.{document}
-use Rattle.first_pass_grammar.specs.RawLines.{range_text}
+use Rattle.first_pass_grammar.proofs.Common.{FencedCodeBlock, NamesInfo, fence_judge, document, range_text}
 use Rattle.first_pass_names.specs.TableEntries.{names_of}
 use Rattle.first_pass_open.proofs.PathLemmas.{open_are_in}
 use Rattle.first_pass_names.proofs.NameLemmas.{extends_both, info_named}

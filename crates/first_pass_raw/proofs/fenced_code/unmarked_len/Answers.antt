@@ -1,5 +1,6 @@
 use Rattle.std.proofs.Common.{sym, arith}
-use Rattle.std.proofs.lemmas.Bool.{false_from_ne_true, not_from_false, not_from_true}
+use Rattle.first_pass_grammar.proofs.Common.{false_from_ne_true}
+use Rattle.std.proofs.lemmas.Bool.{not_from_false, not_from_true}
 use Rattle.std.proofs.lemmas.List.Sums.{prefix_len_is}
 use Rattle.first_pass_raw.specs.RawBlocks.{is_unmarked}
 use Rattle.first_pass_raw.proofs.fenced_code.unmarked_len.Goals as goal

@@ -1,5 +1,5 @@
 use Rattle.std.proofs.Common.{ap}
-use Rattle.first_pass_html.specs.Ends.{condition_of}
+use Rattle.first_pass_grammar.proofs.Common.{condition_of}
 use Rattle.first_pass_raw.proofs.HtmlLemmas.{raw_held, text_held}
 use Rattle.first_pass_raw.proofs.html_block.holds_end.Goals as goal
 

@@ -1,9 +1,5 @@
 use Rattle.std.proofs.Common.{◌≡◌, IsCharBoundary, subst}
-use Rattle.first_pass_items.specs.declared.item.Item.{Item}
-use Rattle.first_pass_items.specs.declared.item.ItemBody.TheVariants.{HtmlBlock}
-use Rattle.first_pass_items.specs.declared.option_set.Options.{Options}
-use Rattle.first_pass_tree.specs.Forest.{Forest, IsForest}
-use Rattle.first_pass_grammar.specs.RawLines.{range_html}
+use Rattle.first_pass_grammar.proofs.Common.{Item, HtmlBlock, Options, Forest, IsForest, range_html}
 use Rattle.first_pass_open.specs.OpenBlock.{opened_block}
 use Rattle.first_pass_open.proofs.PathLemmas.{open_are_in}
 use Rattle.first_pass_names.specs.TableEntries.{names_of}
@@ -39,11 +35,8 @@ pub returns-clause-path : goal.returns-clause-path
 returns-clause-path c = λ options.
     let opened : Forest Item = opened_block c.args.tree.now c.args.start.now.at HtmlBlock in
     let forest = subst (IsForest {T = Item}) c.in_ok-open_block.ensures.tree c.recall_forest-2.ensures in
-    first_path c.args.text.now options _ c.args.start.now.at c.args.start.now.columns c.next_line-next.result c.args.tree.now c.append_raw_line.new.tree
-    (line c) (next c).0
+    first_path options c.args.tree.now (line c) (next c).0
     (open_are_in c.args.tree.now.nodes c.args.tree.now.spine c.recall_forest.ensures.opened) (open_are_in opened.nodes opened.spine forest.opened)
 
 pub returns-clause-apart : goal.returns-clause-apart
-returns-clause-apart c =
-    first_apart c.args.text.now no_options _ c.args.start.now.at c.args.start.now.columns c.next_line-next.result c.args.tree.now c.append_raw_line.new.tree
-    (line c) (next c).0
+returns-clause-apart c = first_apart no_options c.args.tree.now (line c) (next c).0

@@ -1,18 +1,13 @@
 use Rattle.std.proofs.Common.{◌≡◌, ◌<◌, ◌≤◌, false, length, is_some, IsCharBoundary, ◌+◌, refl, ap, sym, subst, ◌∙◌, arith}
-use Rattle.first_pass_items.specs.declared.item.Item.{Item}
-use Rattle.first_pass_items.specs.declared.item.ItemBody.TheVariants.{IndentCodeBlock}
-use Rattle.first_pass_tree.specs.Forest.{Forest, IsForest}
-use Rattle.first_pass_lines.specs.Lines.{blank_len}
-use Rattle.first_pass_tokens.proofs.ChainLemmas.{joins_none-fresh}
+use Rattle.first_pass_grammar.proofs.Common.{Item, IndentCodeBlock, Forest, IsForest, blank_len, joins_none-fresh, document, range_text}
 use Rattle.first_pass_open.specs.OpenBlock.{opened_block}
 use Rattle.first_pass_open.specs.Path.{path_of, has_quote_after}
 use Rattle.first_pass_names.specs.TableEntries.{names_of}
 use Rattle.first_pass_names.proofs.NameLemmas.{extends_none, extends_both}
 use Rattle.first_pass_raw.specs.RawBlocks.{AppendsRaw, after_line_at}
-use Rattle.first_pass_raw.proofs.IndentedLemmas.{ContinuesCode, place_line_end, next_end, first_at, first_is, first_boundary, so_far_first, so_far_next}
-use Rattle.first_pass_raw.proofs.IndentedLemmas.{so_far_stop, kept_child, next_read, next_rest, next_quotes, opened_last, just_opened, code_open, code_added}
-use Rattle.first_pass_grammar.specs.Leaves.{document}
-use Rattle.first_pass_grammar.specs.RawLines.{range_text}
+use Rattle.first_pass_raw.proofs.IndentedLemmas.{ContinuesCode, place_line_end, next_end, first_at, first_is, so_far_first, so_far_next}
+use Rattle.first_pass_raw.proofs.IndentedLemmas.{kept_child, next_read, next_rest, next_quotes, code_open, code_added}
+use Rattle.first_pass_raw.proofs.ExtentLemmas.{first_read}
 use Rattle.first_pass_raw.proofs.indented_code.parse_indented_code_block.Goals as goal
 use Rattle.first_pass_raw.proofs.indented_code.parse_indented_code_block.Goals.{In_ok-next-2}
 
@@ -25,8 +20,7 @@ lines-init c =
     c.append_line.new.tree)
     c.in_ok-open_block.ensures.tree c.in_ok-next.ensures.line in
     record {
-      boundary = first_boundary c.args.source.now.text.now c.args.start.now.at c.in_ok-next.next c.append_line.ensures.utf8 c.requires.boundary
-          c.requires.code e;
+      boundary = (first_read c.args.source.now.text.now _ c.args.start.now.at c.in_ok-next.next c.append_line.ensures.utf8 c.requires.boundary refl e).1;
       from = omega arith;
       named = c.in_ok-next.ensures.more.names;
       same_entries = c.in_ok-next.ensures.more.entries;
@@ -122,29 +116,19 @@ lines-smaller c =
 pub cut_after-requires : goal.cut_after-requires
 cut_after-requires c =
     let text = c.args.source.now.text.now in
-    let opened : Forest Item = opened_block c.args.tree.now c.args.start.now.at IndentCodeBlock in
-    let first = c.lines.invariant.read (first_at text c.args.start.now.at c.args.start.now.owed)
-    (first_is text c.args.start.now.at c.args.start.now.owed) refl in
-    kept_child (opened_last opened (just_opened c.args.tree.now opened c.args.start.now.at refl)) first
+    kept_child c.args.tree.now c.args.start.now.at (c.lines.invariant.read (first_at text c.args.start.now.at c.args.start.now.owed)
+    (first_is text c.args.start.now.at c.args.start.now.owed) refl)
 
 pub close_block-requires : goal.close_block-requires
 close_block-requires c =
     let text = c.args.source.now.text.now in
-    let opened : Forest Item = opened_block c.args.tree.now c.args.start.now.at IndentCodeBlock in
-    let forest = subst (IsForest {T = Item}) c.in_ok-open_block.ensures.tree c.recall_forest-2.ensures in
-    let first = c.lines.invariant.read (first_at text c.args.start.now.at c.args.start.now.owed)
-    (first_is text c.args.start.now.at c.args.start.now.owed) refl in
-    let stops = sym (next_rest _ _ _ _ _ _ _ c.indented_line.result first forest c.indented_line.ensures.value) ∙ c.in_default.is in
-    let all = so_far_stop
-    (opened_last opened (just_opened c.args.tree.now opened c.args.start.now.at refl)) first c.cut_after.new.tree stops c.cut_after.ensures in
-    code_open c.args.tree.now c.args.start.now.at refl all
+    code_open c.args.tree.now c.args.start.now.at (c.lines.invariant.read (first_at text c.args.start.now.at c.args.start.now.owed)
+    (first_is text c.args.start.now.at c.args.start.now.owed) refl) c.cut_after.new.tree c.cut_after.ensures
 
 pub returns-clause-block : goal.returns-clause-block
 returns-clause-block c p at o =
-    let opened : Forest Item = opened_block c.args.tree.now c.args.start.now.at IndentCodeBlock in
     let forest = subst (IsForest {T = Item}) c.in_ok-open_block.ensures.tree c.recall_forest-2.ensures in
     let s = c.lines.invariant.read p at o in
     let stops = sym (next_rest _ _ _ _ _ _ _ c.indented_line.result s forest c.indented_line.ensures.value) ∙ c.in_default.is in
-    let all = so_far_stop
-    (opened_last opened (just_opened c.args.tree.now opened c.args.start.now.at refl)) s c.cut_after.new.tree stops c.cut_after.ensures in
-    code_added c.args.tree.now c.args.start.now.at refl all c.close_block.new.tree c.recall_forest.ensures at.offset_is c.close_block.ensures.tree
+    code_added c.args.tree.now c.args.start.now.at s c.cut_after.new.tree c.cut_after.ensures c.close_block.new.tree c.recall_forest.ensures at.offset_is
+    c.lines.invariant.boundary.0 stops c.close_block.ensures.tree

@@ -1,8 +1,5 @@
 use Rattle.std.proofs.Common.{◌≡◌, ◌-◌, ◌≤◌, length, IsCharBoundary}
-use Rattle.first_pass_items.specs.declared.item.ItemBody.TheVariants.{IndentCodeBlock}
-use Rattle.first_pass_lines.specs.Places.{Place}
-use Rattle.first_pass_grammar.specs.Leaves.{document}
-use Rattle.first_pass_grammar.specs.Names.{Extends}
+use Rattle.first_pass_grammar.proofs.Common.{IndentCodeBlock, Place, document, Extends}
 use Rattle.first_pass_open.specs.OpenBlock.{opened_block}
 use Rattle.first_pass_names.specs.TableEntries.{entries, names_of}
 use Rattle.first_pass_raw.specs.RawBlocks.{IsPlaceAt, after_line_at}

@@ -1,10 +1,7 @@
 use Rattle.std.proofs.Common.{refl}
-use Rattle.first_pass_items.specs.declared.item.ItemBody.TheVariants.{MetadataBlock}
+use Rattle.first_pass_grammar.proofs.Common.{MetadataBlock, document, range_text, metadata_judge}
 use Rattle.first_pass_names.specs.TableEntries.{names_of}
 use Rattle.first_pass_open.proofs.PathLemmas.{open_are_in}
-use Rattle.first_pass_grammar.specs.Leaves.{document}
-use Rattle.first_pass_grammar.specs.RawLines.{range_text}
-use Rattle.first_pass_grammar.specs.CodeBlocks.{metadata_judge}
 use Rattle.first_pass_raw.proofs.ExtentLemmas.{OpenedAt, first_read, lines_of, block_open}
 use Rattle.first_pass_raw.proofs.MetadataLemmas.{metadata_added}
 use Rattle.first_pass_raw.proofs.metadata_block.parse_metadata_block.Goals as goal

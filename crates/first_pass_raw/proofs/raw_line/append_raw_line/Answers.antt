@@ -1,6 +1,5 @@
 use Rattle.std.proofs.Common.{ℕ, ◌-◌, sym, ap, ◌∙◌}
-use Rattle.first_pass_tokens.specs.TreeTokens.{with_tokens}
-use Rattle.first_pass_grammar.specs.RawLines.{Ranges, ends_with_both}
+use Rattle.first_pass_grammar.proofs.Common.{with_tokens, Ranges, ends_with_both}
 use Rattle.first_pass_names.specs.TableEntries.{names_of}
 use Rattle.first_pass_raw.specs.RawBlocks.{range_of}
 use Rattle.first_pass_raw.proofs.RawLineLemmas.{line_one, line_two}

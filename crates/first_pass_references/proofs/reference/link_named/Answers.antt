@@ -1,7 +1,5 @@
-use Rattle.std.proofs.Common.{ℕ, ◌==◌, cond, length, Option, Some, None, sym, ap, ◌∙◌, eq-eqb}
-use Rattle.std.proofs.lemmas.Bool.{ne_eqb}
-use Rattle.std.specs.Option.{option_map}
-use Rattle.first_pass_labels.specs.declared.label_table.LinkDef.{LinkDef}
+use Rattle.std.proofs.Common.{ℕ, ◌==◌, cond, length, Option, Some, None, sym, ap, ◌∙◌, eq-eqb, ne_eqb, option_map}
+use Rattle.first_pass_grammar.proofs.Common.{LinkDef}
 use Rattle.first_pass_names.specs.TableEntries.{refdefs_of, link_at}
 use Rattle.first_pass_references.proofs.Named.{dest_of, text_named, no_text}
 use Rattle.first_pass_references.proofs.reference.link_named.Goals as goal

@@ -1,8 +1,7 @@
 use Rattle.std.proofs.Common.{◌≡◌, ℕ, ◌<◌, ◌≤◌, List, length, take, slice_get, get_or, Option, Some, None, IfSome, MatchOption, Bor, refl, sym, ap, ◌∙◌}
-use Rattle.std.specs.Option.{option_copied}
-use Rattle.std.specs.List.{HoldsAt}
-use Rattle.std.proofs.lemmas.Option.{slice_get_past, slice_get_read}
-use Rattle.first_pass_items.specs.declared.item.Item.{Item}
+use Rattle.std.proofs.Common.{option_copied, HoldsAt}
+use Rattle.first_pass_grammar.proofs.Common.{slice_get_past, Item}
+use Rattle.std.proofs.lemmas.Option.{slice_get_read}
 use Rattle.first_pass_references.specs.Pairs.{closed_by}
 use Rattle.first_pass_references.proofs.reference.pair_after.Goals as goal
 

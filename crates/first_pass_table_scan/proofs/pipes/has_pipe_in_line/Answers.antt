@@ -1,5 +1,5 @@
-use Rattle.std.proofs.Common.{◌+◌, ap, ◌∙◌, arith, inl, inr}
-use Rattle.std.specs.List.{take_while, list_any}
+use Rattle.std.proofs.Common.{◌+◌, ap, ◌∙◌, arith, inl, inr, take_while}
+use Rattle.std.specs.List.{list_any}
 use Rattle.std.proofs.lemmas.Bool.{cases_lt}
 use Rattle.std.proofs.lemmas.List.{take_rest}
 use Rattle.first_pass_lines.specs.Lines.{is_content}

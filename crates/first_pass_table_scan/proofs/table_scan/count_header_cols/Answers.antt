@@ -1,5 +1,4 @@
-use Rattle.std.proofs.Common.{ℕ, ◌+◌, ◌-◌, List, take, drop, arith}
-use Rattle.std.proofs.lemmas.List.{length-take, length-drop}
+use Rattle.std.proofs.Common.{ℕ, ◌+◌, ◌-◌, List, take, drop, arith, length-take, length-drop}
 use Rattle.first_pass_table_scan.proofs.TableFacts.{pipes-fit}
 use Rattle.first_pass_table_scan.proofs.table_scan.count_header_cols.Goals as goal
 

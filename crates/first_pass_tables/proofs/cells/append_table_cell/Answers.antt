@@ -1,9 +1,6 @@
 use Rattle.std.proofs.Common.{ap, ◌∙◌, refl, sym, List, [], ℕ, false}
-use Rattle.first_pass_items.specs.declared.item.Item.{Item}
-use Rattle.first_pass_items.specs.declared.item.ItemBody.TheVariants.{TableCell}
-use Rattle.first_pass_tree.specs.Forest.{added, block_of}
+use Rattle.first_pass_grammar.proofs.Common.{Item, TableCell, added, block_of, add_text}
 use Rattle.first_pass_names.specs.TableEntries.{names_of}
-use Rattle.first_pass_tokens.specs.Chains.{add_text}
 use Rattle.first_pass_tokens.proofs.ChainLemmas.{leaves_text}
 use Rattle.first_pass_names.proofs.NameLemmas.{extends_texts, texts_none}
 use Rattle.first_pass_tables.proofs.cells.append_table_cell.Goals as goal

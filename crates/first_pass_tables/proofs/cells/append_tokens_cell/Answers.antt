@@ -1,15 +1,7 @@
 use Rattle.std.proofs.Common.{◌≡◌, length, refl, ap, subst, ◌∙◌}
-use Rattle.first_pass_items.specs.declared.item.Item.{Item}
-use Rattle.first_pass_items.specs.declared.item.ItemBody.TheVariants.{TableCell}
-use Rattle.first_pass_tree.specs.Forest.{Forest}
-use Rattle.first_pass_tokens.specs.Pieces.{Inline, source}
-use Rattle.first_pass_tokens.specs.LineTokens.{spot, IsCell}
-use Rattle.first_pass_tokens.specs.TreeTokens.{chained}
-use Rattle.first_pass_tokens.proofs.ChainLemmas.{joins_none-fresh}
+use Rattle.first_pass_grammar.proofs.Common.{Item, TableCell, Forest, Inline, source, spot, IsCell, chained, joins_none-fresh, document, cell_content}
 use Rattle.first_pass_tokens.proofs.LineLemmas.{only_appended_cell}
 use Rattle.first_pass_names.specs.TableEntries.{names_of}
-use Rattle.first_pass_grammar.specs.Leaves.{document}
-use Rattle.first_pass_grammar.specs.Tables.{cell_content}
 use Rattle.first_pass_open.specs.OpenBlock.{begun_item}
 use Rattle.first_pass_open.proofs.BlockLemmas.{still_open, block_closed}
 use Rattle.first_pass_tables.proofs.cells.append_tokens_cell.Goals as goal

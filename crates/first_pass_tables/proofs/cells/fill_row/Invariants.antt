@@ -1,5 +1,5 @@
 use Rattle.std.proofs.Common.{◌≡◌, replicate}
-use Rattle.first_pass_tokens.specs.TreeTokens.{chained}
+use Rattle.first_pass_grammar.proofs.Common.{chained}
 use Rattle.first_pass_tables.specs.Appends.{empty_cell}
 use Rattle.first_pass_tables.proofs.cells.fill_row.Given as goal
 

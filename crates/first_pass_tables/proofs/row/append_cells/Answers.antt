@@ -1,10 +1,6 @@
 use Rattle.std.proofs.Common.{Option, IfSome, subst, sym, ap, ◌∙◌, arith}
-use Rattle.first_pass_items.specs.declared.item.Item.{Item}
-use Rattle.first_pass_tree.specs.Forest.{Forest, IsChild}
-use Rattle.first_pass_tree.specs.declared.tree_index.TreeIndex.{TreeIndex}
+use Rattle.first_pass_grammar.proofs.Common.{Item, Forest, IsChild, TreeIndex, Spot, spot, document}
 use Rattle.first_pass_names.specs.TableEntries.{names_of}
-use Rattle.first_pass_tokens.specs.LineTokens.{Spot, spot}
-use Rattle.first_pass_grammar.specs.Leaves.{document}
 use Rattle.first_pass_names.proofs.NameLemmas.{extends_both, texts_both}
 use Rattle.first_pass_tables.specs.Appends.{without_after}
 use Rattle.first_pass_tables.proofs.RowDrops.{HaveSame, has_more, none_more, current_is_child, same_dropped, still_open_node, first_kept, ended_within}

@@ -1,7 +1,5 @@
-use Rattle.first_pass_items.specs.declared.item.ItemBody.TheVariants.{TableHead}
+use Rattle.first_pass_grammar.proofs.Common.{TableHead, spot, document}
 use Rattle.first_pass_names.specs.TableEntries.{names_of}
-use Rattle.first_pass_tokens.specs.LineTokens.{spot}
-use Rattle.first_pass_grammar.specs.Leaves.{document}
 use Rattle.first_pass_tables.proofs.RowClosed.{OpenRow, row_place, row_opened, row_is_open, missing_are, row_closed}
 use Rattle.first_pass_tables.proofs.row.append_head_row.Goals as goal
 use Rattle.first_pass_tables.proofs.row.append_head_row.Goals.{In_ok-end}

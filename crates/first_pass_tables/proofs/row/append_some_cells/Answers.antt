@@ -1,7 +1,6 @@
 use Rattle.std.proofs.Common.{◌≡◌, ◌≤◌, ◌<◌, ◌+◌, length, refl, ap, ◌∙◌, arith}
+use Rattle.first_pass_grammar.proofs.Common.{spot, document}
 use Rattle.first_pass_names.specs.TableEntries.{names_of}
-use Rattle.first_pass_tokens.specs.LineTokens.{spot}
-use Rattle.first_pass_grammar.specs.Leaves.{document}
 use Rattle.first_pass_tables.specs.Reading.{AreAppended}
 use Rattle.first_pass_names.proofs.NameLemmas.{extends_texts, texts_none, texts_both}
 use Rattle.first_pass_tables.proofs.RowCells.{none_read, place_found, end_found, cell_read, all_read}

@@ -1,7 +1,6 @@
 use Rattle.std.proofs.Common.{◌≡◌, ◌≤◌, ◌-◌, length}
+use Rattle.first_pass_grammar.proofs.Common.{spot, document}
 use Rattle.first_pass_names.specs.TableEntries.{entries, names_of, AddsTexts}
-use Rattle.first_pass_tokens.specs.LineTokens.{spot}
-use Rattle.first_pass_grammar.specs.Leaves.{document}
 use Rattle.first_pass_tables.specs.Reading.{AreAppended}
 use Rattle.first_pass_tables.proofs.row.append_some_cells.Given as goal
 

@@ -1,13 +1,6 @@
-use Rattle.std.proofs.Common.{rules, ◌≡◌, ℕ, ◌-◌, Option, IfSome, is_some, ◌+◌, refl, sym, ap, subst, ◌∙◌}
-use Rattle.std.specs.Option.{option_map}
-use Rattle.first_pass_items.specs.declared.item.Item.{Item}
-use Rattle.first_pass_items.specs.declared.item.ItemBody.TheVariants.{TableRow}
-use Rattle.first_pass_tree.specs.declared.tree_index.TreeIndex.{TreeIndex}
-use Rattle.first_pass_tree.specs.Forest.{Forest, IsChild}
+use Rattle.std.proofs.Common.{rules, ◌≡◌, ℕ, ◌-◌, Option, IfSome, is_some, ◌+◌, refl, sym, ap, subst, ◌∙◌, option_map}
+use Rattle.first_pass_grammar.proofs.Common.{Item, TableRow, TreeIndex, Forest, IsChild, spot, document, most_inserted}
 use Rattle.first_pass_names.specs.TableEntries.{names_of}
-use Rattle.first_pass_tokens.specs.LineTokens.{spot}
-use Rattle.first_pass_grammar.specs.Leaves.{document}
-use Rattle.first_pass_grammar.specs.Tables.{most_inserted}
 use Rattle.first_pass_tables.specs.Appends.{keeps_row, open_table, without_after}
 use Rattle.first_pass_tables.proofs.RowDrops.{current_is_child, dropped}
 use Rattle.first_pass_tables.proofs.RowClosed.{OpenRow, row_place, row_opened, row_is_open, row_closed, row_after, row_read}

@@ -1,6 +1,6 @@
 use Rattle.std.proofs.Common.{◌≡◌, ◌-◌, length}
+use Rattle.first_pass_grammar.proofs.Common.{document}
 use Rattle.first_pass_names.specs.TableEntries.{entries, names_of, AddsTexts}
-use Rattle.first_pass_grammar.specs.Leaves.{document}
 use Rattle.first_pass_tables.specs.Appends.{open_table}
 use Rattle.first_pass_tables.proofs.BodySoFar.{BodySoFar}
 use Rattle.first_pass_tables.proofs.rows.append_body.Given as goal

@@ -1,7 +1,6 @@
 use Rattle.std.proofs.Common.{subst, ◌∙◌}
+use Rattle.first_pass_grammar.proofs.Common.{spot, document}
 use Rattle.first_pass_names.specs.TableEntries.{names_of}
-use Rattle.first_pass_tokens.specs.LineTokens.{spot}
-use Rattle.first_pass_grammar.specs.Leaves.{document}
 use Rattle.first_pass_open.proofs.PathLemmas.{open_are_in}
 use Rattle.first_pass_names.proofs.NameLemmas.{extends_both, texts_both}
 use Rattle.first_pass_tables.specs.Appends.{AddsHead, open_table}

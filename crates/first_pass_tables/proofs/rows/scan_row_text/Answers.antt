@@ -1,6 +1,5 @@
 use Rattle.std.proofs.Common.{◌+◌, refl, ap, ◌∙◌, arith}
-use Rattle.first_pass_lines.specs.Rest.{Rest}
-use Rattle.first_pass_grammar.specs.Tables.{interrupts_row}
+use Rattle.first_pass_grammar.proofs.Common.{Rest, interrupts_row}
 use Rattle.first_pass_open.specs.Path.{context_of}
 use Rattle.first_pass_open.proofs.PlaceLemmas.{all_keep}
 use Rattle.first_pass_tables.proofs.RowPlaces.{text_stands, text_bounds, row_stops, row_goes}

@@ -1,11 +1,7 @@
-use Rattle.std.proofs.Common.{◌≡◌, ◌+◌, ◌<◌, ℕ, List, [], length, Option, IfSome, IsUtf8, slice_index, true, ◌≤◌, sym, ap, subst, ◌∙◌, arith}
-use Rattle.std.specs.List.{slice_range}
-use Rattle.std.specs.Option.{option_map}
-use Rattle.std.specs.declared.ops.Range.{Range}
-use Rattle.first_pass_items.specs.Bytes.{left_brace}
-use Rattle.first_pass_items.specs.OptionWords.{has, heading_attributes}
+use Rattle.std.proofs.Common.{◌≡◌, ◌+◌, ◌<◌, ℕ, List, [], length, Option, IfSome, IsUtf8, slice_index, ◌≤◌, sym, ap, subst, ◌∙◌, arith, slice_range}
+use Rattle.std.proofs.Common.{option_map}
+use Rattle.first_pass_grammar.proofs.Common.{Range, left_brace, before_attributes, heading_attributes_of}
 use Rattle.first_pass_attributes.specs.AttributeBlocks.{inside_block}
-use Rattle.first_pass_grammar.specs.Headings.{before_attributes, heading_attributes_of}
 use Rattle.first_pass_text.proofs.AttributeEnds.{none_between, length_between, no_braces, empty_braces, before_none, given_none, content_before, given_not}
 use Rattle.first_pass_text.proofs.AttributeEnds.{given_some, brace_boundary}
 use Rattle.first_pass_text.proofs.attributes.block_text_between.Goals as goal
@@ -59,29 +55,26 @@ content_end c =
 pub returns-in-None-clause-content : goal.returns-in-None-clause-content
 returns-in-None-clause-content c = content_end (goal.at.returns-in-None-clause-content c).After-extract_attribute_block_content_from_header_text-length
 
+-- the block that was found is that of the text
+inside : (c : After-extract_attribute_block_content_from_header_text-length)
+    → option_map (λ (r : Range ℕ). (r.start, r.«end»)) c.extract_attribute_block_content_from_header_text-length.result.1
+    ≡ inside_block (slice_range c.args.source.now.text.now c.args.header_start c.args.header_end)
+inside c = c.extract_attribute_block_content_from_header_text-length.ensures.inside
+    ∙ ap (λ (xs : List ℕ). inside_block (slice_range xs c.args.header_start c.args.header_end)) c.as_bytes.ensures.value
+
 pub returns-in-None-clause-none : goal.returns-in-None-clause-none
 returns-in-None-clause-none c =
-    let options = c.args.source.now.options in
-    let e = c.extract_attribute_block_content_from_header_text-length in
-    let on : has options heading_attributes ≡ true = sym (c.contains.ensures tt) ∙ c.if-not-contains.false in
-    let none = subst (λ (o : Option (Range ℕ)).
-    option_map (λ (r : Range ℕ). (r.start, r.«end»)) o ≡ inside_block (slice_range c.as_bytes.result.now c.args.header_start c.args.header_end)) c.in-None.is
-    e.ensures.inside in
-    given_not options (slice_range c.args.source.now.text.now c.args.header_start c.args.header_end) on
-    (none ∙ ap (λ (xs : List ℕ). inside_block (slice_range xs c.args.header_start c.args.header_end)) c.as_bytes.ensures.value)
+    given_not c.args.source.now.options (slice_range c.args.source.now.text.now c.args.header_start c.args.header_end)
+    (sym (c.contains.ensures tt) ∙ c.if-not-contains.false) (ap (option_map (λ (r : Range ℕ). (r.start, r.«end»))) (sym c.in-None.is)
+    ∙ inside (goal.at.returns-in-None-clause-none c).After-extract_attribute_block_content_from_header_text-length)
 
 pub returns-in-Some-clause-content : goal.returns-in-Some-clause-content
 returns-in-Some-clause-content c = content_end (goal.at.returns-in-Some-clause-content c).After-extract_attribute_block_content_from_header_text-length
 
 pub returns-in-Some-clause-some : goal.returns-in-Some-clause-some
 returns-in-Some-clause-some c =
-    let options = c.args.source.now.options in
-    let e = c.extract_attribute_block_content_from_header_text-length in
-    let on : has options heading_attributes ≡ true = sym (c.contains.ensures tt) ∙ c.if-not-contains.false in
-    let found = subst (λ (o : Option (Range ℕ)).
-    option_map (λ (r : Range ℕ). (r.start, r.«end»)) o ≡ inside_block (slice_range c.as_bytes.result.now c.args.header_start c.args.header_end)) c.in-Some.is
-    e.ensures.inside in
-    given_some options c.args.source.now.text.now c.args.header_start c.args.header_end c.range-text.result.now
-    (c.in-Some.inside.start, c.in-Some.inside.«end») on c.requires.to
-    (found ∙ ap (λ (xs : List ℕ). inside_block (slice_range xs c.args.header_start c.args.header_end)) c.as_bytes.ensures.value)
+    given_some c.args.source.now.options c.args.source.now.text.now c.args.header_start c.args.header_end c.range-text.result.now
+    (c.in-Some.inside.start, c.in-Some.inside.«end») (sym (c.contains.ensures tt) ∙ c.if-not-contains.false) c.requires.to
+    (ap (option_map (λ (r : Range ℕ). (r.start, r.«end»))) (sym c.in-Some.is)
+    ∙ inside (goal.at.returns-in-Some-clause-some c).After-extract_attribute_block_content_from_header_text-length)
     c.range-text.ensures.value

@@ -1,15 +1,9 @@
-use Rattle.std.proofs.Common.{inr, drop, take, length-take, ◌≡◌, ◌+◌, ◌-◌, ◌≤◌, ℕ, arith, List, length, min, sym, ap, subst, ◌∙◌, if◌then◌else◌}
-use Rattle.std.specs.List.{slice_range, suffix_len}
-use Rattle.std.proofs.lemmas.List.{take-take}
-use Rattle.first_pass_items.specs.declared.item.Item.{Item}
-use Rattle.first_pass_lines.specs.Lines.{is_white}
-use Rattle.first_pass_tree.specs.Forest.{Forest, cut_siblings}
-use Rattle.first_pass_tokens.specs.TreeTokens.{chained}
+use Rattle.std.proofs.Common.{inr, ◌≡◌, ◌+◌, ◌-◌, ◌≤◌, ℕ, arith, List, length, min, sym, ap, subst, ◌∙◌, if◌then◌else◌, slice_range}
+use Rattle.first_pass_grammar.proofs.Common.{suffix_len, Item, is_white, Forest, cut_siblings, chained, before_attributes, heading_attributes_of, chain_end}
+use Rattle.first_pass_grammar.proofs.Common.{chain_bytes, kept_before, Names, Extends, NamesAttributes}
 use Rattle.first_pass_tokens.proofs.ChainLemmas.{cut_siblings-chained}
-use Rattle.first_pass_grammar.specs.Headings.{before_attributes, heading_attributes_of, chain_end, chain_bytes, kept_before}
-use Rattle.first_pass_grammar.specs.Names.{Names, Extends, NamesAttributes}
 use Rattle.first_pass_names.specs.TableEntries.{names_of}
-use Rattle.first_pass_text.proofs.AttributeEnds.{braces_within, clipped, cut_place, length_some, block_named, none_named, cut_by, cut_none, siblings_fewer}
+use Rattle.first_pass_text.proofs.AttributeEnds.{clipped, cut_end, block_named, none_named, cut_by, cut_none, siblings_fewer}
 use Rattle.first_pass_text.proofs.OrderPlain.{kept_place}
 use Rattle.first_pass_grammar.proofs.Names.MoreNames.{extends_none}
 use Rattle.first_pass_grammar.proofs.Names.TextsNamed.{given_entry}
@@ -81,17 +75,11 @@ returns-then-is_some-clause-children c =
     (sym c.is_some.ensures ∙ c.if-is_some.true) in
     let within : last ≤ length text = omega (arith, c.min-end.ensures) in
     let p = kept_place text options start last c.args.broken block within at in
-    let e : ℕ = start + kept_before c.args.broken block.opening bs in
-    let ends = c.in_ok-content_end.ensures.content ∙ ap (λ n. start + n) (length_some options bs block at) in
     let stop : ℕ = c.in_ok-content_end.content_end in
-    let inside = braces_within options bs block at in
-    let most = length-take (last - start) (drop start text) in
-    let size : stop - start ≡ block.opening = omega arith in
-    let content_is = ap (λ xs. slice_range xs start stop) c.as_bytes.ensures.value ∙ ap (λ n. take n (drop start text)) size
-    ∙ sym (take-take block.opening (last - start) (drop start text) (omega (arith, inside.0, inside.1))) in
-    let same : e ≡ stop - c.white_at_cut.result =
-    cut_place c.args.broken start block.opening stop c.white_at_cut.result bs _ ends content_is c.white_at_cut.ensures.value in
-    inr (e, p.0, p.2, c.truncate_siblings.ensures ∙ ap (cut_siblings c.args.tree.now) (sym same))
+    let same = cut_end text options start last c.args.broken block stop c.white_at_cut.result at c.in_ok-content_end.ensures.content
+    (c.white_at_cut.ensures.value
+    ∙ ap (λ (xs : List ℕ). if c.args.broken then 0 else suffix_len is_white (slice_range xs start stop)) c.as_bytes.ensures.value) in
+    inr (start + kept_before c.args.broken block.opening bs, p.0, p.2, c.truncate_siblings.ensures ∙ ap (cut_siblings c.args.tree.now) (sym same))
 
 pub returns-then-is_some-clause-entry : goal.returns-then-is_some-clause-entry
 returns-then-is_some-clause-entry c =

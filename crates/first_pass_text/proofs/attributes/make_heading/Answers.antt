@@ -1,13 +1,9 @@
 use Rattle.std.proofs.Common.{◌≤◌, sym, ap, ◌∙◌, slice_get, subst, length, Option, IfSome, IsSomeAnd}
-use Rattle.first_pass_items.specs.declared.item.Item.{Item}
-use Rattle.first_pass_items.specs.declared.item.ItemBody.TheVariants.{Heading}
+use Rattle.first_pass_grammar.proofs.Common.{Item, Heading, Forest, document, length-modify}
 use Rattle.first_pass_open.proofs.BlockLemmas.{open_node_in}
-use Rattle.first_pass_tree.specs.Forest.{Forest}
 use Rattle.first_pass_names.specs.TableEntries.{names_of}
-use Rattle.first_pass_grammar.specs.Leaves.{document}
 use Rattle.first_pass_text.specs.CutTexts.{CutsBlock, CutsChildren}
 use Rattle.first_pass_text.proofs.attributes.make_heading.Goals as goal
-use Rattle.first_pass_tokens.proofs.BytesLemmas.{length-modify}
 
 pub index-requires : goal.index-requires
 index-requires c = open_node_in c.args.tree.now c.args.node_ix c.recall_forest.ensures c.requires.open

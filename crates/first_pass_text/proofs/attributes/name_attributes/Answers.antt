@@ -1,9 +1,7 @@
-use Rattle.std.proofs.Common.{◌≡◌, Option, Some, IfSome, sym, subst, ◌∙◌, refl}
-use Rattle.std.specs.List.{slice_range}
-use Rattle.first_pass_attributes.specs.Attributes.{attributes_in, attributes_of}
+use Rattle.std.proofs.Common.{◌≡◌, Option, Some, IfSome, sym, subst, ◌∙◌, refl, slice_range}
+use Rattle.first_pass_grammar.proofs.Common.{attributes_of, heading_attributes_of, NamesAttributes}
+use Rattle.first_pass_attributes.specs.Attributes.{attributes_in}
 use Rattle.first_pass_attributes.proofs.AttributeFacts.{from_none}
-use Rattle.first_pass_grammar.specs.Headings.{heading_attributes_of}
-use Rattle.first_pass_grammar.specs.Names.{NamesAttributes}
 use Rattle.first_pass_grammar.proofs.Names.MoreNames.{extends_none, extends_heading, heading_last}
 use Rattle.first_pass_names.specs.TableEntries.{names_of, with_heading}
 use Rattle.first_pass_text.specs.declared.attributes.BlockText.{BlockText}

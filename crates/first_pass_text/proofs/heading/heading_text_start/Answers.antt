@@ -1,5 +1,5 @@
 use Rattle.std.proofs.Common.{drop, arith, length-drop}
-use Rattle.first_pass_lines.proofs.HeadingFacts.{atx_level-signs}
+use Rattle.first_pass_grammar.proofs.Common.{atx_level-signs}
 use Rattle.first_pass_text.proofs.heading.heading_text_start.Goals as goal
 
 pub rest_of-requires : goal.rest_of-requires

@@ -1,8 +1,5 @@
 use Rattle.std.proofs.Common.{◌≡◌, ◌<◌, ◌≤◌, ◌⊎◌, inl, inr, ℕ, ◌-◌, ◌==◌, ◌||◌, nat_lt, List, length, take, sym, ap, ◌∙◌, arith, if◌then◌else◌}
-use Rattle.std.specs.List.{suffix_len}
-use Rattle.std.proofs.lemmas.Bool.Decides.{nat_tests}
-use Rattle.first_pass_items.specs.Bytes.{space, number_sign}
-use Rattle.first_pass_grammar.specs.Leaves.{is_space_or_line_end, kept_len}
+use Rattle.first_pass_grammar.proofs.Common.{suffix_len, nat_tests, space, number_sign, is_space_or_line_end, kept_len}
 use Rattle.first_pass_text.proofs.KeptBytes.{kept_counted, kept_unclosed}
 use Rattle.first_pass_text.proofs.heading.kept_len.Goals as goal
 

@@ -1,6 +1,5 @@
 use Rattle.std.proofs.Common.{◌≡◌, ◌+◌, ℕ, List, not, length, None, refl, sym, ap, subst, ◌∙◌}
-use Rattle.first_pass_grammar.specs.Headings.{before_attributes, heading_attributes_of}
-use Rattle.first_pass_grammar.specs.Names.{NamesAttributes}
+use Rattle.first_pass_grammar.proofs.Common.{before_attributes, heading_attributes_of, NamesAttributes}
 use Rattle.first_pass_grammar.proofs.Names.MoreNames.{extends_none}
 use Rattle.first_pass_names.specs.TableEntries.{names_of}
 use Rattle.first_pass_open.specs.Between.{line_end_at}

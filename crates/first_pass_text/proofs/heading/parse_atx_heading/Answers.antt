@@ -1,14 +1,6 @@
-use Rattle.std.proofs.Common.{◌≡◌, ◌≤◌, ℕ, List, [], length, IfSome, IsUtf8, ap, subst, ◌∙◌}
-use Rattle.std.specs.List.{slice_range}
-use Rattle.std.specs.Option.{unwrap_or}
-use Rattle.first_pass_tokens.specs.Pieces.{text_upto}
-use Rattle.first_pass_items.specs.declared.item.Item.{Item}
-use Rattle.first_pass_items.specs.declared.item.ItemBody.TheVariants.{Heading}
-use Rattle.first_pass_lines.specs.Lines.{level_number}
-use Rattle.first_pass_tree.specs.Forest.{added, block_of}
-use Rattle.first_pass_tokens.specs.Chains.{add_tokens, close_break}
-use Rattle.first_pass_tokens.specs.TreeTokens.{chained}
-use Rattle.first_pass_grammar.specs.Leaves.{document, kept_len, heading_chain, heading_text_at, IsHeading}
+use Rattle.std.proofs.Common.{◌≡◌, ◌≤◌, ℕ, List, [], length, IfSome, IsUtf8, ap, subst, ◌∙◌, slice_range, unwrap_or}
+use Rattle.first_pass_grammar.proofs.Common.{text_upto, Item, Heading, level_number, added, block_of, add_tokens, close_break, chained, document, kept_len}
+use Rattle.first_pass_grammar.proofs.Common.{heading_chain, heading_text_at, IsHeading}
 use Rattle.first_pass_names.specs.TableEntries.{names_of}
 use Rattle.first_pass_grammar.proofs.Names.MoreNames.{extends_both}
 use Rattle.first_pass_open.specs.Between.{line_end_at}

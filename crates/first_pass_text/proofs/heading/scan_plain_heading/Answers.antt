@@ -1,9 +1,6 @@
-use Rattle.std.proofs.Common.{◌+◌, ◌<◌, sym, ap, ◌∙◌, arith}
-use Rattle.std.specs.List.{slice_range}
-use Rattle.first_pass_grammar.specs.Leaves.{kept_len}
-use Rattle.first_pass_tokens.specs.Braces.{no_braces}
-use Rattle.first_pass_tokens.specs.LineTokens.{line_end_len}
-use Rattle.first_pass_tokens.specs.Pieces.{Inline, content_in, source}
+use Rattle.std.proofs.Common.{◌+◌, ◌<◌, sym, ap, ◌∙◌, arith, slice_range}
+use Rattle.first_pass_grammar.proofs.Common.{kept_len, no_braces, line_end_len, Inline, source}
+use Rattle.first_pass_tokens.specs.Pieces.{content_in}
 use Rattle.first_pass_text.proofs.PlainHeadings.{plain_heading, no_backslash, upto_all, upto_within}
 use Rattle.first_pass_text.proofs.heading.scan_plain_heading.Goals as goal
 

@@ -1,16 +1,11 @@
 use Rattle.std.proofs.Common.{◌≡◌, ℕ, Option, ap, ◌<◌, ◌≤◌, length, refl, sym, subst, ◌∙◌, arith}
+use Rattle.first_pass_grammar.proofs.Common.{MathBraces, spot, Item, HeadingLevel, Forest, Document, document}
 use Rattle.first_pass_names.specs.TableEntries.{no_names, names_of}
 use Rattle.first_pass_grammar.proofs.Names.MoreNames.{extends_none, extends_both}
-use Rattle.first_pass_tokens.specs.Braces.{MathBraces}
-use Rattle.first_pass_tokens.specs.LineTokens.{spot}
-use Rattle.first_pass_items.specs.declared.item.Item.{Item}
-use Rattle.first_pass_items.specs.declared.item.HeadingLevel.{HeadingLevel}
-use Rattle.first_pass_tree.specs.Forest.{Forest}
 use Rattle.first_pass_open.specs.OpenBlock.{with_child}
 use Rattle.first_pass_text.specs.Appends.{AppendsLines}
 use Rattle.first_pass_text.specs.declared.paragraph.TextEnd.{TextEnd}
 use Rattle.first_pass_text.proofs.SoFar.{LinesSoFar}
-use Rattle.first_pass_grammar.specs.Leaves.{Document, document}
 use Rattle.first_pass_open.proofs.PathLemmas.{open_are_in}
 use Rattle.first_pass_text.proofs.ParagraphLemmas.{LineRead, next_boundary, so_far_start, so_far_next, so_far_stop, stops_by, underlined_by}
 use Rattle.first_pass_text.proofs.paragraph.append_text_lines.Goals as goal

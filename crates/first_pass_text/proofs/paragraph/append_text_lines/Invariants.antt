@@ -1,8 +1,6 @@
 use Rattle.std.proofs.Common.{◌≡◌, ◌-◌, length}
+use Rattle.first_pass_grammar.proofs.Common.{Extends, spot, document}
 use Rattle.first_pass_names.specs.TableEntries.{entries, names_of}
-use Rattle.first_pass_grammar.specs.Names.{Extends}
-use Rattle.first_pass_tokens.specs.LineTokens.{spot}
-use Rattle.first_pass_grammar.specs.Leaves.{document}
 use Rattle.first_pass_text.proofs.SoFar.{LinesSoFar}
 use Rattle.first_pass_text.proofs.paragraph.append_text_lines.Given as goal
 

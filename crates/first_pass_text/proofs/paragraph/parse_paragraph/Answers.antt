@@ -1,24 +1,17 @@
-use Rattle.std.proofs.Common.{◌≡◌, ◌≤◌, ℕ, ◌+◌, [], length, drop, Option, IfSome, refl, sym, ap, subst, ◌∙◌}
-use Rattle.std.specs.Option.{option_map}
-use Rattle.first_pass_items.specs.declared.item.Item.{Item}
-use Rattle.first_pass_items.specs.declared.item.HeadingLevel.{HeadingLevel}
-use Rattle.first_pass_tree.specs.Forest.{Forest, appended, pushed}
-use Rattle.first_pass_tokens.specs.Braces.{no_braces}
-use Rattle.first_pass_tokens.specs.LineTokens.{spot}
-use Rattle.first_pass_grammar.specs.Completion.{lines_from}
-use Rattle.first_pass_grammar.specs.Leaves.{document, AreTextLines}
-use Rattle.first_pass_grammar.specs.Texts.{underline_first}
+use Rattle.std.proofs.Common.{◌≡◌, ◌≤◌, ℕ, ◌+◌, [], length, drop, Option, IfSome, refl, sym, ap, subst, ◌∙◌, option_map}
+use Rattle.first_pass_grammar.proofs.Common.{Item, HeadingLevel, Forest, appended, pushed, no_braces, spot, lines_from, document, AreTextLines}
+use Rattle.first_pass_grammar.proofs.Common.{underline_first, line_len}
 use Rattle.first_pass_open.specs.Between.{line_end_at}
 use Rattle.first_pass_open.specs.OpenBlock.{with_child}
 use Rattle.first_pass_open.specs.Path.{path_of}
 use Rattle.first_pass_open.proofs.BlockLemmas.{marked_chain, opened_is}
 use Rattle.first_pass_open.proofs.PathLemmas.{AreIn, open_are_in}
 use Rattle.first_pass_text.proofs.ParagraphLemmas.{path_of-paragraph}
-use Rattle.first_pass_lines.specs.Lines.{line_len}
 use Rattle.first_pass_names.specs.TableEntries.{names_of}
 use Rattle.first_pass_grammar.proofs.Names.MoreNames.{extends_both}
 use Rattle.first_pass_text.proofs.OrderPlain.{plain_fits}
-use Rattle.first_pass_text.proofs.PlainTexts.{StandsOpen, given, opened_item, innermost, its_item, whole_chain, text_open, closed_paragraph, heading_open, closed_heading}
+use Rattle.first_pass_text.proofs.PlainTexts.{StandsOpen, given, opened_item, innermost, its_item, whole_chain, text_open, closed_paragraph, heading_open}
+use Rattle.first_pass_text.proofs.PlainTexts.{closed_heading}
 use Rattle.first_pass_kinds.specs.declared.next_front.NextFront.{NextFront}
 use Rattle.first_pass_kinds.specs.Fronts.{IsFrontAt}
 use Rattle.first_pass_open.proofs.FrontLemmas.{container_is}

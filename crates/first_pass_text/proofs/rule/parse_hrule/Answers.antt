@@ -1,5 +1,5 @@
 use Rattle.std.proofs.Common.{◌+◌, ◌∙◌}
-use Rattle.first_pass_items.specs.declared.item.ItemBody.TheVariants.{Rule}
+use Rattle.first_pass_grammar.proofs.Common.{Rule}
 use Rattle.first_pass_tree.proofs.Callers.{appended-block}
 use Rattle.first_pass_text.proofs.OrderHeading.{rule_fits}
 use Rattle.first_pass_text.proofs.rule.parse_hrule.Goals as goal

@@ -1,4 +1,4 @@
-use Rattle.std.proofs.Common.{◌-◌, List, ℕ, subst, ap, ◌∙◌}
+use Rattle.std.proofs.Common.{◌-◌, ap, ◌∙◌}
 use Rattle.first_pass_tree.specs.Forest.{with_text}
 use Rattle.first_pass_tokens.specs.Pieces.{content_in, source}
 use Rattle.first_pass_tokens.specs.LineTokens.{blanks_at_end}
@@ -12,11 +12,8 @@ appended : (c : In_ok-append_text) → AppendsCell c.append_pieces.new.texts.ite
     (source c.args.content c.args.braces.now) c.args.tree.now c.append_text.new.self c.in_ok-end.end c.append_pieces.new.braces
 unfolding blanks_at_end
 appended c =
-    let text = c.text_upto-text.result.now in
-    subst (λ (t : List ℕ). AppendsCell c.append_pieces.new.texts.items
-    (content_in t c.args.content c.args.braces.now) c.args.tree.now c.append_text.new.self c.in_ok-end.end c.append_pieces.new.braces)
-    c.text_upto-text.ensures.value
-    (read_cell (content_in text c.args.content c.args.braces.now) c.args.tree.now _ _ c.in_ok-end.pending c.in_ok-end.end
+    rw c.text_upto-text.ensures.value at
+    (read_cell (content_in c.text_upto-text.result.now c.args.content c.args.braces.now) c.args.tree.now _ _ c.in_ok-end.pending c.in_ok-end.end
     c.append_pieces.new.braces
     c.in_ok-end.ensures.read
     (c.in_ok-append_text.ensures.ok

@@ -1,18 +1,13 @@
-use Rattle.std.proofs.Common.{List, ℕ, IfOk, subst}
 use Rattle.first_pass_tokens.specs.Pieces.{content_in, source}
-use Rattle.first_pass_tokens.specs.TreeTokens.{AppendsLine}
 use Rattle.first_pass_tokens.proofs.LineLemmas.{ends_line-if}
 use Rattle.first_pass_tokens.proofs.SoFar.{read_ended}
 use Rattle.first_pass_tokens.proofs.line.append_line.Goals as goal
 
 pub returns-clause-line : goal.returns-clause-line
 returns-clause-line c =
-    let text = c.text_upto-text.result.now in
-    subst (λ (t : List ℕ). IfOk c.end_line.result (λ a. AppendsLine c.append_pieces.new.texts.items
-    (content_in t c.args.content c.args.braces.now) c.args.tree.now c.end_line.new.tree a c.append_pieces.new.braces))
-    c.text_upto-text.ensures.value
-    (read_ended (content_in text c.args.content c.args.braces.now) _ _ _ _ c.in_ok-end.end c.append_pieces.new.braces c.end_line.result
-    c.requires.no_cell c.in_ok-end.ensures.read (record { tree_is = c.end_line.ensures.tree; answer_is = c.end_line.ensures.answer }))
+    rw c.text_upto-text.ensures.value at
+    (read_ended (content_in c.text_upto-text.result.now c.args.content c.args.braces.now) _ _ _ _ c.in_ok-end.end c.append_pieces.new.braces
+    c.end_line.result c.requires.no_cell c.in_ok-end.ensures.read (record { tree_is = c.end_line.ensures.tree; answer_is = c.end_line.ensures.answer }))
 
 pub returns-clause-ends : goal.returns-clause-ends
 returns-clause-ends c =

@@ -1,9 +1,8 @@
-use Rattle.std.proofs.Common.{◌+◌, length, inl, refl, sym, ◌∙◌, ap, subst, arith, Bool, true, false, ◌||◌, ◌≡◌}
+use Rattle.std.proofs.Common.{◌+◌, length, inl, refl, sym, ◌∙◌, ap, arith}
+use Rattle.std.proofs.lemmas.Bool.{or_parts}
 use Rattle.first_pass_tokens.specs.Pieces.{Inline, content_in, size}
-use Rattle.first_pass_tokens.specs.Braces.{braces_after}
 use Rattle.first_pass_tokens.specs.LineTokens.{spot}
-use Rattle.first_pass_tokens.specs.NamedTexts.{MakesPiece}
-use Rattle.first_pass_tokens.proofs.SoFar.{IsRead, plain_run, read_start, read_upto, read_more, read_piece, read_all, becomes_solid, found_special, ended_by_text}
+use Rattle.first_pass_tokens.proofs.SoFar.{IsRead, plain_run, read_start, read_upto, read_more, read_piece, read_all, found_special, ended_by_text}
 use Rattle.first_pass_tokens.proofs.NamedTexts.{more_none, more_both}
 use Rattle.first_pass_tokens.proofs.RunPlaces.{front_upto}
 use Rattle.first_pass_walk.proofs.WalkFacts.{spares_words}
@@ -39,17 +38,11 @@ loop-at-preserved c =
     let found = c.in-Some.ensures.found in
     let piece = c.in_ok-piece in
     let special = sym (c.requires.marks _ (omega (arith, c.type_inv.text at))) ∙ found.marked in
-    let here = c.special_found-found.ensures.value c.args.braces.now ∙ found_special z at special in
-    let is = subst (λ f. MakesPiece texts c.loop-at.braces f piece.piece) here piece.ensures.becomes in
+    let here = sym (c.special_found-found.ensures.value c.args.braces.now ∙ found_special z at special) in
     let more = piece.ensures.more in
-    let to_is = ap (λ n. spot n c.named_piece.new.braces) c.in_ok-from-2.ensures.next
-    ∙ ap (spot (at + size piece.piece)) (piece.ensures.braces ∙ ap (λ f. braces_after f c.loop-at.braces) here) in
-    let next = read_piece piece.piece (record {
-      on = sym (c.special_ends_at.ensures c.args.braces.now) ∙ c.if-special_ends_at.false;
-      becomes = is;
-      fits = omega (arith, c.special_found-found.ensures.fits, piece.ensures.size);
-      ends = becomes_solid _ _ z.text at _ piece.piece piece.ensures.becomes c.special_found-found.ensures.ends;
-    }) (read_more more (upto_special (goal.at.loop-at-preserved c).In-Some)) in
+    let to_is = ap (λ n. spot n c.named_piece.new.braces) c.in_ok-from-2.ensures.next ∙ ap (spot (at + size piece.piece)) piece.ensures.braces in
+    let next = read_piece (sym (c.special_ends_at.ensures c.args.braces.now) ∙ c.if-special_ends_at.false) here piece.piece piece.ensures.becomes
+    (read_more more (upto_special (goal.at.loop-at-preserved c).In-Some)) in
     record {
       read = rw (c.in_ok-from-2.ensures.tree, c.in_ok-from-2.ensures.pending, to_is) next;
       more = more_both texts c.loop-at.texts.items c.args.texts.now.items more c.loop-at.invariant.more;
@@ -63,16 +56,11 @@ loop-at-preserved-in-Some-quick_piece c =
     let piece = c.in-Some-quick_piece.known in
     let token = c.in-Some-quick_piece.ensures in
     let special = sym (c.requires.marks _ (omega (arith, c.type_inv.text at))) ∙ c.in-Some.ensures.found.marked in
-    let here = sym (token.value c.args.braces.now) ∙ found_special z at special in
-    let to_is = ap (λ n. spot n c.loop-at.braces) c.in_ok-from.ensures.next ∙ ap (λ f. spot (at + size piece) (braces_after f c.loop-at.braces)) here in
-    let next = read_piece piece (record {
-      on = sym (c.special_ends_at.ensures c.args.braces.now) ∙ c.if-special_ends_at.false;
-      becomes = subst (λ f. MakesPiece c.loop-at.texts.items c.loop-at.braces f piece) here refl;
-      fits = token.fits;
-      ends = token.ends;
-    }) (upto_special (goal.at.loop-at-preserved-in-Some-quick_piece c).In-Some) in
+    let here = sym (found_special z at special) ∙ token.value c.args.braces.now in
+    let next = read_piece (sym (c.special_ends_at.ensures c.args.braces.now) ∙ c.if-special_ends_at.false) here piece refl
+    (upto_special (goal.at.loop-at-preserved-in-Some-quick_piece c).In-Some) in
     record {
-      read = rw (c.in_ok-from.ensures.tree, c.in_ok-from.ensures.pending, to_is) next;
+      read = rw (c.in_ok-from.ensures.tree, c.in_ok-from.ensures.pending, c.in_ok-from.ensures.next) next;
       more = c.loop-at.invariant.more;
     }
 
@@ -102,13 +90,8 @@ returns-clause-read c =
 pub special_found-found-requires-clause-front : goal.special_found-found-requires-clause-front
 special_found-found-requires-clause-front c = front_upto c.args.content.whole.now c.args.text.now c.args.content.«end» c.requires.front
 
-third_off : (t u v : Bool) → (t || (u || v)) ≡ false → v ≡ false
-third_off false false v h = h
-third_off false true v h = absurd cc
-third_off true u v h = absurd cc
-
 pub special_found-found-requires-clause-no_run : goal.special_found-found-requires-clause-no_run
-special_found-found-requires-clause-no_run c = third_off _ _ _ (sym c.in_default-quick_piece.ensures.some)
+special_found-found-requires-clause-no_run c = (or_parts _ _ (or_parts _ _ (sym c.in_default-quick_piece.ensures.some)).1).1
 
 pub next_special_in_words-requires : goal.next_special_in_words-requires
 next_special_in_words-requires c = spares_words c.args.content.options c.args.content.special.now c.requires.marks

@@ -1,6 +1,6 @@
-use Rattle.std.proofs.Common.{◌≡◌, ℕ, ◌-◌, ◌==◌, ◌<◌, ◌≤◌, Bool, false, List, length, slice_index, inl, inr, sym, ◌∙◌, arith}
-use Rattle.std.specs.List.{suffix_len, slice_range}
-use Rattle.std.proofs.lemmas.Bool.{cases_lt, ltb-true, not-true}
+use Rattle.std.proofs.Common.{◌≡◌, ℕ, ◌-◌, ◌==◌, ◌<◌, ◌≤◌, Bool, false, List, length, slice_index, inl, inr, sym, ◌∙◌, arith, slice_range, ltb-true}
+use Rattle.std.specs.List.{suffix_len}
+use Rattle.std.proofs.lemmas.Bool.{cases_lt, not-true}
 use Rattle.std.proofs.lemmas.Bool.Decides.{nat_tests}
 use Rattle.first_pass_items.specs.Bytes.{space, backslash}
 use Rattle.first_pass_lines.specs.Lines.{is_white}

@@ -1,9 +1,8 @@
-use Rattle.std.proofs.Common.{◌≡◌, ◌-◌, ℕ, List, Bool, [], false, inl, inr, sym, ap, subst, ◌∙◌, arith}
-use Rattle.std.proofs.lemmas.Bool.{cases_lt, true≢false}
+use Rattle.std.proofs.Common.{◌≡◌, ℕ, List, Bool, inl, inr, sym, ap, ◌∙◌, arith, true≢false}
+use Rattle.std.proofs.lemmas.Bool.{cases_lt}
 use Rattle.first_pass_walk.specs.Walk.{IsNextMarked}
-use Rattle.first_pass_tokens.specs.Chains.{add_text}
 use Rattle.first_pass_tokens.specs.Pieces.{content_in}
-use Rattle.first_pass_tokens.specs.LineTokens.{blanks_at_end, content_ends_at, IsCell}
+use Rattle.first_pass_tokens.specs.LineTokens.{blanks_at_end, content_ends_at}
 use Rattle.first_pass_tokens.proofs.SoFar.{cell_plain}
 use Rattle.first_pass_walk.proofs.WalkFacts.{spares_words}
 use Rattle.first_pass_tokens.proofs.line.plain_content_in.Goals as goal
@@ -21,8 +20,7 @@ returns-then-special_ends_at-clause-cell c texts b =
     let at = c.in_ok-at.at in
     let found = c.in_ok-at.ensures.found in
     let z = content_in text c.args.content b in
-    subst (λ n. IsCell texts z (add_text c.args.content.start (at - n) false []) at b) (sym c.blanks_at_end-blanks.ensures.value)
-    (cell_plain z at found.from (omega (arith, found.within))
+    rw c.blanks_at_end-blanks.ensures.value (cell_plain z at found.from (omega (arith, found.within))
     (λ k low high. inl (sym (c.requires.marks _ (omega (arith, c.type_inv.text k))) ∙ found.least k low high))
     (sym (c.special_ends_at.ensures b) ∙ c.if-special_ends_at.true))
 

@@ -1,5 +1,4 @@
-use Rattle.std.proofs.Common.{◌≡◌, ◌+◌, ◌++◌, List, ℕ, suc, encode_utf8, sym, ap, ◌∙◌, arith, append_assoc}
-use Rattle.std.specs.String.{string_bytes}
+use Rattle.std.proofs.Common.{◌≡◌, ◌+◌, ◌++◌, List, ℕ, suc, encode_utf8, sym, ap, ◌∙◌, arith, append_assoc, string_bytes}
 use Rattle.first_pass_tokens.specs.NamedTexts.{times}
 use Rattle.first_pass_tokens.proofs.DashLemmas.{times_more}
 use Rattle.first_pass_tokens.proofs.named.push_times.Goals as goal

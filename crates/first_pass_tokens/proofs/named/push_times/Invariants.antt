@@ -1,5 +1,4 @@
-use Rattle.std.proofs.Common.{◌≡◌, ◌++◌, encode_utf8}
-use Rattle.std.specs.String.{string_bytes}
+use Rattle.std.proofs.Common.{◌≡◌, ◌++◌, encode_utf8, string_bytes}
 use Rattle.first_pass_tokens.specs.NamedTexts.{times}
 use Rattle.first_pass_tokens.proofs.named.push_times.Given as goal
 

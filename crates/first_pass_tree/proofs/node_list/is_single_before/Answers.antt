@@ -1,5 +1,4 @@
-use Rattle.std.proofs.Common.{◌∙◌, sym, arith}
-use Rattle.std.proofs.lemmas.List.{length-drop}
+use Rattle.std.proofs.Common.{◌∙◌, sym, arith, length-drop}
 use Rattle.first_pass_tree.proofs.Cuts.{single-late, single-other}
 use Rattle.first_pass_tree.proofs.node_list.is_single_before.Goals as goal
 use Rattle.first_pass_tree.proofs.node_list.is_single_before.Goals.{then-first-nodes, else-first-nodes}

@@ -1,4 +1,4 @@
-use Rattle.std.proofs.Common.{ℕ, ◌+◌, ◌<◌, List, slice_index, ◌∙◌, sym, subst, arith}
+use Rattle.std.proofs.Common.{ℕ, ◌+◌, ◌<◌, List, slice_index, sym, subst, arith}
 use Rattle.first_pass_tree.proofs.TightLemmas.{IsTightFrom, tight_from_depths, walk_begins, walk_within, walk_deeper, walk_over, walk_next}
 use Rattle.first_pass_tree.proofs.tight.surgerize_tight_list.Goals as goal
 
@@ -27,8 +27,7 @@ pub tighten-requires-clause-within : goal.tighten-requires-clause-within
 tighten-requires-clause-within c =
     let f = c.args.tree.now in
     let n = c.inner_list-inner in
-    let t = c.tighten_between.ensures f (n.ensures.tree ∙ c.loop-at.invariant.tight) in
-    let i = walk_over f c.loop-at.tree c.args.list_ix.0 _ _ n.result.past c.loop-at.invariant (omega arith) (omega arith) c.tighten_between.new.tree t in
+    let i = walk_over f _ _ _ c.args.list_ix.0 _ _ n.result.past c.loop-at.invariant (omega arith, omega arith) n.ensures.tree c.tighten_between.ensures in
     let w = walk_within f c.tighten_between.new.tree _ _ _ i in
     omega arith
 
@@ -36,8 +35,7 @@ pub tighten-requires-clause-deeper : goal.tighten-requires-clause-deeper
 tighten-requires-clause-deeper c =
     let f = c.args.tree.now in
     let n = c.inner_list-inner in
-    let t = c.tighten_between.ensures f (n.ensures.tree ∙ c.loop-at.invariant.tight) in
-    let i = walk_over f c.loop-at.tree c.args.list_ix.0 _ _ n.result.past c.loop-at.invariant (omega arith) (omega arith) c.tighten_between.new.tree t in
+    let i = walk_over f _ _ _ c.args.list_ix.0 _ _ n.result.past c.loop-at.invariant (omega arith, omega arith) n.ensures.tree c.tighten_between.ensures in
     walk_deeper f c.tighten_between.new.tree _ _ _ n.result.place i (omega arith) (omega arith)
 
 pub loop-at-preserved : goal.loop-at-preserved
@@ -45,8 +43,7 @@ loop-at-preserved c =
     let f = c.args.tree.now in
     let n = c.inner_list-inner in
     let w = n.ensures.within in
-    let t = c.tighten_between.ensures f (n.ensures.tree ∙ c.loop-at.invariant.tight) in
-    let i = walk_over f c.loop-at.tree c.args.list_ix.0 _ _ n.result.past c.loop-at.invariant (omega arith) w.2 c.tighten_between.new.tree t in
+    let i = walk_over f _ _ _ c.args.list_ix.0 _ _ n.result.past c.loop-at.invariant (omega arith, w.2) n.ensures.tree c.tighten_between.ensures in
     let s = tight_from_depths f c.loop-at.tree _ _ c.loop-at.invariant.tight in
     walk_next f c.tighten_between.new.tree c.tighten.new.tree _ _ n.result.place n.result.past i (omega arith) w.1
     (λ k a b. subst (λ (ds : List ℕ). c.depth_at-list_depth.result + 2 < slice_index ds k) s (n.ensures.deeper k a b)) c.tighten.ensures

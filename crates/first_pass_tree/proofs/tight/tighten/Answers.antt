@@ -1,8 +1,9 @@
-use Rattle.std.proofs.Common.{Some, refl, sym, ap, ◌∙◌, slice_index}
+use Rattle.std.proofs.Common.{ℕ, List, Some, refl, sym, ap, ◌∙◌, slice_index}
+use Rattle.first_pass_items.specs.declared.item.Item.{Item}
 use Rattle.first_pass_items.specs.declared.item.ItemBody.TheVariants.{Paragraph, TightParagraph}
 use Rattle.first_pass_tree.specs.Forest.{depths}
 use Rattle.first_pass_tree.proofs.BodyLemmas.{body_of}
-use Rattle.first_pass_tree.proofs.TightLemmas.{node_stays, node_tight, two_deeper, not_two_deeper, other_tight, with_nodes, tight_same_body}
+use Rattle.first_pass_tree.proofs.TightLemmas.{node_stays, node_tight, two_deeper, not_two_deeper, other_tight, tight_same_body}
 use Rattle.first_pass_tree.proofs.tight.tighten.Goals as goal
 
 pub returns-then-depth_at-list_depth-ne2 : goal.returns-then-depth_at-list_depth-ne2
@@ -10,7 +11,7 @@ returns-then-depth_at-list_depth-ne2 c =
     let f = c.args.tree.now in
     let two =
     not_two_deeper c.depth_at.result (slice_index (depths f.nodes) c.args.ix.0) c.args.list_depth c.depth_at.ensures c.if-depth_at-list_depth-ne2.true in
-    with_nodes f f _ (sym (node_stays c.args.list_depth c.args.ix.0 f.nodes two)) refl refl
+    ap (λ (ns : List (ℕ × Item)). record f { nodes = ns }) (sym (node_stays c.args.list_depth c.args.ix.0 f.nodes two))
 
 pub returns-in-Paragraph : goal.returns-in-Paragraph
 returns-in-Paragraph c =
@@ -18,7 +19,8 @@ returns-in-Paragraph c =
     let two = two_deeper c.depth_at.result
     (slice_index (depths f.nodes) c.args.ix.0) c.args.list_depth c.depth_at.ensures c.requires.deeper c.if-depth_at-list_depth-ne2.false in
     let is = body_of f c.args.ix c.index.result.now c.index.ensures ∙ ap (λ b. Some b) c.in-Paragraph.is in
-    c.set_body.ensures ∙ with_nodes f _ _ (sym (node_tight c.args.list_depth c.args.ix.0 f.nodes Paragraph TightParagraph two is refl)) refl refl
+    c.set_body.ensures
+    ∙ ap (λ (ns : List (ℕ × Item)). record f { nodes = ns }) (sym (node_tight c.args.list_depth c.args.ix.0 f.nodes Paragraph TightParagraph two is refl))
 
 pub returns-in_default : goal.returns-in_default
 returns-in_default c =
@@ -27,6 +29,5 @@ returns-in_default c =
     let two = two_deeper c.depth_at.result
     (slice_index (depths f.nodes) c.args.ix.0) c.args.list_depth c.depth_at.ensures c.requires.deeper c.if-depth_at-list_depth-ne2.false in
     let is = body_of f c.args.ix c.index.result.now c.index.ensures in
-    with_nodes f f _
+    ap (λ (ns : List (ℕ × Item)). record f { nodes = ns })
     (sym (node_tight c.args.list_depth c.args.ix.0 f.nodes b b two is (other_tight b c.in_default.not-Paragraph) ∙ tight_same_body f.nodes c.args.ix.0 b is))
-    refl refl

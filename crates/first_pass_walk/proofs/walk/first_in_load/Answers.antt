@@ -1,9 +1,10 @@
 use Rattle.std.proofs.Common.{◌≡◌, ℕ, ◌+◌, ◌-◌, w64, bit_and, inl, inr, false, ap, ◌∙◌, arith}
 use Rattle.std.proofs.lemmas.Bool.{cases_eq}
+use Rattle.std.proofs.lemmas.Option.{IfSome_then}
 use Rattle.std.proofs.lemmas.Nat.Bits.{bit_at-lt, bit_at_and, bit_at-trailing_zeros}
 use Rattle.std.specs.Int.{bit_at, trailing_zeros}
 use Rattle.first_pass_walk.specs.Walk.{is_marked}
-use Rattle.first_pass_walk.proofs.StopLemmas.{if_some, if_none, bit_below, cleared, none_marked, first_is_next}
+use Rattle.first_pass_walk.proofs.StopLemmas.{if_none, bit_below, cleared, none_marked, first_is_next}
 use Rattle.first_pass_walk.proofs.walk.first_in_load.Goals as goal
 use Rattle.first_pass_walk.proofs.walk.first_in_load.Goals.{After-first_at_stops}
 
@@ -54,7 +55,7 @@ first_at_stops-requires-clause-within c k set =
 pub returns-clause-found : goal.returns-clause-found
 returns-clause-found c =
     let at : After-first_at_stops = (goal.at.returns-clause-found c).After-first_at_stops in
-    if_some c.first_at_stops.result
+    IfSome_then c.first_at_stops.result c.first_at_stops.ensures.found
     (λ j first. first_is_next c.args.lut.now c.args.bytes.now c.args.at 16 c.args.stops c.requires.spares c.requires.stops j (record {
       from = first.from;
       within = first.within;
@@ -62,7 +63,6 @@ returns-clause-found c =
       marked = first.marked;
       least = λ k lower set. unmarked at k set (first.least k lower);
     }))
-    c.first_at_stops.ensures.found
 
 pub returns-clause-none : goal.returns-clause-none
 returns-clause-none c =

@@ -1,7 +1,8 @@
 use Rattle.std.proofs.Common.{ℕ, ◌+◌, ◌-◌, ◌/◌, ◌^◌, length, sym, ap, ◌∙◌, arith}
+use Rattle.std.proofs.lemmas.Option.{IfSome_then}
 use Rattle.std.proofs.lemmas.Nat.Bits.{bit_at-zero}
 use Rattle.std.specs.Int.{bit_at}
-use Rattle.first_pass_walk.proofs.StopLemmas.{if_some, if_none, bit_below, shifted_bit, tail_stops, unmarked_from, none_marked, first_is_next, next_later}
+use Rattle.first_pass_walk.proofs.StopLemmas.{if_none, bit_below, shifted_bit, tail_stops, unmarked_from, none_marked, first_is_next, next_later}
 use Rattle.first_pass_walk.proofs.walk.next_special_in_words.Goals as goal
 
 -- a load of 16 bytes
@@ -37,10 +38,9 @@ returns-clause-found c =
     let next : ℕ = c.loop-next.next in
     let last : ℕ = length c.args.bytes.now - 16 in
     let stops = tail_stops c.args.bytes.now next last c.word_stops.result (omega arith) (omega arith) c.word_stops.ensures in
-    if_some c.first_at_stops.result
+    IfSome_then c.first_at_stops.result c.first_at_stops.ensures.found
     (λ j first. next_later c.args.lut.now c.args.bytes.now c.args.ix next j c.loop-next.invariant.from c.loop-next.invariant.none
     (first_is_next c.args.lut.now c.args.bytes.now next (last + 16 - next) (c.word_stops.result / 2 ^ (next - last)) c.requires stops j first))
-    c.first_at_stops.ensures.found
 
 pub returns-clause-none : goal.returns-clause-none
 returns-clause-none c =

@@ -1,5 +1,4 @@
-use Rattle.std.proofs.Common.{◌≡◌, ℕ, ◌<◌, false, length}
-use Rattle.std.specs.List.{slice_index_or}
+use Rattle.std.proofs.Common.{◌≡◌, ℕ, ◌<◌, false, length, slice_index_or}
 use Rattle.first_pass_walk.specs.Walk.{is_special}
 use Rattle.first_pass_walk.proofs.walk.special_bytes.Given as goal
 

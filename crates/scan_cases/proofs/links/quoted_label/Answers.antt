@@ -1,5 +1,4 @@
-use Rattle.std.proofs.Common.{rules, ◌≡◌, ℕ, List, ◌<◌, length, slice_index, arith, IsUtf8}
-use Rattle.std.specs.Str.{IsCharBoundary}
+use Rattle.std.proofs.Common.{rules, ◌≡◌, ℕ, List, ◌<◌, length, slice_index, arith, IsUtf8, IsCharBoundary}
 use Rattle.std.proofs.lemmas.Str.{IsCharBoundary-after_ascii}
 use Rattle.scan_cases.proofs.links.quoted_label.Goals as goal
 use Rattle.first_pass_items.specs.Bytes.{space}

@@ -1,15 +1,12 @@
-use Rattle.std.proofs.Common.{◌≡◌, ◌≤◌, ℕ, None, IsCharBoundary, length, refl, ap, subst, sym, arith}
+use Rattle.std.proofs.Common.{◌≡◌, ◌≤◌, None, IsCharBoundary, length, refl, ap, subst, sym}
+use Rattle.first_pass_grammar.proofs.Common.{text_upto, cell_end_place, document}
 use Rattle.first_pass_names.specs.TableEntries.{names_of, no_names}
-use Rattle.first_pass_tokens.specs.Pieces.{text_upto}
 use Rattle.first_pass_tokens.proofs.BytesLemmas.{few_of_cell}
-use Rattle.first_pass_tokens.proofs.OrderLemmas.{cell_end_place}
 use Rattle.first_pass_lists.specs.declared.state.PassState.{PassState}
-use Rattle.first_pass_order.specs.Ordered.{reached}
 use Rattle.first_pass_order.proofs.OrderLemmas.{ordered_none}
 use Rattle.first_pass.proofs.CallsNamed.{cell_named}
-use Rattle.first_pass.proofs.OrderJoin.{both_ends, ordered_cell}
+use Rattle.first_pass.proofs.OrderJoin.{both_ends, state_before, ordered_cell}
 use Rattle.first_pass.proofs.state.FirstPass.append_cell_content.Goals as goal
-use Rattle.first_pass_grammar.specs.Leaves.{document}
 
 pub returns : goal.returns
 returns c =
@@ -34,12 +31,9 @@ returns c =
             let same : text_upto text c.args.«end» ≡ text = ap (text_upto text) whole in
             subst (λ t. IsCharBoundary t stop) same (cell_end_place (subst (λ t. c.args.start ≤ length t) (sym same) c.requires.0) e.cell.cell);
         order = λ ends boundary at low o.
-            let before = o.later in
-            let k : ℕ = reached old.begin_list_item at in
-            let low' : k ≤ at = before in
             let to = ordered_cell (document text options no_names) self.braces c.args.start c.args.end old.tree new.tree stop
             (record { utf8 = e.utf8; boundary = boundary; cut = both_ends text c.args.start c.args.end c.requires.1 ends })
-            (record { from = k; low = omega arith; forest = c.recall_forest.ensures; order = o.ordered }) e.cell in
+            (state_before text old at c.args.start c.recall_forest.ensures o low) e.cell in
             ordered_none text new stop refl to.within to;
         node_bound = few_of_cell e.cell;
       };

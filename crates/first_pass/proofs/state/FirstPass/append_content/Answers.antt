@@ -1,14 +1,11 @@
-use Rattle.std.proofs.Common.{false, ◌≤◌, ℕ, Option, None, refl, subst, arith}
+use Rattle.std.proofs.Common.{false, ℕ, Option, None, refl, subst}
+use Rattle.first_pass_grammar.proofs.Common.{document, text_upto, EndsLine}
 use Rattle.first_pass_names.specs.TableEntries.{names_of, no_names}
-use Rattle.first_pass_grammar.specs.Leaves.{document}
-use Rattle.first_pass_tokens.specs.Pieces.{text_upto}
-use Rattle.first_pass_tokens.specs.LineTokens.{EndsLine}
 use Rattle.first_pass_tokens.proofs.BytesLemmas.{few_of_line}
 use Rattle.first_pass_lists.specs.declared.state.PassState.{PassState}
-use Rattle.first_pass_order.specs.Ordered.{reached}
 use Rattle.first_pass_order.proofs.OrderLemmas.{ordered_none}
 use Rattle.first_pass.proofs.CallsNamed.{line_named}
-use Rattle.first_pass.proofs.OrderJoin.{both_ends, ordered_line}
+use Rattle.first_pass.proofs.OrderJoin.{both_ends, state_before, ordered_line}
 use Rattle.first_pass_text.proofs.ParagraphLemmas.{next_boundary}
 use Rattle.first_pass.proofs.state.FirstPass.append_content.Goals as goal
 
@@ -37,12 +34,9 @@ returns-clause-line c =
             (record { options = options; whole = text; text = text_upto text t; start = c.args.start; row = false; braces = self.braces }) answer)
             whole e.ends);
         order = λ ends boundary at low o.
-            let before = o.later in
-            let k : ℕ = reached old.begin_list_item at in
-            let low' : k ≤ at = before in
             let to = ordered_line (document text options no_names) self.braces c.args.start c.args.end old.tree new.tree answer
             (record { utf8 = e.utf8; boundary = boundary; cut = both_ends text c.args.start c.args.end c.requires.1 ends })
-            (record { from = k; low = omega arith; forest = c.recall_forest.ensures; order = o.ordered }) e.line in
+            (state_before text old at c.args.start c.recall_forest.ensures o low) e.line in
             ordered_none text new answer.0 refl to.within to;
         node_bound = few_of_line e.line;
       };

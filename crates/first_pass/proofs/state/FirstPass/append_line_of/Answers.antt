@@ -1,8 +1,5 @@
 use Rattle.std.proofs.Common.{◌≤◌, ℕ, List, None, IsCharBoundary, refl}
-use Rattle.first_pass_items.specs.declared.item.Item.{Item}
-use Rattle.first_pass_grammar.specs.Leaves.{Document, document}
-use Rattle.first_pass_grammar.specs.RawLines.{IsRawLine}
-use Rattle.first_pass_tokens.proofs.InOrder.{AreInOrder}
+use Rattle.first_pass_grammar.proofs.Common.{Item, Document, document, IsRawLine, AreInOrder}
 use Rattle.first_pass_raw.specs.RawBlocks.{range_of}
 use Rattle.first_pass_raw.specs.declared.raw_line.RawKind.{RawKind}
 use Rattle.first_pass_raw.specs.declared.raw_line.RawKind.TheVariants.{Code, Html}
@@ -11,9 +8,8 @@ use Rattle.first_pass_names.proofs.NameLemmas.{extends_none}
 use Rattle.first_pass_names.specs.TableEntries.{names_of}
 use Rattle.first_pass_lists.specs.declared.state.PassState.{PassState}
 use Rattle.first_pass.proofs.CallsNamed.{raw_line_named}
-use Rattle.first_pass.proofs.OrderJoin.{tokens_ordered}
+use Rattle.first_pass.proofs.OrderJoin.{state_before, tokens_ordered}
 use Rattle.first_pass.proofs.state.FirstPass.append_line_of.Goals as goal
-use Rattle.first_pass_tokens.proofs.OrderLemmas.{order_from}
 
 line_in_order : (kind : RawKind) (d : Document) (owed from to : ℕ) (items : List Item) → from ≤ to → IsCharBoundary d.text from → IsCharBoundary d.text to
     → IsRawLine (range_of kind) d owed from to items → AreInOrder d.text from to items
@@ -44,7 +40,6 @@ returns c =
       };
       state = refl;
       order = λ at low begins ends o.
-          tokens_ordered text old new at to e.line.items c.recall_forest.ensures o
-          (order_from text at from to e.line.items
-          (line_in_order c.args.kind d c.args.remaining_space from to e.line.items c.requires.range.0 begins ends are) low) ends.0 e.line.tree_is refl;
+          tokens_ordered text old new from to e.line.items (state_before text old at from c.recall_forest.ensures o low)
+          (line_in_order c.args.kind d c.args.remaining_space from to e.line.items c.requires.range.0 begins ends are) ends.0 e.line.tree_is refl;
     }

@@ -1,8 +1,6 @@
-use Rattle.std.proofs.Common.{drop, refl, arith}
-use Rattle.std.proofs.lemmas.List.{length-drop}
-use Rattle.first_pass_lines.proofs.LineFacts.{line_len-fits}
+use Rattle.std.proofs.Common.{drop, refl, arith, length-drop}
+use Rattle.first_pass_grammar.proofs.Common.{line_len-fits, document, heading_block}
 use Rattle.first_pass_names.specs.TableEntries.{names_of}
-use Rattle.first_pass_grammar.specs.Leaves.{document, heading_block}
 use Rattle.first_pass.proofs.Added.{adds_leaf}
 use Rattle.first_pass.proofs.CallsNamed.{atx_named}
 use Rattle.first_pass.proofs.state.FirstPass.parse_atx_heading.Goals as goal
@@ -20,15 +18,8 @@ returns c =
     record {
       block = e.block;
       leaf =
-          adds_leaf self _ c.args.start c.in_ok-next.next self.pass.state.blank
-          (heading_block c.args.start c.in_ok-next.next c.args.atx_level e.block.index e.block.chain)
-          (record {
-            source = refl;
-            braces = refl;
-            state = refl;
-            more = e.more;
-            tree_is = e.block.tree_is;
-            own = atx_named d c.args.start c.args.atx_level self.pass.state.tree c.parse_atx_heading.new.tree c.in_ok-next.next e.block;
-          })
-          e.fits (omega arith);
+          adds_leaf self _ self.pass.state.blank (heading_block c.args.start c.in_ok-next.next c.args.atx_level e.block.index e.block.chain) (refl, refl, refl)
+          e.more e.block.tree_is
+          (atx_named d c.args.start c.args.atx_level self.pass.state.tree c.parse_atx_heading.new.tree c.in_ok-next.next e.block)
+          c.args.start c.in_ok-next.next e.fits (omega arith);
     }

@@ -4,7 +4,7 @@ use Rattle.first_pass_blocks.specs.OpenedFootnotes.{StaysSame, ReadsFootnote}
 use Rattle.first_pass_order.specs.Ordered.{IsReadTo}
 use Rattle.first_pass_blocks.specs.Views.{state_of, source_text}
 use Rattle.first_pass_lists.proofs.NoEmptyItem.{footnote_begun_none}
-use Rattle.first_pass_blocks.proofs.Openings.FootnoteFound.{IsRead, some_found}
+use Rattle.first_pass_blocks.proofs.FootnoteOpened.{IsRead, some_found}
 use Rattle.first_pass_order.proofs.PopOrder.{footnote_keeps_order}
 use Rattle.first_pass.proofs.CallsNamed.{footnote_named}
 use Rattle.first_pass.proofs.state.FirstPass.parse_footnote.Goals as goal

@@ -1,14 +1,11 @@
 use Rattle.std.proofs.Common.{refl, subst}
-use Rattle.first_pass_html.specs.Ends.{condition_of}
+use Rattle.first_pass_grammar.proofs.Common.{condition_of, Extent, IsHtml, document}
 use Rattle.first_pass_raw.specs.RawBlocks.{AddsRaw, html_to_end}
 use Rattle.first_pass_raw.proofs.IndentedLemmas.{first_at, first_is}
 use Rattle.first_pass_open.specs.Path.{path_of}
 use Rattle.first_pass_names.specs.TableEntries.{names_of}
 use Rattle.first_pass_names.proofs.NameLemmas.{extends_none}
-use Rattle.first_pass_grammar.specs.Extents.{Extent}
-use Rattle.first_pass_grammar.specs.HtmlBlocks.{IsHtml}
-use Rattle.first_pass_grammar.specs.Leaves.{document}
-use Rattle.first_pass_blocks.proofs.Leaves.RawFits.{to_end_between}
+use Rattle.first_pass_blocks.proofs.Leaves.KindBlocks.{to_end_between}
 use Rattle.first_pass.proofs.Added.{adds_lines}
 use Rattle.first_pass.proofs.CallsNamed.{html_named}
 use Rattle.first_pass.proofs.state.FirstPass.parse_html_block_type_1_to_5.Goals as goal
@@ -29,15 +26,9 @@ returns c =
           subst (λ n. AddsRaw (document text options names) (λ d. IsHtml d c.args.start_ix n x.places x.«end») x.left old new c.in_ok-next.next) c.max.ensures
           (e.block p i);
       leaf =
-          adds_lines self _ c.args.start_ix c.in_ok-next.next self.pass.state.blank block.items
-          (record {
-            source = refl;
-            braces = refl;
-            state = refl;
-            more = e.more;
-            tree_is = block.tree_is;
-            own = html_named (document text options names) c.args.start_ix c.max.result _ _ block.items (block.are names (extends_none names));
-          })
+          adds_lines self _ self.pass.state.blank block.items (refl, refl, refl) e.more block.tree_is
+          (html_named (document text options names) c.args.start_ix c.max.result _ _ block.items (block.are names (extends_none names)))
+          c.args.start_ix c.in_ok-next.next
           (to_end_between text options names old new c.args.start_ix c.in_ok-next.next e.utf8 c.requires.boundary e.boundary.1.0
           (condition_of c.args.html_end) _ e.block) e.boundary;
     }

@@ -1,9 +1,5 @@
 use Rattle.std.proofs.Common.{◌≡◌, ℕ, ◌≤◌, length, None, refl, ap, ◌∙◌, subst}
-use Rattle.first_pass_grammar.specs.Extents.{Extent}
-use Rattle.first_pass_grammar.specs.HtmlBlocks.{IsHtml}
-use Rattle.first_pass_grammar.specs.Leaves.{document}
-use Rattle.first_pass_lines.specs.Places.{Place, offset}
-use Rattle.first_pass_grammar.specs.Completion.{lines_from}
+use Rattle.first_pass_grammar.proofs.Common.{Extent, IsHtml, document, Place, offset, lines_from}
 use Rattle.first_pass_open.specs.Between.{AddsBetween}
 use Rattle.first_pass_open.specs.Path.{path_of}
 use Rattle.first_pass_raw.specs.RawBlocks.{after_line_at, html_to_blank, AddsRaw, IsPlaceAt}
@@ -11,10 +7,8 @@ use Rattle.first_pass_lists.specs.declared.state.PassState.{PassState}
 use Rattle.first_pass_names.specs.TableEntries.{names_of}
 use Rattle.first_pass_names.proofs.NameLemmas.{extends_none}
 use Rattle.first_pass_raw.proofs.IndentedLemmas.{first_at, first_is}
-use Rattle.first_pass_blocks.proofs.LineByLine.BlankStops.{html_stops, ordered_stopped}
-use Rattle.first_pass_containers.proofs.LineByLine.EnteredLines.{path_added}
-use Rattle.first_pass_containers.proofs.Order.OrderSteps.{block_ordered}
-use Rattle.first_pass_blocks.proofs.Leaves.RawFits.{to_blank_between, to_blank_ends, to_blank_few}
+use Rattle.first_pass_blocks.proofs.Leaves.KindBlocks.{html_stops, ordered_stopped, to_blank_between, to_blank_ends, to_blank_few}
+use Rattle.first_pass_containers.proofs.OrderSteps.{path_added, block_ordered}
 use Rattle.first_pass.proofs.Added.{adds_kept}
 use Rattle.first_pass.proofs.CallsNamed.{html_named}
 use Rattle.first_pass.proofs.state.FirstPass.parse_html_block_type_6_or_7.Goals as goal
@@ -43,15 +37,9 @@ returns c =
           let x : Extent = html_to_blank text (path_of options old.tree) p in
           subst (λ n. AddsRaw (document text options names) (λ d. IsHtml d c.args.start_ix n x.places x.«end») x.left old.tree new.tree c.in_ok-next.next)
           c.max.ensures (e.block p i);
-      kept = adds_kept self _ old.blank block.items
-          (record {
-            source = refl;
-            braces = refl;
-            state = refl;
-            more = e.more;
-            tree_is = block.tree_is;
-            own = html_named (document text options names) c.args.start_ix c.max.result _ _ block.items (block.are names (extends_none names));
-          });
+      kept =
+          adds_kept self _ old.blank block.items (refl, refl, refl) e.more block.tree_is
+          (html_named (document text options names) c.args.start_ix c.max.result _ _ block.items (block.are names (extends_none names)));
       state = refl;
       later = e.boundary.0;
       boundary = e.boundary.1;

@@ -1,10 +1,10 @@
 use Rattle.std.proofs.Common.{◌≡◌, None, refl, sym, ap, subst}
+use Rattle.first_pass_grammar.proofs.Common.{document}
 use Rattle.first_pass_names.specs.TableEntries.{names_of}
-use Rattle.first_pass_grammar.specs.Leaves.{document}
 use Rattle.first_pass_lists.specs.declared.state.PassState.{PassState}
 use Rattle.first_pass_order.specs.Ordered.{IsOrderedAt}
 use Rattle.first_pass_order.proofs.NamedLemmas.{block_added}
-use Rattle.first_pass_containers.proofs.Order.OrderSteps.{text_ordered}
+use Rattle.first_pass_containers.proofs.OrderSteps.{text_ordered}
 use Rattle.first_pass.proofs.CallsNamed.{text_added}
 use Rattle.first_pass.proofs.state.FirstPass.parse_paragraph.Goals as goal
 

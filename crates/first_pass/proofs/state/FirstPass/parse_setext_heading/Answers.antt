@@ -1,7 +1,7 @@
 use Rattle.std.proofs.Common.{rules, refl, arith}
+use Rattle.first_pass_grammar.proofs.Common.{document}
 use Rattle.first_pass_names.specs.TableEntries.{names_of}
 use Rattle.first_pass_names.proofs.NameLemmas.{extends_none}
-use Rattle.first_pass_grammar.specs.Leaves.{document}
 use Rattle.first_pass.specs.Views.{allocs_of}
 use Rattle.first_pass.proofs.CallsNamed.{heading_named}
 use Rattle.first_pass.proofs.CutOrder.{heading_ordered}

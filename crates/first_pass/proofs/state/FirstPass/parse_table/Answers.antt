@@ -1,6 +1,6 @@
 use Rattle.std.proofs.Common.{refl}
+use Rattle.first_pass_grammar.proofs.Common.{document}
 use Rattle.first_pass_names.specs.TableEntries.{names_of}
-use Rattle.first_pass_grammar.specs.Leaves.{document}
 use Rattle.first_pass.proofs.CallsNamed.{rows_named}
 use Rattle.first_pass.proofs.RowsOrdered.{rows_ordered, rows_count}
 use Rattle.first_pass.proofs.state.FirstPass.parse_table.Goals as goal

@@ -1,6 +1,6 @@
 use Rattle.std.proofs.Common.{refl, subst}
+use Rattle.first_pass_grammar.proofs.Common.{document}
 use Rattle.first_pass_names.specs.TableEntries.{names_of}
-use Rattle.first_pass_grammar.specs.Leaves.{document}
 use Rattle.first_pass_tables.specs.Appends.{OpenTable, open_table, ReadsRow}
 use Rattle.first_pass_tables.proofs.RowsAdded.{row_ends, row_none}
 use Rattle.first_pass.proofs.CallsNamed.{row_named}

@@ -1,17 +1,13 @@
 use Rattle.std.proofs.Common.{◌+◌, drop, IsCharBoundary, refl, sym, ap, ◌∙◌, subst, arith}
-use Rattle.first_pass_lines.specs.Lines.{is_blank_line, line_len}
-use Rattle.first_pass_lines.specs.Rest.{Rest, after_columns}
-use Rattle.first_pass_lines.specs.Places.{Place, offset, moved_columns}
-use Rattle.first_pass_lines.proofs.PlaceFacts.{columns_keep, columns_line_end, columns_shorter}
+use Rattle.first_pass_grammar.proofs.Common.{is_blank_line, line_len, Rest, after_columns, Place, offset, moved_columns, columns_keep, columns_line_end}
+use Rattle.first_pass_grammar.proofs.Common.{columns_shorter}
 use Rattle.first_pass_raw.specs.RawBlocks.{after_line_at}
 use Rattle.first_pass_open.proofs.PlaceLemmas.{read_to}
 use Rattle.first_pass_ready.proofs.EnterLemmas.{blank_columns}
-use Rattle.first_pass_containers.proofs.Order.OrderSteps.{offset_later}
+use Rattle.first_pass_containers.proofs.OrderSteps.{offset_later}
 use Rattle.first_pass_names.specs.TableEntries.{names_of}
 use Rattle.first_pass_kinds.specs.declared.kinds.MarkedLeaf.TheVariants.{IndentedCode}
-use Rattle.first_pass_blocks.proofs.Leaves.LeafAdded.{found_says}
-use Rattle.first_pass_blocks.proofs.Leaves.RawFits.{indented_between}
-use Rattle.first_pass_blocks.proofs.Leaves.KindBlocks.{code_added}
+use Rattle.first_pass_blocks.proofs.Leaves.KindBlocks.{found_says, code_added, indented_between}
 use Rattle.first_pass_blocks.proofs.state.BlockPass.append_code.Goals as goal
 
 pub offset-requires : goal.offset-requires

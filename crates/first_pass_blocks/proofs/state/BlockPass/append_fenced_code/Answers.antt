@@ -4,9 +4,7 @@ use Rattle.first_pass_kinds.specs.declared.kinds.MarkedLeaf.{MarkedLeaf}
 use Rattle.first_pass_kinds.specs.declared.kinds.MarkedLeaf.TheVariants.{FencedCode}
 use Rattle.first_pass_raw.specs.declared.fenced_code.Fence.{Fence}
 use Rattle.first_pass_open.proofs.PlaceLemmas.{all_keep}
-use Rattle.first_pass_blocks.proofs.Leaves.RawFits.{fenced_between}
-use Rattle.first_pass_blocks.proofs.Leaves.KindBlocks.{fenced_added, columns_are}
-use Rattle.first_pass_blocks.proofs.Leaves.LeafAdded.{found_says, found_boundary, fence_found, leaf_added}
+use Rattle.first_pass_blocks.proofs.Leaves.KindBlocks.{fenced_between, fenced_added, columns_are, found_says, found_boundary, fence_found, leaf_added}
 use Rattle.first_pass_blocks.proofs.state.BlockPass.append_fenced_code.Goals as goal
 
 pub parse_fenced_code_block-requires : goal.parse_fenced_code_block-requires

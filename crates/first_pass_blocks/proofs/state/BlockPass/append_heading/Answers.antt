@@ -3,8 +3,7 @@ use Rattle.first_pass_names.specs.TableEntries.{names_of}
 use Rattle.first_pass_kinds.specs.declared.kinds.MarkedLeaf.{MarkedLeaf}
 use Rattle.first_pass_kinds.specs.declared.kinds.MarkedLeaf.TheVariants.{AtxHeading}
 use Rattle.first_pass_open.proofs.PlaceLemmas.{all_keep}
-use Rattle.first_pass_blocks.proofs.Leaves.KindBlocks.{heading_added, ends_here}
-use Rattle.first_pass_blocks.proofs.Leaves.LeafAdded.{found_boundary, heading_found, line_read, leaf_added}
+use Rattle.first_pass_blocks.proofs.Leaves.KindBlocks.{heading_added, ends_here, found_boundary, heading_found, line_read, leaf_added}
 use Rattle.first_pass_blocks.proofs.state.BlockPass.append_heading.Goals as goal
 
 pub parse_atx_heading-requires : goal.parse_atx_heading-requires

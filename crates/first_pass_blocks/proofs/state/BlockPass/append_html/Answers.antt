@@ -1,14 +1,10 @@
 use Rattle.std.proofs.Common.{◌≡◌, Some, drop, refl}
-use Rattle.first_pass_html.specs.Ends.{condition_of}
-use Rattle.first_pass_html.specs.Starts.{html_end}
-use Rattle.first_pass_grammar.specs.Kinds.{unindented, all_taken}
+use Rattle.first_pass_grammar.proofs.Common.{condition_of, html_end, unindented, all_taken}
 use Rattle.first_pass_names.specs.TableEntries.{names_of}
 use Rattle.first_pass_kinds.specs.declared.kinds.MarkedLeaf.{MarkedLeaf}
 use Rattle.first_pass_kinds.specs.declared.kinds.MarkedLeaf.TheVariants.{HtmlToEnd}
 use Rattle.first_pass_open.proofs.PlaceLemmas.{all_keep}
-use Rattle.first_pass_blocks.proofs.Leaves.RawFits.{to_end_between}
-use Rattle.first_pass_blocks.proofs.Leaves.KindBlocks.{html_end_added, block_stands, columns_are}
-use Rattle.first_pass_blocks.proofs.Leaves.LeafAdded.{found_says, found_boundary, leaf_added}
+use Rattle.first_pass_blocks.proofs.Leaves.KindBlocks.{to_end_between, html_end_added, block_stands, columns_are, found_says, found_boundary, leaf_added}
 use Rattle.first_pass_blocks.proofs.state.BlockPass.append_html.Goals as goal
 
 pub parse_html_block_type_1_to_5-requires : goal.parse_html_block_type_1_to_5-requires

@@ -2,9 +2,7 @@ use Rattle.std.proofs.Common.{refl}
 use Rattle.first_pass_names.specs.TableEntries.{names_of}
 use Rattle.first_pass_kinds.specs.declared.kinds.MarkedLeaf.TheVariants.{Metadata}
 use Rattle.first_pass_open.proofs.PlaceLemmas.{all_keep}
-use Rattle.first_pass_blocks.proofs.Leaves.RawFits.{metadata_between}
-use Rattle.first_pass_blocks.proofs.Leaves.KindBlocks.{metadata_added}
-use Rattle.first_pass_blocks.proofs.Leaves.LeafAdded.{found_says, found_boundary, leaf_added}
+use Rattle.first_pass_blocks.proofs.Leaves.KindBlocks.{metadata_between, metadata_added, found_says, found_boundary, leaf_added}
 use Rattle.first_pass_blocks.proofs.state.BlockPass.append_metadata.Goals as goal
 
 pub parse_metadata_block-requires : goal.parse_metadata_block-requires

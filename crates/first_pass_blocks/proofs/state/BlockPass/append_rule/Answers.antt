@@ -5,9 +5,7 @@ use Rattle.first_pass_open.specs.Between.{AddsBetween}
 use Rattle.first_pass_kinds.specs.declared.kinds.MarkedLeaf.{MarkedLeaf}
 use Rattle.first_pass_kinds.specs.declared.kinds.MarkedLeaf.TheVariants.{ThematicBreak}
 use Rattle.first_pass_open.proofs.PlaceLemmas.{all_keep, place_end}
-use Rattle.first_pass_blocks.proofs.Leaves.RuleLemmas.{rule_end}
-use Rattle.first_pass_blocks.proofs.Leaves.KindBlocks.{rule_added}
-use Rattle.first_pass_blocks.proofs.Leaves.LeafAdded.{found_says, found_boundary, line_read, leaf_added}
+use Rattle.first_pass_blocks.proofs.Leaves.KindBlocks.{rule_end, rule_added, found_says, found_boundary, line_read, leaf_added}
 use Rattle.first_pass_blocks.proofs.state.BlockPass.append_rule.Goals as goal
 
 pub parse_hrule-requires : goal.parse_hrule-requires

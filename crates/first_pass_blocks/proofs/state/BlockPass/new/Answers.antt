@@ -1,6 +1,6 @@
 use Rattle.std.proofs.Common.{length, None, false, refl, ap, ◌∙◌, arith}
+use Rattle.first_pass_grammar.proofs.Common.{with_end_at}
 use Rattle.first_pass_lists.specs.Closing.{state_with}
-use Rattle.first_pass_tree.specs.Forest.{with_end_at}
 use Rattle.first_pass_order.proofs.NamedLemmas.{first_named}
 use Rattle.first_pass_order.proofs.Nests.{first_closes}
 use Rattle.first_pass_order.proofs.OrderLemmas.{ordered_none, ordered_first}

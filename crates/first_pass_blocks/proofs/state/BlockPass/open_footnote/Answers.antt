@@ -1,5 +1,5 @@
-use Rattle.std.proofs.Common.{ℕ, ◌+◌, ◌<◌, Bool, drop, Option, IfSome, IsCharBoundary, refl, sym, ap, subst, ◌∙◌, arith}
-use Rattle.first_pass_grammar.specs.Footnotes.{footnote_at}
+use Rattle.std.proofs.Common.{ℕ, ◌+◌, ◌<◌, Bool, drop, Option, IfSome, IsCharBoundary, refl, sym, ap, subst, ◌∙◌}
+use Rattle.first_pass_grammar.proofs.Common.{footnote_at}
 use Rattle.first_pass_open.specs.declared.source.Source.{Source}
 use Rattle.first_pass_open.proofs.PlaceLemmas.{all_keep}
 use Rattle.first_pass_blocks.specs.declared.state.BlockPass.{BlockPass}
@@ -7,9 +7,9 @@ use Rattle.first_pass_containers.specs.FootnoteHeads.{IsAfterHead}
 use Rattle.first_pass_blocks.specs.OpenedFootnotes.{StaysSame}
 use Rattle.first_pass_blocks.specs.Views.{context_in}
 use Rattle.first_pass_containers.proofs.Openings.HeadLemmas.{no_mark, head_at_mark}
-use Rattle.first_pass_blocks.proofs.Openings.FootnoteFound.{IsRead, none_found, some_found, footnote_opened}
-use Rattle.first_pass_blocks.proofs.state.BlockPass.open_footnote.Goals as goal
+use Rattle.first_pass_blocks.proofs.FootnoteOpened.{IsRead, none_found, some_found, footnote_opened}
 use Rattle.first_pass_blocks.proofs.state.BlockPass.open_footnote.Goals.{In-Some-2}
+use Rattle.first_pass_blocks.proofs.state.BlockPass.open_footnote.Goals as goal
 
 pub returns-in_default : goal.returns-in_default
 returns-in_default c =
@@ -23,13 +23,6 @@ read : (c : In-Some-2)
 read c =
     subst (λ (z : Option ℕ). IfSome z (λ n. (3 < n) × IsCharBoundary c.args.self.now.source.text.now (c.in-Some.start + n))) c.in-Some-2.is
     c.in_ok-parse_footnote.ensures.within
-
-pub overflow_add-start : goal.overflow_add-start
-overflow_add-start c =
-    let r = read c in
-    let short = c.recall_length.ensures in
-    let within = r.1.0 in
-    omega arith
 
 pub returns-in-None : goal.returns-in-None
 returns-in-None c =

@@ -1,5 +1,5 @@
 use Rattle.std.proofs.Common.{ℕ, IsCharBoundary, refl, sym, subst, arith}
-use Rattle.first_pass_lines.specs.Places.{Place, line_end}
+use Rattle.first_pass_grammar.proofs.Common.{Place, line_end}
 use Rattle.first_pass_open.proofs.PlaceLemmas.{place_end}
 use Rattle.first_pass_grammar.specs.declared.kind.AfterMarker.{AfterMarker}
 use Rattle.first_pass_containers.specs.Positions.{LineAt}
@@ -7,7 +7,7 @@ use Rattle.first_pass_containers.specs.Starts.{last_at}
 use Rattle.first_pass_containers.proofs.Openings.StartLemmas.{reads_none}
 use Rattle.first_pass_blocks.specs.declared.state.BlockPass.{BlockPass}
 use Rattle.first_pass_blocks.specs.Progress.{ReadsBlock}
-use Rattle.first_pass_blocks.proofs.LineByLine.BlockRead.{passes_state, line_ended}
+use Rattle.first_pass_blocks.proofs.BlockRead.{passes_state, line_ended}
 use Rattle.first_pass_blocks.proofs.state.BlockPass.parse_after_marker.Goals as goal
 
 pub parse_tagged-requires-clause-boundary : goal.parse_tagged-requires-clause-boundary

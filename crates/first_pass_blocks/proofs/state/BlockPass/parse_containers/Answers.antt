@@ -1,10 +1,7 @@
-use Rattle.std.proofs.Common.{◌≡◌, ℕ, ◌<◌, Bool, true, false, length, Option, Some, None, MatchOption, IsSomeAnd, IsUtf8, IsCharBoundary, refl, sym, ap, subst, ◌∙◌, arith}
-use Rattle.first_pass_lines.specs.Places.{Place, offset, line_end, IsPlaceOf}
-use Rattle.first_pass_lines.proofs.PlaceFacts.{place_length}
-use Rattle.first_pass_tree.specs.Forest.{IsForest, in_table}
-use Rattle.first_pass_grammar.specs.Containers.{at_rest}
-use Rattle.first_pass_grammar.specs.Footnotes.{footnote_head_at}
-use Rattle.first_pass_grammar.specs.Openers.{Start as ContainerStart, start_at}
+use Rattle.std.proofs.Common.{◌≡◌, ℕ, ◌<◌, Bool, true, false, length, Option, Some, None, MatchOption, IsSomeAnd, IsUtf8, IsCharBoundary, refl, sym, ap}
+use Rattle.std.proofs.Common.{subst, ◌∙◌, arith}
+use Rattle.first_pass_grammar.proofs.Common.{Place, offset, line_end, IsPlaceOf, place_length, IsForest, in_table, at_rest, footnote_head_at, start_at}
+use Rattle.first_pass_grammar.specs.Openers.{Start as ContainerStart}
 use Rattle.first_pass_open.specs.Path.{context_of}
 use Rattle.first_pass_open.specs.declared.source.Source.{Source}
 use Rattle.first_pass_kinds.specs.declared.next_front.NextFront.{NextFront}
@@ -19,22 +16,34 @@ use Rattle.first_pass_blocks.specs.Titles.{ReadsTextOrTitle}
 use Rattle.first_pass_containers.specs.Positions.{Position, InLine, LeafAt, IsNotBefore, ReadsTo, may_define}
 use Rattle.first_pass_containers.specs.Starts.{StartMatches, start_opened, after_at, last_at, IsAfterMarker, FinishesNothing, BeginsNoContainer}
 use Rattle.first_pass_blocks.specs.Views.{state_of, source_of, tree_of, source_options, source_text}
-use Rattle.first_pass_blocks.proofs.Leaves.TextsRead.{IsAtPlain, plain_leaf, text_in_opened}
-use Rattle.first_pass_blocks.proofs.LineByLine.BlockRead.{passes_state, passes_both, entered_read, state_at, ReachesPlace, place_reached, reached_start, reached_still, same_parts, leaf_reached}
-use Rattle.first_pass_containers.proofs.Openings.JustOpened.{start_just_opened}
-use Rattle.first_pass_containers.proofs.Openings.NoContainer.{only_leaf, plain_begins_none}
-use Rattle.first_pass_containers.proofs.Openings.StartLemmas.{start_opens, no_start, opened_start}
-use Rattle.first_pass_containers.proofs.Openings.StartFound.{start_found, start_missing}
+use Rattle.first_pass_blocks.proofs.Leaves.TextLemmas.{IsAtPlain, plain_leaf, new_text}
+use Rattle.first_pass_blocks.proofs.BlockRead.{passes_state, passes_both, entered_read, state_at, ReachesPlace, place_reached, reached_start, reached_still}
+use Rattle.first_pass_blocks.proofs.BlockRead.{same_parts, leaf_reached}
+use Rattle.first_pass_containers.proofs.Openings.StartLemmas.{start_just_opened, no_start, opened_start, not_after_definition, finishes_none}
+use Rattle.first_pass_containers.proofs.Openings.Indented.{only_leaf, plain_begins_none, start_found, start_missing}
+use Rattle.first_pass_blocks.proofs.state.BlockPass.parse_containers.Goals.{Then-not-branch, In_ok-open_start, Joined-not-branch, in-OnLine}
+use Rattle.first_pass_blocks.proofs.state.BlockPass.parse_containers.Goals.{in_default-matches, then-not-branch+in-Some+in_ok-open_start+else-not-matches}
+use Rattle.first_pass_blocks.proofs.state.BlockPass.parse_containers.Goals.{else-not-branch}
 use Rattle.first_pass_blocks.proofs.state.BlockPass.parse_containers.Goals as goal
-use Rattle.first_pass_blocks.proofs.state.BlockPass.parse_containers.Goals.{Then-not-branch, In_ok-open_start, Joined-not-branch, in-OnLine, in_default-matches, then-not-branch+in-Some+in_ok-open_start+else-not-matches, else-not-branch}
 
 pub loop-place-init : goal.loop-place-init
 loop-place-init c = reached_still (reached_start c.requires) (same_parts c.args.self.now)
+
+-- whether a definition may begin at a place, from the results of the calls
+abbrev may_in : Source → BlockPass → Bool
+may_in over pass = may_define over.options (tree_of pass)
+
+-- what the search for a container returns
+abbrev IsSearched : Source → Bool → Place → Place → Option Start → Type 0
+IsSearched over may p new r =
+    MatchOption (start_at over.options may p) ((r ≡ None) × (new ≡ p)) (λ s. IsSomeAnd r (StartMatches s) × (new ≡ at_rest p s.rest))
 
 -- no footnote definition begins at the place, and the search for another container begins
 record IsTried (first : Place) (old mid : BlockPass) (p : Place) : Type 0 where
   reached : ReachesPlace first old mid p
   bare : in_table (tree_of mid).nodes (tree_of mid).spine ≡ false → footnote_head_at (context_of (source_options old) (tree_of mid)) p ≡ None
+  searched : (may : Bool) (new : Place) (r : Option Start) → may ≡ may_in (source_of mid) mid → IsSearched (source_of mid) may p new r
+      → IsSearched (source_of old) (may_in (source_of old) mid) p new r
 
 tried : (first : Place) (old now mid : BlockPass) (p q : Place) (t : Bool) → t ≡ false → ReachesPlace first old now p → TriesFootnote now mid p q t
     → IsTried first old mid q
@@ -43,13 +52,16 @@ tried first old now mid p q t is r tries =
     let no = subst (TriesFootnote now mid p q) is tries in
     let same : StaysSame now mid = no.0 in
     let at : q ≡ p = no.1 in
+    let reached : ReachesPlace first old mid q = rw at (reached_still r same) in
     record {
-      reached = subst (ReachesPlace first old mid) (sym at) (reached_still r same);
+      reached = reached;
       bare = λ no_table.
           ap (footnote_head_at (context_of over.options (tree_of mid))) at
           ∙ ap (λ (s : PassState). footnote_head_at (context_of over.options s.tree) p) same.1
-          ∙ ap (λ (z : Source). footnote_head_at (context_of z.options (tree_of now)) p) (sym r.opened.source)
+          ∙ ap (λ (z : Source). footnote_head_at (context_of z.options (tree_of now)) p) (sym r.opened.kept.source)
           ∙ no.2 (ap (λ (s : PassState). in_table s.tree.nodes s.tree.spine) (sym same.1) ∙ no_table);
+      searched = λ may new r is says. subst (λ (z : Source). IsSearched z (may_in z mid) q new r) reached.opened.kept.source
+          (subst (λ (t : Bool). IsSearched (source_of mid) t q new r) is says);
     }
 
 -- one more container is open at the place, and less of its line is left
@@ -62,14 +74,14 @@ opens_note : (first : Place) (old now mid : BlockPass) (p q : Place) (t : Bool) 
     → IsNested first old mid p q
 opens_note first old now mid p q t is r tries =
     let yes = subst (TriesFootnote now mid p q) is tries in
-    let from = subst (λ (z : Source). IsNotBefore z.text.now p q) r.opened.source yes.0 in
+    let from = subst (λ (z : Source). IsNotBefore z.text.now p q) r.opened.kept.source yes.0 in
     let low = r.here.1 in
     let later = r.here.2 in
     let far = r.here.3 in
     let line = from.1 in
     let on = from.2 in
     let stop = from.3 in
-    let steps = subst (λ (z : Source). PassesTo z first.line now mid (InLine p) (InLine q)) r.opened.source (yes.4 first.line low) in
+    let steps = subst (λ (z : Source). PassesTo z first.line now mid (InLine p) (InLine q)) r.opened.kept.source (yes.4 first.line low) in
     record {
       reached = record {
         no_empty = yes.3.none;
@@ -87,28 +99,11 @@ at_place c =
     tried c.args.place c.args.self.now c.loop-place.self c.open_footnote.new.self c.loop-place.place c.open_footnote.new.place
     c.in_ok-open_footnote.field-0 c.if-not-branch.true c.loop-place.invariant c.in_ok-open_footnote.ensures
 
--- whether a definition may begin at a place, from the results of the calls
-abbrev may_in : Source → BlockPass → Bool
-may_in over pass = may_define over.options (tree_of pass)
-
--- what the search for a container returns
-abbrev IsSearched : Source → Bool → Place → Place → Option Start → Type 0
-IsSearched over may p new r =
-    MatchOption (start_at over.options may p) ((r ≡ None) × (new ≡ p)) (λ s. IsSomeAnd r (StartMatches s) × (new ≡ at_rest p s.rest))
-
-searched : (over : Source) (now : BlockPass) (may : Bool) (p new : Place) (r : Option Start) → source_of now ≡ over → may ≡ may_in (source_of now) now
-    → IsSearched (source_of now) may p new r → IsSearched over (may_in over now) p new r
-searched over now may p new r same is says =
-    subst (λ (z : Source). IsSearched z (may_in z now) p new r) same (subst (λ (t : Bool). IsSearched (source_of now) t p new r) is says)
-
 pub parse_leaf_by_kind-requires : goal.parse_leaf_by_kind-requires
 parse_leaf_by_kind-requires c =
-    let p : Place = c.open_footnote.new.place in
     let i = at_place (goal.at.parse_leaf_by_kind-requires c).Then-not-branch in
-    let r = i.reached in
-    let a = start_missing _ _ p c.start_at.new.place c.in_default.is (searched c.args.self.now.source c.open_footnote.new.self
-    c.may_define-may_define.result p c.start_at.new.place c.start_at.result r.opened.source c.may_define-may_define.ensures c.start_at.ensures) in
-    place_reached c.requires.utf8 (reached_still (subst (ReachesPlace c.args.place c.args.self.now c.open_footnote.new.self) (sym a.1) r)
+    let a = start_missing _ _ _ c.start_at.new.place c.in_default.is (i.searched _ _ _ c.may_define-may_define.ensures c.start_at.ensures) in
+    place_reached c.requires.utf8 (reached_still (subst (ReachesPlace c.args.place c.args.self.now c.open_footnote.new.self) (sym a.1) i.reached)
     (same_parts c.open_footnote.new.self))
 
 -- no container begins there
@@ -117,35 +112,18 @@ returns-in_default-clause-block c =
     let over = c.args.self.now.source in
     let first : Place = c.args.place in
     let mid : BlockPass = c.open_footnote.new.self in
-    let p : Place = c.open_footnote.new.place in
     let i = at_place (goal.at.returns-in_default-clause-block c).Then-not-branch in
     let r = i.reached in
-    let a = start_missing _ _ p c.start_at.new.place c.in_default.is (searched over mid c.may_define-may_define.result p c.start_at.new.place
-    c.start_at.result r.opened.source c.may_define-may_define.ensures c.start_at.ensures) in
+    let a = start_missing _ _ _ c.start_at.new.place c.in_default.is (i.searched _ _ _ c.may_define-may_define.ensures c.start_at.ensures) in
     leaf_reached (reached_still (subst (ReachesPlace first c.args.self.now mid) (sym a.1) r) (same_parts mid))
     (subst (λ (q : Place). ReadsTo over first.line mid.state mid.state (InLine q) (LeafAt q)) (sym a.1)
-    (no_start over mid.state p c.requires.utf8 r.here.0 c.recall_forest.ensures r.no_empty first.line r.here.1 i.bare a.0))
+    (no_start over mid.state c.open_footnote.new.place c.requires.utf8 r.here.0 c.recall_forest.ensures r.no_empty first.line r.here.1 i.bare a.0))
     c.in_ok-next.ensures.block
 
 -- a container begins
 abbrev IsFound : Source → BlockPass → Place → Place → Start → Type 0
 IsFound over now p new told =
     (s : ContainerStart) × (start_at over.options (may_in over now) p ≡ Some s) × StartMatches s told × (new ≡ at_rest p s.rest)
-
-pub open_start-requires : goal.open_start-requires
-open_start-requires c =
-    let over = c.args.self.now.source in
-    let first : Place = c.args.place in
-    let p : Place = c.open_footnote.new.place in
-    let new : Place = c.start_at.new.place in
-    let i = at_place (goal.at.open_start-requires c).Then-not-branch in
-    let r = i.reached in
-    let f = start_found _ _ c.in-Some.start p new c.in-Some.is (searched over c.open_footnote.new.self c.may_define-may_define.result p new
-    c.start_at.result r.opened.source c.may_define-may_define.ensures c.start_at.ensures) in
-    let opens = start_opens over c.open_footnote.new.self.state p c.requires.utf8 r.here.0 c.recall_forest.ensures r.no_empty first.line r.here.1 i.bare
-    f.0 f.1 in
-    subst (λ (z : Source). IsPlaceOf z.text.now new) (sym r.opened.source)
-    (subst (λ (q : Place). IsPlaceOf over.text.now q) (sym f.3) opens.2.0)
 
 -- a container is open whose marker ends at the place
 record IsBegun (over : Source) (first : Place) (mid : BlockPass) (p new : Place) (after : AfterMarker) (q : PassState) : Type 0 where
@@ -176,6 +154,15 @@ begun first old mid p new told q utf8 forest i f opened =
       reads = subst (λ (e : ℕ). ReadsTo over first.line (state_of mid) q (InLine p) (after_at new e told.after)) (sym stop) s.3;
     }
 
+pub open_start-requires : goal.open_start-requires
+open_start-requires c =
+    let p : Place = c.open_footnote.new.place in
+    let new : Place = c.start_at.new.place in
+    let i = at_place (goal.at.open_start-requires c).Then-not-branch in
+    let s = begun c.args.place c.args.self.now c.open_footnote.new.self p new c.in-Some.start _ c.requires.utf8 c.recall_forest.ensures i
+    (start_found _ _ c.in-Some.start p new c.in-Some.is (i.searched _ new _ c.may_define-may_define.ensures c.start_at.ensures)) refl in
+    subst (λ (z : Source). IsPlaceOf z.text.now new) (sym i.reached.opened.kept.source) s.here.0
+
 -- a marker after which the line ends is the last
 last_is : (p : Place) (e : ℕ) (a : AfterMarker) → (a ≡ OnLine → ⊥) → after_at p e a ≡ last_at p e a
 last_is p e OnLine other = absurd (other refl)
@@ -191,8 +178,7 @@ at_marker c i =
     let p : Place = c.open_footnote.new.place in
     begun c.args.place c.args.self.now c.open_footnote.new.self p c.start_at.new.place c.in-Some.start c.open_start.new.state c.requires.utf8
     c.recall_forest.ensures i
-    (start_found _ _ c.in-Some.start p c.start_at.new.place c.in-Some.is (searched c.args.self.now.source c.open_footnote.new.self
-    c.may_define-may_define.result p c.start_at.new.place c.start_at.result i.reached.opened.source c.may_define-may_define.ensures c.start_at.ensures))
+    (start_found _ _ c.in-Some.start p c.start_at.new.place c.in-Some.is (i.searched _ _ _ c.may_define-may_define.ensures c.start_at.ensures))
     c.in_ok-open_start.ensures
 
 pub parse_after_marker-requires : goal.parse_after_marker-requires
@@ -201,8 +187,8 @@ parse_after_marker-requires c =
     let r = (at_place at.Then-not-branch).reached in
     let s = at_marker at.In_ok-open_start (at_place at.Then-not-branch) in
     record {
-      utf8 = subst (λ (z : Source). IsUtf8 z.text.now) (sym r.opened.source) c.requires.utf8;
-      place = subst (λ (z : Source). IsPlaceOf z.text.now c.start_at.new.place) (sym r.opened.source) s.here.0;
+      utf8 = subst (λ (z : Source). IsUtf8 z.text.now) (sym r.opened.kept.source) c.requires.utf8;
+      place = subst (λ (z : Source). IsPlaceOf z.text.now c.start_at.new.place) (sym r.opened.kept.source) s.here.0;
       after = s.stands;
       none = r.none;
     }
@@ -247,8 +233,7 @@ nested c =
           let new : Place = w.start_at.new.place in
           let no = subst (TriesFootnote now mid here p) w.if-not-branch.true tries in
           let i = tried first old now mid here p _ w.if-not-branch.true r tries in
-          let f = start_found _ _ w.in-Some.start p new w.in-Some.is (searched over mid w.may_define-may_define.result p new w.start_at.result
-          i.reached.opened.source w.may_define-may_define.ensures w.start_at.ensures) in
+          let f = start_found _ _ w.in-Some.start p new w.in-Some.is (i.searched _ _ _ w.may_define-may_define.ensures w.start_at.ensures) in
           let s = begun first old mid p new w.in-Some.start w.open_start.new.state c.requires.utf8 w.recall_forest.ensures i f w.in_ok-open_start.ensures in
           let on : w.in-Some.start.after ≡ OnLine = elim w.match-matches.branch [
             | in-OnLine v ↦ v.in-OnLine.is
@@ -304,7 +289,8 @@ returns-then-is_at_plain-clause-block c =
     let plain = subst IsAtPlain c.place-in-loop-place.view_is
     (c.is_at_plain.ensures.owed c.if-is_at_plain.true, c.is_at_plain.ensures.plain c.if-is_at_plain.true) in
     let text : ReadsTextOrTitle mid new (offset p) next = subst (λ (at : ℕ). ReadsTextOrTitle mid new at next) c.offset.ensures
-    (text_in_opened mid new c.offset.result next n.just e.source e.more e.block (e.fits tt) e.state) in
+    (new_text mid new mid.state c.offset.result next (not_after_definition mid.state n.just) (sym (finishes_none c.offset.result mid.state n.just)) e.source
+    e.more e.block (e.fits tt) e.state) in
     leaf_reached n.reached (only_leaf old.source mid.state p first.line (plain_begins_none p.rest plain.0 plain.1))
     (plain_leaf mid new p next (state_at (place_reached c.requires.utf8 n.reached) c.recall_forest-in-loop-place.ensures) plain text)
 

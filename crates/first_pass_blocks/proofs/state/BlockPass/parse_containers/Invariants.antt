@@ -1,5 +1,5 @@
 use Rattle.std.proofs.Common.{length}
-use Rattle.first_pass_blocks.proofs.LineByLine.BlockRead.{ReachesPlace}
+use Rattle.first_pass_blocks.proofs.BlockRead.{ReachesPlace}
 use Rattle.first_pass_blocks.proofs.state.BlockPass.parse_containers.Given as goal
 
 -- the containers that begin before this place are open

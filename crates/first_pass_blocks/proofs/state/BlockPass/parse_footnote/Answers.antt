@@ -1,7 +1,5 @@
 use Rattle.std.proofs.Common.{◌≡◌, ℕ, ◌+◌, ◌<◌, drop, Option, IfSome, IsUtf8, IsCharBoundary, ap, subst, ◌∙◌, arith}
-use Rattle.std.specs.List.{prefix_len}
-use Rattle.first_pass_items.specs.declared.cow_str.CowStr.{CowStr}
-use Rattle.first_pass_lines.specs.Lines.{is_white}
+use Rattle.first_pass_grammar.proofs.Common.{prefix_len, CowStr, is_white}
 use Rattle.first_pass_definitions.proofs.Spaces.{white_past}
 use Rattle.first_pass_blocks.proofs.state.BlockPass.parse_footnote.Goals as goal
 

@@ -1,35 +1,25 @@
 use Rattle.std.proofs.Common.{◌≡◌, ◌≤◌, inl, length, IsCharBoundary, refl, sym, ap, subst, ◌∙◌, arith}
-use Rattle.first_pass_tree.specs.Forest.{IsForest}
-use Rattle.first_pass_lines.specs.Places.{Place, offset, line_end}
-use Rattle.first_pass_grammar.specs.Kinds.{unindented, IsKind}
-use Rattle.first_pass_grammar.specs.Leaves.{document}
-use Rattle.first_pass_grammar.specs.Completion.{lines_from}
+use Rattle.first_pass_grammar.proofs.Common.{IsForest, Place, offset, line_end, unindented, IsKind, document, lines_from}
 use Rattle.first_pass_names.specs.TableEntries.{names_of, tables_of}
 use Rattle.first_pass_names.proofs.NameLemmas.{extends_none}
 use Rattle.first_pass_open.proofs.PlaceLemmas.{all_keep, place_end}
-use Rattle.first_pass_lists.specs.Closing.{list_finished, blank_read, with_tree}
+use Rattle.first_pass_lists.specs.Closing.{list_finished, with_tree}
 use Rattle.first_pass_lists.specs.declared.state.PassState.{PassState}
 use Rattle.first_pass_open.specs.Between.{line_end_at}
 use Rattle.first_pass_kinds.specs.BlockStart.{IsFoundAt, kind_of, marked_kind}
 use Rattle.first_pass_kinds.specs.declared.kinds.MarkedLeaf.{MarkedLeaf}
 use Rattle.first_pass_kinds.proofs.KindLemmas.{Says, kind_says}
-use Rattle.first_pass_order.specs.Ordered.{IsReadTo}
 use Rattle.first_pass_containers.specs.Positions.{line_or}
-use Rattle.first_pass_ready.specs.State.{Ready}
 use Rattle.first_pass_order.proofs.CountLemmas.{count, blank_count}
-use Rattle.first_pass_containers.proofs.LineByLine.EnteredLines.{list_finished_blank}
-use Rattle.first_pass_blocks.proofs.Leaves.HtmlRead.{html_read}
-use Rattle.first_pass_blocks.proofs.Leaves.KindBlocks.{marked_leaf, block_stands, columns_are, AddsHtml}
-use Rattle.first_pass_blocks.proofs.Leaves.LeafAdded.{found_boundary}
+use Rattle.first_pass_containers.proofs.OrderSteps.{list_finished_blank, line_or-below, place_before_end}
+use Rattle.first_pass_blocks.proofs.Leaves.KindBlocks.{html_read, leaf_read, marked_leaf, block_stands, columns_are, AddsHtml, found_boundary}
 use Rattle.first_pass_containers.proofs.Leaves.LeafLemmas.{ready_blank_leaf, line_end_of}
-use Rattle.first_pass_blocks.proofs.Leaves.LeafRead.{leaf_read}
 use Rattle.first_pass_lists.proofs.NoEmptyItem.{list_finished_none}
-use Rattle.first_pass_order.proofs.NamedLemmas.{AreReadNamed, blank_named}
+use Rattle.first_pass_order.proofs.NamedLemmas.{blank_named}
 use Rattle.first_pass_order.proofs.OrderLemmas.{ordered_none}
 use Rattle.first_pass_order.proofs.PopOrder.{read_blank_read}
-use Rattle.first_pass_containers.proofs.Order.OrderSteps.{line_or-below, place_before_end}
-use Rattle.first_pass_order.proofs.WholeKept.{IsReadWhole, blank_whole}
-use Rattle.first_pass_blocks.proofs.LineByLine.BlockRead.{state_at}
+use Rattle.first_pass_order.proofs.WholeKept.{blank_whole}
+use Rattle.first_pass_blocks.proofs.BlockRead.{state_at}
 use Rattle.first_pass_blocks.proofs.state.BlockPass.parse_kind.Goals as goal
 
 pub next_line-requires : goal.next_line-requires
@@ -57,20 +47,20 @@ returns-in-Blank-clause-block c =
     let same = ap count c.read_blank_line.ensures in
     let unchanged = blank_count old in
     record {
-      source = refl;
-      names = extends_none _;
+      kept = record {
+        source = refl;
+        names = extends_none _;
+        named = λ h. rw c.read_blank_line.ensures (blank_named (names_of self.allocs) old h);
+        written = λ h. h;
+        tables = λ h k. rw c.read_blank_line.ensures (blank_whole (names_of self.allocs) old k);
+      };
       later = omega arith;
       boundary = last;
-      ready = λ names more ready. let d = document text self.source.options names in
-          subst (λ q. Ready d (tables_of self.allocs) q (lines_from text next)) (sym c.read_blank_line.ensures)
-          (subst (λ n. Ready d (tables_of self.allocs) (blank_read old) (lines_from text n)) (sym ends)
-          (ready_blank_leaf d (tables_of self.allocs) old p (lines_from text (line_end p))
-          (subst (IsKind self.source.options p.rest) (ap kind_of c.in-Blank.is) c.requires.found.kind) c.requires.here.no_empty ready));
-      named = λ h. subst (AreReadNamed (names_of self.allocs)) (sym c.read_blank_line.ensures) (blank_named (names_of self.allocs) old h);
-      written = λ h. h;
-      order = λ o. inl (subst (λ (q : PassState). IsReadTo text q next) (sym c.read_blank_line.ensures)
+      ready = λ names more ready. rw (c.read_blank_line.ensures, ends)
+          (ready_blank_leaf (document text self.source.options names) (tables_of self.allocs) old p (lines_from text (line_end p))
+          (subst (IsKind self.source.options p.rest) (ap kind_of c.in-Blank.is) c.requires.found.kind) c.requires.here.no_empty ready);
+      order = λ o. inl (rw c.read_blank_line.ensures
           (read_blank_read text old from next (omega arith) high (ordered_none text old from c.requires.here.no_empty (omega arith) o.1.0, o.1.1)));
-      tables = λ h k. subst (IsReadWhole (names_of self.allocs)) (sym c.read_blank_line.ensures) (blank_whole (names_of self.allocs) old k);
       node_bound = omega arith;
     }
 

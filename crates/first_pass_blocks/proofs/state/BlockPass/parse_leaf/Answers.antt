@@ -1,18 +1,9 @@
-use Rattle.std.proofs.Common.{IsCharBoundary, sym, subst, arith, ℕ}
+use Rattle.std.proofs.Common.{subst, ℕ}
 use Rattle.first_pass_blocks.specs.declared.state.BlockPass.{BlockPass}
 use Rattle.first_pass_blocks.specs.Titles.{ReadsTextOrTitle}
-use Rattle.first_pass_blocks.proofs.LineByLine.BlockRead.{state_at}
-use Rattle.first_pass_blocks.proofs.Leaves.TextsRead.{IsAtPlain, plain_leaf}
+use Rattle.first_pass_blocks.proofs.BlockRead.{state_at}
+use Rattle.first_pass_blocks.proofs.Leaves.TextLemmas.{IsAtPlain, plain_leaf}
 use Rattle.first_pass_blocks.proofs.state.BlockPass.parse_leaf.Goals as goal
-
-pub offset-requires : goal.offset-requires
-offset-requires c =
-    let i = c.requires.place in
-    let short = c.recall_length.ensures in
-    omega (arith, i.within)
-
-pub parse_text_or_title-requires : goal.parse_text_or_title-requires
-parse_text_or_title-requires c = subst (IsCharBoundary c.args.self.now.source.text.now) (sym c.offset.ensures) c.requires.place.boundary
 
 pub returns-then-is_at_plain-clause-block : goal.returns-then-is_at_plain-clause-block
 returns-then-is_at_plain-clause-block c =

@@ -1,24 +1,17 @@
-use Rattle.std.proofs.Common.{◌≡◌, inl, ℕ, Some, refl, IsCharBoundary, sym, ap, subst, ◌∙◌, arith}
-use Rattle.first_pass_grammar.specs.Kinds.{all_taken, unindented}
-use Rattle.first_pass_grammar.specs.Leaves.{document}
-use Rattle.first_pass_grammar.specs.Completion.{lines_from}
-use Rattle.first_pass_open.specs.Between.{line_end_at, AddsBetween, MarkerBetween}
+use Rattle.std.proofs.Common.{◌≡◌, inl, ℕ, Some, refl, IsCharBoundary, sym, ap, subst, arith}
+use Rattle.first_pass_grammar.proofs.Common.{all_taken, unindented, document, offset}
+use Rattle.first_pass_open.specs.Between.{AddsBetween, MarkerBetween}
 use Rattle.first_pass_lists.specs.Closing.{with_tree}
 use Rattle.first_pass_lists.specs.declared.state.PassState.{PassState}
-use Rattle.first_pass_order.specs.Ordered.{IsReadTo}
-use Rattle.first_pass_ready.specs.State.{Ready}
 use Rattle.first_pass_open.proofs.PlaceLemmas.{all_keep, read_to}
 use Rattle.first_pass_order.proofs.CountLemmas.{block_count}
-use Rattle.first_pass_containers.proofs.Order.OrderSteps.{ordered_text, unindented_later}
-use Rattle.first_pass_lines.specs.Places.{offset}
+use Rattle.first_pass_containers.proofs.OrderSteps.{read_block, unindented_later}
 use Rattle.first_pass_names.specs.TableEntries.{tables_of, tables_in, names_of}
-use Rattle.first_pass_blocks.proofs.LinkDefinitions.WrittenLemmas.{written_stay}
-use Rattle.first_pass_names.proofs.NameLemmas.{extends_none}
-use Rattle.first_pass_grammar.proofs.Names.TextsNamed.{text_named}
-use Rattle.first_pass_order.proofs.NamedLemmas.{block_added, task_is_no_text, task_has_none}
-use Rattle.first_pass_order.proofs.WholeKept.{task_shows, kept_of, block_whole, added_text_whole}
-use Rattle.first_pass_containers.proofs.Leaves.FirstItems.{text_silent_first}
+use Rattle.first_pass_blocks.proofs.LinkDefinitions.{written_stay}
+use Rattle.first_pass_order.proofs.NamedLemmas.{task_is_no_text}
 use Rattle.first_pass_containers.proofs.Leaves.LeafLemmas.{line_end_of, ready_text}
+use Rattle.first_pass_containers.specs.TextsAdded.{AddsText}
+use Rattle.first_pass_blocks.proofs.Leaves.TextLemmas.{text_kept}
 use Rattle.first_pass_blocks.proofs.state.BlockPass.parse_task_text.Goals as goal
 
 pub offset-requires : goal.offset-requires
@@ -56,32 +49,28 @@ returns-clause-block c =
     let none = c.requires.after.1 in
     let i = all_keep text p.line p.rest c.requires.utf8 c.requires.place in
     let there = read_to all_taken _ p _ _ c.offset.ensures c.scan_indentation.ensures.rest c.place.view_is in
+    let block = subst (λ n. AddsText (document text options now) n (Some c.args.marker) old.tree tree next) there e.block in
+    let kept = text_kept (document text options now) (names_of self.allocs) old.tree tree (unindented p) (Some c.args.marker) next block i
+    mark e.more.names in
     let low = unindented_later text p.line p.rest c.requires.utf8 c.requires.place in
-    let ends = ap (line_end_at text) there ∙ line_end_of text p i in
-    let later = e.block.later in
+    let ends = line_end_of text p i in
+    let later = block.later in
     let fits : (from : ℕ) → MarkerBetween text from (offset p) (Some c.args.marker) → AddsBetween text from next old.tree tree =
     λ from stands. let b = stands.1 in let before = b.before in
     e.fits c.requires.after.2 from (stands.0, record { following = b.following; order = b.order; before = omega arith; starts = b.starts; ends = b.ends }) in
     record {
-      source = c.parse_text.ensures.source;
-      names = e.more.names;
+      kept = record {
+        source = c.parse_text.ensures.source;
+        names = e.more.names;
+        named = kept.0;
+        written = written_stay text self.allocs c.parse_text.new.self.allocs e.more.entries;
+        tables = kept.1;
+      };
       later = omega arith;
-      boundary = e.block.boundary;
-      ready = λ names more ready. let d = document text options names in
-          subst (λ (r : PassState). Ready d (tables_of c.parse_text.new.self.allocs) r (lines_from text next)) (sym is)
-          (subst (λ z. Ready d z new (lines_from text next)) (sym (ap tables_in e.more.entries))
-          (ready_text d (tables_of self.allocs) old new p next c.args.marker e.block.items mark (e.block.is_text names more (unindented p) i (sym there))
-          (record { tree_is = e.block.tree_is; none = none; blank = refl }) ready));
-      named = λ h. block_added now (names_of self.allocs) old.tree tree e.block.items e.more.names e.block.tree_is
-          (text_named (document text options now) _ (unindented p) (Some c.args.marker) _ _ (task_has_none c.args.marker.body mark)
-          (e.block.is_text now (extends_none now) (unindented p) i (sym there))) h;
-      written = written_stay text self.allocs c.parse_text.new.self.allocs e.more.entries;
-      order = λ o. inl (subst (λ (r : PassState). IsReadTo text r next) (sym is)
-          (ordered_text text old.tree new c.args.marker (offset p) next fits e.block.boundary.0 none o));
-      tables = λ h k. block_whole now (names_of self.allocs) old.tree tree e.block.items e.more.names e.block.tree_is
-          (added_text_whole (document text options now) _ (unindented p) (Some c.args.marker) _ _ i (task_shows c.args.marker.body mark)
-          (e.block.is_text now (extends_none now) (unindented p) i (sym there)))
-          (text_silent_first (document text options now) _ (unindented p) (Some c.args.marker) _ _ (task_shows c.args.marker.body mark)
-          (e.block.is_text now (extends_none now) (unindented p) i (sym there))) h (kept_of (names_of self.allocs) old.tree k);
+      boundary = block.boundary;
+      ready = λ names more ready. rw (is, ap tables_in e.more.entries)
+          (ready_text (document text options names) (tables_of self.allocs) old new p next c.args.marker block.items mark
+          (block.is_text names more (unindented p) i refl) (record { tree_is = block.tree_is; none = none; blank = refl }) ready);
+      order = λ o. inl (rw is (read_block text old.tree new o.from next o.nested o.plain (fits o.from o.stands) block.boundary.0 none o.ordered));
       node_bound = λ from stands apart. block_count text from next old.tree tree (fits from stands) apart;
     }

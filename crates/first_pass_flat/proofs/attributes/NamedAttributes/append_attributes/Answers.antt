@@ -1,6 +1,5 @@
 use Rattle.std.proofs.Common.{map, subst}
-use Rattle.std.proofs.lemmas.Result.{on_ok_weaker}
-use Rattle.first_pass_attributes.specs.Attributes.{pair_in}
+use Rattle.first_pass_grammar.proofs.Common.{on_ok_weaker, pair_in}
 use Rattle.first_pass_flat.specs.FlatAttributes.{class_attribute, key_attribute}
 use Rattle.first_pass_flat.specs.Appended.{AppendsAttributes}
 use Rattle.first_pass_flat.proofs.Appending.{attributes_more}

@@ -1,6 +1,6 @@
-use Rattle.std.proofs.Common.{subst, sym, unwrap_or}
-use Rattle.std.specs.Option.{option_map}
-use Rattle.first_pass_attributes.specs.Attributes.{attributes_in, no_attributes}
+use Rattle.std.proofs.Common.{subst, sym, unwrap_or, option_map}
+use Rattle.first_pass_grammar.proofs.Common.{no_attributes}
+use Rattle.first_pass_attributes.specs.Attributes.{attributes_in}
 use Rattle.first_pass_flat.specs.FlatAttributes.{listed}
 use Rattle.first_pass_flat.specs.Appended.{AppendsAttributes}
 use Rattle.first_pass_flat.proofs.Appending.{attributes_none}

@@ -1,5 +1,4 @@
-use Rattle.std.proofs.Common.{subst, sym}
-use Rattle.std.specs.Option.{option_map}
+use Rattle.std.proofs.Common.{subst, sym, option_map}
 use Rattle.first_pass_flat.specs.FlatAttributes.{id_attributes}
 use Rattle.first_pass_flat.specs.Appended.{AppendsAttributes}
 use Rattle.first_pass_flat.proofs.Appending.{attributes_none}

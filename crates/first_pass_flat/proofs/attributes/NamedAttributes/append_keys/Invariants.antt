@@ -1,5 +1,5 @@
 use Rattle.std.proofs.Common.{take, map}
-use Rattle.first_pass_attributes.specs.Attributes.{pair_in}
+use Rattle.first_pass_grammar.proofs.Common.{pair_in}
 use Rattle.first_pass_flat.specs.FlatAttributes.{key_attribute}
 use Rattle.first_pass_flat.specs.Appended.{AppendsAttributes}
 use Rattle.first_pass_flat.proofs.attributes.NamedAttributes.append_keys.Given as goal

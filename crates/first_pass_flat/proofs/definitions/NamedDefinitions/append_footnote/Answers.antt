@@ -1,6 +1,5 @@
-use Rattle.std.proofs.Common.{[], sym, refl, ◌∙◌}
-use Rattle.std.proofs.lemmas.List.{append-nil}
-use Rattle.first_pass_items.specs.CowText.{text_of}
+use Rattle.std.proofs.Common.{[], sym, refl, ◌∙◌, append-nil}
+use Rattle.first_pass_grammar.proofs.Common.{text_of}
 use Rattle.first_pass_flat.specs.FlatDefinitions.{label_entry}
 use Rattle.first_pass_flat.specs.declared.names.NameRange.{NameRange}
 use Rattle.first_pass_flat.proofs.Appending.{TextAppended, definition_appended, text_appended}

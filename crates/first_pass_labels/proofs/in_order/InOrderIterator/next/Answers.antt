@@ -1,5 +1,4 @@
-use Rattle.std.proofs.Common.{sym, ap, length, ◌∙◌, arith}
-use Rattle.std.specs.Option.{option_copied}
+use Rattle.std.proofs.Common.{sym, ap, length, ◌∙◌, arith, option_copied}
 use Rattle.first_pass_labels.specs.LabelTables.{table_of, after_label}
 use Rattle.first_pass_labels.proofs.PlaceLemmas.{named, no_first, order_left, order_step, table_step}
 use Rattle.first_pass_labels.proofs.in_order.InOrderIterator.next.Goals as goal

@@ -1,6 +1,5 @@
-use Rattle.std.proofs.Common.{ap, sym, ◌∙◌}
+use Rattle.std.proofs.Common.{ap, sym, ◌∙◌, is_eq}
 use Rattle.std.specs.Cmp.Lexicographic.{texts_ties}
-use Rattle.std.specs.Ordering.{is_eq}
 use Rattle.first_pass_labels.specs.Slots.{slot_folding}
 use Rattle.first_pass_labels.proofs.slot.SlotPartialEq.eq.Goals as goal
 

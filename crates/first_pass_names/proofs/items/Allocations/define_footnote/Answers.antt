@@ -1,6 +1,5 @@
 use Rattle.std.proofs.Common.{refl, ap, ◌∙◌}
-use Rattle.first_pass_labels.specs.LabelTables.{with_first}
-use Rattle.first_pass_grammar.specs.Derivation.{with_footnote_label}
+use Rattle.first_pass_grammar.proofs.Common.{with_first, with_footnote_label}
 use Rattle.first_pass_names.specs.TableEntries.{tables_of}
 use Rattle.first_pass_names.proofs.LinkLemmas.{footnote_defined}
 use Rattle.first_pass_names.proofs.items.Allocations.define_footnote.Goals as goal

@@ -1,10 +1,5 @@
-use Rattle.std.proofs.Common.{◌≡◌, ℕ, false, List, Option, Some, None, refl, sym, ap, subst, ◌∙◌}
-use Rattle.std.specs.Option.{option_copied}
-use Rattle.first_pass_items.specs.CowText.{text_of}
-use Rattle.first_pass_labels.specs.Foldings.{folded}
-use Rattle.first_pass_labels.specs.LabelTables.{defined_under}
-use Rattle.first_pass_labels.specs.declared.label_table.LinkDef.{LinkDef}
-use Rattle.first_pass_links.specs.Labels.{label_at}
+use Rattle.std.proofs.Common.{◌≡◌, ℕ, false, List, Option, Some, None, refl, sym, ap, subst, ◌∙◌, option_copied}
+use Rattle.first_pass_grammar.proofs.Common.{text_of, folded, defined_under, LinkDef, label_at}
 use Rattle.first_pass_names.proofs.LabelsAt.{IsReadAs, link_none, link_there}
 use Rattle.first_pass_names.specs.TableEntries.{refdefs_of}
 use Rattle.first_pass_names.proofs.items.Allocations.link_at.Goals as goal

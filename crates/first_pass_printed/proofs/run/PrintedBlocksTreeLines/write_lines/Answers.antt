@@ -1,5 +1,4 @@
-use Rattle.std.proofs.Common.{map, ap, ◌∙◌, rules, of_calls}
-use Rattle.std.specs.List.{flat_map}
+use Rattle.std.proofs.Common.{map, ap, ◌∙◌, rules, of_calls, flat_map}
 use Rattle.first_pass_host.proofs.HeldLines.{written_as, first_failed, then_written}
 use Rattle.first_pass_host.proofs.ItemLines.{element_lines, entry_lines}
 use Rattle.first_pass_names.specs.TableEntries.{names_of, link_entry}

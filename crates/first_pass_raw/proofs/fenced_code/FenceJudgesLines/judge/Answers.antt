@@ -1,6 +1,5 @@
 use Rattle.std.proofs.Common.{sym, ap, ◌∙◌}
-use Rattle.first_pass_lines.specs.Places.{place_at, line_end}
-use Rattle.first_pass_lines.proofs.PlaceFacts.{taken_columns, columns_line_end}
+use Rattle.first_pass_grammar.proofs.Common.{place_at, line_end, taken_columns, columns_line_end}
 use Rattle.first_pass_raw.proofs.fenced_code.FenceJudgesLines.judge.Goals as goal
 
 pub returns-clause-place : goal.returns-clause-place

@@ -1,9 +1,6 @@
 use Rattle.std.proofs.Common.{◌≡◌, ℕ, ◌≤◌, ◌<◌, ◌+◌, ◌-◌, true, length, get_or, sym, ap, ◌∙◌, subst, get_or-drop, length-drop, length-take-le, arith}
-use Rattle.std.proofs.lemmas.Bool.{eqb-true}
-use Rattle.std.proofs.lemmas.List.{get_or-take}
-use Rattle.std.proofs.lemmas.List.Sums.{prefix_len_passes}
-use Rattle.first_pass_items.specs.Bytes.{line_feed}
-use Rattle.first_pass_grammar.specs.CodeBlocks.{fence_judge}
+use Rattle.std.proofs.Common.{eqb-true, get_or-take}
+use Rattle.first_pass_grammar.proofs.Common.{prefix_len_passes, line_feed, fence_judge}
 use Rattle.first_pass_raw.specs.declared.raw_line.RawKind.TheVariants.{Code}
 use Rattle.first_pass_raw.specs.RawBlocks.{is_unmarked, AreWhole}
 use Rattle.first_pass_raw.proofs.WholeLines.{none_whole}

@@ -1,8 +1,5 @@
 use Rattle.std.proofs.Common.{◌≡◌, ◌+◌, drop, if◌then◌else◌, ap, ◌∙◌}
-use Rattle.first_pass_html.specs.Ends.{condition_of}
-use Rattle.first_pass_lines.specs.Places.{Place, place_at, line_place}
-use Rattle.first_pass_grammar.specs.Extents.{GoesOn, IsLast}
-use Rattle.first_pass_grammar.specs.HtmlBlocks.{holds_end, tag_judge}
+use Rattle.first_pass_grammar.proofs.Common.{condition_of, Place, place_at, line_place, GoesOn, IsLast, holds_end, tag_judge}
 use Rattle.first_pass_raw.proofs.HtmlLemmas.{tag_here}
 use Rattle.first_pass_raw.proofs.html_block.ToEndJudgesLines.judge.Goals as goal
 use Rattle.first_pass_raw.proofs.html_block.ToEndJudgesLines.judge.Goals.{After-holds_end}

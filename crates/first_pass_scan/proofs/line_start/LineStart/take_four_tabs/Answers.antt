@@ -1,5 +1,4 @@
-use Rattle.std.proofs.Common.{rules, ◌≡◌, ◌+◌, ◌-◌, ◌∷◌, drop, sym, ap, ◌∙◌, arith}
-use Rattle.std.proofs.lemmas.List.{drop-drop}
+use Rattle.std.proofs.Common.{rules, ◌≡◌, ◌+◌, ◌-◌, ◌∷◌, drop, sym, ap, ◌∙◌, arith, drop-drop}
 use Rattle.first_pass_lines.specs.Rest.{Rest}
 use Rattle.first_pass_items.specs.Bytes.{tab}
 use Rattle.first_pass_scan.proofs.BlankFacts.{TakesBlank, four_tabs}

@@ -1,8 +1,8 @@
-use Rattle.std.proofs.Common.{arith, ap, sym, subst, ◌∙◌, ◌≡◌, ◌+◌, ℕ, ◌<◌, List, length, get_or}
+use Rattle.std.proofs.Common.{arith, sym, subst, ◌≡◌, ◌+◌, ◌<◌, length, get_or}
 use Rattle.std.proofs.lemmas.List.{length-reverse}
 use Rattle.first_pass_items.specs.declared.item.Item.{Item}
-use Rattle.first_pass_tree.specs.Forest.{Forest, IsChild, depths, run_end, end_of}
-use Rattle.first_pass_tree.proofs.Keeps.{kept_after-is, run-within}
+use Rattle.first_pass_tree.specs.Forest.{Forest, IsChild, depths}
+use Rattle.first_pass_tree.proofs.Keeps.{end-known, kept_after-is, run-within}
 use Rattle.first_pass_tree.proofs.SubtreeLemmas.{subtrees-first, subtrees-cut}
 use Rattle.first_pass_tree.proofs.forest.Tree+Item.drop_after.Goals as goal
 
@@ -13,9 +13,7 @@ invariant_of-self c =
     let q = subst (λ (v : Forest Item). IsChild v c.args.ix) (sym c.self.view_is) c.requires in
     let w : at < length ns = q.within in
     let d : c.len.result + 1 ≡ get_or (depths ns) at 0 = omega (arith, q.depth, length-reverse c.self.inside.spine.items) in
-    let e : c.deeper_end-end.result ≡ end_of (depths ns) at =
-    c.deeper_end-end.ensures ∙ ap (λ (v : List (ℕ × Item)). run_end (depths v) (c.len.result + 1) (at + 1)) c.deref.ensures.value
-    ∙ ap (λ v. run_end (depths ns) v (at + 1)) d in
+    let e = end-known ns _ at c.deeper_end-end.result _ c.deref.ensures.value d c.deeper_end-end.ensures in
     record {
       forest = rw (c.truncate.ensures.items, e) (kept_after-is _ c.args.ix q c.self.invariant.forest);
       known = subtrees-cut ns c.truncate.new.self.items c.deeper_end-end.result _

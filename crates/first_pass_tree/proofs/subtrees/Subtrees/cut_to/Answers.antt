@@ -1,5 +1,4 @@
-use Rattle.std.proofs.Common.{◌≡◌, ◌<◌, ◌≤◌, ◌-◌, ◌∙◌, List, length, take, reverse, refl, sym, ap, subst, get_or, arith}
-use Rattle.std.proofs.lemmas.List.{take_all}
+use Rattle.std.proofs.Common.{◌≡◌, ◌<◌, ◌≤◌, ◌-◌, ◌∙◌, List, length, take, reverse, refl, sym, ap, subst, get_or, arith, take_all}
 use Rattle.first_pass_tree.specs.declared.subtrees.Subtree.{Subtree}
 use Rattle.first_pass_tree.specs.Subtrees.{within_first}
 use Rattle.first_pass_tree.proofs.SubtreeLemmas.{first-fewer, first-stop}

@@ -1,16 +1,11 @@
--- A pass read a block, after its first line closed, continued and opened containers.
-use Rattle.std.proofs.Common.{◌≡◌, ℕ, ◌+◌, ◌<◌, ◌≤◌, Bool, false, List, Option, Some, None, length, drop, IsUtf8, IsCharBoundary, refl, sym, ap, subst, ◌∙◌, arith}
-use Rattle.first_pass_items.specs.declared.item.Item.{Item}
-use Rattle.first_pass_lines.specs.Lines.{line_len}
-use Rattle.first_pass_lines.specs.Places.{Place, offset, line_end, IsPlaceOf}
-use Rattle.first_pass_lines.proofs.PlaceFacts.{line_end_boundary}
-use Rattle.first_pass_grammar.specs.Leaves.{document}
-use Rattle.first_pass_grammar.specs.Names.{AreNamed}
-use Rattle.first_pass_grammar.specs.Order.{GrowsBy}
-use Rattle.first_pass_grammar.specs.WholeTables.{HasWholeTables}
+-- A pass read a block, after its first line closed, continued and opened containers; and one block after another.
+use Rattle.std.proofs.Common.{◌≡◌, ℕ, ◌+◌, ◌<◌, ◌≤◌, Bool, false, List, Option, Some, None, length, drop, IsUtf8, IsCharBoundary, refl, sym, ap, subst, ◌∙◌}
+use Rattle.std.proofs.Common.{arith, ◌*◌}
+use Rattle.first_pass_grammar.proofs.Common.{Item, line_len, Place, offset, line_end, IsPlaceOf, line_end_boundary, document, AreNamed, Names, Extends}
+use Rattle.first_pass_grammar.proofs.Common.{GrowsBy, HasWholeTables, IsForest, Options, counted_nodes, lines_from}
 use Rattle.first_pass_names.specs.TableEntries.{tables_of, names_of}
 use Rattle.first_pass_names.specs.declared.items.Allocations.{Allocations}
-use Rattle.first_pass_names.proofs.NameLemmas.{extends_equal, extends_both}
+use Rattle.first_pass_names.proofs.NameLemmas.{extends_equal, extends_both, extends_none}
 use Rattle.first_pass_blocks.specs.Written.{TablesAreWritten}
 use Rattle.first_pass_open.specs.declared.source.Source.{Source}
 use Rattle.first_pass_lists.specs.declared.state.PassState.{PassState}
@@ -21,14 +16,14 @@ use Rattle.first_pass_containers.specs.Positions.{Position, LineAt, InLine, Leaf
 use Rattle.first_pass_containers.specs.Entering.{EntersLine}
 use Rattle.first_pass_kinds.specs.declared.next_front.NextFront.{NextFront}
 use Rattle.first_pass_blocks.specs.OpenedFootnotes.{StaysSame}
-use Rattle.first_pass_blocks.specs.Progress.{IsAtPlace, PassesTo, ReadsBlockOf, ReadsBlock, ReadsEntered, ReadsLeaf}
+use Rattle.first_pass_blocks.specs.Progress.{IsAtPlace, KeepsPass, PassesTo, ReadsBlockOf, ReadsBlock, ReadsEntered, ReadsLeaf}
 use Rattle.first_pass_containers.specs.Starts.{last_at, BeginsNoContainer}
-use Rattle.first_pass_containers.proofs.StateAt.{IsStateAtPlace}
-use Rattle.first_pass_tree.specs.Forest.{IsForest}
-use Rattle.first_pass_containers.proofs.Openings.NoContainer.{only_leaf}
+use Rattle.first_pass_containers.proofs.OrderSteps.{IsStateAtPlace, line_later, place_before_end}
+use Rattle.first_pass_containers.proofs.Openings.Indented.{only_leaf}
 use Rattle.first_pass_containers.proofs.Openings.StartLemmas.{reads_none}
-use Rattle.first_pass_blocks.specs.Views.{allocs_of, front_of, state_of, source_of, source_text, tree_of}
-use Rattle.first_pass_containers.proofs.Order.OrderSteps.{line_later, place_before_end}
+use Rattle.first_pass_blocks.specs.Views.{allocs_of, front_of, state_of, source_of, source_text, tree_of, source_options}
+use Rattle.first_pass_order.specs.Ordered.{IsReadFrom}
+use Rattle.first_pass_ready.specs.State.{Ready}
 
 -- a step of the state is a step of the pass
 pub passes_state : (over : Source) (line : ℕ) (old new : BlockPass) (p q : Position) → source_of new ≡ source_of old → allocs_of new ≡ allocs_of old
@@ -36,31 +31,42 @@ pub passes_state : (over : Source) (line : ℕ) (old new : BlockPass) (p q : Pos
 passes_state over line old new p q source same step =
     let names = names_of (allocs_of old) in
     record {
-      source = source;
-      names = extends_equal _ _ (ap names_of same);
+      kept = record {
+        source = source;
+        names = extends_equal _ _ (ap names_of same);
+        named = λ h. subst (λ (z : Allocations). AreNamed (names_of z) (tree_of new).nodes) (sym same) (step.named names h);
+        written = λ h. subst (λ (z : Allocations). TablesAreWritten over.text.now z) (sym same) h;
+        tables = λ h k. subst (λ (z : Allocations). HasWholeTables (names_of z) (tree_of new)) (sym same) (step.tables names k);
+      };
       ready = λ more extends ready.
           subst (λ (z : Allocations). ReadyOn (document over.text.now over.options more) (tables_of z) (state_of new) q) (sym same)
           (step.ready more (tables_of (allocs_of old)) ready);
       order = step.order;
       node_bound = step.node_bound;
-      named = λ h. subst (λ (z : Allocations). AreNamed (names_of z) (tree_of new).nodes) (sym same) (step.named names h);
-      written = λ h. subst (λ (z : Allocations). TablesAreWritten over.text.now z) (sym same) h;
-      tables = λ h k. subst (λ (z : Allocations). HasWholeTables (names_of z) (tree_of new)) (sym same) (step.tables names k);
     }
+
+-- what is kept without a step, and in two steps
+pub keeps_none : (pass : BlockPass) → KeepsPass (source_of pass) pass pass
+keeps_none pass = record { source = refl; names = extends_none _; named = λ h. h; written = λ h. h; tables = λ h k. k }
+
+keeps_both : (over : Source) (a b c : BlockPass) → KeepsPass over a b → KeepsPass over b c → KeepsPass over a c
+keeps_both over a b c one two = record {
+  source = two.source ∙ one.source;
+  names = extends_both (names_of (allocs_of c)) (names_of (allocs_of b)) (names_of (allocs_of a)) two.names one.names;
+  named = λ h. two.named (one.named h);
+  written = λ h. two.written (one.written h);
+  tables = λ h k. two.tables (one.named h) (one.tables h k);
+}
 
 -- one step after another
 pub passes_both : (over : Source) (line : ℕ) (a b c : BlockPass) (p q t : Position) → PassesTo over line a b p q → PassesTo over line b c q t
     → PassesTo over line a c p t
 passes_both over line a b c p q t one two = record {
-  source = two.source ∙ one.source;
-  names = extends_both (names_of (allocs_of c)) (names_of (allocs_of b)) (names_of (allocs_of a)) two.names one.names;
+  kept = keeps_both over a b c one.kept two.kept;
   ready = λ more extends h. two.ready more extends
-      (one.ready more (extends_both more (names_of (allocs_of c)) (names_of (allocs_of b)) extends two.names) h);
+      (one.ready more (extends_both more (names_of (allocs_of c)) (names_of (allocs_of b)) extends two.kept.names) h);
   order = λ h. two.order (one.order h);
   node_bound = λ first h. two.node_bound first (one.node_bound first h);
-  named = λ h. two.named (one.named h);
-  written = λ h. two.written (one.written h);
-  tables = λ h k. two.tables (one.named h) (one.tables h k);
 }
 
 -- a position is between two offsets
@@ -97,18 +103,14 @@ pub block_read : (over : Source) (old middle new : BlockPass) (start far next : 
     → PassesTo over start old middle (LineAt start) at → ReadsBlockOf over middle new far at next
     → IsBetween start next at → start < next → ReadsBlockOf over old new (1 + start) (LineAt start) next
 block_read over old middle new start far next at steps r between later = record {
-  source = r.source ∙ steps.source;
-  names = extends_both (names_of (allocs_of new)) (names_of (allocs_of middle)) (names_of (allocs_of old)) r.names steps.names;
+  kept = keeps_both over old middle new steps.kept r.kept;
   later = omega arith;
   boundary = r.boundary;
   ready = λ more extends ready. r.ready more extends
-      (steps.ready more (extends_both more (names_of (allocs_of new)) (names_of (allocs_of middle)) extends r.names) ready);
+      (steps.ready more (extends_both more (names_of (allocs_of new)) (names_of (allocs_of middle)) extends r.kept.names) ready);
   order = λ o. r.order (steps.order o);
   node_bound = grows_both over.text.now start next (tree_of old).nodes (tree_of middle).nodes (tree_of new).nodes at between
       (steps.node_bound (tree_of old).nodes (omega arith)) r.node_bound;
-  named = λ h. r.named (steps.named h);
-  written = λ h. r.written (steps.written h);
-  tables = λ h k. r.tables (steps.named h) (steps.tables h k);
 }
 
 -- the containers that begin at a place are open, and the block after the last marker is read
@@ -124,8 +126,8 @@ entered_read old mid new p q after next from opens read = λ first start within 
     let far = from.3 in
     let there = passes_both over start first old mid (LineAt start) (InLine p) at steps
     (subst (λ (l : ℕ). PassesTo over l old mid (InLine p) at) on
-    (subst (λ (z : Source). PassesTo z p.line old mid (InLine p) at) steps.source opens)) in
-    let r = subst (λ (z : Source). ReadsBlockOf z mid new (line_end q) at next) there.source read in
+    (subst (λ (z : Source). PassesTo z p.line old mid (InLine p) at) steps.kept.source opens)) in
+    let r = subst (λ (z : Source). ReadsBlockOf z mid new (line_end q) at next) there.kept.source read in
     let later = r.later in
     block_read over first mid new start (line_end q) next at there r (last_between start next q after (omega (arith, on, low)) later)
     (line_later over.text.now start _ next within refl (omega (arith, stop, far, later)) r.boundary).0
@@ -143,7 +145,7 @@ pub record ReachesPlace (first : Place) (old mid : BlockPass) (p : Place) : Type
 
 pub place_reached : {first p : Place} {old mid : BlockPass} → IsUtf8 (source_text old) → ReachesPlace first old mid p → IsAtPlace mid p
 place_reached {p = p} utf8 r =
-    let here = subst (λ (z : Source). IsUtf8 z.text.now × IsPlaceOf z.text.now p) (sym r.opened.source) (utf8, r.here.0) in
+    let here = subst (λ (z : Source). IsUtf8 z.text.now × IsPlaceOf z.text.now p) (sym r.opened.kept.source) (utf8, r.here.0) in
     record { utf8 = here.0; place = here.1; no_empty = r.no_empty; none = r.none }
 
 pub reached_start : {pass : BlockPass} {p : Place} → IsAtPlace pass p → ReachesPlace p pass pass p
@@ -219,18 +221,7 @@ pub line_ended : (over : Source) (old new : BlockPass) (start far next : ℕ) �
     → IsCharBoundary over.text.now next → far ≤ next → start ≤ next → ReadsBlockOf over old new far (LineAt start) next
 line_ended over old new start far next steps boundary later on =
     let first = steps.node_bound (tree_of old).nodes (omega arith) in
-    record {
-      source = steps.source;
-      names = steps.names;
-      later = later;
-      boundary = boundary;
-      ready = steps.ready;
-      order = steps.order;
-      node_bound = omega arith;
-      named = steps.named;
-      written = steps.written;
-      tables = steps.tables;
-    }
+    record { kept = steps.kept; later = later; boundary = boundary; ready = steps.ready; order = steps.order; node_bound = omega arith }
 
 -- a line that is read as a whole
 pub line_passed : (old new : BlockPass) (start next : ℕ) → IsUtf8 (source_text old) → start < length (source_text old) → IsCharBoundary (source_text old) start
@@ -245,3 +236,45 @@ line_passed old new start next u within begins source same next_is step =
     line_ended (source_of old) old new start (1 + start) next
     (subst (λ (n : ℕ). PassesTo (source_of old) start old new (LineAt start) (LineAt n)) (sym next_is)
     (passes_state (source_of old) start old new (LineAt start) (LineAt e) source same step)) boundary (omega arith) (omega arith)
+
+-- ---- the lines of a text up to an offset are read, one block after another
+
+-- A pass over a text with these options has read it up to an offset.
+pub record IsReadUpTo (text : List ℕ) (options : Options) (pass : BlockPass) (ix : ℕ) : Type 0 where
+  pub same_text : source_text pass ≡ text
+  pub same_options : source_options pass ≡ options
+  pub boundary : IsCharBoundary text ix
+  pub ready : (names : Names) → Extends names (names_of (allocs_of pass))
+      → Ready (document text options names) (tables_of (allocs_of pass)) (state_of pass) (lines_from text ix)
+  pub order : IsReadFrom options text (state_of pass) ix
+  pub named : AreNamed (names_of (allocs_of pass)) (tree_of pass).nodes
+  pub written : TablesAreWritten text (allocs_of pass)
+  pub node_bound : counted_nodes (tree_of pass).nodes ≤ 1 + 4 * ix
+
+read_on : (old new : BlockPass) (far ix next : ℕ) → IsReadUpTo (source_text old) (source_options old) old ix → ReadsBlock old new far (LineAt ix) next
+    → ix ≤ next → IsReadUpTo (source_text old) (source_options old) new next
+read_on old new far ix next i e later = record {
+  same_text = ap (λ (z : Source). z.text.now) e.kept.source;
+  same_options = ap (λ (z : Source). z.options) e.kept.source;
+  boundary = e.boundary;
+  ready = λ names more. e.ready names more (i.ready names (extends_both names (names_of (allocs_of new)) (names_of (allocs_of old)) more e.kept.names));
+  order = e.order i.order;
+  named = e.kept.named i.named;
+  written = e.kept.written i.written;
+  node_bound = (let read = i.node_bound in let grows = e.node_bound in omega arith);
+}
+
+-- one more block is read
+pub block_more : (text : List ℕ) (options : Options) (old new : BlockPass) (far ix next : ℕ) → IsReadUpTo text options old ix
+    → ReadsBlock old new far (LineAt ix) next → ix ≤ next → IsReadUpTo text options new next
+block_more text options old new far ix next i e later =
+    rw (← i.same_text, ← i.same_options) (read_on old new far ix next (rw (← i.same_text, ← i.same_options) at i) e later)
+
+-- lines are read that change nothing of the state
+pub lines_more : (text : List ℕ) (options : Options) (pass : BlockPass) (ix next : ℕ) → IsReadUpTo text options pass ix → ix ≤ next
+    → IsCharBoundary (source_text pass) next → ReadsTo (source_of pass) ix (state_of pass) (state_of pass) (LineAt ix) (LineAt next)
+    → IsReadUpTo text options pass next
+lines_more text options pass ix next i later boundary e =
+    block_more text options pass pass ix ix next i
+    (line_ended (source_of pass) pass pass ix ix next
+    (passes_state (source_of pass) ix pass pass (LineAt ix) (LineAt next) refl refl e) boundary later later) later

@@ -1,46 +1,50 @@
--- Order at each step of reading a line: open containers, and what follows them.
-use Rattle.std.proofs.Common.{◌≡◌, ◌⊎◌, inl, inr, ℕ, ◌+◌, ◌<◌, ◌≤◌, Bool, true, false, List, [], ◌∷◌, length, drop, Option, Some, None, IsUtf8, IsCharBoundary}
-use Rattle.std.proofs.Common.{refl, sym, ap, subst, ◌∙◌, arith, length-append, if◌then◌else◌}
-use Rattle.std.specs.Option.{option_map}
-use Rattle.first_pass_items.specs.declared.item.Item.{Item}
-use Rattle.first_pass_items.specs.declared.item.BlockQuoteKind.{BlockQuoteKind}
-use Rattle.first_pass_items.specs.declared.item.ItemBody.{ItemBody}
-use Rattle.first_pass_items.specs.declared.item.ItemBody.TheVariants.{BlockQuote as BlockQuoteBody, ListItem as ListItemBody, DefinitionListDefinition}
-use Rattle.first_pass_items.specs.declared.item.CowIndex.{CowIndex}
-use Rattle.first_pass_items.specs.declared.option_set.Options.{Options}
-use Rattle.first_pass_items.specs.OptionWords.{has}
-use Rattle.first_pass_tree.specs.Forest.{Forest, IsForest, added}
-use Rattle.first_pass_scan.specs.Markers.{task_of}
-use Rattle.first_pass_lines.specs.Rest.{Rest, indent, after_columns, past_quote}
-use Rattle.first_pass_lines.specs.Lines.{line_len}
-use Rattle.first_pass_lines.proofs.LineFacts.{line_len-within}
-use Rattle.first_pass_lines.specs.Places.{Place, place_at, offset, line_end, IsPlaceOf}
-use Rattle.first_pass_lines.proofs.PlaceFacts.{place_length, columns_keep, columns_shorter}
-use Rattle.first_pass_grammar.specs.declared.kind.Container.TheVariants.{BlockQuote}
-use Rattle.first_pass_grammar.specs.Containers.{prefix}
-use Rattle.first_pass_grammar.specs.Kinds.{all_taken, unindented}
-use Rattle.first_pass_grammar.specs.Openers.{task_by, task_after, after_task}
-use Rattle.first_pass_grammar.specs.Derivation.{node_of}
-use Rattle.first_pass_grammar.specs.OpenOrder.{IsOrderedTo}
-use Rattle.first_pass_open.specs.OpenBlock.{with_child}
-use Rattle.first_pass_lists.specs.Closing.{state_with, top_body, is_list, is_item, may_begin_definition, empty_item_closed_by, empty_item_closed}
-use Rattle.first_pass_lists.specs.Closing.{list_finished, begun}
-use Rattle.first_pass_lists.specs.Closing.{list_continued, definition_begun, footnote_begun}
+-- A state at a place of a text, and order at each step of reading a line: the line is entered, containers are opened, and
+-- a block follows them.
+use Rattle.std.proofs.Common.{◌≡◌, inl, inr, ℕ, ◌+◌, ◌<◌, ◌≤◌, Bool, true, false, List, length, drop, Some, None, IsUtf8, IsCharBoundary, refl, sym, ap}
+use Rattle.std.proofs.Common.{subst, ◌∙◌, arith, if◌then◌else◌, is_some, ◌⊎◌, [], ◌∷◌, Option, length-append, option_map}
+use Rattle.first_pass_grammar.proofs.Common.{cases_lt, Item, Forest, IsForest, added, at_depth, line_len, blank_len, Rest, indent, after_columns}
+use Rattle.first_pass_grammar.proofs.Common.{past_quote, place_at, line_rest, offset, line_end, line_place, Place, IsPlaceOf, line_len-within}
+use Rattle.first_pass_grammar.proofs.Common.{lines_at-line, line_is_place, place_length, columns_keep, columns_shorter, after, in_old_footnote, prefix}
+use Rattle.first_pass_grammar.proofs.Common.{is_blank_rest, all_taken, unindented, Options, Document, document, lines_from, Names, HasWholeTables}
+use Rattle.first_pass_grammar.proofs.Common.{BlockQuoteKind, ItemBody, CowIndex, has, task_of, task_by, task_after, after_task, node_of, IsOrderedTo}
+use Rattle.first_pass_open.specs.Path.{path_in, path_of, outer}
+use Rattle.first_pass_open.proofs.FrontLemmas.{outer-all}
+use Rattle.first_pass_open.proofs.PathLemmas.{open_are_in, path_in-append, get_front}
+use Rattle.first_pass_open.proofs.PlaceLemmas.{after_keeps, line_start_end, all_keep, task_keeps, option_on, quote_less}
+use Rattle.first_pass_lists.specs.Closing.{top_body, is_list, list_closed, empty_item_closed, gap_tree, list_finished, blank_read, popped, state_with}
+use Rattle.first_pass_lists.specs.Closing.{is_item, may_begin_definition, empty_item_closed_by, begun, list_continued, definition_begun, footnote_begun}
 use Rattle.first_pass_lists.specs.declared.state.PassState.{PassState}
-use Rattle.first_pass_containers.specs.Positions.{line_or, OrderedUpTo, OrderedIn, OrderedText, OrderedOn}
+use Rattle.first_pass_order.specs.Ordered.{IsOrderedAtBlankLine, AreNested, IsReadTo, IsReadFrom, reached, CanClose, IsOrderedAt}
+use Rattle.first_pass_containers.specs.Positions.{OrderedUpTo, LineAt, ReadsTo, line_or, OrderedIn, OrderedOn}
+use Rattle.first_pass_order.proofs.Nests.{tree_closes, list_continued_settled, list_finished_outside, footnote_begun_settled, begun_settled, begun_outside}
+use Rattle.first_pass_order.proofs.Nests.{child_outside, added_outside, settled_closes, outside_closes}
+use Rattle.first_pass_order.proofs.OrderLemmas.{ordered_none, ordered_later, ordered_appended, ordered_added, ordered_begun}
+use Rattle.first_pass_order.proofs.PopOrder.{read_blank_read, read_empty_item_closed, read_popped, ordered_list_finished, ordered_list_continued}
+use Rattle.first_pass_order.proofs.PopOrder.{ordered_note}
+use Rattle.first_pass_lists.proofs.NoEmptyItem.{finished_none, list_finished_none, list_continued_none, item_opened}
+use Rattle.first_pass_open.specs.declared.source.Source.{Source}
+use Rattle.first_pass_ready.specs.State.{Ready}
+use Rattle.first_pass_ready.proofs.EnterLemmas.{ready_blank_line}
+use Rattle.first_pass_ready.proofs.OldFootnotes.{ends_here}
+use Rattle.first_pass_grammar.specs.declared.kind.Container.{Container}
+use Rattle.first_pass_order.proofs.CountLemmas.{count, popped_count}
+use Rattle.first_pass_order.proofs.NamedLemmas.{popped_named}
+use Rattle.first_pass_containers.specs.Entering.{KeepsState}
+use Rattle.first_pass_items.specs.declared.item.ItemBody.TheVariants.{BlockQuote as BlockQuoteBody, ListItem as ListItemBody}
+use Rattle.first_pass_grammar.specs.declared.kind.Container.TheVariants.{BlockQuote}
+use Rattle.first_pass_open.specs.OpenBlock.{with_child}
 use Rattle.first_pass_containers.specs.Starts.{after_at}
-use Rattle.first_pass_order.specs.Ordered.{reached, AreNested, CanClose, IsOrderedAt, IsReadTo}
 use Rattle.first_pass_open.specs.Between.{AddsBetween, MarkerBetween}
-use Rattle.first_pass_open.proofs.PathLemmas.{get_front}
 use Rattle.first_pass_ready.proofs.BegunLemmas.{with_open, top_opened}
-use Rattle.first_pass_open.proofs.PlaceLemmas.{all_keep, task_keeps, option_on, quote_less}
-use Rattle.first_pass_lists.proofs.NoEmptyItem.{list_finished_none, list_continued_none, item_opened}
-use Rattle.first_pass_order.proofs.OrderLemmas.{ordered_later, ordered_appended, ordered_added, ordered_begun, ordered_none}
 use Rattle.first_pass_order.proofs.LeftOrder.{title_later}
-use Rattle.first_pass_order.proofs.PopOrder.{ordered_list_finished, ordered_list_continued, ordered_note}
-use Rattle.first_pass_order.proofs.Nests.{list_continued_settled, list_finished_outside, footnote_begun_settled, begun_settled, begun_outside, child_outside}
-use Rattle.first_pass_order.proofs.Nests.{added_outside, settled_closes, outside_closes, tree_closes}
 use Rattle.first_pass_order.proofs.DefinitionBegun.{ordered_definition}
+
+-- A state is at a place of a text, and no item is empty.
+pub record IsStateAtPlace (text : List ℕ) (r : PassState) (p : Place) : Type 0 where
+  pub utf8 : IsUtf8 text
+  pub place : IsPlaceOf text p
+  pub forest : IsForest r.tree
+  pub none : r.begin_list_item ≡ None
 
 -- the shorter the rest, the later the place
 pub offset_later : (text : List ℕ) (line : ℕ) (r s : Rest)
@@ -55,19 +59,18 @@ pub upto_later : (text : List ℕ) (f : Forest Item) (a b : ℕ) → a ≤ b →
 upto_later text f a b low high (o, c) =
     (ordered_later text f a b low high o, record { nested = c.nested; last = c.last; title = title_later text f a b low c.title })
 
--- order up to the start of a line is order up to a place in it, or up to that start
-ordered_in_line : (t : Bool) (text : List ℕ) (f : Forest Item) (line at : ℕ)
-    → line ≤ at → at ≤ length text → OrderedUpTo text f line → OrderedUpTo text f (if t then line else at)
-ordered_in_line true text f line at low high o = o
-ordered_in_line false text f line at low high o = upto_later text f line at low high o
+-- not after the place
+pub line_or-below : (f : Forest Item) (line at : ℕ) → line ≤ at → line_or f line at ≤ at
+line_or-below f line at h = grind arith
 
--- the same at a place in the line, which begins at a character boundary
+-- order up to the start of a line is order at a place in it; the line begins at a character boundary
 pub ordered_at_place : (text : List ℕ) (f : Forest Item) (start : ℕ) (p : Place) → p.line ≡ start → IsCharBoundary text start → IsPlaceOf text p
     → OrderedUpTo text f start → OrderedIn text f p
 ordered_at_place text f start p line boundary i o =
     let within = i.within in
-    let o' = ordered_in_line (is_list (top_body f)) text f p.line (offset p) (omega arith) within (subst (OrderedUpTo text f) (sym line) o) in
-    (subst (IsCharBoundary text) (sym line) boundary, o')
+    let high = line_or-below f p.line (offset p) (omega arith) in
+    let low : p.line ≤ line_or f p.line (offset p) = grind arith in
+    (subst (IsCharBoundary text) (sym line) boundary, upto_later text f start (line_or f p.line (offset p)) (omega arith) (omega arith) o)
 
 -- an offset after the start of a line that is before the end of the text
 pub line_later : (text : List ℕ) (start far next : ℕ)
@@ -78,18 +81,13 @@ line_later text start far next within ends later boundary =
     let high = boundary.0 in
     (omega arith, omega arith)
 
--- not after the place
-pub line_or-below : (f : Forest Item) (line at : ℕ) → line ≤ at → line_or f line at ≤ at
-line_or-below f line at h = grind arith
-
 line_or-list : (f : Forest Item) (line at : ℕ) → is_list (top_body f) ≡ true → line_or f line at ≤ line
 line_or-list f line at h = (let e : line_or f line at ≡ line = rw h refl in omega arith)
 
 -- order further on if no list is innermost
 pub ordered_on : (text : List ℕ) (f : Forest Item) (line a at : ℕ)
     → is_list (top_body f) ≡ false → a ≤ at → at ≤ length text → OrderedUpTo text f a → OrderedUpTo text f (line_or f line at)
-ordered_on text f line a at none low high o =
-    subst (OrderedUpTo text f) (let e : at ≡ line_or f line at = rw none refl in e) (upto_later text f a at low high o)
+ordered_on text f line a at none low high o = rw none (upto_later text f a at low high o)
 
 -- the state is in order if no item is empty
 pub ordered_tree : (text : List ℕ) (r : PassState) (at : ℕ) → r.begin_list_item ≡ None → IsOrderedAt text r at → IsOrderedTo text r.tree at
@@ -219,9 +217,7 @@ marked_by text f start next None high o stands = ordered_later text f start next
 marked_by text f start next (Some x) high o stands = ordered_appended text f start next x stands.1 high o
 
 item_no_list : (body : ItemBody) → is_item (Some body) ≡ true → is_list (Some body) ≡ false
-item_no_list (ListItemBody columns) item = refl
-item_no_list (DefinitionListDefinition columns) item = refl
-item_no_list body item = cc
+item_no_list body item = grind (arith, item)
 
 -- an item or a definition with nothing after its markers
 pub ordered_empty_item : (text : List ℕ) (start next : ℕ) (body : ItemBody) (r : PassState) (marker : Option Item) (blank : Bool)
@@ -256,13 +252,6 @@ read_block text old r from next nested plain a high none o =
       ordered_block text old r from next a high none o,
       subst (λ f. CanClose text f next) (sym a.tree_is) (tree_closes text (added old a.items) next outside.0 outside.1),
     )
-
--- the paragraph of a task
-pub ordered_text : (text : List ℕ) (f : Forest Item) (new : PassState) (marker : Item) (at next : ℕ)
-    → ((from : ℕ) → MarkerBetween text from at (Some marker) → AddsBetween text from next f new.tree) → next ≤ length text → new.begin_list_item ≡ None
-    → OrderedText text f marker at → IsReadTo text new next
-ordered_text text f new marker at next fits within none o =
-    read_block text f new o.from next o.nested o.plain (fits o.from o.stands) within none o.ordered
 
 -- a block is added to a state in order: an item that it is added to is not empty after that
 pub block_ordered : (text : List ℕ) (old new : PassState) (at start next : ℕ) → IsOrderedAt text old at → at ≤ start
@@ -312,3 +301,120 @@ ordered_leaf text r new line at e start next b adds fits none =
 pub unindented_later : (text : List ℕ) (line : ℕ) (r : Rest)
     → IsUtf8 text → IsPlaceOf text (place_at line r) → offset (place_at line r) ≤ offset (unindented (place_at line r))
 unindented_later text line r u i = offset_later text line r (all_taken r) i (all_keep text line r u i) (columns_shorter (indent r) r)
+
+-- ---- a line that is entered
+
+-- an added block changes no path
+pub path_added : (options : Options) (f : Forest Item) (items : List (ℕ × Item)) → IsForest f → path_of options (added f items) ≡ path_of options f
+path_added options f items forest = path_in-append options f.nodes (at_depth (length f.spine + 1) items) f.spine (open_are_in f.nodes f.spine forest.opened)
+
+-- a counting blank line that is noted in the tree no longer counts; an empty item stays one
+pub noted : (r : PassState) (f : Forest Item) (t : Bool) → r.blank ≡ t
+    → (let q : PassState = if t then record r { tree = f; blank = false } else r in (q.blank ≡ false) × (q.begin_list_item ≡ r.begin_list_item))
+noted r f true is = (refl, refl)
+noted r f false is = (is, refl)
+
+pub list_finished_blank : (at : ℕ) (r : PassState) → (list_finished at r).blank ≡ false
+unfolding list_finished
+list_finished_blank at r = let q : PassState = list_closed at (empty_item_closed r) in (noted q (gap_tree q.tree q.tree.spine) q.blank refl).0
+
+-- what is kept if no node is closed, if nodes are closed after others, and if one is
+pub state_kept : (r : PassState) (e : ℕ) → KeepsState r r e
+state_kept r e = record { order = λ text within boundary h. h; count = omega arith; named = λ names h. h; tables = λ names h. h }
+
+pub kept_both : (a b c : PassState) (e : ℕ) → KeepsState a b e → KeepsState b c e → KeepsState a c e
+kept_both a b c e one two = record {
+  order = λ text within boundary h. two.order text within boundary (one.order text within boundary h);
+  count = (let first = one.count in let more = two.count in omega arith);
+  named = λ names h. two.named names (one.named names h);
+  tables = λ names h. two.tables names (one.tables names h);
+}
+
+pub popped_kept : (e : ℕ) (r : PassState) → ((names : Names) → HasWholeTables names r.tree → HasWholeTables names (popped e r).tree)
+    → KeepsState r (popped e r) e
+popped_kept e r tables = record {
+  order = λ text within boundary h. read_popped text r e e (omega arith) within boundary h;
+  count = popped_count e (count r) r (omega arith);
+  named = λ names h. popped_named names e r h;
+  tables = tables;
+}
+
+-- A blank line at which an HTML block ended continues all open containers, and its rest is blank.
+pub entered_whole : (options : Options) (text : List ℕ) (r : PassState) (at kept : ℕ) (line left : Rest)
+    → line ≡ line_rest (drop at text) → kept ≤ length r.tree.spine → after (path_in options r.tree.nodes (outer kept r.tree.spine)) line ≡ Some left
+    → ((m : ℕ) → kept < m → m ≤ length r.tree.spine → after (path_in options r.tree.nodes (outer m r.tree.spine)) line ≡ None)
+    → IsOrderedAtBlankLine options text r at
+    → (kept ≡ length r.tree.spine) × (is_blank_rest left ≡ true)
+entered_whole options text r at kept line left is within took stops h =
+    let ns = r.tree.nodes in
+    let spine = r.tree.spine in
+    let all : after (path_in options ns (outer (length spine) spine)) line ≡ Some h.rest =
+    ap (λ z. after (path_in options ns z) line) (outer-all spine) ∙ ap (after (path_of options r.tree)) is ∙ h.taken in
+    elim (cases_lt kept (length spine)) [
+      | inl less ↦ (let none = stops (length spine) less (omega arith) in cc)
+      | inr more ↦
+          (let same : kept ≡ length spine = omega arith in
+          let here : after (path_in options ns (outer (length spine) spine)) line ≡ Some left =
+          subst (λ k. after (path_in options ns (outer k spine)) line ≡ Some left) same took in
+          let rest_is : h.rest ≡ left = cc in
+          (same, ap is_blank_rest (sym rest_is) ∙ h.blank))
+    ]
+
+-- After such a blank line is read, the state is in order up to its end.
+blank_line_read : (options : Options) (text : List ℕ) (r : PassState) (at : ℕ)
+    → IsUtf8 text → IsCharBoundary text at → IsOrderedAtBlankLine options text r at → AreNested r.tree.nodes r.tree.spine → is_list (top_body r.tree) ≡ false
+    → IsReadTo text (blank_read r) (at + line_len (drop at text))
+blank_line_read options text r at u b h nested plain =
+    let k = after_keeps text at (path_of options r.tree) (line_rest (drop at text)) h.rest u h.taken (line_is_place text at b) in
+    let ends : line_end (place_at at h.rest) ≡ at + line_len (drop at text) = k.1 ∙ line_start_end text at in
+    let before = place_before_end (place_at at h.rest) in
+    let within = (line_len-within text at h.within).1 in
+    read_blank_read text r (offset (place_at at h.rest)) (at + line_len (drop at text)) (omega arith) within
+    (ordered_none text r (offset (place_at at h.rest)) h.none (omega arith) h.ordered, tree_closes text r.tree (offset (place_at at h.rest)) nested plain)
+
+-- A line is entered after the containers that it does not continue were closed. If it is blank, it is read.
+pub ordered_blank_line : (options : Options) (text : List ℕ) (old closed : PassState) (at : ℕ) → IsUtf8 text → at < length text → IsCharBoundary text at
+    → (IsReadTo text old at → IsReadTo text closed at)
+    → (IsOrderedAtBlankLine options text old at → (in_old_footnote (path_of options old.tree) ≡ true → old.blank ≡ false) → closed ≡ old)
+    → IsReadFrom options text old at → IsReadTo text (blank_read closed) (at + line_len (drop at text))
+ordered_blank_line options text old closed at u w b closes same (inl o) =
+    let n = line_len-within text at w in
+    read_blank_read text closed at (at + line_len (drop at text)) (omega arith) n.1 (closes o)
+ordered_blank_line options text old closed at u w b closes same (inr (h, nested, plain, uncounted)) =
+    subst (λ r. IsReadTo text (blank_read r) (at + line_len (drop at text))) (sym (same h uncounted)) (blank_line_read options text old at u b h nested plain)
+
+-- Before any other line, at which no block has ended in this way, an empty item that blank lines ended is closed.
+pub ordered_other_line : (options : Options) (text : List ℕ) (old closed : PassState) (at : ℕ) → (IsReadTo text old at → IsReadTo text closed at)
+    → (IsOrderedAtBlankLine options text old at → ⊥) → IsReadFrom options text old at → OrderedUpTo text (empty_item_closed closed).tree at
+ordered_other_line options text old closed at closes none (inl o) =
+    let read = read_empty_item_closed text closed at (closes o) in
+    (ordered_tree text (empty_item_closed closed) at (finished_none closed) read.0, read.1)
+ordered_other_line options text old closed at closes none (inr h) = absurd (none h.0)
+
+-- the line at an offset is blank after the prefixes of a path
+pub record IsBlankAt (text : List ℕ) (path : List Container) (at : ℕ) : Type 0 where
+  pub rest : Rest
+  pub taken : after path (line_rest (drop at text)) ≡ Some rest
+  pub blank : is_some (blank_len rest.left) ≡ true
+
+-- one more line
+pub one_read : (source : Source) (start at : ℕ) (r : PassState) → IsUtf8 source.text.now → blank_read r ≡ r
+    → ends_here source.options r.tree r.blank ≡ false → at < length source.text.now → IsCharBoundary source.text.now at
+    → IsBlankAt source.text.now (path_of source.options r.tree) at → ReadsTo source start r r (LineAt start) (LineAt at)
+    → ReadsTo source start r r (LineAt start) (LineAt (at + line_len (drop at source.text.now)))
+one_read source start at r u kept stays within boundary line s =
+    let text = source.text.now in
+    let options = source.options in
+    let next = at + line_len (drop at text) in
+    record {
+      ready = λ names defined ready.
+          let d : Document = document text options names in
+          subst (λ (q : PassState). Ready d defined q (lines_from text next)) kept
+          (ready_blank_line d defined r (line_place at (drop at text)) (lines_from text next) line.rest line.taken stays line.blank
+          (subst (Ready d defined r) (lines_at-line text at within) (s.ready names defined ready)));
+      order = λ ordered. inl (subst (λ (q : PassState). IsReadTo text q next) kept
+          (ordered_blank_line options text r r at u within boundary (λ o. o) (λ h uncounted. refl) (s.order ordered)));
+      node_bound = λ first grows. let g = s.node_bound first grows in omega arith;
+      named = λ names h. h;
+      tables = λ names h. h;
+    }

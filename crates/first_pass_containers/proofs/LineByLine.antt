@@ -1,2 +1,0 @@
--- How a line is entered, and how blank lines follow each other.
-pub mod EnteredLines

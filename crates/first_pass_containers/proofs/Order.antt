@@ -1,2 +1,0 @@
--- How order is kept. Other properties are in `first_pass_order`.
-pub mod OrderSteps

@@ -1,0 +1,290 @@
+-- A property of each leaf block, by how it begins, and one of the head of each container hold in a derived sequence.
+use Rattle.std.proofs.Common.{◌≡◌, ℕ, Bool, List, [], ◌∷◌, length, Option, Some, None, MatchOption, IfSome, refl, sym, subst, if◌then◌else◌}
+use Rattle.first_pass_grammar.proofs.Common.{cond_both, has, gfm_footnotes, CowIndex, Item, ItemBody, TaskListMarker, Place, offset, start_of, Rest, indent}
+use Rattle.first_pass_grammar.proofs.Common.{task_of, Leaf, BlankLine, Block, Opener, FootnoteMarker, Head, label_of, opened, Skeleton, Nil, Then, Node}
+use Rattle.first_pass_grammar.proofs.Common.{fence_judge, metadata_judge, Context, at_rest, front, footnote_columns, in_containers, footnote_head_at}
+use Rattle.first_pass_grammar.proofs.Common.{label_bytes, NamesLabel, place_past, tag_judge, blank_judge, Kind, Blank, IndentedCode, Metadata, HtmlToEnd}
+use Rattle.first_pass_grammar.proofs.Common.{HtmlToBlank, ThematicBreak, AtxHeading, FencedCode, LinkDefinitions, IsKind, unindented, is_blank_rest}
+use Rattle.first_pass_grammar.proofs.Common.{is_ordinary_after_tag, Document, around, kind_in, lines_beyond, Ended, FlowsOn, Start, start_at, task_by}
+use Rattle.first_pass_grammar.proofs.Common.{task_after, tag_after, Continues, Line, Blanks, AtPlace, Anything, OnlyALeaf, TextOf, OnlyMark, after_marker}
+use Rattle.first_pass_grammar.proofs.Common.{Opening, OpensLeaf, OpensNode, OpensText, OpensRun, OpensAs, OpensBlockAt, next_is_blank, only_task, after_tag}
+use Rattle.first_pass_grammar.proofs.Common.{opening_by, opening_of, OpensBy, OpensFootnote, Opens, OpensAt, may_define, Level, level_in, level_after_leaf}
+use Rattle.first_pass_grammar.proofs.Common.{level_after, Remaining, Lines, InLine, onward, after_first, IsFirst, IsSequence, Taken, IsText}
+use Rattle.first_pass_items.specs.OptionWords.{tasklists}
+use Rattle.first_pass_grammar.specs.declared.kind.AfterMarker.{AfterMarker}
+use Rattle.first_pass_grammar.specs.declared.kind.AfterMarker.TheVariants.{OnLine, TaskText, LineEnds, OnlyTag}
+use Rattle.first_pass_grammar.specs.declared.kind.Container.{Container}
+use Rattle.first_pass_grammar.specs.HtmlBlocks.{tag_verdict}
+use Rattle.first_pass_grammar.specs.Kinds.{Paragraph}
+use Rattle.first_pass_grammar.specs.Skeleton.{Allowed}
+use Rattle.first_pass_grammar.specs.Skeleton.{without_indent}
+use Rattle.first_pass_grammar.specs.Skeleton.{OpensIf}
+use Rattle.first_pass_grammar.proofs.Sequences.AfterMarkers.{HoldsAfter, after_task_holds, after_quote_holds}
+use Rattle.first_pass_grammar.proofs.Sequences.Goings.{BeginsAt, LeavesAt, begins_at, leaves_at}
+use Rattle.first_pass_grammar.proofs.Sequences.LinesLeft.{beyond_left, head_left, run_left, text_left}
+use Rattle.first_pass_grammar.proofs.Sequences.OpenerFacts.{start_cases}
+use Rattle.first_pass_grammar.proofs.Sequences.PlacesKept.{HoldsAtEach, IsKeptLater, at_unindented, at_front, at_taken, at_quote, at_item, at_marker}
+use Rattle.first_pass_grammar.proofs.Sequences.PlacesKept.{verdict_left, extent_left, code_left}
+
+-- a property of the items of a leaf; the next definitions: of the leaf that opens, if one does, and of each leaf block
+-- in a sequence
+abbrev pub HoldsOfLeaf : (List (ℕ × Item) → Type 0) → Leaf → Type 0
+HoldsOfLeaf P BlankLine = Unit {0}
+HoldsOfLeaf P (Block b) = P b.items
+
+abbrev pub LeafHolds : (List (ℕ × Item) → Type 0) → Opening → Type 0
+LeafHolds P (OpensLeaf leaf there left) = HoldsOfLeaf P leaf
+LeafHolds P (OpensNode head inside following) = Unit {0}
+
+unfoldable pub HoldsOfEachLeaf : (List (ℕ × Item) → Type 0) → Skeleton → Type 0
+HoldsOfEachLeaf P Nil = Unit {0}
+HoldsOfEachLeaf P (Then leaf next) = HoldsOfLeaf P leaf × HoldsOfEachLeaf P next
+HoldsOfEachLeaf P (Node head e kids next) = HoldsOfEachLeaf P kids × HoldsOfEachLeaf P next
+
+-- a property of the head of each container in a sequence; the next definition: no such property
+unfoldable pub HoldsOfEachHead : (Head → Type 0) → Skeleton → Type 0
+HoldsOfEachHead Q Nil = Unit {0}
+HoldsOfEachHead Q (Then leaf next) = HoldsOfEachHead Q next
+HoldsOfEachHead Q (Node head e kids next) = Q head × HoldsOfEachHead Q kids × HoldsOfEachHead Q next
+
+abbrev pub AnyHead : Head → Type 0
+AnyHead head = Unit {0}
+
+-- a property of the task list item marker that may begin a text, if there is one; the next definition: and one of the
+-- place where blocks continue
+abbrev pub HoldsOfMay : (ItemBody → Type 0) → Allowed → Type 0
+HoldsOfMay M Anything = Unit {0}
+HoldsOfMay M OnlyALeaf = Unit {0}
+HoldsOfMay M (TextOf marker) = M marker.body
+HoldsOfMay M (OnlyMark marker blanks) = M marker.body
+
+abbrev pub HoldsFrom : (Place → Type 0) → (ItemBody → Type 0) → Continues → Type 0
+HoldsFrom At M Line = Unit {0}
+HoldsFrom At M (Blanks e) = Unit {0}
+HoldsFrom At M (AtPlace p may) = At p × HoldsOfMay M may
+
+-- the same where blocks continue and at the lines after that; the next definition: after what a sequence leaves
+abbrev pub HoldsOn : (Place → Type 0) → (ItemBody → Type 0) → Continues × List Place → Type 0
+HoldsOn At M there = HoldsFrom At M there.0 × HoldsAtEach At there.1
+
+abbrev pub HoldsOfLeft : (Place → Type 0) → (ItemBody → Type 0) → Remaining → Type 0
+HoldsOfLeft At M left = HoldsOn At M (onward left)
+
+-- a container opens, and its head has a property
+abbrev pub OpensContainer : (Place → Type 0) → (ItemBody → Type 0) → (Head → Type 0) → Opening → Type 0
+OpensContainer At M Q (OpensLeaf leaf there left) = ⊥
+OpensContainer At M Q (OpensNode head inside following) = Q head × HoldsFrom At M inside × HoldsAtEach At following
+
+-- properties of places, of task list item markers, and of heads without a label
+pub record HoldsOfContainers (At : Place → Type 0) (M : ItemBody → Type 0) (Q : Head → Type 0) : Type 0 where
+  pub kept : IsKeptLater At
+  pub task : (checked : Bool) → M (TaskListMarker checked)
+  pub plain : (head : Head) → label_of head.opener ≡ [] → Q head
+
+marker_from : (At : Place → Type 0) (M : ItemBody → Type 0) (blanks : Option ℕ) → HoldsFrom At M (after_marker blanks)
+marker_from At M None = tt
+marker_from At M (Some e) = tt
+
+pub first_from : (At : Place → Type 0) (M : ItemBody → Type 0) (from there : Continues) → HoldsFrom At M there → HoldsFrom At M (after_first from there)
+first_from At M (Blanks e) there k = tt
+first_from At M (AtPlace p (OnlyMark marker blanks)) there k = marker_from At M blanks
+first_from At M from there k = k
+
+no_label : (o : Opener) → label_of o ≡ [] → label_of (without_indent o) ≡ []
+no_label (FootnoteMarker columns index label) h = h
+no_label o h = refl
+
+module _ (d : Document) (At : Place → Type 0) (M : ItemBody → Type 0) (Q : Head → Type 0) (holds : HoldsOfContainers At M Q) where
+  abbrev HoldsOfMark : Item → Type 0
+  HoldsOfMark x = M x.body
+
+  task_holds : (line : ℕ) (r : Rest) (o : Option (Bool × Rest)) → IfSome (task_by line r o).0 HoldsOfMark
+  task_holds line r None = tt
+  task_holds line r (Some task) = holds.task task.0
+
+  alone_from : (marker : Option Item) (p : Place) (blanks : Option ℕ) → IfSome marker HoldsOfMark → At p → HoldsFrom At M (only_task marker p blanks)
+  alone_from None p blanks h i = marker_from At M blanks
+  alone_from (Some marker) p blanks h i = (i, h)
+
+  tag_on : (c : Context) (lines : List Place) → HoldsAtEach At lines → HoldsOn At M (after_tag c lines)
+  tag_on c [] h = (tt, tt)
+  tag_on c (line ∷ lines) h =
+      cond_both (is_ordinary_after_tag c line.rest) (Line, line ∷ lines) (AtPlace (unindented (at_rest line (front c.path line.rest))) OnlyALeaf, lines)
+      (HoldsOn At M) (λ b. (tt, h)) (λ b. ((at_front At holds.kept c.path line h.0, tt), h.1))
+
+  opening_holds : (path : List Container) (head : Head) (inside : Place) (lines : List Place) (after : AfterMarker) → label_of head.opener ≡ []
+      → HoldsAfter HoldsOfMark after → At inside → HoldsAtEach At lines → OpensContainer At M Q (opening_by d path head inside lines after)
+  opening_holds path head inside lines OnLine none task i h = (holds.plain head none, (i, tt), h)
+  opening_holds path head inside lines (TaskText marker) none task i h = (holds.plain head none, (i, task), h)
+  opening_holds path head inside lines (LineEnds marker) none task i h =
+      let blanks : Option ℕ = Some (start_of (length d.text) lines) in
+      let short : Head = record head { opener = without_indent head.opener } in
+      cond_both (next_is_blank (opened head.opener ∷ path) lines) (OpensNode short (only_task marker inside blanks) lines)
+      (OpensNode head (only_task marker inside None) lines) (OpensContainer At M Q)
+      (λ b. (holds.plain short (no_label head.opener none), alone_from marker inside blanks task i, h))
+      (λ b. (holds.plain head none, alone_from marker inside None task i, h))
+  opening_holds path head inside lines OnlyTag none task i h =
+      let there = tag_on (around d (opened head.opener ∷ path)) lines h in (holds.plain head none, there.0, there.1)
+
+  -- the start of a container has no label
+  abbrev IsStart : Place → Start → Type 0
+  IsStart p s = (label_of s.head.opener ≡ []) × HoldsAfter HoldsOfMark s.after × At (at_rest p s.rest)
+
+  start_is : (may : Bool) (p : Place) → At p → (s : Start) → start_at d.options may p ≡ Some s → IsStart p s
+  start_is may p i =
+      start_cases d.options may p (IsStart p)
+      (λ item is. (
+        refl,
+        after_task_holds HoldsOfMark (is_blank_rest (task_after d.options p.line item.1).1) (task_after d.options p.line item.1).0
+            (task_holds p.line item.1 (if has d.options tasklists then task_of item.1 else None)),
+        at_item At holds.kept d.options p item is i,
+      ))
+      (λ marker none is. (refl, after_task_holds HoldsOfMark (is_blank_rest marker.1) None tt, at_marker At holds.kept p marker is i))
+      (λ r none is. (refl, after_quote_holds HoldsOfMark (tag_after d.options r), at_quote At holds.kept p r is i))
+
+  pub container_opens : (path : List Container) (p : Place) (lines : List Place) (may : Bool) (s : Start) → At p → HoldsAtEach At lines
+      → start_at d.options may p ≡ Some s → OpensContainer At M Q (opening_of d path p lines s)
+  container_opens path p lines may s i h is =
+      let now = start_is may p i s is in opening_holds path s.head (at_rest p s.rest) lines s.after now.0 now.1 now.2 h
+
+-- The properties hold of each leaf block and each head by how they begin: a leaf block of a kind, a text after a task
+-- list item marker, such a marker alone, or a footnote definition.
+pub record HoldsOfOpenings (d : Document) (At : Place → Type 0) (M : ItemBody → Type 0) (P : List (ℕ × Item) → Type 0) (Q : Head → Type 0) : Type 0 where
+  pub containers : HoldsOfContainers At M Q
+  pub kind : (path : List Container) (p : Place) (lines : List Place) (k : Kind) (o : Opening) → At p → HoldsAtEach At lines → IsKind d.options p.rest k
+      → OpensAs d path p lines (kind_in (around d path) p k) o → LeafHolds P o
+  pub text : (path : List Container) (p : Place) (marker : Item) (lines : List Place) (t : Taken) → At p → M marker.body
+      → IsText d path p (Some marker) lines t → P t.items
+  pub mark : (marker : Item) → M marker.body → P ((0, marker) ∷ [])
+  pub footnote : (c : Context) (p : Place) (head : ℕ × List ℕ) (index : CowIndex) → At p → footnote_head_at c p ≡ Some head
+      → NamesLabel d.names index (label_bytes head.0 (unindented p).rest.left) head.1
+      → Q (record { opener = FootnoteMarker (footnote_columns d.options) index head.1; line = p.line; start = offset (unindented p) })
+
+module _ (d : Document) (At : Place → Type 0) (M : ItemBody → Type 0) (P : List (ℕ × Item) → Type 0) (Q : Head → Type 0)
+    (holds : HoldsOfOpenings d At M P Q) where
+  abbrev Opened : Opening → Type 0
+  Opened (OpensLeaf leaf there left) = HoldsOfLeaf P leaf × HoldsFrom At M there × HoldsAtEach At left
+  Opened (OpensNode head inside following) = Q head × HoldsFrom At M inside × HoldsAtEach At following
+
+  node_opened : (o : Opening) → OpensContainer At M Q o → Opened o
+  node_opened (OpensLeaf leaf there left) h = absurd h
+  node_opened (OpensNode head inside following) h = h
+
+  -- after a leaf block, blocks continue at the next line
+  abbrev LeavesLines : Opening → Type 0
+  LeavesLines (OpensLeaf leaf there left) = (there ≡ Line) × HoldsAtEach At left
+  LeavesLines (OpensNode head inside following) = ⊥
+
+  abbrev kept : IsKeptLater At
+  kept = holds.containers.kept
+
+  leaf_lines : (path : List Container) (p : Place) (lines : List Place) (kind : Kind) (o : Opening) → At p → HoldsAtEach At lines
+      → OpensAs d path p lines kind o → LeavesLines o
+  unfolding OpensAs OpensRun OpensText
+  leaf_lines path p lines Blank o i h e = subst LeavesLines (sym e) (refl, h)
+  leaf_lines path p lines IndentedCode o i h (items, is, e) = subst LeavesLines (sym e) (refl, code_left At path lines h)
+  leaf_lines path p lines (Metadata byte) o i h (items, is, e) =
+      subst LeavesLines (sym e) (refl, extent_left At (in_containers path (metadata_judge byte)) (length d.text) lines h)
+  leaf_lines path p lines HtmlToEnd o i h (until, found, (items, is, e)) =
+      subst LeavesLines (sym e) (
+        refl,
+        verdict_left At (tag_verdict until (unindented p)) (unindented p) lines _ (at_unindented At kept p i, h)
+            (extent_left At (in_containers path (tag_judge until)) (length d.text) lines h),
+      )
+  leaf_lines path p lines HtmlToBlank o i h (items, is, e) =
+      subst LeavesLines (sym e) (refl, extent_left At (in_containers path blank_judge) (length d.text) lines h)
+  leaf_lines path p lines (ThematicBreak size) o i h e = subst LeavesLines (sym e) (refl, h)
+  leaf_lines path p lines (AtxHeading level) o i h (index, chain, stop, is, e) = subst LeavesLines (sym e) (refl, h)
+  leaf_lines path p lines (FencedCode count byte) o i h (items, is, e) =
+      subst LeavesLines (sym e) (refl, extent_left At (in_containers path (fence_judge (indent p.rest) byte count)) (length d.text) lines h)
+  leaf_lines path p lines LinkDefinitions o i h (xs, Ended q left, run, e) =
+      subst LeavesLines (sym e) (refl, run_left At kept (around d path) (unindented p) lines xs (Ended q left) (at_unindented At kept p i) h run)
+  leaf_lines path p lines LinkDefinitions o i h (xs, FlowsOn q more, run, (t, is, e)) =
+      let there = run_left At kept (around d path) (unindented p) lines xs (FlowsOn q more) (at_unindented At kept p i) h run in
+      subst LeavesLines (sym e) (refl, text_left At kept d path q None more t there.1 is)
+  leaf_lines path p lines Paragraph o i h (t, is, e) = subst LeavesLines (sym e) (refl, text_left At kept d path (unindented p) None lines t h is)
+
+  leaf_opened : (o : Opening) → LeafHolds P o → LeavesLines o → Opened o
+  leaf_opened (OpensLeaf leaf there left) own h = (own, subst (HoldsFrom At M) (sym h.0) tt, h.1)
+  leaf_opened (OpensNode head inside following) own h = absurd h
+
+  block_opened : (path : List Container) (p : Place) (lines : List Place) (o : Opening) → At p → HoldsAtEach At lines → OpensBlockAt d path p lines o → Opened o
+  block_opened path p lines o i h (k, is, opens) =
+      leaf_opened o (holds.kind path p lines k o i h is opens) (leaf_lines path p lines (kind_in (around d path) p k) o i h opens)
+
+  start_opened : (path : List Container) (p : Place) (lines : List Place) (q : Option Start) (o : Opening)
+      → ((s : Start) → q ≡ Some s → OpensContainer At M Q (opening_of d path p lines s)) → At p → HoldsAtEach At lines → OpensBy d path p lines q o → Opened o
+  unfolding OpensBy
+  start_opened path p lines (Some s) o starts i h e = subst Opened (sym e) (node_opened (opening_of d path p lines s) (starts s refl))
+  start_opened path p lines None o starts i h opens = block_opened path p lines o i h opens
+
+  head_opened : (l : Level) (p : Place) (lines : List Place) (head : Option (ℕ × List ℕ)) (o : Opening) → footnote_head_at (around d l.path) p ≡ head
+      → At p → HoldsAtEach At lines
+      → MatchOption head (OpensBy d l.path p lines (start_at d.options (may_define d l) p) o) (λ h. OpensFootnote d p lines h o) → Opened o
+  unfolding OpensFootnote
+  head_opened l p lines None o is i h opens =
+      start_opened l.path p lines (start_at d.options (may_define d l) p) o
+      (λ s e. container_opens d At M Q holds.containers l.path p lines (may_define d l) s i h e) i h opens
+  head_opened l p lines (Some (size, label)) o is i h (index, named, e) =
+      let q : Place = place_past size (unindented p) in
+      let there = head_left At kept (gfm_footnotes d.options) q (lines_beyond (offset q) lines) (kept.past size (unindented p) (at_unindented At kept p i))
+      (beyond_left At kept (offset q) lines h) in
+      subst Opened (sym e) (holds.footnote (around d l.path) p (size, label) index i is named, (there.0, tt), there.1)
+
+  any_opened : (l : Level) (p : Place) (lines : List Place) (o : Opening) → At p → HoldsAtEach At lines → Opens d l p lines o → Opened o
+  any_opened l p lines o i h opens = head_opened l p lines (footnote_head_at (around d l.path) p) o refl i h opens
+
+  may_opened : (l : Level) (may : Allowed) (p : Place) (lines : List Place) (o : Opening) → HoldsOfMay M may → At p → HoldsAtEach At lines
+      → OpensIf d l may p lines o → Opened o
+  unfolding OpensText
+  may_opened l Anything p lines o task i h opens = any_opened l p lines o i h opens
+  may_opened l OnlyALeaf p lines o task i h opens = block_opened l.path p lines o i h opens
+  may_opened l (TextOf marker) p lines o task i h (t, is, e) =
+      subst Opened (sym e) (
+        holds.text l.path (unindented p) marker lines t (at_unindented At kept p i) task is,
+        tt,
+        text_left At kept d l.path (unindented p) (Some marker) lines t h is,
+      )
+  may_opened l (OnlyMark marker blanks) p lines o task i h e = subst Opened (sym e) (holds.mark marker task, tt, h)
+
+  -- what opens where blocks continue
+  at_opened : (l : Level) (from : Continues) (p : Place) (lines : List Place) (o : Opening) → HoldsFrom At M from → At p → HoldsAtEach At lines
+      → OpensAt d l from p lines o → Opened o
+  at_opened l Line p lines o from i h opens = any_opened l p lines o i h opens
+  at_opened l (Blanks e) p lines o from i h opens = any_opened l p lines o i h opens
+  at_opened l (AtPlace q may) p lines o from i h opens = may_opened l may p lines o from.1 i h opens
+
+  begun : (path : List Container) (from : Continues) (lines : List Place) (p : Place) (following : List Place) → HoldsFrom At M from → HoldsAtEach At lines
+      → BeginsAt path from lines p following → At p × HoldsAtEach At following
+  begun path Line [] p following from h begins = absurd begins
+  begun path Line (line ∷ lines) p following from h (is, same) = (at_taken At kept path line p is h.0, subst (HoldsAtEach At) (sym same) h.1)
+  begun path (Blanks e) [] p following from h begins = absurd begins
+  begun path (Blanks e) (line ∷ lines) p following from h (is, same) = (at_taken At kept path line p is h.0, subst (HoldsAtEach At) (sym same) h.1)
+  begun path (AtPlace q may) lines p following from h (is, same) = (subst At (sym is) from.0, subst (HoldsAtEach At) (sym same) h)
+
+  first_opened : (l : Level) (from : Continues) (lines : List Place) (o : Opening) → HoldsFrom At M from → HoldsAtEach At lines
+      → IsFirst d l from lines o → Opened o
+  first_opened l from lines o held h f =
+      let there = begun l.path from lines f.place f.following held h (begins_at d.options l from lines f.place f.following f.begins) in
+      at_opened l from f.place f.following o held there.0 there.1 f.opens
+
+  left_held : (path : List Container) (from : Continues) (lines : List Place) (left : Remaining) → HoldsFrom At M from → HoldsAtEach At lines
+      → LeavesAt path from lines left → HoldsOfLeft At M left
+  left_held path from lines (Lines left) held h is = (tt, subst (HoldsAtEach At) (sym is) h)
+  left_held path from lines (InLine p following) held h at = (let there = begun path from lines p following held h at.0 in ((there.0, tt), there.1))
+
+  -- each block of a sequence
+  pub each_opened : (s : Skeleton) (l : Level) (from : Continues) (lines : List Place) (left : Remaining) → HoldsFrom At M from → HoldsAtEach At lines
+      → IsSequence d s l from lines left → HoldsOfEachLeaf P s × HoldsOfEachHead Q s × HoldsOfLeft At M left
+  unfolding IsSequence HoldsOfEachLeaf HoldsOfEachHead
+  each_opened Nil l from lines left held h ends = (tt, tt, left_held l.path from lines left held h (leaves_at d.options l from lines left ends))
+  each_opened (Then leaf next) l from lines left held h (there, mid, first, more) =
+      let one = first_opened l from lines (OpensLeaf leaf there mid) held h first in
+      let rest = each_opened next (level_after_leaf l leaf) (after_first from there) mid left (first_from At M from there one.1) one.2 more in
+      ((one.0, rest.0), rest.1, rest.2)
+  each_opened (Node head e kids next) l from lines left held h (inside, following, mid, first, inner, is, more) =
+      let one = first_opened l from lines (OpensNode head inside following) held h first in
+      let below = each_opened kids (level_in (opened head.opener) l) inside following mid one.1 one.2 inner in
+      let rest = each_opened next (level_after l head kids) (after_first from (onward mid).0) (onward mid).1 left
+      (first_from At M from (onward mid).0 below.2.0) below.2.1 more in
+      ((below.0, rest.0), (one.0, below.1, rest.1), rest.2)
